@@ -1,5 +1,5 @@
 """The machine of `watch_machine` in Python, for trials: its rules were read in the crate's code, so it is no second opinion on what they
-should be. It knows no dates of replies, and of a lookup no terms. A rule of NEW can be switched on by itself."""
+should be. It knows no dates of replies, and of a lookup no terms."""
 
 from __future__ import annotations
 
@@ -10,8 +10,6 @@ from dataclasses import dataclass, field, replace
 
 from watch_plays import SILENT, START, TOGETHER, Judge, Row, true_reply
 
-NEW: tuple[str, ...] = ("changed",)
-"""The rules that the program does not have yet."""
 SECOND = 1000
 DAY = 86_400_000
 LONGEST = 300_000
@@ -118,12 +116,10 @@ class Reply:
         return self.told is not None or self.status is not None or self.busy
 
 
-def rules_of(words: list[str]) -> frozenset[str]:
-    """Those of NEW that are named."""
-    unknown = [word for word in words if word not in NEW]
-    if unknown:
-        raise SystemExit(f"no new rules: {' '.join(unknown)}")
-    return frozenset(words)
+def said_of(entries: list[Entry], index: int) -> tuple[int, str | None]:
+    """What the inventory says of an entry, but for its need."""
+    parent = entries[index].parent
+    return entries[index].step, None if parent is None else entries[parent].name
 
 
 def doubled(times: int) -> int:
@@ -137,7 +133,6 @@ class Machine:
     entries: list[Entry]
     margin: int
     width: int
-    rules: frozenset[str] = frozenset()
     at: int = 0
     out: list[Out] = field(default_factory=list)
     notes: list[list[str]] = field(default_factory=list)
@@ -224,19 +219,14 @@ class Machine:
             self._owe_at(track, self.at)
 
     def changed(self, entries: list[Entry]) -> Machine:
-        """The watch after a change of the inventory. Known ends are handed on, and all else is as at a start; or, by the new rule, what was
-        keeps all that is known of it, its request that is out too. That of an entry that is no more is out of none, -1."""
+        """The watch after a change of the inventory. What was keeps all that is known of it, its request that is out too; that of an entry
+        that is no more is out of none, -1. What is new, or of which the inventory says something else but for its need, owes a lookup."""
         was = {entry.name: index for index, entry in enumerate(self.entries)}
         before = [was.get(entry.name) for entry in entries]
-        new = Machine(entries, self.margin, self.width, self.rules)
-        if "changed" not in self.rules:
-            for index, old in enumerate(before):
-                if old is not None and (end := self.tracks[old].end) not in (None, NEVER):
-                    new.know(index, int(end or 0), self.tracks[old].renewable)
-            return new
+        new = Machine(entries, self.margin, self.width)
         for index, old in enumerate(before):
             new.tracks[index] = Track() if old is None else self.tracks[old]
-            if old is None or self.entries[old].step != entries[index].step:
+            if old is None or said_of(self.entries, old) != said_of(entries, index):
                 new.tracks[index].leave_top()
                 new._owe_at(new.tracks[index], self.at)
         kept = {old: index for index, old in enumerate(before) if old is not None}
@@ -527,9 +517,9 @@ class ModelPlay:
     """The model in the place of a `leasekeep watch` (a `Play`), at the same broker."""
 
     def __init__(self, rows: dict[str, Row], steps: dict[str, int], judge: Judge, margin: int, width: int, timeout: int,
-                 rules: frozenset[str], now: int = START) -> None:
+                 now: int = START) -> None:
         self.now, self.rows, self.judge, self._timeout = now, rows, judge, timeout
-        self.machine = Machine(self._entries(steps), margin, width, rules)
+        self.machine = Machine(self._entries(steps), margin, width)
         self._coming: list[tuple[int, int, Out, str, bytes | None]] = []
         """The moment, the number of the request, the request, why it is lost, and what is sent in place of the true reply, if anything."""
         self._sent = 0

@@ -12,7 +12,7 @@ use broker_table::Table;
 use keep_exchange::{Exchange, ExchangeFault};
 use keep_lanes::{
     Allowance, Answered, Ask, Coming, LaneFault, Lanes, Loss, MOST_WIDTH, NumberedFault, Seat,
-    TOGETHER, free_of, loss_of, put, take_out,
+    TOGETHER, free_of, loss_of, put, rename, take_out,
 };
 use keep_moment::{Moment, Text};
 use std::alloc::{AllocError, Global};
@@ -27,7 +27,7 @@ pub struct MemoryLanes {
     count: u64,
     seconds: u32,
     width: u32,
-    /// By rising index.
+    /// By rising index, unless they were renamed.
     out: Vec<Seat<Coming>>,
 }
 
@@ -271,6 +271,10 @@ impl Lanes for MemoryLanes {
 
     fn due(&self, _now: u64, by: u64) -> u64 {
         earlier(by, first_at(&self.out))
+    }
+
+    fn rename(&mut self, from: &[u32], to: &[u32]) {
+        rename(&mut self.out, from, to);
     }
 
     fn forget(&mut self) {

@@ -1,6 +1,6 @@
 -- LinesOfAnswers: what is said of an answer to a request.
 -- Source: docs/running.md, "What the operator sees".
-use Rattle.std.specs.Prelude.{ℕ, ◌+◌, Bool, if◌then◌else◌, List, [], ◌∷◌, ◌++◌, Option, Some, None, codes, unwrap_or}
+use Rattle.std.specs.Prelude.{ℕ, ◌+◌, Bool, if◌then◌else◌, List, [], ◌∷◌, ◌++◌, Option, Some, None, codes, length, nat_lt, unwrap_or}
 use Rattle.keep_agent.specs.Agent.{Agent}
 use Rattle.keep_agent.specs.Standings.{troubled}
 use Rattle.keep_agent.specs.declared.standing.Trouble.{Trouble}
@@ -99,8 +99,11 @@ abbrev pub noted_log_lines : List ℕ → WatchState → Option Trouble → Loss
 noted_log_lines name m before why notes =
     gone_lines name before notes.gone ++ (top_lines name m notes.top ++ (orphan_lines name notes.orphan ++ (never_lines name notes.endless ++ link_lines why notes.link)))
 
--- ---- all of it, in the agent after it
+-- ---- all of it, in the agent after it; where its entry is no more, what it says of the broker alone
+
+abbrev pub lines_of_entry : Agent → ℕ → Operation → Said → Notes → Option Trouble → List Line
+lines_of_entry a i operation said notes before =
+    reply_line (name_of a.inventory.forest i) a.machine operation before said.loss said.reply ∷ noted_log_lines (name_of a.inventory.forest i) a.machine before said.loss notes
 
 unfoldable pub answered_lines : Agent → ℕ → Operation → Said → Notes → Option Trouble → List Line
-answered_lines a i operation said notes before =
-    reply_line (name_of a.inventory.forest i) a.machine operation before said.loss said.reply ∷ noted_log_lines (name_of a.inventory.forest i) a.machine before said.loss notes
+answered_lines a i operation said notes before = if nat_lt i (length a.inventory.forest.entries) then lines_of_entry a i operation said notes before else link_lines said.loss notes.link

@@ -19,7 +19,8 @@ use keep_log::{Level, Word};
 use std::alloc::Global;
 use watch_machine::{Link, Notes, Operation, Reply, Watch};
 
-/// Says what came of a request, and what is noted of that, by what was wrong with its entry before.
+/// Says what came of a request, and what is noted of that, by what was wrong with its entry before; where its entry is no more, what it
+/// says of the broker.
 #[tactic(auto, unfolding(crate::specs::LinesOfAnswers::answered_lines))]
 pub(crate) fn say_answered(
     alloc: Global,
@@ -34,7 +35,12 @@ pub(crate) fn say_answered(
 )
     ensures { AreSaid stamp.now.form stamp.now.moment (answered_lines agent.now entry operation said notes.now before) room.old room.new }
 {
-    let name = name_of(agent.inventory().forest(), entry);
+    let forest = agent.inventory().forest();
+    if entry >= forest.len() {
+        say_link(alloc, stamp, said.loss, notes.link, room);
+        return;
+    }
+    let name = name_of(forest, entry);
     let watch = agent.watch();
     say_reply(alloc, stamp, name, watch, operation, said, before, room);
     say_noted(alloc, stamp, name, watch, said.loss, notes, before, room);

@@ -1,7 +1,7 @@
 -- Left: what a turn of the Watch leaves: as many entries and tracks, and what it believes of every entry of which it is told nothing.
 -- For the turns of an agent and its rebuilding.
-use Rattle.std.proofs.Common.{◌≡◌, ◌∙◌, ℕ, zero, suc, ◌+◌, ◌<◌, ◌≤◌, Bool, true, false, not, ◌&&◌, ◌||◌, ◌==◌, if◌then◌else◌, List, [], ◌∷◌, ◌++◌, Option, Some, None, Result, Ok, Err, is_none, length, min, nat_le, refl, sym, ap, subst, arith, inl, inr}
-use Rattle.std.proofs.lemmas.Bool.{cases_lt, cond-false}
+use Rattle.std.proofs.Common.{◌≡◌, ◌∙◌, ℕ, zero, suc, ◌<◌, Bool, true, false, ◌&&◌, ◌||◌, ◌==◌, if◌then◌else◌, List, [], ◌∷◌, Option, Some, None, Result, Ok, Err, is_none, length, min, nat_le, refl, sym, ap, subst, arith, inl, inr}
+use Rattle.std.proofs.lemmas.Bool.{cases_lt}
 use Rattle.std.proofs.lemmas.Bool.Decides.{nat_tests}
 use Rattle.std.proofs.lemmas.List.{get_or_past, get_or-set_other, get_or-set_same, length-set}
 use Rattle.std.specs.List.{list_any}
@@ -32,13 +32,13 @@ use Rattle.watch_machine.specs.Clocks.{dated_by, first_clocks, is_ahead, is_behi
 use Rattle.watch_machine.specs.History.{Turn}
 use Rattle.watch_machine.specs.Looked.{looked, told_state, untold_track}
 use Rattle.watch_machine.specs.Press.{asked_track, dropped, is_fresh, press, pressed, pressed_alone, pressed_track, track_asked_in}
-use Rattle.watch_machine.specs.Refusal.{refusal, request_out, unless_within}
+use Rattle.watch_machine.specs.Refusal.{request_out, unless_within}
 use Rattle.watch_machine.specs.Renewed.{renewed_track, state_renewed, ungranted_track}
 use Rattle.watch_machine.specs.Round.{asked_by_round}
 use Rattle.watch_machine.specs.Sending.{sent, sent_in, sent_track}
 use Rattle.watch_machine.specs.Settling.{at_reading, clocks_after, date_of, dated, dated_by_all, dated_on, is_real, read, settled, settled_track, timed}
-use Rattle.watch_machine.specs.State.{WatchState, each, entry_of, no_track, track_at, track_in}
-use Rattle.watch_machine.specs.Step.{Step, StepClock, StepCommand, StepLooked, StepRenewed, known, readied, told_earlier, why}
+use Rattle.watch_machine.specs.State.{WatchState, each, no_track, track_at, track_in}
+use Rattle.watch_machine.specs.Step.{Step, StepClock, StepCommand, StepLooked, StepRenewed, readied, told_earlier, why}
 use Rattle.watch_machine.specs.Wanted.{is_alive, is_open, need_of, wants}
 use Rattle.watch_machine.proofs.Cases.{if_both}
 use Rattle.watch_machine.proofs.Seeing.{each_past, each_read}
@@ -72,7 +72,7 @@ settled_word : (margin at : ℕ) (x : Track) → Word (settled_track margin at x
 unfolding settled_track
 settled_word margin at x = refl
 
-lookup_word : (at : ℕ) (x : Track) → Word (owing_lookup at x) x
+pub lookup_word : (at : ℕ) (x : Track) → Word (owing_lookup at x) x
 lookup_word at x = if_both (λ y. Word y x) x.out (record x { owes = true }) (record x { owes = true; attempt = Some (sooner_try (soon at x) x.attempt) }) refl refl
 
 owing_word : (at : ℕ) (first called : Bool) (x : Track) → Word (owing at first called x) x
@@ -323,15 +323,6 @@ turn_entries old new event (Err fault) turn = ap (λ (s : WatchState). length s.
 
 -- ---- indices
 
-within_free : (s : WatchState) (i : ℕ) → i < length s.forest.entries → unless_within s i None ≡ None
-within_free s i within =
-    let test : nat_le (length s.forest.entries) i ≡ false = grind (arith, nat_tests) in
-    cond-false (nat_le (length s.forest.entries) i) (Some BadIndex) None test
-
-pub known_free : (s : WatchState) (i end : ℕ) (renewable : Bool) → i < length s.forest.entries → refusal s (Known i end renewable) ≡ None
-unfolding refusal
-known_free s i end renewable within = within_free s i within
-
 pub by_index : (s : WatchState) (i : ℕ) (other : Option WatchFault) → unless_within s i other ≡ None → i < length s.forest.entries
 by_index s i other free = by (nat_le (length s.forest.entries) i) refl free where
   by : (b : Bool) → nat_le (length s.forest.entries) i ≡ b → (if b then Some BadIndex else other) ≡ None → i < length s.forest.entries
@@ -343,6 +334,3 @@ pub known_word : (s new : WatchState) (i end : ℕ) (renewable : Bool) (output :
     Word (track_at new i) (told_earlier end renewable (track_at s i))
 known_word s new i end renewable output turn within =
     ap (λ (t : WatchState). word (track_at t i)) turn.1.1 ∙ ap word (get_or-set_same s.tracks i _ no_track within) ∙ past_word s.clocks.at (told_earlier end renewable (track_at s i))
-
-pub known_other : (s new : WatchState) (i end : ℕ) (renewable : Bool) (output : Output) → Turn s (Known i end renewable) (Ok output) new → (k : ℕ) → (k ≡ i → ⊥) → track_at new k ≡ track_at s k
-known_other s new i end renewable output turn k other = ap (λ (t : WatchState). track_at t k) turn.1.1 ∙ get_or-set_other s.tracks i k _ no_track other

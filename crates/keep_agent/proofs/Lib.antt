@@ -3,8 +3,9 @@ pub mod Within
 pub mod Believing
 pub mod Fresh
 pub mod Turned
-pub mod Handed
 pub mod EndLines
 pub mod Saying
-pub mod Running
+pub mod WasOf
+pub mod Onward
+pub mod Remembered
 pub mod Equal

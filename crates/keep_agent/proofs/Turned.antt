@@ -1,20 +1,18 @@
 -- Turned: after a turn, an agent is one. For `turn`.
-use Rattle.std.proofs.Common.{◌≡◌, ◌∙◌, ℕ, zero, suc, ◌+◌, ◌<◌, ◌≤◌, Bool, List, [], ◌∷◌, Option, Some, None, Ok, All, length, min, refl, sym, ap, subst, arith, inl, inr}
-use Rattle.std.proofs.lemmas.Bool.{cases_eq}
-use Rattle.std.proofs.lemmas.List.{get_or-set_other, get_or-set_same, length-set}
+use Rattle.std.proofs.Common.{◌≡◌, ◌∙◌, ℕ, zero, suc, ◌<◌, ◌≤◌, Bool, List, [], ◌∷◌, Some, Ok, All, length, min, refl, sym, ap, subst, arith, inl, inr}
+use Rattle.std.proofs.lemmas.Bool.{cases_eq, cases_lt}
+use Rattle.std.proofs.lemmas.List.{get_or_past, get_or-set_other, get_or-set_same, length-set, set_past}
 use Rattle.std.specs.Prelude.{slice_set}
 use Rattle.keep_inventory.specs.Inventories.{Inventory, inventory_with_need}
 use Rattle.keep_tree.specs.declared.forest.TheConstants.{END_MAX}
 use Rattle.watch_machine.specs.declared.command.Output.{Output}
 use Rattle.watch_machine.specs.declared.event.Event.{Event}
 use Rattle.watch_machine.specs.declared.event.Event.TheVariants.{Clock, Looked, Renewed, Need, Begin, Known}
-use Rattle.watch_machine.specs.declared.event.Reply.{Reply}
 use Rattle.watch_machine.specs.declared.event.Reply.TheVariants.{Told, Refused, Busy, Lost}
-use Rattle.watch_machine.specs.declared.event.Terms.{Terms}
 use Rattle.watch_machine.specs.declared.track.End.TheVariants.{At}
 use Rattle.watch_machine.specs.declared.track.Track.{Track}
 use Rattle.watch_machine.specs.History.{Turn}
-use Rattle.watch_machine.specs.State.{WatchState, track_at}
+use Rattle.watch_machine.specs.State.{WatchState, no_track, track_at}
 use Rattle.keep_agent.specs.declared.standing.Standing.{Standing}
 use Rattle.keep_agent.specs.Agent.{Agent, Believes, IsAgent, IsStanding}
 use Rattle.keep_agent.specs.Standings.{fresh_standing, known_standing, standing_in, standings_after, told_of}
@@ -64,6 +62,22 @@ own_believed : (new : WatchState) (xs : List Standing) (j : ℕ) (y : Standing) 
 own_believed new xs j y below within is =
     subst (λ t. Believes (track_at new j).end (track_at new j).renewable t) (sym (ap (λ (x : Standing). x.told) (get_or-set_same xs j y fresh_standing within) ∙ is)) (told_believed new j below)
 
+-- of one that is no more nothing is believed, and nothing is said
+past_believed : (new : WatchState) (xs : List Standing) (j : ℕ) (y : Standing) → length new.tracks ≤ j → length xs ≤ j → Believed new (slice_set xs j y) j
+past_believed new xs j y tracks past =
+    subst (λ ys. Believed new ys j) (sym (set_past xs j y past))
+    (subst (λ (x : Track). Believes x.end x.renewable (standing_in xs j).told) (sym (get_or_past new.tracks j no_track tracks))
+    (ap (λ (x : Standing). x.told) (get_or_past xs j fresh_standing past)))
+
+-- of one of which an answer tells
+answer_believed :
+    (old new : WatchState) (event : Event) (xs : List Standing) (j : ℕ) (y : Standing) → IsLeft old event new → length xs ≡ length old.forest.entries →
+    length old.tracks ≡ length old.forest.entries → new.clocks.phase < 1000 → y.told ≡ told_of new j → Believed new (slice_set xs j y) j
+answer_believed old new event xs j y left few tracked below is = elim (cases_lt j (length xs)) [
+  | inl within ↦ own_believed new xs j y below within is
+  | inr past ↦ past_believed new xs j y (let count = left.tracks in omega (arith, count, tracked, few, past)) past
+]
+
 known_believed : (x : Track) (end : ℕ) (renewable : Bool) → x.end ≡ At (min END_MAX end) → x.renewable ≡ renewable → Believes x.end x.renewable (Some (record { end = min END_MAX end; renewable = renewable }))
 known_believed x end renewable is says =
     subst (λ e. Believes e x.renewable (Some (record { end = min END_MAX end; renewable = renewable }))) (sym is) (omega arith, (omega arith, says))
@@ -81,16 +95,14 @@ turn_believed old new (Clock wall elapsed) output xs few tracked below turn i h 
 turn_believed old new (Looked j (Told seconds renewable date) terms) output xs few tracked below turn i h =
     let event = Looked j (Told seconds renewable date) terms in
     let left = left_turn old new event output turn in
-    let within : j < length old.forest.entries = taken_within old event turn.0 in
-    one_or_other old new event xs j i left (λ other. other) (own_believed new xs j _ (left.phase below) (omega (arith, within, few)) refl) h
+    one_or_other old new event xs j i left (λ other. other) (answer_believed old new event xs j _ left few tracked (left.phase below) refl) h
 turn_believed old new (Looked j (Refused status date) terms) output xs few tracked below turn i h = rest_believed old new _ xs i (left_turn old new (Looked j (Refused status date) terms) output turn) (λ no. no) h
 turn_believed old new (Looked j Busy terms) output xs few tracked below turn i h = rest_believed old new _ xs i (left_turn old new (Looked j Busy terms) output turn) (λ no. no) h
 turn_believed old new (Looked j Lost terms) output xs few tracked below turn i h = rest_believed old new _ xs i (left_turn old new (Looked j Lost terms) output turn) (λ no. no) h
 turn_believed old new (Renewed j (Told seconds renewable date)) output xs few tracked below turn i h =
     let event = Renewed j (Told seconds renewable date) in
     let left = left_turn old new event output turn in
-    let within : j < length old.forest.entries = taken_within old event turn.0 in
-    one_or_other old new event xs j i left (λ other. other) (own_believed new xs j _ (left.phase below) (omega (arith, within, few)) refl) h
+    one_or_other old new event xs j i left (λ other. other) (answer_believed old new event xs j _ left few tracked (left.phase below) refl) h
 turn_believed old new (Renewed j (Refused status date)) output xs few tracked below turn i h = rest_believed old new _ xs i (left_turn old new (Renewed j (Refused status date)) output turn) (λ no. no) h
 turn_believed old new (Renewed j Busy) output xs few tracked below turn i h = rest_believed old new _ xs i (left_turn old new (Renewed j Busy) output turn) (λ no. no) h
 turn_believed old new (Renewed j Lost) output xs few tracked below turn i h = rest_believed old new _ xs i (left_turn old new (Renewed j Lost) output turn) (λ no. no) h

@@ -1,9 +1,8 @@
--- Within: an event that the Watch takes is of one of its entries. For the turns of an agent.
-use Rattle.std.proofs.Common.{◌≡◌, ℕ, ◌<◌, Option, Some, None, length}
+-- Within: an event that the Watch takes is of one of its entries, but for an answer, whose entry may be no more. For the turns of an agent.
+use Rattle.std.proofs.Common.{◌≡◌, None, length}
 use Rattle.watch_machine.specs.declared.event.Event.{Event}
 use Rattle.watch_machine.specs.declared.event.Event.TheVariants.{Clock, Looked, Renewed, Need, Begin, Known}
-use Rattle.watch_machine.specs.declared.event.Operation.TheVariants.{Look, Renew}
-use Rattle.watch_machine.specs.Refusal.{refusal, request_out, unless_some}
+use Rattle.watch_machine.specs.Refusal.{refusal}
 use Rattle.watch_machine.specs.State.{WatchState}
 use Rattle.keep_agent.specs.code.Within.{IsEventWithin}
 use Rattle.keep_agent.proofs.Left.{by_index}
@@ -11,8 +10,8 @@ use Rattle.keep_agent.proofs.Left.{by_index}
 pub taken_within : (s : WatchState) (event : Event) → refusal s event ≡ None → IsEventWithin (length s.forest.entries) event
 unfolding refusal
 taken_within s (Clock wall elapsed) free = tt
-taken_within s (Looked i reply terms) free = by_index s i (unless_some (request_out s.out i Look)) free
-taken_within s (Renewed i reply) free = by_index s i (unless_some (request_out s.out i Renew)) free
+taken_within s (Looked i reply terms) free = tt
+taken_within s (Renewed i reply) free = tt
 taken_within s (Need i until) free = by_index s i None free
 taken_within s Begin free = tt
 taken_within s (Known i end renewable) free = by_index s i None free

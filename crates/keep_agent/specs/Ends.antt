@@ -1,6 +1,6 @@
 -- Ends: the one line that keeps an end over a restart, and the end that a line keeps.
 -- Source: this project's own.
-use Rattle.std.specs.Prelude.{◌≡◌, ℕ, ◌≤◌, Bool, true, false, ◌&&◌, ◌||◌, if◌then◌else◌, List, [], ◌∷◌, Option, Some, None, bytes_eq, codes, decimal}
+use Rattle.std.specs.Prelude.{◌≡◌, ℕ, ◌≤◌, Bool, true, false, ◌&&◌, if◌then◌else◌, List, [], ◌∷◌, Option, Some, None, bytes_eq, codes, decimal}
 use Rattle.std.specs.List.{join_with_byte}
 use Rattle.keep_inventory.specs.Values.{is_credential}
 use Rattle.keep_tree.specs.declared.forest.TheConstants.{END_MAX}

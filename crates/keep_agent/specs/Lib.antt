@@ -2,7 +2,7 @@ pub mod Standings
 pub mod code
 pub mod Agent
 pub mod Turns
-pub mod Rebuilding
+pub mod Changed
 pub mod Laws
 pub mod Shorts
 pub mod Status

@@ -1,6 +1,6 @@
 -- Turns: what an event gives, and what becomes of the agent.
 -- Source: this project's own.
-use Rattle.std.specs.Prelude.{◌≡◌, ℕ, List, Option, Some, None, Result, Ok, Err, min}
+use Rattle.std.specs.Prelude.{◌≡◌, ℕ, Option, Some, None, Result, Ok, Err, min}
 use Rattle.keep_inventory.specs.Inventories.{Inventory, inventory_with_need}
 use Rattle.keep_moment.specs.declared.moment.TheConstants.{LAST}
 use Rattle.watch_machine.specs.declared.command.Output.{Output}

@@ -1,18 +1,12 @@
 ghost use Rattle.keep_agent.specs.Ends.{BootLaw, EndLineLaw, EndReadIsWritten, EndWrittenIsRead};
-ghost use Rattle.keep_agent.specs.Laws.{FreshLaw, RememberedLaw, RunLaw};
+ghost use Rattle.keep_agent.specs.Laws.{FreshLaw, RememberedLaw};
 
-/// The law that nothing is forgotten over a change. After a rebuilding, what was said of an entry that was served before with the same
-/// credential is said of it, and the Watch believes the end and the word on renewal that it believed, in whole seconds. Of any other
-/// entry nothing is said or believed.
+/// The law that nothing is forgotten over a change. What was said of an entry that was served before with the same credential is said of
+/// it, and the Watch believes the end and the word on renewal that it believed; where the inventory says of it what it said, all that is
+/// known of it stays. Of any other entry nothing is said or believed, and a lookup is owed.
 pub fn nothing_is_forgotten()
     ensures remembered { RememberedLaw }
     ensures fresh { FreshLaw }
-{}
-
-/// The law that the Watch of an agent that is rebuilt is a new one, to which the ends that are carried over were handed, by index, and
-/// nothing else.
-pub fn a_rebuilding_is_a_run()
-    ensures { RunLaw }
 {}
 
 /// The laws of ends that are kept over a restart: the text of an end is read as that end, no other text is read as it, it is one line,

@@ -40,10 +40,10 @@ impl Agent {
     }
 }
 
-/// What is said of the entry of an event that the Watch has taken.
+/// What is said of the entry of an event that the Watch has taken. Of an entry that is no more nothing is.
 fn stand(watch: &Watch, standings: &mut [Standing], event: Event)
     requires within { IsEventWithin (length standings.old) event }
-    requires watched { IsEventWithin (length watch.now.forest.entries) event }
+    requires count { length standings.old ≡ length watch.now.forest.entries }
     requires bounds { All IsStanding standings.old }
     ensures value { standings.new ≡ standings_after watch.now event standings.old }
     ensures bounds { All IsStanding standings.new }
@@ -52,11 +52,15 @@ fn stand(watch: &Watch, standings: &mut [Standing], event: Event)
         Event::Clock { .. } | Event::Need { .. } | Event::Begin => {}
         Event::Looked { entry, reply, .. } => {
             let index = entry as usize;
-            standings[index] = standings[index].looked(watch, entry, reply);
+            if index < standings.len() {
+                standings[index] = standings[index].looked(watch, entry, reply);
+            }
         }
         Event::Renewed { entry, reply } => {
             let index = entry as usize;
-            standings[index] = standings[index].renewed(watch, entry, reply);
+            if index < standings.len() {
+                standings[index] = standings[index].renewed(watch, entry, reply);
+            }
         }
         Event::Known {
             entry,

@@ -10,16 +10,15 @@ use Rattle.watch_machine.specs.declared.event.Operation.{Operation}
 use Rattle.watch_machine.specs.declared.event.Operation.TheVariants.{Look, Renew}
 use Rattle.watch_machine.specs.declared.event.Reply.{Reply}
 use Rattle.watch_machine.specs.declared.event.Terms.{Terms}
-use Rattle.watch_machine.specs.declared.fault.WatchFault.TheVariants.{BadIndex}
 use Rattle.watch_machine.specs.declared.lanes.Out.{Out}
 use Rattle.watch_machine.specs.History.{Turn}
 use Rattle.watch_machine.specs.Refusal.{is_same, refusal, request_out, unless_some}
-use Rattle.watch_machine.specs.State.{WatchState, track_at}
+use Rattle.watch_machine.specs.State.{WatchState}
 use Rattle.keep_asking.specs.Handing.{AreHandedIn, IsHandedIn, out_of}
 use Rattle.keep_asking.specs.InStep.{AreOut, MachineIsSound, entries_answered, entries_out, times}
 use Rattle.keep_asking.specs.Told.{event_as}
 use Rattle.keep_asking.specs.declared.handing.HandedIn.{HandedIn}
-use Rattle.keep_asking.proofs.Sound.{Answered, counts, marked_within, same_index, skips, times_append, turn_looked, turn_renewed}
+use Rattle.keep_asking.proofs.Sound.{Answered, at_most_one, counts, same_index, skips, times_append, turn_looked, turn_renewed}
 
 -- ---- the request that an answer is to
 
@@ -33,18 +32,6 @@ some_out (r ∷ out) i some =
           let fewer = skips i r.entry (map (λ (q : Out). q.entry) out) other in
           let rest = some_out out i (omega (arith, some, fewer)) in
           λ none. rest (sym (cond-false (r.entry == i) (Some r) (out_of out i) other) ∙ none)
-    ]
-
--- and the contrary
-counted_out : (out : List Out) (i : ℕ) → out_of out i ≢ None → 0 < times i (map (λ (r : Out). r.entry) out)
-counted_out [] i some = absurd (some refl)
-counted_out (r ∷ out) i some =
-    elim (cases_Bool (r.entry == i)) [
-      | inl same ↦ (let more = counts i r.entry (map (λ (q : Out). q.entry) out) same in omega (arith, more))
-      | inr other ↦
-          let fewer = skips i r.entry (map (λ (q : Out). q.entry) out) other in
-          let rest = counted_out out i (λ none. some (cond-false (r.entry == i) (Some r) (out_of out i) other ∙ none)) in
-          omega (arith, rest, fewer)
     ]
 
 same_self : (operation : Operation) → is_same operation operation ≡ true
@@ -69,32 +56,21 @@ asked_out (r ∷ out) i q is =
           λ none. rest (sym (cond-false (test r) (Some r) (find test out) fails) ∙ none)
     ]
 
--- it is of an entry
-pub out_within : (m : WatchState) (i : ℕ) → MachineIsSound m → out_of m.out i ≢ None → i < length m.forest.entries
-out_within m i sound some =
-    let there = counted_out m.out i some in
-    let once = sound.once i in
-    elim (cases_Bool (track_at m i).out) [
-      | inl marked ↦ (let within = marked_within m.tracks i marked in let n = sound.count in omega (arith, within, n))
-      | inr free ↦ absurd (let none : times i (entries_out m) ≤ 0 = subst (λ (b : Bool). times i (entries_out m) ≤ cond b 1 0) free once in omega (arith, none, there))
-    ]
+-- what the machine finds is not refused
+asked_free : (m : WatchState) (i : ℕ) (operation : Operation) → request_out m.out i operation ≢ None → unless_some m i (request_out m.out i operation) ≡ None
+asked_free m i operation some = there (request_out m.out i operation) some where
+  there : (o : Option Out) → o ≢ None → unless_some m i o ≡ None
+  there None h = absurd (h refl)
+  there (Some r) h = refl
 
-asked_free : (m : WatchState) (i : ℕ) (operation : Operation) → i < length m.forest.entries → request_out m.out i operation ≢ None → cond (nat_le (length m.forest.entries) i) (Some BadIndex) (unless_some (request_out m.out i operation)) ≡ None
-asked_free m i operation within some =
-    let test : nat_le (length m.forest.entries) i ≡ false = grind (arith, nat_tests) in
-    cond-false (nat_le (length m.forest.entries) i) (Some BadIndex) (unless_some (request_out m.out i operation)) test ∙ there (request_out m.out i operation) some where
-      there : (o : Option Out) → o ≢ None → unless_some o ≡ None
-      there None h = absurd (h refl)
-      there (Some r) h = refl
-
-free_by : (m : WatchState) (i : ℕ) (operation : Operation) (reply : Reply) (terms : Terms) → i < length m.forest.entries → request_out m.out i operation ≢ None → refusal m (event_as operation i reply terms) ≡ None
+free_by : (m : WatchState) (i : ℕ) (operation : Operation) (reply : Reply) (terms : Terms) → request_out m.out i operation ≢ None → refusal m (event_as operation i reply terms) ≡ None
 unfolding refusal
-free_by m i Look reply terms within some = asked_free m i Look within some
-free_by m i Renew reply terms within some = asked_free m i Renew within some
+free_by m i Look reply terms some = asked_free m i Look some
+free_by m i Renew reply terms some = asked_free m i Renew some
 
 -- the event of an answer to it is not refused
-pub answer_free : (m : WatchState) (i : ℕ) (q : Out) (reply : Reply) (terms : Terms) → MachineIsSound m → out_of m.out i ≡ Some q → refusal m (event_as q.operation i reply terms) ≡ None
-answer_free m i q reply terms sound is = free_by m i q.operation reply terms (out_within m i sound (λ none. (let bad : Some q ≡ None = sym is ∙ none in cc))) (asked_out m.out i q is)
+pub answer_free : (m : WatchState) (i : ℕ) (q : Out) (reply : Reply) (terms : Terms) → out_of m.out i ≡ Some q → refusal m (event_as q.operation i reply terms) ≡ None
+answer_free m i q reply terms is = free_by m i q.operation reply terms (asked_out m.out i q is)
 
 -- ---- what is then out
 
@@ -112,10 +88,6 @@ pub record AreOver (old : WatchState) (answers : List lanes.Answered) (new : Wat
   pub count : length new.out + length answers ≡ length old.out
   pub sound : MachineIsSound new
 
-flag_most : (b : Bool) → cond b 1 0 ≤ 1
-flag_most true = omega arith
-flag_most false = omega arith
-
 pub are_over : (s : Inventory) (answers : List lanes.Answered) (old new : WatchState) → AreHandedIn s answers old new → MachineIsSound old → AreOut old answers → AreOver old answers new
 are_over s [] old new h sound out =
     subst (AreOver old []) (sym h) (record { width = refl; each = λ i. omega arith; count = omega arith; sound = sound })
@@ -126,7 +98,7 @@ are_over s (a ∷ rest) old new h sound out =
     let first = counts a.index a.index (entries_answered rest) (same_index a.index) in
     let there = out a.index in
     let once = sound.once a.index in
-    let most = flag_most (track_at old a.index).out in
+    let most = at_most_one old a.index in
     let single : times a.index (entries_out old) ≡ 1 = omega (arith, first, there, once, most) in
     let left : AreOut mid rest = λ i. elim (cases_Bool (a.index == i)) [
       | inl same ↦

@@ -1,7 +1,7 @@
 -- Sound: what every turn keeps of the requests that the machine has out: of an entry one at most, and only where its track says so.
 -- For all that is done with lanes.
-use Rattle.std.proofs.Common.{◌≡◌, ◌≢◌, ◌∙◌, ℕ, zero, suc, ◌+◌, ◌-◌, ◌<◌, ◌≤◌, Bool, true, false, cond, not, ◌&&◌, ◌||◌, ◌==◌, if◌then◌else◌, List, [], ◌∷◌, ◌++◌, Option, Some, None, Result, Ok, Err, All, IsPermutation, filter, length, map, min, take, zero-add, refl, sym, ap, subst, arith, inl, inr}
-use Rattle.std.proofs.lemmas.Bool.{and_parts, cases_Bool, cases_lt, cond-true, eqb-true}
+use Rattle.std.proofs.Common.{◌≡◌, ◌≢◌, ◌∙◌, ℕ, zero, suc, ◌+◌, ◌-◌, ◌<◌, ◌≤◌, Bool, true, false, cond, not, ◌&&◌, ◌||◌, ◌==◌, if◌then◌else◌, List, [], ◌∷◌, ◌++◌, Option, Some, None, Result, Ok, Err, All, IsPermutation, filter, length, map, min, nat_lt, take, zero-add, refl, sym, ap, subst, arith, inl, inr}
+use Rattle.std.proofs.lemmas.Bool.{and_parts, cases_Bool, cases_lt, cond-false, cond-true, eqb-true}
 use Rattle.std.proofs.lemmas.Bool.Decides.{nat_tests}
 use Rattle.std.proofs.lemmas.List.{get_or-map, get_or_past, get_or-set_other, length-append, length-map, length-set, length-take, take-map}
 use Rattle.std.proofs.lemmas.List.Elements.{All-cons, All-filter, All-nil, All-take, filter_passes}
@@ -41,13 +41,13 @@ use Rattle.watch_machine.specs.Round.{asked_by_round as round_of}
 use Rattle.watch_machine.specs.Sending.{IsGoing, Place, due, is_partial, out_at, place, place_of, request, request_of, sent, sent_in, sent_track}
 use Rattle.watch_machine.specs.Settling.{is_real, settled, settled_track, timed}
 use Rattle.watch_machine.specs.State.{WatchState, each, no_track, track_at, track_in}
-use Rattle.watch_machine.specs.Step.{Step, StepClock, StepCommand, StepLooked, StepRenewed, known, readied, told_earlier, why}
+use Rattle.watch_machine.specs.Step.{Step, StepClock, StepCommand, StepLooked, StepRenewed, known, readied, told_earlier, why, with_need_until}
 use Rattle.watch_machine.specs.Wanted.{is_alive, is_open, need_of, wants}
 use Rattle.watch_machine.proofs.Cases.{if_both, if_cases}
 use Rattle.watch_machine.proofs.Seeing.{each_past, each_read}
 use Rattle.watch_machine.proofs.Within.{out_entry}
 use Rattle.watch_machine.proofs.Written.{each_length}
-use Rattle.keep_asking.specs.InStep.{MachineIsSound, entries_out, times}
+use Rattle.keep_asking.specs.InStep.{MachineIsSound, entries_out, seats_of, times}
 
 -- ---- how often an entry is among some
 
@@ -95,6 +95,34 @@ times_filter p i (x ∷ xs) =
     let more = times_cons i x xs in
     if_cases (λ (ys : List ℕ). times i ys ≤ times i (x ∷ xs)) (p x) (x ∷ filter p xs) (filter p xs) (λ e. (let here = times_cons i x (filter p xs) in omega (arith, rest, more, here)))
     (λ e. omega (arith, rest, more))
+
+-- ---- how many requests may be out under an index
+
+-- one of an entry whose track says so
+entry_seats : (m : WatchState) (i : ℕ) → i < length m.forest.entries → seats_of m i ≡ (if (track_at m i).out then 1 else 0)
+entry_seats m i within =
+    let here : nat_lt i (length m.forest.entries) ≡ true = grind (arith, nat_tests) in
+    cond-true (nat_lt i (length m.forest.entries)) (if (track_at m i).out then 1 else 0) 1 here
+
+-- one past the last entry
+other_seats : (m : WatchState) (i : ℕ) → length m.forest.entries ≤ i → seats_of m i ≡ 1
+other_seats m i past =
+    let there : nat_lt i (length m.forest.entries) ≡ false = grind (arith, nat_tests) in
+    cond-false (nat_lt i (length m.forest.entries)) (if (track_at m i).out then 1 else 0) 1 there
+
+-- as many as before of as many entries, where the track says what it said
+same_seats : (m k : WatchState) (i : ℕ) → length m.forest.entries ≡ length k.forest.entries → (track_at m i).out ≡ (track_at k i).out → seats_of m i ≡ seats_of k i
+same_seats m k i many flags =
+    ap {B = ℕ} (λ n. if nat_lt i n then (if (track_at m i).out then 1 else 0) else 1) many
+    ∙ ap {B = ℕ} (λ (b : Bool). if nat_lt i (length k.forest.entries) then (if b then 1 else 0) else 1) flags
+
+-- and one at most
+pub at_most_one : (m : WatchState) (i : ℕ) → seats_of m i ≤ 1
+at_most_one m i = by (nat_lt i (length m.forest.entries)) (track_at m i).out where
+  by : (is_entry is_out : Bool) → (if is_entry then (if is_out then 1 else 0) else 1) ≤ 1
+  by true true = omega arith
+  by true false = omega arith
+  by false is_out = omega arith
 
 -- ---- who goes out at a clock: entries that are due, each once
 
@@ -183,7 +211,7 @@ set_kept R same (x ∷ xs) zero y made (suc i) = same (track_in xs i)
 set_kept R same (x ∷ xs) (suc j) y made zero = same x
 set_kept R same (x ∷ xs) (suc j) y made (suc i) = set_kept R same xs j y made i
 
-lookup_flag : (at : ℕ) (x : Track) → Flag (owing_lookup at x) x
+pub lookup_flag : (at : ℕ) (x : Track) → Flag (owing_lookup at x) x
 lookup_flag at x = if_both (λ y. Flag y x) x.out (record x { owes = true }) (record x { owes = true; attempt = Some (sooner_try (soon at x) x.attempt) }) refl refl
 
 owing_flag : (at : ℕ) (first called : Bool) (x : Track) → Flag (owing at first called x) x
@@ -321,7 +349,7 @@ went_mark s requests i named within =
     (each_read (sent_in s.clocks.at requests) s.tracks i within ∙ cond-true (list_any (λ (r : Request). r.entry == i) requests) (sent_track s.clocks.at (track_at s i)) (track_at s i) named)
 
 -- an entry whose track says that a request of it is out is one
-pub marked_within : (xs : List Track) (i : ℕ) → (track_in xs i).out ≡ true → i < length xs
+marked_within : (xs : List Track) (i : ℕ) → (track_in xs i).out ≡ true → i < length xs
 marked_within xs i marked =
     elim (cases_lt i (length xs)) [
       | inl within ↦ within
@@ -353,6 +381,32 @@ sent_once s requests i h once =
           ]
     ]
 
+-- nothing goes out under an index past the last entry
+none_past : (s : WatchState) (requests : List Request) (i : ℕ) → Goes s.presence s.clocks.at s.tracks (s.width - length s.out) requests → length s.tracks ≤ i → times i (entries_asked requests) ≡ 0
+none_past s requests i h past = elim (cases_lt 0 (times i (entries_asked requests))) [
+  | inl some ↦
+      let named = among (λ j. (j < length s.tracks) × (is_due s.presence s.clocks.at (track_in s.tracks j) ≡ true)) i (entries_asked requests) h.due (λ none. omega (arith, some, none)) in
+      let within = named.0 in
+      omega (arith, within, past)
+  | inr none ↦ omega (arith, none)
+]
+
+sent_seats :
+    (s : WatchState) (requests : List Request) (i : ℕ) → length s.tracks ≡ length s.forest.entries → Goes s.presence s.clocks.at s.tracks (s.width - length s.out) requests →
+    times i (entries_out s) ≤ seats_of s i → times i (entries_out s ++ entries_asked requests) ≤ seats_of (sent s requests) i
+sent_seats s requests i count h once =
+    elim (cases_lt i (length s.forest.entries)) as (λ _. times i (entries_out s ++ entries_asked requests) ≤ seats_of (sent s requests) i) [
+      | inl within ↦
+          subst (λ n. times i (entries_out s ++ entries_asked requests) ≤ n) (sym (entry_seats (sent s requests) i within))
+          (sent_once s requests i h (subst (λ n. times i (entries_out s) ≤ n) (entry_seats s i within) once))
+      | inr past ↦
+          let all = times_append i (entries_out s) (entries_asked requests) in
+          let before = other_seats s i past in
+          let after = other_seats (sent s requests) i past in
+          let none = none_past s requests i h (omega (arith, count, past)) in
+          omega (arith, all, before, after, none, once)
+    ]
+
 sent_gone : (s : WatchState) (requests : List Request) → MachineIsSound s → Goes s.presence s.clocks.at s.tracks (s.width - length s.out) requests → Gone s requests (sent s requests)
 sent_gone s requests sound h =
     let new = sent s requests in
@@ -369,7 +423,7 @@ sent_gone s requests sound h =
       width = refl;
       sound = record {
         count = each_length (sent_in s.clocks.at requests) s.tracks ∙ sound.count;
-        once = λ i. subst (λ es. times i es ≤ (if (track_at new i).out then 1 else 0)) (sym entries) (sent_once s requests i h (sound.once i));
+        once = λ i. subst (λ es. times i es ≤ seats_of new i) (sym entries) (sent_seats s requests i sound.count h (sound.once i));
       };
     }
 
@@ -383,8 +437,8 @@ clock_gone old new wall elapsed output requests until step is sound =
     let mid_sound : MachineIsSound mid = record {
       count = mid_count old wall elapsed round ∙ sound.count ∙ ap (λ (g : Forest). length g.entries) (sym left.1.1);
       once = λ i.
-          subst (λ (b : Bool). times i (entries_out mid) ≤ (if b then 1 else 0)) (sym (mid_flag old wall elapsed round i))
-          (subst (λ es. times i es ≤ (if (track_at old i).out then 1 else 0)) (sym same) (sound.once i));
+          subst (λ n. times i (entries_out mid) ≤ n) (sym (same_seats mid old i (ap (λ (g : Forest). length g.entries) left.1.1) (mid_flag old wall elapsed round i)))
+          (subst (λ es. times i es ≤ seats_of old i) (sym same) (sound.once i));
     } in
     let gone = sent_gone mid requests mid_sound (goes mid.forest mid.presence mid.clocks.at mid.tracks (mid.width - length mid.out) requests command.0.0) in
     let at : Gone mid requests new = subst (Gone mid requests) (sym command.0.1) gone in
@@ -505,7 +559,8 @@ answered old mid new q reply is out kept others sound =
           | inr other ↦
               let flags : (track_at new i).out ≡ (track_at old i).out =
               ap (λ (s : WatchState). (track_at s i).out) is ∙ replied_flag mid q reply i ∙ ap (λ (x : Track). x.out) (others i other) in
-              subst (λ (b : Bool). times i (entries_out new) ≤ (if b then 1 else 0)) (sym flags) (subst (λ n. n ≤ (if (track_at old i).out then 1 else 0)) (sym (rest i other)) (sound.once i))
+              let many : length new.forest.entries ≡ length old.forest.entries = ap (λ (s : WatchState). length s.forest.entries) is ∙ after.1.1 ∙ kept.1.1 in
+              subst (λ n. times i (entries_out new) ≤ n) (sym (same_seats new old i many flags)) (subst (λ n. n ≤ seats_of old i) (sym (rest i other)) (sound.once i))
         ];
       };
     }
@@ -563,7 +618,14 @@ pub record IsQuiet (old new : WatchState) : Type 0 where
 pub turn_need : (old new : WatchState) (i until : ℕ) (output : Output) → Turn old (Need i until) (Ok output) new → MachineIsSound old → IsQuiet old new
 turn_need old new i until output turn sound =
     subst (IsQuiet old) (sym turn.1.1)
-    (record { out = refl; width = refl; sound = record { count = sound.count ∙ sym (length-set old.forest.entries i _); once = sound.once } })
+    (record {
+      out = refl;
+      width = refl;
+      sound = record {
+        count = sound.count ∙ sym (length-set old.forest.entries i _);
+        once = λ k. subst (λ n. times k (entries_out old) ≤ n) (sym (same_seats (with_need_until old i until) old k (length-set old.forest.entries i _) refl)) (sound.once k);
+      };
+    })
 
 pub turn_begin : (old new : WatchState) (output : Output) → Turn old Begin (Ok output) new → MachineIsSound old → IsQuiet old new
 turn_begin old new output turn sound = subst (IsQuiet old) (sym turn.1.1) (record { out = refl; width = refl; sound = record { count = sound.count; once = sound.once } })
@@ -581,7 +643,7 @@ turn_known old new i end renewable output turn sound =
       width = refl;
       sound = record {
         count = length-set old.tracks i _ ∙ sound.count;
-        once = λ k. subst (λ (b : Bool). times k (entries_out old) ≤ (if b then 1 else 0)) (sym (known_flag old i end renewable k)) (sound.once k);
+        once = λ k. subst (λ n. times k (entries_out old) ≤ n) (sym (same_seats (known old i end renewable) old k refl (known_flag old i end renewable k))) (sound.once k);
       };
     })
 
@@ -609,7 +671,7 @@ step_entries old new (Need i until) output step = ap (λ (s : WatchState). lengt
 step_entries old new Begin output step = ap (λ (s : WatchState). length s.forest.entries) step.1
 step_entries old new (Known i end renewable) output step = ap (λ (s : WatchState). length s.forest.entries) step.1
 
-refused_stays : (old new : WatchState) (event : Event) (fault : WatchFault) → Turn old event (Err fault) new → new ≡ old
+pub refused_stays : (old new : WatchState) (event : Event) (fault : WatchFault) → Turn old event (Err fault) new → new ≡ old
 refused_stays old new event NotAsked h = h.1
 refused_stays old new event BadIndex h = h.1
 refused_stays old new event OutOfMemory h = h.1.1

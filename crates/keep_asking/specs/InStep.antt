@@ -1,6 +1,6 @@
 -- InStep: on the lanes are the requests that the machine has out.
 -- Source: this project's own.
-use Rattle.std.specs.Prelude.{◌≡◌, ◌≤◌, ◌==◌, ℕ, List, count_by, if◌then◌else◌, length, map}
+use Rattle.std.specs.Prelude.{◌≡◌, ◌≤◌, ◌==◌, ℕ, List, count_by, if◌then◌else◌, length, map, nat_lt}
 use Rattle.keep_lanes.specs.Out as lanes
 use Rattle.keep_lanes.specs.declared.lanes.Answered.{Answered}
 use Rattle.watch_machine.specs.State.{WatchState, track_at}
@@ -19,10 +19,15 @@ entries_on out = map (λ (o : lanes.Out). o.index) out
 abbrev pub entries_answered : List Answered → List ℕ
 entries_answered answers = map (λ (a : Answered). a.index) answers
 
--- the machine has a track for each entry; and of an entry one request out at most, and that only where its track says so
+-- how many requests may be out under an index: one of an entry whose track says so, and one under an index past the last
+abbrev pub seats_of : WatchState → ℕ → ℕ
+seats_of m i = if nat_lt i (length m.forest.entries) then (if (track_at m i).out then 1 else 0) else 1
+
+-- the machine has a track for each entry; and of an entry one request out at most, and that only where its track says so. Of an entry that
+-- is no more one may be out, too, under an index of its own past the last
 pub record MachineIsSound (m : WatchState) : Type 0 where
   pub count : length m.tracks ≡ length m.forest.entries
-  pub once : (i : ℕ) → times i (entries_out m) ≤ (if (track_at m i).out then 1 else 0)
+  pub once : (i : ℕ) → times i (entries_out m) ≤ seats_of m i
 
 -- on the lanes are the requests that the machine has out
 pub record AreInStep (m : WatchState) (out : List lanes.Out) : Type 0 where

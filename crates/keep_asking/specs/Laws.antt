@@ -3,7 +3,7 @@
 use Rattle.std.specs.Prelude.{◌≡◌, ◌+◌, ◌<◌, ◌≤◌, ℕ, All, List, [], Ok, length}
 use Rattle.keep_inventory.specs.Inventories.{Inventory}
 use Rattle.keep_lanes.specs.Out as lanes
-use Rattle.keep_lanes.specs.Out.{IsParted}
+use Rattle.keep_lanes.specs.Out.{IsParted, renamed}
 use Rattle.keep_lanes.specs.declared.lanes.Answered.{Answered}
 use Rattle.keep_tree.specs.Forest.{Forest}
 use Rattle.watch_machine.specs.declared.command.Command.TheVariants.{Go}
@@ -11,10 +11,10 @@ use Rattle.watch_machine.specs.declared.command.Output.{Output}
 use Rattle.watch_machine.specs.declared.command.Request.{Request}
 use Rattle.watch_machine.specs.declared.event.Event.{Event}
 use Rattle.watch_machine.specs.declared.event.Event.TheVariants.{Clock, Looked, Renewed, Need, Begin, Known}
-use Rattle.watch_machine.specs.History.{Turn}
+use Rattle.watch_machine.specs.History.{Changed, IsChanged, Turn}
 use Rattle.watch_machine.specs.State.{WatchState, opened}
 use Rattle.keep_asking.specs.Handing.{AreHandedIn}
-use Rattle.keep_asking.specs.InStep.{AreOut, IsAbreast}
+use Rattle.keep_asking.specs.InStep.{AreOut, IsAbreast, entries_out}
 use Rattle.keep_asking.specs.Sending.{GoOut, Lanes}
 
 -- a new machine, over as many lanes as it may have requests out, of which none is taken
@@ -46,3 +46,8 @@ IsOtherEvent (Known i end renewable) = Unit {0}
 -- such an event leaves them in step
 abbrev pub OtherLaw : Type 0
 OtherLaw = (old new : WatchState) (event : Event) (output : Output) (width : ℕ) (out : List lanes.Out) → IsOtherEvent event → Turn old event (Ok output) new → IsAbreast old width out → IsAbreast new width out
+
+-- where another forest is watched, each request that is out goes on, on its lane, under the index that the machine has it under then
+abbrev pub ChangeLaw : Type 0
+ChangeLaw =
+    (old : WatchState) (c : Changed) (width : ℕ) (out : List lanes.Out) → IsChanged old c → IsAbreast old width out → IsAbreast c.state width (renamed (entries_out old) (entries_out c.state) out)

@@ -1,7 +1,7 @@
 -- Told: what the machine is told of an answer.
 -- Source: Vault, HTTP API: `auth/token`, "Lookup a token (self)"; `sys/leases`, "Read lease". That one said of another entry, or
 -- of the other kind, counts as lost is this project's own.
-use Rattle.std.specs.Prelude.{ℕ, Bool, true, false, if◌then◌else◌, Option, Some, None}
+use Rattle.std.specs.Prelude.{ℕ, ◌==◌, ◌||◌, Bool, true, false, if◌then◌else◌, Option, Some, None, Ok, Err, length, nat_lt}
 use Rattle.keep_lanes.specs.Heard.{looked_up_by_answer, renewed_by_answer}
 use Rattle.keep_lanes.specs.Losses.{Answer}
 use Rattle.keep_lanes.specs.declared.heard.Heard.{Heard}
@@ -107,8 +107,20 @@ abbrev pub loss_as : Operation → Inventory → ℕ → Answer → Loss
 loss_as Look s i answer = loss_in (looked_up_by_answer (entry_at s.forest.entries i).kind answer)
 loss_as Renew s i answer = loss_in (renewed_by_answer (entry_at s.forest.entries i).kind (credential_at s.credentials i) answer)
 
+abbrev pub said_of_entry : Inventory → Operation → ℕ → Answer → Said
+said_of_entry s operation i answer = record { reply = reply_as operation s i answer; terms = terms_as operation s i answer; loss = loss_as operation s i answer }
+
+-- where its entry is no more, its kind and its credential are not known: the answer is read by its status alone. One that speaks of the
+-- request, or that the broker was busy, says that the broker is there; anything else is lost
+abbrev pub is_of_broker : ℕ → Bool
+is_of_broker status = status == 200 || (status == 400 || (status == 403 || (status == 404 || (status == 405 || status == 429))))
+
+abbrev pub said_of_nobody : Answer → Said
+said_of_nobody (Ok dated) = record { reply = if is_of_broker dated.reply.status then Busy else Lost; terms = no_terms; loss = losses.Status dated.reply.status }
+said_of_nobody (Err why) = record { reply = Lost; terms = no_terms; loss = why }
+
 abbrev pub said_to : Inventory → Operation → ℕ → Answer → Said
-said_to s operation i answer = record { reply = reply_as operation s i answer; terms = terms_as operation s i answer; loss = loss_as operation s i answer }
+said_to s operation i answer = if nat_lt i (length s.forest.entries) then said_of_entry s operation i answer else said_of_nobody answer
 
 -- the event of an answer: that of its own request
 abbrev pub event_as : Operation → ℕ → Reply → Terms → Event
@@ -117,4 +129,4 @@ event_as Renew i reply terms = Renewed i reply
 
 -- the event that an answer says, where that was asked of its entry: the reply, and the terms that a lookup tells
 abbrev pub event_of_answer : Inventory → Operation → Answered → Event
-event_of_answer s operation a = event_as operation a.index (reply_as operation s a.index a.answer) (terms_as operation s a.index a.answer)
+event_of_answer s operation a = event_as operation a.index (said_to s operation a.index a.answer).reply (said_to s operation a.index a.answer).terms

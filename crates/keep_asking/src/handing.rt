@@ -1,9 +1,8 @@
 //! An answer is handed in to the machine.
-ghost use Rattle.std.specs.Prelude.{◌≡◌, ◌≢◌, IfOk, None, Ok, OnErr, Some, length};
+ghost use Rattle.std.specs.Prelude.{◌≡◌, ◌≢◌, IfOk, None, Ok, OnErr, Some};
 ghost use Rattle.watch_machine.specs.History.{Turn};
 ghost use Rattle.watch_machine.specs.Refusal.{refusal};
 ghost use Rattle.keep_asking.specs.Handing.{IsHandedIn, out_of};
-ghost use Rattle.keep_asking.specs.InStep.{MachineIsSound};
 ghost use Rattle.keep_asking.specs.Told.{event_as};
 
 use crate::told::{Said, said_to};
@@ -33,9 +32,7 @@ pub fn hand_in(
     watch: &mut Watch,
     answered: Answered,
 ) -> Result<HandedIn, AllocError>
-    requires sound { MachineIsSound watch.old }
-    requires out { out_of watch.old.out answered.index ≢ None }
-    requires whole { length watch.old.forest.entries ≡ length inventory.now.forest.entries }
+    requires { out_of watch.old.out answered.index ≢ None }
     ensures handed { IfOk result (λ handed. IsHandedIn inventory.now answered watch.old handed watch.new) }
     ensures kept { OnErr result (watch.new ≡ watch.old) }
 {

@@ -19,4 +19,4 @@ pub use handing::{HandedIn, event_of, hand_in, out_of};
 pub use laws::lanes_stay_in_step;
 pub use seen::SeenLanes;
 pub use sending::{send, take_back};
-pub use told::{Said, said_to};
+pub use told::{Said, said_of_entry, said_to};

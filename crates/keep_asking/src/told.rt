@@ -2,7 +2,7 @@
 ghost use Rattle.std.specs.Prelude.{◌≡◌, ◌<◌, IfOk, length};
 ghost use Rattle.keep_inventory.specs.Lookup.{lookup_fault};
 ghost use Rattle.watch_machine.specs.declared.event.Reply.TheVariants as replies;
-ghost use Rattle.keep_asking.specs.Told.{end_told, is_of_another, lookup_reply, lookup_terms, loss_in, no_terms, renewal_reply, said_to, terms_told};
+ghost use Rattle.keep_asking.specs.Told.{end_told, is_of_another, is_of_broker, lookup_reply, lookup_terms, loss_in, no_terms, renewal_reply, said_of_entry, said_of_nobody, said_to, terms_told};
 
 use keep_exchange::Terms as Told;
 use keep_inventory::{Inventory, LookupFault, told_terms};
@@ -21,8 +21,8 @@ pub struct Said {
     pub loss: Loss,
 }
 
-/// What the answer to a request of the entry says, by the terms that lookups of it are judged by. The only error is out of
-/// memory.
+/// What the answer to a request of the entry says, by the terms that lookups of it are judged by; of one whose entry is no more its
+/// status alone is read. The only error is out of memory.
 pub fn said_to(
     alloc: Global,
     inventory: &Inventory,
@@ -30,8 +30,25 @@ pub fn said_to(
     entry: u32,
     answer: &Result<DatedReply, Loss>,
 ) -> Result<Said, AllocError>
-    requires { entry < length inventory.now.forest.entries }
     ensures { IfOk result (λ said. said ≡ said_to inventory.now operation entry answer.now) }
+{
+    if entry < inventory.forest().len() {
+        said_of_entry(alloc, inventory, operation, entry, answer)
+    } else {
+        Ok(said_of_nobody(answer))
+    }
+}
+
+/// The same of an entry that is.
+pub fn said_of_entry(
+    alloc: Global,
+    inventory: &Inventory,
+    operation: Operation,
+    entry: u32,
+    answer: &Result<DatedReply, Loss>,
+) -> Result<Said, AllocError>
+    requires { entry < length inventory.now.forest.entries }
+    ensures { IfOk result (λ said. said ≡ said_of_entry inventory.now operation entry answer.now) }
 {
     let kind = inventory.forest().get(entry).kind;
     match operation {
@@ -44,6 +61,34 @@ pub fn said_to(
             let heard = hear_renewal(alloc, kind, id, answer)?;
             Ok(said_of_renewal(&heard))
         }
+    }
+}
+
+/// What the answer says to a request whose entry is no more: whether the broker is there.
+fn said_of_nobody(answer: &Result<DatedReply, Loss>) -> Said
+    ensures { result ≡ said_of_nobody answer.now }
+{
+    let (reply, loss) = match answer {
+        Ok(dated) if is_of_broker(dated.reply.status) => {
+            (Reply::Busy, Loss::Status(dated.reply.status))
+        }
+        Ok(dated) => (Reply::Lost, Loss::Status(dated.reply.status)),
+        Err(why) => (Reply::Lost, *why),
+    };
+    Said {
+        reply,
+        terms: no_terms(),
+        loss,
+    }
+}
+
+/// Whether a broker that is there gives a reply that status.
+fn is_of_broker(status: u16) -> bool
+    ensures { result ≡ is_of_broker status }
+{
+    match status {
+        200 | 400 | 403 | 404 | 405 | 429 => true,
+        _ => false,
     }
 }
 

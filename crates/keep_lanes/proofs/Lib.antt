@@ -6,3 +6,4 @@ pub mod TakenOut
 pub mod Moved
 pub mod Dials
 pub mod Due
+pub mod Renamed

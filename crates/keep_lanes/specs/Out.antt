@@ -1,6 +1,6 @@
 -- The requests that are out, and the answers that are handed back.
 -- Source: this project's own.
-use Rattle.std.specs.Prelude.{◌≡◌, ℕ, ◌+◌, ◌-◌, ◌^◌, ◌≤◌, ◌<◌, ◌⊎◌, All, List, [], ◌∷◌, ◌++◌, Bool, false, not, nat_le, max, min, map, Option, Some, None, IfSome, if◌then◌else◌}
+use Rattle.std.specs.Prelude.{◌≡◌, ◌==◌, ℕ, ◌+◌, ◌-◌, ◌^◌, ◌≤◌, ◌<◌, ◌⊎◌, All, List, [], ◌∷◌, ◌++◌, Bool, false, not, nat_le, max, min, map, Option, Some, None, IfSome, if◌then◌else◌}
 use Rattle.std.specs.List.{filter}
 use Rattle.keep_device.specs.Moments.{earlier}
 use Rattle.keep_lanes.specs.declared.coming.Coming.{Coming}
@@ -35,6 +35,21 @@ IsParted [] answers left = (answers ≡ []) × (left ≡ [])
 IsParted (o ∷ os) answers left =
     ((a : Answered) × (later : List Answered) × ((answers ≡ a ∷ later) × (IsAnswerTo o a × IsParted os later left)))
     ⊎ ((rest : List Out) × ((left ≡ o ∷ rest) × IsParted os answers rest))
+
+-- ---- other indices
+
+-- the index that stands in the second list where this one stands in the first; the same where it stands in none
+unfoldable pub index_in : List ℕ → List ℕ → ℕ → ℕ
+index_in [] others index = index
+index_in (k ∷ ks) [] index = index
+index_in (k ∷ ks) (j ∷ js) index = if k == index then j else index_in ks js index
+
+-- what is out is for another index so, and all else of it is the same
+abbrev pub with_index : List ℕ → List ℕ → Out → Out
+with_index from to o = record o { index = index_in from to o.index }
+
+abbrev pub renamed : List ℕ → List ℕ → List Out → List Out
+renamed from to out = map (with_index from to) out
 
 -- ---- where it is known what comes
 

@@ -1,7 +1,7 @@
 ghost use Rattle.std.specs.Prelude.{◌≡◌, ℕ, ◌-◌, ◌<◌, ◌≤◌, List, [], Option, IfOk, IfSome, OnErr, OnOk, length};
 ghost use Rattle.keep_exchange.specs.Requests.{IsShortRequest};
 ghost use Rattle.keep_device.specs.Moments.{earlier};
-ghost use Rattle.keep_lanes.specs.Out.{AreThere, AreThereAt, IsDueAfter, IsParted, Out, first_at};
+ghost use Rattle.keep_lanes.specs.Out.{AreThere, AreThereAt, IsDueAfter, IsParted, Out, first_at, renamed};
 ghost use Rattle.keep_lanes.specs.Serving.{BehindLanes, BrokerIsLeft, RequestIsSent};
 ghost use Rattle.vault_http.specs.RoundTripRequest.{IsWritable};
 
@@ -35,8 +35,8 @@ pub struct Answered {
 
 /// Lanes to a broker: so many requests may be out at once, each in a lane of its own.
 ///
-/// To contracts they are the requests that are out, by rising index. Of lanes in memory contracts know the broker's table too,
-/// and what comes of each request and when; of those over sockets they know nothing of that.
+/// To contracts they are the requests that are out, by rising index unless they were renamed. Of lanes in memory contracts know the
+/// broker's table too, and what comes of each request and when; of those over sockets they know nothing of that.
 pub trait Lanes {
     /// The table, the faults to come and the count of requests, where they are known.
     ghost behind: { Self → Option BehindLanes };
@@ -80,7 +80,7 @@ pub trait Lanes {
         ensures port { Self.host_port self.new ≡ Self.host_port self.old };
 
     /// Waits for the first answer, from `now` until a moment of the elapsed clock, and hands back those that are there within
-    /// 5 ms of the first, by rising index, each with the index that its request was for. It hands back none where none came by
+    /// 5 ms of the first, in their order, each with the index that its request was for. It hands back none where none came by
     /// then, and waits no longer once nothing is out. What it hands back is out no more.
     ///
     /// The only error is out of memory: all are out as before.
@@ -94,7 +94,7 @@ pub trait Lanes {
         ensures port { Self.host_port self.new ≡ Self.host_port self.old };
 
     /// Each that is out goes on as far as it can at `now` without waiting, and is settled where its time is over by then. It
-    /// hands back the answers that are there, by rising index, each with the index that its request was for. What it hands
+    /// hands back the answers that are there, in their order, each with the index that its request was for. What it hands
     /// back is out no more, and what is left is due later.
     ///
     /// The only error is out of memory: all are out as before.
@@ -114,6 +114,15 @@ pub trait Lanes {
         ensures due { result ≡ due_by now by self.now }
         ensures known { IfSome (behind self.now) (λ _. result ≡ earlier by (first_at (out self.now))) }
         ensures within { result ≤ by };
+
+    /// Each that is out is for another index from now on: for that in `to` which stands where its own stands in `from`; for the same
+    /// where its own stands in none. Nothing else of it changes, nor their order.
+    fn rename(&mut self, from: &[u32], to: &[u32])
+        ensures renamed { Self.out self.new ≡ renamed from.now to.now (Self.out self.old) }
+        ensures behind { Self.behind self.new ≡ Self.behind self.old }
+        ensures width { Self.width self.new ≡ Self.width self.old }
+        ensures seconds { Self.seconds self.new ≡ Self.seconds self.old }
+        ensures port { Self.host_port self.new ≡ Self.host_port self.old };
 
     /// Gives up all that is out. Its connections are closed, and no answer of it is handed back.
     fn forget(&mut self)

@@ -30,6 +30,6 @@ pub use lanes::{Answered, Ask, Lanes, MOST_WIDTH, free_of};
 pub use line::{Line, Wires};
 pub use loss::{Loss, loss_of};
 pub use running::{LanesOver, TOGETHER};
-pub use seats::{Seat, Standing, put, take_out};
+pub use seats::{Seat, Standing, put, rename, take_out};
 pub use sockets::{SocketLanes, SocketLine, SocketWires};
 pub use stage::Stage;

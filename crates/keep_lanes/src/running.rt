@@ -12,7 +12,7 @@ use crate::allowance::Allowance;
 use crate::lane::Lane;
 use crate::lanes::{Answered, Ask, Lanes, MOST_WIDTH, free_of};
 use crate::line::{Line, Wires};
-use crate::seats::{Seat, put, take_out};
+use crate::seats::{Seat, put, rename, take_out};
 use crate::way::Way;
 use keep_device::{MOST_ROOM, zeros};
 use keep_moment::Moment;
@@ -28,7 +28,7 @@ pub struct LanesOver<W: Wires> {
     wires: W,
     seconds: u32,
     width: u32,
-    /// By rising index.
+    /// By rising index, unless they were renamed.
     out: Vec<Seat<Way<W::Line>>>,
     /// What reads are offered, once it is made.
     room: Vec<u8>,
@@ -130,7 +130,7 @@ fn begin<W: Wires>(
 {
     let text = text_of_request(alloc, &ask.request)?;
     let line = wires.dial(ask.index);
-    let mut standing = Way::Out(Lane::new(alloc, line, text, allowance));
+    let mut standing = Way::Out(Lane::new(alloc, line, ask.index, text, allowance));
     standing.go_on(alloc, room, true, allowance.asked)?;
     Ok(Seat {
         index: ask.index,
@@ -185,6 +185,14 @@ fn due<L: Line + Drop>(out: &[Seat<Way<L>>], now: u64, by: u64) -> u64
     }
 }
 
+/// Whether its connection can go on by what the last wait told.
+fn is_ready<W: Wires>(wires: &W, standing: &Way<W::Line>) -> bool {
+    match standing {
+        Way::Out(lane) => wires.is_ready(lane.dialled),
+        Way::Over(_) => false,
+    }
+}
+
 /// Each of them goes on that may, or has come to its deadline. All of them may, or those that can by what the last wait told.
 fn go_on<W: Wires>(
     alloc: Global,
@@ -200,7 +208,7 @@ fn go_on<W: Wires>(
     ensures out { outs (λ _. None) out.new ≡ outs (λ _. None) out.old }
 {
     for seat in out.iter_mut() {
-        let is_ready = may_all || wires.is_ready(seat.index);
+        let is_ready = may_all || is_ready(wires, &seat.standing);
         seat.standing.go_on(alloc, room, is_ready, time)?;
     }
     Ok(())
@@ -248,6 +256,10 @@ impl<W: Wires> Lanes for LanesOver<W> {
 
     fn due(&self, now: u64, by: u64) -> u64 {
         due(&self.out, now, by)
+    }
+
+    fn rename(&mut self, from: &[u32], to: &[u32]) {
+        rename(&mut self.out, from, to);
     }
 
     fn forget(&mut self) {

@@ -1,6 +1,6 @@
-//! Those that are out, by rising index, and how their answers are taken out.
+//! Those that are out, and how their answers are taken out.
 ghost use Rattle.std.specs.Prelude.{◌≡◌, ℕ, ◌<◌, ◌≤◌, All, Bool, List, Option, IfOk, IsTrue, OnErr, drop, filter, length, map, not, take, vec_capacity, vec_len};
-ghost use Rattle.keep_lanes.specs.Out.{IsBelow, IsParted, OutIsPut};
+ghost use Rattle.keep_lanes.specs.Out.{IsBelow, IsParted, OutIsPut, index_in, renamed};
 ghost use Rattle.keep_lanes.specs.declared.coming.Coming.{Coming};
 ghost use Rattle.keep_lanes.specs.Seats.{AnswerIsWhatComes, AreTakenOut, out_of_seat, outs};
 
@@ -52,6 +52,29 @@ pub fn put<T: Standing>(out: &mut Vec<Seat<T>>, seat: Seat<T>)
 {
     let place = place_for(out, seat.index);
     out.insert(place, seat).unwrap();
+}
+
+/// The index that stands in `to` where this one stands in `from`; the same where it stands in none.
+fn index_in(from: &[u32], to: &[u32], index: u32) -> u32
+    ensures { result ≡ index_in from.now to.now index }
+{
+    let mut place = 0;
+    while place < from.len() && place < to.len() {
+        if from[place] == index {
+            return to[place];
+        }
+        place += 1;
+    }
+    index
+}
+
+/// Each is for another index from now on: for that in `to` which stands where its own stands in `from`.
+pub fn rename<T: Standing>(out: &mut [Seat<T>], from: &[u32], to: &[u32])
+    ensures { outs T.comes out.new ≡ renamed from.now to.now (outs T.comes out.old) }
+{
+    for seat in out.iter_mut() {
+        seat.index = index_in(from, to, seat.index);
+    }
 }
 
 /// Takes out those whose answers are there at this moment, and gives these.

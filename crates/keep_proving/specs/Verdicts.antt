@@ -2,7 +2,7 @@
 -- Source: Vault, HTTP API: `auth/token`, "Lookup a token (self)"; `sys/leases`, "Read lease". What is made of that is this project's
 -- own.
 use Rattle.std.specs.Prelude.{Bool, if◌then◌else◌}
-use Rattle.keep_asking.specs.Told.{said_to}
+use Rattle.keep_asking.specs.Told.{said_of_entry}
 use Rattle.keep_asking.specs.declared.told.Said.{Said}
 use Rattle.keep_lanes.specs.Losses.{Answer}
 use Rattle.keep_lanes.specs.declared.loss.Loss.{Loss}
@@ -30,4 +30,4 @@ verdict_of said = verdict_by said.reply said.terms.endless said.loss
 
 -- by the answer to the lookup of the credential
 abbrev pub verdict_on : Candidate → Answer → Verdict
-verdict_on c answer = verdict_of (said_to c.inventory Look c.entry answer)
+verdict_on c answer = verdict_of (said_of_entry c.inventory Look c.entry answer)

@@ -3,7 +3,7 @@ ghost use Rattle.std.specs.Prelude.{◌≡◌, ◌<◌, IfOk, length};
 ghost use Rattle.keep_proving.specs.Verdicts.{told_verdict, verdict_of, verdict_on};
 
 use crate::candidate::Candidate;
-use keep_asking::{Said, said_to};
+use keep_asking::{Said, said_of_entry};
 use keep_lanes::Loss;
 use std::alloc::{AllocError, Global};
 use vault_http::DatedReply;
@@ -54,6 +54,6 @@ pub fn verdict_on(
     ensures { IfOk result (λ verdict. verdict ≡ verdict_on candidate.now answer.now) }
 {
     let inventory = &candidate.inventory;
-    let said = said_to(alloc, inventory, Operation::Look, candidate.entry, answer)?;
+    let said = said_of_entry(alloc, inventory, Operation::Look, candidate.entry, answer)?;
     Ok(verdict_of(said))
 }

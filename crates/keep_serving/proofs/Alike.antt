@@ -1,14 +1,15 @@
 -- Alike: agents that differ in credentials alone go the same way. For `secrets_change_no_turn`.
-use Rattle.std.proofs.Common.{◌≡◌, ◌∙◌, ℕ, zero, suc, ◌-◌, Bool, true, false, List, [], ◌∷◌, ◌++◌, Option, Some, None, Result, Ok, Err, ap, ap₂, length, map, refl, sym, subst, inl, inr}
+use Rattle.std.proofs.Common.{◌≡◌, ◌∙◌, ℕ, zero, ◌-◌, Bool, true, false, List, [], ◌∷◌, ◌++◌, Option, Some, None, Result, Ok, Err, ap, ap₂, length, map, refl, sym, subst, inl, inr}
 use Rattle.std.specs.List.{range_with_len}
 use Rattle.keep_agent.specs.Agent.{Agent}
-use Rattle.keep_agent.specs.Rebuilding.{AgentIsRebuilt, AreHanded, IsHanded, carried_standing, carried_told}
+use Rattle.keep_agent.specs.Changed.{all_was, carried_standing, standing_of, was_of}
+use Rattle.keep_agent.specs.Changed as agents
 use Rattle.keep_agent.specs.Shorts.{all_said, said_standings}
-use Rattle.keep_agent.specs.Standings.{standings_after}
+use Rattle.keep_agent.specs.Standings.{standing_in, standings_after}
 use Rattle.keep_agent.specs.Turns.{AgentTurn, beginnings_after, inventory_after}
 use Rattle.keep_agent.specs.Turns as turns
 use Rattle.keep_agent.specs.declared.standing.Standing.{Standing}
-use Rattle.keep_agent.specs.declared.standing.Told.{Told}
+use Rattle.keep_agent.proofs.WasOf.{former_by}
 use Rattle.keep_asking.proofs.Once.{turn_once}
 use Rattle.keep_asking.specs.Handing.{out_of}
 use Rattle.keep_asking.specs.Sending.{Lanes}
@@ -18,6 +19,8 @@ use Rattle.keep_clock.specs.declared.reading.Reading.{Reading}
 use Rattle.keep_inventory.specs.Inventories.{Inventory, inventory_with_need}
 use Rattle.keep_lanes.specs.declared.lanes.Answered.{Answered}
 use Rattle.keep_tree.specs.Forest.{Forest}
+use Rattle.watch_machine.specs.Change.{changed, former}
+use Rattle.watch_machine.specs.declared.change.Was.{Was}
 use Rattle.watch_machine.specs.declared.command.Command.{Command}
 use Rattle.watch_machine.specs.declared.command.Command.TheVariants.{Go, Taken}
 use Rattle.watch_machine.specs.declared.command.Output.{Output}
@@ -27,17 +30,16 @@ use Rattle.watch_machine.specs.declared.event.Event.TheVariants as events
 use Rattle.watch_machine.specs.declared.fault.WatchFault.{WatchFault}
 use Rattle.watch_machine.specs.declared.lanes.Out.{Out}
 use Rattle.watch_machine.specs.History.{Turn}
-use Rattle.watch_machine.specs.State.{WatchState, opened}
+use Rattle.watch_machine.specs.State.{WatchState}
 use Rattle.watch_machine.specs.Step.{TurnMayWantMemory}
-use Rattle.keep_serving.specs.Alike.{AlikeLaw, AreAgentsAlike, AreHeldAlike, AreInventoriesAlike, AreWordsAlike, Content, RebuiltAlikeLaw, ServedAlikeLaw, contents_at, contents_in, contents_taken}
+use Rattle.keep_serving.specs.Alike.{AlikeLaw, AreAgentsAlike, AreHeldAlike, AreInventoriesAlike, AreWordsAlike, ChangedAlikeLaw, Content, KeepsInventory, OneKeepsInventory, ServedAlikeLaw, contents_at, contents_in, contents_taken}
 use Rattle.keep_serving.specs.Changes.{AgentIsTurned, ChangeIsMade, MadeChange, OneIsMade}
 use Rattle.keep_serving.specs.Held.{Held, ServingSide, serving_side}
-use Rattle.keep_serving.specs.Laws.{OneKeepsInventory, KeepsInventory}
 use Rattle.keep_serving.specs.Stages.{AnswerIsTaken, AnswersAreTaken}
 use Rattle.keep_serving.specs.Words.{HandsBy, SaysBy, TurnFollowsWords, Words, WordsHandIn}
 use Rattle.keep_serving.specs.declared.change.Change.{Change}
 use Rattle.keep_serving.specs.declared.change.Change.TheVariants.{Need, Begin, Serve, Kept}
-use Rattle.keep_serving.proofs.OneWay.{handed_same, not_both}
+use Rattle.keep_serving.proofs.OneWay.{not_both}
 
 -- ---- the agent
 
@@ -202,41 +204,49 @@ alike_law (w ∷ ws) (v ∷ vs) h k new last (s ∷ sent) (o ∷ out) one two al
     let later = alike_law ws vs one.0 two.0 new last sent out one.1.1 two.1.1 here.1 words.1 (ap tail_of same) in
     (ap₂ (λ x xs. x ∷ xs) here.0 later.0, later.1)
 
--- ---- a rebuilding
+-- ---- another inventory
 
-handed_alike : (told other : ℕ → Option Told) (old : WatchState) (n : ℕ) (a b : WatchState) → ((i : ℕ) → other i ≡ told i) → AreHanded told old n a → AreHanded other old n b → b ≡ a
-handed_alike told other old zero a b same one two = two ∙ sym one
-handed_alike told other old (suc n) a b same one two =
-    let mid = handed_alike told other old n one.0 two.0 same one.1.0 two.1.0 in
-    handed_same (told n) n one.0 a b one.1.1 (subst (λ (t : Option Told). IsHanded n t one.0 b) (same n) (subst (λ (m : WatchState). IsHanded n (other n) m b) mid two.1.1))
+-- what is said of an entry is what was said of it where it was
+abbrev by_was : Agent → Was → Standing
+by_was a w = standing_of a (former w)
 
-map_alike : (f g : ℕ → Standing) (xs : List ℕ) → ((i : ℕ) → g i ≡ f i) → map g xs ≡ map f xs
-map_alike f g [] same = refl
-map_alike f g (x ∷ xs) same = ap₂ (λ y ys. y ∷ ys) (same x) (map_alike f g xs same)
+carried_by : (a : Agent) (s : Inventory) (xs : List ℕ) → map (carried_standing a s) xs ≡ map (by_was a) (map (was_of a.inventory s) xs)
+unfolding carried_standing was_of
+carried_by a s [] = refl
+carried_by a s (j ∷ js) = ap₂ (λ (y : Standing) (ys : List Standing). y ∷ ys) (ap (standing_of a) (sym (former_by a.inventory s j (agents.former a.inventory s j)))) (carried_by a s js)
 
-pub rebuilt_alike_law : RebuiltAlikeLaw
-rebuilt_alike_law a b new last s t width alike inventories carried one two =
+by_was_alike : (a b : Agent) (ws : List Was) → b.standings ≡ a.standings → map (by_was b) ws ≡ map (by_was a) ws
+by_was_alike a b [] same = refl
+by_was_alike a b (w ∷ ws) same = ap₂ (λ (y : Standing) (ys : List Standing). y ∷ ys) (said_alike a b (former w) same) (by_was_alike a b ws same) where
+  said_alike : (a b : Agent) (o : Option ℕ) → b.standings ≡ a.standings → standing_of b o ≡ standing_of a o
+  said_alike a b None same = refl
+  said_alike a b (Some i) same = ap (λ (xs : List Standing). standing_in xs i) same
+
+pub changed_alike_law : ChangedAlikeLaw
+unfolding all_was
+changed_alike_law a b new last s t alike inventories was one two =
+    let n = length s.forest.entries in
     let forest : t.forest ≡ s.forest = ap (λ (x : Inventory). x.forest) inventories in
-    let handed = subst (λ (f : Forest). AreHanded (carried_told b t) (opened f width) (length f.entries) last.machine) forest two.machine in
-    let standings = subst (λ (f : Forest). last.standings ≡ map (carried_standing b t) (range_with_len 0 (length f.entries))) forest two.standings in
+    let machine : changed b.machine t.forest (all_was b.inventory t) ≡ changed a.machine s.forest (all_was a.inventory s) =
+    ap₂ (λ (m : WatchState) (f : Forest). changed m f (all_was b.inventory t)) alike.machine forest ∙ ap (changed a.machine s.forest) was in
+    let standings : map (carried_standing b t) (range_with_len 0 (length t.forest.entries)) ≡ map (carried_standing a s) (range_with_len 0 n) =
+    carried_by b t (range_with_len 0 (length t.forest.entries)) ∙ ap (map (by_was b)) was ∙ by_was_alike a b (all_was a.inventory s) alike.standings ∙ sym (carried_by a s (range_with_len 0 n)) in
     record {
-      machine = handed_alike (carried_told a s) (carried_told b t) (opened s.forest width) (length s.forest.entries) new.machine last.machine (λ i. ap (λ (x : Standing). x.told) (carried i)) one.machine handed;
+      machine = two.machine.state ∙ machine ∙ sym one.machine.state;
       inventory = subst (λ (x : Inventory). AreInventoriesAlike x last.inventory) (sym one.inventory) (subst (λ (y : Inventory). AreInventoriesAlike s y) (sym two.inventory) inventories);
-      standings = standings ∙ map_alike (carried_standing a s) (carried_standing b t) (range_with_len 0 (length s.forest.entries)) carried ∙ sym one.standings;
+      standings = two.standings ∙ standings ∙ sym one.standings;
       beginnings = two.beginnings ∙ alike.beginnings ∙ sym one.beginnings;
     }
 
 -- ---- an inventory that is handed over
 
 pub served_alike_law : ServedAlikeLaw
-served_alike_law h k l m a b s t alike inventories both carried (inl one) (inl two) = same_held h k a.held b.held (ap (λ (x : ServingSide). x.held) one.1) (ap (λ (x : ServingSide). x.held) two.1) alike
-served_alike_law h k l m a b s t alike inventories both carried (inl one) (inr two) = absurd (two.0 (both.0 one.0))
-served_alike_law h k l m a b s t alike inventories both carried (inr one) (inl two) = absurd (one.0 (both.1 two.0))
-served_alike_law h k l m a b s t alike inventories both carried (inr one) (inr two) =
-    let other = subst (λ (w : WatchState). AgentIsRebuilt k.agent t w.width b.held.agent) alike.agent.machine two.1.agent in
-    record {
-      agent = rebuilt_alike_law h.agent k.agent a.held.agent b.held.agent s t h.agent.machine.width alike.agent inventories carried one.1.agent other;
-      unsent = ap (λ (x : Held). x.unsent) two.1.held ∙ sym (ap (λ (x : Held). x.unsent) one.1.held);
-      asked = ap (λ (x : Held). x.asked) two.1.held ∙ alike.asked ∙ sym (ap (λ (x : Held). x.asked) one.1.held);
-      until = ap (λ (x : Held). x.until) two.1.held ∙ alike.until ∙ sym (ap (λ (x : Held). x.until) one.1.held);
-    }
+served_alike_law h k l m a b s t alike inventories both was (inl one) (inl two) = same_held h k a.held b.held (ap (λ (x : ServingSide). x.held) one.1) (ap (λ (x : ServingSide). x.held) two.1) alike
+served_alike_law h k l m a b s t alike inventories both was (inl one) (inr two) = absurd (two.0 (both.0 one.0))
+served_alike_law h k l m a b s t alike inventories both was (inr one) (inl two) = absurd (one.0 (both.1 two.0))
+served_alike_law h k l m a b s t alike inventories both was (inr one) (inr two) = record {
+  agent = changed_alike_law h.agent k.agent a.held.agent b.held.agent s t alike.agent inventories was one.1.agent two.1.agent;
+  unsent = ap (λ (x : Held). x.unsent) two.1.held ∙ alike.unsent ∙ sym (ap (λ (x : Held). x.unsent) one.1.held);
+  asked = ap (λ (x : Held). x.asked) two.1.held ∙ alike.asked ∙ sym (ap (λ (x : Held). x.asked) one.1.held);
+  until = ap (λ (x : Held). x.until) two.1.held ∙ alike.until ∙ sym (ap (λ (x : Held). x.until) one.1.held);
+}

@@ -1,24 +1,29 @@
 -- Changed: a change is made, and leaves what is held in step with the lanes. For `make_change` and the turn.
-use Rattle.std.proofs.Common.{◌≡◌, ◌≢◌, ◌∙◌, ℕ, zero, suc, ◌+◌, Bool, true, false, List, [], ◌++◌, Option, Some, None, Result, Ok, Err, append_assoc, length, map, refl, sym, ap, subst, arith, inl, inr}
-use Rattle.keep_agent.specs.declared.standing.Told.{Told}
+use Rattle.std.proofs.Common.{◌≡◌, ◌≢◌, ◌∙◌, ℕ, ◌+◌, ◌<◌, All, Bool, true, false, List, [], ◌++◌, Option, Some, None, Result, Ok, Err, append_assoc, length, map, refl, sym, ap, subst, arith, inl, inr}
+use Rattle.std.proofs.lemmas.List.Elements.{All-nil}
 use Rattle.keep_agent.specs.Agent.{Agent}
-use Rattle.keep_agent.specs.Rebuilding.{AreHanded, IsHanded, carried_told}
+use Rattle.keep_agent.specs.Changed.{all_was}
 use Rattle.keep_agent.specs.Turns.{AgentTurn}
-use Rattle.keep_asking.specs.InStep.{MachineIsSound, times}
-use Rattle.keep_asking.proofs.InStep.{abreast_new}
-use Rattle.keep_asking.proofs.Sound.{IsQuiet, turn_begin, turn_known, turn_need}
+use Rattle.keep_agent.proofs.Left.{turn_entries}
+use Rattle.keep_asking.specs.InStep.{IsAbreast, entries_answered, entries_out, times}
+use Rattle.keep_asking.specs.Sending.{Lanes}
+use Rattle.keep_asking.proofs.Changed.{change_law}
+use Rattle.keep_asking.proofs.Sound.{IsQuiet, turn_begin, turn_need}
 use Rattle.keep_inventory.specs.Inventories.{Inventory}
 use Rattle.keep_lanes.specs.Out as lanes
+use Rattle.keep_lanes.specs.Out.{renamed}
 use Rattle.watch_machine.specs.declared.command.Output.{Output}
+use Rattle.watch_machine.specs.declared.command.Request.{Request}
 use Rattle.watch_machine.specs.declared.event.Event.{Event}
 use Rattle.watch_machine.specs.declared.event.Event.TheVariants as events
 use Rattle.watch_machine.specs.declared.fault.WatchFault.{WatchFault}
 use Rattle.watch_machine.specs.declared.lanes.Out.{Out}
-use Rattle.watch_machine.specs.State.{WatchState, opened}
+use Rattle.watch_machine.specs.History.{Changed}
 use Rattle.keep_serving.specs.Changes.{AllGiven, ChangeIsMade, InventoryIsServed, MadeChange, OneIsMade, ServesInventory}
-use Rattle.keep_serving.specs.Held.{Held, IsInStep, ServingSide}
+use Rattle.keep_serving.specs.Held.{Held, IsInStep, ServingSide, entries_unsent}
 use Rattle.keep_serving.specs.declared.change.Change.{Change}
 use Rattle.keep_serving.specs.declared.change.Change.TheVariants.{Need, Begin, Serve, Kept}
+use Rattle.keep_serving.proofs.InStep.{still_named}
 
 -- ---- an inventory
 
@@ -38,8 +43,8 @@ given_join xs ys a b (Some given) h k =
 
 -- ---- in step
 
-quiet_in_step : (width : ℕ) (out : List lanes.Out) (h : Held) (new : Agent) → IsQuiet h.agent.machine new.machine → IsInStep width out h → IsInStep width out (record h { agent = new })
-quiet_in_step width out h new quiet step =
+quiet_in_step : (width : ℕ) (out : List lanes.Out) (h : Held) (new : Agent) → IsQuiet h.agent.machine new.machine → length new.machine.forest.entries ≡ length h.agent.machine.forest.entries → IsInStep width out h → IsInStep width out (record h { agent = new })
+quiet_in_step width out h new quiet entries step =
     let same = ap length quiet.out in
     let n = step.count in
     let room = step.room in
@@ -48,44 +53,64 @@ quiet_in_step width out h new quiet step =
       room = omega (arith, same, room);
       sound = quiet.sound;
       count = omega (arith, same, n);
+      named = still_named h.unsent (length h.agent.machine.forest.entries) (length new.machine.forest.entries) entries step.named;
       each = λ i. step.each i ∙ sym (ap (λ (o : List Out). times i (map (λ (r : Out). r.entry) o)) quiet.out);
     }
 
 pub turned_in_step : (width : ℕ) (out : List lanes.Out) (event : Event) (h : Held) (new : Agent) → ((output : Output) → AgentTurn h.agent event (Ok output) new → IsQuiet h.agent.machine new.machine) → (result : Result Output WatchFault) → AgentTurn h.agent event result new →
     IsInStep width out h → IsInStep width out (record h { agent = new })
-turned_in_step width out event h new quiet (Ok output) turn step = quiet_in_step width out h new (quiet output turn) step
+turned_in_step width out event h new quiet (Ok output) turn step =
+    quiet_in_step width out h new (quiet output turn) (turn_entries h.agent.machine new.machine event (Ok output) turn.machine) step
 turned_in_step width out event h new quiet (Err fault) turn step = subst (λ (a : Agent). IsInStep width out (record h { agent = a })) (sym turn.1) step
 
--- what is handed to a new machine leaves nothing out
-record IsIdle (width : ℕ) (m : WatchState) : Type 0 where
-  none : m.out ≡ []
-  width_is : m.width ≡ width
-  sound : MachineIsSound m
+-- where no answer waits and nothing is to be sent, all that is out is on the lanes; and then it is in step so
+all_on_lanes : (width : ℕ) (out : List lanes.Out) (h : Held) → h.pending ≡ [] → h.unsent ≡ [] → IsInStep width out h → IsAbreast h.agent.machine width out
+all_on_lanes width out h pending unsent step =
+    let n = step.count in
+    let room = step.room in
+    let a = ap length pending in
+    let b = ap length unsent in
+    record {
+      width_is = step.width_is;
+      room = omega (arith, n, room);
+      sound = step.sound;
+      in_step = record {
+        count = omega (arith, n, a, b);
+        each = λ i.
+            (let all = step.each i in
+            let answers = ap (λ xs. times i (entries_answered xs)) pending in
+            let requests = ap (λ xs. times i (entries_unsent xs)) unsent in
+            omega (arith, all, answers, requests));
+      };
+    }
 
-handed_one : (width i : ℕ) (told : Option Told) (old new : WatchState) → IsHanded i told old new → IsIdle width old → IsIdle width new
-handed_one width i None old new h idle = subst (IsIdle width) (sym h) idle
-handed_one width i (Some t) old new h idle =
-    let quiet = turn_known old new i t.end t.renewable h.0 h.1 idle.sound in
-    record { none = quiet.out ∙ idle.none; width_is = quiet.width ∙ idle.width_is; sound = quiet.sound }
-
-handed_idle : (width : ℕ) (told : ℕ → Option Told) (n : ℕ) (old new : WatchState) → AreHanded told old n new → IsIdle width old → IsIdle width new
-handed_idle width told zero old new h idle = subst (IsIdle width) (sym h) idle
-handed_idle width told (suc n) old new h idle = handed_one width n (told n) h.0 new h.1.1 (handed_idle width told n old h.0 h.1.0 idle)
+abreast_in_step : (width : ℕ) (out : List lanes.Out) (h : Held) → h.pending ≡ [] → h.unsent ≡ [] → IsAbreast h.agent.machine width out → IsInStep width out h
+abreast_in_step width out h pending unsent abreast =
+    let IsNamed : Request → Type 0 = λ r. r.entry < length h.agent.machine.forest.entries in
+    let n = abreast.in_step.count in
+    let room = abreast.room in
+    let a = ap length pending in
+    let b = ap length unsent in
+    record {
+      width_is = abreast.width_is;
+      room = omega (arith, n, room);
+      sound = abreast.sound;
+      count = omega (arith, n, a, b);
+      named = subst (All IsNamed) (sym unsent) (All-nil IsNamed);
+      each = λ i.
+          (let all = abreast.in_step.each i in
+          let answers = ap (λ xs. times i (entries_answered xs)) pending in
+          let requests = ap (λ xs. times i (entries_unsent xs)) unsent in
+          omega (arith, all, answers, requests));
+    }
 
 served_in_step : (width : ℕ) (s : Inventory) (old new : ServingSide) → InventoryIsServed s old new → IsInStep width old.lanes.out old.held → IsInStep width new.lanes.out new.held
 served_in_step width s old new h step =
-    let w = old.held.agent.machine.width in
-    let fresh = abreast_new s.forest w in
-    let idle = handed_idle w (carried_told old.held.agent s) (length s.forest.entries) (opened s.forest w) new.held.agent.machine h.agent.machine (record { none = refl; width_is = refl; sound = fresh.sound }) in
-    let none = ap length idle.none in
-    let held : IsInStep width [] (record old.held { agent = new.held.agent; pending = []; unsent = [] }) = record {
-      width_is = idle.width_is ∙ step.width_is;
-      room = omega (arith, none);
-      sound = idle.sound;
-      count = omega (arith, none);
-      each = λ i. sym (ap (λ (o : List Out). times i (map (λ (r : Out). r.entry) o)) idle.none);
-    } in
-    subst (λ l. IsInStep width l.out new.held) (sym h.lanes) (subst (IsInStep width []) (sym h.held) held)
+    let before = old.held.agent.machine in
+    let change : Changed = record { forest = s.forest; was = all_was old.held.agent.inventory s; state = new.held.agent.machine } in
+    let abreast = change_law before change width old.lanes.out h.agent.machine (all_on_lanes width old.lanes.out old.held h.pending h.unsent step) in
+    subst (λ (l : Lanes). IsInStep width l.out new.held) (sym h.lanes)
+    (abreast_in_step width (renamed (entries_out before) (entries_out new.held.agent.machine) old.lanes.out) new.held (ap (λ (x : Held). x.pending) h.held ∙ h.pending) (ap (λ (x : Held). x.unsent) h.held ∙ h.unsent) abreast)
 
 serves_in_step : (width : ℕ) (s : Inventory) (old new : ServingSide) → ServesInventory s old new → IsInStep width old.lanes.out old.held → IsInStep width new.lanes.out new.held
 serves_in_step width s old new (inl h) step = subst (λ (x : ServingSide). IsInStep width x.lanes.out x.held) (sym h.1) step

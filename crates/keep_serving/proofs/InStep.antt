@@ -1,12 +1,14 @@
 -- InStep: what each stage leaves is in step with the lanes. For the stages, and the turn over them.
-use Rattle.std.proofs.Common.{◌≡◌, ◌≢◌, ◌∙◌, ℕ, ◌<◌, List, [], ◌∷◌, ◌++◌, None, drop, length, slice_index_or, refl, sym, ap, subst, arith, inl, inr}
+use Rattle.std.proofs.Common.{◌≡◌, ◌≢◌, ◌∙◌, ℕ, ◌<◌, All, List, [], ◌∷◌, ◌++◌, None, Ok, drop, length, slice_index_or, refl, sym, ap, subst, arith, inl, inr}
 use Rattle.std.proofs.lemmas.List.{length-append}
+use Rattle.std.proofs.lemmas.List.Elements.{All-head, All-tail}
 use Rattle.keep_agent.specs.Agent.{Agent}
 use Rattle.keep_agent.specs.Turns.{inventory_after}
+use Rattle.keep_agent.proofs.Left.{turn_entries}
 use Rattle.keep_asking.specs.Handing.{AreHandedIn, out_of}
 use Rattle.keep_asking.specs.InStep.{AreOut, entries_answered, entries_out, times}
 use Rattle.keep_asking.specs.Told.{event_as}
-use Rattle.keep_asking.proofs.AnswersOut.{are_over, out_within, some_out}
+use Rattle.keep_asking.proofs.AnswersOut.{are_over, some_out}
 use Rattle.keep_asking.proofs.InStep.{parted_count, parted_times, sent_all}
 use Rattle.keep_asking.proofs.Sound.{counts, same_index, times_append, turn_gone}
 use Rattle.keep_clock.specs.declared.reading.Reading.{Reading}
@@ -32,11 +34,19 @@ answers_append (x ∷ xs) ys = ap (λ ns. x.index ∷ ns) (answers_append xs ys)
 
 -- ---- what waits to be sent is of an entry, and finds a lane
 
+abbrev IsNamed : Held → Request → Type 0
+IsNamed h r = r.entry < length h.agent.machine.forest.entries
+
 pub unsent_within : (width : ℕ) (out : List lanes.Out) (h : Held) (r : Request) (later : List Request) → IsInStep width out h → h.unsent ≡ r ∷ later → r.entry < length h.agent.machine.forest.entries
-unsent_within width out h r later step is =
-    let first = ap (λ rs. times r.entry (entries_unsent rs)) is ∙ counts r.entry r.entry (entries_unsent later) (same_index r.entry) in
-    let all = step.each r.entry in
-    out_within h.agent.machine r.entry step.sound (some_out h.agent.machine.out r.entry (omega (arith, first, all)))
+unsent_within width out h r later step is = All-head (IsNamed h) r later (subst (All (IsNamed h)) is step.named)
+
+all_behind : {X : Type 0} (P : X → Type 0) (xs ys : List X) → All P (xs ++ ys) → All P ys
+all_behind P [] ys all = all
+all_behind P (x ∷ xs) ys all = all_behind P xs ys (All-tail P x (xs ++ ys) all)
+
+-- as many entries as before are as many as are named
+pub still_named : (requests : List Request) (n m : ℕ) → m ≡ n → All (λ (r : Request). r.entry < n) requests → All (λ (r : Request). r.entry < m) requests
+still_named requests n m same named = subst (λ k. All (λ (r : Request). r.entry < k) requests) (sym same) named
 
 -- the first of a list that has one
 pub first_of : {T : Type 0} → (xs : List T) (d : T) → 0 < length xs → xs ≡ slice_index_or xs 0 d ∷ drop 1 xs
@@ -59,6 +69,7 @@ in_step_gone port width old new h step =
       room = step.room;
       sound = step.sound;
       count = omega (arith, parts, n, a);
+      named = all_behind (IsNamed old.held) h.sent new.held.unsent (subst (All (IsNamed old.held)) h.parts step.named);
       each = λ i.
           (let before = step.each i in
           let here = sent.each i in
@@ -82,6 +93,7 @@ in_step_come now width old new h step =
       room = step.room;
       sound = step.sound;
       count = omega (arith, parts, none, n);
+      named = step.named;
       each = λ i.
           (let before = step.each i in
           let here = parted_times old.lanes.out new.held.pending new.lanes.out h.parted i in
@@ -120,6 +132,13 @@ taken_out width out h taken later step parts = λ i.
     let split = ap (λ xs. times i (entries_answered xs)) parts ∙ ap (times i) (answers_append taken later) ∙ times_append i (entries_answered taken) (entries_answered later) in
     omega (arith, all, split))
 
+-- and there are as many entries as before
+entries_taken : (answers : List Answered) (old new : Agent) → AnswersAreTaken answers old new → length new.machine.forest.entries ≡ length old.machine.forest.entries
+entries_taken [] old new h = ap (λ (a : Agent). length a.machine.forest.entries) h
+entries_taken (a ∷ rest) old new h =
+    let one = h.1.0 in
+    entries_taken rest h.0 new h.1.1 ∙ turn_entries old.machine h.0.machine (event_as one.request.operation a.index one.said.reply one.said.terms) (Ok one.output) one.turn.machine
+
 pub in_step_taken : (width : ℕ) (out : List lanes.Out) (old new : Held) → HaveTaken old new → IsInStep width out old → IsInStep width out new
 in_step_taken width out old new h step =
     let handed = handed_all h.taken old.agent new.agent h.agent in
@@ -134,6 +153,7 @@ in_step_taken width out old new h step =
       room = omega (arith, a, room);
       sound = over.sound;
       count = omega (arith, parts, n, a);
+      named = still_named old.unsent (length old.agent.machine.forest.entries) (length new.agent.machine.forest.entries) (entries_taken h.taken old.agent new.agent h.agent) step.named;
       each = λ i.
           (let before = step.each i in
           let here = over.each i in
@@ -162,6 +182,7 @@ in_step_read r width out old new h step =
       room = omega (arith, a, few, room, w);
       sound = gone.sound;
       count = omega (arith, none, n, a);
+      named = gone.within;
       each = λ i.
           (let before = step.each i in
           let nothing = ap (λ rs. times i (entries_unsent rs)) h.none in

@@ -8,7 +8,7 @@ pub mod Read
 pub mod Turned
 pub mod Run
 pub mod Stretch
-pub mod RunsOfWatch
+pub mod RunOfWatch
 pub mod Heard
 pub mod OneWay
 pub mod Called

@@ -1,13 +1,12 @@
 -- OneWay: from the same words and the same beginning the same follows.
-use Rattle.std.proofs.Common.{◌≡◌, ◌∙◌, ℕ, zero, suc, ◌-◌, Bool, true, false, List, [], ◌∷◌, ◌++◌, Option, Some, None, Result, Ok, Err, ap, ap₂, length, sym, subst, inl, inr}
+use Rattle.std.proofs.Common.{◌≡◌, ◌∙◌, ℕ, zero, ◌-◌, Bool, true, false, List, [], ◌∷◌, ◌++◌, Option, Some, None, Result, Ok, Err, ap, ap₂, sym, subst, inl, inr}
 use Rattle.keep_agent.specs.Agent.{Agent}
-use Rattle.keep_agent.specs.Rebuilding.{AgentIsRebuilt, AreHanded, IsHanded, carried_told}
+use Rattle.keep_agent.specs.Changed.{AgentIsChanged}
 use Rattle.keep_agent.specs.Shorts.{all_said}
 use Rattle.keep_agent.specs.Standings.{standings_after}
 use Rattle.keep_agent.specs.Turns.{AgentTurn, beginnings_after}
 use Rattle.keep_agent.specs.Turns as turns
 use Rattle.keep_agent.specs.declared.standing.Standing.{Standing}
-use Rattle.keep_agent.specs.declared.standing.Told.{Told}
 use Rattle.keep_asking.proofs.Once.{turn_once}
 use Rattle.keep_asking.specs.Sending.{Lanes}
 use Rattle.keep_asking.specs.Told.{event_as, said_to}
@@ -25,7 +24,7 @@ use Rattle.watch_machine.specs.declared.fault.WatchFault.{WatchFault}
 use Rattle.watch_machine.specs.declared.fault.WatchFault.TheVariants.{NotAsked, BadIndex, OutOfMemory}
 use Rattle.watch_machine.specs.declared.lanes.Out.{Out}
 use Rattle.watch_machine.specs.History.{Turn}
-use Rattle.watch_machine.specs.State.{WatchState, opened}
+use Rattle.watch_machine.specs.State.{WatchState}
 use Rattle.watch_machine.specs.Step.{TurnMayWantMemory}
 use Rattle.keep_serving.specs.Changes.{AgentIsTurned, ChangeIsMade, InventoryIsServed, MadeChange, OneIsMade, ServesInventory}
 use Rattle.keep_serving.specs.Held.{Held, ServingSide, serving_side}
@@ -115,19 +114,8 @@ hands_by_same (Some r) came is_said old a b sent out one two = hands_same r came
 
 -- ---- changes, whatever is on the lanes
 
-pub handed_same : (told : Option Told) (i : ℕ) (old a b : WatchState) → IsHanded i told old a → IsHanded i told old b → b ≡ a
-handed_same None i old a b one two = two ∙ sym one
-handed_same (Some t) i old a b one two = (turn_once old a b (events.Known i t.end t.renewable) one.0 two.0 one.1 two.1).1
-
-all_handed_same : (told : ℕ → Option Told) (old : WatchState) (n : ℕ) (a b : WatchState) → AreHanded told old n a → AreHanded told old n b → b ≡ a
-all_handed_same told old zero a b one two = two ∙ sym one
-all_handed_same told old (suc n) a b one two =
-    let mid = all_handed_same told old n one.0 two.0 one.1.0 two.1.0 in
-    handed_same (told n) n one.0 a b one.1.1 (subst (λ (m : WatchState). IsHanded n (told n) m b) mid two.1.1)
-
-rebuilt_same : (old : Agent) (s : Inventory) (width : ℕ) (a b : Agent) → AgentIsRebuilt old s width a → AgentIsRebuilt old s width b → b ≡ a
-rebuilt_same old s width a b one two =
-    same_agent a b (all_handed_same (carried_told old s) (opened s.forest width) (length s.forest.entries) a.machine b.machine one.machine two.machine) (two.inventory ∙ sym one.inventory) (two.standings ∙ sym one.standings) (two.beginnings ∙ sym one.beginnings)
+changed_same : (old : Agent) (s : Inventory) (a b : Agent) → AgentIsChanged old s a → AgentIsChanged old s b → b ≡ a
+changed_same old s a b one two = same_agent a b (two.machine.state ∙ sym one.machine.state) (two.inventory ∙ sym one.inventory) (two.standings ∙ sym one.standings) (two.beginnings ∙ sym one.beginnings)
 
 event_same : (event : Event) (h : Held) (l k : Lanes) (a b : ServingSide) → (TurnMayWantMemory event → ⊥) → AgentIsTurned event (serving_side h l) a → AgentIsTurned event (serving_side h k) b → b.held ≡ a.held
 event_same event h l k a b wants one two =
@@ -136,8 +124,8 @@ event_same event h l k a b wants one two =
 
 served_same : (s : Inventory) (h : Held) (l k : Lanes) (a b : ServingSide) → InventoryIsServed s (serving_side h l) a → InventoryIsServed s (serving_side h k) b → b.held ≡ a.held
 served_same s h l k a b one two =
-    let agent = rebuilt_same h.agent s h.agent.machine.width a.held.agent b.held.agent one.agent two.agent in
-    two.held ∙ ap (λ (x : Agent). record h { agent = x; pending = []; unsent = [] }) agent ∙ sym one.held
+    let agent = changed_same h.agent s a.held.agent b.held.agent one.agent two.agent in
+    two.held ∙ ap (λ (x : Agent). record h { agent = x }) agent ∙ sym one.held
 
 serving_same : (s : Inventory) (h : Held) (l k : Lanes) (a b : ServingSide) → ServesInventory s (serving_side h l) a → ServesInventory s (serving_side h k) b → b.held ≡ a.held
 serving_same s h l k a b (inl one) (inl two) = ap (λ (x : ServingSide). x.held) two.1 ∙ sym (ap (λ (x : ServingSide). x.held) one.1)

@@ -2,18 +2,19 @@
 -- Source: this project's own.
 use Rattle.std.specs.Prelude.{◌≡◌, ◌↔◌, ◌++◌, ℕ, Bool, List, [], ◌∷◌, Option, None, Some}
 use Rattle.keep_agent.specs.Agent.{Agent}
-use Rattle.keep_agent.specs.Rebuilding.{AgentIsRebuilt, carried_standing}
+use Rattle.keep_agent.specs.Changed.{AgentIsChanged, all_was}
 use Rattle.keep_asking.specs.Sending.{Lanes}
 use Rattle.keep_asking.specs.declared.told.Said.{Said}
 use Rattle.keep_clock.specs.declared.reading.Reading.{Reading}
 use Rattle.keep_inventory.specs.Inventories.{Inventory}
 use Rattle.keep_lanes.specs.declared.lanes.Answered.{Answered}
 use Rattle.watch_machine.specs.declared.command.Request.{Request}
-use Rattle.keep_serving.specs.Changes.{ServesInventory}
+use Rattle.keep_serving.specs.Changes.{MadeChange, ServesInventory}
 use Rattle.keep_serving.specs.Held.{Held, ServingSide, serving_side}
-use Rattle.keep_serving.specs.Laws.{OneKeepsInventory}
 use Rattle.keep_serving.specs.Stages.{AnswersAreTaken}
 use Rattle.keep_serving.specs.Words.{AllFollow, HandsBy, TurnFollowsWords, Words}
+use Rattle.keep_serving.specs.declared.change.Change.{Change}
+use Rattle.keep_serving.specs.declared.change.Change.TheVariants.{Need, Begin, Serve, Kept}
 
 -- ---- what is alike
 
@@ -32,6 +33,17 @@ pub record AreHeldAlike (h k : Held) : Type 0 where
   pub unsent : k.unsent ≡ h.unsent
   pub asked : k.asked ≡ h.asked
   pub until : k.until ≡ h.until
+
+-- the same inventory is served after a change, and after that of a turn
+abbrev pub KeepsInventory : Change → Type 0
+KeepsInventory (Need i until) = Unit {0}
+KeepsInventory Begin = Unit {0}
+KeepsInventory (Serve s) = ⊥
+KeepsInventory Kept = Unit {0}
+
+abbrev pub OneKeepsInventory : Option MadeChange → Type 0
+OneKeepsInventory None = Unit {0}
+OneKeepsInventory (Some m) = KeepsInventory m.change
 
 -- the words of two turns in which the same inventory is served, but for the answers
 pub record AreWordsAlike (w v : Words) : Type 0 where
@@ -79,14 +91,13 @@ AlikeLaw =
     (words more : List Words) (h k new last : Held) (sent out : List (List Request)) (one : AllFollow words h sent new) (two : AllFollow more k out last) → AreHeldAlike h k → AllWordsAlike words more →
     contents more k out last two ≡ contents words h sent new one → (out ≡ sent) × AreHeldAlike new last
 
--- and so they do after a rebuilding, if what was said of the same entries is carried over
-abbrev pub RebuiltAlikeLaw : Type 0
-RebuiltAlikeLaw =
-    (a b new last : Agent) (s t : Inventory) (width : ℕ) → AreAgentsAlike a b → AreInventoriesAlike s t → ((i : ℕ) → carried_standing b t i ≡ carried_standing a s i) → AgentIsRebuilt a s width new → AgentIsRebuilt b t width last →
-    AreAgentsAlike new last
+-- and so they do after another inventory is served, if the same of its entries were served before
+abbrev pub ChangedAlikeLaw : Type 0
+ChangedAlikeLaw =
+    (a b new last : Agent) (s t : Inventory) → AreAgentsAlike a b → AreInventoriesAlike s t → all_was b.inventory t ≡ all_was a.inventory s → AgentIsChanged a s new → AgentIsChanged b t last → AreAgentsAlike new last
 
--- and after an inventory was handed over to each, which is served already by both or by neither, and if the same is carried over
+-- and after an inventory was handed over to each, which is served already by both or by neither
 abbrev pub ServedAlikeLaw : Type 0
 ServedAlikeLaw =
     (h k : Held) (l m : Lanes) (a b : ServingSide) (s t : Inventory) → AreHeldAlike h k → AreInventoriesAlike s t → ((s ≡ h.agent.inventory) ↔ (t ≡ k.agent.inventory)) →
-    ((i : ℕ) → carried_standing k.agent t i ≡ carried_standing h.agent s i) → ServesInventory s (serving_side h l) a → ServesInventory t (serving_side k m) b → AreHeldAlike a.held b.held
+    all_was k.agent.inventory t ≡ all_was h.agent.inventory s → ServesInventory s (serving_side h l) a → ServesInventory t (serving_side k m) b → AreHeldAlike a.held b.held

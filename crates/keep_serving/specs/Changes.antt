@@ -1,9 +1,11 @@
 -- Changes: what is taken from clients and files while the agent runs, and what it makes of the agent.
 -- Source: this project's own.
 use Rattle.std.specs.Prelude.{◌≡◌, ◌≢◌, ◌⊎◌, ◌++◌, Bool, true, false, List, [], ◌∷◌, Option, Some, None, IfSome, Result}
-use Rattle.keep_agent.specs.Rebuilding.{AgentIsRebuilt}
+use Rattle.keep_agent.specs.Changed.{AgentIsChanged}
 use Rattle.keep_agent.specs.Turns.{AgentTurn}
+use Rattle.keep_asking.specs.InStep.{entries_out}
 use Rattle.keep_inventory.specs.Inventories.{Inventory}
+use Rattle.keep_lanes.specs.Out.{renamed}
 use Rattle.watch_machine.specs.declared.command.Output.{Output}
 use Rattle.watch_machine.specs.declared.event.Event.{Event}
 use Rattle.watch_machine.specs.declared.event.Event.TheVariants as events
@@ -18,13 +20,16 @@ pub record AgentIsTurned (event : Event) (old new : ServingSide) : Type 0 where
   pub turn : AgentTurn old.held.agent event result new.held.agent
   pub rest : new ≡ record old { held = record old.held { agent = new.held.agent } }
 
--- another inventory is served from now on, by as many requests at once: what is out, what came and is not handed in, and what is not sent is forgotten
+-- another inventory is served from now on, where no answer waits to be handed in and no request to be sent. What is out stays out, each on its
+-- lane under the index that the Watch has it under now
 pub record InventoryIsServed (s : Inventory) (old new : ServingSide) : Type 0 where
-  pub agent : AgentIsRebuilt old.held.agent s old.held.agent.machine.width new.held.agent
-  pub held : new.held ≡ record old.held { agent = new.held.agent; pending = []; unsent = [] }
-  pub lanes : new.lanes ≡ record old.lanes { out = [] }
+  pub pending : old.held.pending ≡ []
+  pub unsent : old.held.unsent ≡ []
+  pub agent : AgentIsChanged old.held.agent s new.held.agent
+  pub held : new.held ≡ record old.held { agent = new.held.agent }
+  pub lanes : new.lanes ≡ record old.lanes { out = renamed (entries_out old.held.agent.machine) (entries_out new.held.agent.machine) old.lanes.out }
 
--- an inventory that is served already, with the needs as they were given last, is no change: all stays as it is, also what is out
+-- an inventory that is served already, with the needs as they were given last, is no change: all stays as it is
 abbrev pub ServesInventory : Inventory → ServingSide → ServingSide → Type 0
 ServesInventory s old new = ((s ≡ old.held.agent.inventory) × (new ≡ old)) ⊎ ((s ≢ old.held.agent.inventory) × InventoryIsServed s old new)
 

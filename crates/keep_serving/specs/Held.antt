@@ -1,6 +1,6 @@
 -- Held: what the agent holds between two turns, and that it is in step with its lanes.
 -- Source: this project's own.
-use Rattle.std.specs.Prelude.{◌≡◌, ℕ, ◌+◌, ◌≤◌, List, [], length, map}
+use Rattle.std.specs.Prelude.{◌≡◌, ℕ, ◌+◌, ◌<◌, ◌≤◌, All, List, [], length, map}
 use Rattle.keep_agent.specs.Agent.{Agent}
 use Rattle.keep_clock.specs.declared.reading.Reading.{Reading}
 use Rattle.keep_lanes.specs.Out as lanes
@@ -21,13 +21,14 @@ pub record Held : Type 0 where
 abbrev pub entries_unsent : List Request → List ℕ
 entries_unsent unsent = map (λ r. r.entry) unsent
 
--- what the Watch has out is on a lane, or its answer waits to be handed in, or it waits to be sent; and as many may be out as there
--- are lanes
+-- what the Watch has out is on a lane, or its answer waits to be handed in, or it waits to be sent, which is then of an entry; and as many may
+-- be out as there are lanes
 pub record IsInStep (width : ℕ) (out : List lanes.Out) (h : Held) : Type 0 where
   pub width_is : h.agent.machine.width ≡ width
   pub room : length h.agent.machine.out ≤ width
   pub sound : MachineIsSound h.agent.machine
   pub count : length out + (length h.pending + length h.unsent) ≡ length h.agent.machine.out
+  pub named : All (λ (r : Request). r.entry < length h.agent.machine.forest.entries) h.unsent
   pub each : (i : ℕ) → times i (entries_on out) + (times i (entries_answered h.pending) + times i (entries_unsent h.unsent)) ≡ times i (entries_out h.agent.machine)
 
 -- what is held, and the lanes

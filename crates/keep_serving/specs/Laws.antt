@@ -1,46 +1,27 @@
 -- Laws: what holds of all turns. The contract of a public function without a body.
 -- Source: this project's own.
-use Rattle.std.specs.Prelude.{◌≡◌, ℕ, ◌+◌, ◌-◌, ◌≤◌, Bool, true, List, [], ◌∷◌, Some, length, Option, None}
+use Rattle.std.specs.Prelude.{◌≡◌, ℕ, ◌+◌, ◌-◌, ◌≤◌, Bool, true, List, Some, length}
 use Rattle.std.specs.List.{All}
 use Rattle.keep_clock.specs.declared.reading.Reading.{Reading}
-use Rattle.watch_machine.specs.History.{History, Turned, after_all}
+use Rattle.watch_machine.specs.History.{AllHappen, Happening, state_after_all}
 use Rattle.watch_machine.specs.State.{WatchState}
 use Rattle.watch_machine.specs.declared.command.Request.{Request}
-use Rattle.keep_serving.specs.Changes.{MadeChange}
+use Rattle.keep_serving.specs.Happenings.{happenings_of}
 use Rattle.keep_serving.specs.Held.{Held, ServingSide}
 use Rattle.keep_serving.specs.Neighbours.{calls_in}
 use Rattle.keep_serving.specs.Runs.{AreTurns}
 use Rattle.keep_serving.specs.Turns.{IsServingTurn, ServingTurn}
-use Rattle.keep_serving.specs.TurnsOfWatch.{turns_of}
 use Rattle.keep_serving.specs.Words.{AllAreWordsOf, AllFollow, Suffices, Words}
-use Rattle.keep_serving.specs.declared.change.Change.{Change}
-use Rattle.keep_serving.specs.declared.change.Change.TheVariants.{Need, Begin, Serve, Kept}
 
--- the same inventory is served after a change, after that of a turn, and after some turns
-abbrev pub KeepsInventory : Change → Type 0
-KeepsInventory (Need i until) = Unit {0}
-KeepsInventory Begin = Unit {0}
-KeepsInventory (Serve s) = ⊥
-KeepsInventory Kept = Unit {0}
+-- what happens to a Watch leads from the one state to the other
+abbrev pub Lead : WatchState → List Happening → WatchState → Type 0
+Lead old happenings new = AllHappen old happenings × (state_after_all old happenings ≡ new)
 
-abbrev pub OneKeepsInventory : Option MadeChange → Type 0
-OneKeepsInventory None = Unit {0}
-OneKeepsInventory (Some m) = KeepsInventory m.change
-
-abbrev pub IsStretch : List ServingTurn → Type 0
-IsStretch [] = Unit {0}
-IsStretch (t ∷ rest) = OneKeepsInventory t.made × IsStretch rest
-
--- the turns of a Watch lead from the one state to the other
-abbrev pub Lead : WatchState → List Turned → WatchState → Type 0
-Lead old turns new = History old turns × (after_all old turns ≡ new)
-
--- in turns that serve one inventory the Watch was handed what the readings, the answers, the needs and the beginnings say, in their
--- order, and nothing else was done to it: so each law of all such runs holds of these very turns of it, whatever the neighbours do
+-- in turns the Watch was handed what the readings, the answers, the needs and the beginnings say, and watched the forest of each other
+-- inventory that was served, in their order, and nothing else was done to it: so each law of all that may happen holds of what happened in
+-- these very turns, whatever the neighbours do
 abbrev pub StretchLaw : Type 0
-StretchLaw =
-    (port : ℕ) (old new : ServingSide) (turns : List ServingTurn) (are : AreTurns port old turns new) → IsStretch turns →
-    Lead old.held.agent.machine (turns_of port old turns new are) new.held.agent.machine
+StretchLaw = (port : ℕ) (old new : ServingSide) (turns : List ServingTurn) (are : AreTurns port old turns new) → Lead old.held.agent.machine (happenings_of port old turns new are) new.held.agent.machine
 
 -- turns for which memory sufficed are what follows from words: their readings and changes, and the answers that came in them
 abbrev pub WordsLaw : Type 0

@@ -10,7 +10,7 @@ pub mod Days
 pub mod Runs
 pub mod Words
 pub mod code
-pub mod TurnsOfWatch
+pub mod Happenings
 pub mod Laws
-pub mod RunsOfWatch
+pub mod RunOfWatch
 pub mod Alike

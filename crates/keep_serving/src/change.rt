@@ -10,6 +10,6 @@ pub enum Change {
     Begin,
     /// This inventory is served from now on. One that is served already, with the same needs, is no change at all.
     Serve(Inventory),
-    /// It is kept, and nothing is made of it now: a rebuilding takes it up later.
+    /// It is kept, and nothing is made of it now: a later [`Change::Serve`] takes it up.
     Kept,
 }

@@ -1,7 +1,7 @@
 //! A change is made.
-ghost use Rattle.std.specs.Prelude.{◌≡◌, Option, Result};
+ghost use Rattle.std.specs.Prelude.{◌≡◌, ◌≤◌, [], OnErr, OnOk, Option, Result, length, map, vec_capacity};
 ghost use Rattle.keep_agent.specs.Turns.{AgentTurn};
-ghost use Rattle.keep_serving.specs.Changes.{AllGiven, ChangeIsMade, MadeChange, OneIsMade, given_by, is_one_made};
+ghost use Rattle.keep_serving.specs.Changes.{AllGiven, ChangeIsMade, InventoryIsServed, MadeChange, OneIsMade, given_by, is_one_made};
 ghost use Rattle.keep_serving.specs.Held.{serving_side};
 ghost use Rattle.keep_serving.specs.Neighbours.{AllCalled, calls_for_change};
 ghost use Rattle.keep_serving.specs.declared.change.Change.TheVariants.{Serve};
@@ -15,8 +15,8 @@ use keep_asking::SeenLanes;
 use keep_clock::Reading;
 use keep_inventory::Inventory;
 use keep_lanes::Lanes;
-use std::alloc::Global;
-use watch_machine::Event;
+use std::alloc::{AllocError, Global};
+use watch_machine::{Event, Out};
 
 impl Serving {
     /// Takes a change, where the neighbours have one, and makes it. Whether it was made.
@@ -69,8 +69,7 @@ impl Serving {
         let _turned = self.agent.turn(alloc, event);
     }
 
-    /// Serves this inventory from now on, and forgets what is out; where it is served already all stays as it is. Whether memory
-    /// sufficed.
+    /// Serves this inventory from now on; where it is served already all stays as it is. Whether memory sufficed.
     #[tactic(auto, using(crate::proofs::Changed::served_already, crate::proofs::Changed::served_anew))]
     fn serve<L: Lanes>(&mut self, alloc: Global, lanes: &mut L, inventory: Inventory) -> bool
         ensures made { ChangeIsMade (Serve inventory) result (serving_side self.old (⟦<L as SeenLanes>⟧.seen lanes.old)) (serving_side self.new (⟦<L as SeenLanes>⟧.seen lanes.new)) }
@@ -80,14 +79,50 @@ impl Serving {
         if self.agent.serves(&inventory) {
             return true;
         }
-        let width = self.agent.watch().width();
-        let Ok(agent) = self.agent.rebuilt(alloc, inventory, width) else {
-            return false;
-        };
-        self.agent = agent;
-        lanes.forget();
-        self.pending.clear();
-        self.unsent.clear();
-        true
+        self.serve_another(alloc, lanes, inventory).is_ok()
     }
+
+    /// Serves this inventory from now on. What is out stays out, on its lane.
+    ///
+    /// The only error is lack of memory, also in a turn before, for want of which an answer waits to be handed in, or a request to be
+    /// sent. All is as it was then.
+    fn serve_another<L: Lanes>(
+        &mut self,
+        alloc: Global,
+        lanes: &mut L,
+        inventory: Inventory,
+    ) -> Result<(), AllocError>
+        ensures served { OnOk result (InventoryIsServed inventory (serving_side self.old (⟦<L as SeenLanes>⟧.seen lanes.old)) (serving_side self.new (⟦<L as SeenLanes>⟧.seen lanes.new))) }
+        ensures kept { OnErr result (serving_side self.new (⟦<L as SeenLanes>⟧.seen lanes.new) ≡ serving_side self.old (⟦<L as SeenLanes>⟧.seen lanes.old)) }
+        ensures width { L.width lanes.new ≡ L.width lanes.old }
+        ensures port { L.host_port lanes.new ≡ L.host_port lanes.old }
+    {
+        if !self.pending.is_empty() || !self.unsent.is_empty() {
+            return Err(AllocError);
+        }
+        // room for both lists is taken first, so that nothing fails behind the change
+        let count = self.agent.watch().out().len();
+        let from = Vec::with_capacity(alloc, count)?;
+        let to = Vec::with_capacity(alloc, count)?;
+        let from = entries_in(self.agent.watch().out(), from);
+        if self.agent.change(alloc, inventory).is_err() {
+            return Err(AllocError);
+        }
+        let to = entries_in(self.agent.watch().out(), to);
+        lanes.rename(&from, &to);
+        Ok(())
+    }
+}
+
+/// The entries of requests, in a list that has room for them.
+fn entries_in(out: &[Out], room: Vec<u32>) -> Vec<u32>
+    requires empty { room.items ≡ [] }
+    requires room { length out.now ≤ vec_capacity room }
+    ensures { result.items ≡ map (λ r. r.entry) out.now }
+{
+    let mut entries = room;
+    for request in out {
+        entries.push_reserved(request.entry);
+    }
+    entries
 }

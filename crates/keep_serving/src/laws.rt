@@ -1,24 +1,21 @@
 //! Laws of the loop.
-ghost use Rattle.keep_serving.specs.Alike.{AlikeLaw, RebuiltAlikeLaw, ServedAlikeLaw};
+ghost use Rattle.keep_serving.specs.Alike.{AlikeLaw, ChangedAlikeLaw, ServedAlikeLaw};
 ghost use Rattle.keep_serving.specs.Laws.{CallsLaw, OneWayLaw, StretchLaw, TurnWaitLaw, WordsLaw};
-ghost use Rattle.keep_serving.specs.RunsOfWatch.{CarriedLaw, OneRunLaw, ResumedLaw, ServingLaw};
+ghost use Rattle.keep_serving.specs.RunOfWatch.{ResumedLaw, ServingLaw};
 
-/// The law that a stretch of turns in which one inventory is served is a run of its Watch: whatever the neighbours do, it was handed
-/// what the readings, the answers, the needs and the beginnings say, in their order, and nothing else was done to it. `turns_of` has
-/// each of these events, with what it gave.
+/// The law that any turns lead the Watch from the one state to the other: whatever the neighbours do, it was handed what the readings, the
+/// answers, the needs and the beginnings say, and watched each other inventory that was served, in their order, and nothing else was done
+/// to it. `happenings_of` has each of these, with what it gave.
 pub fn a_stretch_is_a_run()
     ensures { StretchLaw }
 {}
 
-/// The law that all that its Watches were handed from a start on is a run of each, from its making on. At a start the ends that were told
-/// before come first; a start may wait, and a change may end its wait; then come turns. Where another inventory is served, another run
-/// begins, with the ends that are carried over; one that is served already leaves the run as it is. In turns that serve one inventory the
-/// run goes on by the events of [`a_stretch_is_a_run`].
+/// The law that all that happens to its Watch from a start on is one run, from its making on, whatever inventories are served one after
+/// another. At a start the ends that were told before come first; a start may wait, and a change may end its wait; then come turns, as in
+/// [`a_stretch_is_a_run`].
 pub fn a_serving_is_a_run()
-    ensures runs { ServingLaw }
+    ensures run { ServingLaw }
     ensures start { ResumedLaw }
-    ensures rebuilding { CarriedLaw }
-    ensures stretch { OneRunLaw }
 {}
 
 /// The law that no neighbour is heard but by its words: what goes out in turns for which memory sufficed, and what is held after them,
@@ -38,9 +35,10 @@ pub fn a_turn_is_bounded()
 
 /// The law that credentials change no turn: of two agents that differ in credentials alone, with the same readings and changes and with
 /// answers of the same content, the same requests go out, and they differ in credentials alone after it. And so they do after another
-/// inventory is served, if the same is carried over, and after one that may be served already, if it is so in both or in neither.
+/// inventory is served, if the same of its entries were served before, and after one that may be served already, if it is so in both or in
+/// neither.
 pub fn secrets_change_no_turn()
     ensures turns { AlikeLaw }
-    ensures rebuilding { RebuiltAlikeLaw }
+    ensures change { ChangedAlikeLaw }
     ensures served { ServedAlikeLaw }
 {}

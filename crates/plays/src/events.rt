@@ -101,51 +101,46 @@ impl<'a> Play<'a> {
     }
 }
 
-// Keeps the requests that are out and were not after the turn before.
+// Keeps the requests that are out and were not after the turn before, each under the name that its entry has.
 fn keep_asked(alloc: Global, running: &Running, told: &mut Told) -> Result<(), AllocError> {
     let Some(agent) = running.agent() else {
         return Ok(());
     };
     let forest = agent.inventory().forest();
-    let out = agent.watch().out();
-    for request in out {
-        if !is_among(&told.out, request) {
-            push_request(alloc, forest, request, &mut told.requests)?;
+    let mut out = Vec::new(alloc);
+    for request in agent.watch().out() {
+        let line = line_of(alloc, forest, request)?;
+        if !is_among(&told.out, &line) {
+            told.requests.extend_from_slice(&line)?;
         }
+        out.push(line)?;
     }
-    told.out = Vec::from_slice(alloc, out)?;
+    told.out = out;
     Ok(())
 }
 
-// Whether a request is among these.
-fn is_among(out: &[Out], request: &Out) -> bool {
-    for one in out {
-        if one.since == request.since
-            && one.entry == request.entry
-            && one.operation == request.operation
-        {
+// Whether a line is among these.
+fn is_among(lines: &[Vec<u8>], line: &[u8]) -> bool {
+    for one in lines {
+        if one.as_slice() == line {
             return true;
         }
     }
     false
 }
 
-// When it was asked, what, and of which entry.
-fn push_request(
-    alloc: Global,
-    forest: &Forest,
-    request: &Out,
-    out: &mut Vec<u8>,
-) -> Result<(), AllocError> {
+// When a request was asked, what, and of which entry; nothing of one whose entry is no more.
+fn line_of(alloc: Global, forest: &Forest, request: &Out) -> Result<Vec<u8>, AllocError> {
+    let mut line = Vec::new(alloc);
     if request.entry >= forest.len() {
-        return Ok(());
+        return Ok(line);
     }
-    push_number(alloc, request.since, out)?;
-    out.extend_from_slice(match request.operation {
+    push_number(alloc, request.since, &mut line)?;
+    line.extend_from_slice(match request.operation {
         Operation::Look => b" look ",
         Operation::Renew => b" renew ",
     })?;
-    out.extend_from_slice(forest.get(request.entry).name.list())?;
-    out.push(b'\n')?;
-    Ok(())
+    line.extend_from_slice(forest.get(request.entry).name.list())?;
+    line.push(b'\n')?;
+    Ok(line)
 }

@@ -14,7 +14,6 @@ use keep_serving::EarlyDay;
 use keep_state::Paths;
 use std::alloc::Global;
 use std::mem;
-use watch_machine::Out;
 
 /// The state folder.
 const FOLDER: &str = "state";
@@ -49,8 +48,8 @@ pub struct Told {
     pub log: usize,
     /// How many calls of the clock.
     pub clock: usize,
-    /// The requests that were out after the last turn.
-    pub out: Vec<Out>,
+    /// The requests that were out after the last turn, a line each.
+    pub out: Vec<Vec<u8>>,
     /// Those that are not told yet, a line each.
     pub requests: Vec<u8>,
 }

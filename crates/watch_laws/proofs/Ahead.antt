@@ -1,5 +1,5 @@
 -- Ahead: a grant that is far enough leaves the time of its entry ahead of the second in which the request went out. For the law of grants.
-use Rattle.std.proofs.Common.{◌≡◌, ◌∙◌, ℕ, ◌+◌, ◌-◌, ◌/◌, ◌<◌, ◌≤◌, Bool, true, [], ◌∷◌, Option, Some, None, IfSome, All, Result, Ok, Err, length, min, nat_lt, refl, sym, ap, subst, arith, true≢false}
+use Rattle.std.proofs.Common.{◌≡◌, ◌∙◌, ℕ, ◌+◌, ◌-◌, ◌/◌, ◌<◌, ◌≤◌, Bool, true, Option, Some, None, IfSome, All, Result, Ok, Err, length, min, nat_lt, refl, sym, ap, subst, arith, true≢false}
 use Rattle.std.proofs.lemmas.Bool.Decides.{nat_tests}
 use Rattle.std.proofs.lemmas.List.{get_or-set_same}
 use Rattle.keep_tree.specs.declared.entry.Entry.{Entry}
@@ -16,18 +16,18 @@ use Rattle.watch_machine.specs.declared.track.Track.{Track}
 use Rattle.watch_machine.specs.declared.track.Try.{Try}
 use Rattle.watch_machine.specs.Answers.{noted, replied}
 use Rattle.watch_machine.specs.Clocks.{sec}
-use Rattle.watch_machine.specs.History.{Turn, after_all}
+use Rattle.watch_machine.specs.History.{Turn}
 use Rattle.watch_machine.specs.Margins.{asking_margin, own_by, own_margin, time, time_before}
 use Rattle.watch_machine.specs.Outlook.{time_of}
 use Rattle.watch_machine.specs.Refusal.{request_out}
 use Rattle.watch_machine.specs.Renewed.{from_base, from_try, granted_from, renewed_track, state_renewed, time_from}
-use Rattle.watch_machine.specs.State.{WatchState, entry_of, no_track, opened, track_at}
+use Rattle.watch_machine.specs.State.{WatchState, entry_of, no_track, track_at}
 use Rattle.watch_machine.specs.Step.{Step, StepRenewed}
 use Rattle.watch_machine.proofs.Cases.{if_cases, of_value}
 use Rattle.watch_machine.proofs.Within.{out_all, out_entry}
 use Rattle.watch_laws.specs.Absence.{is_event_taken}
 use Rattle.watch_laws.specs.Time.{AheadLaw}
-use Rattle.watch_laws.proofs.Grounds.{first_turns, last_turns, opened_base, ran_base}
+use Rattle.watch_laws.proofs.Bases.{reached_base}
 use Rattle.watch_laws.proofs.Lasting.{Bears, back_bears, same_bears}
 use Rattle.watch_laws.proofs.Tracking.{back_kept, replied_forest}
 use Rattle.watch_laws.proofs.Trying.{asking_least, own_same}
@@ -107,10 +107,7 @@ turn_far width n old new event (Ok output) i seconds renewable date turn taken' 
       (of_value (λ (r : Out). r.since ≤ old.clocks.at) (request_out old.out i Renew) q (out_all (λ (r : Out). r.since ≤ old.clocks.at) old.out i Renew now) is) far
 
 pub grants_far : AheadLaw
-grants_far g width before grant i seconds renewable date run within told taken' far =
-    let old = after_all (opened g width) before in
-    let first = first_turns before (grant ∷ []) (opened g width) run in
-    let last = last_turns before (grant ∷ []) (opened g width) run in
-    let base = ran_base width (length g.entries) before (opened g width) first (opened_base g width) in
+grants_far old grant i seconds renewable date reached h within told taken' far =
+    let base = reached_base old reached in
     let count = base.count in
-    turn_far width (length g.entries) old grant.state grant.event grant.result i seconds renewable date last.0 taken' told (omega (arith, count, within)) base.since far
+    turn_far old.width (length old.forest.entries) old grant.state grant.event grant.result i seconds renewable date h.0 taken' told (omega (arith, count, within)) base.since far

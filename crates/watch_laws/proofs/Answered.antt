@@ -27,11 +27,11 @@ use Rattle.watch_laws.proofs.Alone.{flag}
 use Rattle.watch_laws.proofs.Answering.{looked_leaves, renewed_leaves, rest_of}
 use Rattle.watch_laws.proofs.Enduring.{Cutting, Endures, IsAnswered, IsFailed, lost_endures, own_endures, real_endures, refused_endures, ungranted_failed, untold_failed}
 use Rattle.watch_laws.proofs.Holding.{looked_presence}
-use Rattle.watch_laws.proofs.Lanes.{Sends, all_left, fewer_wait, is_of, passes, replied_any, replied_lane}
+use Rattle.watch_laws.proofs.Lanes.{Sends, all_left, is_of, passes, replied_any, replied_lane}
 use Rattle.watch_laws.proofs.Lasting.{Same, same_time}
 use Rattle.watch_laws.proofs.Sparing.{found_lane, looked_answers}
 use Rattle.watch_laws.proofs.Spacing.{after_flag, looked_other, looked_out, same_index}
-use Rattle.watch_laws.proofs.Grounds.{IsBase}
+use Rattle.watch_laws.proofs.Grounds.{IsBase, fewer_wait, tracked}
 use Rattle.watch_laws.proofs.Stages.{Facts, IsGoing, IsThrough, free_from}
 
 -- an answer that was lived
@@ -43,6 +43,7 @@ pub record IsReplied (f : Facts) (due : ℕ) (old mid new : WatchState) (q : Out
   pub reply_is : IsReplyInOutage f.o reply q
   pub other : q.entry ≢ f.i → track_at mid f.i ≡ track_at old f.i
   pub own : q.entry ≡ f.i → TellsNothing f.o reply q × IsFailed (track_at mid f.i) (track_at old f.i)
+  pub low : f.i < f.n
   pub going : IsGoing f due old
   pub base : IsBase f.width f.n new
   pub same : Same f.i old new
@@ -122,13 +123,14 @@ module _ (f : Facts) (due : ℕ) (old mid new : WatchState) (q : Out) (reply : R
   apart_of free is =
       let entry = out_entry old.out t.j t.operation q t.found in
       let lane = found_lane t.j t.operation old.out q t.found in
-      let once = t.going.base.alone.once t.j in
+      let same = sym is ∙ entry in
+      let once = t.going.base.alone.once t.j (subst (λ k. k < length old.tracks) same (tracked f.width f.n old f.i t.going.base t.low)) in
       let e = ap flag (subst (λ k. (track_at old k).out ≡ false) (sym is ∙ entry) free) in
       omega (arith, lane, once, e)
 
   pub replied_through : (rest : ℕ) → Sends old new f.n → IsThrough f due (waiting f.o f.n old + (how_many f.n (comes f.o old new) + rest)) old → IsThrough f due (waiting f.o f.n new + rest) new
   replied_through rest sends (inl (inl h)) =
-      let all = fewer_wait f.o (suc h.from) f.n old new t.going.base.alone t.base.alone t.base.tries sends in
+      let all = fewer_wait f.o (suc h.from) f.width f.n old new t.going.base t.base sends in
       let count = h.count in
       let apart = apart_of h.idle in
       let clock = ap (λ c. c.at) t.answered.clocks in
@@ -149,7 +151,7 @@ module _ (f : Facts) (due : ℕ) (old mid new : WatchState) (q : Out) (reply : R
         next = h.next;
       }))
   replied_through rest sends (inl (inr h)) =
-      let all = fewer_wait f.o f.o.until f.n old new t.going.base.alone t.base.alone t.base.tries sends in
+      let all = fewer_wait f.o f.o.until f.width f.n old new t.going.base t.base sends in
       let count = h.count in
       inl (inr (record {
         endures = endures_reply (free_from f) Unit h.endures;
@@ -161,7 +163,7 @@ module _ (f : Facts) (due : ℕ) (old mid new : WatchState) (q : Out) (reply : R
         next = h.next;
       }))
   replied_through rest sends (inr (inl h)) =
-      let all = fewer_wait f.o (suc h.from) f.n old new t.going.base.alone t.base.alone t.base.tries sends in
+      let all = fewer_wait f.o (suc h.from) f.width f.n old new t.going.base t.base sends in
       let count = h.count in
       let clock = ap (λ c. c.at) t.answered.clocks in
       let now = h.now in
@@ -196,7 +198,7 @@ module _ (f : Facts) (due : ℕ) (old mid new : WatchState) (q : Out) (reply : R
         last_by = h.last_by;
       })))
   replied_through rest sends (inr (inr (inr h))) =
-      let all = fewer_wait f.o (suc h.from) f.n old new t.going.base.alone t.base.alone t.base.tries sends in
+      let all = fewer_wait f.o (suc h.from) f.width f.n old new t.going.base t.base sends in
       let count = h.count in
       let clock = ap (λ c. c.at) t.answered.clocks in
       let over = h.over in
@@ -257,6 +259,7 @@ looked_replied f due old new j q reply terms output low found step reply_is unto
       own = λ is.
           let nothing = untold' (sym entry ∙ is) in
           (nothing, looked_made old q reply terms f.i is nothing.0 below);
+      low = low;
       going = going;
       base = base;
       same = same;
@@ -286,6 +289,7 @@ renewed_replied f due old new j q reply output low found step reply_is untold' g
       own = λ is.
           let nothing = untold' (sym entry ∙ is) in
           (nothing, renewed_made old q reply f.i is nothing.0 below);
+      low = low;
       going = going;
       base = base;
       same = same;

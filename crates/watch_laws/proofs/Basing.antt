@@ -97,6 +97,13 @@ known_timely now asked at end renewable x h =
     known_is (Timely now asked) at end renewable x (record { base = h.base; out = h.out }) (λ out. record { base = h.base; out = h.out })
     (λ free. record { base = sooner_base now (soon at x) x.attempt h.base; out = λ o. sooner_base asked (soon at x) x.attempt (h.out o) })
 
+-- and an entry that owes a lookup after a change
+pub owed_passes : (now asked at : ℕ) (x : Track) → Passes now asked (owing_lookup at (untopped_track x)) x
+owed_passes now asked at x =
+    if_both (λ y. Passes now asked y x) x.out (record (untopped_track x) { owes = true }) (record (untopped_track x) { owes = true; attempt = Some (sooner_try (soon at x) x.attempt) })
+    (refl, λ h. record { base = h.base; out = h.out })
+    (refl, λ h. record { base = sooner_base now (soon at x) x.attempt h.base; out = λ o. sooner_base asked (soon at x) x.attempt (h.out o) })
+
 dropped_base : (n : ℕ) (x : Track) (o : Option Try) → BaseBy n o → BaseBy n (dropped x o)
 dropped_base n x None h = tt
 dropped_base n x (Some t) h = if_both (BaseBy n) (t.pressed || not x.owes) (let_go x t) (Some t) (if_both (BaseBy n) x.owes _ None h tt) h

@@ -22,7 +22,7 @@ use Rattle.watch_machine.specs.declared.track.Track.{Track}
 use Rattle.watch_machine.specs.Answers.{noted}
 use Rattle.watch_machine.specs.Beginning.{beginning, begun, is_past, is_urgent}
 use Rattle.watch_machine.specs.Clocks.{is_stepped, moment_at_reading, reading, sec, to_wall}
-use Rattle.watch_machine.specs.History.{History, Turn, Turned, after_all}
+use Rattle.watch_machine.specs.History.{AllHappen, Changed, Changes, Hands, Happening, IsChanged, Turn, Turned, state_after_all}
 use Rattle.watch_machine.specs.Press.{pressed}
 use Rattle.watch_machine.specs.Refusal.{request_out}
 use Rattle.watch_machine.specs.Round.{asked_by_round}
@@ -30,7 +30,7 @@ use Rattle.watch_machine.specs.Sending.{sent}
 use Rattle.watch_machine.specs.Settling.{at_reading, has_jumped, settled, timed}
 use Rattle.watch_machine.specs.State.{WatchState}
 use Rattle.watch_machine.specs.Step.{Step, StepClock, StepLooked, StepRenewed, readied, why}
-use Rattle.watch_laws.specs.Beginnings.{FewLaw, HasParted, IsBeginning, Jumps, asks_beginning, is_begin, why_begun}
+use Rattle.watch_laws.specs.Beginnings.{FewLaw, HasParted, IsBeginning, Jumps, asks_beginning, asks_beginning_at, is_begin, why_begun}
 use Rattle.watch_laws.proofs.Answering.{looked_begins, looked_leaves, renewed_begins, renewed_leaves, rest_of}
 use Rattle.watch_laws.proofs.Clocking.{clock_at, clock_rises, readied_clocks, refused_stays, sent_by}
 
@@ -235,12 +235,23 @@ any_more : (came here : Bool) (rest : Bool) → (came || here) || rest ≡ came 
 any_more true here rest = refl
 any_more false here rest = refl
 
+-- a change is no beginning
+changed_since : (at : ℕ) (came : Bool) (old : WatchState) (c : Changed) → IsChanged old c → Since at came old → Since at came c.state
+changed_since at came old c h since = record {
+  begun = since.begun;
+  begun_is = ap (λ (s : WatchState). s.begun) h.state ∙ since.begun_is;
+  from = since.from;
+  past = (let clock = ap (λ (s : WatchState). s.clocks.at) h.state in let past = since.past in omega (arith, clock, past));
+  asked = λ asked'. since.asked (sym (ap (λ (s : WatchState). s.asked) h.state) ∙ asked');
+}
+
 ran :
-    (between : List Turned) (second : Turned) (at : ℕ) (came : Bool) (old : WatchState) → History old (between ++ second ∷ []) → IsBeginning second → Since at came old →
-    Few at (came || list_any asks_beginning between) (after_all old between) second.event second.state
+    (between : List Happening) (second : Turned) (at : ℕ) (came : Bool) (old : WatchState) → AllHappen old (between ++ Hands second ∷ []) → IsBeginning second → Since at came old →
+    Few at (came || list_any asks_beginning_at between) (state_after_all old between) second.event second.state
 ran [] second at came old h begins since = subst (λ b. Few at b old second.event second.state) (sym (or_false came)) (turn_begins at came old second.state second.event second.result h.0 begins since)
-ran (turn ∷ between) second at came old h begins since =
-    subst (λ b. Few at b (after_all turn.state between) second.event second.state) (any_more came (asks_beginning turn) (list_any asks_beginning between))
+ran (Changes c ∷ between) second at came old h begins since = ran between second at came c.state h.1 begins (changed_since at came old c h.0 since)
+ran (Hands turn ∷ between) second at came old h begins since =
+    subst (λ b. Few at b (state_after_all turn.state between) second.event second.state) (any_more came (asks_beginning turn) (list_any asks_beginning_at between))
     (ran between second at (came || asks_beginning turn) turn.state h.1 begins (turn_since at came old turn.state turn.event turn.result h.0 since))
 
 pub few : FewLaw

@@ -1,5 +1,5 @@
 -- Begins: when a clock begins anew, and what a beginning leaves. For the law of when everything is looked up anew.
-use Rattle.std.proofs.Common.{◌≡◌, ◌⊎◌, ◌∙◌, ℕ, ◌+◌, ◌<◌, ◌≤◌, Bool, true, false, not, ◌&&◌, ◌||◌, if◌then◌else◌, List, [], ◌∷◌, Option, Some, None, Result, Ok, Err, is_none, is_some, length, min, nat_le, nat_lt, refl, sym, ap, subst, arith, inl, inr, true≢false}
+use Rattle.std.proofs.Common.{◌≡◌, ◌⊎◌, ◌∙◌, ℕ, ◌+◌, ◌<◌, ◌≤◌, Bool, true, false, not, ◌&&◌, ◌||◌, if◌then◌else◌, List, Option, Some, None, Result, Ok, Err, is_none, is_some, length, min, nat_le, nat_lt, refl, sym, ap, subst, arith, inl, inr, true≢false}
 use Rattle.std.proofs.lemmas.Bool.{and_from, and_parts, cases_Bool, cases_lt, cond-false, cond-true}
 use Rattle.std.proofs.lemmas.Bool.Decides.{nat_tests}
 use Rattle.std.proofs.lemmas.List.{get_or_past}
@@ -17,12 +17,12 @@ use Rattle.watch_machine.specs.declared.reading.TheConstants.{READING_MAX}
 use Rattle.watch_machine.specs.declared.track.Track.{Track}
 use Rattle.watch_machine.specs.Beginning.{beginning, begun, is_called, is_past, is_pressed, is_start, is_urgent, owing, owing_lookup, soon, sooner_try, untopped, untopped_track}
 use Rattle.watch_machine.specs.Clocks.{reading, sec}
-use Rattle.watch_machine.specs.History.{Turn, after_all}
+use Rattle.watch_machine.specs.History.{Turn}
 use Rattle.watch_machine.specs.Press.{pressed}
 use Rattle.watch_machine.specs.Round.{asked_by_round}
 use Rattle.watch_machine.specs.Sending.{sent}
 use Rattle.watch_machine.specs.Settling.{at_reading, has_jumped, settled, settled_track, timed}
-use Rattle.watch_machine.specs.State.{WatchState, no_track, opened, second, track_at, track_in}
+use Rattle.watch_machine.specs.State.{WatchState, no_track, second, track_at, track_in}
 use Rattle.watch_machine.specs.Step.{Step, StepClock, readied, why}
 use Rattle.watch_machine.specs.Wanted.{believed, is_alive, is_open}
 use Rattle.watch_machine.proofs.Cases.{if_both, not_both}
@@ -32,7 +32,7 @@ use Rattle.watch_laws.specs.Absence.{is_event_taken}
 use Rattle.watch_laws.specs.Beginnings.{HasParted, why_begun}
 use Rattle.watch_laws.specs.Begins.{BeginLaw, IsBegunAnew, IsNewDay, MayGoOn, SomebodyIsUrgent}
 use Rattle.watch_laws.proofs.Clocking.{clock_at, clock_rises, readied_clocks, sent_by}
-use Rattle.watch_laws.proofs.Dating.{Clocked, not_parted, opened_clocked, parts, ran_clocked}
+use Rattle.watch_laws.proofs.Dating.{Clocked, not_parted, reached_clocked}
 use Rattle.watch_laws.proofs.Fronts.{alone_index, index_alone}
 use Rattle.watch_laws.proofs.OnPlan.{new_count}
 use Rattle.watch_laws.proofs.Opener.{mid_bears}
@@ -281,11 +281,9 @@ turn_asks old new event (Err fault) turn is taken' = absurd (true≢false (sym t
 
 pub begins_so : BeginLaw
 begins_so = record {
-  goes_on = λ g width before turn wall elapsed run clock.
-      let p = parts before (turn ∷ []) (opened g width) run in
-      let old = after_all (opened g width) before in
-      let o = ran_clocked before (opened g width) p.0 (opened_clocked g width) in
-      turn_of (λ w. w ≡ None → MayGoOn old turn.state wall) old turn.state turn.event turn.result wall elapsed p.1.0 clock.0 clock.1 (λ output step. clock_none old turn.state wall elapsed output step o);
+  goes_on = λ old turn wall elapsed reached h clock.
+      turn_of (λ w. w ≡ None → MayGoOn old turn.state wall) old turn.state turn.event turn.result wall elapsed h.0 clock.0 clock.1
+      (λ output step. clock_none old turn.state wall elapsed output step (reached_clocked old reached));
   day = λ old turn wall elapsed h clock.
       turn_of (λ w. w ≡ Some Day → IsNewDay old turn.state) old turn.state turn.event turn.result wall elapsed h.0 clock.0 clock.1 (λ output step. clock_day old turn.state wall elapsed output step);
   anew = λ old turn wall elapsed h clock.

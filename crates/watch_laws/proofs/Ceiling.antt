@@ -1,8 +1,8 @@
 -- Ceiling: a grant that led no further than the one before was cut by the ceiling. For the law of the ceiling.
 use Rattle.std.proofs.Common.{◌≡◌, ◌∙◌, ℕ, ◌+◌, ◌≤◌, List, [], ◌∷◌, ◌++◌, All, refl, ap, subst, arith}
 use Rattle.std.proofs.lemmas.List.Elements.{All-head, All-tail}
-use Rattle.watch_laws.specs.Tops.{CeilingLaw, EndAtCeiling, EndNoFurther, Granted, IsNoFurther, IsRuled, end, grants}
-use Rattle.watch_laws.proofs.Topping.{topped}
+use Rattle.watch_laws.specs.Tops.{CeilingLaw, EndAtCeiling, EndNoFurther, Granted, IsNoFurther, IsRuled, end, grants_through}
+use Rattle.watch_laws.proofs.Topped.{topped}
 
 -- what holds of all holds of the last two
 last_two : (P : Granted → Type 0) (earlier : List Granted) (first second : Granted) → All P (earlier ++ first ∷ second ∷ []) → P first × P second
@@ -34,4 +34,4 @@ at_ceiling most ceiling within gs all less =
     (earlier ++ first ∷ [], (second, (is ∙ append_one earlier first second, cut most ceiling within first second both.0 both.1 less.1.1.1.1)))
 
 pub ceiling_reached : CeilingLaw
-ceiling_reached g width turns run i most ceiling within is_there all top = at_ceiling most ceiling within (grants i turns) all (topped g width turns run i is_there top)
+ceiling_reached s r k most ceiling within there all top = at_ceiling most ceiling within (grants_through k r.run) all (topped s r k there top)

@@ -11,18 +11,17 @@ use Rattle.watch_machine.specs.declared.event.Reply.TheVariants.{Told, Refused, 
 use Rattle.watch_machine.specs.declared.lanes.Answer.{Answer}
 use Rattle.watch_machine.specs.declared.notes.Notes.{Notes}
 use Rattle.watch_machine.specs.Clocks.{dated_by, first_clocks, is_ahead, is_behind, is_stepped, reading, sec, to_broker, walled}
-use Rattle.watch_machine.specs.History.{after_all}
 use Rattle.watch_machine.specs.Press.{pressed}
 use Rattle.watch_machine.specs.Round.{asked_by_round}
 use Rattle.watch_machine.specs.Settling.{at_reading, clocks_after, date_of, dated_by_all, dated_on, has_stepped, is_step, read, settled, steps, timed}
-use Rattle.watch_machine.specs.State.{WatchState, opened, second}
+use Rattle.watch_machine.specs.State.{WatchState, second}
 use Rattle.watch_machine.specs.Step.{StepClock, readied, why}
 use Rattle.watch_machine.proofs.Cases.{if_both}
 use Rattle.watch_laws.specs.Clocks.{date_told}
 use Rattle.watch_laws.specs.Dates.{IsAheadOf, IsBehindOf, IsDatedBy, IsSteppedBy, WindowLaw}
 use Rattle.watch_laws.proofs.Begins.{begun_stepped, turn_of}
 use Rattle.watch_laws.proofs.Clocking.{clock_rises, dated_at, sent_by}
-use Rattle.watch_laws.proofs.Dating.{clock_of, opened_clocked, parts, ran_clocked}
+use Rattle.watch_laws.proofs.Dating.{clock_of, reached_clocked}
 use Rattle.watch_laws.proofs.OnPlan.{sec_rises}
 
 -- what the readings leave of a broker's clock that a date has set
@@ -156,12 +155,10 @@ clock_stepped old new wall elapsed output step none =
     ap (λ (x : WatchState). x.stepped) go.1 ∙ begun_stepped (settled (timed old wall elapsed)) (why old wall elapsed) (ap (λ (n : Notes). n.began) (sym step.notes) ∙ none)
 
 pub window_so : WindowLaw
-window_so g width before turn wall elapsed a date run clock some dated' one told =
-    let p = parts before (turn ∷ []) (opened g width) run in
-    let old = after_all (opened g width) before in
-    let o = ran_clocked before (opened g width) p.0 (opened_clocked g width) in
-    let goes = clock_of old turn.state turn.event turn.result wall elapsed p.1.0 clock.0 clock.1 in (
+window_so old turn wall elapsed a date reached h clock some dated' one told =
+    let o = reached_clocked old reached in
+    let goes = clock_of old turn.state turn.event turn.result wall elapsed h.0 clock.0 clock.1 in (
       is_dated old wall elapsed a date some dated' one told turn.state goes.clocks o.set.broker,
-      turn_of (λ w. w ≡ None → IsSteppedBy old turn.state (min LAST date)) old turn.state turn.event turn.result wall elapsed p.1.0 clock.0 clock.1
+      turn_of (λ w. w ≡ None → IsSteppedBy old turn.state (min LAST date)) old turn.state turn.event turn.result wall elapsed h.0 clock.0 clock.1
           (λ output step none. is_stepped_by old wall elapsed a date some dated' one told turn.state goes.clocks o.set.broker (clock_stepped old turn.state wall elapsed output step none)),
     )

@@ -1,5 +1,5 @@
 -- Dating: what each turn makes of the clocks, and of the answers whose dates set them. For the law of clocks.
-use Rattle.std.proofs.Common.{◌≡◌, ◌≢◌, ◌∙◌, ℕ, ◌+◌, ◌<◌, ◌≤◌, true, false, ◌||◌, ◌==◌, if◌then◌else◌, List, [], ◌∷◌, ◌++◌, Option, Some, None, All, Result, Ok, Err, is_none, is_some, map, min, nat_lt, refl, sym, ap, subst, append-nil, append_assoc, arith, inl, inr}
+use Rattle.std.proofs.Common.{◌≡◌, ◌≢◌, ◌∙◌, ℕ, ◌+◌, ◌<◌, ◌≤◌, true, false, ◌||◌, ◌==◌, if◌then◌else◌, List, [], ◌∷◌, ◌++◌, Option, Some, None, All, Result, Ok, Err, is_none, is_some, map, min, nat_lt, refl, sym, ap, subst, append-nil, append_assoc, length, arith, inl, inr}
 use Rattle.std.proofs.lemmas.Bool.{cases_Bool, cond-false, cond-true}
 use Rattle.std.proofs.lemmas.Bool.Decides.{nat_tests}
 use Rattle.std.proofs.lemmas.List.Elements.{All-append, All-cons, All-head, All-map, All-nil, All-tail, All-weaker}
@@ -22,8 +22,9 @@ use Rattle.watch_machine.specs.declared.lanes.Out.{Out}
 use Rattle.watch_machine.specs.declared.notes.Why.{Why}
 use Rattle.watch_machine.specs.Answers.{answers_all, heard, lane_freed, noted, replied, silent, without_request}
 use Rattle.watch_machine.specs.Beginning.{begun}
+use Rattle.watch_machine.specs.Change.{out_after}
 use Rattle.watch_machine.specs.Clocks.{dated_by, first_clocks, is_ahead, is_behind, is_stepped, moment_at_reading, of_wall, phase_of, reading, sec, to_broker, to_wall, unset, walled}
-use Rattle.watch_machine.specs.History.{History, Turn, Turned, after_all}
+use Rattle.watch_machine.specs.History.{Changed, History, IsChanged, IsReached, Turn, Turned, after_all}
 use Rattle.watch_machine.specs.Looked.{looked}
 use Rattle.watch_machine.specs.Press.{pressed}
 use Rattle.watch_machine.specs.Refusal.{request_out}
@@ -42,7 +43,10 @@ use Rattle.watch_laws.specs.Load.{requests_asked_by, requests_at_turn}
 use Rattle.watch_laws.specs.Presence.{is_asked_at_turn}
 use Rattle.watch_laws.proofs.Answering.{looked_leaves, renewed_leaves, rest_of}
 use Rattle.watch_laws.proofs.Away.{clock_leaves, left, neither, sent_requests}
+use Rattle.watch_laws.proofs.Bases.{changed_since}
 use Rattle.watch_laws.proofs.Clocking.{begun_some, clock_rises, readied_clocks, refused_stays}
+use Rattle.watch_laws.proofs.Following.{changed_out}
+use Rattle.watch_laws.proofs.Reached.{ran_keeps, reached_has}
 use Rattle.watch_laws.proofs.Spacing.{looked_out}
 
 -- dates leave this clock, its phase and the wall's
@@ -354,16 +358,29 @@ turn_clocked old new event (Ok output) turn o = does_clocked old new event (requ
 turn_clocked old new event (Err fault) turn o = subst Clocked (sym (refused_stays old new event fault turn)) o
 
 pub ran_clocked : (turns : List Turned) (old : WatchState) → History old turns → Clocked old → Clocked (after_all old turns)
-ran_clocked [] old h o = o
-ran_clocked (turn ∷ turns) old h o = ran_clocked turns turn.state h.1 (turn_clocked old turn.state turn.event turn.result h.0 o)
+ran_clocked turns old h o = ran_keeps Clocked turn_clocked turns old h o
 
-pub opened_clocked : (g : Forest) (width : ℕ) → Clocked (opened g width)
+changed_clocked : (old : WatchState) (c : Changed) → IsChanged old c → Clocked old → Clocked c.state
+changed_clocked old c h o = record {
+  fresh = λ none.
+      let f = o.fresh (sym (ap (λ (s : WatchState). is_none s.begun) h.state) ∙ none) in (
+        changed_out old c h ∙ ap (out_after c.was (length c.forest.entries)) f.0,
+        (ap (λ (s : WatchState). s.answers) h.state ∙ f.1.0, ap (λ (s : WatchState). s.clocks) h.state ∙ f.1.1),
+      );
+  since = changed_since old c h o.since;
+  set = subst IsSet (sym (ap (λ (s : WatchState). s.clocks) h.state)) o.set;
+}
+
+opened_clocked : (g : Forest) (width : ℕ) → Clocked (opened g width)
 unfolding sec
 opened_clocked g width = record {
   fresh = λ none. (refl, (refl, refl));
   since = All-nil (λ (q : Out). q.since ≤ 0);
   set = record { phase = omega arith; wall = omega arith; broker = omega arith; undated = λ none. refl };
 }
+
+pub reached_clocked : (s : WatchState) → IsReached s → Clocked s
+reached_clocked s r = reached_has Clocked turn_clocked changed_clocked opened_clocked s r
 
 -- a history up to a turn, and from there on
 pub parts : (before rest : List Turned) (old : WatchState) → History old (before ++ rest) → History old before × History (after_all old before) rest
@@ -378,16 +395,14 @@ clock_of old new event (Ok output) wall elapsed turn is taken' = clock_goes old 
 clock_of old new event (Err fault) wall elapsed turn is taken' = absurd cc
 
 pub readings_shown : ReadingLaw
-readings_shown g width before turn wall elapsed h clock =
-    let p = parts before (turn ∷ []) (opened g width) h in
-    let old = after_all (opened g width) before in
-    let o = ran_clocked before (opened g width) p.0 (opened_clocked g width) in
-    let goes = clock_of old turn.state turn.event turn.result wall elapsed p.1.0 clock.0 clock.1 in
+readings_shown old turn wall elapsed reached h clock =
+    let o = reached_clocked old reached in
+    let goes = clock_of old turn.state turn.event turn.result wall elapsed h.0 clock.0 clock.1 in
     subst (λ (c : Clocks). ShowsReadings old.clocks c wall elapsed) (sym goes.clocks) (shown_after old wall elapsed (λ none. (o.fresh none).1.1) o.set)
 
 pub undated_shown : UndatedLaw
-undated_shown g width turns h none =
-    let is = (ran_clocked turns (opened g width) h (opened_clocked g width)).set.undated none in
+undated_shown s reached none =
+    let is = (reached_clocked s reached).set.undated none in
     record { here = ap (λ (o : BrokerOffset). o.here) is; there = ap (λ (o : BrokerOffset). o.there) is }
 
 -- a turn that sets no clock
@@ -590,14 +605,12 @@ date_shown since date s wall elapsed d o =
     subst (λ n. ShowsDate (dated_by_all c s.answers) n (min LAST date)) went (subst (λ xs. ShowsDate (dated_by_all c xs) d.a.since (min LAST date)) (sym d.is) all))
 
 pub dates_shown : DateLaw
-dates_shown g width before between later asking answer turn i date wall elapsed h none unasked told quiet clock =
-    let p = parts before (asking ∷ (between ++ answer ∷ (later ++ turn ∷ []))) (opened g width) h in
-    let asked' = p.1.0 in
-    let old = after_all (opened g width) before in
-    let o0 = ran_clocked before (opened g width) p.0 (opened_clocked g width) in
+dates_shown old between later asking answer turn i date wall elapsed reached h none unasked told quiet clock =
+    let asked' = h.0 in
+    let o0 = reached_clocked old reached in
     let o1 = turn_clocked old asking.state asking.event asking.result asked' o0 in
     let all1 = turn_asks i old asking.state asking.event asking.result asked' none in
-    let p2 = parts between (answer ∷ (later ++ turn ∷ [])) asking.state p.1.1 in
+    let p2 = parts between (answer ∷ (later ++ turn ∷ [])) asking.state h.1 in
     let s2 = after_all asking.state between in
     let o2 = ran_clocked between asking.state p2.0 o1 in
     let all2 = ran_out i asking.state.clocks.at between asking.state p2.0 unasked all1 in
@@ -625,11 +638,9 @@ unfolding clocks_after
 begun_after s wall elapsed some = cond-false (is_none s.begun) (first_clocks wall elapsed) (dated_by_all (read s.clocks wall elapsed) s.answers) some
 
 pub clocks_stay : StaysLaw
-clocks_stay g width before between first turn wall elapsed wall' elapsed' h clock quiet clock' =
-    let p = parts before (first ∷ (between ++ turn ∷ [])) (opened g width) h in
-    let old = after_all (opened g width) before in
-    let goes = clock_of old first.state first.event first.result wall elapsed p.1.0 clock.0 clock.1 in
-    let p2 = parts between (turn ∷ []) first.state p.1.1 in
+clocks_stay old between first turn wall elapsed wall' elapsed' h clock quiet clock' =
+    let goes = clock_of old first.state first.event first.result wall elapsed h.0 clock.0 clock.1 in
+    let p2 = parts between (turn ∷ []) first.state h.1 in
     let s = after_all first.state between in
     let q = ran_quiet between first.state p2.0 quiet in
     let goes' = clock_of s turn.state turn.event turn.result wall' elapsed' p2.1.0 clock'.0 clock'.1 in

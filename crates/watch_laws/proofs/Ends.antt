@@ -1,8 +1,8 @@
 -- Ends: what every turn that was lived keeps of the believed end of an entry, and of the requests that may tell another. For the law of
 -- ends.
-use Rattle.std.proofs.Common.{◌≡◌, ◌≢◌, ◌∙◌, ℕ, zero, suc, ◌+◌, ◌-◌, ◌≤◌, Bool, true, false, not, ◌&&◌, ◌||◌, ◌==◌, if◌then◌else◌, List, [], ◌∷◌, Option, Some, None, Result, Ok, Err, All, is_none, map, min, max, refl, sym, ap, subst, arith, inl, inr}
-use Rattle.std.proofs.lemmas.Bool.{cases_Bool, cond-false, cond-true, eqb-true}
-use Rattle.std.proofs.lemmas.List.{get_or-set_other}
+use Rattle.std.proofs.Common.{◌≡◌, ◌≢◌, ◌∙◌, ℕ, zero, suc, ◌+◌, ◌-◌, ◌<◌, ◌≤◌, Bool, true, false, not, ◌&&◌, ◌||◌, ◌==◌, if◌then◌else◌, List, [], ◌∷◌, Option, Some, None, Result, Ok, Err, All, is_none, map, min, max, length, refl, sym, ap, subst, arith, inl, inr}
+use Rattle.std.proofs.lemmas.Bool.{cases_Bool, cases_lt, cond-false, cond-true, eqb-true}
+use Rattle.std.proofs.lemmas.List.{get_or-set_other, get_or_past}
 use Rattle.std.proofs.lemmas.List.Elements.{All-append, All-cons, All-filter, All-nil, All-weaker}
 use Rattle.std.specs.List.{list_any}
 use Rattle.keep_moment.specs.declared.moment.TheConstants.{LAST}
@@ -29,8 +29,9 @@ use Rattle.watch_machine.specs.declared.track.End.TheVariants.{Unknown, At, Neve
 use Rattle.watch_machine.specs.declared.track.Track.{Track}
 use Rattle.watch_machine.specs.Answers.{noted, replied, with_track, without_request}
 use Rattle.watch_machine.specs.Beginning.{owing_past}
+use Rattle.watch_machine.specs.Change.{former_at}
 use Rattle.watch_machine.specs.Clocks.{dated_by, first_clocks, is_ahead, is_behind, is_stepped, moment_at_reading, ms, reading, sec, walled}
-use Rattle.watch_machine.specs.History.{Turn}
+use Rattle.watch_machine.specs.History.{Changed, Changes, Hands, Happening, Happens, IsChanged, Turn, Turned, state_after, stood, stood_at_some}
 use Rattle.watch_machine.specs.Looked.{is_called_for, looked, told_state, told_track, told_try, untold_track}
 use Rattle.watch_machine.specs.Press.{pressed}
 use Rattle.watch_machine.specs.Refusal.{request_out}
@@ -42,16 +43,19 @@ use Rattle.watch_machine.specs.State.{WatchState, entry_of, fresh_track, no_trac
 use Rattle.watch_machine.specs.Step.{Step, StepClock, StepCommand, StepLooked, StepRenewed, known, readied, told_earlier}
 use Rattle.watch_machine.proofs.Cases.{if_both, not_both, of_value}
 use Rattle.watch_machine.proofs.Within.{out_all, out_entry}
-use Rattle.watch_laws.specs.Ends.{AllNoLater, AreLivedFrom, IsHonest, IsNoLater, IsTrueEvent, IsTrueReply, Lived, NeverPastLaw, Origin, TimedWorld, asked_after, no_origin, tells, told_after}
+use Rattle.watch_laws.specs.Ends.{AllNoLater, AreLivedFrom, IsHonest, IsNoLater, IsNoLaterAt, IsTrueAt, IsTrueEvent, IsTrueReading, IsTrueReply, Lived, NeverPastLaw, Origin, TimedWorld, asked_at, happened, no_origin, tells, told_at}
 use Rattle.watch_laws.specs.Absence.{is_event_taken}
 use Rattle.watch_laws.specs.Load.{requests_asked_by, requests_at_turn}
 use Rattle.watch_laws.specs.Presence.{is_told}
 use Rattle.watch_laws.proofs.Alone.{IsAlone, flag, turn_alone}
 use Rattle.watch_laws.proofs.Answering.{looked_leaves, renewed_leaves, rest_of}
-use Rattle.watch_laws.proofs.Basing.{BaseBy, Passes, Timely, back_passes, base_later, from_try_by, granted_base, known_timely, later_timely, mid_passes, none_timely, readied_passes, same_passes, told_base, ungranted_base, untold_base}
+use Rattle.watch_laws.proofs.Bases.{changed_alone}
+use Rattle.watch_laws.proofs.Basing.{BaseBy, Passes, Timely, back_passes, base_later, from_try_by, granted_base, known_timely, later_timely, mid_passes, none_timely, owed_passes, readied_passes, same_passes, told_base, ungranted_base, untold_base}
 use Rattle.watch_laws.proofs.Clocking.{begun_some, readied_clocks, refused_stays}
+use Rattle.watch_laws.proofs.Following.{IsCounted, changed_counted, changed_tracks, kept_over, named_new, named_over, new_over, opened_counted, stays_there, turn_counted}
 use Rattle.watch_laws.proofs.Sparing.{found_lane}
 use Rattle.watch_laws.proofs.Spacing.{looked_other, looked_out, not_of, passed_over, readied_out, replied_out, same_index}
+use Rattle.watch_laws.proofs.Topping.{turn_count}
 use Rattle.watch_laws.proofs.Tracking.{back_kept, each_holds, known_is, set_holds, set_kept}
 
 -- an end, if it is one, comes no later than the real one
@@ -84,6 +88,11 @@ record StandsBy (w : TimedWorld) (i last asked : ℕ) (told : Origin) (real : �
   out : All (SinceBy i (w.reading asked + c.phase)) s.out
   end : EndBy w c.phase real told (track_at s i).end
   timely : Timely c.at (w.reading asked + c.phase) (track_at s i)
+
+-- the clock shows no more than the reading of that moment
+record HasClock (w : TimedWorld) (last : ℕ) (s : WatchState) : Type 0 where
+  at : s.clocks.at ≤ w.reading last + s.clocks.phase
+  unbegun : is_none s.begun ≡ true → (s.clocks.at ≡ 0) × (s.clocks.phase ≡ 0)
 
 abbrev Stands : TimedWorld → ℕ → ℕ → ℕ → Origin → ℕ → WatchState → Type 0
 Stands w i last asked told real s = StandsBy w i last asked told real s.clocks s
@@ -147,9 +156,9 @@ first_on : (c : Clocks) (wall elapsed r : ℕ) → c.at ≡ 0 → c.phase ≡ 0 
 unfolding first_clocks
 first_on c wall elapsed r at phase read' = record { at = omega (arith, read'); since = omega (arith, at); phase = omega (arith, phase) }
 
-clocks_on : (w : TimedWorld) (i now asked : ℕ) (told : Origin) (real : ℕ) (s : WatchState) (wall elapsed : ℕ) → Stands w i now asked told real s → elapsed ≤ w.reading now → IsOn (w.reading now) s.clocks (clocks_after s wall elapsed)
+clocks_on : (w : TimedWorld) (now : ℕ) (s : WatchState) (wall elapsed : ℕ) → HasClock w now s → elapsed ≤ w.reading now → IsOn (w.reading now) s.clocks (clocks_after s wall elapsed)
 unfolding clocks_after
-clocks_on w i now asked told real s wall elapsed h read' =
+clocks_on w now s wall elapsed h read' =
     let first = first_clocks wall elapsed in
     let next = dated_by_all (read s.clocks wall elapsed) s.answers in
     elim (cases_Bool (is_none s.begun)) as (λ _. IsOn (w.reading now) s.clocks (if is_none s.begun then first else next)) [
@@ -244,7 +253,7 @@ mid_is_ready :
 mid_is_ready w honest i now asked told real s wall elapsed round h read' =
     let c = clocks_after s wall elapsed in
     let ready = readied s wall elapsed in
-    let on = clocks_on w i now asked told real s wall elapsed h read' in
+    let on = clocks_on w now s wall elapsed (record { at = h.at; unbegun = h.unbegun }) read' in
     let phase = on.phase in
     let old = w.reading asked + s.clocks.phase in
     let n = w.reading asked + c.phase in
@@ -382,15 +391,23 @@ module _ (w : TimedWorld) (honest : IsHonest w) (asked real : ℕ) (told o : Ori
       set_holds (Freed w s.clocks.phase real after s.clocks.at) (none_freed w s.clocks.phase real after s.clocks.at) s.tracks q.entry (track_renewed s q reply) (renewed_made reply so early)
 
 -- a request that is found is marked as out
-out_marked : (s : WatchState) (i : ℕ) (operation : Operation) (q : Out) → request_out s.out i operation ≡ Some q → IsAlone s → (track_at s i).out ≡ true
+out_marked : (s : WatchState) (i : ℕ) (operation : Operation) (q : Out) → i < length s.tracks → request_out s.out i operation ≡ Some q → IsAlone s → (track_at s i).out ≡ true
 unfolding request_out
-out_marked s i operation q found alone =
+out_marked s i operation q low found alone =
     let lane = found_lane i operation s.out q found in
-    let once = alone.once i in
+    let once = alone.once i low in
     by (track_at s i).out (omega (arith, lane, once)) where
       by : (b : Bool) → 1 ≤ flag b → b ≡ true
       by true h = refl
       by false h = absurd (omega (arith, h))
+
+-- so its try began no later than that; of an entry that is no more there is none
+out_base : (now n : ℕ) (s : WatchState) (i : ℕ) (operation : Operation) (q : Out) → request_out s.out i operation ≡ Some q → IsAlone s → Timely now n (track_at s i) → BaseBy n (track_at s i).attempt
+out_base now n s i operation q found alone timely =
+    elim (cases_lt i (length s.tracks)) as (λ _. BaseBy n (track_at s i).attempt) [
+      | inl low ↦ timely.out (out_marked s i operation q low found alone)
+      | inr past ↦ subst (λ (x : Track). BaseBy n x.attempt) (sym (get_or_past s.tracks i no_track past)) tt
+    ]
 
 out_since : (w : TimedWorld) (i now asked : ℕ) (told : Origin) (real : ℕ) (s : WatchState) (j : ℕ) (operation : Operation) (q : Out) → Stands w i now asked told real s → request_out s.out j operation ≡ Some q → q.entry ≡ i → q.since ≤ w.reading asked + s.clocks.phase
 out_since w i now asked told real s j operation q h found own =
@@ -458,7 +475,9 @@ renewed_stands w honest i now asked j told o real old new (Some q) reply output 
     let n = w.reading asked + old.clocks.phase in
     renewed_freed w honest asked real told o s q (out_since w i now asked told real old j Renew q h is mine) (subst (λ k. BaseBy old.clocks.at (track_at old k).attempt) (sym mine) h.timely.base)
     (subst (λ k. EndBy w old.clocks.phase real told (track_at old k).end) (sym mine) h.end) reply (so same)
-    (subst (λ k. BaseBy n (track_at old k).attempt) (sym mine) (h.timely.out (subst (λ k. (track_at old k).out ≡ true) same (out_marked old j Renew q is h.alone)))))
+    (subst (λ k. BaseBy n (track_at old k).attempt) (sym mine)
+    (subst (λ k. BaseBy n (track_at old k).attempt) same
+    (out_base old.clocks.at n old j Renew q is h.alone (subst (λ k. Timely old.clocks.at n (track_at old k)) (sym same) h.timely)))))
 
 -- a step, and a turn
 quiet : (i now asked : ℕ) (output out : Output) → output ≡ out → requests_asked_by out.command ≡ [] → (if list_any (λ (r : Request). r.entry == i) (requests_asked_by output.command) then now else asked) ≡ asked
@@ -548,17 +567,198 @@ turn_stands :
 turn_stands w honest i asked told l old event (Ok output) new h so turn = step_stands w honest i asked told l old event output new h so turn.1 (turn_alone old new event (Ok output) turn h.alone)
 turn_stands w honest i asked told l old event (Err fault) new h so turn = subst (Stands w i l.at asked told l.real) (sym (refused_stays old new event fault turn)) h
 
+-- ---- wherever the entry stands
+
+-- the clock after a turn
+same_clock : (w : TimedWorld) (now : ℕ) (old new : WatchState) → new.clocks ≡ old.clocks → new.begun ≡ old.begun → HasClock w now old → HasClock w now new
+same_clock w now old new clocks begun' h = record {
+  at = (let at = ap (λ (c : Clocks). c.at) clocks in let phase = ap (λ (c : Clocks). c.phase) clocks in let most = h.at in omega (arith, at, phase, most));
+  unbegun = λ none. let first = h.unbegun (ap is_none (sym begun') ∙ none) in (ap (λ (c : Clocks). c.at) clocks ∙ first.0, ap (λ (c : Clocks). c.phase) clocks ∙ first.1);
+}
+
+same_begun : (mid new : WatchState) (command : Command) → StepCommand mid command new → new.begun ≡ mid.begun
+same_begun mid new (Go requests until) step = ap (λ (x : WatchState). x.begun) step.0.1
+same_begun mid new Taken step = absurd step
+
+looked_clock : (w : TimedWorld) (now : ℕ) (old new : WatchState) (found : Option Out) (reply : Reply) (terms : Terms) (output : Output) → StepLooked old found reply terms output new → HasClock w now old → HasClock w now new
+looked_clock w now old new None reply terms output step h = absurd step
+looked_clock w now old new (Some q) reply terms output step h =
+    let rest = ap rest_of step.1 ∙ looked_leaves old q reply terms in
+    same_clock w now old new (ap (λ (x : WatchState). x.clocks) rest) (ap (λ (x : WatchState). x.begun) rest) h
+
+renewed_clock : (w : TimedWorld) (now : ℕ) (old new : WatchState) (found : Option Out) (reply : Reply) (output : Output) → StepRenewed old found reply output new → HasClock w now old → HasClock w now new
+renewed_clock w now old new None reply output step h = absurd step
+renewed_clock w now old new (Some q) reply output step h =
+    let rest = ap rest_of step.1 ∙ renewed_leaves old q reply in
+    same_clock w now old new (ap (λ (x : WatchState). x.clocks) rest) (ap (λ (x : WatchState). x.begun) rest) h
+
+step_clock : (w : TimedWorld) (now : ℕ) (old new : WatchState) (event : Event) (output : Output) → Step old event output new → IsTrueReading w now event → HasClock w now old → HasClock w now new
+step_clock w now old new (Clock wall elapsed) output step read' h =
+    let mid = pressed (readied old wall elapsed) (round_of step.round) in
+    let on = clocks_on w now old wall elapsed h read' in
+    let clocks : new.clocks ≡ clocks_after old wall elapsed = same_clocks mid new output.command step.command ∙ readied_clocks old wall elapsed in
+    let at = ap (λ (c : Clocks). c.at) clocks in
+    let phase = ap (λ (c : Clocks). c.phase) clocks in
+    let most = on.at in
+    record {
+      at = omega (arith, at, phase, most);
+      unbegun = λ none. absurd (not_both none (ap is_none (same_begun mid new output.command step.command) ∙ begun_some old wall elapsed));
+    }
+step_clock w now old new (Looked j reply terms) output step read' h = looked_clock w now old new (request_out old.out j Look) reply terms output step h
+step_clock w now old new (Renewed j reply) output step read' h = renewed_clock w now old new (request_out old.out j Renew) reply output step h
+step_clock w now old new (Need j until) output step read' h = same_clock w now old new (ap (λ (x : WatchState). x.clocks) step.1) (ap (λ (x : WatchState). x.begun) step.1) h
+step_clock w now old new Begin output step read' h = same_clock w now old new (ap (λ (x : WatchState). x.clocks) step.1) (ap (λ (x : WatchState). x.begun) step.1) h
+step_clock w now old new (Known j end renewable) output step read' h = same_clock w now old new (ap (λ (x : WatchState). x.clocks) step.1) (ap (λ (x : WatchState). x.begun) step.1) h
+
+turn_clock : (w : TimedWorld) (now : ℕ) (old new : WatchState) (event : Event) (result : Result Output WatchFault) → Turn old event result new → IsTrueReading w now event → HasClock w now old → HasClock w now new
+turn_clock w now old new event (Ok output) turn read' h = step_clock w now old new event output turn.1 read' h
+turn_clock w now old new event (Err fault) turn read' h = subst (HasClock w now) (sym (refused_stays old new event fault turn)) h
+
+true_reading : (w : TimedWorld) (i asked : ℕ) (s : WatchState) (l : Lived) (event : Event) → IsTrueEvent w i asked s l event → IsTrueReading w l.at event
+true_reading w i asked s l (Clock wall elapsed) so = so
+true_reading w i asked s l (Looked j reply terms) so = tt
+true_reading w i asked s l (Renewed j reply) so = tt
+true_reading w i asked s l (Need j until) so = tt
+true_reading w i asked s l Begin so = tt
+true_reading w i asked s l (Known j end renewable) so = tt
+
+-- what holds where it stands; while it is not there yet, and under the index of one that is no more, of the clock alone
+abbrev StandsOf : TimedWorld → Option ℕ → ℕ → ℕ → Origin → ℕ → WatchState → Type 0
+StandsOf w None last asked told real s = Unit {0}
+StandsOf w (Some i) last asked told real s = i < length s.tracks → Stands w i last asked told real s
+
+record StandsAt (w : TimedWorld) (e : Option ℕ) (last asked : ℕ) (told : Origin) (real : ℕ) (s : WatchState) : Type 0 where
+  clock : HasClock w last s
+  past : asked ≤ last
+  count : IsCounted s
+  alone : IsAlone s
+  of : StandsOf w e last asked told real s
+
+-- a turn
+clock_later : (w : TimedWorld) → IsHonest w → (last next : ℕ) (s : WatchState) → last ≤ next → HasClock w last s → HasClock w next s
+clock_later w honest last next s le h =
+    let rises = honest.rises last next le in
+    let at = h.at in
+    record { at = omega (arith, at, rises); unbegun = h.unbegun }
+
+turn_of : (w : TimedWorld) → IsHonest w → (e : Option ℕ) (last asked : ℕ) (told : Origin) (real : ℕ) (l : Lived) (old : WatchState) (turn : Turned) → last ≤ l.at → real ≤ l.real → Turn old turn.event turn.result turn.state →
+    IsTrueAt w e asked old l (Hands turn) → StandsOf w e last asked told real old → StandsOf w e l.at (asked_at e asked l (Hands turn)) (told_at e told l (Hands turn)) l.real turn.state
+turn_of w honest None last asked told real l old turn le far h so of = tt
+turn_of w honest (Some i) last asked told real l old turn le far h so of = λ within.
+    let count = turn_count old turn.state turn.event turn.result h in
+    turn_stands w honest i asked told l old turn.event turn.result turn.state (later_stands w honest i last l.at asked told real l.real old le far (of (omega (arith, count, within)))) so h
+
+asked_past : (e : Option ℕ) (asked : ℕ) (l : Lived) (h : Happening) → asked ≤ l.at → asked_at e asked l h ≤ l.at
+asked_past None asked l h le = le
+asked_past (Some i) asked l (Hands turn) le = if_both (λ n. n ≤ l.at) (list_any (λ (r : Request). r.entry == i) (requests_at_turn turn.result)) l.at asked (omega arith) le
+asked_past (Some i) asked l (Changes c) le = le
+
+reads : (w : TimedWorld) (e : Option ℕ) (asked : ℕ) (s : WatchState) (l : Lived) (turn : Turned) → IsTrueAt w e asked s l (Hands turn) → IsTrueReading w l.at turn.event
+reads w None asked s l turn so = so
+reads w (Some i) asked s l turn so = true_reading w i asked s l turn.event so
+
+turned_stands :
+    (w : TimedWorld) → IsHonest w → (e : Option ℕ) (last asked : ℕ) (told : Origin) (real : ℕ) (l : Lived) (old : WatchState) (turn : Turned) → last ≤ l.at → real ≤ l.real → Turn old turn.event turn.result turn.state →
+    IsTrueAt w e asked old l (Hands turn) → StandsAt w e last asked told real old → StandsAt w e l.at (asked_at e asked l (Hands turn)) (told_at e told l (Hands turn)) l.real turn.state
+turned_stands w honest e last asked told real l old turn le far h so stands =
+    let past = stands.past in
+    record {
+      clock = turn_clock w l.at old turn.state turn.event turn.result h (reads w e asked old l turn so) (clock_later w honest last l.at old le stands.clock);
+      past = asked_past e asked l (Hands turn) (omega (arith, past, le));
+      count = turn_counted old turn.state turn.event turn.result h stands.count;
+      alone = turn_alone old turn.state turn.event turn.result h stands.alone;
+      of = turn_of w honest e last asked told real l old turn le far h so stands.of;
+    }
+
+-- a change: an entry that is new has no end
+changed_of :
+    (w : TimedWorld) (i j last asked : ℕ) (told : Origin) (real : ℕ) (old : WatchState) (c : Changed) (h : IsChanged old c) → former_at c.was j ≡ Some i → IsAlone c.state → Stands w i last asked told real old →
+    Stands w j last asked told real c.state
+changed_of w i j last asked told real old c h said alone stands =
+    let n = w.reading asked + old.clocks.phase in
+    let passes = kept_over old c h (Passes old.clocks.at n) (λ x. same_passes old.clocks.at n x) (λ x. owed_passes old.clocks.at n old.clocks.at x) i j said in
+    subst (λ d. StandsBy w j last asked told real d c.state) (sym (ap (λ (s : WatchState). s.clocks) h.state))
+    (record {
+      alone = alone;
+      past = stands.past;
+      at = stands.at;
+      unbegun = λ none. stands.unbegun (sym (ap (λ (s : WatchState). is_none s.begun) h.state) ∙ none);
+      out = named_over (λ (q : Out). q.since ≤ n) (λ r m le. le) old c h i j said stands.out;
+      end = subst (EndBy w old.clocks.phase real told) (sym passes.0) stands.end;
+      timely = passes.1 stands.timely;
+    })
+
+new_of :
+    (w : TimedWorld) (j last asked : ℕ) (told : Origin) (real : ℕ) (old : WatchState) (c : Changed) (h : IsChanged old c) → former_at c.was j ≡ None → j < length c.forest.entries → asked ≤ last → HasClock w last old →
+    IsAlone c.state → Stands w j last asked told real c.state
+new_of w j last asked told real old c h said within past clock alone =
+    let n = w.reading asked + old.clocks.phase in
+    subst (λ d. StandsBy w j last asked told real d c.state) (sym (ap (λ (s : WatchState). s.clocks) h.state))
+    (record {
+      alone = alone;
+      past = past;
+      at = clock.at;
+      unbegun = λ none. clock.unbegun (sym (ap (λ (s : WatchState). is_none s.begun) h.state) ∙ none);
+      out = named_new (λ (q : Out). q.since ≤ n) old c h j within said;
+      end = new_over old c h (λ (y : Track). EndBy w old.clocks.phase real told y.end) (λ e. tt) j within said;
+      timely = new_over old c h (Timely old.clocks.at n) (λ e. record { base = tt; out = λ out. tt }) j within said;
+    })
+
+changed_stands :
+    (w : TimedWorld) → IsHonest w → (e : Option ℕ) (last asked : ℕ) (told : Origin) (real : ℕ) (l : Lived) (old : WatchState) (c : Changed) → last ≤ l.at → real ≤ l.real → IsChanged old c →
+    StandsAt w (stood_at_some (Changes c) e) last asked told real old → StandsAt w e l.at (asked_at e asked l (Changes c)) (told_at e told l (Changes c)) l.real c.state
+changed_stands w honest e last asked told real l old c le far h stands =
+    let past = stands.past in
+    let clock = clock_later w honest last l.at old le stands.clock in
+    let alone = changed_alone old c h stands.count stands.alone in
+    record {
+      clock = same_clock w l.at old c.state (ap (λ (s : WatchState). s.clocks) h.state) (ap (λ (s : WatchState). s.begun) h.state) clock;
+      past = asked_past e asked l (Changes c) (omega (arith, past, le));
+      count = changed_counted old c h;
+      alone = alone;
+      of = of_each e stands.of clock alone (omega (arith, past, le));
+    } where
+      of_one : (j : ℕ) (was : Option ℕ) → former_at c.was j ≡ was → StandsOf w was last asked told real old → HasClock w l.at old → IsAlone c.state → asked ≤ l.at → j < length c.state.tracks → Stands w j l.at asked told l.real c.state
+      of_one j None said of clock alone past within = new_of w j l.at asked told l.real old c h said (let many = changed_tracks old c h in omega (arith, many, within)) past clock alone
+      of_one j (Some i) said of clock alone past within =
+          let there = h.may.within i j said in
+          let count = stands.count in
+          changed_of w i j l.at asked told l.real old c h said alone (later_stands w honest i last l.at asked told real l.real old le far (of (omega (arith, there, count))))
+
+      of_each : (d : Option ℕ) → StandsOf w (stood_at_some (Changes c) d) last asked told real old → HasClock w l.at old → IsAlone c.state → asked ≤ l.at →
+          StandsOf w d l.at (asked_at d asked l (Changes c)) (told_at d told l (Changes c)) l.real c.state
+      of_each None of clock alone past = tt
+      of_each (Some j) of clock alone past = λ within. of_one j (former_at c.was j) refl of clock alone past within
+
 -- all of them
 end_of_track : (w : TimedWorld) (phase real : ℕ) (o : Origin) (e : End) (end : ℕ) → EndBy w phase real o e → e ≡ At end → IsNoLater w phase end real o
 end_of_track w phase real o e end h is = subst (EndBy w phase real o) is h
 
-along : (w : TimedWorld) → IsHonest w → (i : ℕ) (s : WatchState) (last asked real : ℕ) (told : Origin) → Stands w i last asked told real s → (ls : List Lived) → AreLivedFrom w i s last asked real ls → AllNoLater w i told ls
-along w honest i s last asked real told h [] lived = tt
-along w honest i s last asked real told h (l ∷ ls) lived =
-    let before = later_stands w honest i last l.at asked told real l.real s lived.1.0 lived.1.1.1.0 h in
-    let after = turn_stands w honest i asked told l s l.turn.event l.turn.result l.turn.state before lived.1.1.0 lived.0 in (
-      (λ end is. end_of_track w l.turn.state.clocks.phase l.real (told_after i told l) (track_at l.turn.state i).end end after.end is),
-      along w honest i l.turn.state l.at (asked_after i asked l) l.real (told_after i told l) after ls lived.1.1.1.1,
+no_end : (s : WatchState) (i end : ℕ) → length s.tracks ≤ i → (track_at s i).end ≡ At end → ⊥
+no_end s i end past is = let bad : Unknown ≡ At end = ap (λ (x : Track). x.end) (sym (get_or_past s.tracks i no_track past)) ∙ is in cc
+
+no_later : (w : TimedWorld) (e : Option ℕ) (last asked : ℕ) (told : Origin) (l : Lived) (s : WatchState) → StandsAt w e last asked told l.real s → IsNoLaterAt w e told l s
+no_later w None last asked told l s stands = tt
+no_later w (Some i) last asked told l s stands = λ end is.
+    elim (cases_lt i (length s.tracks)) as (λ _. IsNoLater w s.clocks.phase end l.real told) [
+      | inl within ↦ end_of_track w s.clocks.phase l.real told (track_at s i).end end (stands.of within).end is
+      | inr past ↦ absurd (no_end s i end past is)
+    ]
+
+happened_stands :
+    (w : TimedWorld) → IsHonest w → (e : Option ℕ) (last asked : ℕ) (told : Origin) (real : ℕ) (l : Lived) (old : WatchState) (h : Happening) → last ≤ l.at → real ≤ l.real → Happens old h → IsTrueAt w e asked old l h →
+    StandsAt w (stood_at_some h e) last asked told real old → StandsAt w e l.at (asked_at e asked l h) (told_at e told l h) l.real (state_after h)
+happened_stands w honest e last asked told real l old (Hands turn) le far h so stands =
+    turned_stands w honest e last asked told real l old turn le far h so (subst (λ d. StandsAt w d last asked told real old) (stays_there turn e) stands)
+happened_stands w honest e last asked told real l old (Changes c) le far h so stands = changed_stands w honest e last asked told real l old c le far h stands
+
+along : (w : TimedWorld) → IsHonest w → (k : ℕ) (s : WatchState) (last asked real : ℕ) (told : Origin) (ls : List Lived) → StandsAt w (stood (happened ls) k) last asked told real s → AreLivedFrom w k s last asked real ls → AllNoLater w k told ls
+along w honest k s last asked real told [] h lived = tt
+along w honest k s last asked real told (l ∷ ls) h lived =
+    let e = stood (happened ls) k in
+    let after = happened_stands w honest e last asked told real l s l.happening lived.1.0 lived.1.1.1.0 lived.0 lived.1.1.0 h in (
+      no_later w e l.at (asked_at e asked l l.happening) (told_at e told l l.happening) l (state_after l.happening) after,
+      along w honest k (state_after l.happening) l.at (asked_at e asked l l.happening) l.real (told_at e told l l.happening) ls after lived.1.1.1.1,
     )
 
 fresh_holds : (P : Track → Type 0) → P no_track → ((e : Entry) → P (fresh_track e)) → (es : List Entry) (i : ℕ) → P (track_in (map fresh_track es) i)
@@ -566,9 +766,12 @@ fresh_holds P none fresh [] i = none
 fresh_holds P none fresh (e ∷ es) zero = fresh e
 fresh_holds P none fresh (e ∷ es) (suc i) = fresh_holds P none fresh es i
 
+first_alone : (g : Forest) (width : ℕ) → IsAlone (opened g width)
+first_alone g width = record { once = λ j low. omega arith; single = λ j. omega arith }
+
 opened_stands : (w : TimedWorld) (g : Forest) (width i real : ℕ) → Stands w i 0 0 no_origin real (opened g width)
 opened_stands w g width i real = record {
-  alone = record { once = λ j. omega arith };
+  alone = first_alone g width;
   past = omega arith;
   at = omega arith;
   unbegun = λ none. (refl, refl);
@@ -577,5 +780,17 @@ opened_stands w g width i real = record {
   timely = fresh_holds (Timely 0 (w.reading 0 + 0)) (none_timely 0 (w.reading 0 + 0)) (λ e. record { base = tt; out = λ o. tt }) g.entries i;
 }
 
+first_of : (w : TimedWorld) (g : Forest) (width real : ℕ) (e : Option ℕ) → StandsOf w e 0 0 no_origin real (opened g width)
+first_of w g width real None = tt
+first_of w g width real (Some i) = λ within. opened_stands w g width i real
+
 pub never_past : NeverPastLaw
-never_past w honest g width i real ls lived = along w honest i (opened g width) 0 0 real no_origin (opened_stands w g width i real) ls lived
+never_past w honest g width k real ls lived =
+    along w honest k (opened g width) 0 0 real no_origin ls
+    (record {
+      clock = record { at = omega arith; unbegun = λ none. (refl, refl) };
+      past = omega arith;
+      count = opened_counted g width;
+      alone = first_alone g width;
+      of = first_of w g width real (stood (happened ls) k);
+    }) lived

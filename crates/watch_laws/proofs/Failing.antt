@@ -1,5 +1,5 @@
 -- Failing: what an answer that tells nothing leaves of a try. For the law of failures.
-use Rattle.std.proofs.Common.{◌≡◌, ◌∙◌, ◌⊎◌, ℕ, Bool, true, false, if◌then◌else◌, List, [], ◌∷◌, Option, Some, None, Result, Ok, Err, IfSome, min, refl, sym, ap, subst, arith, inl, inr, true≢false}
+use Rattle.std.proofs.Common.{◌≡◌, ◌∙◌, ◌⊎◌, ℕ, Bool, true, false, if◌then◌else◌, [], ◌∷◌, Option, Some, None, Result, Ok, Err, IfSome, min, refl, sym, ap, subst, arith, inl, inr, true≢false}
 use Rattle.std.proofs.lemmas.Bool.{cond-true}
 use Rattle.watch_machine.specs.declared.command.Output.{Output}
 use Rattle.watch_machine.specs.declared.event.Event.{Event}
@@ -14,17 +14,17 @@ use Rattle.watch_machine.specs.declared.track.Track.{Track}
 use Rattle.watch_machine.specs.declared.track.Try.{Try}
 use Rattle.watch_machine.specs.Answers.{back_track, back_try, due_again, failing, lane_freed, noted, replied, silent, with_track}
 use Rattle.watch_machine.specs.Clocks.{sec}
-use Rattle.watch_machine.specs.History.{History, Turn, Turned}
+use Rattle.watch_machine.specs.History.{Turn}
 use Rattle.watch_machine.specs.Lines.{rested}
 use Rattle.watch_machine.specs.Looked.{looked, refused_try, untold, untold_track}
 use Rattle.watch_machine.specs.Refusal.{request_out}
 use Rattle.watch_machine.specs.Renewed.{renewed_track, state_renewed, ungranted, ungranted_track}
-use Rattle.watch_machine.specs.State.{WatchState, attempt_at, each, no_track, opened, track_at, track_in}
+use Rattle.watch_machine.specs.State.{WatchState, attempt_at, each, no_track, track_at, track_in}
 use Rattle.watch_machine.specs.Step.{Step, StepLooked, StepRenewed}
 use Rattle.watch_machine.specs.Wanted.{is_open}
 use Rattle.watch_machine.proofs.Cases.{if_both, if_cases, not_both}
 use Rattle.watch_machine.proofs.Within.{out_entry}
-use Rattle.watch_laws.specs.Failures.{AllFailRight, FailedLaw, FailsRight, FailsTaken, IsLostToBusy, LookupFails, MayGoNow, RenewalFails, TryHasFailed}
+use Rattle.watch_laws.specs.Failures.{FailedLaw, FailsRight, FailsTaken, IsLostToBusy, LookupFails, MayGoNow, RenewalFails, TryHasFailed}
 use Rattle.watch_laws.specs.Presses.{asked_again_at}
 use Rattle.watch_laws.proofs.Answering.{looked_leaves}
 use Rattle.watch_laws.proofs.Presses.{again_is}
@@ -206,9 +206,6 @@ turn_fails : (old new : WatchState) (event : Event) (result : Result Output Watc
 turn_fails old new event (Ok output) turn = step_fails old new event output turn.1
 turn_fails old new event (Err fault) turn = tt
 
-ran : (turns : List Turned) (old : WatchState) → History old turns → AllFailRight old turns
-ran [] old h = tt
-ran (turn ∷ turns) old h = (turn_fails old turn.state turn.event turn.result h.0, ran turns turn.state h.1)
-
 pub failed_so : FailedLaw
-failed_so g width turns run = ran turns (opened g width) run
+failed_so old [] h = tt
+failed_so old (turn ∷ turns) h = (turn_fails old turn.state turn.event turn.result h.0, failed_so turn.state turns h.1)

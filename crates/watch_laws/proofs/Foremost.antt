@@ -19,13 +19,13 @@ use Rattle.watch_machine.specs.declared.lanes.Out.{Out}
 use Rattle.watch_machine.specs.declared.track.Track.{Track}
 use Rattle.watch_machine.specs.declared.track.Try.{Try}
 use Rattle.watch_machine.specs.Clocks.{sec}
-use Rattle.watch_machine.specs.History.{History, Turn, Turned}
+use Rattle.watch_machine.specs.History.{Turn}
 use Rattle.watch_machine.specs.Lines.{is_due, is_first}
 use Rattle.watch_machine.specs.Margins.{has_come, time}
 use Rattle.watch_machine.specs.Press.{pressed}
 use Rattle.watch_machine.specs.Refusal.{is_same, request_out}
 use Rattle.watch_machine.specs.Sending.{is_before, place, sent, sent_in}
-use Rattle.watch_machine.specs.State.{WatchState, entry_of, opened, second, track_at}
+use Rattle.watch_machine.specs.State.{WatchState, entry_of, second, track_at}
 use Rattle.watch_machine.specs.Step.{Step, StepLooked, StepRenewed, readied}
 use Rattle.watch_machine.specs.Wait.{wait}
 use Rattle.watch_machine.specs.Wanted.{is_alive}
@@ -34,7 +34,7 @@ use Rattle.watch_machine.proofs.Written.{each_length}
 use Rattle.watch_laws.specs.Load.{requests_asked_by, requests_at_turn}
 use Rattle.watch_laws.specs.Partial.{is_own_try, stands_before}
 use Rattle.watch_laws.specs.Recovery.{MayGo}
-use Rattle.watch_laws.specs.Starts.{AllKnownFirst, IsToRenew, KnownFirstLaw}
+use Rattle.watch_laws.specs.Starts.{IsToRenew, KnownFirstLaw}
 use Rattle.watch_laws.specs.Time.{is_come}
 use Rattle.watch_laws.specs.Waiting.{IsMinded}
 use Rattle.watch_laws.proofs.Fronts.{front_at, fronts, own_at, sent_front, sent_own}
@@ -189,9 +189,6 @@ turn_first :
 turn_first old new event (Ok output) i turn there r = step_first old new event output i turn.1 there r
 turn_first old new event (Err fault) i turn there r = All-nil (λ (q : Request). stands_before i new q.entry ≡ true)
 
-ran : (turns : List Turned) (old : WatchState) → History old turns → AllKnownFirst turns
-ran [] old h = tt
-ran (turn ∷ turns) old h = ((λ there i r. turn_first old turn.state turn.event turn.result i h.0 there r), ran turns turn.state h.1)
-
 pub known_first : KnownFirstLaw
-known_first g width turns run = ran turns (opened g width) run
+known_first old [] h = tt
+known_first old (turn ∷ turns) h = ((λ there i r. turn_first old turn.state turn.event turn.result i h.0 there r), known_first turn.state turns h.1)

@@ -21,11 +21,11 @@ use Rattle.watch_machine.specs.declared.track.End.TheVariants.{Unknown, At, Neve
 use Rattle.watch_machine.specs.History.{History, Turned}
 use Rattle.watch_machine.specs.Margins.{asking_margin, is_in_plan, own_margin, time, time_before}
 use Rattle.watch_machine.specs.Outlook.{time_of}
-use Rattle.watch_machine.specs.State.{WatchState, entry_of, opened, second, track_at}
+use Rattle.watch_machine.specs.State.{WatchState, entry_of, second, track_at}
 use Rattle.watch_machine.specs.Wanted.{believed, is_never, is_unknown, is_wanted, wanted_need, wants}
 use Rattle.watch_laws.specs.Calm.{AllForeseen, AllInPlan, IsForeseen, IsKeepable, IsLeastTime, IsPlanNow, NextMomentLaw, NobodyTriesLast, believed_forest, ends, in_plan_at, planned_need, terms}
 use Rattle.watch_laws.proofs.Believed.{believed_at, believed_count, believed_is_forest, believed_margin, carried_believed}
-use Rattle.watch_laws.proofs.Forested.{turned_forest}
+use Rattle.watch_laws.proofs.Forested.{reached_forest, turned_forest}
 use Rattle.watch_laws.proofs.Trying.{asking_own, need_cut}
 
 -- the need that counts for an entry which is not at its top is that of the plan
@@ -189,4 +189,4 @@ ran (turn ∷ turns) old h forest =
     (foreseen turn.state there, ran turns turn.state h.1 there)
 
 pub next_moments : NextMomentLaw
-next_moments g width turns forest run = ran turns (opened g width) run forest
+next_moments old turns reached forest h = ran turns old h (reached_forest old reached forest)

@@ -1,5 +1,6 @@
 -- Grounds: what holds of every state of a history, and how a history is taken apart. For the laws of recovery, starts and outages.
-use Rattle.std.proofs.Common.{◌≡◌, ◌∙◌, ℕ, ◌<◌, ◌≤◌, true, List, [], ◌∷◌, ◌++◌, Option, Some, None, All, Result, Ok, Err, length, refl, sym, ap, subst, arith, true≢false}
+use Rattle.std.proofs.Common.{◌≡◌, ◌⊎◌, ◌∙◌, ℕ, ◌+◌, ◌<◌, ◌≤◌, true, false, ◌&&◌, ◌==◌, List, [], ◌∷◌, ◌++◌, Option, Some, None, All, Result, Ok, Err, length, nat_le, refl, sym, ap, subst, arith, inl, inr, true≢false}
+use Rattle.std.proofs.lemmas.Bool.{and_parts, eqb-true}
 use Rattle.std.proofs.lemmas.List.{length-map}
 use Rattle.std.proofs.lemmas.List.Elements.{All-nil, All-weaker}
 use Rattle.keep_tree.specs.Forest.{Forest}
@@ -18,16 +19,17 @@ use Rattle.watch_machine.specs.Looked.{looked}
 use Rattle.watch_machine.specs.Press.{pressed}
 use Rattle.watch_machine.specs.Refusal.{request_out}
 use Rattle.watch_machine.specs.Renewed.{state_renewed}
-use Rattle.watch_machine.specs.State.{WatchState, fresh_track, opened}
+use Rattle.watch_machine.specs.State.{WatchState, fresh_track, opened, track_at}
 use Rattle.watch_machine.specs.Step.{Step, StepLooked, StepRenewed, readied}
 use Rattle.watch_machine.specs.Wait.{wait}
 use Rattle.watch_laws.specs.Absence.{is_clock, is_event_taken}
-use Rattle.watch_laws.specs.Outage.{Outage, outage_next_after, outage_next_after_command, outage_next_by}
+use Rattle.watch_laws.specs.Outage.{Outage, comes, how_many, is_request_served, is_request_whole, is_tried, outage_next_after, outage_next_after_command, outage_next_by, waits_to_be_asked}
 use Rattle.watch_laws.proofs.Alone.{IsAlone, turn_alone}
 use Rattle.watch_laws.proofs.Answering.{looked_leaves, renewed_leaves, rest_of}
 use Rattle.watch_laws.proofs.Clocking.{readied_clocks, refused_stays}
+use Rattle.watch_laws.proofs.Counting.{counted, sums, sums_past}
 use Rattle.watch_laws.proofs.Going.{entry_by}
-use Rattle.watch_laws.proofs.Lanes.{Ticks, all_left, all_sent, pressed_count, ticks}
+use Rattle.watch_laws.proofs.Lanes.{Sends, Ticks, all_left, all_sent, anew_served, is_anew, no_lane_free, pressed_count, served_tried, ticks}
 use Rattle.watch_laws.proofs.Marked.{AllMarked, first_free, turn_marked}
 use Rattle.watch_laws.proofs.Owed.{AllTry, first_tries, turn_outcome}
 use Rattle.watch_laws.proofs.Retrying.{IsPast, first_past, rises, turn_past}
@@ -35,24 +37,29 @@ use Rattle.watch_laws.proofs.Spacing.{looked_out}
 use Rattle.watch_laws.proofs.Topping.{readied_count, turn_count}
 use Rattle.watch_laws.proofs.Width.{Fits, turn_fits}
 
--- what holds of every state of a history
+-- what holds of every state of a history. A request whose entry is no more is out under an index past the last entry, but no further past it
+-- than there are lanes
 pub record IsBase (width n : ℕ) (s : WatchState) : Type 0 where
   pub fits : Fits width s
   pub alone : IsAlone s
   pub tries : AllTry s
   pub count : length s.tracks ≡ n
   pub past : IsPast s
-  pub within : All (λ (q : Out). q.entry < n) s.out
+  pub within : All (λ (q : Out). q.entry < n + width) s.out
   pub since : All (λ (q : Out). q.since ≤ s.clocks.at) s.out
   pub marked : AllMarked s
 
-abbrev Bounds : ℕ → WatchState → Type 0
+-- an entry has a track
+pub tracked : (width n : ℕ) (s : WatchState) (j : ℕ) → IsBase width n s → j < n → j < length s.tracks
+tracked width n s j base low = let count = base.count in omega (arith, count, low)
+
+abbrev pub Bounds : ℕ → WatchState → Type 0
 Bounds n s = All (λ (q : Out). q.entry < n) s.out × All (λ (q : Out). q.since ≤ s.clocks.at) s.out
 
 since_later : (a b : ℕ) (out : List Out) → a ≤ b → All (λ (q : Out). q.since ≤ a) out → All (λ (q : Out). q.since ≤ b) out
 since_later a b out le all = All-weaker (λ (q : Out). q.since ≤ a) (λ (q : Out). q.since ≤ b) (λ q h. omega (arith, h, le)) out all
 
-clock_bounds : (n : ℕ) (old new : WatchState) (wall elapsed : ℕ) (output : Output) → Ticks old new wall elapsed output → length old.tracks ≡ n → IsPast old → Bounds n old → Bounds n new
+clock_bounds : (n : ℕ) (old new : WatchState) (wall elapsed : ℕ) (output : Output) → Ticks old new wall elapsed output → length old.tracks ≤ n → IsPast old → Bounds n old → Bounds n new
 clock_bounds n old new wall elapsed output h count past b =
     let mid = pressed (readied old wall elapsed) h.round in
     let many = pressed_count (readied old wall elapsed) h.round in
@@ -85,7 +92,7 @@ renewed_bounds n old new None reply output step b = absurd step
 renewed_bounds n old new (Some q) reply output step b =
     answer_bounds n old (state_renewed (noted old q reply) q reply) new q reply step.1 refl (ap (λ (x : WatchState). x.clocks) (ap rest_of step.1 ∙ renewed_leaves old q reply)) b
 
-step_bounds : (n : ℕ) (old new : WatchState) (event : Event) (output : Output) → Step old event output new → length old.tracks ≡ n → IsPast old → Bounds n old → Bounds n new
+step_bounds : (n : ℕ) (old new : WatchState) (event : Event) (output : Output) → Step old event output new → length old.tracks ≤ n → IsPast old → Bounds n old → Bounds n new
 step_bounds n old new (Clock wall elapsed) output step count past b = clock_bounds n old new wall elapsed output (ticks old new wall elapsed output step) count past b
 step_bounds n old new (Looked j reply terms) output step count past b = looked_bounds n old new (request_out old.out j Look) reply terms output step b
 step_bounds n old new (Renewed j reply) output step count past b = renewed_bounds n old new (request_out old.out j Renew) reply output step b
@@ -93,13 +100,14 @@ step_bounds n old new (Need j until) output step count past b = subst (Bounds n)
 step_bounds n old new Begin output step count past b = subst (Bounds n) (sym step.1) b
 step_bounds n old new (Known j end renewable) output step count past b = subst (Bounds n) (sym step.1) b
 
-turn_bounds : (n : ℕ) (old new : WatchState) (event : Event) (result : Result Output WatchFault) → Turn old event result new → length old.tracks ≡ n → IsPast old → Bounds n old → Bounds n new
+pub turn_bounds : (n : ℕ) (old new : WatchState) (event : Event) (result : Result Output WatchFault) → Turn old event result new → length old.tracks ≤ n → IsPast old → Bounds n old → Bounds n new
 turn_bounds n old new event (Ok output) turn count past b = step_bounds n old new event output turn.1 count past b
 turn_bounds n old new event (Err fault) turn count past b = subst (Bounds n) (sym (refused_stays old new event fault turn)) b
 
 pub turn_base : (width n : ℕ) (old new : WatchState) (event : Event) (result : Result Output WatchFault) → Turn old event result new → IsBase width n old → IsBase width n new
 turn_base width n old new event result turn h =
-    let bounds = turn_bounds n old new event result turn h.count h.past (h.within, h.since) in
+    let count = h.count in
+    let bounds = turn_bounds (n + width) old new event result turn (omega (arith, count)) h.past (h.within, h.since) in
     record {
       fits = turn_fits width old new event result turn h.fits;
       alone = turn_alone old new event result turn h.alone;
@@ -119,14 +127,38 @@ ran_base width n (turn ∷ turns) old h base = ran_base width n turns turn.state
 pub opened_base : (g : Forest) (width : ℕ) → IsBase width (length g.entries) (opened g width)
 opened_base g width = record {
   fits = (refl, omega arith);
-  alone = record { once = λ j. omega arith };
+  alone = record { once = λ j low. omega arith; single = λ j. omega arith };
   tries = first_tries g.entries;
   count = length-map g.entries fresh_track;
   past = record { start = λ none. refl; hold = λ there. refl; last = λ i. let l = first_past g.entries i in omega (arith, l) };
-  within = All-nil (λ (q : Out). q.entry < length g.entries);
+  within = All-nil (λ (q : Out). q.entry < length g.entries + width);
   since = All-nil (λ (q : Out). q.since ≤ 0);
   marked = λ i out. absurd (true≢false (sym out ∙ first_free g.entries i));
 }
+
+-- those that wait after a turn, and those that are out anew, waited before, came to wait, or were out anew
+pub fewer_wait :
+    (o : Outage) (from width n : ℕ) (old new : WatchState) → IsBase width n old → IsBase width n new → Sends old new n →
+    how_many n (waits_to_be_asked o new) + how_many (n + width) (is_anew o from new) ≤ how_many n (waits_to_be_asked o old) + how_many n (comes o old new) + how_many (n + width) (is_anew o from old)
+fewer_wait o from width n old new was is sends =
+    sums_past n width (waits_to_be_asked o new) (is_anew o from new) (waits_to_be_asked o old) (comes o old new) (is_anew o from old)
+    (sums n (waits_to_be_asked o new) (is_anew o from new) (waits_to_be_asked o old) (comes o old new) (is_anew o from old)
+    (λ j low.
+    counted (is_tried new j) (is_request_served o new j) (is_tried old j) (is_request_served o old j) (is_anew o from new j) (is_anew o from old j) (served_tried o new j (tracked width n new j is low) is.alone is.tries)
+    (λ anew.
+    elim (sends (λ k since. k == j && (is_request_whole o since && nat_le from since)) anew) as (λ _. (is_anew o from old j ≡ true) ⊎ ((is_request_served o new j ≡ true) × (is_request_served o old j ≡ false))) [
+      | inl before ↦ inl before
+      | inr now ↦
+          let free = subst (λ k. (track_at old k).out ≡ false) (named j now.0 now.1.0) now.1.1.1 in
+          inr (anew_served o from new j anew, no_lane_free old j (λ q. is_request_whole o q.since) (tracked width n old j was low) was.alone free)
+    ])))
+    (λ j past anew.
+    elim (sends (λ k since. k == j && (is_request_whole o since && nat_le from since)) anew) as (λ _. is_anew o from old j ≡ true) [
+      | inl before ↦ before
+      | inr now ↦ (let below = now.1.1.0 in let same = named j now.0 now.1.0 in absurd (omega (arith, below, same, past)))
+    ]) where
+      named : (j k : ℕ) → (k == j && (is_request_whole o new.clocks.at && nat_le from new.clocks.at)) ≡ true → k ≡ j
+      named j k h = eqb-true k j (and_parts (k == j) (is_request_whole o new.clocks.at && nat_le from new.clocks.at) h).0
 
 -- the first turns, and the others
 pub first_turns : (xs ys : List Turned) (old : WatchState) → History old (xs ++ ys) → History old xs

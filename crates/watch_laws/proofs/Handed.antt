@@ -1,6 +1,6 @@
 -- Handed: at a clock before which an entry was not pressed it is on its first try, if any; so at the first clock of a watch that was told ends.
 -- For the law of kills.
-use Rattle.std.proofs.Common.{◌≡◌, ◌∙◌, Bool, ℕ, zero, suc, ◌<◌, ◌≤◌, true, false, ◌==◌, List, [], ◌∷◌, Some, All, Result, Ok, Err, length, map, refl, sym, ap, subst, arith, inl, inr, Option, None}
+use Rattle.std.proofs.Common.{◌≡◌, ◌∙◌, Bool, ℕ, zero, suc, ◌*◌, ◌<◌, ◌≤◌, true, false, ◌==◌, List, [], ◌∷◌, Some, All, Result, Ok, Err, length, map, refl, sym, ap, subst, arith, inl, inr, Option, None}
 use Rattle.std.proofs.lemmas.Bool.{cases_Bool, cond-false}
 use Rattle.std.proofs.lemmas.List.Elements.{All-weaker}
 use Rattle.std.specs.List.{list_any}
@@ -14,7 +14,7 @@ use Rattle.watch_machine.specs.declared.lanes.Out.{Out}
 use Rattle.watch_machine.specs.declared.track.Track.{Track}
 use Rattle.watch_machine.specs.declared.track.Try.{Try}
 use Rattle.watch_machine.specs.Beginning.{is_pressed, is_pressed_try, owing_past, soon, sooner_try}
-use Rattle.watch_machine.specs.History.{History, Turn, Turned, after_all}
+use Rattle.watch_machine.specs.History.{AllHappen, Hands, History, Turn, Turned, after_all, state_after_all}
 use Rattle.watch_machine.specs.Lines.{is_first, rested}
 use Rattle.watch_machine.specs.Press.{pressed}
 use Rattle.watch_machine.specs.Sending.{sent_in, sent_track}
@@ -23,13 +23,14 @@ use Rattle.watch_machine.specs.State.{WatchState, attempt_at, fresh_track, opene
 use Rattle.watch_machine.specs.Step.{Step, readied, told_earlier, why}
 use Rattle.watch_machine.specs.Wanted.{is_known, is_wanted}
 use Rattle.watch_machine.proofs.Cases.{if_both, not_both}
-use Rattle.watch_laws.specs.Outage.{AreHanded, KillLaw, MayBeAsked, is_handed, left_from}
+use Rattle.watch_laws.specs.Outage.{AreHanded, KillLaw, MayBeAsked, in_line, is_handed, left_from}
 use Rattle.watch_laws.proofs.Clocking.{readied_clocks, refused_stays}
 use Rattle.watch_laws.proofs.Enduring.{Steady, begun_steady, none_stands}
-use Rattle.watch_laws.proofs.Grounds.{IsBase, first_turns, last_turns, opened_base, ran_base, starts, turn_base}
+use Rattle.watch_laws.proofs.Grounds.{IsBase, first_turns, last_turns, opened_base, ran_base, starts, tracked, turn_base}
 use Rattle.watch_laws.proofs.Lanes.{Ticks, all_sent, stays_free}
 use Rattle.watch_laws.proofs.Marked.{free_lanes, none_of}
-use Rattle.watch_laws.proofs.Outliving.{left_from_clock, ran_shape, turn_shape}
+use Rattle.watch_laws.proofs.Outliving.{left_from_clock}
+use Rattle.watch_laws.proofs.Shapes.{ran_shape, turn_shape}
 use Rattle.watch_laws.proofs.Tracking.{each_holds, each_kept, known_is, set_kept}
 use Rattle.watch_laws.proofs.Undisturbed.{Undisturbed, clock_undisturbed, settled_pressed}
 
@@ -82,7 +83,7 @@ module _ (width n : ℕ) (old new : WatchState) (wall elapsed : ℕ) (output : O
         | inl out ↦
             let still = subst (λ (x : WatchState). Undisturbed (track_at x i) (track_at old i)) (sym h.new_is) (clock_undisturbed old wall elapsed h.round h.requests i) in
             (λ k d below is pressed'. absurd (not_both (still.1 out pressed') loose))
-        | inr free ↦ All-weaker (λ (q : Out). q.entry ≡ i → ⊥) GoesNow (λ q no' is. absurd (no' is)) old.out (none_of i old.out (free_lanes i old before.alone free))
+        | inr free ↦ All-weaker (λ (q : Out). q.entry ≡ i → ⊥) GoesNow (λ q no' is. absurd (no' is)) old.out (none_of i old.out (free_lanes i old (tracked width n old i before low) before.alone free))
       ]
 
   goes_now : All GoesNow new.out
@@ -152,17 +153,27 @@ first_untouched (e ∷ es) zero = (refl, omega arith)
 first_untouched (e ∷ es) (suc i) = first_untouched es i
 
 pub killed : KillLaw
-killed o g width before first turns i wide run handed clock' taken' low wanted known' lived few order short =
+killed o g width before first hs i wide history happens handed clock' taken' low wanted known' lived few order short =
     let n = length g.entries in
     let old = after_all (opened g width) before in
     let s = first.state in
-    let history = last_turns before (first ∷ turns) (opened g width) run in
-    let until = first_turns before (first ∷ turns) (opened g width) run in
+    let last = (last_turns before (first ∷ []) (opened g width) history).0 in
+    let until = first_turns before (first ∷ []) (opened g width) history in
     let base = ran_base width n before (opened g width) until (opened_base g width) in
-    let after = turn_base width n old s first.event first.result history.0 base in
-    let start = starts o old first first.event first.result refl history.0 clock' taken' in
+    let after = turn_base width n old s first.event first.result last base in
+    let start = starts o old first first.event first.result refl last clock' taken' in
     let untouched = ran_untouched i before (opened g width) handed until (first_untouched g.entries i) in
-    let here = (turn_shape old s first.event first.result history.0).0 in
+    let here = (turn_shape old s first.event first.result last).0 in
     let there = (ran_shape before (opened g width) until).0 in
-    left_from_clock o g width before first turns i (left_from s i) wide run clock' taken'
-    (may_be_asked width n old s start.wall start.elapsed start.output i low start.ticks' base after untouched.0 untouched.1 (omega (arith, low, here, there)) wanted known') lived few order short
+    left_from_clock o old first hs i (left_from s i)
+    (record { forest = g; width = width; run = map (λ (t : Turned). Hands t) before; is_run = hands before (opened g width) until; leads = leads before (opened g width) })
+    (subst (λ w. 0 < w) (sym base.fits.0) wide) (last, happens) clock' taken'
+    (may_be_asked width n old s start.wall start.elapsed start.output i low start.ticks' base after untouched.0 untouched.1 (omega (arith, low, here, there)) wanted known') lived
+    (subst (λ w. in_line o s hs ≤ w * o.rounds) (sym base.fits.0) few) order short where
+      hands : (ts : List Turned) (x : WatchState) → History x ts → AllHappen x (map (λ (t : Turned). Hands t) ts)
+      hands [] x h = tt
+      hands (t ∷ ts) x h = (h.0, hands ts t.state h.1)
+
+      leads : (ts : List Turned) (x : WatchState) → state_after_all x (map (λ (t : Turned). Hands t) ts) ≡ after_all x ts
+      leads [] x = refl
+      leads (t ∷ ts) x = leads ts t.state

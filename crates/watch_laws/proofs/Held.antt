@@ -25,19 +25,20 @@ use Rattle.watch_machine.specs.Refusal.{request_out}
 use Rattle.watch_machine.specs.Renewed.{state_renewed}
 use Rattle.watch_machine.specs.Sending.{out_at, sent}
 use Rattle.watch_machine.specs.Settling.{timed}
-use Rattle.watch_machine.specs.State.{WatchState, opened, track_at, track_in}
+use Rattle.watch_machine.specs.State.{WatchState, track_at, track_in}
 use Rattle.watch_machine.specs.Step.{Step, StepLooked, StepRenewed, readied}
 use Rattle.watch_machine.specs.Wait.{wait}
 use Rattle.watch_laws.specs.Absence.{is_clock, is_event_taken}
 use Rattle.watch_laws.specs.Outage.{one_where}
 use Rattle.watch_laws.specs.Partial.{AreHolding, AreSettled, ClockIsInTime, IsHeld, IsHeldUp, IsHolding, Partial, PartialLaw, comes_before, coming_before, due_after, keeps_lane, longest, partial_next_after, partial_next_after_command, partial_next_by, partial_settled_by, stands_before, total, waiting_before, waits_before}
 use Rattle.watch_laws.proofs.Answering.{looked_leaves, renewed_leaves, rest_of}
+use Rattle.watch_laws.proofs.Bases.{next_base}
 use Rattle.watch_laws.proofs.Clocking.{readied_clocks, refused_stays}
 use Rattle.watch_laws.proofs.Counting.{least_all}
 use Rattle.watch_laws.proofs.Foremost.{all_front as before}
 use Rattle.watch_laws.proofs.Fronts.{front_at, keeps_short, own_at, sent_front, sent_partial}
 use Rattle.watch_laws.proofs.Going.{entry_by, request_at}
-use Rattle.watch_laws.proofs.Grounds.{IsBase, first_turns, last_turns, opened_base, ran_base, turn_base}
+use Rattle.watch_laws.proofs.Grounds.{IsBase, first_turns, last_turns, turn_base}
 use Rattle.watch_laws.proofs.Lanes.{Ticks, all_left, each_named, pressed_count, ticks}
 use Rattle.watch_laws.proofs.Recovering.{full_lanes}
 use Rattle.watch_laws.proofs.Retrying.{IsPast, rises}
@@ -355,16 +356,13 @@ ends_by o width n due bound k s new p between =
     ]
 
 pub held_up : PartialLaw
-held_up o g width before first turns next i run clock taken' may out holding clock' taken'' in_time =
-    let n = length g.entries in
-    let rest = turns ++ next ∷ [] in
-    let old = after_all (opened g width) before in
-    let history = last_turns before (first ∷ rest) (opened g width) run in
-    let earlier = first_turns before (first ∷ rest) (opened g width) run in
+held_up o old first turns next i reached history clock taken' may out holding clock' taken'' in_time =
+    let n = length old.forest.entries in
+    let width = old.width in
     let s = first.state in
     let at = s.clocks.at in
     let start = starts o old first first.event first.result refl history.0 clock taken' in
-    let base = turn_base width n old s first.event first.result history.0 (ran_base width n before (opened g width) earlier (opened_base g width)) in
+    let base = next_base old first (turns ++ next ∷ []) reached history in
     let full' = full_lanes old s start.wall start.elapsed start.output i width start.ticks' may base.fits.0 in
     let fits = base.fits.1 in
     let full : length s.out ≡ width = omega (arith, full', fits) in

@@ -20,7 +20,7 @@ use Rattle.watch_machine.specs.declared.track.Try.{Try}
 use Rattle.watch_machine.specs.Answers.{answers_all, lane_freed, noted, replied, silent}
 use Rattle.watch_machine.specs.Beginning.{begun}
 use Rattle.watch_machine.specs.Clocks.{ms}
-use Rattle.watch_machine.specs.History.{History, Turn, Turned, after_all}
+use Rattle.watch_machine.specs.History.{AllHappen, Changed, Changes, Hands, Happening, IsChanged, Turn, Turned, state_after_all}
 use Rattle.watch_machine.specs.Looked.{looked}
 use Rattle.watch_machine.specs.Pauses.{cap, doubled, left_to}
 use Rattle.watch_machine.specs.Press.{pressed}
@@ -189,12 +189,21 @@ turn_holds :
 turn_holds from old new event (Ok output) turn away still h = step_holds from old new event output turn.1 away still h
 turn_holds from old new event (Err fault) turn away still h = subst (Holds from) (sym (refused_stays old new event fault turn)) h
 
+-- and so does a change
+changed_holds : (from : ℕ) (old : WatchState) (c : Changed) → IsChanged old c → Holds from old → Holds from c.state
+changed_holds from old c h holds = record {
+  begun = ap (λ (s : WatchState). is_none s.begun) h.state ∙ holds.begun;
+  past = (let clock = ap (λ (s : WatchState). s.clocks.at) h.state in let past = holds.past in omega (arith, clock, past));
+  hold = (let hold = ap (λ (s : WatchState). s.presence.hold) h.state in let long = holds.hold in omega (arith, hold, long));
+}
+
 ran :
-    (between : List Turned) (next : Turned) (from : ℕ) (old : WatchState) → History old (between ++ next ∷ []) → old.presence.away ≡ true → AllAway between → Holds from old →
-    Sets (after_all old between) next → from + 1000 ≤ next.state.clocks.at
+    (between : List Happening) (next : Turned) (from : ℕ) (old : WatchState) → AllHappen old (between ++ Hands next ∷ []) → old.presence.away ≡ true → AllAway between → Holds from old →
+    Sets (state_after_all old between) next → from + 1000 ≤ next.state.clocks.at
 ran [] next from old h away all holds sets = let over = sets.over in let hold = holds.hold in omega (arith, over, hold)
-ran (turn ∷ between) next from old h away all holds sets =
+ran (Hands turn ∷ between) next from old h away all holds sets =
     ran between next from turn.state h.1 all.0 all.1 (turn_holds from old turn.state turn.event turn.result h.0 away all.0 holds) sets
+ran (Changes c ∷ between) next from old h away all holds sets = ran between next from c.state h.1 all.0 all.1 (changed_holds from old c h.0 holds) sets
 
 pub held_back_long : HeldLaw
 held_back_long old first next between h all sets next_sets =

@@ -16,7 +16,7 @@ use Rattle.watch_machine.specs.declared.lanes.Presence.{Presence}
 use Rattle.watch_machine.specs.declared.track.Track.{Track}
 use Rattle.watch_machine.specs.declared.track.Try.{Try}
 use Rattle.watch_machine.specs.Answers.{answers_all, lane_freed, noted, replied, silent}
-use Rattle.watch_machine.specs.History.{History, Turn, Turned, after_all}
+use Rattle.watch_machine.specs.History.{Turn}
 use Rattle.watch_machine.specs.Looked.{looked}
 use Rattle.watch_machine.specs.Pauses.{cap, doubled}
 use Rattle.watch_machine.specs.Press.{pressed}
@@ -24,16 +24,17 @@ use Rattle.watch_machine.specs.Refusal.{request_out}
 use Rattle.watch_machine.specs.Renewed.{state_renewed}
 use Rattle.watch_machine.specs.Round.{asked_by_round}
 use Rattle.watch_machine.specs.Settling.{count_after, held, held_back, held_by, held_try, hold_after, is_real, is_silent, presence_after, timed}
-use Rattle.watch_machine.specs.State.{WatchState, attempt_at, opened, track_at, track_in}
+use Rattle.watch_machine.specs.State.{WatchState, attempt_at, track_at, track_in}
 use Rattle.watch_machine.specs.Step.{Step, StepClock, StepLooked, StepRenewed, readied}
 use Rattle.watch_machine.specs.Wanted.{least}
 use Rattle.watch_machine.proofs.Cases.{if_both, if_cases, not_both}
 use Rattle.watch_machine.proofs.Leasts.{least_start}
 use Rattle.watch_laws.specs.Absence.{is_clock, is_event_taken}
 use Rattle.watch_laws.specs.Holds.{HoldEnds, HoldLaw, HoldStays, HoldsAnew, HoldsOn, IsHold}
+use Rattle.watch_laws.proofs.Bases.{reached_base}
 use Rattle.watch_laws.proofs.Clocking.{readied_clocks, refused_stays, sent_by}
 use Rattle.watch_laws.proofs.Holding.{looked_presence, ready_presence}
-use Rattle.watch_laws.proofs.Retrying.{IsPast, held_least, opened_past, turn_past}
+use Rattle.watch_laws.proofs.Retrying.{held_least}
 
 -- how long it is
 least_most : (f : Track → ℕ) (n m : ℕ) (xs : List Track) → m ≤ n → ((i : ℕ) → i < length xs → m ≤ f (track_in xs i)) → m ≤ least n (map f xs)
@@ -199,11 +200,6 @@ turn_ends old new Begin (Ok output) away turn is other = ends_so old new away (s
 turn_ends old new (Known i end renewable) (Ok output) away turn is other = ends_so old new away (step_leaves old new (Known i end renewable) output turn.1 refl) is other
 turn_ends old new event (Err fault) away turn is other = ends_so old new away (same_leaves old new (ap (λ (x : WatchState). x.presence) (refused_stays old new event fault turn))) is other
 
--- nothing is held back while the broker is there
-ran_past : (turns : List Turned) (old : WatchState) → History old turns → IsPast old → IsPast (after_all old turns)
-ran_past [] old h past = past
-ran_past (turn ∷ turns) old h past = ran_past turns turn.state h.1 (turn_past old turn.state turn.event turn.result h.0 past)
-
 pub held_so : HoldLaw
 held_so = record {
   anew = λ old turn wall elapsed h clock away silent' over. holds_anew old turn.state (turn_clocked old turn.state turn.event turn.result wall elapsed h.0 clock.0 clock.1) away silent' over;
@@ -211,5 +207,5 @@ held_so = record {
   other = λ old turn wall elapsed h clock none. hold_stays old turn.state (turn_clocked old turn.state turn.event turn.result wall elapsed h.0 clock.0 clock.1) none;
   stays = λ old turn h none away. stays_so old turn.state (turn_leaves old turn.state turn.event turn.result h.0 none) away;
   ends = λ old turn away h is other'. turn_ends old turn.state turn.event turn.result away h.0 is other';
-  there = λ g width turns run there. (ran_past turns (opened g width) run (opened_past g width)).hold there;
+  there = λ s reached there. (reached_base s reached).past.hold there;
 }

@@ -1,5 +1,5 @@
 -- Lanes: what a turn makes of the requests that are out, and of the entries that wait. For the law of outages.
-use Rattle.std.proofs.Common.{◌≡◌, ◌≢◌, ◌⊎◌, ◌∙◌, ℕ, ◌+◌, ◌-◌, ◌<◌, ◌≤◌, Bool, true, false, not, ◌&&◌, ◌||◌, ◌==◌, if◌then◌else◌, List, [], ◌∷◌, ◌++◌, Option, Some, None, All, Result, Ok, Err, filter, get_or, length, map, nat_le, refl, sym, ap, subst, arith, inl, inr}
+use Rattle.std.proofs.Common.{◌≡◌, ◌≢◌, ◌⊎◌, ◌∙◌, ℕ, ◌-◌, ◌<◌, ◌≤◌, Bool, true, false, not, ◌&&◌, ◌||◌, ◌==◌, if◌then◌else◌, List, [], ◌∷◌, ◌++◌, Option, Some, None, All, Result, Ok, Err, filter, get_or, length, map, nat_le, refl, sym, ap, subst, arith, inl, inr}
 use Rattle.std.proofs.lemmas.Bool.{and_from, and_parts, cases_Bool, cond-false, cond-true, eqb-true}
 use Rattle.std.proofs.lemmas.List.Elements.{All-append, All-cons, All-filter, All-head, All-map, All-nil, All-tail, All-weaker}
 use Rattle.std.specs.List.{list_any}
@@ -32,10 +32,10 @@ use Rattle.watch_machine.specs.Step.{Step, StepClock, StepCommand, StepLooked, S
 use Rattle.watch_machine.specs.Wait.{wait}
 use Rattle.watch_machine.proofs.Cases.{if_both, not_both}
 use Rattle.watch_machine.proofs.Written.{each_length}
-use Rattle.watch_laws.specs.Outage.{Outage, comes, how_many, is_request_served, is_request_whole, is_tried, waits_to_be_asked}
+use Rattle.watch_laws.specs.Outage.{Outage, is_request_served, is_request_whole, is_tried}
 use Rattle.watch_laws.proofs.Alone.{IsAlone, flag}
 use Rattle.watch_laws.proofs.Clocking.{refused_stays}
-use Rattle.watch_laws.proofs.Counting.{counted, no_lane, sums}
+use Rattle.watch_laws.proofs.Counting.{no_lane}
 use Rattle.watch_laws.proofs.Going.{Goes, entry_by, goes, request_at}
 use Rattle.watch_laws.proofs.Owed.{AllTry}
 use Rattle.watch_laws.proofs.Spacing.{free_of, looked_out, mid_flag, passed_over, readied_out, replied_out, same_index, went}
@@ -283,18 +283,21 @@ abbrev pub is_anew : Outage → ℕ → WatchState → ℕ → Bool
 is_anew o from s j = list_any (λ (q : Out). q.entry == j && (is_request_whole o q.since && nat_le from q.since)) s.out
 
 -- whose request is out is marked as out, and has something to be asked
-marked : (s : WatchState) (j : ℕ) (test : Out → Bool) → IsAlone s → list_any (λ (q : Out). q.entry == j && test q) s.out ≡ true → (track_at s j).out ≡ true
-marked s j test alone any =
+pub no_lane_free : (s : WatchState) (j : ℕ) (test : Out → Bool) → j < length s.tracks → IsAlone s → (track_at s j).out ≡ false → list_any (λ (q : Out). q.entry == j && test q) s.out ≡ false
+no_lane_free s j test low alone free = no_lane j test s.out (let once = alone.once j low in let e = ap flag free in omega (arith, once, e))
+
+marked : (s : WatchState) (j : ℕ) (test : Out → Bool) → j < length s.tracks → IsAlone s → list_any (λ (q : Out). q.entry == j && test q) s.out ≡ true → (track_at s j).out ≡ true
+marked s j test low alone any =
     elim (cases_Bool (track_at s j).out) [
       | inl out ↦ out
-      | inr free ↦ absurd (not_both any (no_lane j test s.out (let once = alone.once j in let e = ap flag free in omega (arith, once, e))))
+      | inr free ↦ absurd (not_both any (no_lane_free s j test low alone free))
     ]
 
-pub served_marked : (o : Outage) (s : WatchState) (j : ℕ) → IsAlone s → is_request_served o s j ≡ true → (track_at s j).out ≡ true
-served_marked o s j alone served = marked s j (λ q. is_request_whole o q.since) alone served
+pub served_marked : (o : Outage) (s : WatchState) (j : ℕ) → j < length s.tracks → IsAlone s → is_request_served o s j ≡ true → (track_at s j).out ≡ true
+served_marked o s j low alone served = marked s j (λ q. is_request_whole o q.since) low alone served
 
-pub served_tried : (o : Outage) (s : WatchState) (j : ℕ) → IsAlone s → AllTry s → is_request_served o s j ≡ true → is_tried s j ≡ true
-served_tried o s j alone tries served = (tries j).out (served_marked o s j alone served)
+pub served_tried : (o : Outage) (s : WatchState) (j : ℕ) → j < length s.tracks → IsAlone s → AllTry s → is_request_served o s j ≡ true → is_tried s j ≡ true
+served_tried o s j low alone tries served = (tries j).out (served_marked o s j low alone served)
 
 weaker_any : (p q : Out → Bool) (out : List Out) → ((r : Out) → p r ≡ true → q r ≡ true) → list_any p out ≡ true → list_any q out ≡ true
 weaker_any p q [] h any = absurd cc
@@ -313,25 +316,6 @@ anew_served o from s j anew =
     (λ r h.
     let both = and_parts (r.entry == j) (is_request_whole o r.since && nat_le from r.since) h in
     and_from (r.entry == j) (is_request_whole o r.since) both.0 (and_parts (is_request_whole o r.since) (nat_le from r.since) both.1).0) anew
-
--- those that wait after a turn, and those that are out anew, waited before, came to wait, or were out anew
-pub fewer_wait :
-    (o : Outage) (from n : ℕ) (old new : WatchState) → IsAlone old → IsAlone new → AllTry new → Sends old new n →
-    how_many n (waits_to_be_asked o new) + how_many n (is_anew o from new) ≤ how_many n (waits_to_be_asked o old) + how_many n (comes o old new) + how_many n (is_anew o from old)
-fewer_wait o from n old new alone_old alone tries sends =
-    sums n (waits_to_be_asked o new) (is_anew o from new) (waits_to_be_asked o old) (comes o old new) (is_anew o from old)
-    (λ j.
-    counted (is_tried new j) (is_request_served o new j) (is_tried old j) (is_request_served o old j) (is_anew o from new j) (is_anew o from old j) (served_tried o new j alone tries)
-    (λ anew.
-    elim (sends (λ k since. k == j && (is_request_whole o since && nat_le from since)) anew) as (λ _. (is_anew o from old j ≡ true) ⊎ ((is_request_served o new j ≡ true) × (is_request_served o old j ≡ false))) [
-      | inl before ↦ inl before
-      | inr now ↦
-          let same = eqb-true now.0 j (and_parts (now.0 == j) (is_request_whole o new.clocks.at && nat_le from new.clocks.at) now.1.0).0 in
-          let free = subst (λ k. (track_at old k).out ≡ false) same now.1.1.1 in
-          let once = alone_old.once j in
-          let e = ap flag free in
-          inr (anew_served o from new j anew, no_lane j (λ q. is_request_whole o q.since) old.out (omega (arith, once, e)))
-    ]))
 
 -- what holds of the requests that are out, and of those that go out, holds of all after a clock
 pub each_named : (p : Presence) (now : ℕ) (xs : List Track) (is : List ℕ) → All (λ k. list_any (λ (r : Request). r.entry == k) (map (request_at p now xs) is) ≡ true) is

@@ -16,8 +16,9 @@ use Rattle.watch_machine.specs.declared.track.End.{End}
 use Rattle.watch_machine.specs.declared.track.Track.{Track}
 use Rattle.watch_machine.specs.Answers.{back_track}
 use Rattle.watch_machine.specs.Beginning.{is_pressed}
+use Rattle.watch_machine.specs.Change.{former_at}
 use Rattle.watch_machine.specs.Clocks.{sec}
-use Rattle.watch_machine.specs.History.{History, Turn, Turned, after_all}
+use Rattle.watch_machine.specs.History.{AllHappen, Changed, Changes, Hands, Happening, History, IsChanged, IsReached, Turn, Turned, state_after_all, stood, stood_at_some}
 use Rattle.watch_machine.specs.Margins.{lead}
 use Rattle.watch_machine.specs.Outlook.{time_of}
 use Rattle.watch_machine.specs.Renewed.{granted_from}
@@ -32,16 +33,16 @@ use Rattle.watch_laws.specs.Margins.{IsTimeBefore, asked_before, own_before}
 use Rattle.watch_laws.specs.Needs.{IsEndToBeLed}
 use Rattle.watch_laws.specs.Presses.{HasPressed}
 use Rattle.watch_laws.specs.Time.{is_come, is_named_in_round, round_of}
-use Rattle.watch_laws.specs.Tops.{IsNeededBeyond, LastTryLaw, first_topped_after, is_first_topped, is_first_topped_from, is_grant_of, is_granted_at, topped_after}
+use Rattle.watch_laws.specs.Tops.{IsNeededBeyond, LastTryLaw, first_topped_after, first_topped_at, is_first_topped, is_first_topped_from, is_grant_of, is_granted_at, topped_after, topped_at}
 use Rattle.watch_laws.proofs.Believed.{written_at, written_count}
+use Rattle.watch_laws.proofs.Following.{IsCounted, changed_counted, changed_tracks, kept_over, new_over, opened_counted, reached_counted, stays_there, turn_counted}
 use Rattle.watch_laws.proofs.GrantedFrom.{made, turn_holds}
-use Rattle.watch_laws.proofs.Grounds.{first_turns, last_turns}
 use Rattle.watch_laws.proofs.Needing.{needed, tries_last}
 use Rattle.watch_laws.proofs.Once.{renewable_of}
 use Rattle.watch_laws.proofs.Opener.{mid_bears}
 use Rattle.watch_laws.proofs.Presses.{clock_of, presses_so}
 use Rattle.watch_laws.proofs.Timing.{timed_so}
-use Rattle.watch_laws.proofs.Topping.{Tops, first_track, turn_count, turn_lower}
+use Rattle.watch_laws.proofs.Topping.{Tops, first_track, owed_lower, turn_count, turn_lower}
 
 -- what the grants so far say of the track: whether the last one left it at its top, and whether that was the first
 record Tried (before first : Bool) (x : Track) : Type 0 where
@@ -129,17 +130,50 @@ turn_tried old turn i before first h within tried =
           (tops_tried before first y x (turn_lower old new turn.event turn.result i h no').1 tried))
     ]
 
-ran :
-    (turns : List Turned) (old : WatchState) (i : ℕ) (before first : Bool) → History old turns → i < length old.tracks → Tried before first (track_at old i) →
-    (b : Bool) × Tried b (is_first_topped_from i before first turns) (track_at (after_all old turns) i)
-ran [] old i before first h within tried = (before, tried)
-ran (turn ∷ turns) old i before first h within tried =
-    let here = turn_tried old turn i before first h.0 within tried in
-    let count = turn_count old turn.state turn.event turn.result h.0 in
-    ran turns turn.state i (topped_after i before turn) (first_topped_after i before first turn) h.1 (omega (arith, count, within)) here
+-- so where it stands
+abbrev TriedAt : WatchState → Option ℕ → Bool → Bool → Type 0
+TriedAt s None before first = (before ≡ false) × (first ≡ false)
+TriedAt s (Some i) before first = i < length s.tracks → Tried before first (track_at s i)
 
-fresh_tried : (g : Forest) (width i : ℕ) → i < length g.entries → Tried false false (track_at (opened g width) i)
-fresh_tried g width i within = subst (Tried false false) (sym (first_track g.entries i within)) (record { led = λ top. absurd cc; try = refl })
+turn_at :
+    (old : WatchState) (turn : Turned) (e : Option ℕ) (before first : Bool) → Turn old turn.event turn.result turn.state → TriedAt old e before first →
+    TriedAt turn.state e (topped_at e before turn) (first_topped_at e before first turn)
+turn_at old turn None before first h none = none
+turn_at old turn (Some i) before first h tried = λ within.
+    let count = turn_count old turn.state turn.event turn.result h in
+    let low : i < length old.tracks = omega (arith, count, within) in
+    turn_tried old turn i before first h low (tried low)
+
+fresh_tried : (e : Entry) → Tried false false (fresh_track e)
+fresh_tried e = record { led = λ top. absurd cc; try = refl }
+
+changed_at : (old : WatchState) (c : Changed) → IsChanged old c → (e : Option ℕ) (before first : Bool) → IsCounted old → TriedAt old (stood_at_some (Changes c) e) before first → TriedAt c.state e before first
+changed_at old c h None before first count none = none
+changed_at old c h (Some j) before first count tried = λ within. by (former_at c.was j) refl tried within where
+  by : (was : Option ℕ) → former_at c.was j ≡ was → TriedAt old was before first → j < length c.state.tracks → Tried before first (track_at c.state j)
+  by None said none within =
+      subst (λ b. Tried b first (track_at c.state j)) (sym none.0)
+      (subst (λ b. Tried false b (track_at c.state j)) (sym none.1)
+      (new_over old c h (Tried false false) (λ e. record { led = λ top. absurd cc; try = refl }) j (let many = changed_tracks old c h in omega (arith, many, within)) said))
+  by (Some i) said tried' within =
+      kept_over old c h (λ (y x : Track). Tried before first x → Tried before first y) (λ x k. k) (λ x k. tops_tried before first _ x (owed_lower old.clocks.at x).1 k) i j said
+      (tried' (let there = h.may.within i j said in omega (arith, there, count)))
+
+ran :
+    (k : ℕ) (hs : List Happening) (old : WatchState) (before first : Bool) → AllHappen old hs → IsCounted old → TriedAt old (stood hs k) before first →
+    (b : Bool) × TriedAt (state_after_all old hs) (Some k) b (is_first_topped_from k before first hs)
+ran k [] old before first h count tried = (before, tried)
+ran k (Hands turn ∷ hs) old before first h count tried =
+    let e = stood hs k in
+    ran k hs turn.state (topped_at e before turn) (first_topped_at e before first turn) h.1 (turn_counted old turn.state turn.event turn.result h.0 count)
+    (turn_at old turn e before first h.0 (subst (λ d. TriedAt old d before first) (stays_there turn e) tried))
+ran k (Changes c ∷ hs) old before first h count tried = ran k hs c.state before first h.1 (changed_counted old c h.0) (changed_at old c h.0 (stood hs k) before first count tried)
+
+first_tried : (g : Forest) (width : ℕ) (e : Option ℕ) → TriedAt (opened g width) e false false
+first_tried g width None = (refl, refl)
+first_tried g width (Some i) = λ within.
+    let count = length-map g.entries fresh_track in
+    subst (Tried false false) (sym (first_track g.entries i (omega (arith, count, within)))) (fresh_tried (entry_at g.entries i))
 
 -- a clock grants nothing
 clock_none : (i : ℕ) (turn : Turned) (wall elapsed : ℕ) → IsClock wall elapsed turn → is_granted_at i turn ≡ false
@@ -155,25 +189,19 @@ by_first true first true last led is top = is
 by_first false first true last led is top = absurd (let bad : false ≡ true = led refl in cc)
 by_first before first false last led is top = absurd cc
 
-module _ (g : Forest) (width : ℕ) (before : List Turned) (turn : Turned) (wall elapsed i : ℕ) (first : History (opened g width) before) (h : Turn (after_all (opened g width) before) turn.event turn.result turn.state) (within : i < length g.entries) (clock : IsClock wall elapsed turn) where
-  abbrev old : WatchState
-  old = after_all (opened g width) before
-
+module _ (old : WatchState) (r : IsReached old) (turn : Turned) (wall elapsed i : ℕ) (h : Turn old turn.event turn.result turn.state) (within : i < length old.forest.entries) (clock : IsClock wall elapsed turn) where
   counts : i < length old.tracks
-  counts = ran_count before (opened g width) first (let count = length-map g.entries fresh_track in omega (arith, count, within)) where
-    ran_count : (turns : List Turned) (s : WatchState) → History s turns → i < length s.tracks → i < length (after_all s turns).tracks
-    ran_count [] s run low = low
-    ran_count (t ∷ turns) s run low = let count = turn_count s t.state t.event t.result run.0 in ran_count turns t.state run.1 (omega (arith, count, low))
+  counts = let count = reached_counted old r in omega (arith, count, within)
 
-  last_is : (track_at turn.state i).top ≡ true → (track_at turn.state i).last_try ≡ is_first_topped i before
+  last_is : (track_at turn.state i).top ≡ true → (track_at turn.state i).last_try ≡ is_first_topped i r.run
   last_is topped =
-      let first' = is_first_topped i before in
-      let start = length-map g.entries fresh_track in
-      let so = ran before (opened g width) i false false first (omega (arith, start, within)) (fresh_tried g width i within) in
+      let first' = is_first_topped i r.run in
+      let all = ran i r.run (opened r.forest r.width) false false r.is_run (opened_counted r.forest r.width) (first_tried r.forest r.width (stood r.run i)) in
+      let there : TriedAt old (Some i) all.0 first' = subst (λ (x : WatchState). TriedAt x (Some i) all.0 first') r.leads all.1 in
       let none = clock_none i turn wall elapsed clock in
       let y = track_at turn.state i in
-      let tried = tops_tried so.0 first' y (track_at old i) (turn_lower old turn.state turn.event turn.result i h none).1 so.1 in
-      by_first so.0 first' y.top y.last_try tried.led tried.try topped
+      let tried = tops_tried all.0 first' y (track_at old i) (turn_lower old turn.state turn.event turn.result i h none).1 (there counts) in
+      by_first all.0 first' y.top y.last_try tried.led tried.try topped
 
 -- a last try is asked for
 asked_so :
@@ -229,20 +257,14 @@ unnamed old turn wall elapsed i h clock =
 
 pub last_tries : LastTryLaw
 last_tries = record {
-  asked = λ g width before turn wall elapsed i end j until run within clock free loose topped first n time.
-      let old = after_all (opened g width) before in
-      let start = first_turns before (turn ∷ []) (opened g width) run in
-      let h = last_turns before (turn ∷ []) (opened g width) run in
-      let last = last_is g width before turn wall elapsed i start h.0 within clock topped in
-      asked_so old turn wall elapsed i end j until h clock (counts g width before turn wall elapsed i start h.0 within clock) free loose
+  asked = λ old r turn wall elapsed i end j until h within clock free loose topped first n time.
+      let last = last_is old r turn wall elapsed i h.0 within clock topped in
+      asked_so old turn wall elapsed i end j until h clock (counts old r turn wall elapsed i h.0 within clock) free loose
       (and_from (track_at turn.state i).top (track_at turn.state i).last_try topped (last ∙ first)) n time;
-  only = λ g width before turn wall elapsed i run within clock loose now topped.
-      let old = after_all (opened g width) before in
-      let start = first_turns before (turn ∷ []) (opened g width) run in
-      let h = last_turns before (turn ∷ []) (opened g width) run in
+  only = λ old r turn wall elapsed i h within clock loose now topped.
       let s = turn.state in
-      let last = last_is g width before turn wall elapsed i start h.0 within clock topped in
-      elim (presses_so.only old turn wall elapsed i h clock loose now).1 as (λ _. (is_first_topped i before ≡ true) × ((is_wanted s i ≡ true) × (is_come s i ≡ true))) [
+      let last = last_is old r turn wall elapsed i h.0 within clock topped in
+      elim (presses_so.only old turn wall elapsed i h clock loose now).1 as (λ _. (is_first_topped i r.run ≡ true) × ((is_wanted s i ≡ true) × (is_come s i ≡ true))) [
         | inl come ↦ (sym last ∙ (and_parts (track_at s i).top (track_at s i).last_try (tries_last (track_at s i) (wanted_need s i) topped come.0)).1, come)
         | inr named ↦ absurd (not_both named (unnamed old turn wall elapsed i h.0 clock topped))
       ];

@@ -48,6 +48,7 @@ pub mod Stages
 pub mod Undisturbed
 pub mod Ticking
 pub mod Answered
+pub mod Shapes
 pub mod Outliving
 pub mod Handed
 pub mod Recovering
@@ -80,3 +81,11 @@ pub mod Working
 pub mod Starting
 pub mod UnderWay
 pub mod LastTries
+pub mod Changing
+pub mod Reached
+pub mod Following
+pub mod Bases
+pub mod Always
+pub mod Apart
+pub mod Topped
+pub mod Moving

@@ -4,9 +4,9 @@ use Rattle.std.proofs.lemmas.Bool.{cases_Bool}
 use Rattle.std.proofs.lemmas.Bool.Decides.{nat_tests}
 use Rattle.watch_machine.specs.declared.event.Operation.{Operation}
 use Rattle.watch_machine.specs.declared.event.Operation.TheVariants.{Look, Renew}
-use Rattle.watch_laws.specs.Load.{AreApartFrom, IsApart, LoadLaw, Sent, SentAreApart, is_between, sent_in_turns}
+use Rattle.watch_laws.specs.Load.{AreApartFrom, IsApart, LoadLaw, Sent, SentAreApart, is_between, sent_through}
 use Rattle.watch_machine.proofs.Cases.{if_cases}
-use Rattle.watch_laws.proofs.Spacing.{spaced}
+use Rattle.watch_laws.proofs.Apart.{spaced}
 
 -- each is at t or later
 abbrev AreFrom : ℕ → List Sent → Type 0
@@ -96,4 +96,4 @@ few x from (a ∷ rest) apart =
       loose y (z ∷ zs) h = h.1
 
 pub load : LoadLaw
-load g width turns run i from x = few x from (sent_in_turns i turns) (spaced g width turns run i)
+load g width hs run k from x = few x from (sent_through k hs) (spaced g width hs run k)

@@ -37,7 +37,7 @@ use Rattle.watch_machine.specs.Refusal.{is_same, request_out}
 use Rattle.watch_machine.specs.Renewed.{from_try, granted_from, renewed_track, state_renewed}
 use Rattle.watch_machine.specs.Sending.{out_at, sent, sent_in, sent_track}
 use Rattle.watch_machine.specs.Settling.{settled, settled_track, timed}
-use Rattle.watch_machine.specs.State.{WatchState, attempt_at, entry_of, no_track, opened, second, track_at, track_in}
+use Rattle.watch_machine.specs.State.{WatchState, attempt_at, entry_of, no_track, second, track_at, track_in}
 use Rattle.watch_machine.specs.Step.{Step, StepClock, StepLooked, StepRenewed, known, readied, told_earlier, why}
 use Rattle.watch_machine.specs.Wanted.{believed, is_alive, is_never, is_open, is_unknown, is_wanted, wanted_need, wants}
 use Rattle.watch_machine.proofs.Cases.{if_both, not_both, value_is}
@@ -50,10 +50,10 @@ use Rattle.watch_laws.specs.Load.{requests_asked_by, requests_at_turn}
 use Rattle.watch_laws.specs.Outage.{is_tried}
 use Rattle.watch_laws.proofs.Alone.{IsAlone, flag, turn_alone}
 use Rattle.watch_laws.proofs.Answering.{looked_begins, replied_rest}
+use Rattle.watch_laws.proofs.Bases.{reached_base}
 use Rattle.watch_laws.proofs.Begins.{begun_top}
 use Rattle.watch_laws.proofs.Clocking.{refused_stays}
 use Rattle.watch_laws.proofs.Going.{named_of, operation_of, times}
-use Rattle.watch_laws.proofs.Grounds.{first_turns, last_turns, opened_base, ran_base}
 use Rattle.watch_laws.proofs.Lanes.{Ticks, ticks}
 use Rattle.watch_laws.proofs.Lasting.{Bears, both_bear, calm_ready, clock_bears, mid_bears, same_bears, sent_bears}
 use Rattle.watch_laws.proofs.Lookups.{AsksRenewal, IsTold, back_told, few_go, found_looks, granted_owes, granted_told, look_goes, looked_told, looks_few, mid_told, other_looks, own_looks, pressed_told, renewal_looks, sent_looks, sent_told, settled_told, told_rid}
@@ -179,9 +179,9 @@ module _ (old new : WatchState) (wall elapsed : ℕ) (output : Output) (i : ℕ)
       }
 
   -- none goes out of one that is out
-  none_beside : IsAlone old → looks i old.out ≡ 1 → go ≡ 0
-  none_beside alone one =
-      let once = alone.once i in
+  none_beside : i < length old.tracks → IsAlone old → looks i old.out ≡ 1 → go ≡ 0
+  none_beside within alone one =
+      let once = alone.once i within in
       let less = looks_few i old.out in
       elim (cases_one go few) as (λ _. go ≡ 0) [
         | inl none ↦ none
@@ -263,7 +263,7 @@ module _ (old new : WatchState) (wall elapsed : ℕ) (output : Output) (i : ℕ)
         | inr one ↦ inr (omega (arith, z, one), inl (omega (arith, l, one, after)))
       ]
   clock_holds n due none alone within ahead (inr (one, inl out)) =
-      let none' = none_beside alone out in
+      let none' = none_beside within alone out in
       let after = looks_after in
       inr (omega (arith, one, none'), inl (omega (arith, out, none', after)))
   clock_holds n due none alone within ahead (inr (one, inr told)) =
@@ -274,23 +274,19 @@ module _ (old new : WatchState) (wall elapsed : ℕ) (output : Output) (i : ℕ)
       inr (omega (arith, one, none'), inr (omega (arith, quiet, none', after), kept.0))
 
   -- at a beginning
-  clock_starts : IsAlone old → Holds new i (track_at new i).owes (looks i old.out + go)
-  clock_starts alone =
-      let once = alone.once i in
+  clock_starts : i < length old.tracks → IsAlone old → Holds new i (track_at new i).owes (looks i old.out + go)
+  clock_starts within alone =
+      let once = alone.single i in
       let less = looks_few i old.out in
-      let one_flag = flag_most (track_at old i).out in
       let after = looks_after in
       let most = few in
-      elim (cases_one (looks i old.out) (omega (arith, once, less, one_flag))) as (λ _. Holds new i (track_at new i).owes (looks i old.out + go)) [
+      elim (cases_one (looks i old.out) (omega (arith, once, less))) as (λ _. Holds new i (track_at new i).owes (looks i old.out + go)) [
         | inl none ↦ elim (cases_one go few) as (λ _. Holds new i (track_at new i).owes (looks i old.out + go)) [
           | inl none' ↦ inl (omega (arith, none, none'), (omega (arith, none, none', after), λ d. d))
           | inr one ↦ inr (omega (arith, none, one), inl (omega (arith, none, one, after)))
         ]
-        | inr out ↦ (let none' = none_beside alone out in inr (omega (arith, out, none'), inl (omega (arith, out, none', after))))
-      ] where
-        flag_most : (b : Bool) → flag b ≤ 1
-        flag_most true = omega arith
-        flag_most false = omega arith
+        | inr out ↦ (let none' = none_beside within alone out in inr (omega (arith, out, none'), inl (omega (arith, out, none', after))))
+      ]
 
   -- whoever is needed after it was needed at it
   needed_same : is_needed new i ≡ is_called ready.forest ready.tracks ready.clocks i
@@ -468,8 +464,7 @@ own_renewed old new q (Told seconds renewable date) n due is found alone within 
     let y = granted_from step s.clocks.at seconds renewable from x in
     let last : track_at mid i ≡ y = get_or-set_same s.tracks i y no_track within in
     let alive : is_alive (second s) y ≡ true = sym (ap (is_alive (second s)) last) ∙ sym (own_alive old mid new q reply is refl) ∙ well in
-    let once = alone.once i in
-    let one = flag_most (track_at old i).out in
+    let once = alone.single i in
     let beside = renewal_looks i old.out q found in
     let quiet = own_quiet old mid new q reply is refl in
     elim holds as (λ _. Holds new i due n) [
@@ -478,13 +473,10 @@ own_renewed old new q (Told seconds renewable date) n due is found alone within 
         (quiet, λ d. own_owes old mid new q reply is refl (ap (λ (v : Track). v.owes) last ∙ granted_owes step s.clocks.at seconds renewable from x ∙ not_yet.1.1 d)),
       )
       | inr was ↦ elim was.1 as (λ _. Holds new i due n) [
-        | inl out' ↦ absurd (omega (arith, once, one, beside, out'))
+        | inl out' ↦ absurd (omega (arith, once, beside, out'))
         | inr told ↦ inr (was.0, inr (quiet, own_told old mid new q reply is refl (subst IsTold (sym last) (granted_told step s.clocks.at seconds renewable from x alive told.1))))
       ]
-    ] where
-      flag_most : (b : Bool) → flag b ≤ 1
-      flag_most true = omega arith
-      flag_most false = omega arith
+    ]
 own_renewed old new q (Refused status date) n due is found alone within well holds = absurd well
 own_renewed old new q Busy n due is found alone within well holds = absurd well
 own_renewed old new q Lost n due is found alone within well holds = absurd well
@@ -609,7 +601,7 @@ clock_started old new wall elapsed output i step begins alone within =
     let bear = bears old new wall elapsed output i h in
     let at = now old new wall elapsed output i h in
     record {
-      holds = subst (λ k. Holds new i (track_at new i).owes (looks i old.out + k)) (sym go) (clock_starts old new wall elapsed output i h alone);
+      holds = subst (λ k. Holds new i (track_at new i).owes (looks i old.out + k)) (sym go) (clock_starts old new wall elapsed output i h within alone);
       led = ap (λ (x : Track). x.top) ((seen old new wall elapsed output i h).tracks i) ∙ ready_led old wall elapsed i w.0 w.1 within;
       owes = λ called how.
           let there : is_start w.0 || is_open (second ready') (track_at ready' i) ≡ true =
@@ -627,19 +619,15 @@ clock_started old new wall elapsed output i step begins alone within =
           let told = unneeded_told old new wall elapsed output i h within none alive (ready_led old wall elapsed i w.0 w.1 within) free' in
           let after = looks_after old new wall elapsed output i h in
           let z = told.1 in
-          let once = alone.once i in
-          let less = looks_few i old.out in
-          let one = flag_most (track_at old i).out in (
-            elim (cases_one (looks i old.out) (omega (arith, once, less, one))) as (λ _. Holds new i false 1) [
+          let once = alone.single i in
+          let less = looks_few i old.out in (
+            elim (cases_one (looks i old.out) (omega (arith, once, less))) as (λ _. Holds new i false 1) [
               | inl quiet' ↦ inr (refl, inr (omega (arith, after, quiet', z), told.0))
               | inr out' ↦ inr (refl, inl (omega (arith, after, out', z)))
             ],
             go ∙ z,
           );
-    } where
-      flag_most : (b : Bool) → flag b ≤ 1
-      flag_most true = omega arith
-      flag_most false = omega arith
+    }
 
 none_begins : (output out : Output) → output ≡ out → out.notes.began ≡ None → is_some output.notes.began ≡ true → ⊥
 none_begins output out is none begins = not_both (sym (ap (λ (x : Output). is_some x.notes.began) is) ∙ begins) (ap is_some none)
@@ -665,12 +653,9 @@ once last i n due (inl not_yet) = ((let z = not_yet.0 in omega (arith, z)), λ o
 once last i n due (inr was) = ((let z = was.0 in omega (arith, z)), λ owed free. was.0)
 
 pub looked_once : OneLookupLaw
-looked_once g width before turn after i run within begins well =
-    let n = length g.entries in
-    let old = after_all (opened g width) before in
+looked_once old turn after i reached history within begins well =
     let last = after_all turn.state after in
-    let history = last_turns before (turn ∷ after) (opened g width) run in
-    let base = ran_base width n before (opened g width) (first_turns before (turn ∷ after) (opened g width) run) (opened_base g width) in
+    let base = reached_base old reached in
     let count = base.count in
     let start = started old turn.state turn.event turn.result i history.0 begins base.alone (omega (arith, count, within)) in
     let more = turn_count old turn.state turn.event turn.result history.0 in

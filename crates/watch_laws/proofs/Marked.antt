@@ -1,5 +1,5 @@
 -- Marked: of each entry that is marked as out a request is out. For the laws of outages.
-use Rattle.std.proofs.Common.{◌≡◌, ◌≢◌, ◌∙◌, ℕ, zero, suc, ◌≤◌, Bool, true, false, cond, ◌&&◌, ◌||◌, ◌==◌, List, [], ◌∷◌, Option, Some, None, All, Result, Ok, Err, filter, length, map, refl, sym, ap, subst, arith, inl, inr}
+use Rattle.std.proofs.Common.{◌≡◌, ◌≢◌, ◌∙◌, ℕ, zero, suc, ◌<◌, ◌≤◌, Bool, true, false, cond, ◌&&◌, ◌||◌, ◌==◌, List, [], ◌∷◌, Option, Some, None, All, Result, Ok, Err, filter, length, map, refl, sym, ap, subst, arith, inl, inr}
 use Rattle.std.proofs.lemmas.Bool.{and_from, cases_Bool, eqb-true}
 use Rattle.std.proofs.lemmas.List.{get_or-set_other}
 use Rattle.std.proofs.lemmas.List.Elements.{All-cons, All-head, All-tail, All-weaker}
@@ -28,7 +28,7 @@ use Rattle.watch_laws.proofs.Alone.{IsAlone, flag, lanes_of}
 use Rattle.watch_laws.proofs.Clocking.{refused_stays}
 use Rattle.watch_laws.proofs.Counting.{no_lane}
 use Rattle.watch_laws.proofs.Lanes.{Ticks, goes_out_now, is_of, replied_lane, still_out, ticks}
-use Rattle.watch_laws.proofs.Requests.{none_passes, one_lane}
+use Rattle.watch_laws.proofs.Requests.{none_passes}
 use Rattle.watch_laws.proofs.Spacing.{after_flag, looked_other, looked_out, same_index}
 use Rattle.watch_laws.proofs.Tracking.{back_kept, known_out, set_holds, set_kept}
 
@@ -168,8 +168,8 @@ none_of i out h =
     (λ q other is. not_both (and_from (q.entry == i) true (ap (λ k. k == i) is ∙ same_index i) refl) other) out
     (none_passes (λ (q : Out). q.entry == i && true) out (no_lane i (λ q. true) out h))
 
-pub free_lanes : (i : ℕ) (s : WatchState) → IsAlone s → (track_at s i).out ≡ false → lanes_of i s.out ≡ 0
-free_lanes i s alone free = let once = alone.once i in let e = ap flag free in omega (arith, once, e)
+pub free_lanes : (i : ℕ) (s : WatchState) → i < length s.tracks → IsAlone s → (track_at s i).out ≡ false → lanes_of i s.out ≡ 0
+free_lanes i s low alone free = let once = alone.once i low in let e = ap flag free in omega (arith, once, e)
 
 -- where an entry is served each request of it that is out is whole, since it has one at most
 served_whole : (o : Outage) (i : ℕ) (out : List Out) → lanes_of i out ≤ 1 → list_any (λ (q : Out). q.entry == i && is_request_whole o q.since) out ≡ true → All (λ (q : Out). q.entry ≡ i → is_request_whole o q.since ≡ true) out
@@ -195,7 +195,7 @@ served_whole o i (q ∷ out) once any =
       by false rest' none any' = absurd (not_both any' none)
 
 pub only_whole : (o : Outage) (i : ℕ) (s : WatchState) → IsAlone s → is_request_served o s i ≡ true → All (λ (q : Out). q.entry ≡ i → is_request_whole o q.since ≡ true) s.out
-only_whole o i s alone served = served_whole o i s.out (one_lane s i alone) served
+only_whole o i s alone served = served_whole o i s.out (alone.single i) served
 
 -- where it is not, each is cut
 pub only_cut : (o : Outage) (i : ℕ) (s : WatchState) → is_request_served o s i ≡ false → All (λ (q : Out). q.entry ≡ i → is_request_whole o q.since ≡ false) s.out

@@ -24,14 +24,14 @@ use Rattle.watch_machine.specs.declared.track.Track.{Track}
 use Rattle.watch_machine.specs.declared.track.Try.{Try}
 use Rattle.watch_machine.specs.Beginning.{is_pressed, is_pressed_try}
 use Rattle.watch_machine.specs.Clocks.{ms, sec}
-use Rattle.watch_machine.specs.History.{History, Turn, Turned}
+use Rattle.watch_machine.specs.History.{Turn}
 use Rattle.watch_machine.specs.Lines.{is_due, is_due_try, ready}
 use Rattle.watch_machine.specs.Margins.{has_come, time}
 use Rattle.watch_machine.specs.Press.{asked_track, dropped, is_fresh, press, pressed, pressed_alone, pressed_track, track_asked_in}
 use Rattle.watch_machine.specs.Refusal.{request_out}
 use Rattle.watch_machine.specs.Round.{asked_by_round as round_of}
 use Rattle.watch_machine.specs.Sending.{out_at, sent, sent_in, sent_track}
-use Rattle.watch_machine.specs.State.{WatchState, attempt_at, each, entry_of, no_track, opened, second, track_at, track_in}
+use Rattle.watch_machine.specs.State.{WatchState, attempt_at, each, entry_of, no_track, second, track_at, track_in}
 use Rattle.watch_machine.specs.Step.{Step, StepCommand, StepLooked, StepRenewed, readied}
 use Rattle.watch_machine.specs.Wait.{latest, next_of, time_at, try_at, wait}
 use Rattle.watch_machine.specs.Wanted.{is_wanted, least, need_of, wanted_need, wants}
@@ -40,7 +40,7 @@ use Rattle.watch_machine.proofs.Leasts.{least_each}
 use Rattle.watch_machine.proofs.Seeing.{SameSeen, both_seen, need_same}
 use Rattle.watch_machine.proofs.Unseen.{pressed_seen, sent_seen}
 use Rattle.watch_machine.proofs.Written.{each_length}
-use Rattle.watch_laws.specs.Waiting.{AllMinded, EndsRight, HasTry, IsHeeded, IsMinded, IsPressed, MindedLaw, WaitsRight}
+use Rattle.watch_laws.specs.Waiting.{EndsRight, HasTry, IsHeeded, IsMinded, IsPressed, MindedLaw, WaitsRight}
 use Rattle.watch_laws.proofs.Going.{Goes, goes, some_named}
 use Rattle.watch_laws.proofs.Spacing.{passed_over, went}
 use Rattle.watch_laws.proofs.Tracking.{each_holds}
@@ -322,9 +322,6 @@ turn_right : (old new : WatchState) (event : Event) (result : Result Output Watc
 turn_right old new event (Ok output) turn = step_right old new event output turn.1
 turn_right old new event (Err fault) turn = tt
 
-ran : (turns : List Turned) (old : WatchState) → History old turns → AllMinded turns
-ran [] old h = tt
-ran (turn ∷ turns) old h = (turn_right old turn.state turn.event turn.result h.0, ran turns turn.state h.1)
-
 pub all_minded : MindedLaw
-all_minded g width turns run = ran turns (opened g width) run
+all_minded old [] h = tt
+all_minded old (turn ∷ turns) h = (turn_right old turn.state turn.event turn.result h.0, all_minded turn.state turns h.1)

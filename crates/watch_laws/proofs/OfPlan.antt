@@ -31,14 +31,14 @@ use Rattle.watch_machine.specs.Margins.{has_come}
 use Rattle.watch_machine.specs.Press.{is_fresh}
 use Rattle.watch_machine.specs.Outlook.{time_of}
 use Rattle.watch_machine.specs.Round.{IsRound, IsSecond, entry_planned, is_hoped, opens, opens_some, plan_view, planned_by, step_in_plan}
-use Rattle.watch_machine.specs.State.{WatchState, entry_of, opened, second, track_at}
+use Rattle.watch_machine.specs.State.{WatchState, entry_of, second, track_at}
 use Rattle.watch_machine.specs.Step.{StepClock, readied}
 use Rattle.watch_machine.specs.Wanted.{believed, is_alive, is_unknown, is_wanted, seen_entry, wanted_need}
 use Rattle.watch_machine.proofs.Cases.{if_cases}
 use Rattle.watch_laws.specs.Calm.{AllRight, IsCalm, IsOfPlan, IsPlanNow, RoundOfPlanLaw, RoundsRight, asks_now, believed_forest, ends, in_plan_at, lead_at, planned_need, terms}
 use Rattle.watch_laws.proofs.Believed.{AreSameNeeds, believed_at, believed_count, believed_is_forest, believed_margin, carried_believed, carried_within, same_carried, same_chain, written_at, written_count, written_same}
 use Rattle.watch_laws.proofs.Foreseen.{IsScheduled, short_led, there_is_plan, time_is, wanted_short}
-use Rattle.watch_laws.proofs.Forested.{readied_forest, turned_forest}
+use Rattle.watch_laws.proofs.Forested.{reached_forest, readied_forest, turned_forest}
 
 -- the words of a state of which the machine's parts speak by their values
 abbrev pub planned_at : WatchState → ℕ → Entry
@@ -493,4 +493,4 @@ ran [] old h forest = tt
 ran (turn ∷ turns) old h forest = (turn_of_plan old turn forest h.0, ran turns turn.state h.1 (turned_forest old turn.state turn.event turn.result h.0 forest))
 
 pub rounds_of_plan : RoundOfPlanLaw
-rounds_of_plan g width turns forest run = ran turns (opened g width) run forest
+rounds_of_plan old turns reached forest h = ran turns old h (reached_forest old reached forest)

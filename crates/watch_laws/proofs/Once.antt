@@ -32,7 +32,7 @@ use Rattle.watch_machine.specs.declared.track.Try.{Try}
 use Rattle.watch_machine.specs.Answers.{answers_all, failing, lane_freed, noted, replied, silent, with_track}
 use Rattle.watch_machine.specs.Beginning.{begun, is_called, is_pressed, is_pressed_try, is_start, owing, owing_lookup, soon, sooner_try, untopped, untopped_track}
 use Rattle.watch_machine.specs.Clocks.{sec}
-use Rattle.watch_machine.specs.History.{History, Turn, Turned, after_all}
+use Rattle.watch_machine.specs.History.{History, Turn, Turned}
 use Rattle.watch_machine.specs.Lines.{is_first}
 use Rattle.watch_machine.specs.Looked.{after_look, by_terms, looked, refused_try, untold, untold_track}
 use Rattle.watch_machine.specs.Margins.{has_come, is_in_plan, lead}
@@ -42,7 +42,7 @@ use Rattle.watch_machine.specs.Renewed.{after_renewal, renewed_track, state_rene
 use Rattle.watch_machine.specs.Round.{IsRound, asked_by_round as round_of, entry_planned, is_hoped, plan_view, planned_by, step_in_plan}
 use Rattle.watch_machine.specs.Sending.{sent, sent_in, sent_track}
 use Rattle.watch_machine.specs.Settling.{is_real, settled, settled_track, settled_try, timed}
-use Rattle.watch_machine.specs.State.{WatchState, attempt_at, each, entry_of, has_last_try, no_track, opened, second, track_at, track_in}
+use Rattle.watch_machine.specs.State.{WatchState, attempt_at, each, entry_of, has_last_try, no_track, second, track_at, track_in}
 use Rattle.watch_machine.specs.Step.{Step, StepClock, StepCommand, StepLooked, StepRenewed, known, readied, why, with_need_until}
 use Rattle.watch_machine.specs.Wanted.{believed, is_alive, is_open, is_unknown, is_wanted, need_of, seen_entry, wants}
 use Rattle.watch_machine.proofs.Cases.{if_both, if_cases, not_both}
@@ -55,10 +55,11 @@ use Rattle.watch_laws.specs.Partial.{AreHung, IsUntoldOf, OnceInFrontLaw, comes_
 use Rattle.watch_laws.specs.Presence.{is_told}
 use Rattle.watch_laws.specs.Time.{is_come}
 use Rattle.watch_laws.proofs.Answering.{looked_leaves, renewed_leaves, rest_of}
+use Rattle.watch_laws.proofs.Bases.{reached_base}
 use Rattle.watch_laws.proofs.Believed.{written_at, written_count}
 use Rattle.watch_laws.proofs.Clocking.{readied_clocks, refused_stays}
 use Rattle.watch_laws.proofs.Forested.{readied_forest}
-use Rattle.watch_laws.proofs.Grounds.{IsBase, first_turns, last_turns, opened_base, ran_base, turn_base}
+use Rattle.watch_laws.proofs.Grounds.{IsBase, turn_base}
 use Rattle.watch_laws.proofs.Holding.{looked_presence}
 use Rattle.watch_laws.proofs.OnPlan.{sec_rises}
 use Rattle.watch_laws.proofs.Opener.{mid_bears}
@@ -600,7 +601,4 @@ waits_once width n i j turns s history hung base there =
     ]
 
 pub stands_once : OnceInFrontLaw
-stands_once g width before turns i j run there hung =
-    let n = length g.entries in
-    let s = after_all (opened g width) before in
-    waits_once width n i j turns s (last_turns before turns (opened g width) run) hung (ran_base width n before (opened g width) (first_turns before turns (opened g width) run) (opened_base g width)) there
+stands_once old turns i j reached history there hung = waits_once old.width (length old.forest.entries) i j turns old history hung (reached_base old reached) there

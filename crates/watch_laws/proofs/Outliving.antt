@@ -1,7 +1,6 @@
 -- Outliving: an entry outlives every outage that its margin does. For the laws of outages.
-use Rattle.std.proofs.Common.{◌≡◌, ◌⊎◌, ◌∙◌, ℕ, suc, ◌+◌, ◌-◌, ◌*◌, ◌<◌, ◌≤◌, Bool, true, false, not, ◌&&◌, ◌||◌, ◌==◌, List, [], ◌∷◌, ◌++◌, Option, Some, None, All, IfSome, Result, Ok, Err, get_or, length, map, nat_lt, refl, sym, ap, subst, arith, inl, inr, true≢false}
+use Rattle.std.proofs.Common.{◌≡◌, ◌⊎◌, ◌∙◌, ℕ, suc, ◌+◌, ◌-◌, ◌*◌, ◌<◌, ◌≤◌, Bool, true, false, not, ◌&&◌, ◌||◌, ◌==◌, List, [], ◌∷◌, Option, Some, None, All, IfSome, Result, Ok, Err, get_or, length, map, nat_lt, refl, sym, ap, subst, arith, inl, inr, true≢false}
 use Rattle.std.proofs.lemmas.Bool.{and_parts, cases_Bool, cases_lt, eqb-true}
-use Rattle.std.proofs.lemmas.List.{length-set}
 use Rattle.std.proofs.lemmas.List.Elements.{All-weaker}
 use Rattle.std.specs.List.{list_any}
 use Rattle.keep_tree.specs.Forest.{Forest}
@@ -18,10 +17,10 @@ use Rattle.watch_machine.specs.declared.lanes.Out.{Out}
 use Rattle.watch_machine.specs.declared.track.End.{End}
 use Rattle.watch_machine.specs.declared.track.End.TheVariants.{Unknown, At, Never}
 use Rattle.watch_machine.specs.declared.track.Track.{Track}
-use Rattle.watch_machine.specs.Answers.{noted, replied}
+use Rattle.watch_machine.specs.Answers.{noted}
 use Rattle.watch_machine.specs.Beginning.{is_pressed, is_pressed_try}
 use Rattle.watch_machine.specs.Clocks.{ms}
-use Rattle.watch_machine.specs.History.{History, IsWatchRun, Turn, Turned, after_all}
+use Rattle.watch_machine.specs.History.{AllHappen, Changed, Changes, Hands, Happening, IsChanged, IsReached, Turn, Turned}
 use Rattle.watch_machine.specs.Lines.{rested}
 use Rattle.watch_machine.specs.Looked.{looked}
 use Rattle.watch_machine.specs.Margins.{is_in_plan, own_margin, time, time_before}
@@ -31,30 +30,32 @@ use Rattle.watch_machine.specs.Refusal.{request_out}
 use Rattle.watch_machine.specs.Renewed.{state_renewed}
 use Rattle.watch_machine.specs.Sending.{sent}
 use Rattle.watch_machine.specs.Settling.{is_real, is_silent}
-use Rattle.watch_machine.specs.State.{WatchState, attempt_at, entry_of, opened, second, track_at, track_in}
+use Rattle.watch_machine.specs.State.{WatchState, attempt_at, entry_of, second, track_at, track_in}
 use Rattle.watch_machine.specs.Step.{Step, StepLooked, StepRenewed, known, readied, with_need_until}
 use Rattle.watch_machine.specs.Wait.{wait}
 use Rattle.watch_machine.specs.Wanted.{believed, is_known, is_never, is_unknown, is_wanted, wanted_need, wants}
 use Rattle.watch_machine.proofs.Cases.{not_both}
 use Rattle.watch_machine.proofs.Leasts.{least_start}
 use Rattle.watch_laws.specs.Absence.{is_clock, is_event_taken}
-use Rattle.watch_laws.specs.Outage.{AllInTime, AreLived, GrantLaw, IsBefore, IsIncident, EndIsInTime, IsLived, IsReplyInOutage, IsShortFor, LeftLaw, MayBeAsked, Outage, TellsNothing, OutageLaw, again, clock_asked_at, coming, comes, granted_at, granted_by, granted_next, how_many, is_request_served, is_request_whole, outage_next_after, outage_next_after_command, outage_next_by, outage_settled_by, tells, waiting}
+use Rattle.watch_laws.specs.Outage.{AllInTime, AreLived, EndIsInTime, GrantLaw, IsBefore, IsIncident, IsLived, IsLivedChange, IsReplyInOutage, IsShortFor, LeftLaw, MayBeAsked, Outage, OutageLaw, TellsNothing, again, clock_asked_at, comes, comes_over, coming_through, granted_at, granted_by, granted_next, how_many, in_line, is_request_served, is_request_whole, outage_next_after, outage_next_after_command, outage_next_by, outage_settled_by, tells, waiting}
 use Rattle.watch_laws.specs.Presence.{is_told}
 use Rattle.watch_laws.proofs.Answered.{IsReplied, goes_on_after, looked_replied, renewed_replied, replied_through}
+use Rattle.watch_laws.proofs.Bases.{last_base}
+use Rattle.watch_laws.proofs.Changing.{low}
 use Rattle.watch_laws.proofs.Clocking.{refused_stays}
 use Rattle.watch_laws.proofs.Counting.{least_all}
 use Rattle.watch_laws.proofs.Enduring.{Cutting, Endures, Kept, Missed, cut, cut_off, real_away}
-use Rattle.watch_laws.proofs.Grounds.{IsBase, first_turns, last_turns, opened_base, ran_base, starts, turn_base}
-use Rattle.watch_laws.proofs.Lanes.{Sends, Ticks, fewer_wait, is_anew, ticks, turn_sends}
-use Rattle.watch_laws.proofs.Lasting.{Same, clock_forest, known_other, same_time, turn_same}
+use Rattle.watch_laws.proofs.Grounds.{IsBase, fewer_wait, starts, turn_base}
+use Rattle.watch_laws.proofs.Lanes.{Sends, Ticks, is_anew, ticks, turn_sends}
+use Rattle.watch_laws.proofs.Lasting.{Same, known_other, same_time, turn_same}
 use Rattle.watch_laws.proofs.Marked.{none_out, not_out, only_cut, only_whole}
+use Rattle.watch_laws.proofs.Moving.{facts_over, fewer_over, going_over, through_over}
 use Rattle.watch_laws.proofs.Requests.{any_gives, anew_none, none_passes, quick_if, some_lane}
 use Rattle.watch_laws.proofs.Retrying.{ready_first, rises}
 use Rattle.watch_laws.proofs.Minding.{end_minded, tended}
 use Rattle.watch_laws.proofs.Sparing.{readied_answers}
 use Rattle.watch_laws.proofs.Stages.{Facts, IsGoing, IsPlanned, IsServed, IsThrough, due_ahead, free_from, margin_holds, turn_of}
 use Rattle.watch_laws.proofs.Ticking.{IsTick, before_second, goes_on, not_so, not_whole, so_whole, ticks_through}
-use Rattle.watch_laws.proofs.Tracking.{replied_forest}
 use Rattle.watch_laws.proofs.Trying.{asking_own}
 
 -- what holds after a turn
@@ -204,8 +205,8 @@ left_stays f due rest old new g ts b is e base sends same h =
     let clock = ap (λ (x : WatchState). x.clocks.at) is in
     let ahead = go.ahead in
     let by = go.by in
-    let all = fewer_wait f.o 0 f.n old new go.base.alone base.alone base.tries sends in
-    let outs = ap (λ (x : WatchState). how_many f.n (is_anew f.o 0 x)) is in
+    let all = fewer_wait f.o 0 f.width f.n old new go.base base sends in
+    let outs = ap (λ (x : WatchState). how_many (f.n + f.width) (is_anew f.o 0 x)) is in
     let less : After f new rest ≤ Until f old new rest = omega (arith, all, outs) in
     record {
       going = record {
@@ -253,62 +254,44 @@ in_time f due k s h =
     let by = h.going.by in
     (subst (λ n. s.clocks.at < ms n) (sym end) ahead, subst (λ n. s.clocks.at ≤ granted_by f.o f.time n) (sym end) by)
 
+-- a change
+changed_stays :
+    (f : Facts) (due rest : ℕ) (old : WatchState) (c : Changed) (h : IsChanged old c) (k : ℕ) → IsLivedChange old c f.i k → Stays f due (waiting f.o f.n old + (how_many (length c.forest.entries) (comes_over old c) + rest)) old →
+    Stays (facts_over f c k) due (waiting f.o (length c.forest.entries) c.state + rest) c.state
+changed_stays f due rest old c h k lived stays = record {
+  going = going_over f due old c h k lived.kept lived stays.going;
+  through =
+      through_over f due old c h k lived.kept (waiting f.o f.n old + (how_many (length c.forest.entries) (comes_over old c) + rest)) (waiting f.o (length c.forest.entries) c.state + rest)
+      (fewer_over f due old c h rest stays.going) stays.through;
+}
+
+planned_over : (f : Facts) (old : WatchState) (c : Changed) (k : ℕ) → k < length c.forest.entries → IsPlanned f → IsPlanned (facts_over f c k)
+planned_over f old c k within planned = record { wide = planned.wide; within = within; order = planned.order; short = planned.short; end_is = planned.end_is }
+
 along :
-    (f : Facts) → IsPlanned f → (turns : List Turned) (due : ℕ) (old : WatchState) → History old turns → AreLived f.o f.i due old turns → Stays f due (waiting f.o f.n old + coming f.o f.n old turns) old →
-    AllInTime f.o f.i f.time turns
+    (f : Facts) → IsPlanned f → (hs : List Happening) (due : ℕ) (old : WatchState) → AllHappen old hs → AreLived f.o f.i due old hs → Stays f due (waiting f.o f.n old + coming_through f.o old hs) old →
+    AllInTime f.o f.i f.time hs
 along f planned [] due old history lived h = tt
-along f planned (turn ∷ turns) due old history lived h =
+along f planned (Hands turn ∷ hs) due old history lived h =
+    let rest = coming_through f.o turn.state hs in
     let base = turn_base f.width f.n old turn.state turn.event turn.result history.0 h.going.base in
     let count = base.count in
     let sends = turn_sends old turn.state turn.event turn.result f.n (omega (arith, count)) history.0 in
     let same = turn_same f.o f.i due old turn.state turn.event turn.result history.0 lived.0 in
-    let here = turn_stays f due (coming f.o f.n turn.state turns) old turn.state turn.event turn.result planned history.0 lived.0 lived.1.0 base sends same h in (
-      in_time f (outage_next_after f.o turn.result turn.state due) (After f turn.state (coming f.o f.n turn.state turns)) turn.state here,
-      along f planned turns (outage_next_after f.o turn.result turn.state due) turn.state history.1 lived.1.1 here,
+    let stays = subst (λ n. Stays f due (waiting f.o f.n old + (how_many n (comes f.o old turn.state) + rest)) old) h.going.entries h in
+    let here = turn_stays f due rest old turn.state turn.event turn.result planned history.0 lived.0 lived.1.0 base sends same stays in (
+      in_time f (outage_next_after f.o turn.result turn.state due) (After f turn.state rest) turn.state here,
+      along f planned hs (outage_next_after f.o turn.result turn.state due) turn.state history.1 lived.1.1 here,
     )
-
--- no turn changes how many entries there are, nor the margin
-abbrev Shape : WatchState → WatchState → Type 0
-Shape new old = (length new.forest.entries ≡ length old.forest.entries) × (new.forest.margin ≡ old.forest.margin)
-
-looked_shape : (s : WatchState) (q : Out) (reply : Reply) (terms : Terms) → Shape (looked s q reply terms) s
-looked_shape s q (Told seconds renewable date) terms = (length-set s.forest.entries q.entry _, refl)
-looked_shape s q (Refused status date) terms = (refl, refl)
-looked_shape s q Busy terms = (refl, refl)
-looked_shape s q Lost terms = (refl, refl)
-
-forest_shape : (new mid old : WatchState) → new.forest ≡ mid.forest → Shape mid old → Shape new old
-forest_shape new mid old is h = (ap (λ (g : Forest). length g.entries) is ∙ h.0, ap (λ (g : Forest). g.margin) is ∙ h.1)
-
-answer_shape : (old mid new : WatchState) (q : Out) (reply : Reply) → new ≡ replied mid q reply → Shape mid old → Shape new old
-answer_shape old mid new q reply is h = forest_shape new mid old (ap (λ (x : WatchState). x.forest) is ∙ replied_forest mid q reply) h
-
-looked_shapes : (old new : WatchState) (found : Option Out) (reply : Reply) (terms : Terms) (output : Output) → StepLooked old found reply terms output new → Shape new old
-looked_shapes old new None reply terms output step = absurd step
-looked_shapes old new (Some q) reply terms output step = answer_shape old (looked (noted old q reply) q reply terms) new q reply step.1 (looked_shape (noted old q reply) q reply terms)
-
-renewed_shapes : (old new : WatchState) (found : Option Out) (reply : Reply) (output : Output) → StepRenewed old found reply output new → Shape new old
-renewed_shapes old new None reply output step = absurd step
-renewed_shapes old new (Some q) reply output step = answer_shape old (state_renewed (noted old q reply) q reply) new q reply step.1 (refl, refl)
-
-step_shape : (old new : WatchState) (event : Event) (output : Output) → Step old event output new → Shape new old
-step_shape old new (Clock wall elapsed) output step = forest_shape new old old (clock_forest old new wall elapsed output (ticks old new wall elapsed output step)) (refl, refl)
-step_shape old new (Looked j reply terms) output step = looked_shapes old new (request_out old.out j Look) reply terms output step
-step_shape old new (Renewed j reply) output step = renewed_shapes old new (request_out old.out j Renew) reply output step
-step_shape old new (Need j until) output step = forest_shape new (with_need_until old j until) old (ap (λ (x : WatchState). x.forest) step.1) (length-set old.forest.entries j _, refl)
-step_shape old new Begin output step = forest_shape new old old (ap (λ (x : WatchState). x.forest) step.1) (refl, refl)
-step_shape old new (Known j end renewable) output step = forest_shape new old old (ap (λ (x : WatchState). x.forest) step.1) (refl, refl)
-
-pub turn_shape : (old new : WatchState) (event : Event) (result : Result Output WatchFault) → Turn old event result new → Shape new old
-turn_shape old new event (Ok output) turn = step_shape old new event output turn.1
-turn_shape old new event (Err fault) turn = forest_shape new old old (ap (λ (x : WatchState). x.forest) (refused_stays old new event fault turn)) (refl, refl)
-
-pub ran_shape : (turns : List Turned) (old : WatchState) → History old turns → Shape (after_all old turns) old
-ran_shape [] old h = (refl, refl)
-ran_shape (turn ∷ turns) old h =
-    let here = turn_shape old turn.state turn.event turn.result h.0 in
-    let rest = ran_shape turns turn.state h.1 in
-    (rest.0 ∙ here.0, rest.1 ∙ here.1)
+along f planned (Changes c ∷ hs) due old history lived h = λ k said.
+    let j = lived.0 in
+    let change = lived.1.0 in
+    let same : j ≡ k = history.0.may.once f.i j k change.kept said in
+    let rest = coming_through f.o c.state hs in
+    let here = changed_stays f due rest old c history.0 j change h in
+    let planned' = planned_over f old c j (low old c history.0 f.i j change.kept) planned in
+    subst (λ m. EndIsInTime f.o m f.time c.state × AllInTime f.o m f.time hs) same
+    (in_time (facts_over f c j) due (waiting f.o (length c.forest.entries) c.state + rest) c.state here, along (facts_over f c j) planned' hs due c.state history.1 lived.1.1.1 here)
 
 -- the end that is a margin after the time
 end_known : (e : End) (margin n : ℕ) (x : Track) (need : ℕ) → x.end ≡ e → wants x need ≡ true → n < time_before e margin → (k : ℕ) × ((e ≡ At k) × (k ≡ time_before e margin + margin))
@@ -421,7 +404,7 @@ first_stays o width n s i from due k end planned base entries b end_is quiet tim
             let only = only_cut o i s unserved in
             elim (begins unserved) as (λ _. IsThrough f due k s) [
               | inl there ↦
-                  let zero' = anew_none o (suc at) n s now (omega arith) in
+                  let zero' = anew_none o (suc at) (n + width) s now (omega arith) in
                   let soon = there.1 in
                   let idle' = not_out o i s base.marked unserved there.0 in
                   inl (inl (record {
@@ -443,7 +426,7 @@ first_stays o width n s i from due k end planned base entries b end_is quiet tim
               | inr begun' ↦
                   elim begun' as (λ _. IsThrough f due k s) [
                     | inr late ↦
-                        let zero' = anew_none o (suc at) n s now (omega arith) in
+                        let zero' = anew_none o (suc at) (n + width) s now (omega arith) in
                         let over = late.0 in
                         let never : is_pressed (track_at s i) ≡ true → All (λ (q : Out). q.entry ≡ i → ⊥) s.out =
                         λ pressed' k d below is.
@@ -465,7 +448,7 @@ first_stays o width n s i from due k end planned base entries b end_is quiet tim
                         let early = broke.0 in
                         let late = broke.1.0 in
                         let last = base.past.last i in
-                        let zero' = anew_none o o.until n s now early in
+                        let zero' = anew_none o o.until (n + width) s now early in
                         inl (inr (record {
                           endures =
                               first_endures o i from end (free_from f) due Unit s b end_is reach (omega (arith, last, early))
@@ -554,43 +537,36 @@ known_end Never x need is wanted known' = absurd cc
 
 -- what follows whatever the turn is from which on it is lived
 from_there :
-    (o : Outage) (g : Forest) (width : ℕ) (before : List Turned) (last : Turned) (turns : List Turned) (i from due : ℕ) → 0 < width → IsWatchRun g width (before ++ last ∷ turns) → MayBeAsked last.state i from →
-    AreLived o i due last.state turns → waiting o (length g.entries) last.state + coming o (length g.entries) last.state turns ≤ width * o.rounds → o.from ≤ o.until → IsShortFor o (ms (believed (track_at last.state i).end) - from) →
+    (o : Outage) (old : WatchState) (last : Turned) (hs : List Happening) (i from due : ℕ) → IsReached old → 0 < old.width → AllHappen old (Hands last ∷ hs) → MayBeAsked last.state i from →
+    AreLived o i due last.state hs → in_line o last.state hs ≤ old.width * o.rounds → o.from ≤ o.until → IsShortFor o (ms (believed (track_at last.state i).end) - from) →
     (list_any is_silent last.state.answers ≡ true → last.state.presence.away ≡ true → ⊥) →
     All (λ (q : Out). due ≤ outage_settled_by o q.since + o.late) last.state.out →
-    ((f : Facts) → f.o ≡ o → f.time ≡ from → IsBase width (length g.entries) last.state → is_request_served o last.state i ≡ false → Begins f due last.state) → AllInTime o i from turns
-from_there o g width before last turns i from due wide run b lived few order short quiet timely begins =
-    let n = length g.entries in
-    let old = after_all (opened g width) before in
-    let history = last_turns before (last ∷ turns) (opened g width) run in
-    let first = first_turns before (last ∷ turns) (opened g width) run in
+    ((f : Facts) → f.o ≡ o → f.time ≡ from → IsBase old.width (length last.state.forest.entries) last.state → is_request_served o last.state i ≡ false → Begins f due last.state) → AllInTime o i from hs
+from_there o old last hs i from due reached wide history b lived few order short quiet timely begins =
+    let width = old.width in
     let s = last.state in
-    let base = turn_base width n old s last.event last.result history.0 (ran_base width n before (opened g width) first (opened_base g width)) in
-    let shape = turn_shape old s last.event last.result history.0 in
-    let shapes = ran_shape before (opened g width) first in
-    let entries : length s.forest.entries ≡ n = shape.0 ∙ shapes.0 in
+    let n = length s.forest.entries in
+    let base = last_base old last [] reached (history.0, tt) in
     let e = known_end (track_at s i).end (track_at s i) (wanted_need s i) refl b.wanted b.known in
     let f : Facts = facts_of o i n width from e.0 in
     let low = b.within in
     let is : believed (track_at s i).end ≡ e.0 = ap believed e.1 in
     let short' : IsShortFor o (ms e.0 - from) = subst (λ k. IsShortFor o (ms k - from)) is short in
-    let planned : IsPlanned f = record { wide = wide; within = omega (arith, low, entries); order = order; short = short'; end_is = left_over o e.0 from short' } in
-    let stays = first_stays o width n s i from due (waiting o n s + coming o n s turns) e.0 planned base entries b e.1 quiet timely few (begins f refl refl base) in
-    along f planned turns due s history.1 lived stays
+    let planned : IsPlanned f = record { wide = wide; within = low; order = order; short = short'; end_is = left_over o e.0 from short' } in
+    let stays = first_stays o width n s i from due (waiting o n s + coming_through o s hs) e.0 planned base refl b e.1 quiet timely few (begins f refl refl base) in
+    along f planned hs due s history.1 lived stays
 
 pub left_from_clock :
-    (o : Outage) (g : Forest) (width : ℕ) (before : List Turned) (last : Turned) (turns : List Turned) (i from : ℕ) → 0 < width → IsWatchRun g width (before ++ last ∷ turns) → is_clock last.event ≡ true →
-    is_event_taken last.result ≡ true → MayBeAsked last.state i from → AreLived o i (outage_next_after o last.result last.state 0) last.state turns →
-    waiting o (length g.entries) last.state + coming o (length g.entries) last.state turns ≤ width * o.rounds → o.from ≤ o.until → IsShortFor o (ms (believed (track_at last.state i).end) - from) → AllInTime o i from turns
-left_from_clock o g width before last turns i from wide run clock taken' b lived few order short =
-    let old = after_all (opened g width) before in
-    let history = last_turns before (last ∷ turns) (opened g width) run in
+    (o : Outage) (old : WatchState) (last : Turned) (hs : List Happening) (i from : ℕ) → IsReached old → 0 < old.width → AllHappen old (Hands last ∷ hs) → is_clock last.event ≡ true →
+    is_event_taken last.result ≡ true → MayBeAsked last.state i from → AreLived o i (outage_next_after o last.result last.state 0) last.state hs →
+    in_line o last.state hs ≤ old.width * o.rounds → o.from ≤ o.until → IsShortFor o (ms (believed (track_at last.state i).end) - from) → AllInTime o i from hs
+left_from_clock o old last hs i from reached wide history clock taken' b lived few order short =
     let s = last.state in
     let start = starts o old last last.event last.result refl history.0 clock taken' in
     let answers : s.answers ≡ [] = ap (λ (x : WatchState). x.answers) start.ticks'.new_is ∙ readied_answers old start.wall start.elapsed in
     let due = outage_next_by o (wait s) s.out in
     let timely = least_all (λ (q : Out). outage_settled_by o q.since + o.late) (wait s + o.late) s.out in
-    from_there o g width before last turns i from due wide run b (subst (λ d. AreLived o i d s turns) start.due lived) few order short
+    from_there o old last hs i from due reached wide history b (subst (λ d. AreLived o i d s hs) start.due lived) few order short
     (λ any away. absurd (not_both any (ap (list_any is_silent) answers))) timely
     (λ f same time base unserved.
     let late = ap (λ (x : Outage). x.late) same in
@@ -606,7 +582,7 @@ left_from_clock o g width before last turns i from wide run clock taken' b lived
           let ahead = b.ahead in
           let now = base.since in
           let soon : due ≤ from + turn_of o =
-          elim (waits_for old s start.wall start.elapsed start.output i from width (length g.entries) start.ticks' wide base b free) as (λ _. due ≤ from + turn_of o) [
+          elim (waits_for old s start.wall start.elapsed start.output i from old.width (length s.forest.entries) start.ticks' wide base b free) as (λ _. due ≤ from + turn_of o) [
             | inl until ↦ omega (arith, until, least')
             | inr some' ↦
                 any_gives (due ≤ from + turn_of o) (λ q. true) s.out (some_lane s.out some')
@@ -662,19 +638,17 @@ asked_before None at h = omega arith
 asked_before (Some n) at h = omega (arith, h)
 
 left_from_told :
-    (o : Outage) (g : Forest) (width : ℕ) (before : List Turned) (grant : Turned) (turns : List Turned) (i from : ℕ) → 0 < width → IsWatchRun g width (before ++ grant ∷ turns) → tells i grant.event ≡ true →
-    is_event_taken grant.result ≡ true → MayBeAsked grant.state i from → AreLived o i (granted_next o grant.state i) grant.state turns →
-    waiting o (length g.entries) grant.state + coming o (length g.entries) grant.state turns ≤ width * o.rounds → o.from ≤ o.until → IsShortFor o (ms (believed (track_at grant.state i).end) - from) → AllInTime o i from turns
-left_from_told o g width before grant turns i from wide run told taken' b lived few order short =
-    let old = after_all (opened g width) before in
-    let history = last_turns before (grant ∷ turns) (opened g width) run in
+    (o : Outage) (old : WatchState) (grant : Turned) (hs : List Happening) (i from : ℕ) → IsReached old → 0 < old.width → AllHappen old (Hands grant ∷ hs) → tells i grant.event ≡ true →
+    is_event_taken grant.result ≡ true → MayBeAsked grant.state i from → AreLived o i (granted_next o grant.state i) grant.state hs →
+    in_line o grant.state hs ≤ old.width * o.rounds → o.from ≤ o.until → IsShortFor o (ms (believed (track_at grant.state i).end) - from) → AllInTime o i from hs
+left_from_told o old grant hs i from reached wide history told taken' b lived few order short =
     let s = grant.state in
     let at = s.clocks.at in
     let there = told_there old s grant.event grant.result i history.0 taken' told in
     let asked = granted_at s i in
     let due = granted_next o s i in
     let timely = least_all (λ (q : Out). outage_settled_by o q.since + o.late) (outage_settled_by o asked + o.late) s.out in
-    from_there o g width before grant turns i from due wide run b lived few order short (λ any away. absurd (not_both away there)) timely
+    from_there o old grant hs i from due reached wide history b lived few order short (λ any away. absurd (not_both away there)) timely
     (λ f same time base unserved.
     let least' = least_start (outage_settled_by o asked + o.late) (map (λ (q : Out). outage_settled_by o q.since + o.late) s.out) in
     let early = asked_before (track_at s i).last at (base.past.last i) in
@@ -715,10 +689,10 @@ left_from_told o g width before grant turns i from wide run told taken' b lived 
     ])
 
 pub left : LeftLaw
-left o g width before last turns i from due wide run (inl clock) b lived few order short =
-    left_from_clock o g width before last turns i from wide run clock.0 clock.1.0 b (subst (λ d. AreLived o i d last.state turns) clock.1.1 lived) few order short
-left o g width before last turns i from due wide run (inr told) b lived few order short =
-    left_from_told o g width before last turns i from wide run told.0 told.1.0 b (subst (λ d. AreLived o i d last.state turns) told.1.1 lived) few order short
+left o old last hs i from due reached wide history (inl clock) b lived few order short =
+    left_from_clock o old last hs i from reached wide history clock.0 clock.1.0 b (subst (λ d. AreLived o i d last.state hs) clock.1.1 lived) few order short
+left o old last hs i from due reached wide history (inr told) b lived few order short =
+    left_from_told o old last hs i from reached wide history told.0 told.1.0 b (subst (λ d. AreLived o i d last.state hs) told.1.1 lived) few order short
 
 -- in the plan, where the time is ahead: what is left from there on is the margin
 may_at_time : (s : WatchState) (i : ℕ) → IsBefore s i → MayBeAsked s i (ms (time_of s i)) × (ms (believed (track_at s i).end) - ms (time_of s i) ≡ ms s.forest.margin)
@@ -739,21 +713,12 @@ may_at_time s i b =
       omega (arith, is, sum),
     )
 
--- the margin stays
-margin_stays : (g : Forest) (width : ℕ) (before : List Turned) (last : Turned) (turns : List Turned) → IsWatchRun g width (before ++ last ∷ turns) → last.state.forest.margin ≡ g.margin
-margin_stays g width before last turns run =
-    let history = last_turns before (last ∷ turns) (opened g width) run in
-    let first = first_turns before (last ∷ turns) (opened g width) run in
-    (turn_shape (after_all (opened g width) before) last.state last.event last.result history.0).1 ∙ (ran_shape before (opened g width) first).1
-
 pub outlives : OutageLaw
-outlives o g width before last turns i wide run clock taken' b lived few order short =
+outlives o old last hs i reached wide history clock taken' b lived few order short =
     let m = may_at_time last.state i b in
-    let same : ms g.margin ≡ ms (believed (track_at last.state i).end) - ms (time_of last.state i) = ap ms (sym (margin_stays g width before last turns run)) ∙ sym m.1 in
-    left_from_clock o g width before last turns i (ms (time_of last.state i)) wide run clock taken' m.0 lived few order (subst (IsShortFor o) same short)
+    left_from_clock o old last hs i (ms (time_of last.state i)) reached wide history clock taken' m.0 lived few order (subst (IsShortFor o) (sym m.1) short)
 
 pub outlives_again : GrantLaw
-outlives_again o g width before grant turns i wide run b lived few order short =
+outlives_again o old grant hs i reached wide history b lived few order short =
     let m = may_at_time grant.state i b.before in
-    let same : ms g.margin ≡ ms (believed (track_at grant.state i).end) - ms (time_of grant.state i) = ap ms (sym (margin_stays g width before grant turns run)) ∙ sym m.1 in
-    left_from_told o g width before grant turns i (ms (time_of grant.state i)) wide run b.told b.taken m.0 lived few order (subst (IsShortFor o) same short)
+    left_from_told o old grant hs i (ms (time_of grant.state i)) reached wide history b.told b.taken m.0 lived few order (subst (IsShortFor o) (sym m.1) short)

@@ -33,12 +33,12 @@ use Rattle.watch_machine.specs.Renewed.{from_try, granted_from, granted_try, ren
 use Rattle.watch_machine.specs.Round.{asked_by_round as round_of}
 use Rattle.watch_machine.specs.Sending.{sent, sent_in, sent_track}
 use Rattle.watch_machine.specs.Settling.{settled, settled_track, settled_try, timed}
-use Rattle.watch_machine.specs.State.{WatchState, attempt_at, entry_of, fresh_track, no_track, opened, track_at, track_in}
+use Rattle.watch_machine.specs.State.{WatchState, attempt_at, entry_of, fresh_track, no_track, track_at, track_in}
 use Rattle.watch_machine.specs.Step.{Step, StepClock, StepCommand, StepLooked, StepRenewed, readied, told_earlier, why}
 use Rattle.watch_machine.specs.Wait.{wait}
 use Rattle.watch_machine.specs.Wanted.{is_open, need_of, wants}
 use Rattle.watch_machine.proofs.Cases.{if_both, if_cases, not_both}
-use Rattle.watch_laws.specs.Waiting.{AllOwed, HasTry, OwedLaw, OwedRight, OwesRight, RequestIsOut}
+use Rattle.watch_laws.specs.Waiting.{AllOwed, HasTry, OwedRight, OwesRight, RequestIsOut}
 use Rattle.watch_laws.proofs.Clocking.{refused_stays}
 use Rattle.watch_laws.proofs.Going.{Goes, goes, named_of, one_sent}
 use Rattle.watch_laws.proofs.Minding.{has_try}
@@ -121,7 +121,7 @@ due_some p at x due = by x.attempt (and_parts (not x.out) (is_due_try p at x x.a
   by None h = absurd cc
   by (Some t) h = refl
 
-none_tries : Tries no_track
+pub none_tries : Tries no_track
 none_tries = record { owed = λ o. absurd cc; out = λ o. absurd cc }
 
 sent_tries : (s : WatchState) (requests : List Request) (lanes i : ℕ) → Goes s.forest s.presence s.clocks.at s.tracks lanes requests → Still (track_at (sent s requests) i) (track_at s i)
@@ -280,14 +280,11 @@ pub turn_outcome : (old new : WatchState) (event : Event) (result : Result Outpu
 turn_outcome old new event (Ok output) turn all = step_outcome old new event output turn.1 all
 turn_outcome old new event (Err fault) turn all = (subst AllTry (sym (refused_stays old new event fault turn)) all, tt)
 
-ran : (turns : List Turned) (old : WatchState) → History old turns → AllTry old → AllOwed turns
-ran [] old h all = tt
-ran (turn ∷ turns) old h all = let here = turn_outcome old turn.state turn.event turn.result h.0 all in (here.1, ran turns turn.state h.1 here.0)
+pub ran_owed : (turns : List Turned) (old : WatchState) → History old turns → AllTry old → AllOwed turns
+ran_owed [] old h all = tt
+ran_owed (turn ∷ turns) old h all = let here = turn_outcome old turn.state turn.event turn.result h.0 all in (here.1, ran_owed turns turn.state h.1 here.0)
 
 pub first_tries : (es : List Entry) (i : ℕ) → Tries (track_in (map fresh_track es) i)
 first_tries [] i = none_tries
 first_tries (e ∷ es) zero = record { owed = λ o. absurd cc; out = λ o. absurd cc }
 first_tries (e ∷ es) (suc i) = first_tries es i
-
-pub all_owed : OwedLaw
-all_owed g width turns run = ran turns (opened g width) run (first_tries g.entries)

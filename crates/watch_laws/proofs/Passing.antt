@@ -2,11 +2,12 @@
 use Rattle.std.proofs.Common.{◌≡◌, ◌∙◌, ℕ, zero, suc, ◌+◌, ◌*◌, ◌<◌, ◌≤◌, Bool, true, false, not, ◌&&◌, if◌then◌else◌, List, [], ◌∷◌, ◌++◌, length, refl, ap, arith, inl, inr}
 use Rattle.std.proofs.Math.Nat.{mul-add, mul-le-mul_left}
 use Rattle.std.proofs.lemmas.Bool.{cases_Bool}
-use Rattle.watch_machine.specs.History.{Turned, after_all}
-use Rattle.watch_machine.specs.State.{WatchState, opened}
+use Rattle.watch_machine.specs.History.{Turned}
+use Rattle.watch_machine.specs.State.{WatchState}
 use Rattle.watch_laws.specs.Outage.{how_many, one_where}
 use Rattle.watch_laws.specs.Partial.{HungLaw, Partial, answered_before, answered_coming, comes_before, coming_before, keeps_lane, often_before, total, waits_before}
-use Rattle.watch_laws.proofs.Grounds.{first_turns, last_turns, opened_base, ran_base, turn_base}
+use Rattle.watch_laws.proofs.Bases.{next_base}
+use Rattle.watch_laws.proofs.Grounds.{first_turns}
 use Rattle.watch_laws.proofs.Held.{held_up}
 use Rattle.watch_laws.proofs.Once.{waits_once}
 
@@ -107,16 +108,13 @@ each_once o (suc n) i turns s once =
     ]
 
 pub passes_hung : HungLaw
-passes_hung o g width before first turns next i run clock taken' may there out holding hung clock' taken'' in_time =
-    let n = length g.entries in
-    let rest = turns ++ next ∷ [] in
-    let old = after_all (opened g width) before in
-    let history = last_turns before (first ∷ rest) (opened g width) run in
-    let earlier = first_turns before (first ∷ rest) (opened g width) run in
+passes_hung o old first turns next i reached history clock taken' may there out holding hung clock' taken'' in_time =
+    let n = length old.forest.entries in
+    let width = old.width in
     let s = first.state in
-    let base = turn_base width n old s first.event first.result history.0 (ran_base width n before (opened g width) earlier (opened_base g width)) in
+    let base = next_base old first (turns ++ next ∷ []) reached history in
     let turns' = first_turns turns (next ∷ []) s history.1 in
-    let by = held_up o g width before first turns next i run clock taken' may out holding clock' taken'' in_time in
+    let by = held_up o old first turns next i reached history clock taken' may out holding clock' taken'' in_time in
     let once = each_once o n i turns s (λ j low is. waits_once width n i j turns s turns' (hung j low is) base there) in
     let waiting' = kept_is o n (waits_before i s) in
     let coming = coming_is o n i turns s in

@@ -1,6 +1,6 @@
 -- Reasons: every renewal that is to go out has a reason. For the law of never too early.
 use Rattle.std.proofs.Common.{◌≡◌, ◌≢◌, ◌∙◌, ℕ, zero, suc, ◌+◌, ◌-◌, Bool, true, false, max, not, ◌&&◌, ◌||◌, ◌==◌, if◌then◌else◌, List, [], ◌∷◌, Option, Some, None, Result, Ok, Err, length, map, nat_lt, nat_le, refl, sym, ap, subst, inl, inr}
-use Rattle.std.proofs.lemmas.Bool.{and_parts, cases_Bool, cond-false, cond-true, eqb-true, or_left, or_right}
+use Rattle.std.proofs.lemmas.Bool.{and_parts, cases_Bool, cases_lt, cond-false, cond-true, eqb-true, or_left, or_right}
 use Rattle.std.proofs.lemmas.List.{get_or-set_other}
 use Rattle.std.specs.List.{list_any}
 use Rattle.keep_tree.specs.declared.entry.Entry.{Entry}
@@ -25,8 +25,9 @@ use Rattle.watch_machine.specs.declared.track.Track.{Track}
 use Rattle.watch_machine.specs.declared.track.Try.{Try}
 use Rattle.watch_machine.specs.Answers.{back_track, back_try, due_again, failing, noted, replied}
 use Rattle.watch_machine.specs.Beginning.{begun, is_called, is_pressed, is_start, owed, owing, owing_lookup, owing_past, soon, sooner_try, untopped, untopped_track}
+use Rattle.watch_machine.specs.Change.{former_at}
 use Rattle.watch_machine.specs.Clocks.{sec}
-use Rattle.watch_machine.specs.History.{History, Turn, Turned}
+use Rattle.watch_machine.specs.History.{AllHappen, Changed, Changes, Hands, Happening, IsChanged, Turn, Turned, stood, stood_at_some}
 use Rattle.watch_machine.specs.Lines.{rested}
 use Rattle.watch_machine.specs.Looked.{at_once, is_called_for, looked, told_state, told_try, with_told_try}
 use Rattle.watch_machine.specs.Margins.{has_come}
@@ -43,9 +44,10 @@ use Rattle.watch_machine.specs.Wanted.{is_alive, is_open, is_wanted, need_of, wa
 use Rattle.watch_machine.proofs.Cases.{if_both, if_cases, not_both}
 use Rattle.watch_machine.proofs.Within.{out_entry}
 use Rattle.watch_laws.specs.Load.{requests_asked_by, requests_at_turn}
-use Rattle.watch_laws.specs.Time.{AllReasoned, EarlyLaw, is_come, is_named_in_round, reason, reason_answered, reason_taken, renewal_goes_out}
+use Rattle.watch_laws.specs.Time.{AllReasoned, EarlyLaw, IsReasonedAt, is_come, is_named_in_round, reason, reason_answered, reason_at, reason_taken, renewal_goes_out}
 use Rattle.watch_laws.proofs.Answering.{replied_rest}
 use Rattle.watch_laws.proofs.Clocking.{refused_stays}
+use Rattle.watch_laws.proofs.Following.{kept_over, new_over, owed_is, past_over, stays_there}
 use Rattle.watch_laws.proofs.Going.{asks_by, entry_by, goes, operation_of, request_at}
 use Rattle.watch_laws.proofs.Opener.{bearing, come_same, mid_bears}
 use Rattle.watch_laws.proofs.Spacing.{looked_other, same_index, same_is}
@@ -333,11 +335,34 @@ turn_outcome :
 turn_outcome old new event (Ok output) i b turn h = step_outcome old new event output i b turn.1 h
 turn_outcome old new event (Err fault) i b turn h = ((λ renew. absurd cc), subst (λ (x : WatchState). Reasoned b (track_at x i).attempt) (sym (refused_stays old new event fault turn)) h)
 
-ran : (turns : List Turned) (old : WatchState) (i : ℕ) (b : Bool) → History old turns → Reasoned b (track_at old i).attempt → AllReasoned i b turns
-ran [] old i b h reasoned = tt
-ran (turn ∷ turns) old i b h reasoned =
-    let here = turn_outcome old turn.state turn.event turn.result i b h.0 reasoned in
-    (here.0, ran turns turn.state i (reason i b turn.event turn.result turn.state) h.1 here.1)
+-- of an entry that is not there yet there is no reason
+abbrev ReasonedAt : WatchState → Option ℕ → Bool → Type 0
+ReasonedAt s None b = b ≡ false
+ReasonedAt s (Some i) b = Reasoned b (track_at s i).attempt
+
+turn_at : (old : WatchState) (turn : Turned) (e : Option ℕ) (b : Bool) → Turn old turn.event turn.result turn.state → ReasonedAt old e b → IsReasonedAt e b turn × ReasonedAt turn.state e (reason_at e b turn)
+turn_at old turn None b h reasoned = (tt, refl)
+turn_at old turn (Some i) b h reasoned = turn_outcome old turn.state turn.event turn.result i b h reasoned
+
+changed_at : (old : WatchState) (c : Changed) → IsChanged old c → (e : Option ℕ) (b : Bool) → ReasonedAt old (stood_at_some (Changes c) e) b → ReasonedAt c.state e b
+changed_at old c h None b reasoned = reasoned
+changed_at old c h (Some j) b reasoned = by (former_at c.was j) refl reasoned where
+  by : (was : Option ℕ) → former_at c.was j ≡ was → ReasonedAt old was b → Reasoned b (track_at c.state j).attempt
+  by None said none =
+      elim (cases_lt j (length c.forest.entries)) as (λ _. Reasoned b (track_at c.state j).attempt) [
+        | inl within ↦ new_over old c h (λ (y : Track). Reasoned b y.attempt) (λ e. look_reasoned b (owed (soon old.clocks.at (fresh_track e))) refl) j within said
+        | inr past ↦ subst (λ (y : Track). Reasoned b y.attempt) (sym (past_over old c h j past)) (none_reasoned b)
+      ]
+  by (Some i) said kept =
+      kept_over old c h (λ (y x : Track). Reasoned b x.attempt → Reasoned b y.attempt) (λ x k. k)
+      (λ x k. owed_is (λ (y : Track). Reasoned b y.attempt) old.clocks.at (untopped_track x) (λ out. k) (λ free. sooner_reasoned b (soon old.clocks.at x) x.attempt k)) i j said kept
+
+ran : (k : ℕ) (hs : List Happening) (old : WatchState) (b : Bool) → AllHappen old hs → ReasonedAt old (stood hs k) b → AllReasoned k b hs
+ran k [] old b h reasoned = tt
+ran k (Hands turn ∷ hs) old b h reasoned =
+    let here = turn_at old turn (stood hs k) b h.0 (subst (λ e. ReasonedAt old e b) (stays_there turn (stood hs k)) reasoned) in
+    (here.0, ran k hs turn.state (reason_at (stood hs k) b turn) h.1 here.1)
+ran k (Changes c ∷ hs) old b h reasoned = ran k hs c.state b h.1 (changed_at old c h.0 (stood hs k) b reasoned)
 
 first_reasoned : (es : List Entry) (i : ℕ) → Reasoned false (track_in (map fresh_track es) i).attempt
 first_reasoned [] i = none_reasoned false
@@ -345,4 +370,7 @@ first_reasoned (e ∷ es) zero = none_reasoned false
 first_reasoned (e ∷ es) (suc i) = first_reasoned es i
 
 pub early : EarlyLaw
-early g width turns run i = ran turns (opened g width) i false run (first_reasoned g.entries i)
+early g width hs run k = ran k hs (opened g width) false run (by (stood hs k)) where
+  by : (e : Option ℕ) → ReasonedAt (opened g width) e false
+  by None = refl
+  by (Some i) = first_reasoned g.entries i

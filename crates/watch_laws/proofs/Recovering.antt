@@ -1,6 +1,5 @@
 -- Recovering: while the broker is there, an entry that may go out is passed over by few rounds. For the law of recovery.
 use Rattle.std.proofs.Common.{◌≡◌, ◌∙◌, ℕ, suc, ◌+◌, ◌*◌, ◌<◌, ◌≤◌, true, false, not, ◌&&◌, List, [], ◌∷◌, Option, Some, None, All, Result, Ok, Err, get_or, is_some, length, nat_le, refl, sym, ap, subst, arith, inl, inr}
-use Rattle.std.proofs.Math.Nat.{mul-suc}
 use Rattle.std.proofs.lemmas.Bool.{and_from, cases_Bool}
 use Rattle.std.proofs.lemmas.Bool.Decides.{nat_tests}
 use Rattle.std.specs.List.{list_any}
@@ -14,26 +13,27 @@ use Rattle.watch_machine.specs.declared.event.Terms.{Terms}
 use Rattle.watch_machine.specs.declared.fault.WatchFault.{WatchFault}
 use Rattle.watch_machine.specs.declared.lanes.Out.{Out}
 use Rattle.watch_machine.specs.Answers.{noted, replied}
-use Rattle.watch_machine.specs.History.{History, Turn, Turned, after_all}
+use Rattle.watch_machine.specs.History.{History, Turn, Turned}
 use Rattle.watch_machine.specs.Looked.{looked}
 use Rattle.watch_machine.specs.Press.{pressed}
 use Rattle.watch_machine.specs.Refusal.{request_out}
 use Rattle.watch_machine.specs.Renewed.{state_renewed}
 use Rattle.watch_machine.specs.Sending.{sent}
 use Rattle.watch_machine.specs.Settling.{timed}
-use Rattle.watch_machine.specs.State.{WatchState, opened}
+use Rattle.watch_machine.specs.State.{WatchState}
 use Rattle.watch_machine.specs.Step.{Step, StepLooked, StepRenewed, readied}
 use Rattle.watch_machine.specs.Wait.{wait}
 use Rattle.watch_machine.proofs.Cases.{not_both}
 use Rattle.watch_laws.specs.Outage.{coming, comes, how_many, is_request_served, is_tried, is_request_whole, outage_next_after, outage_next_after_command, outage_next_by, outage_settled_by, waiting, waits_to_be_asked}
 use Rattle.watch_laws.specs.Recovery.{AllBy, ArePassing, IsPassedBy, IsPassing, MayGo, RecoveryLaw, without_outage}
 use Rattle.watch_laws.proofs.Answering.{looked_leaves, renewed_leaves, rest_of}
+use Rattle.watch_laws.proofs.Bases.{last_base}
 use Rattle.watch_laws.proofs.Clocking.{readied_clocks, refused_stays}
 use Rattle.watch_laws.proofs.Counting.{lanes_apart, least_all, some}
-use Rattle.watch_laws.proofs.Grounds.{IsBase, first_turns, last_turns, opened_base, ran_base, starts, turn_base}
-use Rattle.watch_laws.proofs.Lanes.{Sends, Ticks, all_left, fewer_wait, is_anew, served_marked, ticks, turn_sends}
+use Rattle.watch_laws.proofs.Grounds.{IsBase, fewer_wait, starts, tracked, turn_base}
+use Rattle.watch_laws.proofs.Lanes.{Sends, Ticks, all_left, is_anew, served_marked, ticks, turn_sends}
 use Rattle.watch_laws.proofs.Minding.{some_within, tended}
-use Rattle.watch_laws.proofs.Requests.{anew_none, any_gives, later_than, none_passes, one_lane, one_left, quick_if, some_lane, take_one, whole_after}
+use Rattle.watch_laws.proofs.Requests.{anew_none, any_gives, later_than, none_passes, one_left, quick_if, round_of_lanes, some_lane, take_one, whole_after}
 use Rattle.watch_laws.proofs.Spacing.{looked_out}
 
 -- every request is whole
@@ -52,7 +52,7 @@ pub record Passes (quick late width n i by due k : ℕ) (s : WatchState) : Type 
   pub timely : All (Timely quick late due) s.out
   pub r : ℕ
   pub from : ℕ
-  pub count : k + how_many n (is_anew (without_outage quick late) (suc from) s) ≤ width * r
+  pub count : k + how_many (n + width) (is_anew (without_outage quick late) (suc from) s) ≤ width * r
   pub start : from + (quick + late) * r ≤ by
   pub next : due ≤ from + (quick + late)
   pub now : s.clocks.at ≤ by
@@ -99,19 +99,19 @@ clock_passes quick late width n i by due rest old new wall elapsed output wide l
     let full = full_lanes old new wall elapsed output i width h m base.fits.0 in
     let due' = outage_next_by o (wait new) new.out in
     let timely : All (Timely quick late due') new.out = least_all (λ (q : Out). outage_settled_by o q.since + late) (wait new + late) new.out in
-    let less = fewer_wait o (suc p.from) n old new p.base.alone base.alone base.tries sends in
+    let less = fewer_wait o (suc p.from) width n old new p.base base sends in
     let count = p.count in
     let start = p.start in
     let next = p.next in
     let tried : is_tried new i ≡ true = ap is_some m.attempt_is in
     let unserved : is_request_served o new i ≡ false =
     elim (cases_Bool (is_request_served o new i)) as (λ _. is_request_served o new i ≡ false) [
-      | inl served ↦ absurd (not_both (served_marked o new i base.alone served) m.free)
+      | inl served ↦ absurd (not_both (served_marked o new i (tracked width n new i base low) base.alone served) m.free)
       | inr no' ↦ no'
     ] in
     let one = some n i (waits_to_be_asked o new) low (and_from (is_tried new i) (not (is_request_served o new i)) tried (ap not unserved)) in
     let r = one_left width p.r k (omega (arith, less, count)) (omega (arith, one)) in
-    let g = ap (λ x. (quick + late) * x) r.1 ∙ mul-suc (quick + late) r.0 in
+    let g = round_of_lanes (quick + late) p.r r.0 r.1 in
     let soon = soon_next quick late width n i by due' new wide base timely full in
     subst (λ x. Passes quick late width n i by (outage_next_after_command o x new due) k new) (sym h.command)
     (elim (cases_Bool (list_any (λ (q : Out). nat_le q.since p.from) new.out)) as (λ _. Passes quick late width n i by due' k new) [
@@ -128,15 +128,15 @@ clock_passes quick late width n i by due rest old new wall elapsed output wide l
       | inr none' ↦
           let late' = none_passes (λ (q : Out). nat_le q.since p.from) new.out none' in
           let within = base.within in
-          let anew = lanes_apart n (λ (q : Out). is_request_whole o q.since && nat_le (suc p.from) q.since) new.out (λ j. one_lane new j base.alone)
+          let anew = lanes_apart (n + width) (λ (q : Out). is_request_whole o q.since && nat_le (suc p.from) q.since) new.out base.alone.single
           (λ j d below.
           let q = get_or new.out j d in
           let l = later_than p.from q.since (late' j d below) in
           let test : nat_le (suc p.from) q.since ≡ true = grind (arith, nat_tests) in
           (within j d below, and_from (is_request_whole o q.since) (nat_le (suc p.from) q.since) (all_whole quick late q.since) test)) in
-          let q = take_one width p.r (k + how_many n (is_anew o (suc p.from) new)) k wide (omega (arith, full, anew)) (omega (arith, less, count)) in
-          let e = ap (λ x. (quick + late) * x) q.1.0 ∙ mul-suc (quick + late) q.0 in
-          let zero' = anew_none o (suc at) n new base.since (omega arith) in
+          let q = take_one width p.r (k + how_many (n + width) (is_anew o (suc p.from) new)) k wide (omega (arith, full, anew)) (omega (arith, less, count)) in
+          let e = round_of_lanes (quick + late) p.r q.0 q.1.0 in
+          let zero' = anew_none o (suc at) (n + width) new base.since (omega arith) in
           let fits = q.1.1 in
           record {
             base = base;
@@ -190,7 +190,7 @@ pub quiet_passes :
     Passes quick late width n i by (outage_next_after_command (without_outage quick late) output.command new due) (waiting (without_outage quick late) n new + rest) new
 quiet_passes quick late width n i by due rest old new output quiet base sends p =
     let o = without_outage quick late in
-    let less = fewer_wait o (suc p.from) n old new p.base.alone base.alone base.tries sends in
+    let less = fewer_wait o (suc p.from) width n old new p.base base sends in
     let count = p.count in
     let now = p.now in
     let c = quiet.0 in
@@ -222,7 +222,7 @@ turn_passes quick late width n i by due rest old new event (Ok output) wide low 
 turn_passes quick late width n i by due rest old new event (Err fault) wide low turn passing base sends p =
     let o = without_outage quick late in
     let is = refused_stays old new event fault turn in
-    let less = fewer_wait o (suc p.from) n old new p.base.alone base.alone base.tries sends in
+    let less = fewer_wait o (suc p.from) width n old new p.base base sends in
     let count = p.count in
     let now = p.now in
     let c = ap (λ (x : WatchState). x.clocks.at) is in
@@ -249,21 +249,19 @@ along quick late width n i by wide low (turn ∷ turns) due old history passing 
     (here.now, along quick late width n i by wide low turns (outage_next_after (without_outage quick late) turn.result turn.state due) turn.state history.1 passing.1 here)
 
 pub recovers : RecoveryLaw
-recovers quick late rounds g width before last turns i wide run clock taken' m passing few =
+recovers quick late rounds old last turns i reached wide history clock taken' m passing few =
     let o = without_outage quick late in
-    let n = length g.entries in
-    let old = after_all (opened g width) before in
-    let history = last_turns before (last ∷ turns) (opened g width) run in
-    let first = first_turns before (last ∷ turns) (opened g width) run in
+    let width = old.width in
     let s = last.state in
+    let n = length s.forest.entries in
     let start = starts o old last last.event last.result refl history.0 clock taken' in
-    let base = turn_base width n old s last.event last.result history.0 (ran_base width n before (opened g width) first (opened_base g width)) in
+    let base = last_base old last turns reached history in
     let due = outage_next_by o (wait s) s.out in
     let timely : All (Timely quick late due) s.out = least_all (λ (q : Out). outage_settled_by o q.since + late) (wait s + late) s.out in
     let full = full_lanes old s start.wall start.elapsed start.output i width start.ticks' m base.fits.0 in
     let at = s.clocks.at in
     let by = at + (quick + late) * rounds in
-    let zero' = anew_none o (suc at) n s base.since (omega arith) in
+    let zero' = anew_none o (suc at) (n + width) s base.since (omega arith) in
     let below = some_within s.tracks i m.attempt m.attempt_is in
     let count = base.count in
     along quick late width n i by wide (omega (arith, below, count)) turns due s history.1 (subst (λ d. ArePassing o i d s turns) start.due passing)

@@ -7,9 +7,8 @@ use Rattle.std.proofs.lemmas.Bool.Decides.{nat_tests}
 use Rattle.std.proofs.lemmas.List.Elements.{All-head, All-nil, All-cons, All-tail}
 use Rattle.std.specs.List.{list_any}
 use Rattle.watch_machine.specs.declared.lanes.Out.{Out}
-use Rattle.watch_machine.specs.State.{WatchState, track_at}
+use Rattle.watch_machine.specs.State.{WatchState}
 use Rattle.watch_laws.specs.Outage.{Outage, how_many, is_request_whole, outage_settled_by}
-use Rattle.watch_laws.proofs.Alone.{IsAlone, flag, lanes_of}
 use Rattle.watch_laws.proofs.Counting.{none}
 use Rattle.watch_laws.proofs.Lanes.{is_anew}
 
@@ -32,12 +31,6 @@ none_passes test (q ∷ out) h =
 pub some_lane : (out : List Out) → 1 ≤ length out → list_any (λ (q : Out). true) out ≡ true
 some_lane [] h = absurd (omega (arith, h))
 some_lane (q ∷ out) h = refl
-
-pub one_lane : (s : WatchState) (j : ℕ) → IsAlone s → lanes_of j s.out ≤ 1
-one_lane s j alone = let a = alone.once j in let b = flag_most (track_at s j).out in omega (arith, a, b) where
-  flag_most : (b : Bool) → flag b ≤ 1
-  flag_most true = omega arith
-  flag_most false = omega arith
 
 none_late : (o : Outage) (from at j : ℕ) (out : List Out) → at < from → All (λ (q : Out). q.since ≤ at) out → list_any (λ (q : Out). q.entry == j && (is_request_whole o q.since && nat_le from q.since)) out ≡ false
 none_late o from at j [] late all = refl
@@ -67,6 +60,10 @@ take_one w (suc q) k less wide fuller fits = (q, (refl, (let m = mul-suc w q in 
 pub one_left : (w r k : ℕ) → k ≤ w * r → 1 ≤ k → (q : ℕ) × (r ≡ suc q)
 one_left w zero k fits some = absurd (let z = mul-zero w in omega (arith, z, fits, some))
 one_left w (suc q) k fits some = (q, refl)
+
+-- so long one round more lasts
+pub round_of_lanes : (turn r q : ℕ) → r ≡ suc q → turn * r ≡ turn + turn * q
+round_of_lanes turn r q is = let all = ap (λ x. turn * x) is in let m = mul-suc turn q in omega (arith, all, m)
 
 -- requests by when they went out
 pub whole_after : (o : Outage) (at : ℕ) → o.until ≤ at → is_request_whole o at ≡ true

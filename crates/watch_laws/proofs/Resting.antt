@@ -123,6 +123,12 @@ module _ (r : Sent) where
       known_is (Rests r) at end renewable x (record { last = h.last; attempt = h.attempt }) (λ out. record { last = h.last; attempt = h.attempt })
       (λ free. record { last = h.last; attempt = λ f. sooner_may (soon at x) x.attempt (soon_rests at x h.last) (h.attempt free) })
 
+  -- and one that owes a lookup after a change
+  pub owed_rests : (at : ℕ) (x : Track) → Rests r x → Rests r (owing_lookup at (untopped_track x))
+  owed_rests at x h =
+      if_cases (Rests r) x.out (record (untopped_track x) { owes = true }) (record (untopped_track x) { owes = true; attempt = Some (sooner_try (soon at x) x.attempt) })
+      (λ out. record { last = h.last; attempt = h.attempt }) (λ free. record { last = h.last; attempt = λ f. sooner_may (soon at x) x.attempt (soon_rests at x h.last) (h.attempt free) })
+
   -- pressing: a new try is no sooner, and what is let go neither
   let_go_follows : (x : Track) (t : Try) → x.last ≡ Some r.at → IfSome (let_go x t) (Follows r)
   let_go_follows x t last =

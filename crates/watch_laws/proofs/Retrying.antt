@@ -32,13 +32,13 @@ use Rattle.watch_machine.specs.Renewed.{granted_from, renewed_track, state_renew
 use Rattle.watch_machine.specs.Round.{asked_by_round as round_of}
 use Rattle.watch_machine.specs.Sending.{sent, sent_in, sent_track}
 use Rattle.watch_machine.specs.Settling.{count_after, held, held_back, held_by, held_try, hold_after, is_real, is_silent, presence_after, settled, settled_track, settled_try, timed}
-use Rattle.watch_machine.specs.State.{WatchState, attempt_at, fresh_track, no_track, opened, track_at, track_in}
+use Rattle.watch_machine.specs.State.{WatchState, attempt_at, fresh_track, no_track, track_at, track_in}
 use Rattle.watch_machine.specs.Step.{Step, StepClock, StepLooked, StepRenewed, known, readied, why}
 use Rattle.watch_machine.specs.Wanted.{is_open, least, need_of, wants}
 use Rattle.watch_machine.proofs.Cases.{if_both, not_both}
 use Rattle.watch_machine.proofs.Leasts.{least_start}
-use Rattle.watch_laws.specs.Failures.{AllKeepLoss, StaysLostLaw}
-use Rattle.watch_laws.specs.Waiting.{AllRetried, IsHeldBack, IsSoon, RetryLaw, TryFails}
+use Rattle.watch_laws.specs.Failures.{AllKeepLoss}
+use Rattle.watch_laws.specs.Waiting.{AllRetried, IsHeldBack, IsSoon, TryFails}
 use Rattle.watch_laws.proofs.Answering.{looked_leaves, renewed_leaves, rest_of}
 use Rattle.watch_laws.proofs.Clocking.{begun_some, clock_rises, readied_clocks, refused_stays, sent_by}
 use Rattle.watch_laws.proofs.Holding.{looked_presence, ready_presence}
@@ -540,23 +540,17 @@ pub turn_past : (old new : WatchState) (event : Event) (result : Result Output W
 turn_past old new event (Ok output) turn past = step_past old new event output turn.1 past
 turn_past old new event (Err fault) turn past = subst IsPast (sym (refused_stays old new event fault turn)) past
 
-ran : (turns : List Turned) (old : WatchState) → History old turns → IsPast old → AllRetried old turns
-ran [] old h past = tt
-ran (turn ∷ turns) old h past = (
+pub ran_retried : (turns : List Turned) (old : WatchState) → History old turns → IsPast old → AllRetried old turns
+ran_retried [] old h past = tt
+ran_retried (turn ∷ turns) old h past = (
   (λ i t u fails. turn_retries old turn.state turn.event turn.result i t u h.0 past fails),
-  ran turns turn.state h.1 (turn_past old turn.state turn.event turn.result h.0 past),
+  ran_retried turns turn.state h.1 (turn_past old turn.state turn.event turn.result h.0 past),
 )
 
 pub first_past : (es : List Entry) (i : ℕ) → rested (track_in (map fresh_track es) i).last ≤ 1000
 first_past [] i = omega arith
 first_past (e ∷ es) zero = omega arith
 first_past (e ∷ es) (suc i) = first_past es i
-
-pub opened_past : (g : Forest) (width : ℕ) → IsPast (opened g width)
-opened_past g width = record { start = λ none. refl; hold = λ there. refl; last = λ i. let l = first_past g.entries i in omega (arith, l) }
-
-pub retried : RetryLaw
-retried g width turns run = ran turns (opened g width) run (opened_past g width)
 
 -- and the clock leaves it as lost as it was, unless it is pressed anew. For the law of failures
 clock_keeps :
@@ -585,12 +579,9 @@ turn_keeps old new Begin (Ok output) i t u turn past h = absurd (let e = h.clock
 turn_keeps old new (Known j end renewable) (Ok output) i t u turn past h = absurd (let e = h.clock in cc)
 turn_keeps old new event (Err fault) i t u turn past h = absurd (let e = h.taken in cc)
 
-ran_lost : (turns : List Turned) (old : WatchState) → History old turns → IsPast old → AllKeepLoss old turns
+pub ran_lost : (turns : List Turned) (old : WatchState) → History old turns → IsPast old → AllKeepLoss old turns
 ran_lost [] old h past = tt
 ran_lost (turn ∷ turns) old h past = (
   (λ i t u fails. turn_keeps old turn.state turn.event turn.result i t u h.0 past fails),
   ran_lost turns turn.state h.1 (turn_past old turn.state turn.event turn.result h.0 past),
 )
-
-pub stays_lost : StaysLostLaw
-stays_lost g width turns run = ran_lost turns (opened g width) run (opened_past g width)

@@ -1,6 +1,6 @@
 -- Spacing: what every turn keeps of the last request of an entry, and how far from it the next one is. For the law of the second
 -- between.
-use Rattle.std.proofs.Common.{◌≡◌, ◌≢◌, ◌⊎◌, ◌∙◌, ℕ, ◌+◌, ◌-◌, ◌<◌, ◌≤◌, min, max, Bool, true, false, not, ◌&&◌, ◌||◌, ◌==◌, if◌then◌else◌, List, [], ◌∷◌, ◌++◌, Option, Some, None, Result, Ok, Err, IfSome, All, filter, is_none, get_or, length, map, refl, sym, ap, subst, arith, inl, inr, true≢false}
+use Rattle.std.proofs.Common.{◌≡◌, ◌≢◌, ◌⊎◌, ◌∙◌, ℕ, ◌+◌, ◌-◌, ◌<◌, ◌≤◌, min, max, Bool, true, false, not, ◌&&◌, ◌||◌, ◌==◌, if◌then◌else◌, List, [], ◌∷◌, Option, Some, None, Result, Ok, Err, IfSome, All, filter, is_none, get_or, length, map, refl, sym, ap, subst, arith, inl, inr, true≢false}
 use Rattle.std.proofs.Math.Nat.{le-max_right}
 use Rattle.std.proofs.lemmas.Bool.{and_parts, cases_Bool, cases_lt, cond-false, cond-true, eqb-true}
 use Rattle.std.proofs.lemmas.Bool.Decides.{nat_tests}
@@ -29,7 +29,7 @@ use Rattle.watch_machine.specs.declared.track.Try.{Try}
 use Rattle.watch_machine.specs.Answers.{answers_all, back_track, heard, lane_freed, noted, replied, silent, without_request}
 use Rattle.watch_machine.specs.Beginning.{begun, is_called, is_start, owing, owing_lookup, soon, sooner_try, untopped, untopped_track}
 use Rattle.watch_machine.specs.Clocks.{sec}
-use Rattle.watch_machine.specs.History.{History, Turn, Turned}
+use Rattle.watch_machine.specs.History.{Turn}
 use Rattle.watch_machine.specs.Lines.{is_due, is_due_try, is_first, later_at, ready, rested}
 use Rattle.watch_machine.specs.Looked.{is_called_for, looked, told_state, told_track, told_try}
 use Rattle.watch_machine.specs.Press.{asked_track, dropped, is_fresh, press, pressed, pressed_alone, pressed_track, track_asked_in}
@@ -38,17 +38,19 @@ use Rattle.watch_machine.specs.Renewed.{from_try, renewed_track, state_renewed}
 use Rattle.watch_machine.specs.Round.{asked_by_round as round_of}
 use Rattle.watch_machine.specs.Sending.{out_at, sent as sent_state, sent_in, sent_track}
 use Rattle.watch_machine.specs.Settling.{is_real, settled, settled_track, timed}
-use Rattle.watch_machine.specs.State.{WatchState, entry_of, no_track, opened, track_at, track_in}
+use Rattle.watch_machine.specs.State.{WatchState, entry_of, no_track, track_at, track_in}
 use Rattle.watch_machine.specs.Step.{Step, StepClock, StepCommand, StepLooked, StepRenewed, known, readied, why, with_need_until}
 use Rattle.watch_machine.specs.Wanted.{is_open, need_of, wants}
 use Rattle.watch_machine.proofs.Cases.{if_both, if_cases, not_both, value_is}
 use Rattle.watch_machine.proofs.Seeing.{each_read}
 use Rattle.watch_machine.proofs.Within.{out_all}
-use Rattle.watch_laws.specs.Load.{AreApartFrom, IsApart, Sent, SentAreApart, SpacedLaw, requests_asked_by, requests_at_turn, sent_at, sent_in_turns}
+use Rattle.watch_machine.proofs.Written.{each_length}
+use Rattle.watch_laws.specs.Load.{AreApartFrom, IsApart, Sent, SentAreApart, requests_asked_by, requests_at_turn, sent_at}
 use Rattle.watch_laws.proofs.Answering.{looked_leaves, renewed_leaves, rest_of}
 use Rattle.watch_laws.proofs.Clocking.{begun_some, clock_rises, readied_clocks, refused_stays}
 use Rattle.watch_laws.proofs.Going.{Goes, asks_by, entry_by, goes, named_of, one_sent, operation_of, request_at, sent_of}
 use Rattle.watch_laws.proofs.Resting.{Follows, IsReady, MayFollow, Rests, asked_ready, back_rests, granted_rests, known_rests, owing_ready, pressed_ready, rested_is, settled_ready, told_rests, ungranted_rests, untold_rests, untopped_ready}
+use Rattle.watch_laws.proofs.Topping.{readied_count}
 use Rattle.watch_laws.proofs.Tracking.{back_kept, each_at, each_kept, known_out, set_kept}
 
 -- a due try goes out a second after r, or is the renewal right after it
@@ -82,20 +84,20 @@ due_is_apart : (p : Presence) (at : ℕ) (x : Track) (r : Sent) → r.at ≤ at 
 due_is_apart p at x r past h due = let free = free_of p at x due in due_apart p at x r x.attempt past h.last (h.attempt free.0) free.1
 
 -- a request that is out of i says so in its track, and asks what r did
-abbrev IsOf : WatchState → ℕ → (Operation → Type 0) → Out → Type 0
+abbrev pub IsOf : WatchState → ℕ → (Operation → Type 0) → Out → Type 0
 IsOf s i P q = q.entry ≡ i → ((track_at s i).out ≡ true) × P q.operation
 
 -- what every turn keeps, where r is the last request of i
-record IsSpaced (s : WatchState) (i : ℕ) (r : Sent) : Type 0 where
-  begun : is_none s.begun ≡ false
-  past : r.at ≤ s.clocks.at
-  out : All (IsOf s i (λ o. r.operation ≡ o)) s.out
-  rests : Rests r (track_at s i)
+pub record IsSpaced (s : WatchState) (i : ℕ) (r : Sent) : Type 0 where
+  pub begun : is_none s.begun ≡ false
+  pub past : r.at ≤ s.clocks.at
+  pub out : All (IsOf s i (λ o. r.operation ≡ o)) s.out
+  pub rests : Rests r (track_at s i)
 
-abbrev Any : Operation → Type 0
+abbrev pub Any : Operation → Type 0
 Any o = Unit {0}
 
-abbrev Keeps : WatchState → ℕ → Option Sent → Type 0
+abbrev pub Keeps : WatchState → ℕ → Option Sent → Type 0
 Keeps s i None = All (IsOf s i Any) s.out
 Keeps s i (Some r) = IsSpaced s i r
 
@@ -213,7 +215,7 @@ asks_so p now at xs i new is_out j is =
     (is_out, ap (λ k. operation_of (track_in xs k).attempt) (sym same) ∙ sym (asks_by p now xs j))
 
 -- what goes out at a clock
-Outcome : WatchState → ℕ → Option Sent → List Sent → Type 0
+unfoldable pub Outcome : WatchState → ℕ → Option Sent → List Sent → Type 0
 Outcome new i o xs = ((xs ≡ []) × Keeps new i o) ⊎ ((x : Sent) × ((xs ≡ x ∷ []) × (IfSome o (λ r. IsApart r x) × IsSpaced new i x)))
 
 -- before it does
@@ -563,32 +565,55 @@ stepped old new (Known j end renewable) output i o step kept =
           (λ r. set_kept (λ y x. Rests r x → Rests r y) (λ x k. k) old.tracks j _ (known_rests r old.clocks.at end renewable (track_at old j)) i)) kept,
     )
 
-turned : (old new : WatchState) (event : Event) (result : Result Output WatchFault) (i : ℕ) (o : Option Sent) → Turn old event result new → Keeps old i o → Outcome new i o (sent_at i new.clocks.at (requests_at_turn result))
+pub turned : (old new : WatchState) (event : Event) (result : Result Output WatchFault) (i : ℕ) (o : Option Sent) → Turn old event result new → Keeps old i o → Outcome new i o (sent_at i new.clocks.at (requests_at_turn result))
 unfolding Outcome
 turned old new event (Ok output) i o turn kept = stepped old new event output i o turn.1 kept
 turned old new event (Err fault) i o turn kept = inl (refl, subst (λ (x : WatchState). Keeps x i o) (sym (refused_stays old new event fault turn)) kept)
 
 -- all of them
-abbrev AreApartAfter : Option Sent → List Sent → Type 0
+abbrev pub AreApartAfter : Option Sent → List Sent → Type 0
 AreApartAfter None xs = SentAreApart xs
 AreApartAfter (Some r) xs = AreApartFrom r xs
 
-one_more : (o : Option Sent) (x : Sent) (xs : List Sent) → IfSome o (λ r. IsApart r x) → AreApartFrom x xs → AreApartAfter o (x ∷ xs)
+pub one_more : (o : Option Sent) (x : Sent) (xs : List Sent) → IfSome o (λ r. IsApart r x) → AreApartFrom x xs → AreApartAfter o (x ∷ xs)
 one_more None x xs apart rest = rest
 one_more (Some r) x xs apart rest = (apart, rest)
 
-none_after : (o : Option Sent) → AreApartAfter o []
+pub none_after : (o : Option Sent) → AreApartAfter o []
 none_after None = tt
 none_after (Some r) = tt
 
-ran : (turns : List Turned) (old : WatchState) (i : ℕ) (o : Option Sent) → History old turns → Keeps old i o → AreApartAfter o (sent_in_turns i turns)
-unfolding Outcome
-ran [] old i o h kept = none_after o
-ran (turn ∷ turns) old i o h kept =
-    elim (turned old turn.state turn.event turn.result i o h.0 kept) as (λ _. AreApartAfter o (sent_in_turns i (turn ∷ turns))) [
-      | inl quiet ↦ subst (λ xs. AreApartAfter o (xs ++ sent_in_turns i turns)) (sym quiet.0) (ran turns turn.state i o h.1 quiet.1)
-      | inr goes' ↦ subst (λ xs. AreApartAfter o (xs ++ sent_in_turns i turns)) (sym goes'.1.0) (one_more o goes'.0 (sent_in_turns i turns) goes'.1.1.0 (ran turns turn.state i (Some goes'.0) h.1 goes'.1.1.1))
+-- none goes out of an index at which there is no track
+none_past : (s : WatchState) (requests : List Request) (lanes i : ℕ) → Goes s.forest s.presence s.clocks.at s.tracks lanes requests → length s.tracks ≤ i → sent_at i s.clocks.at requests ≡ []
+none_past s requests lanes i h past =
+    let p = s.presence in
+    let at = s.clocks.at in
+    elim (one_sent p (sec at) at s.tracks i h.entries (h.once i)) as (λ _. sent_at i at requests ≡ []) [
+      | inl none ↦ ap (sent_at i at) h.requests_are ∙ none.0
+      | inr one ↦
+          let due = named_of (λ j. (j < length s.tracks) × (is_due p at (track_in s.tracks j) ≡ true)) i h.entries h.due one.1.1 in
+          let low = due.0 in
+          absurd (omega (arith, low, past))
     ]
 
-pub spaced : SpacedLaw
-spaced g width turns run i = ran turns (opened g width) i None run (All-nil (IsOf (opened g width) i Any))
+commanded_past : (s new : WatchState) (command : Command) (i : ℕ) → StepCommand s command new → length s.tracks ≤ i → sent_at i new.clocks.at (requests_asked_by command) ≡ []
+commanded_past s new (Go requests until) i h past =
+    subst (λ (x : WatchState). sent_at i x.clocks.at requests ≡ []) (sym h.0.1) (none_past s requests (s.width - length s.out) i (goes s.forest s.presence s.clocks.at s.tracks (s.width - length s.out) requests h.0.0) past)
+commanded_past s new Taken i h past = absurd h
+
+step_past : (old new : WatchState) (event : Event) (output : Output) (i : ℕ) → Step old event output new → length old.tracks ≤ i → sent_at i new.clocks.at (requests_asked_by output.command) ≡ []
+step_past old new (Clock wall elapsed) output i step past =
+    let ready = readied old wall elapsed in
+    let a = each_length (track_asked_in ready.clocks.at (round_of step.round)) (pressed_alone ready.forest ready.clocks ready.tracks) in
+    let b = each_length (λ j. pressed_track ready.forest.margin (entry_at ready.forest.entries j) (need_of ready.forest.entries ready.tracks ready.clocks j) ready.clocks.at) ready.tracks in
+    let c = readied_count old wall elapsed in
+    commanded_past (pressed ready (round_of step.round)) new output.command i step.command (omega (arith, a, b, c, past))
+step_past old new (Looked j reply terms) output i step past = looked_quiet old new (request_out old.out j Look) i new.clocks.at reply terms output step
+step_past old new (Renewed j reply) output i step past = renewed_quiet old new (request_out old.out j Renew) i new.clocks.at reply output step
+step_past old new (Need j until) output i step past = none_goes i new.clocks.at output _ step.0 refl
+step_past old new Begin output i step past = none_goes i new.clocks.at output _ step.0 refl
+step_past old new (Known j end renewable) output i step past = none_goes i new.clocks.at output _ step.0 refl
+
+pub turn_past : (old new : WatchState) (event : Event) (result : Result Output WatchFault) (i : ℕ) → Turn old event result new → length old.tracks ≤ i → sent_at i new.clocks.at (requests_at_turn result) ≡ []
+turn_past old new event (Ok output) i turn past = step_past old new event output i turn.1 past
+turn_past old new event (Err fault) i turn past = refl

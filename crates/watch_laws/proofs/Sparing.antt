@@ -28,7 +28,7 @@ use Rattle.watch_machine.specs.declared.track.Try.{Try}
 use Rattle.watch_machine.specs.Answers.{answers_all, back_track, heard, is_back, lane_freed, noted, presence_gone, replied, silent, without_request}
 use Rattle.watch_machine.specs.Beginning.{begun}
 use Rattle.watch_machine.specs.Clocks.{sec}
-use Rattle.watch_machine.specs.History.{History, Turn, Turned, after_all}
+use Rattle.watch_machine.specs.History.{AllHappen, Changed, Changes, Hands, Happening, IsChanged, Turn}
 use Rattle.watch_machine.specs.Lines.{is_due, is_due_try, is_first, later_at, ready}
 use Rattle.watch_machine.specs.Looked.{looked}
 use Rattle.watch_machine.specs.Press.{pressed}
@@ -37,15 +37,17 @@ use Rattle.watch_machine.specs.Renewed.{state_renewed}
 use Rattle.watch_machine.specs.Round.{asked_by_round as round_of}
 use Rattle.watch_machine.specs.Sending.{out_at, sent, sent_in, sent_track}
 use Rattle.watch_machine.specs.Settling.{count_after, held_back, hold_after, is_real, is_silent, presence_after, settled, timed}
-use Rattle.watch_machine.specs.State.{WatchState, attempt_at, each, opened, track_at, track_in}
+use Rattle.watch_machine.specs.State.{WatchState, attempt_at, each, track_in}
 use Rattle.watch_machine.specs.Step.{Step, StepClock, StepCommand, StepLooked, StepRenewed, known, readied, why, with_need_until}
 use Rattle.watch_machine.proofs.Cases.{if_both, not_both, value_is}
 use Rattle.watch_machine.proofs.Within.{out_entry}
 use Rattle.watch_laws.specs.Absence.{AllAway, NoneSets, Sets, SparedLaw, is_later, is_later_try, laters}
 use Rattle.watch_laws.specs.Load.{requests_asked_by, requests_at_turn}
 use Rattle.watch_laws.proofs.Answering.{looked_rest}
-use Rattle.watch_laws.proofs.Alone.{IsAlone, flag, lanes_of, turn_alone}
+use Rattle.watch_laws.proofs.Alone.{IsAlone, lanes_of, turn_alone}
+use Rattle.watch_laws.proofs.Bases.{changed_alone, changed_fits, reached_base}
 use Rattle.watch_laws.proofs.Clocking.{begun_some, clock_rises, readied_clocks, readied_width, refused_stays}
+use Rattle.watch_laws.proofs.Following.{IsCounted, changed_counted, filter_after, reached_counted, turn_counted}
 use Rattle.watch_laws.proofs.Going.{Goes, entry_by, goes, request_at}
 use Rattle.watch_laws.proofs.Holding.{looked_presence, ready_presence}
 use Rattle.watch_laws.proofs.Spacing.{looked_out, readied_out}
@@ -325,9 +327,7 @@ answer_spares width n old mid new q reply i operation found entry is out answers
                       | inr all ↦
                           elim (cases_Bool q.heard) as (λ _. (list_any is_silent new.answers ≡ true) ⊎ (n ≤ unheard new.out)) [
                             | inl hears ↦
-                                let once = alone.once i in
-                                let low = one_at_most (track_at old i).out in
-                                let same = ap unheard left ∙ rid_heard i operation old.out q found hears (omega (arith, once, low)) in
+                                let same = ap unheard left ∙ rid_heard i operation old.out q found hears (alone.single i) in
                                 inr (omega (arith, all, same))
                             | inr unheard' ↦ inl (ap (list_any is_silent) these ∙ any_last is_silent old.answers a (and_from (not (is_real reply)) (not q.heard) (ap not lost) (ap not unheard')))
                           ]
@@ -335,10 +335,7 @@ answer_spares width n old mid new q reply i operation found entry is out answers
                   })
             ];
           }
-    ] where
-      one_at_most : (b : Bool) → flag b ≤ 1
-      one_at_most true = omega arith
-      one_at_most false = omega arith
+    ]
 
 pub looked_answers : (s : WatchState) (q : Out) (reply : Reply) (terms : Terms) → (looked s q reply terms).answers ≡ s.answers
 looked_answers s q (Told seconds renewable date) terms = refl
@@ -419,29 +416,42 @@ turn_spares width n old new event (Ok output) turn fits alone away still never h
 turn_spares width n old new event (Err fault) turn fits alone away still never h =
     subst (λ m. Spares width m new) (let e : n ≡ 0 + n = omega arith in e) (subst (Spares width n) (sym (refused_stays old new event fault turn)) h)
 
+-- and a change leaves as many out, of which as many have heard of none
+changed_spares : (width n : ℕ) (old : WatchState) (c : Changed) → IsChanged old c → Spares width n old → Spares width n c.state
+changed_spares width n old c h spares = record {
+  few = spares.few;
+  all = elim spares.all as (λ _. (n ≡ 0) ⊎ IsOver n c.state) [
+    | inl none ↦ inl none
+    | inr over ↦
+        let past = over.over in
+        let hold = ap (λ (s : WatchState). s.presence.hold) h.state in
+        let clock = ap (λ (s : WatchState). s.clocks.at) h.state in
+        inr (record {
+          begun = ap (λ (s : WatchState). is_none s.begun) h.state ∙ over.begun;
+          over = omega (arith, past, hold, clock);
+          rest = elim over.rest as (λ _. (list_any is_silent c.state.answers ≡ true) ⊎ (n ≤ unheard c.state.out)) [
+            | inl silent' ↦ inl (ap (λ (s : WatchState). list_any is_silent s.answers) h.state ∙ silent')
+            | inr all ↦ (let same = ap (λ (s : WatchState). unheard s.out) h.state ∙ filter_after (λ (q : Out). not q.heard) (λ r k. refl) c.was (length c.forest.entries) old.out in inr (omega (arith, all, same)))
+          ];
+        })
+  ];
+}
+
 ran :
-    (turns : List Turned) (width n : ℕ) (old : WatchState) → History old turns → Fits width old → IsAlone old → old.presence.away ≡ true → AllAway turns → NoneSets old turns → Spares width n old →
-    laters turns + n ≤ width
-ran [] width n old h fits alone away all none spares = let few = spares.few in omega (arith, few)
-ran (turn ∷ turns) width n old h fits alone away all none spares =
+    (hs : List Happening) (width n : ℕ) (old : WatchState) → AllHappen old hs → IsCounted old → Fits width old → IsAlone old → old.presence.away ≡ true → AllAway hs → NoneSets old hs → Spares width n old →
+    laters hs + n ≤ width
+ran [] width n old h count fits alone away all none spares = let few = spares.few in omega (arith, few)
+ran (Hands turn ∷ hs) width n old h count fits alone away all none spares =
     let here = length (filter (is_later turn.state) (requests_at_turn turn.result)) in
     let rest =
-    ran turns width (here + n) turn.state h.1 (turn_fits width old turn.state turn.event turn.result h.0 fits) (turn_alone old turn.state turn.event turn.result h.0 alone) all.0 all.1 none.1
-    (turn_spares width n old turn.state turn.event turn.result h.0 fits alone away all.0 none.0 spares) in
+    ran hs width (here + n) turn.state h.1 (turn_counted old turn.state turn.event turn.result h.0 count) (turn_fits width old turn.state turn.event turn.result h.0 fits)
+    (turn_alone old turn.state turn.event turn.result h.0 alone) all.0 all.1 none.1 (turn_spares width n old turn.state turn.event turn.result h.0 fits alone away all.0 none.0 spares) in
     omega (arith, rest)
-
--- what holds after the turns before
-reached :
-    (before turns : List Turned) (width : ℕ) (old : WatchState) → History old (before ++ turns) → Fits width old → IsAlone old →
-    Fits width (after_all old before) × (IsAlone (after_all old before) × History (after_all old before) turns)
-reached [] turns width old h fits alone = (fits, (alone, h))
-reached (turn ∷ before) turns width old h fits alone =
-    reached before turns width turn.state h.1 (turn_fits width old turn.state turn.event turn.result h.0 fits) (turn_alone old turn.state turn.event turn.result h.0 alone)
+ran (Changes c ∷ hs) width n old h count fits alone away all none spares =
+    ran hs width n c.state h.1 (changed_counted old c h.0) (changed_fits old c h.0 width fits) (changed_alone old c h.0 count alone) all.0 all.1 none (changed_spares width n old c h.0 spares)
 
 pub spared : SparedLaw
-spared g width before turns run away all none =
-    let s = opened g width in
-    let there = reached before turns width s run (refl, omega arith) (record { once = λ i. omega arith }) in
-    let end = after_all s before in
-    let few = ran turns width 0 end there.1.1 there.0 there.1.0 away all none (record { few = omega arith; all = inl refl }) in
+spared old hs reached h away all none =
+    let base = reached_base old reached in
+    let few = ran hs old.width 0 old h (reached_counted old reached) base.fits base.alone away all none (record { few = omega arith; all = inl refl }) in
     omega (arith, few)

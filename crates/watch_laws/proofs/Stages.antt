@@ -53,7 +53,7 @@ pub record IsEarly (f : Facts) (due k : ℕ) (s : WatchState) : Type 0 where
   pub whole : All (λ (q : Out). is_request_whole f.o q.since ≡ true) s.out
   pub r : ℕ
   pub from : ℕ
-  pub count : k + how_many f.n (is_anew f.o (suc from) s) ≤ f.width * r
+  pub count : k + how_many (f.n + f.width) (is_anew f.o (suc from) s) ≤ f.width * r
   pub fewer : turn_of f.o * r ≤ turn_of f.o * f.o.rounds
   pub base : ℕ
   pub reach : f.time ≤ base
@@ -68,7 +68,7 @@ pub record IsCut (f : Facts) (due k : ℕ) (s : WatchState) : Type 0 where
   pub endures : Endures f.o f.i f.end (free_from f) due Unit s
   pub unserved : is_request_served f.o s f.i ≡ false
   pub r : ℕ
-  pub count : k + how_many f.n (is_anew f.o f.o.until s) ≤ f.width * r
+  pub count : k + how_many (f.n + f.width) (is_anew f.o f.o.until s) ≤ f.width * r
   pub fewer : turn_of f.o * r ≤ turn_of f.o * f.o.rounds
   pub room : f.o.from + 1 + turn_of f.o * r ≤ f.time + turn_of f.o + f.o.quick + turn_of f.o * f.o.rounds
   pub next : due ≤ free_from f + f.o.late
@@ -81,7 +81,7 @@ pub record IsBack (f : Facts) (due k : ℕ) (s : WatchState) : Type 0 where
   pub r : ℕ
   pub from : ℕ
   pub last : ℕ
-  pub count : k + how_many f.n (is_anew f.o (suc from) s) ≤ f.width * r
+  pub count : k + how_many (f.n + f.width) (is_anew f.o (suc from) s) ≤ f.width * r
   pub fewer : turn_of f.o * suc r ≤ turn_of f.o * f.o.rounds
   pub room : f.o.from + 1 + turn_of f.o * suc r ≤ f.time + turn_of f.o + f.o.quick + turn_of f.o * f.o.rounds
   pub start : from + turn_of f.o * suc r ≤ last
@@ -107,7 +107,7 @@ pub record IsLate (f : Facts) (due k : ℕ) (s : WatchState) : Type 0 where
   pub over : f.o.until ≤ s.clocks.at
   pub soon : f.o.until ≤ f.time
   pub from : ℕ
-  pub count : k + how_many f.n (is_anew f.o (suc from) s) ≤ f.width * f.o.rounds
+  pub count : k + how_many (f.n + f.width) (is_anew f.o (suc from) s) ≤ f.width * f.o.rounds
   pub next : due ≤ cut f.o
 
 abbrev pub IsThrough : Facts → ℕ → ℕ → WatchState → Type 0

@@ -29,13 +29,13 @@ use Rattle.watch_laws.proofs.Clocking.{readied_clocks}
 use Rattle.watch_laws.proofs.Counting.{lanes_apart, lanes_most, least_all, some}
 use Rattle.watch_laws.proofs.Enduring.{Cutting, Endures, Kept, Missed, Steady, clock_held, clock_steady, cut, cut_off, later_endures}
 use Rattle.watch_laws.proofs.Going.{entry_by, named_of, one_sent}
-use Rattle.watch_laws.proofs.Grounds.{IsBase}
+use Rattle.watch_laws.proofs.Grounds.{IsBase, fewer_wait, tracked}
 use Rattle.watch_laws.proofs.Holding.{ready_presence}
-use Rattle.watch_laws.proofs.Lanes.{Sends, Ticks, all_sent, fewer_wait, goes_out_now, is_anew, is_of, pressed_count, served_marked, served_tried, stays_free, still_out}
+use Rattle.watch_laws.proofs.Lanes.{Sends, Ticks, all_sent, goes_out_now, is_anew, is_of, pressed_count, served_marked, served_tried, stays_free, still_out}
 use Rattle.watch_laws.proofs.Lasting.{Same, same_time}
 use Rattle.watch_laws.proofs.Marked.{any_time, free_lanes, none_of, not_out}
 use Rattle.watch_laws.proofs.Minding.{end_minded, tended}
-use Rattle.watch_laws.proofs.Requests.{any_gives, anew_none, later_than, none_passes, one_lane, one_left, quick_if, some_lane, take_one, whole_after}
+use Rattle.watch_laws.proofs.Requests.{any_gives, anew_none, later_than, none_passes, one_left, quick_if, some_lane, take_one, whole_after}
 use Rattle.watch_laws.proofs.Retrying.{ready_first, ready_later}
 use Rattle.watch_laws.proofs.Sparing.{readied_answers}
 use Rattle.watch_laws.proofs.Spacing.{free_of, mid_flag, passed_over, went}
@@ -237,7 +237,7 @@ module _ (f : Facts) (due : ℕ) (old new : WatchState) (wall elapsed : ℕ) (ou
         | inl out ↦
             All-weaker (Cutting o i bound miss old) (Cutting o i bound miss new)
             (λ q c is. ((c is).0, λ pressed'. let was = still_pressed out pressed' in let k = (c is).1 was in (k.0, λ heard'. held bound miss h far k.0 was (k.1 heard')))) old.out h.out
-        | inr free ↦ All-weaker (λ (q : Out). q.entry ≡ i → ⊥) (Cutting o i bound miss new) (λ q no' is. absurd (no' is)) old.out (none_of i old.out (free_lanes i old t.going.base.alone free))
+        | inr free ↦ All-weaker (λ (q : Out). q.entry ≡ i → ⊥) (Cutting o i bound miss new) (λ q no' is. absurd (no' is)) old.out (none_of i old.out (free_lanes i old within t.going.base.alone free))
       ]
 
   -- what it endures after the clock
@@ -400,18 +400,18 @@ module _ (f : Facts) (due : ℕ) (old new : WatchState) (wall elapsed : ℕ) (ou
       (λ k d below yes'. let q = get_or new.out k d in let le : q.since ≤ from = grind (arith, nat_tests) in quick_by from q (whole k d below) le)
 
   -- no more lanes than the width are anew, and as many where all are
-  all_anew : (from : ℕ) → All (λ (q : Out). is_request_whole o q.since ≡ true) new.out → All (λ (q : Out). from ≤ q.since) new.out → length new.out ≤ how_many f.n (is_anew o from new)
+  all_anew : (from : ℕ) → All (λ (q : Out). is_request_whole o q.since ≡ true) new.out → All (λ (q : Out). from ≤ q.since) new.out → length new.out ≤ how_many (f.n + f.width) (is_anew o from new)
   all_anew from whole late =
       let low = t.base.within in
-      lanes_apart f.n (λ (q : Out). is_request_whole o q.since && nat_le from q.since) new.out (λ j. one_lane new j t.base.alone)
+      lanes_apart (f.n + f.width) (λ (q : Out). is_request_whole o q.since && nat_le from q.since) new.out t.base.alone.single
       (λ k d below.
       let q = get_or new.out k d in
       let l = late k d below in
       let test : nat_le from q.since ≡ true = grind (arith, nat_tests) in
       (low k d below, and_from (is_request_whole o q.since) (nat_le from q.since) (whole k d below) test))
 
-  none_anew : (from : ℕ) → at < from → how_many f.n (is_anew o from new) ≡ 0
-  none_anew from late = anew_none o from f.n new all_now late
+  none_anew : (from : ℕ) → at < from → how_many (f.n + f.width) (is_anew o from new) ≡ 0
+  none_anew from late = anew_none o from (f.n + f.width) new all_now late
 
 -- those that wait, from before a clock to after it
 module _ (f : Facts) (due : ℕ) (old new : WatchState) (wall elapsed : ℕ) (output : Output) (t : IsTick f due old new wall elapsed output) (sends : Sends old new f.n) (rest : ℕ) where
@@ -424,8 +424,8 @@ module _ (f : Facts) (due : ℕ) (old new : WatchState) (wall elapsed : ℕ) (ou
   abbrev next : ℕ
   next = due' f due old new wall elapsed output t
 
-  fewer : (from : ℕ) → now + how_many f.n (is_anew f.o from new) ≤ before + how_many f.n (is_anew f.o from old)
-  fewer from = let all = fewer_wait f.o from f.n old new t.going.base.alone t.base.alone t.base.tries sends in omega (arith, all)
+  fewer : (from : ℕ) → now + how_many (f.n + f.width) (is_anew f.o from new) ≤ before + how_many (f.n + f.width) (is_anew f.o from old)
+  fewer from = let all = fewer_wait f.o from f.width f.n old new t.going.base t.base sends in omega (arith, all)
 
   -- the entry is one of them, where it was not served
   tried_some : is_tried new f.i ≡ true → is_request_served f.o old f.i ≡ false → 1 ≤ before
@@ -460,7 +460,7 @@ module _ (f : Facts) (due : ℕ) (old new : WatchState) (wall elapsed : ℕ) (ou
       let P : Out → Type 0 = λ q. q.entry ≡ f.i → (is_request_whole o q.since ≡ true) × (q.since ≤ at) in
       let clock = mid_clock f due old new wall elapsed output t in
       let whole : All P new.out =
-      all_sent P old new wall elapsed output t.ticks (All-weaker (λ (q : Out). q.entry ≡ f.i → ⊥) P (λ q no' is. absurd (no' is)) old.out (none_of f.i old.out (free_lanes f.i old t.going.base.alone goes'.1)))
+      all_sent P old new wall elapsed output t.ticks (All-weaker (λ (q : Out). q.entry ≡ f.i → ⊥) P (λ q no' is. absurd (no' is)) old.out (none_of f.i old.out (free_lanes f.i old (tracked f.width f.n old f.i t.going.base t.planned.within) t.going.base.alone goes'.1)))
       (λ k low due'' named is. (subst (λ n. is_request_whole o n ≡ true) (sym clock) goes'.0, omega (arith, clock))) in
       record {
         served = served;
@@ -489,7 +489,7 @@ module _ (f : Facts) (due : ℕ) (old new : WatchState) (wall elapsed : ℕ) (ou
   -- before the outage: the entry goes out and is served
   early_served : (h : IsEarly f due before old) → is_request_served f.o old f.i ≡ false → is_request_served f.o new f.i ≡ true → IsServed f next new
   early_served h unserved served =
-      let tried = served_tried f.o new f.i t.base.alone t.base.tries served in
+      let tried = served_tried f.o new f.i (tracked f.width f.n new f.i t.base t.planned.within) t.base.alone t.base.tries served in
       let one = tried_some tried unserved in
       let count = h.count in
       let r = one_left f.width h.r before (omega (arith, count)) one in
@@ -567,7 +567,7 @@ module _ (f : Facts) (due : ℕ) (old new : WatchState) (wall elapsed : ℕ) (ou
             let late : All (λ (q : Out). suc h.from ≤ q.since) new.out =
             All-weaker (λ (q : Out). nat_le q.since h.from ≡ false) (λ (q : Out). suc h.from ≤ q.since) (λ q no'. later_than h.from q.since no') new.out (none_passes (λ (q : Out). nat_le q.since h.from) new.out none') in
             let anew = all_anew f due old new wall elapsed output t (suc h.from) whole late in
-            let q = take_one f.width h.r (now + how_many f.n (is_anew o (suc h.from) new)) now t.planned.wide (omega (arith, full, anew)) (omega (arith, less, count)) in
+            let q = take_one f.width h.r (now + how_many (f.n + f.width) (is_anew o (suc h.from) new)) now t.planned.wide (omega (arith, full, anew)) (omega (arith, less, count)) in
             let m = ap (λ n. turn_of o * n) q.1.0 ∙ mul-suc (turn_of o) q.0 in
             let zero' = none_anew f due old new wall elapsed output t (suc at) (omega arith) in
             let fits = q.1.1 in
@@ -655,7 +655,7 @@ module _ (f : Facts) (due : ℕ) (old new : WatchState) (wall elapsed : ℕ) (ou
       let o = f.o in
       let unserved : is_request_served o old f.i ≡ false =
       elim (cases_Bool (is_request_served o old f.i)) as (λ _. is_request_served o old f.i ≡ false) [
-        | inl served ↦ absurd (not_both (served_marked o old f.i t.going.base.alone served) h.idle)
+        | inl served ↦ absurd (not_both (served_marked o old f.i (tracked f.width f.n old f.i t.going.base t.planned.within) t.going.base.alone served) h.idle)
         | inr no' ↦ no'
       ] in
       elim (cases_Bool (is_request_whole o new.clocks.at)) as (λ _. IsThrough f next now new) [
@@ -680,7 +680,7 @@ module _ (f : Facts) (due : ℕ) (old new : WatchState) (wall elapsed : ℕ) (ou
       ]
 
   -- the outage: nothing waits for longer than until the entry may go
-  still_cut : (r : ℕ) → now + how_many f.n (is_anew f.o f.o.until new) ≤ f.width * r → turn_of f.o * r ≤ turn_of f.o * f.o.rounds →
+  still_cut : (r : ℕ) → now + how_many (f.n + f.width) (is_anew f.o f.o.until new) ≤ f.width * r → turn_of f.o * r ≤ turn_of f.o * f.o.rounds →
       f.o.from + 1 + turn_of f.o * r ≤ f.time + turn_of f.o + f.o.quick + turn_of f.o * f.o.rounds → Endures f.o f.i f.end (free_from f) next Unit new → is_request_served f.o new f.i ≡ false → next ≤ free_from f + f.o.late →
       IsCut f next now new
   still_cut r count few room lasts unserved by' = record { endures = lasts; unserved = unserved; r = r; count = count; fewer = few; room = room; next = by' }
@@ -734,7 +734,7 @@ module _ (f : Facts) (due : ℕ) (old new : WatchState) (wall elapsed : ℕ) (ou
       let room' = room_back f h.r t.planned h.fewer h.room in
       elim (cases_Bool (is_request_served o new f.i)) as (λ _. IsThrough f next now new) [
         | inl served ↦
-            let tried = served_tried o new f.i t.base.alone t.base.tries served in
+            let tried = served_tried o new f.i (tracked f.width f.n new f.i t.base t.planned.within) t.base.alone t.base.tries served in
             let one = tried_some tried h.unserved in
             let r = one_left f.width h.r before (omega (arith, count)) one in
             let m = ap (λ n. turn_of o * n) r.1 ∙ mul-suc (turn_of o) r.0 in
@@ -762,7 +762,7 @@ module _ (f : Facts) (due : ℕ) (old new : WatchState) (wall elapsed : ℕ) (ou
                     | inl by' ↦ inl (inr (still_cut h.r (omega (arith, less, count)) h.fewer h.room lasts unserved by'))
                     | inr full ↦
                         let anew = all_anew f due old new wall elapsed output t o.until whole back in
-                        let q = take_one f.width h.r (now + how_many f.n (is_anew o o.until new)) now t.planned.wide (omega (arith, full, anew)) (omega (arith, less, count)) in
+                        let q = take_one f.width h.r (now + how_many (f.n + f.width) (is_anew o o.until new)) now t.planned.wide (omega (arith, full, anew)) (omega (arith, less, count)) in
                         let same = ap (λ n. turn_of o * n) q.1.0 in
                         let few = h.fewer in
                         let room = h.room in
@@ -803,7 +803,7 @@ module _ (f : Facts) (due : ℕ) (old new : WatchState) (wall elapsed : ℕ) (ou
       let last_by = h.last_by in
       elim (cases_Bool (is_request_served o new f.i)) as (λ _. IsThrough f next now new) [
         | inl served ↦
-            let tried = served_tried o new f.i t.base.alone t.base.tries served in
+            let tried = served_tried o new f.i (tracked f.width f.n new f.i t.base t.planned.within) t.base.alone t.base.tries served in
             let one = tried_some tried h.unserved in
             let r = one_left f.width h.r before (omega (arith, count)) one in
             let n = ap (λ k. turn_of o * k) r.1 ∙ mul-suc (turn_of o) r.0 in
@@ -815,7 +815,7 @@ module _ (f : Facts) (due : ℕ) (old new : WatchState) (wall elapsed : ℕ) (ou
             let s = steady f due old new wall elapsed output t (free_from f) Unit h.endures (λ u. far) in
             elim (heeds f due old new wall elapsed output t (free_from f) Unit reach s free) as (λ _. IsThrough f next now new) [
               | inl by' ↦
-                  let lanes = lanes_most f.n (λ (q : Out). is_request_whole o q.since && nat_le o.until q.since) new.out in
+                  let lanes = lanes_most (f.n + f.width) (λ (q : Out). is_request_whole o q.since && nat_le o.until q.since) new.out in
                   let fits = t.base.fits.1 in
                   let w = mul-suc f.width h.r in
                   inl (inr (still_cut (suc h.r) (omega (arith, less, count, lanes, fits, w)) h.fewer h.room lasts unserved by'))
@@ -845,7 +845,7 @@ module _ (f : Facts) (due : ℕ) (old new : WatchState) (wall elapsed : ℕ) (ou
                         All-weaker (λ (q : Out). nat_le q.since h.from ≡ false) (λ (q : Out). suc h.from ≤ q.since) (λ q no'. later_than h.from q.since no') new.out
                         (none_passes (λ (q : Out). nat_le q.since h.from) new.out none') in
                         let anew = all_anew f due old new wall elapsed output t (suc h.from) whole late in
-                        let q = take_one f.width h.r (now + how_many f.n (is_anew o (suc h.from) new)) now t.planned.wide (omega (arith, full, anew)) (omega (arith, less, count)) in
+                        let q = take_one f.width h.r (now + how_many (f.n + f.width) (is_anew o (suc h.from) new)) now t.planned.wide (omega (arith, full, anew)) (omega (arith, less, count)) in
                         let n = ap (λ k. turn_of o * k) q.1.0 in
                         let few = h.fewer in
                         let room = h.room in
@@ -857,7 +857,7 @@ module _ (f : Facts) (due : ℕ) (old new : WatchState) (wall elapsed : ℕ) (ou
   pub served_ticks : IsServed f due old → IsThrough f next now new
   served_ticks h =
       let o = f.o in
-      let marked = served_marked o old f.i t.going.base.alone h.served in
+      let marked = served_marked o old f.i (tracked f.width f.n old f.i t.going.base t.planned.within) t.going.base.alone h.served in
       let P : Out → Type 0 = λ q. q.entry ≡ f.i → (is_request_whole o q.since ≡ true) × (q.since ≤ h.sent) in
       let whole : All P new.out =
       all_sent P old new wall elapsed output t.ticks h.whole
@@ -913,7 +913,7 @@ module _ (f : Facts) (due : ℕ) (old new : WatchState) (wall elapsed : ℕ) (ou
                   (none_passes (λ (q : Out). not (is_request_whole o q.since)) new.out none') in
                   let free = not_out o f.i new t.base.marked not_served whole in
                   let s = steady f due old new wall elapsed output t f.time ⊥ h.endures (λ bad. absurd bad) in
-                  let zero' = anew_none o (suc at) f.n new t.base.since (omega arith) in
+                  let zero' = anew_none o (suc at) (f.n + f.width) new t.base.since (omega arith) in
                   let soon : next ≤ late_base f + turn_of o =
                   elim (heeds f due old new wall elapsed output t f.time ⊥ (omega arith) s free) as (λ _. next ≤ late_base f + turn_of o) [
                     | inl by' ↦ omega (arith, by')

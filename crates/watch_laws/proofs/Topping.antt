@@ -2,7 +2,7 @@
 use Rattle.std.proofs.Common.{◌≡◌, ◌≢◌, ◌∙◌, ℕ, ◌+◌, ◌-◌, ◌<◌, ◌≤◌, Bool, true, ◌&&◌, ◌||◌, ◌==◌, if◌then◌else◌, List, [], ◌∷◌, ◌++◌, Option, Some, None, Result, Ok, Err, length, map, min, nat_le, nat_lt, refl, sym, ap, subst, arith, inl, inr, ◌⊎◌, not, ap₂, false}
 use Rattle.std.proofs.lemmas.Bool.{and_parts, cases_Bool, cond-true, cond-false, eqb-true}
 use Rattle.std.proofs.lemmas.Bool.Decides.{nat_tests}
-use Rattle.std.proofs.lemmas.List.{append-nil, get_or-map, get_or-set_other, get_or-set_same, length-map}
+use Rattle.std.proofs.lemmas.List.{append-nil, get_or-map, get_or-set_other, get_or-set_same}
 use Rattle.std.specs.List.{list_any}
 use Rattle.keep_tree.specs.declared.entry.Entry.{Entry}
 use Rattle.keep_tree.specs.Forest.{entry_at, no_entry}
@@ -24,7 +24,7 @@ use Rattle.watch_machine.specs.declared.track.Track.{Track}
 use Rattle.watch_machine.specs.Answers.{back_track, noted, replied}
 use Rattle.watch_machine.specs.Beginning.{begun, is_called, is_start, owing, owing_lookup, owing_past, soon, sooner_try, untopped, untopped_track}
 use Rattle.watch_machine.specs.Clocks.{sec}
-use Rattle.watch_machine.specs.History.{History, Turn, Turned, after_all}
+use Rattle.watch_machine.specs.History.{Turn}
 use Rattle.watch_machine.specs.Looked.{looked, told_state, told_track, untold_track}
 use Rattle.watch_machine.specs.Press.{asked_track, dropped, is_fresh, press, pressed, pressed_alone, pressed_track, track_asked_in}
 use Rattle.watch_machine.specs.Refusal.{request_out}
@@ -32,7 +32,7 @@ use Rattle.watch_machine.specs.Renewed.{from_try, granted_from, is_no_further, r
 use Rattle.watch_machine.specs.Round.{asked_by_round}
 use Rattle.watch_machine.specs.Sending.{sent, sent_in, sent_track}
 use Rattle.watch_machine.specs.Settling.{settled, settled_track, timed}
-use Rattle.watch_machine.specs.State.{WatchState, entry_of, fresh_track, keeps_last_try, no_track, opened, track_at, track_in}
+use Rattle.watch_machine.specs.State.{WatchState, entry_of, fresh_track, keeps_last_try, no_track, track_at, track_in}
 use Rattle.watch_machine.specs.Step.{Step, StepClock, StepLooked, StepRenewed, readied, told_earlier, why}
 use Rattle.watch_machine.specs.Wanted.{believed, is_open, need_of, wants}
 use Rattle.watch_machine.proofs.Cases.{if_both, not_both}
@@ -40,7 +40,7 @@ use Rattle.watch_machine.proofs.Within.{out_entry}
 use Rattle.watch_machine.proofs.Written.{each_length}
 use Rattle.watch_laws.specs.Absence.{is_event_taken}
 use Rattle.watch_laws.specs.Presence.{is_told}
-use Rattle.watch_laws.specs.Tops.{EndNoFurther, Granted, ToppedLaw, grant_by, grant_of, grant_told, grants, is_grant_of}
+use Rattle.watch_laws.specs.Tops.{EndNoFurther, Granted, grant_by, grant_of, grant_told, is_grant_of}
 use Rattle.watch_laws.proofs.Clocking.{refused_stays, sent_by}
 use Rattle.watch_laws.proofs.Tracking.{back_kept, each_kept, known_is, looked_count, renewed_count, set_count, set_kept}
 
@@ -62,7 +62,7 @@ no_new_top y x (inr h) top = absurd (not_both top h.0)
 abbrev pub Lower : Track → Track → Type 0
 Lower y x = (y.grant ≡ x.grant) × Tops y x
 
-lower_same : (x : Track) → Lower x x
+pub lower_same : (x : Track) → Lower x x
 lower_same x = (refl, inl (refl, refl))
 
 lower_both : (z y x : Track) → Lower z y → Lower y x → Lower z x
@@ -181,11 +181,11 @@ abbrev EndIn : List Granted → Option Grant → Type 0
 EndIn gs None = Unit {0}
 EndIn gs (Some g) = (earlier : List Granted) × (gs ≡ earlier ++ told_grant g ∷ [])
 
-record Kept (gs : List Granted) (x : Track) : Type 0 where
-  last : EndIn gs x.grant
-  topped : x.top ≡ true → EndNoFurther gs
+pub record Kept (gs : List Granted) (x : Track) : Type 0 where
+  pub last : EndIn gs x.grant
+  pub topped : x.top ≡ true → EndNoFurther gs
 
-lower_kept : (gs : List Granted) (y x : Track) → Lower y x → Kept gs x → Kept gs y
+pub lower_kept : (gs : List Granted) (y x : Track) → Lower y x → Kept gs x → Kept gs y
 lower_kept gs y x h k = record { last = subst (EndIn gs) (sym h.0) k.last; topped = λ top. k.topped (no_new_top y x h.1 top) }
 
 -- a grant
@@ -230,7 +230,7 @@ ungranted_lower : (at : ℕ) (heard : Bool) (reply : Reply) (x : Track) → Lowe
 unfolding ungranted_track
 ungranted_lower at heard reply x = (refl, inl (refl, refl))
 
-none_more : (gs : List Granted) (x : Track) → Kept gs x → Kept (gs ++ []) x
+pub none_more : (gs : List Granted) (x : Track) → Kept gs x → Kept (gs ++ []) x
 none_more gs x k = subst (λ ys. Kept ys x) (sym (append-nil gs)) k
 
 own_renewed :
@@ -371,35 +371,18 @@ pub turn_count : (old new : WatchState) (event : Event) (result : Result Output 
 turn_count old new event (Ok output) turn = step_count old new event output turn.1
 turn_count old new event (Err fault) turn = ap (λ (x : WatchState). length x.tracks) (refused_stays old new event fault turn)
 
-turn_kept :
+pub turn_kept :
     (old new : WatchState) (event : Event) (result : Result Output WatchFault) (i : ℕ) (gs : List Granted) → Turn old event result new → i < length old.tracks → Kept gs (track_at old i) →
     Kept (gs ++ grant_of i new event result) (track_at new i)
 turn_kept old new event (Ok output) i gs turn within k = step_kept old new event output i gs turn.1 within k
 turn_kept old new event (Err fault) i gs turn within k =
     none_more gs (track_at new i) (subst (λ (x : WatchState). Kept gs (track_at x i)) (sym (refused_stays old new event fault turn)) k)
 
-append_three : (xs ys zs : List Granted) → (xs ++ ys) ++ zs ≡ xs ++ (ys ++ zs)
-append_three [] ys zs = refl
-append_three (x ∷ xs) ys zs = ap (λ rest. x ∷ rest) (append_three xs ys zs)
-
-ran :
-    (turns : List Turned) (old : WatchState) (i : ℕ) (gs : List Granted) → History old turns → i < length old.tracks → Kept gs (track_at old i) →
-    Kept (gs ++ grants i turns) (track_at (after_all old turns) i)
-ran [] old i gs h within k = none_more gs (track_at old i) k
-ran (turn ∷ turns) old i gs h within k =
-    let here = turn_kept old turn.state turn.event turn.result i gs h.0 within k in
-    let count = turn_count old turn.state turn.event turn.result h.0 in
-    let rest = ran turns turn.state i (gs ++ grant_of i turn.state turn.event turn.result) h.1 (omega (arith, count, within)) here in
-    subst (λ ys. Kept ys (track_at (after_all turn.state turns) i)) (append_three gs (grant_of i turn.state turn.event turn.result) (grants i turns)) rest
-
 pub first_track : (es : List Entry) (i : ℕ) → i < length es → track_in (map fresh_track es) i ≡ fresh_track (entry_at es i)
 unfolding entry_at
 first_track es i within = get_or-map fresh_track es i no_entry no_track within
 
-pub topped : ToppedLaw
-topped g width turns run i within top =
-    let s = opened g width in
-    let fresh : track_at s i ≡ fresh_track (entry_at g.entries i) = first_track g.entries i within in
-    let none : Kept [] (track_at s i) = subst (Kept []) (sym fresh) (record { last = tt; topped = λ yes'. absurd cc }) in
-    let count = length-map g.entries fresh_track in
-    (ran turns s i [] run (omega (arith, count, within)) none).topped top
+-- what a change makes of an entry that is told anew
+pub owed_lower : (at : ℕ) (x : Track) → Lower (owing_lookup at (untopped_track x)) x
+owed_lower at x =
+    if_both (λ y. Lower y x) x.out (record (untopped_track x) { owes = true }) (record (untopped_track x) { owes = true; attempt = Some (sooner_try (soon at x) x.attempt) }) (refl, inr (refl, refl)) (refl, inr (refl, refl))

@@ -6,8 +6,6 @@ use Rattle.std.proofs.lemmas.Bool.Decides.{nat_tests}
 use Rattle.std.proofs.lemmas.List.{get_or-set_other, get_or-set_same, length-set}
 use Rattle.std.specs.List.{list_any}
 use Rattle.keep_tree.specs.declared.entry.Entry.{Entry}
-use Rattle.keep_moment.specs.declared.moment.TheConstants.{LAST}
-use Rattle.keep_tree.specs.Forest.{Forest}
 use Rattle.watch_machine.specs.declared.command.Output.{Output}
 use Rattle.watch_machine.specs.declared.event.Event.{Event}
 use Rattle.watch_machine.specs.declared.event.Event.TheVariants.{Clock, Looked, Renewed, Need, Begin, Known}
@@ -25,9 +23,9 @@ use Rattle.watch_machine.specs.declared.track.Try.{Try}
 use Rattle.watch_machine.specs.Answers.{failing, heard, lane_freed, noted, replied, with_track, without_request}
 use Rattle.watch_machine.specs.Beginning.{begun, hastened, is_called, is_pressed, is_pressed_try, is_start, owed, owing, owing_lookup, owing_past, soon, sooner_try, untopped, untopped_track}
 use Rattle.watch_machine.specs.Clocks.{sec}
-use Rattle.watch_machine.specs.History.{History, Turn, Turned, after_all}
+use Rattle.watch_machine.specs.History.{History, Turn, Turned}
 use Rattle.watch_machine.specs.Lines.{is_first, later_at, ready}
-use Rattle.watch_machine.specs.Looked.{after_look, at_once, by_terms, is_called_for, looked, refused_try, told_state, told_track, told_try, untold, untold_track}
+use Rattle.watch_machine.specs.Looked.{after_look, at_once, is_called_for, looked, refused_try, told_state, told_track, told_try, untold, untold_track}
 use Rattle.watch_machine.specs.Margins.{has_come}
 use Rattle.watch_machine.specs.Press.{is_fresh, pressed}
 use Rattle.watch_machine.specs.Refusal.{request_out}
@@ -35,7 +33,7 @@ use Rattle.watch_machine.specs.Renewed.{after_renewal, from_try, granted_from, g
 use Rattle.watch_machine.specs.Round.{asked_by_round as round_of}
 use Rattle.watch_machine.specs.Sending.{sent}
 use Rattle.watch_machine.specs.Settling.{is_real, settled, settled_track, settled_try, timed}
-use Rattle.watch_machine.specs.State.{WatchState, attempt_at, entry_of, no_track, opened, second, track_at}
+use Rattle.watch_machine.specs.State.{WatchState, attempt_at, entry_of, no_track, second, track_at}
 use Rattle.watch_machine.specs.Step.{Step, StepClock, StepLooked, StepRenewed, known, readied, told_earlier, why, with_need_until}
 use Rattle.watch_machine.specs.Wanted.{is_alive, is_open, is_wanted, need_of, wanted_need, wants}
 use Rattle.watch_machine.proofs.Cases.{if_both, not_both}
@@ -45,11 +43,11 @@ use Rattle.watch_laws.specs.Outage.{IsReplyInOutage, Outage, is_request_served, 
 use Rattle.watch_laws.specs.Recovery.{without_outage}
 use Rattle.watch_laws.specs.Starts.{AreUnderWay, AreWorked, BrokerIsThere, FirstTryIsUnderWay, IsAtWork, IsThereAt, IsWorked, IsWorking, SoonLaw, is_first_try}
 use Rattle.watch_laws.proofs.Answering.{looked_rest}
+use Rattle.watch_laws.proofs.Bases.{last_base}
 use Rattle.watch_laws.proofs.Clocking.{readied_clocks, refused_stays, sent_by}
-use Rattle.watch_laws.proofs.Grounds.{IsBase, first_turns, last_turns, opened_base, ran_base, turn_base}
+use Rattle.watch_laws.proofs.Grounds.{IsBase, turn_base}
 use Rattle.watch_laws.proofs.Holding.{looked_presence, ready_presence}
 use Rattle.watch_laws.proofs.Lanes.{goes_out_now, replied_lane, still_out, ticks}
-use Rattle.watch_laws.proofs.Lasting.{clock_forest}
 use Rattle.watch_laws.proofs.Minding.{some_within}
 use Rattle.watch_laws.proofs.Once.{names_none}
 use Rattle.watch_laws.proofs.OnPlan.{attempt_sent, presence_away, stays}
@@ -57,9 +55,10 @@ use Rattle.watch_laws.proofs.Opener.{mid_bears}
 use Rattle.watch_laws.proofs.Recovering.{all_whole}
 use Rattle.watch_laws.proofs.Resting.{IsUntold}
 use Rattle.watch_laws.proofs.Retrying.{rises}
+use Rattle.watch_laws.proofs.Shapes.{turn_shape}
 use Rattle.watch_laws.proofs.Spacing.{looked_other, looked_out, same_index}
 use Rattle.watch_laws.proofs.Starting.{starts_soon}
-use Rattle.watch_laws.proofs.Tracking.{each_kept, known_is, known_out, replied_forest, set_kept}
+use Rattle.watch_laws.proofs.Tracking.{each_kept, known_is, known_out, set_kept}
 
 -- ---- a first try
 
@@ -425,41 +424,6 @@ turn_way :
 turn_way quick late width n i due old new event (Ok output) turn there base wanted first way = step_way quick late width n i due old new event output turn.1 there base wanted first way
 turn_way quick late width n i due old new event (Err fault) turn there base wanted first way = subst (λ (x : WatchState). FirstTryIsUnderWay (without_outage quick late) x i) (sym (refused_stays old new event fault turn)) way
 
--- there are as many entries as before
-looked_count : (s : WatchState) (q : Out) (reply : Reply) (terms : Terms) → length (looked s q reply terms).forest.entries ≡ length s.forest.entries
-looked_count s q (Told seconds renewable date) terms = length-set s.forest.entries q.entry (by_terms s.forest.margin terms (entry_of s q.entry))
-looked_count s q (Refused status date) terms = refl
-looked_count s q Busy terms = refl
-looked_count s q Lost terms = refl
-
-looked_many : (old new : WatchState) (found : Option Out) (reply : Reply) (terms : Terms) (output : Output) → StepLooked old found reply terms output new → length new.forest.entries ≡ length old.forest.entries
-looked_many old new None reply terms output step = absurd step
-looked_many old new (Some q) reply terms output step =
-    let s = noted old q reply in
-    ap (λ (x : WatchState). length x.forest.entries) step.1 ∙ ap (λ (g : Forest). length g.entries) (replied_forest (looked s q reply terms) q reply) ∙ looked_count s q reply terms
-
-renewed_many : (old new : WatchState) (found : Option Out) (reply : Reply) (output : Output) → StepRenewed old found reply output new → length new.forest.entries ≡ length old.forest.entries
-renewed_many old new None reply output step = absurd step
-renewed_many old new (Some q) reply output step =
-    let s = noted old q reply in
-    ap (λ (x : WatchState). length x.forest.entries) step.1 ∙ ap (λ (g : Forest). length g.entries) (replied_forest (state_renewed s q reply) q reply)
-
-step_many : (old new : WatchState) (event : Event) (output : Output) → Step old event output new → length new.forest.entries ≡ length old.forest.entries
-step_many old new (Clock wall elapsed) output step = ap (λ (g : Forest). length g.entries) (clock_forest old new wall elapsed output (ticks old new wall elapsed output step))
-step_many old new (Looked j reply terms) output step = looked_many old new (request_out old.out j Look) reply terms output step
-step_many old new (Renewed j reply) output step = renewed_many old new (request_out old.out j Renew) reply output step
-step_many old new (Need j until) output step = ap (λ (x : WatchState). length x.forest.entries) step.1 ∙ length-set old.forest.entries j (record (entry_of old j) { need = min LAST until })
-step_many old new Begin output step = ap (λ (x : WatchState). length x.forest.entries) step.1
-step_many old new (Known j end renewable) output step = ap (λ (x : WatchState). length x.forest.entries) step.1
-
-turn_many : (old new : WatchState) (event : Event) (result : Result Output WatchFault) → Turn old event result new → length new.forest.entries ≡ length old.forest.entries
-turn_many old new event (Ok output) turn = step_many old new event output turn.1
-turn_many old new event (Err fault) turn = ap (λ (x : WatchState). length x.forest.entries) (refused_stays old new event fault turn)
-
-all_many : (turns : List Turned) (old : WatchState) → History old turns → length (after_all old turns).forest.entries ≡ length old.forest.entries
-all_many [] old h = refl
-all_many (turn ∷ turns) old h = all_many turns turn.state h.1 ∙ turn_many old turn.state turn.event turn.result h.0
-
 -- ---- so it is at work at each clock
 
 works : (o : Outage) (i due : ℕ) (old new : WatchState) (event : Event) → BrokerIsThere o due old event → IsAtWork o new i → IsWorking o i due old event new
@@ -482,24 +446,20 @@ all_work quick late width n i low (turn ∷ turns) due old history base count wa
     let o = without_outage quick late in
     let new = turn.state in
     let next = turn_base width n old new turn.event turn.result history.0 base in
-    let many : length new.forest.entries ≡ n = turn_many old new turn.event turn.result history.0 ∙ count in
+    let many : length new.forest.entries ≡ n = (turn_shape old new turn.event turn.result history.0).0 ∙ count in
     let on = turn_way quick late width n i due old new turn.event turn.result history.0 under.0 base under.1.0 under.1.1.0 way in (
       works_at o i due old new turn.event turn.result under.0 (at_work o new i (omega (arith, low, many)) on),
       all_work quick late width n i low turns (outage_next_after o turn.result new due) new history.1 next many on under.1.1.1,
     )
 
 pub wanted_soon : SoonLaw
-wanted_soon quick late rounds g width before last turns i wide run clock taken' way under few =
+wanted_soon quick late rounds old last turns i reached wide history clock taken' way under few =
     let o = without_outage quick late in
-    let n = length g.entries in
-    let old = after_all (opened g width) before in
-    let history = last_turns before (last ∷ turns) (opened g width) run in
-    let first = first_turns before (last ∷ turns) (opened g width) run in
     let s = last.state in
-    let base = turn_base width n old s last.event last.result history.0 (ran_base width n before (opened g width) first (opened_base g width)) in
-    let many : length s.forest.entries ≡ n = turn_many old s last.event last.result history.0 ∙ all_many before (opened g width) first in
+    let n = length s.forest.entries in
+    let base = last_base old last turns reached history in
     let inside = some_within s.tracks i way.attempt way.attempt_is in
     let count = base.count in
     let low : i < n = omega (arith, inside, count) in
-    starts_soon quick late rounds g width before last turns i wide run clock taken' low (at_work o s i (omega (arith, low, many)) way)
-    (all_work quick late width n i low turns (outage_next_after o last.result s 0) s history.1 base many way under) few
+    starts_soon quick late rounds old last turns i reached wide history clock taken' low (at_work o s i low way)
+    (all_work quick late old.width n i low turns (outage_next_after o last.result s 0) s history.1 base refl way under) few

@@ -1,5 +1,5 @@
 -- Width: no more requests are out than the width. For the law of the width.
-use Rattle.std.proofs.Common.{◌≡◌, ◌∙◌, ℕ, ◌-◌, ◌≤◌, List, [], ◌∷◌, Option, Some, None, Result, Ok, Err, length, map, not, ◌==◌, if◌then◌else◌, refl, sym, ap, subst, arith}
+use Rattle.std.proofs.Common.{◌≡◌, ◌∙◌, ℕ, ◌-◌, ◌≤◌, List, Option, Some, None, Result, Ok, Err, length, map, not, ◌==◌, if◌then◌else◌, refl, sym, ap, subst, arith}
 use Rattle.std.proofs.lemmas.List.{length-append, length-map}
 use Rattle.std.proofs.lemmas.List.Sums.{count_by-le-length, length-filter}
 use Rattle.watch_machine.specs.declared.command.Command.{Command}
@@ -13,7 +13,7 @@ use Rattle.watch_machine.specs.declared.event.Terms.{Terms}
 use Rattle.watch_machine.specs.declared.fault.WatchFault.{WatchFault}
 use Rattle.watch_machine.specs.declared.lanes.Out.{Out}
 use Rattle.watch_machine.specs.Answers.{answers_all, heard, lane_freed, noted, replied, silent, without_request}
-use Rattle.watch_machine.specs.History.{History, Turn, Turned}
+use Rattle.watch_machine.specs.History.{Turn}
 use Rattle.watch_machine.specs.Looked.{looked}
 use Rattle.watch_machine.specs.Press.{pressed}
 use Rattle.watch_machine.specs.Refusal.{request_out}
@@ -21,10 +21,9 @@ use Rattle.watch_machine.specs.Renewed.{state_renewed}
 use Rattle.watch_machine.specs.Round.{asked_by_round as round_of}
 use Rattle.watch_machine.specs.Sending.{out_at}
 use Rattle.watch_machine.specs.Settling.{is_real}
-use Rattle.watch_machine.specs.State.{WatchState, opened}
+use Rattle.watch_machine.specs.State.{WatchState}
 use Rattle.watch_machine.specs.Step.{Step, StepCommand, StepLooked, StepRenewed, readied}
 use Rattle.watch_machine.proofs.Cases.{if_both}
-use Rattle.watch_laws.specs.Load.{AllWithin, WidthLaw}
 use Rattle.watch_laws.proofs.Answering.{looked_leaves, renewed_leaves, rest_of}
 use Rattle.watch_laws.proofs.Clocking.{readied_width, refused_stays}
 use Rattle.watch_laws.proofs.Going.{goes}
@@ -91,10 +90,3 @@ step_fits n old new (Known j end renewable) output step h = subst (Fits n) (sym 
 pub turn_fits : (n : ℕ) (old new : WatchState) (event : Event) (result : Result Output WatchFault) → Turn old event result new → Fits n old → Fits n new
 turn_fits n old new event (Ok output) turn h = step_fits n old new event output turn.1 h
 turn_fits n old new event (Err fault) turn h = subst (Fits n) (sym (refused_stays old new event fault turn)) h
-
-ran : (turns : List Turned) (n : ℕ) (old : WatchState) → History old turns → Fits n old → AllWithin n turns
-ran [] n old run h = tt
-ran (turn ∷ turns) n old run h = let here = turn_fits n old turn.state turn.event turn.result run.0 h in (here.1, ran turns n turn.state run.1 here)
-
-pub width : WidthLaw
-width g n turns run = ran turns n (opened g n) run (refl, omega arith)

@@ -30,8 +30,8 @@ use Rattle.watch_laws.specs.Starts.{AllSoon, AreWorked, IsAtWork, IsWorked, IsWo
 use Rattle.watch_laws.proofs.Alone.{lanes_of, none_left, replied_lanes}
 use Rattle.watch_laws.proofs.Clocking.{readied_clocks, refused_stays}
 use Rattle.watch_laws.proofs.Counting.{least_all, more as more_pass, no_lane, some}
-use Rattle.watch_laws.proofs.Grounds.{IsBase, turn_base}
-use Rattle.watch_laws.proofs.Lanes.{Sends, Ticks, fewer_wait, is_anew, is_of, passes, replied_any, replied_lane, served_tried, still_out, ticks, turn_sends}
+use Rattle.watch_laws.proofs.Grounds.{IsBase, fewer_wait, tracked, turn_base}
+use Rattle.watch_laws.proofs.Lanes.{Sends, Ticks, is_anew, is_of, passes, replied_any, replied_lane, served_tried, still_out, ticks, turn_sends}
 use Rattle.watch_laws.proofs.Recovering.{Passes, Quiet, Timely, clock_passes, looked_quiet, quiet_passes, renewed_quiet, same_quiet, settles_so}
 use Rattle.watch_laws.proofs.Requests.{any_gives, one_left}
 use Rattle.watch_laws.proofs.Spacing.{looked_out, same_index}
@@ -54,7 +54,7 @@ pub record Serves (quick late width n i by due k : ℕ) (s : WatchState) : Type 
   pub turn : ℕ
   pub sent : ℕ
   pub served : since_by i sent s.out ≡ true
-  pub count : k + how_many n (is_anew (without_outage quick late) anew s) ≤ width * r
+  pub count : k + how_many (n + width) (is_anew (without_outage quick late) anew s) ≤ width * r
   pub order : anew ≤ suc turn
   pub start : turn + (quick + late) * r ≤ by + (quick + late)
   pub sent_turn : sent ≤ turn
@@ -223,11 +223,11 @@ module _ (quick late width n i by due rest : ℕ) (old new : WatchState) (wall e
   goes : Waits quick late width n i by due more old → is_request_served o new i ≡ true → Stage quick late width n i by (outage_next_after_command o output.command new due) (waiting o n new + rest) new
   goes w served =
       let p = w.passing in
-      let less = fewer_wait o (suc p.from) n old new p.base.alone base.alone base.tries sends in
+      let less = fewer_wait o (suc p.from) width n old new p.base base sends in
       let count = p.count in
       let start = p.start in
       let next = p.next in
-      let tried = served_tried o new i base.alone base.tries served in
+      let tried = served_tried o new i (tracked width n new i base low) base.alone base.tries served in
       let one = one_waits o n i old new low w.unserved tried in
       let r = one_left width p.r more (omega (arith, count)) (omega (arith, one)) in
       let g = ap (λ x. (quick + late) * x) r.1 ∙ mul-suc (quick + late) r.0 in
@@ -262,7 +262,7 @@ module _ (quick late width n i by due rest : ℕ) (old new : WatchState) (wall e
 
   clock_serves : Serves quick late width n i by due more old → Stage quick late width n i by (outage_next_after_command o output.command new due) (waiting o n new + rest) new
   clock_serves v =
-      let less = fewer_wait o v.anew n old new v.base.alone base.alone base.tries sends in
+      let less = fewer_wait o v.anew width n old new v.base base sends in
       let count = v.count in
       let next = v.next in
       let sent_by = v.sent_by in
@@ -302,7 +302,7 @@ quiet_stage quick late width n i by due rest old new output quiet base sends lea
     inl (record { passing = quiet_passes quick late width n i by due rest old new output quiet base sends w.passing; unserved = leaves.unserved w.unserved })
 quiet_stage quick late width n i by due rest old new output quiet base sends leaves (inr v) =
     let o = without_outage quick late in
-    let less = fewer_wait o v.anew n old new v.base.alone base.alone base.tries sends in
+    let less = fewer_wait o v.anew width n old new v.base base sends in
     let count = v.count in
     let now = v.now in
     let c = quiet.0 in
@@ -342,8 +342,8 @@ own_stage quick late width n i by due rest old new output quiet base sends unser
     })
 own_stage quick late width n i by due rest old new output quiet base sends unserved (inr v) =
     let o = without_outage quick late in
-    let less = fewer_wait o v.anew n old new v.base.alone base.alone base.tries sends in
-    let fewer = fewer_anew o v.anew (suc v.turn) n new v.order in
+    let less = fewer_wait o v.anew width n old new v.base base sends in
+    let fewer = fewer_anew o v.anew (suc v.turn) (n + width) new v.order in
     let count = v.count in
     let now = v.now in
     let next = v.next in
@@ -463,8 +463,8 @@ turn_stage quick late width n i by due rest old turn wide low step working base 
       step'.1 working' base sends stage)
   by_result (Err fault) is step' working' =
       let same = refused_stays old turn.state turn.event fault step' in
-      let less = fewer_wait (without_outage quick late) 0 n old turn.state old_base.alone base.alone base.tries sends in
-      let anew = ap (λ (x : WatchState). how_many n (is_anew (without_outage quick late) 0 x)) same in
+      let less = fewer_wait (without_outage quick late) 0 width n old turn.state old_base base sends in
+      let anew = ap (λ (x : WatchState). how_many (n + width) (is_anew (without_outage quick late) 0 x)) same in
       subst (λ r. Stage quick late width n i (by + later_by i (quick + late) turn) (outage_next_after (without_outage quick late) r turn.state due) (waiting (without_outage quick late) n turn.state + rest) turn.state) (sym is)
       (later_stage quick late width n i by (by + later_by i (quick + late) turn) due (waiting (without_outage quick late) n turn.state + rest) turn.state (omega arith)
       (same_stage quick late width n i by due rest (waiting (without_outage quick late) n old + (how_many n (comes (without_outage quick late) old turn.state) + rest)) old turn.state same base (omega (arith, less, anew)) stage))

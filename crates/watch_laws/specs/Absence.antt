@@ -2,23 +2,22 @@
 -- Source: this project's own.
 use Rattle.std.specs.Prelude.{◌≡◌, ℕ, ◌+◌, ◌≤◌, Bool, true, false, not, List, [], ◌∷◌, ◌++◌, Option, Some, None, Result, Ok, Err, filter, length}
 use Rattle.std.specs.List.{list_any}
-use Rattle.keep_tree.specs.Forest.{Forest}
 use Rattle.watch_machine.specs.declared.command.Output.{Output}
 use Rattle.watch_machine.specs.declared.command.Request.{Request}
 use Rattle.watch_machine.specs.declared.event.Event.{Event}
 use Rattle.watch_machine.specs.declared.event.Event.TheVariants.{Clock, Looked, Renewed, Need, Begin, Known}
 use Rattle.watch_machine.specs.declared.fault.WatchFault.{WatchFault}
 use Rattle.watch_machine.specs.declared.track.Try.{Try}
-use Rattle.watch_machine.specs.History.{History, IsWatchRun, Turned, after_all}
+use Rattle.watch_machine.specs.History.{AllHappen, Changes, Happening, Hands, IsReached, Turned, state_after, state_after_all}
 use Rattle.watch_machine.specs.Lines.{is_first}
 use Rattle.watch_machine.specs.Settling.{is_silent}
-use Rattle.watch_machine.specs.State.{WatchState, attempt_at, opened}
+use Rattle.watch_machine.specs.State.{WatchState, attempt_at}
 use Rattle.watch_laws.specs.Load.{requests_at_turn}
 
--- the broker is away after each turn
-abbrev pub AllAway : List Turned → Type 0
+-- the broker is away after all of this
+abbrev pub AllAway : List Happening → Type 0
 AllAway [] = Unit {0}
-AllAway (turn ∷ turns) = (turn.state.presence.away ≡ true) × AllAway turns
+AllAway (h ∷ hs) = ((state_after h).presence.away ≡ true) × AllAway hs
 
 -- a clock that was taken
 abbrev pub is_clock : Event → Bool
@@ -44,8 +43,8 @@ pub record Sets (old : WatchState) (turn : Turned) : Type 0 where
 -- while the broker is away, two settings of the hold are a second apart or more
 abbrev pub HeldLaw : Type 0
 HeldLaw =
-    (old : WatchState) (first next : Turned) (between : List Turned) → History old (first ∷ (between ++ next ∷ [])) → AllAway (first ∷ between) → Sets old first →
-    Sets (after_all first.state between) next → first.state.clocks.at + 1000 ≤ next.state.clocks.at
+    (old : WatchState) (first next : Turned) (between : List Happening) → AllHappen old (Hands first ∷ (between ++ Hands next ∷ [])) → AllAway (Hands first ∷ between) → Sets old first →
+    Sets (state_after_all first.state between) next → first.state.clocks.at + 1000 ≤ next.state.clocks.at
 
 -- a request is a later try: one that failed before, or that only owes a lookup
 abbrev pub is_later_try : Option Try → Bool
@@ -56,17 +55,18 @@ abbrev pub is_later : WatchState → Request → Bool
 is_later s r = is_later_try (attempt_at s r.entry)
 
 -- how many later tries go out
-abbrev pub laters : List Turned → ℕ
+abbrev pub laters : List Happening → ℕ
 laters [] = 0
-laters (turn ∷ turns) = length (filter (is_later turn.state) (requests_at_turn turn.result)) + laters turns
+laters (Hands turn ∷ hs) = length (filter (is_later turn.state) (requests_at_turn turn.result)) + laters hs
+laters (Changes c ∷ hs) = laters hs
 
 -- no turn sets the hold
-abbrev pub NoneSets : WatchState → List Turned → Type 0
+abbrev pub NoneSets : WatchState → List Happening → Type 0
 NoneSets old [] = Unit {0}
-NoneSets old (turn ∷ turns) = (Sets old turn → ⊥) × NoneSets turn.state turns
+NoneSets old (Hands turn ∷ hs) = (Sets old turn → ⊥) × NoneSets turn.state hs
+NoneSets old (Changes c ∷ hs) = NoneSets c.state hs
 
--- while the broker is away, no more later tries than the width go out until the hold is set anew
+-- while the broker is away, no more later tries than the width go out until the hold is set anew. A change adds none: each that goes out keeps its
+-- lane, also where its entry is no more
 abbrev pub SparedLaw : Type 0
-SparedLaw =
-    (g : Forest) (width : ℕ) (before turns : List Turned) → IsWatchRun g width (before ++ turns) → (after_all (opened g width) before).presence.away ≡ true → AllAway turns →
-    NoneSets (after_all (opened g width) before) turns → laters turns ≤ width
+SparedLaw = (old : WatchState) (hs : List Happening) → IsReached old → AllHappen old hs → old.presence.away ≡ true → AllAway hs → NoneSets old hs → laters hs ≤ old.width

@@ -3,7 +3,6 @@
 -- Source: this project's own.
 use Rattle.std.specs.Prelude.{◌≡◌, ◌⊎◌, ◌==◌, ℕ, ◌+◌, ◌<◌, ◌≤◌, Bool, true, false, ◌&&◌, List, [], ◌∷◌, ◌++◌, Option, Some, None, Result, Ok, Err, filter, is_some, length, min}
 use Rattle.std.specs.List.{list_any}
-use Rattle.keep_tree.specs.Forest.{Forest}
 use Rattle.keep_tree.specs.declared.forest.TheConstants.{END_MAX}
 use Rattle.watch_machine.specs.declared.clocks.WallOffset.{WallOffset}
 use Rattle.watch_machine.specs.declared.command.Output.{Output}
@@ -19,9 +18,9 @@ use Rattle.watch_machine.specs.declared.notes.Why.{Why}
 use Rattle.watch_machine.specs.declared.notes.Why.TheVariants.{Start}
 use Rattle.watch_machine.specs.declared.reading.TheConstants.{READING_MAX}
 use Rattle.watch_machine.specs.Beginning.{is_called}
-use Rattle.watch_machine.specs.History.{History, IsWatchRun, Turned, after_all}
+use Rattle.watch_machine.specs.History.{AllHappen, Changes, Happening, Hands, History, IsReached, Turned, after_all, state_after_all}
 use Rattle.watch_machine.specs.Refusal.{is_same}
-use Rattle.watch_machine.specs.State.{WatchState, opened, second, track_at}
+use Rattle.watch_machine.specs.State.{WatchState, second, track_at}
 use Rattle.watch_machine.specs.Wanted.{is_alive, is_open, is_wanted}
 use Rattle.watch_laws.specs.Load.{requests_at_turn}
 use Rattle.watch_laws.specs.Outage.{is_tried}
@@ -57,11 +56,16 @@ abbrev pub Jumps : WatchState → Event → WatchState → Type 0
 Jumps old (Clock wall elapsed) new = HasParted old.clocks.wall new.clocks.at (min wall READING_MAX)
 Jumps old event new = ⊥
 
+-- a change of what is watched asks for none
+abbrev pub asks_beginning_at : Happening → Bool
+asks_beginning_at (Hands turn) = asks_beginning turn
+asks_beginning_at (Changes c) = false
+
 -- between two beginnings lies a jump of the wall, a Begin, or ten minutes (a day is longer)
 abbrev pub FewLaw : Type 0
 FewLaw =
-    (old : WatchState) (first second : Turned) (between : List Turned) → History old (first ∷ (between ++ second ∷ [])) → IsBeginning first → IsBeginning second →
-    Jumps (after_all first.state between) second.event second.state ⊎ ((list_any asks_beginning between ≡ true) ⊎ (first.state.clocks.at + 600000 ≤ second.state.clocks.at))
+    (old : WatchState) (first second : Turned) (between : List Happening) → AllHappen old (Hands first ∷ (between ++ Hands second ∷ [])) → IsBeginning first → IsBeginning second →
+    Jumps (state_after_all first.state between) second.event second.state ⊎ ((list_any asks_beginning_at between ≡ true) ⊎ (first.state.clocks.at + 600000 ≤ second.state.clocks.at))
 
 -- how many lookups of i go out
 abbrev pub is_lookup : ℕ → Request → Bool
@@ -123,5 +127,5 @@ pub record IsLookedUpOnce (before begun last : WatchState) (why : Option Why) (i
 -- from a beginning on, while all goes well with it, an entry that is needed is looked up once, and no other is
 abbrev pub OneLookupLaw : Type 0
 OneLookupLaw =
-    (g : Forest) (width : ℕ) (before : List Turned) (turn : Turned) (after : List Turned) (i : ℕ) → IsWatchRun g width (before ++ turn ∷ after) → i < length g.entries → IsBeginning turn →
-    GoWell i after → IsLookedUpOnce (after_all (opened g width) before) turn.state (after_all turn.state after) (why_begun turn.result) i (lookups i (turn ∷ after))
+    (old : WatchState) (turn : Turned) (after : List Turned) (i : ℕ) → IsReached old → History old (turn ∷ after) → i < length old.forest.entries → IsBeginning turn → GoWell i after →
+    IsLookedUpOnce old turn.state (after_all turn.state after) (why_begun turn.result) i (lookups i (turn ∷ after))

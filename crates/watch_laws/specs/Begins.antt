@@ -1,13 +1,12 @@
 -- Begins: when a clock begins anew, and what is known from then on. The law is the contract of a public function without a body.
 -- Source: this project's own.
-use Rattle.std.specs.Prelude.{◌≡◌, ◌⊎◌, ℕ, ◌+◌, ◌<◌, ◌≤◌, true, false, List, [], ◌∷◌, ◌++◌, Some, None, is_some, length, min}
-use Rattle.keep_tree.specs.Forest.{Forest}
+use Rattle.std.specs.Prelude.{◌≡◌, ◌⊎◌, ℕ, ◌+◌, ◌<◌, ◌≤◌, true, false, [], ◌∷◌, Some, None, is_some, length, min}
 use Rattle.watch_machine.specs.declared.event.Event.TheVariants.{Begin}
 use Rattle.watch_machine.specs.declared.notes.Why.TheVariants.{Day}
 use Rattle.watch_machine.specs.declared.reading.TheConstants.{READING_MAX}
 use Rattle.watch_machine.specs.Beginning.{is_pressed}
-use Rattle.watch_machine.specs.History.{History, IsWatchRun, Turned, after_all}
-use Rattle.watch_machine.specs.State.{WatchState, opened, second, track_at}
+use Rattle.watch_machine.specs.History.{History, IsReached, Turned}
+use Rattle.watch_machine.specs.State.{WatchState, second, track_at}
 use Rattle.watch_machine.specs.Wanted.{believed}
 use Rattle.watch_laws.specs.Absence.{is_event_taken}
 use Rattle.watch_laws.specs.Beginnings.{HasParted, why_begun}
@@ -44,8 +43,7 @@ pub record IsBegunAnew (s : WatchState) : Type 0 where
 -- a clock begins anew where it may not go on; for the sake of a day only where it is a new one; and so it begins
 pub record BeginLaw : Type 0 where
   pub goes_on :
-      (g : Forest) (width : ℕ) (before : List Turned) (turn : Turned) (wall elapsed : ℕ) → IsWatchRun g width (before ++ turn ∷ []) → IsClock wall elapsed turn → why_begun turn.result ≡ None →
-      MayGoOn (after_all (opened g width) before) turn.state wall
+      (old : WatchState) (turn : Turned) (wall elapsed : ℕ) → IsReached old → History old (turn ∷ []) → IsClock wall elapsed turn → why_begun turn.result ≡ None → MayGoOn old turn.state wall
   pub day : (old : WatchState) (turn : Turned) (wall elapsed : ℕ) → History old (turn ∷ []) → IsClock wall elapsed turn → why_begun turn.result ≡ Some Day → IsNewDay old turn.state
   pub anew : (old : WatchState) (turn : Turned) (wall elapsed : ℕ) → History old (turn ∷ []) → IsClock wall elapsed turn → is_some (why_begun turn.result) ≡ true → IsBegunAnew turn.state
   pub asks : (old : WatchState) (turn : Turned) → History old (turn ∷ []) → turn.event ≡ Begin → is_event_taken turn.result ≡ true → turn.state.asked ≡ true

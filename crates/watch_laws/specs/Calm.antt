@@ -20,12 +20,12 @@ use Rattle.watch_machine.specs.declared.fault.WatchFault.{WatchFault}
 use Rattle.watch_machine.specs.declared.lanes.Out.{Out}
 use Rattle.watch_machine.specs.Beginning.{is_pressed}
 use Rattle.watch_machine.specs.Clocks.{sec}
-use Rattle.watch_machine.specs.History.{History, IsWatchRun, Turned}
+use Rattle.watch_machine.specs.History.{History, IsReached, Turned}
 use Rattle.watch_machine.specs.Margins.{is_in_plan, lead}
 use Rattle.watch_machine.specs.Outlook.{time_of}
 use Rattle.watch_machine.specs.Refusal.{request_out}
 use Rattle.watch_machine.specs.Settling.{timed}
-use Rattle.watch_machine.specs.State.{WatchState, attempt_at, entry_of, opened, second, track_at}
+use Rattle.watch_machine.specs.State.{WatchState, attempt_at, entry_of, second, track_at}
 use Rattle.watch_machine.specs.Step.{readied, why}
 use Rattle.watch_machine.specs.Wanted.{believed, cut_need, is_wanted, seen_entry}
 use Rattle.watch_laws.specs.Grants.{time_left}
@@ -88,7 +88,7 @@ AllForeseen (turn ∷ turns) = IsForeseen turn.state × AllForeseen turns
 -- in every state of every history, where no pair is Unkeepable and each entry that is wanted is in the plan and not at its top, the least time of
 -- these is the first moment of the least and latest plan by what is believed; and where nobody is wanted that plan is empty
 abbrev pub NextMomentLaw : Type 0
-NextMomentLaw = (g : Forest) (width : ℕ) (turns : List Turned) → IsForest g → IsWatchRun g width turns → AllForeseen turns
+NextMomentLaw = (old : WatchState) (turns : List Turned) (reached : IsReached old) → IsForest reached.forest → History old turns → AllForeseen turns
 
 -- a state in which nobody is being asked, nobody who is wanted is at its top, and a renewal leads each of them as far as its step
 pub record IsCalm (s : WatchState) : Type 0 where
@@ -121,7 +121,7 @@ AllRight old (turn ∷ turns) = RoundsRight old turn × AllRight turn.state turn
 -- at every clock of every history that finds the state calm, a round opens where the first moment of the least and latest plan has
 -- come, and only there; and it asks the Asks
 abbrev pub RoundOfPlanLaw : Type 0
-RoundOfPlanLaw = (g : Forest) (width : ℕ) (turns : List Turned) → IsForest g → IsWatchRun g width turns → AllRight (opened g width) turns
+RoundOfPlanLaw = (old : WatchState) (turns : List Turned) (reached : IsReached old) → IsForest reached.forest → History old turns → AllRight old turns
 
 -- a state at rest: it is calm, nobody has a try, is marked as out or owes a lookup, nothing is out, and the broker is there
 pub record StateIsAtRest (s : WatchState) : Type 0 where

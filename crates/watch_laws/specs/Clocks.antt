@@ -4,7 +4,6 @@
 use Rattle.std.specs.Prelude.{◌≡◌, ◌≢◌, ℕ, ◌+◌, ◌<◌, ◌≤◌, Bool, true, false, ◌&&◌, List, [], ◌∷◌, ◌++◌, Option, Some, None, All, is_some, max, min}
 use Rattle.std.specs.List.{list_any}
 use Rattle.keep_moment.specs.declared.moment.TheConstants.{LAST}
-use Rattle.keep_tree.specs.Forest.{Forest}
 use Rattle.watch_machine.specs.declared.clocks.Clocks.{Clocks}
 use Rattle.watch_machine.specs.declared.event.Event.{Event}
 use Rattle.watch_machine.specs.declared.event.Event.TheVariants.{Clock, Looked, Renewed, Need, Begin, Known}
@@ -13,8 +12,8 @@ use Rattle.watch_machine.specs.declared.event.Reply.TheVariants.{Told, Refused, 
 use Rattle.watch_machine.specs.declared.lanes.Out.{Out}
 use Rattle.watch_machine.specs.declared.reading.TheConstants.{READING_MAX}
 use Rattle.watch_machine.specs.Clocks.{sec}
-use Rattle.watch_machine.specs.History.{IsWatchRun, Turned, after_all}
-use Rattle.watch_machine.specs.State.{opened}
+use Rattle.watch_machine.specs.History.{History, IsReached, Turned}
+use Rattle.watch_machine.specs.State.{WatchState}
 use Rattle.watch_laws.specs.Absence.{is_event_taken}
 use Rattle.watch_laws.specs.Beginnings.{HasParted}
 use Rattle.watch_laws.specs.Presence.{is_asked_at_turn}
@@ -61,8 +60,7 @@ pub record ShowsReadings (c new : Clocks) (wall elapsed : ℕ) : Type 0 where
 -- so after each clock
 abbrev pub ReadingLaw : Type 0
 ReadingLaw =
-    (g : Forest) (width : ℕ) (before : List Turned) (turn : Turned) (wall elapsed : ℕ) → IsWatchRun g width (before ++ turn ∷ []) → IsClock wall elapsed turn →
-    ShowsReadings (after_all (opened g width) before).clocks turn.state.clocks wall elapsed
+    (old : WatchState) (turn : Turned) (wall elapsed : ℕ) → IsReached old → History old (turn ∷ []) → IsClock wall elapsed turn → ShowsReadings old.clocks turn.state.clocks wall elapsed
 
 -- clocks after a date of the reply to a request that went out at `since`: the broker's, as it is set, shows the date less two seconds or
 -- more; and as the request went out it showed the date and three seconds more at most
@@ -75,8 +73,8 @@ pub record ShowsDate (c : Clocks) (since date : ℕ) : Type 0 where
 -- `answer`, and from then on nothing sets a clock
 abbrev pub DateLaw : Type 0
 DateLaw =
-    (g : Forest) (width : ℕ) (before between later : List Turned) (asking answer turn : Turned) (i date wall elapsed : ℕ) →
-    IsWatchRun g width (before ++ asking ∷ (between ++ answer ∷ (later ++ turn ∷ []))) → All (λ (q : Out). q.entry ≢ i) (after_all (opened g width) before).out →
+    (old : WatchState) (between later : List Turned) (asking answer turn : Turned) (i date wall elapsed : ℕ) → IsReached old →
+    History old (asking ∷ (between ++ answer ∷ (later ++ turn ∷ []))) → All (λ (q : Out). q.entry ≢ i) old.out →
     list_any (is_asked_at_turn i) between ≡ false → IsDate i date answer → list_any is_set later ≡ false → IsClock wall elapsed turn →
     ShowsDate turn.state.clocks asking.state.clocks.at (min LAST date)
 
@@ -86,8 +84,7 @@ pub record IsOfWall (c : Clocks) : Type 0 where
   pub there : c.broker.there ≡ sec c.wall.there
 
 abbrev pub UndatedLaw : Type 0
-UndatedLaw =
-    (g : Forest) (width : ℕ) (turns : List Turned) → IsWatchRun g width turns → (after_all (opened g width) turns).clocks.dated ≡ false → IsOfWall (after_all (opened g width) turns).clocks
+UndatedLaw = (s : WatchState) → IsReached s → s.clocks.dated ≡ false → IsOfWall s.clocks
 
 -- from one clock to the next, if nothing sets a clock between them, the broker's that a date has set stays as it is, and so does the phase
 pub record ClocksStay (old new : Clocks) : Type 0 where
@@ -97,5 +94,5 @@ pub record ClocksStay (old new : Clocks) : Type 0 where
 
 abbrev pub StaysLaw : Type 0
 StaysLaw =
-    (g : Forest) (width : ℕ) (before between : List Turned) (first turn : Turned) (wall elapsed wall' elapsed' : ℕ) → IsWatchRun g width (before ++ first ∷ (between ++ turn ∷ [])) →
+    (old : WatchState) (between : List Turned) (first turn : Turned) (wall elapsed wall' elapsed' : ℕ) → History old (first ∷ (between ++ turn ∷ [])) →
     IsClock wall elapsed first → list_any is_set between ≡ false → IsClock wall' elapsed' turn → ClocksStay first.state.clocks turn.state.clocks

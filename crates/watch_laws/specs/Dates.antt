@@ -1,13 +1,12 @@
 -- Dates: what the date of one reply makes of the broker's clock. The law is the contract of a public function without a body.
 -- Source: this project's own; a reply's date is RFC 9110, 5.6.7 and 6.6.1.
-use Rattle.std.specs.Prelude.{◌≡◌, ◌⊎◌, ℕ, ◌+◌, ◌<◌, true, false, List, [], ◌∷◌, ◌++◌, Some, None, is_none, min}
+use Rattle.std.specs.Prelude.{◌≡◌, ◌⊎◌, ℕ, ◌+◌, ◌<◌, true, false, [], ◌∷◌, Some, None, is_none, min}
 use Rattle.keep_moment.specs.declared.moment.TheConstants.{LAST}
-use Rattle.keep_tree.specs.Forest.{Forest}
 use Rattle.watch_machine.specs.declared.clocks.BrokerOffset.{BrokerOffset}
 use Rattle.watch_machine.specs.declared.lanes.Answer.{Answer}
 use Rattle.watch_machine.specs.Clocks.{sec}
-use Rattle.watch_machine.specs.History.{IsWatchRun, Turned, after_all}
-use Rattle.watch_machine.specs.State.{WatchState, opened, second}
+use Rattle.watch_machine.specs.History.{History, IsReached, Turned}
+use Rattle.watch_machine.specs.State.{WatchState, second}
 use Rattle.watch_laws.specs.Beginnings.{why_begun}
 use Rattle.watch_laws.specs.Clocks.{IsClock, date_told}
 
@@ -33,8 +32,6 @@ pub record IsSteppedBy (old new : WatchState) (date : ℕ) : Type 0 where
 -- so at a clock after one reply with a date, where a date had set the broker's clock before
 abbrev pub WindowLaw : Type 0
 WindowLaw =
-    (g : Forest) (width : ℕ) (before : List Turned) (turn : Turned) (wall elapsed : ℕ) (a : Answer) (date : ℕ) → IsWatchRun g width (before ++ turn ∷ []) → IsClock wall elapsed turn →
-    is_none (after_all (opened g width) before).begun ≡ false → (after_all (opened g width) before).clocks.dated ≡ true → (after_all (opened g width) before).answers ≡ a ∷ [] →
-    date_told a.reply ≡ Some date →
-    IsDatedBy (after_all (opened g width) before) turn.state a.since (min LAST date)
-    × (why_begun turn.result ≡ None → IsSteppedBy (after_all (opened g width) before) turn.state (min LAST date))
+    (old : WatchState) (turn : Turned) (wall elapsed : ℕ) (a : Answer) (date : ℕ) → IsReached old → History old (turn ∷ []) → IsClock wall elapsed turn →
+    is_none old.begun ≡ false → old.clocks.dated ≡ true → old.answers ≡ a ∷ [] → date_told a.reply ≡ Some date →
+    IsDatedBy old turn.state a.since (min LAST date) × (why_begun turn.result ≡ None → IsSteppedBy old turn.state (min LAST date))

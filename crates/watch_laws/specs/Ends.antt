@@ -1,7 +1,7 @@
 -- Ends: no believed end comes after the real one. The law is the contract of a public function without a body.
 -- Source: this project's own, over Vault, HTTP API: `auth/token`, "Lookup a token (self)" and "Renew a token (self)";
 -- `sys/leases`, "Read lease" and "Renew lease" (the seconds count from the reply).
-use Rattle.std.specs.Prelude.{◌≡◌, ◌==◌, ℕ, ◌+◌, ◌≤◌, Bool, false, ◌&&◌, if◌then◌else◌, List, [], ◌∷◌}
+use Rattle.std.specs.Prelude.{◌≡◌, ◌==◌, ℕ, ◌+◌, ◌≤◌, Bool, false, ◌&&◌, if◌then◌else◌, List, [], ◌∷◌, Option, Some, None, map}
 use Rattle.std.specs.List.{list_any}
 use Rattle.keep_tree.specs.Forest.{Forest}
 use Rattle.watch_machine.specs.declared.event.Event.{Event}
@@ -10,7 +10,7 @@ use Rattle.watch_machine.specs.declared.event.Reply.{Reply}
 use Rattle.watch_machine.specs.declared.event.Reply.TheVariants.{Told, Refused, Busy, Lost}
 use Rattle.watch_machine.specs.declared.track.End.TheVariants.{At}
 use Rattle.watch_machine.specs.Clocks.{ms}
-use Rattle.watch_machine.specs.History.{Turn, Turned}
+use Rattle.watch_machine.specs.History.{Changes, Happening, Happens, Hands, Turned, state_after, stood}
 use Rattle.watch_machine.specs.State.{WatchState, opened, track_at}
 use Rattle.watch_laws.specs.Absence.{is_event_taken}
 use Rattle.watch_laws.specs.Load.{requests_at_turn}
@@ -34,9 +34,9 @@ pub record Origin : Type 0 where
   pub since : ℕ
   pub over : ℕ
 
--- a turn as it was lived: the moment at which it was handed in, the real end of the entry after it, and how it told the end, if it did
+-- what happened, as it was lived: the moment of it, the real end of the entry after it, and how it told the end, if it did
 pub record Lived : Type 0 where
-  pub turn : Turned
+  pub happening : Happening
   pub at : ℕ
   pub real : ℕ
   pub origin : Origin
@@ -65,17 +65,35 @@ IsTrueEvent w i asked s l (Need j until) = Unit {0}
 IsTrueEvent w i asked s l Begin = Unit {0}
 IsTrueEvent w i asked s l (Known j end renewable) = j ≡ i → IsNoLater w s.clocks.phase end l.real l.origin
 
--- the moment of the clock at which the last request of i went out
-abbrev pub asked_after : ℕ → ℕ → Lived → ℕ
-asked_after i asked l = if list_any (λ r. r.entry == i) (requests_at_turn l.turn.result) then l.at else asked
+-- of an entry that is not there yet a reading alone is told
+abbrev pub IsTrueReading : TimedWorld → ℕ → Event → Type 0
+IsTrueReading w at (Clock wall elapsed) = elapsed ≤ w.reading at
+IsTrueReading w at event = Unit {0}
 
--- turns that were lived one after another from a state on, by events that were true of i: the moment of the last turn, that at which
--- the last request of i went out, and the real end before. The real end does not come to be earlier
+abbrev pub IsTrueAt : TimedWorld → Option ℕ → ℕ → WatchState → Lived → Happening → Type 0
+IsTrueAt w None asked s l (Hands turn) = IsTrueReading w l.at turn.event
+IsTrueAt w (Some i) asked s l (Hands turn) = IsTrueEvent w i asked s l turn.event
+IsTrueAt w e asked s l (Changes c) = Unit {0}
+
+-- the moment of the clock at which the last request of the entry went out
+abbrev pub asked_after : ℕ → ℕ → Lived → Turned → ℕ
+asked_after i asked l turn = if list_any (λ r. r.entry == i) (requests_at_turn turn.result) then l.at else asked
+
+abbrev pub asked_at : Option ℕ → ℕ → Lived → Happening → ℕ
+asked_at None asked l h = asked
+asked_at (Some i) asked l (Hands turn) = asked_after i asked l turn
+asked_at (Some i) asked l (Changes c) = asked
+
+abbrev pub happened : List Lived → List Happening
+happened ls = map (λ (l : Lived). l.happening) ls
+
+-- what was lived from a state on, by what was true of the entry that stands at k in the end: the moment of what happened last, that at which the
+-- last request of it went out, and the real end before. The real end does not come to be earlier
 abbrev pub AreLivedFrom : TimedWorld → ℕ → WatchState → ℕ → ℕ → ℕ → List Lived → Type 0
-AreLivedFrom w i s last asked real [] = Unit {0}
-AreLivedFrom w i s last asked real (l ∷ ls) =
-    Turn s l.turn.event l.turn.result l.turn.state × ((last ≤ l.at) × (IsTrueEvent w i asked s l l.turn.event × ((real ≤ l.real)
-    × AreLivedFrom w i l.turn.state l.at (asked_after i asked l) l.real ls)))
+AreLivedFrom w k s last asked real [] = Unit {0}
+AreLivedFrom w k s last asked real (l ∷ ls) =
+    Happens s l.happening × ((last ≤ l.at) × (IsTrueAt w (stood (happened ls) k) asked s l l.happening × ((real ≤ l.real)
+    × AreLivedFrom w k (state_after l.happening) l.at (asked_at (stood (happened ls) k) asked l l.happening) l.real ls)))
 
 -- an event tells the end of i
 abbrev pub tells : ℕ → Event → Bool
@@ -86,14 +104,24 @@ tells i (Need j until) = false
 tells i Begin = false
 tells i (Known j end renewable) = j == i
 
--- how the end of i was told last
-abbrev pub told_after : ℕ → Origin → Lived → Origin
-told_after i o l = if is_event_taken l.turn.result && tells i l.turn.event then l.origin else o
+-- how the end of the entry was told last
+abbrev pub told_after : ℕ → Origin → Lived → Turned → Origin
+told_after i o l turn = if is_event_taken turn.result && tells i turn.event then l.origin else o
+
+abbrev pub told_at : Option ℕ → Origin → Lived → Happening → Origin
+told_at None o l h = o
+told_at (Some i) o l (Hands turn) = told_after i o l turn
+told_at (Some i) o l (Changes c) = o
+
+abbrev pub IsNoLaterAt : TimedWorld → Option ℕ → Origin → Lived → WatchState → Type 0
+IsNoLaterAt w None o l s = Unit {0}
+IsNoLaterAt w (Some i) o l s = (end : ℕ) → (track_at s i).end ≡ At end → IsNoLater w s.clocks.phase end l.real o
 
 abbrev pub AllNoLater : TimedWorld → ℕ → Origin → List Lived → Type 0
-AllNoLater w i o [] = Unit {0}
-AllNoLater w i o (l ∷ ls) =
-    ((end : ℕ) → (track_at l.turn.state i).end ≡ At end → IsNoLater w l.turn.state.clocks.phase end l.real (told_after i o l)) × AllNoLater w i (told_after i o l) ls
+AllNoLater w k o [] = Unit {0}
+AllNoLater w k o (l ∷ ls) =
+    let told = told_at (stood (happened ls) k) o l l.happening in
+    IsNoLaterAt w (stood (happened ls) k) told l (state_after l.happening) × AllNoLater w k told ls
 
 -- before the first request, and the first end
 abbrev pub no_origin : Origin
@@ -102,4 +130,4 @@ no_origin = record { since = 0; over = 0 }
 -- with an honest clock, and replies that are true of an entry, no end of it that a watch believes in comes later than the real one,
 -- but for what the clock has lagged since the broker read the request whose reply told that end
 abbrev pub NeverPastLaw : Type 0
-NeverPastLaw = (w : TimedWorld) → IsHonest w → (g : Forest) (width i real : ℕ) (ls : List Lived) → AreLivedFrom w i (opened g width) 0 0 real ls → AllNoLater w i no_origin ls
+NeverPastLaw = (w : TimedWorld) → IsHonest w → (g : Forest) (width k real : ℕ) (ls : List Lived) → AreLivedFrom w k (opened g width) 0 0 real ls → AllNoLater w k no_origin ls

@@ -1,7 +1,6 @@
 -- Failures: which answers count as failures of their entry. The laws are the contract of a public function without a body.
 -- Source: this project's own.
 use Rattle.std.specs.Prelude.{◌≡◌, ◌⊎◌, ℕ, ◌+◌, ◌≤◌, Bool, true, false, not, ◌&&◌, ◌||◌, if◌then◌else◌, List, [], ◌∷◌, Option, Some, None, Result, Ok, Err, IfSome, min}
-use Rattle.keep_tree.specs.Forest.{Forest}
 use Rattle.watch_machine.specs.declared.command.Output.{Output}
 use Rattle.watch_machine.specs.declared.event.Event.{Event}
 use Rattle.watch_machine.specs.declared.event.Event.TheVariants.{Clock, Looked, Renewed, Need, Begin, Known}
@@ -14,9 +13,9 @@ use Rattle.watch_machine.specs.declared.fault.WatchFault.{WatchFault}
 use Rattle.watch_machine.specs.declared.lanes.Out.{Out}
 use Rattle.watch_machine.specs.declared.track.Track.{Track}
 use Rattle.watch_machine.specs.declared.track.Try.{Try}
-use Rattle.watch_machine.specs.History.{History, IsWatchRun, Turned}
+use Rattle.watch_machine.specs.History.{History, IsReached, Turned}
 use Rattle.watch_machine.specs.Refusal.{request_out}
-use Rattle.watch_machine.specs.State.{WatchState, attempt_at, opened, second, track_at}
+use Rattle.watch_machine.specs.State.{WatchState, attempt_at, second, track_at}
 use Rattle.watch_machine.specs.Wanted.{is_alive, is_open}
 use Rattle.watch_laws.specs.Absence.{is_event_taken}
 use Rattle.watch_laws.specs.Presence.{is_told}
@@ -70,7 +69,7 @@ AllFailRight old (turn ∷ turns) = FailsRight old turn.event turn.result turn.s
 -- an answer that tells nothing of its entry leaves its try as one that failed: as lost where none came or the broker was busy. After a
 -- lookup that is refused a renewal may go out at once instead; and so may the try to which the broker was busy, when it is back with that
 abbrev pub FailedLaw : Type 0
-FailedLaw = (g : Forest) (width : ℕ) (turns : List Turned) → IsWatchRun g width turns → AllFailRight (opened g width) turns
+FailedLaw = (old : WatchState) (turns : List Turned) → History old turns → AllFailRight old turns
 
 -- the clock after a failure leaves the try of its entry as lost as it was, where it is pressed and not out; or that may go out within a
 -- second
@@ -83,7 +82,7 @@ AllKeepLoss old (turn ∷ turns) = KeepsLoss old turn × AllKeepLoss turn.state 
 
 -- a loss stays one until the entry is asked again
 abbrev pub StaysLostLaw : Type 0
-StaysLostLaw = (g : Forest) (width : ℕ) (turns : List Turned) → IsWatchRun g width turns → AllKeepLoss (opened g width) turns
+StaysLostLaw = (old : WatchState) (turns : List Turned) → IsReached old → History old turns → AllKeepLoss old turns
 
 -- what came of a request that told nothing
 abbrev pub is_refused : Reply → Bool

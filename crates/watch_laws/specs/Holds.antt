@@ -1,13 +1,12 @@
 -- Holds: how long later tries are held back while the broker is away. The law is the contract of a public function without a body.
 -- Source: this project's own.
-use Rattle.std.specs.Prelude.{◌≡◌, ℕ, ◌+◌, ◌-◌, ◌*◌, ◌^◌, ◌<◌, ◌≤◌, Bool, true, false, ◌&&◌, if◌then◌else◌, List, [], ◌∷◌, Some, length, min}
+use Rattle.std.specs.Prelude.{◌≡◌, ℕ, ◌+◌, ◌-◌, ◌*◌, ◌^◌, ◌<◌, ◌≤◌, Bool, true, false, ◌&&◌, if◌then◌else◌, [], ◌∷◌, Some, length, min}
 use Rattle.std.specs.List.{list_any}
-use Rattle.keep_tree.specs.Forest.{Forest}
 use Rattle.watch_machine.specs.declared.track.Try.{Try}
-use Rattle.watch_machine.specs.History.{History, IsWatchRun, Turned, after_all}
+use Rattle.watch_machine.specs.History.{History, IsReached, Turned}
 use Rattle.watch_machine.specs.Pauses.{cap}
 use Rattle.watch_machine.specs.Settling.{is_silent}
-use Rattle.watch_machine.specs.State.{WatchState, attempt_at, opened, track_at}
+use Rattle.watch_machine.specs.State.{WatchState, attempt_at, track_at}
 use Rattle.watch_laws.specs.Absence.{is_clock, is_event_taken}
 use Rattle.watch_laws.specs.Clocks.{IsClock}
 
@@ -63,4 +62,4 @@ pub record HoldLaw : Type 0 where
       (old : WatchState) (turn : Turned) → History old (turn ∷ []) → is_event_taken turn.result && is_clock turn.event ≡ false → turn.state.presence.away ≡ old.presence.away → HoldStays old turn.state
   pub ends : (old : WatchState) (turn : Turned) (away : Bool) → History old (turn ∷ []) → old.presence.away ≡ away → turn.state.presence.away ≡ (if away then false else true) → HoldEnds turn.state
   pub there :
-      (g : Forest) (width : ℕ) (turns : List Turned) → IsWatchRun g width turns → (after_all (opened g width) turns).presence.away ≡ false → (after_all (opened g width) turns).presence.hold ≡ 0
+      (s : WatchState) → IsReached s → s.presence.away ≡ false → s.presence.hold ≡ 0

@@ -29,3 +29,4 @@ pub mod Waits
 pub mod Begins
 pub mod Dates
 pub mod Rounds
+pub mod Changes

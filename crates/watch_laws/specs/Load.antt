@@ -1,6 +1,6 @@
 -- Load: how often an entry is asked at most, and how many requests are out at once. Each law is the contract of a public function
 -- without a body.
-use Rattle.std.specs.Prelude.{◌≡◌, ◌⊎◌, ◌==◌, ℕ, ◌+◌, ◌*◌, ◌≤◌, Bool, ◌&&◌, List, [], ◌∷◌, ◌++◌, Result, Ok, Err, filter, length, map, nat_le}
+use Rattle.std.specs.Prelude.{◌≡◌, ◌⊎◌, ◌==◌, ℕ, ◌+◌, ◌*◌, ◌≤◌, Bool, ◌&&◌, List, [], ◌∷◌, ◌++◌, Option, Some, None, Result, Ok, Err, filter, length, map, nat_le}
 use Rattle.keep_tree.specs.Forest.{Forest}
 use Rattle.watch_machine.specs.declared.command.Command.{Command}
 use Rattle.watch_machine.specs.declared.command.Command.TheVariants.{Go, Taken}
@@ -9,7 +9,8 @@ use Rattle.watch_machine.specs.declared.command.Request.{Request}
 use Rattle.watch_machine.specs.declared.event.Operation.{Operation}
 use Rattle.watch_machine.specs.declared.event.Operation.TheVariants.{Look, Renew}
 use Rattle.watch_machine.specs.declared.fault.WatchFault.{WatchFault}
-use Rattle.watch_machine.specs.History.{IsWatchRun, Turned}
+use Rattle.watch_machine.specs.History.{Changes, Happening, Hands, IsReached, IsRun, stood}
+use Rattle.watch_machine.specs.State.{WatchState}
 
 -- a request as it went out: what was asked, and the clock in milliseconds
 pub record Sent : Type 0 where
@@ -29,10 +30,15 @@ requests_at_turn (Err fault) = []
 abbrev pub sent_at : ℕ → ℕ → List Request → List Sent
 sent_at i at requests = map (λ r. record { operation = r.operation; at = at }) (filter (λ r. r.entry == i) requests)
 
--- and those of i in a list of turns
-abbrev pub sent_in_turns : ℕ → List Turned → List Sent
-sent_in_turns i [] = []
-sent_in_turns i (turn ∷ turns) = sent_at i turn.state.clocks.at (requests_at_turn turn.result) ++ sent_in_turns i turns
+-- and those of the entry that stands at k in the end, wherever it stood before; none while it was not there yet
+abbrev pub sent_of_some : Option ℕ → ℕ → List Request → List Sent
+sent_of_some None at requests = []
+sent_of_some (Some i) at requests = sent_at i at requests
+
+abbrev pub sent_through : ℕ → List Happening → List Sent
+sent_through k [] = []
+sent_through k (Hands turn ∷ hs) = sent_of_some (stood hs k) turn.state.clocks.at (requests_at_turn turn.result) ++ sent_through k hs
+sent_through k (Changes c ∷ hs) = sent_through k hs
 
 -- y goes out a second after x or later; or it is the renewal right after x, its own lookup
 abbrev pub IsApart : Sent → Sent → Type 0
@@ -49,7 +55,7 @@ SentAreApart (x ∷ xs) = AreApartFrom x xs
 
 -- two requests of an entry are a second apart by the clocks at which they go out, but for the renewal right after its own lookup
 abbrev pub SpacedLaw : Type 0
-SpacedLaw = (g : Forest) (width : ℕ) (turns : List Turned) → IsWatchRun g width turns → (i : ℕ) → SentAreApart (sent_in_turns i turns)
+SpacedLaw = (g : Forest) (width : ℕ) (hs : List Happening) → IsRun g width hs → (k : ℕ) → SentAreApart (sent_through k hs)
 
 -- between these moments, both counted
 abbrev pub is_between : ℕ → ℕ → Sent → Bool
@@ -58,13 +64,8 @@ is_between from until x = nat_le from x.at && nat_le x.at until
 -- in x seconds, from whatever moment on, an entry is asked 2 (x + 1) times at most
 abbrev pub LoadLaw : Type 0
 LoadLaw =
-    (g : Forest) (width : ℕ) (turns : List Turned) → IsWatchRun g width turns → (i from x : ℕ) →
-    length (filter (is_between from (from + 1000 * x)) (sent_in_turns i turns)) ≤ 2 * (x + 1)
+    (g : Forest) (width : ℕ) (hs : List Happening) → IsRun g width hs → (k from x : ℕ) → length (filter (is_between from (from + 1000 * x)) (sent_through k hs)) ≤ 2 * (x + 1)
 
-abbrev pub AllWithin : ℕ → List Turned → Type 0
-AllWithin width [] = Unit {0}
-AllWithin width (turn ∷ turns) = (length turn.state.out ≤ width) × AllWithin width turns
-
--- no more requests are out than the width
+-- no more requests are out than the width, those of entries that are no more among them
 abbrev pub WidthLaw : Type 0
-WidthLaw = (g : Forest) (width : ℕ) (turns : List Turned) → IsWatchRun g width turns → AllWithin width turns
+WidthLaw = (s : WatchState) (reached : IsReached s) → length s.out ≤ reached.width

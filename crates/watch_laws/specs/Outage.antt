@@ -15,14 +15,15 @@ use Rattle.watch_machine.specs.declared.fault.WatchFault.{WatchFault}
 use Rattle.watch_machine.specs.declared.lanes.Out.{Out}
 use Rattle.watch_machine.specs.declared.track.Try.{Try}
 use Rattle.watch_machine.specs.Beginning.{is_pressed}
+use Rattle.watch_machine.specs.Change.{former_at}
 use Rattle.watch_machine.specs.Clocks.{ms}
-use Rattle.watch_machine.specs.History.{IsWatchRun, Turned}
+use Rattle.watch_machine.specs.History.{AllHappen, Changed, Changes, Happening, Hands, History, IsReached, Turned}
 use Rattle.watch_machine.specs.Lines.{is_first, rested}
 use Rattle.watch_machine.specs.Margins.{is_in_plan}
 use Rattle.watch_machine.specs.Outlook.{time_of}
 use Rattle.watch_machine.specs.Refusal.{request_out}
 use Rattle.watch_machine.specs.Settling.{timed}
-use Rattle.watch_machine.specs.State.{WatchState, attempt_at, entry_of, second, track_at}
+use Rattle.watch_machine.specs.State.{WatchState, attempt_at, entry_of, opened, second, track_at}
 use Rattle.watch_machine.specs.Wanted.{believed, is_known, is_wanted, least}
 use Rattle.watch_laws.specs.Absence.{is_clock, is_event_taken}
 use Rattle.watch_laws.specs.Presence.{is_told}
@@ -83,11 +84,17 @@ abbrev pub IsLived : Outage → ℕ → ℕ → WatchState → Event → Result 
 IsLived o i due s event (Ok output) = IsIncident o i due s event
 IsLived o i due s event (Err fault) = Unit {0}
 
--- turns that are lived through the outage, until i is told; i is wanted after each
-abbrev pub AreLived : Outage → ℕ → ℕ → WatchState → List Turned → Type 0
+-- a change over which i stays, under the index k, and after which its time comes no later
+pub record IsLivedChange (s : WatchState) (c : Changed) (i k : ℕ) : Type 0 where
+  pub kept : former_at c.was k ≡ Some i
+  pub time : time_of c.state k ≤ time_of s i
+
+-- turns and changes that are lived through the outage, until i is told; i is wanted after each
+abbrev pub AreLived : Outage → ℕ → ℕ → WatchState → List Happening → Type 0
 AreLived o i due s [] = Unit {0}
-AreLived o i due s (turn ∷ turns) =
-    IsLived o i due s turn.event turn.result × ((is_wanted turn.state i ≡ true) × AreLived o i (outage_next_after o turn.result turn.state due) turn.state turns)
+AreLived o i due s (Hands turn ∷ hs) =
+    IsLived o i due s turn.event turn.result × ((is_wanted turn.state i ≡ true) × AreLived o i (outage_next_after o turn.result turn.state due) turn.state hs)
+AreLived o i due s (Changes c ∷ hs) = (k : ℕ) × (IsLivedChange s c i k × ((is_wanted c.state k ≡ true) × AreLived o k due c.state hs))
 
 -- how many of the first n pass a test
 abbrev pub one_where : Bool → ℕ
@@ -121,6 +128,24 @@ comes o old new j = is_tried new j && (not (is_tried old j) || (is_request_serve
 abbrev pub coming : Outage → ℕ → WatchState → List Turned → ℕ
 coming o n old [] = 0
 coming o n old (turn ∷ turns) = how_many n (comes o old turn.state) + coming o n turn.state turns
+
+-- and at a change: something is to be asked of it, and nothing was before. So a change counts as the lookups that it brings
+abbrev pub was_tried : WatchState → Option ℕ → Bool
+was_tried s None = false
+was_tried s (Some i) = is_tried s i
+
+abbrev pub comes_over : WatchState → Changed → ℕ → Bool
+comes_over old c j = is_tried c.state j && not (was_tried old (former_at c.was j))
+
+-- how often one comes to wait in all that happens
+abbrev pub coming_through : Outage → WatchState → List Happening → ℕ
+coming_through o old [] = 0
+coming_through o old (Hands turn ∷ hs) = how_many (length old.forest.entries) (comes o old turn.state) + coming_through o turn.state hs
+coming_through o old (Changes c ∷ hs) = how_many (length c.forest.entries) (comes_over old c) + coming_through o c.state hs
+
+-- those that wait in a state, and those that come to
+abbrev pub in_line : Outage → WatchState → List Happening → ℕ
+in_line o s hs = waiting o (length s.forest.entries) s + coming_through o s hs
 
 -- how long a lane is taken by one request after another, as many as rounds; and the longest pause before them
 abbrev pub sweep : Outage → ℕ
@@ -200,28 +225,27 @@ granted_next o s i = outage_next_by o (outage_settled_by o (granted_at s i)) s.o
 abbrev pub EndIsInTime : Outage → ℕ → ℕ → WatchState → Type 0
 EndIsInTime o i from s = (s.clocks.at < ms (believed (track_at s i).end)) × (s.clocks.at ≤ granted_by o from (believed (track_at s i).end))
 
-abbrev pub AllInTime : Outage → ℕ → ℕ → List Turned → Type 0
+abbrev pub AllInTime : Outage → ℕ → ℕ → List Happening → Type 0
 AllInTime o i from [] = Unit {0}
-AllInTime o i from (turn ∷ turns) = EndIsInTime o i from turn.state × AllInTime o i from turns
+AllInTime o i from (Hands turn ∷ hs) = EndIsInTime o i from turn.state × AllInTime o i from hs
+AllInTime o i from (Changes c ∷ hs) = (k : ℕ) → former_at c.was k ≡ Some i → EndIsInTime o k from c.state × AllInTime o k from hs
 
 -- whatever was before: from a clock on at which the time of an entry is ahead that is wanted and in the plan, until it is granted or looked
 -- up, its end is ahead, through any outage that the margin outlasts
 abbrev pub OutageLaw : Type 0
 OutageLaw =
-    (o : Outage) (g : Forest) (width : ℕ) (before : List Turned) (last : Turned) (turns : List Turned) (i : ℕ) → 0 < width →
-    IsWatchRun g width (before ++ last ∷ turns) → is_clock last.event ≡ true → is_event_taken last.result ≡ true → IsBefore last.state i →
-    AreLived o i (outage_next_after o last.result last.state 0) last.state turns →
-    waiting o (length g.entries) last.state + coming o (length g.entries) last.state turns ≤ width * o.rounds → o.from ≤ o.until → IsShortOutage o g.margin →
-    AllInTime o i (ms (time_of last.state i)) turns
+    (o : Outage) (old : WatchState) (last : Turned) (hs : List Happening) (i : ℕ) → IsReached old → 0 < old.width → AllHappen old (Hands last ∷ hs) → is_clock last.event ≡ true →
+    is_event_taken last.result ≡ true → IsBefore last.state i → AreLived o i (outage_next_after o last.result last.state 0) last.state hs →
+    in_line o last.state hs ≤ old.width * o.rounds → o.from ≤ o.until → IsShortOutage o last.state.forest.margin →
+    AllInTime o i (ms (time_of last.state i)) hs
 
 -- and so it is from a grant or a lookup of the entry on, until the next one. So outages of which no two lie between the same two count each
 -- by itself
 abbrev pub GrantLaw : Type 0
 GrantLaw =
-    (o : Outage) (g : Forest) (width : ℕ) (before : List Turned) (grant : Turned) (turns : List Turned) (i : ℕ) → 0 < width →
-    IsWatchRun g width (before ++ grant ∷ turns) → IsGrant grant i → AreLived o i (granted_next o grant.state i) grant.state turns →
-    waiting o (length g.entries) grant.state + coming o (length g.entries) grant.state turns ≤ width * o.rounds → o.from ≤ o.until → IsShortOutage o g.margin →
-    AllInTime o i (ms (time_of grant.state i)) turns
+    (o : Outage) (old : WatchState) (grant : Turned) (hs : List Happening) (i : ℕ) → IsReached old → 0 < old.width → AllHappen old (Hands grant ∷ hs) → IsGrant grant i →
+    AreLived o i (granted_next o grant.state i) grant.state hs → in_line o grant.state hs ≤ old.width * o.rounds → o.from ≤ o.until → IsShortOutage o grant.state.forest.margin →
+    AllInTime o i (ms (time_of grant.state i)) hs
 
 -- a turn from which on an entry is lived with: a clock, or a reply that tells its end; and by when the next clock is handed in
 abbrev pub StartsBy : Outage → Turned → ℕ → ℕ → Type 0
@@ -234,10 +258,9 @@ StartsBy o turn i due =
 -- that was told the ends of an earlier one
 abbrev pub LeftLaw : Type 0
 LeftLaw =
-    (o : Outage) (g : Forest) (width : ℕ) (before : List Turned) (last : Turned) (turns : List Turned) (i from due : ℕ) → 0 < width →
-    IsWatchRun g width (before ++ last ∷ turns) → StartsBy o last i due → MayBeAsked last.state i from → AreLived o i due last.state turns →
-    waiting o (length g.entries) last.state + coming o (length g.entries) last.state turns ≤ width * o.rounds → o.from ≤ o.until →
-    IsShortFor o (ms (believed (track_at last.state i).end) - from) → AllInTime o i from turns
+    (o : Outage) (old : WatchState) (last : Turned) (hs : List Happening) (i from due : ℕ) → IsReached old → 0 < old.width → AllHappen old (Hands last ∷ hs) → StartsBy o last i due →
+    MayBeAsked last.state i from → AreLived o i due last.state hs → in_line o last.state hs ≤ old.width * o.rounds → o.from ≤ o.until →
+    IsShortFor o (ms (believed (track_at last.state i).end) - from) → AllInTime o i from hs
 
 -- what a new watch may be told before its first clock: ends of an earlier one, needs, and that all is to begin anew
 abbrev pub is_handed : Event → Bool
@@ -261,8 +284,8 @@ left_from s i = max (ms (time_of s i)) (max (s.clocks.at + 1) (if is_pressed (tr
 -- far as it lies past the entry's time, and nothing more
 abbrev pub KillLaw : Type 0
 KillLaw =
-    (o : Outage) (g : Forest) (width : ℕ) (before : List Turned) (first : Turned) (turns : List Turned) (i : ℕ) → 0 < width →
-    IsWatchRun g width (before ++ first ∷ turns) → AreHanded before → is_clock first.event ≡ true → is_event_taken first.result ≡ true → i < length g.entries →
-    is_wanted first.state i ≡ true → is_known (track_at first.state i).end ≡ true → AreLived o i (outage_next_after o first.result first.state 0) first.state turns →
-    waiting o (length g.entries) first.state + coming o (length g.entries) first.state turns ≤ width * o.rounds → o.from ≤ o.until →
-    IsShortFor o (ms (believed (track_at first.state i).end) - left_from first.state i) → AllInTime o i (left_from first.state i) turns
+    (o : Outage) (g : Forest) (width : ℕ) (before : List Turned) (first : Turned) (hs : List Happening) (i : ℕ) → 0 < width →
+    History (opened g width) (before ++ first ∷ []) → AllHappen first.state hs → AreHanded before → is_clock first.event ≡ true → is_event_taken first.result ≡ true → i < length g.entries →
+    is_wanted first.state i ≡ true → is_known (track_at first.state i).end ≡ true → AreLived o i (outage_next_after o first.result first.state 0) first.state hs →
+    in_line o first.state hs ≤ width * o.rounds → o.from ≤ o.until →
+    IsShortFor o (ms (believed (track_at first.state i).end) - left_from first.state i) → AllInTime o i (left_from first.state i) hs

@@ -2,7 +2,6 @@
 -- Source: this project's own.
 use Rattle.std.specs.Prelude.{◌≡◌, ◌≢◌, ◌==◌, ℕ, zero, suc, ◌+◌, ◌*◌, ◌≤◌, ◌<◌, Bool, true, false, not, ◌&&◌, ◌||◌, if◌then◌else◌, List, [], ◌∷◌, ◌++◌, Option, Some, None, Result, Ok, Err, length, map, max, min, nat_lt}
 use Rattle.std.specs.List.{All}
-use Rattle.keep_tree.specs.Forest.{Forest}
 use Rattle.watch_machine.specs.declared.command.Command.{Command}
 use Rattle.watch_machine.specs.declared.command.Command.TheVariants.{Go, Taken}
 use Rattle.watch_machine.specs.declared.command.Output.{Output}
@@ -15,12 +14,12 @@ use Rattle.watch_machine.specs.declared.event.Operation.TheVariants.{Renew}
 use Rattle.watch_machine.specs.declared.fault.WatchFault.{WatchFault}
 use Rattle.watch_machine.specs.declared.lanes.Out.{Out}
 use Rattle.watch_machine.specs.declared.track.Try.{Try}
-use Rattle.watch_machine.specs.History.{IsWatchRun, Turned, after_all}
+use Rattle.watch_machine.specs.History.{History, IsReached, Turned, after_all}
 use Rattle.watch_machine.specs.Lines.{is_first}
 use Rattle.watch_machine.specs.Refusal.{is_same}
 use Rattle.watch_machine.specs.Sending.{is_partial}
 use Rattle.watch_machine.specs.Settling.{timed}
-use Rattle.watch_machine.specs.State.{WatchState, attempt_at, opened, second, track_at}
+use Rattle.watch_machine.specs.State.{WatchState, attempt_at, second, track_at}
 use Rattle.watch_machine.specs.Wanted.{believed, is_alive, is_wanted, least}
 use Rattle.watch_laws.specs.Absence.{is_clock, is_event_taken}
 use Rattle.watch_laws.specs.Outage.{how_many, one_where}
@@ -149,12 +148,11 @@ coming_before o n i old (turn ∷ turns) = total n (keeps_lane o) (comes_before 
 -- By then: at the clock that finds that its time has come; or, of one that a round asked along, at the last clock before that, if it waited
 abbrev pub PartialLaw : Type 0
 PartialLaw =
-    (o : Partial) (g : Forest) (width : ℕ) (before : List Turned) (first : Turned) (turns : List Turned) (next : Turned) (i : ℕ) →
-    IsWatchRun g width (before ++ first ∷ (turns ++ next ∷ [])) → is_clock first.event ≡ true → is_event_taken first.result ≡ true → MayGo first.state i →
+    (o : Partial) (old : WatchState) (first : Turned) (turns : List Turned) (next : Turned) (i : ℕ) → IsReached old → History old (first ∷ (turns ++ next ∷ [])) → is_clock first.event ≡ true → is_event_taken first.result ≡ true → MayGo first.state i →
     All (λ q. partial_settled_by o q ≤ first.state.clocks.at + o.slow) first.state.out → AreHolding o i (partial_next_after o first.result first.state 0) first.state turns →
     is_clock next.event ≡ true → is_event_taken next.result ≡ true → ClockIsInTime (due_after o (partial_next_after o first.result first.state 0) turns) (after_all first.state turns) next.event →
-    width * next.state.clocks.at
-    ≤ width * (first.state.clocks.at + o.slow + o.late) + (waiting_before o (length g.entries) i first.state + coming_before o (length g.entries) i first.state turns)
+    old.width * next.state.clocks.at
+    ≤ old.width * (first.state.clocks.at + o.slow + o.late) + (waiting_before o (length old.forest.entries) i first.state + coming_before o (length old.forest.entries) i first.state turns)
 
 -- nothing is told of j: each request of it is lost or refused, or finds the broker busy, and nothing else tells its end
 abbrev pub IsUntoldOf : ℕ → Event → Type 0
@@ -184,9 +182,8 @@ often_before i j old (turn ∷ turns) = one_where (comes_before i old turn.state
 -- an entry of which nothing is told stands before another one once: at its first try. After that it stands behind it
 abbrev pub OnceInFrontLaw : Type 0
 OnceInFrontLaw =
-    (g : Forest) (width : ℕ) (before turns : List Turned) (i j : ℕ) → IsWatchRun g width (before ++ turns) → (after_all (opened g width) before).presence.away ≡ false →
-    AreHung i j (after_all (opened g width) before) turns →
-    one_where (waits_before i (after_all (opened g width) before) j) + often_before i j (after_all (opened g width) before) turns ≤ 1
+    (old : WatchState) (turns : List Turned) (i j : ℕ) → IsReached old → History old turns → old.presence.away ≡ false → AreHung i j old turns →
+    one_where (waits_before i old j) + often_before i j old turns ≤ 1
 
 -- every hung entry is so at each of some turns
 abbrev pub AllHung : Partial → ℕ → ℕ → WatchState → List Turned → Type 0
@@ -204,11 +201,10 @@ answered_coming o n i old (turn ∷ turns) = how_many n (λ j. not (o.hung j) &&
 -- then, each hung entry once for its patience, and the others that stand before it
 abbrev pub HungLaw : Type 0
 HungLaw =
-    (o : Partial) (g : Forest) (width : ℕ) (before : List Turned) (first : Turned) (turns : List Turned) (next : Turned) (i : ℕ) →
-    IsWatchRun g width (before ++ first ∷ (turns ++ next ∷ [])) → is_clock first.event ≡ true → is_event_taken first.result ≡ true → MayGo first.state i → first.state.presence.away ≡ false →
+    (o : Partial) (old : WatchState) (first : Turned) (turns : List Turned) (next : Turned) (i : ℕ) → IsReached old → History old (first ∷ (turns ++ next ∷ [])) → is_clock first.event ≡ true → is_event_taken first.result ≡ true → MayGo first.state i → first.state.presence.away ≡ false →
     All (λ q. partial_settled_by o q ≤ first.state.clocks.at + o.slow) first.state.out → AreHolding o i (partial_next_after o first.result first.state 0) first.state turns →
-    AllHung o (length g.entries) i first.state turns →
+    AllHung o (length old.forest.entries) i first.state turns →
     is_clock next.event ≡ true → is_event_taken next.result ≡ true → ClockIsInTime (due_after o (partial_next_after o first.result first.state 0) turns) (after_all first.state turns) next.event →
-    width * next.state.clocks.at
-    ≤ width * (first.state.clocks.at + o.slow + o.late) + (o.patience + o.late) * how_many (length g.entries) o.hung
-    + (o.quick + o.late) * (answered_before o (length g.entries) i first.state + answered_coming o (length g.entries) i first.state turns)
+    old.width * next.state.clocks.at
+    ≤ old.width * (first.state.clocks.at + o.slow + o.late) + (o.patience + o.late) * how_many (length old.forest.entries) o.hung
+    + (o.quick + o.late) * (answered_before o (length old.forest.entries) i first.state + answered_coming o (length old.forest.entries) i first.state turns)

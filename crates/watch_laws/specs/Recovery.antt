@@ -1,13 +1,12 @@
 -- Recovery: how long an entry waits while the broker is there. The law is the contract of a public function without a body.
 -- Source: this project's own.
-use Rattle.std.specs.Prelude.{◌≡◌, ℕ, ◌+◌, ◌*◌, ◌<◌, ◌≤◌, true, false, List, [], ◌∷◌, ◌++◌, Some, Result, Ok, Err, length}
-use Rattle.keep_tree.specs.Forest.{Forest}
+use Rattle.std.specs.Prelude.{◌≡◌, ℕ, ◌+◌, ◌*◌, ◌<◌, ◌≤◌, true, false, List, [], ◌∷◌, Some, Result, Ok, Err, length}
 use Rattle.watch_machine.specs.declared.command.Output.{Output}
 use Rattle.watch_machine.specs.declared.event.Event.{Event}
 use Rattle.watch_machine.specs.declared.event.Event.TheVariants.{Clock, Looked, Renewed, Need, Begin, Known}
 use Rattle.watch_machine.specs.declared.fault.WatchFault.{WatchFault}
 use Rattle.watch_machine.specs.declared.track.Try.{Try}
-use Rattle.watch_machine.specs.History.{IsWatchRun, Turned}
+use Rattle.watch_machine.specs.History.{History, IsReached, Turned}
 use Rattle.watch_machine.specs.Lines.{ready}
 use Rattle.watch_machine.specs.Settling.{timed}
 use Rattle.watch_machine.specs.State.{WatchState, attempt_at, track_at}
@@ -52,8 +51,8 @@ AllBy by (turn ∷ turns) = (turn.state.clocks.at ≤ by) × AllBy by turns
 -- wait at first and come to wait meanwhile, itself among them
 abbrev pub RecoveryLaw : Type 0
 RecoveryLaw =
-    (quick late rounds : ℕ) (g : Forest) (width : ℕ) (before : List Turned) (last : Turned) (turns : List Turned) (i : ℕ) → 0 < width →
-    IsWatchRun g width (before ++ last ∷ turns) → is_clock last.event ≡ true → is_event_taken last.result ≡ true → MayGo last.state i →
+    (quick late rounds : ℕ) (old : WatchState) (last : Turned) (turns : List Turned) (i : ℕ) → IsReached old → 0 < old.width → History old (last ∷ turns) → is_clock last.event ≡ true →
+    is_event_taken last.result ≡ true → MayGo last.state i →
     ArePassing (without_outage quick late) i (outage_next_after (without_outage quick late) last.result last.state 0) last.state turns →
-    waiting (without_outage quick late) (length g.entries) last.state + coming (without_outage quick late) (length g.entries) last.state turns ≤ width * rounds →
+    waiting (without_outage quick late) (length last.state.forest.entries) last.state + coming (without_outage quick late) (length last.state.forest.entries) last.state turns ≤ old.width * rounds →
     AllBy (last.state.clocks.at + (quick + late) * rounds) turns

@@ -1,7 +1,7 @@
 -- Starts: how long it takes, from a beginning or any other clock on, until an entry is answered once and again, as one that is looked up and
 -- then renewed; and who is asked first. Each law is the contract of a public function without a body.
 -- Source: this project's own.
-use Rattle.std.specs.Prelude.{◌≡◌, ◌⊎◌, ◌==◌, ℕ, ◌+◌, ◌*◌, ◌<◌, ◌≤◌, Bool, true, false, ◌&&◌, if◌then◌else◌, List, [], ◌∷◌, ◌++◌, Option, Some, None, Result, Ok, Err, IfSome, length}
+use Rattle.std.specs.Prelude.{◌≡◌, ◌⊎◌, ◌==◌, ℕ, ◌+◌, ◌*◌, ◌<◌, ◌≤◌, Bool, true, false, ◌&&◌, if◌then◌else◌, List, [], ◌∷◌, Option, Some, None, Result, Ok, Err, IfSome, filter, length, nat_le}
 use Rattle.std.specs.List.{All}
 use Rattle.keep_tree.specs.Forest.{Forest}
 use Rattle.watch_machine.specs.declared.command.Output.{Output}
@@ -9,12 +9,13 @@ use Rattle.watch_machine.specs.declared.event.Event.{Event}
 use Rattle.watch_machine.specs.declared.event.Event.TheVariants.{Clock, Looked, Renewed, Need, Begin, Known}
 use Rattle.watch_machine.specs.declared.event.Operation.TheVariants.{Look, Renew}
 use Rattle.watch_machine.specs.declared.fault.WatchFault.{WatchFault}
+use Rattle.watch_machine.specs.declared.lanes.Out.{Out}
 use Rattle.watch_machine.specs.declared.track.Try.{Try}
-use Rattle.watch_machine.specs.History.{IsWatchRun, Turned}
+use Rattle.watch_machine.specs.History.{History, IsReached, IsWatchRun, Turned, after_all}
 use Rattle.watch_machine.specs.Lines.{is_first}
 use Rattle.watch_machine.specs.Refusal.{request_out}
 use Rattle.watch_machine.specs.Settling.{timed}
-use Rattle.watch_machine.specs.State.{WatchState, attempt_at, second, track_at}
+use Rattle.watch_machine.specs.State.{WatchState, attempt_at, opened, second, track_at}
 use Rattle.watch_machine.specs.Wanted.{is_alive, is_wanted}
 use Rattle.watch_laws.specs.Absence.{is_clock, is_event_taken}
 use Rattle.watch_laws.specs.Load.{requests_at_turn}
@@ -63,15 +64,27 @@ abbrev pub AllSoon : ℕ → ℕ → ℕ → List Turned → Type 0
 AllSoon i span by [] = Unit {0}
 AllSoon i span by (turn ∷ turns) = (turn.state.clocks.at ≤ by + later_by i span turn) × AllSoon i span (by + later_by i span turn) turns
 
+-- how many requests are out whose entries are no more
+abbrev pub of_nobody : WatchState → ℕ
+of_nobody s = length (filter (λ (q : Out). nat_le (length s.forest.entries) q.entry) s.out)
+
+-- those that are asked or to be asked at first, and those that come to wait meanwhile
+abbrev pub all_asked : Outage → WatchState → List Turned → ℕ
+all_asked o s turns = of_nobody s + (how_many (length s.forest.entries) (is_tried s) + coming o (length s.forest.entries) s turns)
+
 -- from a clock on, as a beginning, while the broker is there: as long as an entry is being asked or waits for a lane, no clock comes later than
 -- all rounds that hold whatever is asked or to be asked at first and comes to wait meanwhile, and one round later for each answer to it
 abbrev pub StartLaw : Type 0
 StartLaw =
-    (quick late rounds : ℕ) (g : Forest) (width : ℕ) (before : List Turned) (last : Turned) (turns : List Turned) (i : ℕ) → 0 < width →
-    IsWatchRun g width (before ++ last ∷ turns) → is_clock last.event ≡ true → is_event_taken last.result ≡ true → i < length g.entries → IsAtWork (without_outage quick late) last.state i →
+    (quick late rounds : ℕ) (old : WatchState) (last : Turned) (turns : List Turned) (i : ℕ) → IsReached old → 0 < old.width → History old (last ∷ turns) → is_clock last.event ≡ true →
+    is_event_taken last.result ≡ true → i < length last.state.forest.entries → IsAtWork (without_outage quick late) last.state i →
     AreWorked (without_outage quick late) i (outage_next_after (without_outage quick late) last.result last.state 0) last.state turns →
-    how_many (length g.entries) (is_tried last.state) + coming (without_outage quick late) (length g.entries) last.state turns ≤ width * rounds →
+    all_asked (without_outage quick late) last.state turns ≤ old.width * rounds →
     AllSoon i (quick + late) (last.state.clocks.at + (quick + late) * rounds) turns
+
+-- until what is watched changes, no request is out whose entry is no more
+abbrev pub NobodyLaw : Type 0
+NobodyLaw = (g : Forest) (width : ℕ) (turns : List Turned) → IsWatchRun g width turns → of_nobody (after_all (opened g width) turns) ≡ 0
 
 -- a try that is pressed and has not failed
 abbrev pub is_first_try : Option Try → Bool
@@ -110,10 +123,10 @@ AreUnderWay o i due s (turn ∷ turns) =
 -- and then renewed, no clock comes later than those rounds, and one round later once it is looked up
 abbrev pub SoonLaw : Type 0
 SoonLaw =
-    (quick late rounds : ℕ) (g : Forest) (width : ℕ) (before : List Turned) (last : Turned) (turns : List Turned) (i : ℕ) → 0 < width →
-    IsWatchRun g width (before ++ last ∷ turns) → is_clock last.event ≡ true → is_event_taken last.result ≡ true → FirstTryIsUnderWay (without_outage quick late) last.state i →
+    (quick late rounds : ℕ) (old : WatchState) (last : Turned) (turns : List Turned) (i : ℕ) → IsReached old → 0 < old.width → History old (last ∷ turns) → is_clock last.event ≡ true →
+    is_event_taken last.result ≡ true → FirstTryIsUnderWay (without_outage quick late) last.state i →
     AreUnderWay (without_outage quick late) i (outage_next_after (without_outage quick late) last.result last.state 0) last.state turns →
-    how_many (length g.entries) (is_tried last.state) + coming (without_outage quick late) (length g.entries) last.state turns ≤ width * rounds →
+    all_asked (without_outage quick late) last.state turns ≤ old.width * rounds →
     AllSoon i (quick + late) (last.state.clocks.at + (quick + late) * rounds) turns
 
 -- an entry of known end that is to be renewed now, whether a round asked it along before or not: it is wanted, its end is ahead and its own
@@ -136,4 +149,4 @@ AllKnownFirst (turn ∷ turns) = (turn.state.presence.away ≡ false → (i : �
 -- while the broker is there, entries of known end whose time has come are renewed first, by their ends: as long as one of them waits, nothing
 -- else goes out, no lookup of an entry whose end is unknown or that only owes it, and no renewal of one whose time has not come
 abbrev pub KnownFirstLaw : Type 0
-KnownFirstLaw = (g : Forest) (width : ℕ) (turns : List Turned) → IsWatchRun g width turns → AllKnownFirst turns
+KnownFirstLaw = (old : WatchState) (turns : List Turned) → History old turns → AllKnownFirst turns

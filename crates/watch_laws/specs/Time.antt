@@ -1,5 +1,5 @@
 -- Time: nobody is renewed too early. Each law is the contract of a public function without a body.
-use Rattle.std.specs.Prelude.{◌≡◌, ◌==◌, ℕ, ◌+◌, ◌<◌, ◌≤◌, Bool, true, false, ◌&&◌, ◌||◌, if◌then◌else◌, List, [], ◌∷◌, ◌++◌, Option, Some, None, Result, Ok, Err, IfSome, length}
+use Rattle.std.specs.Prelude.{◌≡◌, ◌==◌, ℕ, ◌+◌, ◌<◌, ◌≤◌, Bool, true, false, ◌&&◌, ◌||◌, if◌then◌else◌, List, [], ◌∷◌, Option, Some, None, Result, Ok, Err, IfSome, length}
 use Rattle.std.specs.List.{list_any}
 use Rattle.keep_tree.specs.Forest.{Forest}
 use Rattle.watch_machine.specs.declared.command.Output.{Output}
@@ -11,11 +11,11 @@ use Rattle.watch_machine.specs.declared.event.Reply.{Reply}
 use Rattle.watch_machine.specs.declared.event.Reply.TheVariants.{Told, Refused, Busy, Lost}
 use Rattle.watch_machine.specs.declared.fault.WatchFault.{WatchFault}
 use Rattle.watch_machine.specs.Clocks.{sec}
-use Rattle.watch_machine.specs.History.{IsWatchRun, Turned, after_all}
+use Rattle.watch_machine.specs.History.{Changes, Happening, Hands, History, IsReached, IsRun, Turned, stood}
 use Rattle.watch_machine.specs.Margins.{has_come, own_margin}
 use Rattle.watch_machine.specs.Outlook.{time_of}
 use Rattle.watch_machine.specs.Refusal.{is_same, request_out}
-use Rattle.watch_machine.specs.State.{WatchState, entry_of, opened, second, track_at}
+use Rattle.watch_machine.specs.State.{WatchState, entry_of, second, track_at}
 use Rattle.watch_laws.specs.Absence.{is_event_taken}
 use Rattle.watch_laws.specs.Load.{requests_at_turn}
 
@@ -53,15 +53,24 @@ reason i before event (Err fault) s = before
 abbrev pub renewal_goes_out : ℕ → List Request → Bool
 renewal_goes_out i requests = list_any (λ r. r.entry == i && is_same r.operation Renew) requests
 
--- each renewal of i has a reason
-abbrev pub AllReasoned : ℕ → Bool → List Turned → Type 0
-AllReasoned i before [] = Unit {0}
-AllReasoned i before (turn ∷ turns) =
-    (renewal_goes_out i (requests_at_turn turn.result) ≡ true → reason i before turn.event turn.result turn.state ≡ true) × AllReasoned i (reason i before turn.event turn.result turn.state) turns
+-- a renewal of the entry that stands there goes out for a reason alone; of one that is not there yet there is none
+abbrev pub IsReasonedAt : Option ℕ → Bool → Turned → Type 0
+IsReasonedAt None before turn = Unit {0}
+IsReasonedAt (Some i) before turn = renewal_goes_out i (requests_at_turn turn.result) ≡ true → reason i before turn.event turn.result turn.state ≡ true
+
+abbrev pub reason_at : Option ℕ → Bool → Turned → Bool
+reason_at None before turn = false
+reason_at (Some i) before turn = reason i before turn.event turn.result turn.state
+
+-- so at each turn, of the entry that stands at k in the end: a change gives no reason, and takes none
+abbrev pub AllReasoned : ℕ → Bool → List Happening → Type 0
+AllReasoned k before [] = Unit {0}
+AllReasoned k before (Hands turn ∷ hs) = IsReasonedAt (stood hs k) before turn × AllReasoned k (reason_at (stood hs k) before turn) hs
+AllReasoned k before (Changes c ∷ hs) = AllReasoned k before hs
 
 -- no entry is renewed before its time, but in a round, or after a failure
 abbrev pub EarlyLaw : Type 0
-EarlyLaw = (g : Forest) (width : ℕ) (turns : List Turned) → IsWatchRun g width turns → (i : ℕ) → AllReasoned i false turns
+EarlyLaw = (g : Forest) (width : ℕ) (hs : List Happening) → IsRun g width hs → (k : ℕ) → AllReasoned k false hs
 
 -- the round that opens at a turn, None where none does
 abbrev pub round_of : Result Output WatchFault → Option (List ℕ)
@@ -72,7 +81,7 @@ round_of (Err fault) = None
 -- more after the second in which the request went out
 abbrev pub AheadLaw : Type 0
 AheadLaw =
-    (g : Forest) (width : ℕ) (before : List Turned) (grant : Turned) (i seconds : ℕ) (renewable : Bool) (date : Option ℕ) → IsWatchRun g width (before ++ grant ∷ []) → i < length g.entries →
+    (old : WatchState) (grant : Turned) (i seconds : ℕ) (renewable : Bool) (date : Option ℕ) → IsReached old → History old (grant ∷ []) → i < length old.forest.entries →
     grant.event ≡ Renewed i (Told seconds renewable date) → is_event_taken grant.result ≡ true →
     own_margin grant.state.forest.margin (entry_of grant.state i) (track_at grant.state i) + 2 ≤ seconds →
-    IfSome (request_out (after_all (opened g width) before).out i Renew) (λ q. sec q.since + 2 ≤ time_of grant.state i)
+    IfSome (request_out old.out i Renew) (λ q. sec q.since + 2 ≤ time_of grant.state i)

@@ -1,7 +1,6 @@
 -- Tops: when an entry is called topped, and how it is asked once more then. Each law is the contract of a public function without a body.
 -- Source: this project's own, over Vault, "Lease, renew, and revoke" (a renewal counts from its own moment; maximum TTL).
-use Rattle.std.specs.Prelude.{◌≡◌, ℕ, ◌+◌, ◌-◌, ◌/◌, ◌<◌, ◌≤◌, Bool, true, false, not, ◌&&◌, ◌==◌, if◌then◌else◌, List, [], ◌∷◌, ◌++◌, Result, Ok, Err, All, length, min}
-use Rattle.keep_tree.specs.Forest.{Forest}
+use Rattle.std.specs.Prelude.{◌≡◌, ℕ, ◌+◌, ◌-◌, ◌/◌, ◌<◌, ◌≤◌, Bool, true, false, not, ◌&&◌, ◌==◌, if◌then◌else◌, List, [], ◌∷◌, ◌++◌, Result, Ok, Err, All, length, min, Option, Some, None}
 use Rattle.keep_tree.specs.Over.{Over}
 use Rattle.watch_machine.specs.declared.command.Output.{Output}
 use Rattle.watch_machine.specs.declared.event.Event.{Event}
@@ -11,8 +10,8 @@ use Rattle.watch_machine.specs.declared.event.Reply.TheVariants.{Told, Refused, 
 use Rattle.watch_machine.specs.declared.fault.WatchFault.{WatchFault}
 use Rattle.watch_machine.specs.declared.track.End.TheVariants.{At}
 use Rattle.watch_machine.specs.Beginning.{is_pressed}
-use Rattle.watch_machine.specs.History.{IsWatchRun, Turned, after_all}
-use Rattle.watch_machine.specs.State.{WatchState, entry_of, opened, second, track_at}
+use Rattle.watch_machine.specs.History.{Changes, Happening, Hands, History, IsReached, Turned, stood}
+use Rattle.watch_machine.specs.State.{WatchState, entry_of, second, track_at}
 use Rattle.watch_machine.specs.Wanted.{believed, is_wanted}
 use Rattle.watch_laws.specs.Absence.{is_event_taken}
 use Rattle.watch_laws.specs.Clocks.{IsClock}
@@ -50,10 +49,15 @@ abbrev pub grant_of : ℕ → WatchState → Event → Result Output WatchFault 
 grant_of i s event (Ok output) = grant_by i s event
 grant_of i s event (Err fault) = []
 
--- the grants of i, as they came
-abbrev pub grants : ℕ → List Turned → List Granted
-grants i [] = []
-grants i (turn ∷ turns) = grant_of i turn.state turn.event turn.result ++ grants i turns
+-- the grants of the entry that stands at k in the end, as they came, wherever it stood then
+abbrev pub grant_of_some : Option ℕ → Turned → List Granted
+grant_of_some None turn = []
+grant_of_some (Some i) turn = grant_of i turn.state turn.event turn.result
+
+abbrev pub grants_through : ℕ → List Happening → List Granted
+grants_through k [] = []
+grants_through k (Hands turn ∷ hs) = grant_of_some (stood hs k) turn ++ grants_through k hs
+grants_through k (Changes c ∷ hs) = grants_through k hs
 
 -- the second of two grants led no further than the first, but for one second, in which whole seconds may differ; and it counts from
 -- a second that is two later, or more
@@ -65,11 +69,9 @@ pub record IsNoFurther (first second : Granted) : Type 0 where
 abbrev pub EndNoFurther : List Granted → Type 0
 EndNoFurther gs = (earlier : List Granted) × ((first : Granted) × ((second : Granted) × ((gs ≡ earlier ++ first ∷ second ∷ []) × IsNoFurther first second)))
 
--- after every history, the last grant of an entry that is called topped led no further than the one before it
+-- after every run, the last grant of an entry that is called topped led no further than the one before it
 abbrev pub ToppedLaw : Type 0
-ToppedLaw =
-    (g : Forest) (width : ℕ) (turns : List Turned) → IsWatchRun g width turns → (i : ℕ) → i < length g.entries → (track_at (after_all (opened g width) turns) i).top ≡ true →
-    EndNoFurther (grants i turns)
+ToppedLaw = (s : WatchState) (reached : IsReached s) (k : ℕ) → k < length s.forest.entries → (track_at s k).top ≡ true → EndNoFurther (grants_through k reached.run)
 
 -- the broker's rule: a grant is the lesser of some seconds and of what is left to a ceiling when it reads the request, which is no more
 -- than so many seconds after the one from which the grant counts
@@ -87,8 +89,8 @@ EndAtCeiling ceiling within gs = (earlier : List Granted) × ((last : Granted) �
 -- it than the broker may read a request late
 abbrev pub CeilingLaw : Type 0
 CeilingLaw =
-    (g : Forest) (width : ℕ) (turns : List Turned) → IsWatchRun g width turns → (i most ceiling within : ℕ) → i < length g.entries → All (IsRuled most ceiling within) (grants i turns) →
-    (track_at (after_all (opened g width) turns) i).top ≡ true → EndAtCeiling ceiling within (grants i turns)
+    (s : WatchState) (reached : IsReached s) (k most ceiling within : ℕ) → k < length s.forest.entries → All (IsRuled most ceiling within) (grants_through k reached.run) →
+    (track_at s k).top ≡ true → EndAtCeiling ceiling within (grants_through k reached.run)
 
 -- a grant of i
 abbrev pub is_grant_of : ℕ → Event → Bool
@@ -110,13 +112,22 @@ topped_after i before turn = if is_granted_at i turn then (track_at turn.state i
 abbrev pub first_topped_after : ℕ → Bool → Bool → Turned → Bool
 first_topped_after i before first turn = if is_granted_at i turn then (track_at turn.state i).top && not before else first
 
-abbrev pub is_first_topped_from : ℕ → Bool → Bool → List Turned → Bool
-is_first_topped_from i before first [] = first
-is_first_topped_from i before first (turn ∷ turns) = is_first_topped_from i (topped_after i before turn) (first_topped_after i before first turn) turns
+abbrev pub topped_at : Option ℕ → Bool → Turned → Bool
+topped_at None before turn = before
+topped_at (Some i) before turn = topped_after i before turn
 
--- of some turns of a new watch, the last grant of i left it at its top, and the one before had led it further
-abbrev pub is_first_topped : ℕ → List Turned → Bool
-is_first_topped i turns = is_first_topped_from i false false turns
+abbrev pub first_topped_at : Option ℕ → Bool → Bool → Turned → Bool
+first_topped_at None before first turn = first
+first_topped_at (Some i) before first turn = first_topped_after i before first turn
+
+abbrev pub is_first_topped_from : ℕ → Bool → Bool → List Happening → Bool
+is_first_topped_from k before first [] = first
+is_first_topped_from k before first (Hands turn ∷ hs) = is_first_topped_from k (topped_at (stood hs k) before turn) (first_topped_at (stood hs k) before first turn) hs
+is_first_topped_from k before first (Changes c ∷ hs) = is_first_topped_from k before first hs
+
+-- in a run, the last grant of the entry that stands at k in the end left it at its top, and the one before had led it further
+abbrev pub is_first_topped : ℕ → List Happening → Bool
+is_first_topped k hs = is_first_topped_from k false false hs
 
 -- an entry may be led past that end, and has to be, whatever is fixed: it is renewable, and over j (itself too), which is needed until a second
 -- that is ahead, and after the end
@@ -133,10 +144,10 @@ pub record IsNeededBeyond (s : WatchState) (i end j until : ℕ) : Type 0 where
 -- so no more after one grant more, until one leads it further or everything is looked up anew
 pub record LastTryLaw : Type 0 where
   pub asked :
-      (g : Forest) (width : ℕ) (before : List Turned) (turn : Turned) (wall elapsed i end j until : ℕ) → IsWatchRun g width (before ++ turn ∷ []) → i < length g.entries → IsClock wall elapsed turn →
-      (track_at (after_all (opened g width) before) i).out ≡ false → is_pressed (track_at (after_all (opened g width) before) i) ≡ false → (track_at turn.state i).top ≡ true → is_first_topped i before ≡ true →
-      IsNeededBeyond turn.state i end j until → end - own_before turn.state i / 2 ≤ second turn.state → HasPressed (after_all (opened g width) before) turn.state i
+      (old : WatchState) (reached : IsReached old) (turn : Turned) (wall elapsed i end j until : ℕ) → History old (turn ∷ []) → i < length old.forest.entries → IsClock wall elapsed turn →
+      (track_at old i).out ≡ false → is_pressed (track_at old i) ≡ false → (track_at turn.state i).top ≡ true → is_first_topped i reached.run ≡ true →
+      IsNeededBeyond turn.state i end j until → end - own_before turn.state i / 2 ≤ second turn.state → HasPressed old turn.state i
   pub only :
-      (g : Forest) (width : ℕ) (before : List Turned) (turn : Turned) (wall elapsed i : ℕ) → IsWatchRun g width (before ++ turn ∷ []) → i < length g.entries → IsClock wall elapsed turn →
-      is_pressed (track_at (after_all (opened g width) before) i) ≡ false → is_pressed (track_at turn.state i) ≡ true → (track_at turn.state i).top ≡ true →
-      (is_first_topped i before ≡ true) × ((is_wanted turn.state i ≡ true) × (is_come turn.state i ≡ true))
+      (old : WatchState) (reached : IsReached old) (turn : Turned) (wall elapsed i : ℕ) → History old (turn ∷ []) → i < length old.forest.entries → IsClock wall elapsed turn →
+      is_pressed (track_at old i) ≡ false → is_pressed (track_at turn.state i) ≡ true → (track_at turn.state i).top ≡ true →
+      (is_first_topped i reached.run ≡ true) × ((is_wanted turn.state i ≡ true) × (is_come turn.state i ≡ true))

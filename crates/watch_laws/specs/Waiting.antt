@@ -2,19 +2,18 @@
 -- Source: this project's own.
 use Rattle.std.specs.Prelude.{◌≡◌, ◌⊎◌, ℕ, ◌+◌, ◌<◌, ◌≤◌, true, false, List, [], ◌∷◌, Some, Result, Ok, Err, length}
 use Rattle.std.specs.List.{list_any}
-use Rattle.keep_tree.specs.Forest.{Forest}
 use Rattle.watch_machine.specs.declared.command.Command.{Command}
 use Rattle.watch_machine.specs.declared.command.Command.TheVariants.{Go, Taken}
 use Rattle.watch_machine.specs.declared.command.Output.{Output}
 use Rattle.watch_machine.specs.declared.fault.WatchFault.{WatchFault}
 use Rattle.watch_machine.specs.declared.track.Try.{Try}
 use Rattle.watch_machine.specs.Clocks.{ms}
-use Rattle.watch_machine.specs.History.{IsWatchRun, Turned}
+use Rattle.watch_machine.specs.History.{History, IsReached, Turned}
 use Rattle.watch_machine.specs.Lines.{ready}
 use Rattle.watch_machine.specs.Pauses.{cap}
 use Rattle.watch_machine.specs.Outlook.{time_of}
 use Rattle.watch_machine.specs.Settling.{is_silent}
-use Rattle.watch_machine.specs.State.{WatchState, attempt_at, opened, second, track_at}
+use Rattle.watch_machine.specs.State.{WatchState, attempt_at, second, track_at}
 use Rattle.watch_machine.specs.Wanted.{is_wanted}
 use Rattle.watch_laws.specs.Absence.{is_clock, is_event_taken}
 
@@ -61,7 +60,7 @@ AllMinded (turn ∷ turns) = EndsRight turn.result turn.state × AllMinded turns
 -- after every clock each entry that is wanted is out, or is pressed, or its time is ahead; and the wait does not pass the moment from
 -- which its try may go out, unless all lanes are taken, nor its time
 abbrev pub MindedLaw : Type 0
-MindedLaw = (g : Forest) (width : ℕ) (turns : List Turned) → IsWatchRun g width turns → AllMinded turns
+MindedLaw = (old : WatchState) (turns : List Turned) → History old turns → AllMinded turns
 
 -- an entry of which a lookup is owed is out, or has a try that the wait does not pass
 abbrev pub OwesRight : Command → WatchState → Type 0
@@ -78,7 +77,7 @@ AllOwed (turn ∷ turns) = OwedRight turn.result turn.state × AllOwed turns
 
 -- after every clock an entry of which a lookup is owed is out, or has a try that the wait does not pass
 abbrev pub OwedLaw : Type 0
-OwedLaw = (g : Forest) (width : ℕ) (turns : List Turned) → IsWatchRun g width turns → AllOwed turns
+OwedLaw = (old : WatchState) (turns : List Turned) → IsReached old → History old turns → AllOwed turns
 
 -- its try may go out within its longest pause: a sixteenth of what is left to its end, but at least a second, and at most half a minute
 -- after a loss where little is left
@@ -107,4 +106,4 @@ AllRetried old (turn ∷ turns) = Retries old turn × AllRetried turn.state turn
 
 -- an entry that failed may be asked again within its longest pause, from the clock after the failure
 abbrev pub RetryLaw : Type 0
-RetryLaw = (g : Forest) (width : ℕ) (turns : List Turned) → IsWatchRun g width turns → AllRetried (opened g width) turns
+RetryLaw = (old : WatchState) (turns : List Turned) → IsReached old → History old turns → AllRetried old turns

@@ -1,13 +1,14 @@
-//! The laws of the Watch: what holds of every list of events that the machine of `watch_machine` is handed, in words that do not
-//! name its steps. Each law is a statement in `specs/` and the contract of a public function without a body, so the check proves
-//! it.
+//! The laws of the Watch: what holds of every list of events that the machine of `watch_machine` is handed, and of changes of what it
+//! watches among them, in words that do not name its steps. Each law is a statement in `specs/` and the contract of a public function
+//! without a body, so the check proves it.
 //!
-//! `History.IsWatchRun` of `watch_machine` says what a list of events gives. Begin with `specs/Time`.
+//! `History.IsRun` of `watch_machine` says what may happen to it. Begin with `specs/Time`.
 #![tactic(auto)]
 
 mod laws_of_absence;
 mod laws_of_beginnings;
 mod laws_of_calm;
+mod laws_of_changes;
 mod laws_of_clocks;
 mod laws_of_ends;
 mod laws_of_load;
@@ -29,6 +30,7 @@ mod laws_of_waiting;
 pub use laws_of_absence::{held_law, hold_law, spared_law};
 pub use laws_of_beginnings::{begin_law, few_law, lookup_law};
 pub use laws_of_calm::{calm_law, next_moment_law, round_of_plan_law};
+pub use laws_of_changes::change_law;
 pub use laws_of_clocks::{clocks_law, date_law};
 pub use laws_of_ends::never_past_law;
 pub use laws_of_load::{load_law, spaced_law, width_law};

@@ -2,6 +2,7 @@
 -- from lanes that are alike say the same. For the law that secrets change no answer.
 use Rattle.std.proofs.Common.{◌≡◌, ◌∙◌, ◌==◌, ℕ, suc, ◌<◌, ◌≤◌, Bool, true, false, not, if◌then◌else◌, List, [], ◌∷◌, ◌++◌, Option, Some, None, IfSome, Err, All, append_assoc, filter, length, map, nat_le, nat_lt, refl, sym, ap, ap₂, subst, arith, inl, inr, true≢false}
 use Rattle.std.proofs.lemmas.Bool.{cases_Bool, cond-false, cond-true}
+use Rattle.std.proofs.lemmas.Bool.Decides.{nat_tests}
 use Rattle.std.proofs.lemmas.List.Elements.{All-head, All-tail, filter_passes}
 use Rattle.std.specs.List.{AllZip}
 use Rattle.keep_exchange.specs.Requests.{lookup_of, renewal_request}
@@ -40,7 +41,7 @@ use Rattle.keep_asking.specs.Handing.{out_of}
 use Rattle.keep_asking.specs.Asking.{ask_of, message_as}
 use Rattle.keep_asking.specs.InStep.{times}
 use Rattle.keep_asking.specs.Sending.{GoOut, GoesOut, Lanes}
-use Rattle.keep_asking.specs.Told.{loss_in, no_terms, renewal_reply, said_to}
+use Rattle.keep_asking.specs.Told.{loss_in, no_terms, renewal_reply, said_of_entry, said_of_nobody, said_to}
 use Rattle.keep_asking.specs.declared.told.Said.{Said}
 use Rattle.watch_lines.proofs.AlikeReplies.{LooksSame, RenewsSame, answer_of, loss_same, looks_same, renews_same, status_same}
 use Rattle.watch_lines.proofs.AlikeTaken.{AreToldAlike}
@@ -110,6 +111,12 @@ if_is {X} P o x is h = subst (λ (z : Option X). IfSome z P) (sym is) h
 said_of : (a b : Said) → b.reply ≡ a.reply → b.terms ≡ a.terms → b.loss ≡ a.loss → b ≡ a
 said_of a b reply terms loss = ap (λ r. record b { reply = r }) reply ∙ ap₂ (λ t l. record a { terms = t; loss = l }) terms loss
 
+-- an answer of an entry that is
+of_entry : (v : Inventory) (operation : Operation) (i : ℕ) (a : Answer) → i < length v.forest.entries → said_to v operation i a ≡ said_of_entry v operation i a
+of_entry v operation i a within =
+    let here : nat_lt i (length v.forest.entries) ≡ true = grind (arith, nat_tests) in
+    cond-true (nat_lt i (length v.forest.entries)) (said_of_entry v operation i a) (said_of_nobody a) here
+
 module _ (g : Forest) (cs ds : List (List ℕ)) (ts : List Terms) (one : IsInventory (record { forest = g; credentials = cs; terms = ts })) (two : IsInventory (record { forest = g; credentials = ds; terms = ts })) (read : LookedLeaseIsRead) where
   abbrev s : Inventory
   s = inventory_of g cs ts
@@ -133,12 +140,15 @@ module _ (g : Forest) (cs ds : List (List ℕ)) (ts : List Terms) (one : IsInven
       let left = step_dated l alike.1 t (lookup_of port cs g i) in
       let same : LooksSame g cs ds ts one two i (answer_of x.sent) (answer_of y.sent) =
       looks_same g cs ds ts one two read i t within (broker_step l t (lookup_of port cs g i)).answer (broker_step m t (lookup_of other ds g i)).answer outcome.0 left.0 x.sent y.sent x.says y.says in
-      ap (said_to u Look i) y.answer_is ∙ said_of (said_to s Look i (answer_of x.sent)) (said_to u Look i (answer_of y.sent)) same.0 same.1.0 same.1.1 ∙ sym (ap (said_to s Look i) x.answer_is)
+      ap (said_to u Look i) y.answer_is ∙ of_entry u Look i (answer_of y.sent) within
+      ∙ said_of (said_of_entry s Look i (answer_of x.sent)) (said_of_entry u Look i (answer_of y.sent)) same.0 same.1.0 same.1.1 ∙ sym (of_entry s Look i (answer_of x.sent) within)
+      ∙ sym (ap (said_to s Look i) x.answer_is)
   served_both Renew port other t i mid l m l' m' a b within kept alike x y =
       let outcome = renewals_both g cs ds ts one two port other t i mid.forest l m within kept alike.0 in
       let same : RenewsSame g cs ds ts one two i (answer_of x.sent) (answer_of y.sent) =
       renews_same g cs ds ts one two i t within (broker_step l t (renewal_request port cs mid.forest i)).answer (broker_step m t (renewal_request other ds mid.forest i)).answer outcome.0 x.sent y.sent x.says y.says in
-      ap (said_to u Renew i) y.answer_is ∙ ap (λ h. record { reply = renewal_reply h; terms = no_terms; loss = loss_in h }) same ∙ sym (ap (said_to s Renew i) x.answer_is)
+      ap (said_to u Renew i) y.answer_is ∙ of_entry u Renew i (answer_of y.sent) within ∙ ap (λ h. record { reply = renewal_reply h; terms = no_terms; loss = loss_in h }) same
+      ∙ sym (of_entry s Renew i (answer_of x.sent) within) ∙ sym (ap (said_to s Renew i) x.answer_is)
 
   stepped_both :
       (operation : Operation) (port other t i : ℕ) (mid : WatchState) (l m : BrokerTable) → i < length g.entries → KeepsSupplied g mid.forest → AreLeft l m →

@@ -1,6 +1,6 @@
 -- Alike replies: of what two brokers say of an entry whose tables differ in credentials alone, a watch is told the same. For the law
 -- that secrets change no answer.
-use Rattle.std.proofs.Common.{◌≡◌, ◌∙◌, ◌==◌, ℕ, ◌<◌, ◌≤◌, ◌||◌, Bool, false, cond, is_none, List, [], Option, Some, None, Ok, Err, IsUtf8, bytes_eq, length, refl, sym, ap, ap₂, subst}
+use Rattle.std.proofs.Common.{◌≡◌, ◌∙◌, ◌==◌, ℕ, ◌<◌, ◌≤◌, ◌||◌, Bool, false, cond, is_none, List, [], Option, Some, None, Ok, Err, IsUtf8, bytes_eq, if◌then◌else◌, length, nat_lt, refl, sym, ap, ap₂, subst}
 use Rattle.std.proofs.lemmas.Bool.{cond-true}
 use Rattle.std.specs.Cmp.Lexicographic.{bytes_decides}
 use Rattle.keep_exchange.specs.Exchanges.{received}
@@ -33,7 +33,8 @@ use Rattle.watch_machine.specs.declared.event.Operation.{Operation}
 use Rattle.watch_machine.specs.declared.event.Operation.TheVariants.{Look, Renew}
 use Rattle.watch_machine.specs.declared.event.Reply.TheVariants as replies
 use Rattle.keep_alike.proofs.Dated.{if_both}
-use Rattle.keep_asking.specs.Told.{end_told, is_of_another, lookup_reply, lookup_terms, loss_in, no_terms, renewal_reply, said_to, terms_told}
+use Rattle.keep_asking.specs.Told.{end_told, is_of_another, lookup_reply, lookup_terms, loss_in, no_terms, renewal_reply, said_of_entry, said_of_nobody, said_to, terms_told}
+use Rattle.keep_asking.specs.declared.told.Said.{Said}
 use Rattle.broker_rule.specs.declared.call.Call.TheVariants.{LookupSelf, LookupLease}
 use Rattle.broker_rule.specs.declared.refusal.Refusal.{Refusal}
 use Rattle.broker_rule.specs.declared.refusal.Refusal.TheVariants.{UnsupportedPath, UnsupportedMethod, PermissionDenied, BadRequest, UnknownLease, NotRenewable}
@@ -303,13 +304,17 @@ module _ (g : Forest) (cs ds : List (List ℕ)) (ts : List Terms) (one : IsInven
         (λ token. token_looks i t r q token rows.0.same a b (subst (λ k. TellsRow t (look_for k) r a) token first) (subst (λ k. TellsRow t (look_for k) q b) token second))
         (λ lease. lease_looks i t r q within lease rows.0.same rows.1.0 rows.1.1 speaks a b (subst (λ k. TellsRow t (look_for k) r a) lease first) (subst (λ k. TellsRow t (look_for k) q b) lease second))
 
+  -- what answers of an entry say alike they say alike where it is no more
+  said_same : (operation : Operation) (i : ℕ) (a : lane.Answer) → said_of_entry u operation i a ≡ said_of_entry s operation i a → said_to u operation i a ≡ said_to s operation i a
+  said_same operation i a same = ap (λ (said : Said). if nat_lt i (length g.entries) then said else said_of_nobody a) same
+
   -- ---- what no broker told
 
   -- an answer that is lost says the same, whatever was asked
   pub loss_same : (operation : Operation) (i : ℕ) (why : Loss) → said_to u operation i (Err why) ≡ said_to s operation i (Err why)
   unfolding looked_whole renewed_whole lookup_reply lookup_terms
-  loss_same Look i why = refl
-  loss_same Renew i why = refl
+  loss_same Look i why = said_same Look i (Err why) refl
+  loss_same Renew i why = said_same Renew i (Err why) refl
 
   -- and so does a reply with no body
   empty : ℕ → Reply
@@ -351,5 +356,6 @@ module _ (g : Forest) (cs ds : List (List ℕ)) (ts : List Terms) (one : IsInven
   status_same Look i status =
       let same = empty_looks i status in
       let h = looked_up_by_answer (entry_at g.entries i).kind (with_reply (record { status = status; body = [] })) in
-      ap₂ (λ r t. record { reply = r; terms = t; loss = loss_in h }) same.0 same.1
-  status_same Renew i status = ap (λ h. record { reply = renewal_reply h; terms = no_terms; loss = loss_in h }) (empty_renews i status)
+      said_same Look i (with_reply (record { status = status; body = [] })) (ap₂ (λ r t. record { reply = r; terms = t; loss = loss_in h }) same.0 same.1)
+  status_same Renew i status =
+      said_same Renew i (with_reply (record { status = status; body = [] })) (ap (λ h. record { reply = renewal_reply h; terms = no_terms; loss = loss_in h }) (empty_renews i status))

@@ -1,5 +1,7 @@
 -- Kept: what the machine of a watch keeps of the forest that was supplied, whatever comes. For the law that secrets change no answer.
-use Rattle.std.proofs.Common.{◌≡◌, ◌∙◌, ℕ, ◌<◌, ◌&&◌, Bool, true, false, not, cond, if◌then◌else◌, is_some, Option, Some, None, Ok, ◌+◌, length, min, nat_lt, refl, sym, ap, subst}
+use Rattle.std.proofs.Common.{◌≡◌, ◌∙◌, ℕ, ◌<◌, ◌&&◌, Bool, true, false, not, cond, if◌then◌else◌, is_some, Option, Some, None, Ok, Err, ◌+◌, inl, inr, length, min, nat_lt, set, refl, sym, ap, subst}
+use Rattle.std.proofs.lemmas.Bool.{cases_lt}
+use Rattle.std.proofs.lemmas.List.{set_past}
 use Rattle.keep_exchange.specs.declared.heard.Terms as looked
 use Rattle.keep_inventory.specs.Inventories.{Inventory, terms_at}
 use Rattle.keep_inventory.specs.Lookup.{lookup_fault, told_terms}
@@ -41,8 +43,9 @@ use Rattle.watch_machine.specs.Settling.{is_real}
 use Rattle.watch_machine.specs.State.{WatchState, entry_of}
 use Rattle.watch_machine.specs.Step.{Step, StepCommand, StepLooked, StepRenewed, readied}
 use Rattle.watch_machine.proofs.Cases.{if_both}
-use Rattle.watch_machine.proofs.Within.{asked_none, out_entry, within_none}
-use Rattle.keep_asking.specs.Told.{event_as, is_of_another, lookup_terms, no_terms, said_to, step_in, terms_told}
+use Rattle.watch_machine.proofs.Within.{out_entry, within_none}
+use Rattle.keep_asking.specs.Told.{event_as, is_of_another, lookup_terms, no_terms, said_of_entry, said_of_nobody, said_to, step_in, terms_told}
+use Rattle.keep_asking.specs.declared.told.Said.{Said}
 use Rattle.keep_asking.proofs.Sound.{readied_left}
 
 -- ---- an event
@@ -69,24 +72,28 @@ module _ (g : Forest) where
   not_orphaned k true o lease = ap (λ x. cond (not (is_lease x)) None o) lease
   not_orphaned k false o lease = refl
 
-  looked_kept : (s : WatchState) (r : Out) (reply : Reply) (terms : Terms) → r.entry < length s.forest.entries → ((entry_at g.entries r.entry).kind ≡ Lease → terms.step ≡ None) → KeepsSupplied g s.forest → KeepsSupplied g (looked_at s r reply terms).forest
+  looked_kept : (s : WatchState) (r : Out) (reply : Reply) (terms : Terms) → ((entry_at g.entries r.entry).kind ≡ Lease → terms.step ≡ None) → KeepsSupplied g s.forest → KeepsSupplied g (looked_at s r reply terms).forest
   unfolding by_terms
-  looked_kept s r (Told seconds renewable date) terms within none kept =
+  looked_kept s r (Told seconds renewable date) terms none kept =
       let old = entry_at s.forest.entries r.entry in
-      kept_with g s.forest r.entry (by_terms s.forest.margin terms old) within kept refl
-      (λ lease. not_orphaned old.kind terms.orphan old.parent (kept.kinds r.entry ∙ lease))
-      (λ lease. ap (step_told s.forest.margin old.step) (none lease))
-  looked_kept s r (Refused status date) terms within none kept = kept
-  looked_kept s r Busy terms within none kept = kept
-  looked_kept s r Lost terms within none kept = kept
+      let e = by_terms s.forest.margin terms old in
+      elim (cases_lt r.entry (length s.forest.entries)) as (λ _. KeepsSupplied g (record s.forest { entries = set s.forest.entries r.entry e })) [
+        | inl within ↦
+            kept_with g s.forest r.entry e within kept refl (λ lease. not_orphaned old.kind terms.orphan old.parent (kept.kinds r.entry ∙ lease))
+            (λ lease. ap (step_told s.forest.margin old.step) (none lease))
+        | inr past ↦ subst (λ es. KeepsSupplied g (record s.forest { entries = es })) (sym (set_past s.forest.entries r.entry e past)) kept
+      ]
+  looked_kept s r (Refused status date) terms none kept = kept
+  looked_kept s r Busy terms none kept = kept
+  looked_kept s r Lost terms none kept = kept
 
-  answered_kept : (old new : WatchState) (i : ℕ) (found : Option Out) (reply : Reply) (terms : Terms) (output : Output) → request_out old.out i Look ≡ found → StepLooked old found reply terms output new → i < length old.forest.entries →
+  answered_kept : (old new : WatchState) (i : ℕ) (found : Option Out) (reply : Reply) (terms : Terms) (output : Output) → request_out old.out i Look ≡ found → StepLooked old found reply terms output new →
       ((entry_at g.entries i).kind ≡ Lease → terms.step ≡ None) → KeepsSupplied g old.forest → KeepsSupplied g new.forest
-  answered_kept old new i None reply terms output is step within none kept = absurd step
-  answered_kept old new i (Some q) reply terms output is step within none kept =
+  answered_kept old new i None reply terms output is step none kept = absurd step
+  answered_kept old new i (Some q) reply terms output is step none kept =
       let s = noted old q reply in
       let own : q.entry ≡ i = out_entry old.out i Look q is in
-      let left = looked_kept s q reply terms (subst (λ n. n < length old.forest.entries) (sym own) within) (subst (λ n. (entry_at g.entries n).kind ≡ Lease → terms.step ≡ None) (sym own) none) kept in
+      let left = looked_kept s q reply terms (subst (λ n. (entry_at g.entries n).kind ≡ Lease → terms.step ≡ None) (sym own) none) kept in
       subst (λ (x : WatchState). KeepsSupplied g x.forest) (sym step.1) (subst (KeepsSupplied g) (sym (replied_forest (looked_at s q reply terms) q reply)) left)
 
   granted_kept : (old new : WatchState) (found : Option Out) (reply : Reply) (output : Output) → StepRenewed old found reply output new → KeepsSupplied g old.forest → KeepsSupplied g new.forest
@@ -103,7 +110,7 @@ module _ (g : Forest) where
   stepped old new (Clock wall elapsed) output free step none kept =
       let mid = pressed (readied old wall elapsed) (asked_by_round step.round) in
       sent_kept mid new output.command step.command (subst (KeepsSupplied g) (sym (readied_left old wall elapsed).1.1) kept)
-  stepped old new (Looked i reply terms) output free step none kept = answered_kept old new i (request_out old.out i Look) reply terms output refl step (asked_none old i Look free) none kept
+  stepped old new (Looked i reply terms) output free step none kept = answered_kept old new i (request_out old.out i Look) reply terms output refl step none kept
   stepped old new (Renewed i reply) output free step none kept = granted_kept old new (request_out old.out i Renew) reply output step kept
   stepped old new (Need i until) output free step none kept =
       let within : i < length old.forest.entries = within_none old i None free in
@@ -134,6 +141,13 @@ heard_step s i (heard.Refused status date) lease = refl
 heard_step s i heard.Busy lease = refl
 heard_step s i (heard.Lost why) lease = refl
 
+-- and neither does an answer of which no entry is any more
+nobody_step : (a : Answer) → (said_of_nobody a).terms.step ≡ None
+nobody_step (Ok dated) = refl
+nobody_step (Err why) = refl
+
 pub answer_step : (s : Inventory) (operation : Operation) (i : ℕ) (a : Answer) → TellsNoStep s.forest (event_as operation i (said_to s operation i a).reply (said_to s operation i a).terms)
-answer_step s Look i a = heard_step s i (looked_up_by_answer (entry_at s.forest.entries i).kind a)
+answer_step s Look i a = λ lease.
+    if_both (λ (said : Said). said.terms.step ≡ None) (nat_lt i (length s.forest.entries)) (said_of_entry s Look i a) (said_of_nobody a)
+    (heard_step s i (looked_up_by_answer (entry_at s.forest.entries i).kind a) lease) (nobody_step a)
 answer_step s Renew i a = tt

@@ -1,6 +1,7 @@
 pub mod WatchEnding
 pub mod Saying
 pub mod Wording
+pub mod OfEntries
 pub mod Turns
 pub mod Answering
 pub mod News

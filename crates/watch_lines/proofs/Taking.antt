@@ -17,7 +17,12 @@ use Rattle.watch_lines.specs.declared.line.Line.TheVariants.{Need, Begin, Known,
 use Rattle.keep_asking.proofs.InStep as sides
 
 pub whole_fresh : (s : Inventory) (width : ℕ) → WatchIsWhole (fresh_watching s width)
-whole_fresh s width = record { machine = refl; said = length-replicate (length s.forest.entries) None }
+whole_fresh s width = record {
+  machine = refl;
+  said = length-replicate (length s.forest.entries) None;
+  sound = (sides.abreast_new s.forest width).sound;
+  nobody = λ i past. refl;
+}
 
 pub heard_need :
     (port i until : ℕ) (old new : Watching) (lanes : Lanes) (first last : List ℕ) → WatchIsTurned old (events.Need i until) new → last ≡ first ++ (planned_line ++ clock_line) → Appended first last (LineIsHeard port (watching_side old lanes) (Need i until) (watching_side new lanes))

@@ -29,3 +29,7 @@ pub mod LineSent
 pub mod LineAnswer
 pub mod LineMade
 pub mod RoundClock
+pub mod Nobody
+pub mod Changing
+pub mod Moved
+pub mod Foresting

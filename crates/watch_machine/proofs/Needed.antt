@@ -1,6 +1,6 @@
 -- Needed: what entries would carry with no limit at all is what a view carries in which their needs are written so; and what counts for each is
 -- found. For `Needs` and `need_of`.
-use Rattle.std.proofs.Common.{◌≡◌, ◌∙◌, ℕ, ◌+◌, ◌<◌, ◌≤◌, Bool, true, false, if◌then◌else◌, List, [], Option, Some, None, length, map, set, refl, sym, ap, ap₂, subst, arith, inl, inr}
+use Rattle.std.proofs.Common.{◌≡◌, ◌∙◌, ℕ, ◌+◌, ◌<◌, ◌≤◌, Bool, true, false, if◌then◌else◌, List, Option, Some, None, length, map, set, refl, sym, ap, ap₂, subst, arith, inl, inr}
 use Rattle.std.proofs.lemmas.Bool.{cases_eq, cases_lt, cond-false}
 use Rattle.std.proofs.lemmas.List.{get_or_past}
 use Rattle.std.proofs.lemmas.List.Folds.{list_any_at}
@@ -16,7 +16,7 @@ use Rattle.watch_machine.specs.declared.track.Track.{Track}
 use Rattle.watch_machine.specs.Clocks.{sec}
 use Rattle.watch_machine.specs.State.{has_last_try, no_track, track_in}
 use Rattle.watch_machine.specs.Wanted.{cut_need, free_entry, free_need, need_here, need_of, view}
-use Rattle.watch_machine.specs.code.View.{HasNeeds, IsFree, IsView, Loads, Sees, last_by, last_needs, need_at, need_by}
+use Rattle.watch_machine.specs.code.View.{HasNeeds, IsFree, IsView, Loads, Sees, last_by, need_by}
 use Rattle.watch_machine.proofs.Carries.{carries_alike}
 use Rattle.watch_machine.proofs.Cases.{not_both}
 use Rattle.watch_machine.proofs.Seeing.{has_cut}

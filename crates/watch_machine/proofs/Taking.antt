@@ -21,12 +21,12 @@ NotMemory o = o ≡ Some OutOfMemory → ⊥
 within_not : (s : WatchState) (i : ℕ) (other : Option WatchFault) → NotMemory other → NotMemory (unless_within s i other)
 within_not s i other h = if_both NotMemory _ (Some BadIndex) other (λ e. cc) h
 
-some_not : (o : Option Out) → NotMemory (unless_some o)
-some_not None = λ e. cc
-some_not (Some r) = λ e. cc
+some_not : (s : WatchState) (i : ℕ) (o : Option Out) → NotMemory (unless_some s i o)
+some_not s i None = within_not s i (Some NotAsked) (λ e. cc)
+some_not s i (Some r) = λ e. cc
 
 asked_not : (s : WatchState) (i : ℕ) (operation : Operation) → NotMemory (unless_asked s i operation)
-asked_not s i operation = within_not s i _ (some_not (request_out s.out i operation))
+asked_not s i operation = some_not s i (request_out s.out i operation)
 
 refusal_not : (s : WatchState) (event : Event) → NotMemory (refusal s event)
 unfolding refusal

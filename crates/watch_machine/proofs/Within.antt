@@ -1,4 +1,4 @@
--- Within: an event that is not refused is of an entry of the forest, and an answer is to a request that is out. For `step`.
+-- Within: an event that is not refused is an answer to a request that is out, or of an entry of the forest, or of none. For `step`.
 use Rattle.std.proofs.Common.{◌≡◌, ◌≢◌, ◌∙◌, ◌<◌, ℕ, suc, Bool, true, ◌==◌, ◌&&◌, List, [], ◌∷◌, Option, Some, None, IfSome, length, arith, inl, inr, nat_le, sym, ap, subst}
 use Rattle.std.proofs.lemmas.Bool.{and_parts, cases_Bool, cases_lt, cond-true, cond-false, eqb-true}
 use Rattle.std.proofs.lemmas.Bool.Decides.{nat_tests}
@@ -21,12 +21,9 @@ within_none s i other none =
           absurd (let bad : None ≡ Some BadIndex = sym none ∙ refused in cc)
     ]
 
-pub asked_none : (s : WatchState) (i : ℕ) (operation : Operation) → unless_asked s i operation ≡ None → i < length s.forest.entries
-asked_none s i operation none = within_none s i (unless_some (request_out s.out i operation)) none
-
 pub asked_some : (s : WatchState) (i : ℕ) (operation : Operation) → unless_asked s i operation ≡ None → request_out s.out i operation ≢ None
 asked_some s i operation none is =
-    let bad : unless_within s i (Some NotAsked) ≡ None = ap (λ o. unless_within s i (unless_some o)) (sym is) ∙ none in
+    let bad : unless_within s i (Some NotAsked) ≡ None = ap (unless_some s i) (sym is) ∙ none in
     if_both (λ (o : Option WatchFault). o ≡ None → ⊥) (nat_le (length s.forest.entries) i) (Some BadIndex) (Some NotAsked) (λ e. cc) (λ e. cc) bad
 
 -- what is found in a list passes the test, and is as all of the list are

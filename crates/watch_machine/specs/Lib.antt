@@ -17,5 +17,6 @@ pub mod Outlook
 pub mod Shortness
 pub mod Refusal
 pub mod Step
+pub mod Change
 pub mod History
 pub mod code

@@ -21,18 +21,20 @@ is_same Renew Renew = true
 unfoldable pub request_out : List Out → ℕ → Operation → Option Out
 request_out out i operation = find (λ r. r.entry == i && is_same r.operation operation) out
 
-abbrev pub unless_some : Option Out → Option WatchFault
-unless_some None = Some NotAsked
-unless_some (Some r) = None
-
 -- no such entry
 abbrev pub unless_within : WatchState → ℕ → Option WatchFault → Option WatchFault
 unless_within s i other = if nat_le (length s.forest.entries) i then Some BadIndex else other
 
-abbrev pub unless_asked : WatchState → ℕ → Operation → Option WatchFault
-unless_asked s i operation = unless_within s i (unless_some (request_out s.out i operation))
+-- a request is out, if its entry is still there or is not
+abbrev pub unless_some : WatchState → ℕ → Option Out → Option WatchFault
+unless_some s i None = unless_within s i (Some NotAsked)
+unless_some s i (Some r) = None
 
--- the refusal of an event, None where it has none: there is no such entry, or an answer is to no request that is out
+abbrev pub unless_asked : WatchState → ℕ → Operation → Option WatchFault
+unless_asked s i operation = unless_some s i (request_out s.out i operation)
+
+-- the refusal of an event, None where it has none: there is no such entry, or an answer is to no request that is out. One to a request
+-- that is out is taken, also where its entry is no more
 unfoldable pub refusal : WatchState → Event → Option WatchFault
 refusal s (Clock wall elapsed) = None
 refusal s (Looked i reply terms) = unless_asked s i Look

@@ -1,6 +1,6 @@
 -- Step: what one event does that is not refused.
 -- Source: this project's own.
-use Rattle.std.specs.Prelude.{◌≡◌, ℕ, Bool, true, false, not, ◌&&◌, List, Option, Some, None, min, slice_set}
+use Rattle.std.specs.Prelude.{◌≡◌, ℕ, Bool, true, false, not, ◌&&◌, if◌then◌else◌, List, Option, Some, None, length, min, nat_lt, slice_set}
 use Rattle.keep_moment.specs.declared.moment.TheConstants.{LAST}
 use Rattle.keep_tree.specs.declared.forest.TheConstants.{END_MAX}
 use Rattle.watch_machine.specs.declared.command.Command.{Command}
@@ -57,18 +57,25 @@ pub record StepClock (old : WatchState) (wall elapsed : ℕ) (output : Output) (
   pub notes : output.notes ≡ record nothing_noted { began = why old wall elapsed; round = round }
   pub command : StepCommand (pressed (readied old wall elapsed) (asked_by_round round)) output.command new
 
+-- there is an entry at i; the request of one that is no more is out under an index at which there is none
+abbrev pub is_watched : WatchState → ℕ → Bool
+is_watched s i = nat_lt i (length s.forest.entries)
+
 -- what is noted of an answer to a lookup that told of its entry, of one that told nothing, and of either
 abbrev pub notes_told : WatchState → ℕ → Terms → Notes
-notes_told s i terms = record nothing_noted { orphan = is_orphaned terms (entry_of s i); endless = terms.endless && not (is_never (track_at s i).end) }
+notes_told s i terms = record nothing_noted {
+  orphan = is_orphaned terms (entry_of s i);
+  endless = is_watched s i && (terms.endless && not (is_never (track_at s i).end));
+}
 
-abbrev pub notes_untold : Reply → Notes
-notes_untold reply = record nothing_noted { gone = status_of reply }
+abbrev pub notes_untold : WatchState → ℕ → Reply → Notes
+notes_untold s i reply = record nothing_noted { gone = if is_watched s i then status_of reply else None }
 
 abbrev pub notes_of : WatchState → Out → Reply → Terms → Notes
 notes_of s r (Told seconds renewable date) terms = notes_told s r.entry terms
-notes_of s r (Refused status date) terms = notes_untold (Refused status date)
-notes_of s r Busy terms = notes_untold Busy
-notes_of s r Lost terms = notes_untold Lost
+notes_of s r (Refused status date) terms = notes_untold s r.entry (Refused status date)
+notes_of s r Busy terms = notes_untold s r.entry Busy
+notes_of s r Lost terms = notes_untold s r.entry Lost
 
 -- with what the answer says of the broker
 abbrev pub with_link : Notes → Option Link → Notes
@@ -92,7 +99,8 @@ known s i end renewable = with_track s i (owing_past s.clocks.at (told_earlier e
 abbrev pub taken : Notes → Output
 taken notes = record { command = Taken; notes = notes }
 
--- an answer to a request that is out: it is noted, it is taken for its entry, and then for what it says of the broker
+-- an answer to a request that is out: it is noted, it is taken for its entry, and then for what it says of the broker. Where its entry is no
+-- more, there is nothing to be made of that
 abbrev pub notes_looked : WatchState → Out → Reply → Terms → Notes
 notes_looked s r reply terms = with_link (notes_of s r reply terms) (link (looked s r reply terms) r reply)
 

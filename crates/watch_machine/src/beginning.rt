@@ -87,7 +87,7 @@ fn hastened(attempt: Try, from: Millis) -> Try
 }
 
 /// An entry owes a lookup, at once; one that is out only owes it.
-fn owing_lookup(track: Track, at: Millis) -> Track
+pub(crate) fn owing_lookup(track: Track, at: Millis) -> Track
     requires { IsTrack track }
     ensures value { result ≡ owing_lookup at track }
     ensures bounds { IsTrack result }
@@ -157,7 +157,7 @@ fn is_called(dated: bool, need: u64, written: u64) -> bool
 }
 
 /// A track that is not at the top, and has no last try: that of one that was at its top is over.
-fn untopped(track: Track) -> Track
+pub(crate) fn untopped(track: Track) -> Track
     requires { IsTrack track }
     ensures value { result ≡ untopped_track track }
     ensures bounds { IsTrack result }

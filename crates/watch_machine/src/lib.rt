@@ -12,6 +12,7 @@
 
 mod answers;
 mod beginning;
+mod change;
 mod clock_step;
 mod clocks;
 mod command;
@@ -43,6 +44,7 @@ mod waiting;
 mod wanted;
 mod watch;
 
+pub use change::Was;
 pub use clocks::{BrokerOffset, Clocks, WallOffset};
 pub use command::{Command, Output, Patience, Request, Requests};
 pub use event::{Event, Operation, Reply, Terms};

@@ -60,14 +60,16 @@ impl Watch {
         self.line = line;
     }
 
-    /// Takes the line out as it is after that answer to a renewal.
+    /// Takes the line out as it is after that answer to a renewal. None is known where its entry is no more.
     pub(crate) fn line_renewed(&mut self, alloc: Global, request: Out, reply: Reply) -> Line
-        requires within { request.entry < length self.old.forest.entries }
-        requires request { WentOutAtReading request }
+        requires { WentOutAtReading request }
         ensures unchanged { self.new ≡ self.old }
         ensures line { IsLineOf (replied (state_renewed self.old request reply) request reply) result }
     {
         let line = self.take_line(alloc);
+        if request.entry >= self.forest.len() {
+            return line.ended();
+        }
         let margin = self.forest.margin();
         let entry = self.forest.get(request.entry);
         let before = self.track(request.entry);

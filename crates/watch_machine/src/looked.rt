@@ -168,13 +168,15 @@ fn status_of(reply: Reply) -> Option<u16>
 }
 
 impl Watch {
-    /// Takes the answer to a lookup for its entry, and gives what is noted of that.
+    /// Takes the answer to a lookup for its entry, if that is still there, and gives what is noted of it.
     pub(crate) fn looked(&mut self, request: Out, reply: Reply, terms: Terms) -> Notes
-        requires within { request.entry < length self.old.forest.entries }
-        requires request { WentOutAtReading request }
+        requires { WentOutAtReading request }
         ensures state { self.new ≡ looked self.old request reply terms }
         ensures notes { result ≡ notes_of self.old request reply terms }
     {
+        if request.entry >= self.forest.len() {
+            return Notes::none();
+        }
         match reply {
             Reply::Told {
                 seconds,
@@ -206,7 +208,7 @@ impl Watch {
     fn tell_nothing(&mut self, request: Out, reply: Reply) -> Notes
         requires { request.entry < length self.old.forest.entries }
         ensures state { self.new ≡ with_track self.old request.entry (untold_track self.old.clocks.at request.heard reply (track_at self.old request.entry)) }
-        ensures notes { result ≡ notes_untold reply }
+        ensures notes { result ≡ notes_untold self.old request.entry reply }
     {
         let track = self.track(request.entry);
         let track = untold(track, reply, self.clocks.at, request.heard);

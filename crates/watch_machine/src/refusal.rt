@@ -1,6 +1,6 @@
 ghost use Rattle.std.specs.Prelude.{◌≡◌, ◌==◌, ◌&&◌, IfSome};
 ghost use Rattle.watch_machine.specs.code.Bounds.{WentOutAtReading};
-ghost use Rattle.watch_machine.specs.Refusal.{is_same, refusal, request_out, unless_asked};
+ghost use Rattle.watch_machine.specs.Refusal.{is_same, refusal, request_out, unless_asked, unless_within};
 
 use crate::event::{Event, Operation};
 use crate::fault::WatchFault;
@@ -35,24 +35,29 @@ impl Watch {
             Event::Looked { entry, .. } => self.unless_asked(entry, Operation::Look),
             Event::Renewed { entry, .. } => self.unless_asked(entry, Operation::Renew),
             Event::Need { entry, .. } | Event::Known { entry, .. } => {
-                if entry >= self.forest.len() {
-                    Some(WatchFault::BadIndex)
-                } else {
-                    None
-                }
+                self.unless_within(entry, None)
             }
         }
     }
 
-    /// The refusal of an answer: there is no such entry, or it is to no request that is out.
+    /// `BadIndex` where there is no such entry, else another refusal, if there is one.
+    fn unless_within(&self, entry: u32, other: Option<WatchFault>) -> Option<WatchFault>
+        ensures { result ≡ unless_within self.now entry other }
+    {
+        if entry >= self.forest.len() {
+            Some(WatchFault::BadIndex)
+        } else {
+            other
+        }
+    }
+
+    /// The refusal of an answer: it is to no request that is out, or there is no such entry. One to a request that is out is taken,
+    /// also where its entry is no more.
     fn unless_asked(&self, entry: u32, operation: Operation) -> Option<WatchFault>
         ensures { result ≡ unless_asked self.now entry operation }
     {
-        if entry >= self.forest.len() {
-            return Some(WatchFault::BadIndex);
-        }
         match self.request_out(entry, operation) {
-            None => Some(WatchFault::NotAsked),
+            None => self.unless_within(entry, Some(WatchFault::NotAsked)),
             Some(_) => None,
         }
     }

@@ -268,13 +268,15 @@ fn top_by(reply: Reply, track: Track) -> Option<u64>
 }
 
 impl Watch {
-    /// Takes the answer to a renewal for its entry, and gives its end where it is led no further.
+    /// Takes the answer to a renewal for its entry, if that is still there, and gives its end where it is led no further.
     pub(crate) fn renewed(&mut self, request: Out, reply: Reply) -> Option<u64>
-        requires within { request.entry < length self.old.forest.entries }
-        requires request { WentOutAtReading request }
+        requires { WentOutAtReading request }
         ensures state { self.new ≡ state_renewed self.old request reply }
         ensures top { result ≡ top_by reply (track_renewed self.old request reply) }
     {
+        if request.entry >= self.forest.len() {
+            return None;
+        }
         let track = renewed_track(
             self.forest.margin(),
             self.forest.get(request.entry).step,

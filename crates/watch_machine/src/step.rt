@@ -1,4 +1,4 @@
-ghost use Rattle.std.specs.Prelude.{◌≡◌, ◌≢◌, ◌<◌, None, IfErr, IfOk, IfSome, IsOkUnless, Err, OnErr, length};
+ghost use Rattle.std.specs.Prelude.{◌≡◌, ◌≢◌, None, IfErr, IfOk, IfSome, IsOkUnless, Err, OnErr};
 ghost use Rattle.watch_machine.specs.Answers.{answers_all, link, noted, replied};
 ghost use Rattle.watch_machine.specs.declared.fault.WatchFault.{WatchFault};
 ghost use Rattle.watch_machine.specs.declared.fault.WatchFault.TheVariants.{OutOfMemory};
@@ -27,7 +27,8 @@ impl Watch {
     ///   one of them is in the plan. The answer is [`Command::Go`]: as many requests as lanes are free, and the moment until which
     ///   nothing else is to be done.
     /// - The answer to a request that is out is taken for its entry, and its lane is free. Each request is to be answered, in
-    ///   whatever order; one whose answer never comes is handed in as lost.
+    ///   whatever order; one whose answer never comes is handed in as lost. Where its entry is no more ([`Watch::change`]), it is heard
+    ///   for what it says of the broker alone.
     /// - A need is set, a beginning asked for, an end that an earlier watch told taken over; where that is past a lookup is owed.
     ///
     /// A refused event leaves the watch as it was. The refusals: `BadIndex`, there is no such entry; `NotAsked`, an answer to no
@@ -72,7 +73,6 @@ impl Watch {
 
     /// Takes the answer to a lookup. The only error is lack of memory, where the request is out.
     fn take_looked(&mut self, entry: u32, reply: Reply, terms: Terms) -> Result<Output, WatchFault>
-        requires { entry < length self.old.forest.entries }
         ensures step { IfOk result (λ output. StepLooked self.old (request_out self.old.out entry Look) reply terms output self.new) }
         ensures refused { request_out self.old.out entry Look ≢ None → IfErr result (λ fault. fault ≡ OutOfMemory) }
         ensures unchanged { OnErr result (self.new ≡ self.old) }
@@ -93,7 +93,6 @@ impl Watch {
         entry: u32,
         reply: Reply,
     ) -> Result<Output, WatchFault>
-        requires { entry < length self.old.forest.entries }
         ensures step { IfOk result (λ output. StepRenewed self.old (request_out self.old.out entry Renew) reply output self.new) }
         ensures refused { request_out self.old.out entry Renew ≢ None → IfErr result (λ fault. fault ≡ OutOfMemory) }
         ensures unchanged { OnErr result (self.new ≡ self.old) }

@@ -60,7 +60,7 @@ impl Model for Watch {
 }
 
 /// What is known of an entry that is watched from now on.
-fn fresh_track(entry: &Entry) -> Track
+pub(crate) fn fresh_track(entry: &Entry) -> Track
     ensures value { result ≡ fresh_track entry.now }
     ensures bounds { IsTrack result }
 {

@@ -1,4 +1,4 @@
--- Within: the entry of an event is one of so many. No public clause cites it.
+-- Within: the entry of an event is one of so many, but for that of an answer, which may be no more. No public clause cites it.
 -- Source: this project's own.
 use Rattle.std.specs.Prelude.{ℕ, ◌<◌}
 use Rattle.watch_machine.specs.declared.event.Event.{Event}
@@ -6,8 +6,8 @@ use Rattle.watch_machine.specs.declared.event.Event.TheVariants.{Clock, Looked, 
 
 abbrev pub IsEventWithin : ℕ → Event → Type 0
 IsEventWithin n (Clock wall elapsed) = Unit {0}
-IsEventWithin n (Looked i reply terms) = i < n
-IsEventWithin n (Renewed i reply) = i < n
+IsEventWithin n (Looked i reply terms) = Unit {0}
+IsEventWithin n (Renewed i reply) = Unit {0}
 IsEventWithin n (Need i until) = i < n
 IsEventWithin n Begin = Unit {0}
 IsEventWithin n (Known i end renewable) = i < n

@@ -1,5 +1,5 @@
--- nothing_is_forgotten: the laws as they are proved in Handed.
-use Rattle.keep_agent.proofs.Handed.{fresh_elsewhere, remembered}
+-- nothing_is_forgotten: the laws as they are proved in Remembered.
+use Rattle.keep_agent.proofs.Remembered.{fresh_elsewhere, remembered}
 use Rattle.keep_agent.proofs.laws.nothing_is_forgotten.Goals as goal
 
 pub returns-clause-remembered : goal.returns-clause-remembered

@@ -1,5 +1,5 @@
 -- One standing more is said.
-use Rattle.std.proofs.Common.{◌≡◌, ◌∙◌, ◌<◌, ap, arith, get_or, length, refl}
+use Rattle.std.proofs.Common.{◌≡◌, ◌∙◌, ◌<◌, ap, arith, length}
 use Rattle.std.proofs.lemmas.List.Elements.{All-set}
 use Rattle.keep_tree.specs.Forest.{Forest}
 use Rattle.keep_agent.specs.Agent.{IsStanding}

@@ -1,5 +1,5 @@
 -- The news of one entry more.
-use Rattle.std.proofs.Common.{◌≡◌, ◌∙◌, ◌++◌, ℕ, List, Option, ap, arith, flat_map, length}
+use Rattle.std.proofs.Common.{◌≡◌, ◌∙◌, ◌++◌, ℕ, List, ap, arith, flat_map, length}
 use Rattle.std.specs.List.{range_with_len}
 use Rattle.keep_tree.specs.Forest.{Forest}
 use Rattle.keep_agent.specs.declared.shorts.Short.{Short}

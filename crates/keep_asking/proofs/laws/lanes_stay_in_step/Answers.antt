@@ -1,4 +1,5 @@
 -- The law, as it is proved of the definitions.
+use Rattle.keep_asking.proofs.Changed.{change_law}
 use Rattle.keep_asking.proofs.InStep.{abreast_new, by_answers, by_clock, by_other}
 use Rattle.keep_asking.proofs.laws.lanes_stay_in_step.Goals as goal
 
@@ -13,3 +14,6 @@ returns-clause-answers c = by_answers
 
 pub returns-clause-other : goal.returns-clause-other
 returns-clause-other c = by_other
+
+pub returns-clause-change : goal.returns-clause-change
+returns-clause-change c = change_law

@@ -1,5 +1,5 @@
--- owed_law: the law as it is proved in Owed.
-use Rattle.watch_laws.proofs.Owed.{all_owed}
+-- owed_law: the law as it is proved in Always.
+use Rattle.watch_laws.proofs.Always.{all_owed}
 use Rattle.watch_laws.proofs.laws_of_waiting.owed_law.Goals as goal
 
 pub returns : goal.returns

@@ -3,7 +3,6 @@ use Rattle.std.proofs.Common.{◌≡◌, ◌∙◌, false, true, sym, ap, arith}
 use Rattle.std.proofs.lemmas.Bool.{cond-false, cond-true}
 use Rattle.std.proofs.lemmas.List.{get_or_default}
 use Rattle.keep_tree.specs.Carried.{carried}
-use Rattle.watch_machine.specs.declared.track.Track.{Track}
 use Rattle.watch_machine.specs.Clocks.{sec}
 use Rattle.watch_machine.specs.State.{has_last_try, no_track, track_in}
 use Rattle.watch_machine.specs.Wanted.{cut_need, free_need, need_of, view}

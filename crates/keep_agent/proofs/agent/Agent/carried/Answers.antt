@@ -6,7 +6,7 @@ use Rattle.std.specs.List.{All, range_with_len}
 use Rattle.keep_tree.specs.Forest.{Forest}
 use Rattle.keep_agent.specs.declared.standing.Standing.{Standing}
 use Rattle.keep_agent.specs.Agent.{IsStanding}
-use Rattle.keep_agent.specs.Rebuilding.{carried_standing}
+use Rattle.keep_agent.specs.Changed.{carried_standing}
 use Rattle.keep_agent.proofs.agent.Agent.carried.Goals as goal
 
 pub loop-index-preserved : goal.loop-index-preserved

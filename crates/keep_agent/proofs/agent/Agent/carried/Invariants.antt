@@ -2,7 +2,7 @@
 use Rattle.std.proofs.Common.{◌≡◌, map}
 use Rattle.std.specs.List.{All, range_with_len}
 use Rattle.keep_agent.specs.Agent.{IsStanding}
-use Rattle.keep_agent.specs.Rebuilding.{carried_standing}
+use Rattle.keep_agent.specs.Changed.{carried_standing}
 use Rattle.keep_agent.proofs.agent.Agent.carried.Given as goal
 
 abbrev pub invariant-loop-index : goal.invariant-loop-index

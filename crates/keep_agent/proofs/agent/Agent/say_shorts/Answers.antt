@@ -1,5 +1,5 @@
 -- What is said leaves all but what was said last.
-use Rattle.std.proofs.Common.{◌≡◌, ◌∙◌, List, ap, length, subst, sym}
+use Rattle.std.proofs.Common.{◌≡◌, ◌∙◌, List, ap, subst, sym}
 use Rattle.std.specs.List.{All}
 use Rattle.watch_machine.proofs.Rewritten.{once}
 use Rattle.keep_agent.specs.declared.standing.Standing.{Standing}

@@ -1,20 +1,18 @@
 -- Once the Watch has taken the event, the rest of the agent follows it.
-use Rattle.std.proofs.Common.{◌≡◌, ◌∙◌, List, ap, length, subst, sym}
+use Rattle.std.proofs.Common.{◌∙◌, List, ap, length, subst, sym}
 use Rattle.watch_machine.proofs.Rewritten.{once}
 use Rattle.keep_agent.specs.declared.standing.Standing.{Standing}
-use Rattle.keep_agent.specs.code.Within.{IsEventWithin}
 use Rattle.keep_agent.specs.Agent.{Agent, IsAgent}
 use Rattle.keep_agent.specs.Standings.{standings_after}
 use Rattle.keep_agent.proofs.Left.{left_turn}
 use Rattle.keep_agent.proofs.Turned.{turned_is_agent}
-use Rattle.keep_agent.proofs.Within.{taken_within}
 use Rattle.keep_agent.proofs.agent.Agent.turn.Goals as goal
 
-pub stand-requires-clause-watched : goal.stand-requires-clause-watched
-stand-requires-clause-watched c =
+pub stand-requires-clause-count : goal.stand-requires-clause-count
+stand-requires-clause-count c =
     let turn = c.in_ok-output.ensures.turn in
     let left = left_turn c.self.inside.watch c.step.new.self c.args.event c.in_ok-output.output turn in
-    subst (λ n. IsEventWithin n c.args.event) (sym left.entries) (taken_within c.self.inside.watch c.args.event turn.0)
+    ap length c.deref_mut.ensures.value ∙ c.self.invariant.standings ∙ sym c.self.invariant.entries ∙ sym left.entries
 
 pub invariant_of-self-2 : goal.invariant_of-self-2
 invariant_of-self-2 c =

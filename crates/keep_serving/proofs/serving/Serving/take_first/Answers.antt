@@ -1,7 +1,6 @@
--- The first answer that waits is to a request that is out, and that is of an entry.
-use Rattle.std.proofs.Common.{◌≡◌, ◌≢◌, None, arith, length, ap, slice_index_or, subst, sym}
+-- The first answer that waits is to a request that is out.
+use Rattle.std.proofs.Common.{◌≡◌, ◌≢◌, None, ap, slice_index_or, subst, sym}
 use Rattle.keep_asking.specs.Handing.{out_of}
-use Rattle.keep_asking.proofs.AnswersOut.{out_within}
 use Rattle.keep_serving.specs.Held.{Held}
 use Rattle.keep_serving.proofs.InStep.{first_out}
 use Rattle.keep_serving.proofs.serving.Serving.take_first.Goals as goal
@@ -15,15 +14,3 @@ request_of-request-requires g c =
     let is : c.out.result.now ≡ c.args.self.now.agent.machine.out = cc (c.out.ensures, watched, machine) in
     let there = first_out c.requires.in_step.0 c.requires.in_step.1.0 c.args.self.now c.index-answered.result.now c.requires.in_step.1.1 c.requires.some first in
     subst (λ out. out_of out c.index-answered.result.now.index ≢ None) (sym is) there
-
-pub said_to-requires : goal.said_to-requires
-said_to-requires g c =
-    let items = ap (λ (h : Held). h.pending) c.self.view_is in
-    let first : c.index-answered.result.now ≡ slice_index_or c.args.self.now.pending 0 c.index-answered.result.now = cc (c.index-answered.ensures, items) in
-    let step = c.requires.in_step.1.1 in
-    let there = first_out c.requires.in_step.0 c.requires.in_step.1.0 c.args.self.now c.index-answered.result.now step c.requires.some first in
-    let within = out_within c.args.self.now.agent.machine c.index-answered.result.now.index step.sound there in
-    let whole = c.inventory-inventory.ensures.sound.entries in
-    let same = ap (λ s. length s.forest.entries) c.inventory-inventory.ensures.value in
-    let seen = ap (λ (h : Held). length h.agent.machine.forest.entries) c.self.view_is in
-    omega (arith, within, whole, same, seen)

@@ -1,7 +1,8 @@
 -- What is handed in keeps the count of the entries, and an entry of which a request is out is one.
-use Rattle.std.proofs.Common.{ap, arith, length}
-use Rattle.keep_asking.proofs.AnswersOut.{out_within}
+use Rattle.std.proofs.Common.{◌≢◌, None, arith, length, subst, sym}
+use Rattle.keep_asking.specs.Handing.{out_of}
 use Rattle.watch_lines.specs.Watching.{Watching}
+use Rattle.watch_lines.proofs.OfEntries.{out_within}
 use Rattle.watch_lines.proofs.Turns.{whole_handed}
 use Rattle.watch_lines.proofs.watching.Watching.hand_in.Goals as goal
 
@@ -12,7 +13,8 @@ invariant_of-self c =
 
 pub returns-clause-within : goal.returns-clause-within
 returns-clause-within c =
+    let i = c.args.answered.index in
+    let w : Watching = record { machine = c.self.inside.watch; inventory = c.self.inside.inventory; said = c.self.inside.shorts.items; next = c.self.inside.next } in
     let count = c.self.invariant.machine in
-    let same = ap (λ (w : Watching). length w.machine.forest.entries) c.self.view_is in
-    let within = out_within c.args.self.now.machine c.args.answered.index c.requires.sound c.requires.out in
-    omega (arith, count, same, within)
+    let within = out_within w.machine i c.self.invariant.nobody (subst (λ (v : Watching). out_of v.machine.out i ≢ None) (sym c.self.view_is) c.requires.out) in
+    omega (arith, count, within)

@@ -1,5 +1,5 @@
 -- An answer that leaves what is known of the others keeps the line; any other ends it.
-use Rattle.std.proofs.Common.{◌≡◌, ◌∙◌, ◌*◌, ◌<◌, ap, length, set, subst, sym}
+use Rattle.std.proofs.Common.{◌≡◌, ◌∙◌, ◌*◌, ◌<◌, ap, arith, length, set, subst, sym}
 use Rattle.keep_tree.specs.declared.entry.Entry.{Entry}
 use Rattle.keep_tree.specs.Forest.{entry_at}
 use Rattle.watch_machine.specs.declared.line.Line.{Line}
@@ -42,7 +42,7 @@ returns-clause-line c = λ known.
     let g = s.forest in
     let xs = s.tracks in
     let p = calm w.presence in
-    let within : i < length g.entries = subst (λ (n : WatchState). i < length n.forest.entries) (sym old) c.requires.within in
+    let within : i < length g.entries = omega (arith, c.if-request-len.false, c.len.ensures.value) in
     let was : before ≡ track_in xs i = c.track-before.ensures.value ∙ ap (λ (n : WatchState). track_at n i) (sym c.self.view_is) in
     let is : IsLine g xs p line = subst (λ (n : WatchState). IsLineOf n line) (sym old) c.take_line-line.ensures.line (sym (ap (λ (l : Line). l.known) c.answered.ensures) ∙ known) in
     let entry : c.get-entry.result.now ≡ entry_at g.entries i = c.get-entry.ensures.value in

@@ -5,22 +5,8 @@ use Rattle.watch_machine.specs.declared.event.Operation.TheVariants.{Look, Renew
 use Rattle.watch_machine.specs.History.{Turn}
 use Rattle.watch_machine.specs.Refusal.{refusal}
 use Rattle.watch_machine.proofs.Taking.{refused_turn, taken_turn}
-use Rattle.watch_machine.proofs.Within.{asked_none, asked_some, within_none}
+use Rattle.watch_machine.proofs.Within.{asked_some, within_none}
 use Rattle.watch_machine.proofs.watch.Watch.step.Goals as goal
-
-pub take_looked-requires : goal.take_looked-requires
-unfolding refusal
-take_looked-requires c =
-    let s = c.args.self.now in
-    let none : refusal s (Looked c.in-Looked.entry c.in-Looked.reply c.in-Looked.terms) ≡ None = ap (refusal s) (sym c.in-Looked.is) ∙ sym c.in_default.ensures in
-    asked_none s c.in-Looked.entry Look none
-
-pub take_renewed-requires : goal.take_renewed-requires
-unfolding refusal
-take_renewed-requires c =
-    let s = c.args.self.now in
-    let none : refusal s (Renewed c.in-Renewed.entry c.in-Renewed.reply) ≡ None = ap (refusal s) (sym c.in-Renewed.is) ∙ sym c.in_default.ensures in
-    asked_none s c.in-Renewed.entry Renew none
 
 pub need-requires : goal.need-requires
 unfolding refusal

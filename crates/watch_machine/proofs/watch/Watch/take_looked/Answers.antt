@@ -1,5 +1,5 @@
 -- An answer to a lookup is noted, taken for its entry, and then for what it says of the broker.
-use Rattle.std.proofs.Common.{◌≡◌, ◌∙◌, ◌<◌, Option, Some, ap, length, subst, sym}
+use Rattle.std.proofs.Common.{◌≡◌, ◌∙◌, Option, Some, ap, subst, sym}
 use Rattle.watch_machine.specs.declared.event.Operation.TheVariants.{Look}
 use Rattle.watch_machine.specs.declared.lanes.Out.{Out}
 use Rattle.watch_machine.specs.declared.notes.Link.{Link}
@@ -11,20 +11,10 @@ use Rattle.watch_machine.specs.State.{WatchState}
 use Rattle.watch_machine.specs.Step.{StepLooked, notes_of, taken, with_link}
 use Rattle.watch_machine.specs.code.Bounds.{WentOutAtReading}
 use Rattle.watch_machine.proofs.Cases.{of_value}
-use Rattle.watch_machine.proofs.Within.{out_entry}
 use Rattle.watch_machine.proofs.watch.Watch.take_looked.Goals as goal
 
-pub looked-notes-requires-clause-within : goal.looked-notes-requires-clause-within
-looked-notes-requires-clause-within c =
-    let old = c.args.self.now in
-    let i = c.args.entry in
-    let r = c.in-Some.request in
-    let found : request_out old.out i Look ≡ Some r = sym c.request_out.ensures.value ∙ c.in-Some.is in
-    subst (λ (s : WatchState). r.entry < length s.forest.entries) (sym c.in_ok-note.ensures.value)
-    (subst (λ n. n < length old.forest.entries) (sym (out_entry old.out i Look r found)) c.requires)
-
-pub looked-notes-requires-clause-request : goal.looked-notes-requires-clause-request
-looked-notes-requires-clause-request c = of_value WentOutAtReading c.request_out.result c.in-Some.request c.request_out.ensures.bounds c.in-Some.is
+pub looked-notes-requires : goal.looked-notes-requires
+looked-notes-requires c = of_value WentOutAtReading c.request_out.result c.in-Some.request c.request_out.ensures.bounds c.in-Some.is
 
 pub returns-clause-step : goal.returns-clause-step
 returns-clause-step c =

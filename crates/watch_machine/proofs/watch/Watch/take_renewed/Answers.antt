@@ -1,5 +1,5 @@
 -- An answer to a renewal is noted, taken for its entry, and then for what it says of the broker.
-use Rattle.std.proofs.Common.{◌≡◌, ◌∙◌, ◌<◌, Option, Some, ap, length, subst, sym}
+use Rattle.std.proofs.Common.{◌≡◌, ◌∙◌, Option, Some, ap, subst, sym}
 use Rattle.watch_machine.specs.declared.event.Operation.TheVariants.{Renew}
 use Rattle.watch_machine.specs.declared.lanes.Out.{Out}
 use Rattle.watch_machine.specs.declared.notes.Link.{Link}
@@ -12,32 +12,13 @@ use Rattle.watch_machine.specs.Step.{StepRenewed, notes_top, nothing_noted, take
 use Rattle.watch_machine.specs.code.Bounds.{WentOutAtReading}
 use Rattle.watch_machine.specs.code.Line.{IsLineOf}
 use Rattle.watch_machine.proofs.Cases.{of_value}
-use Rattle.watch_machine.proofs.Within.{out_entry}
 use Rattle.watch_machine.proofs.watch.Watch.take_renewed.Goals as goal
 
-pub line_renewed-line-requires-clause-within : goal.line_renewed-line-requires-clause-within
-line_renewed-line-requires-clause-within c =
-    let old = c.args.self.now in
-    let i = c.args.entry in
-    let r = c.in-Some.request in
-    let found : request_out old.out i Renew ≡ Some r = sym c.request_out.ensures.value ∙ c.in-Some.is in
-    subst (λ (s : WatchState). r.entry < length s.forest.entries) (sym c.in_ok-note.ensures.value)
-    (subst (λ n. n < length old.forest.entries) (sym (out_entry old.out i Renew r found)) c.requires)
+pub line_renewed-line-requires : goal.line_renewed-line-requires
+line_renewed-line-requires c = of_value WentOutAtReading c.request_out.result c.in-Some.request c.request_out.ensures.bounds c.in-Some.is
 
-pub line_renewed-line-requires-clause-request : goal.line_renewed-line-requires-clause-request
-line_renewed-line-requires-clause-request c = of_value WentOutAtReading c.request_out.result c.in-Some.request c.request_out.ensures.bounds c.in-Some.is
-
-pub renewed-top-requires-clause-within : goal.renewed-top-requires-clause-within
-renewed-top-requires-clause-within c =
-    let old = c.args.self.now in
-    let i = c.args.entry in
-    let r = c.in-Some.request in
-    let found : request_out old.out i Renew ≡ Some r = sym c.request_out.ensures.value ∙ c.in-Some.is in
-    subst (λ (s : WatchState). r.entry < length s.forest.entries) (sym (c.line_renewed-line.ensures.unchanged ∙ c.in_ok-note.ensures.value))
-    (subst (λ n. n < length old.forest.entries) (sym (out_entry old.out i Renew r found)) c.requires)
-
-pub renewed-top-requires-clause-request : goal.renewed-top-requires-clause-request
-renewed-top-requires-clause-request c = of_value WentOutAtReading c.request_out.result c.in-Some.request c.request_out.ensures.bounds c.in-Some.is
+pub renewed-top-requires : goal.renewed-top-requires
+renewed-top-requires c = of_value WentOutAtReading c.request_out.result c.in-Some.request c.request_out.ensures.bounds c.in-Some.is
 
 pub keep_line-requires : goal.keep_line-requires
 keep_line-requires c =
