@@ -49,7 +49,7 @@ use Rattle.keep_asking.proofs.AnswersOut.{some_out}
 use Rattle.watch_lines.proofs.Kept.{TellsNoStep, turn_kept}
 use Rattle.keep_asking.proofs.Once.{turn_once}
 use Rattle.watch_lines.proofs.Secrets.{requests_in, there_once, until_in}
-use Rattle.keep_asking.proofs.Sound.{Gone, IsQuiet, counts, readied_left, same_index, times_cons, turn_begin, turn_gone, turn_known, turn_need}
+use Rattle.keep_asking.proofs.Sound.{Gone, IsQuiet, at_most_one, counts, readied_left, same_index, times_cons, turn_begin, turn_gone, turn_known, turn_need}
 
 -- ---- what is asked while more goes out
 
@@ -81,10 +81,6 @@ gone_out :
 gone_out old new wall elapsed requests until notes turn =
     let mid = pressed (readied old wall elapsed) (asked_by_round turn.1.round) in
     (mid.clocks.at, ap (λ (x : WatchState). x.out) turn.1.command.0.1 ∙ ap (λ (out : List Out). out ++ map (out_at mid.clocks.at) requests) (readied_left old wall elapsed).0)
-
-most_one : (b : Bool) → cond b 1 0 ≤ 1
-most_one true = omega arith
-most_one false = omega arith
 
 -- the width of the machine is its own
 own_width : (m : WatchState) (width : ℕ) (out : List lanes.Out) → IsAbreast m width out → IsAbreast m m.width out
@@ -190,7 +186,7 @@ module _ (g : Forest) (cs ds : List (List ℕ)) (ts : List Terms) (one : IsInven
         λ o w P h. subst (λ z. IfSome z (λ r. P r.operation)) (sym (ap (λ (xs : List Out). out_of xs o.index) out.1 ∙ found_on k.out (map (out_at out.0) requests) o.index w)) h in
         let ready = moves k mid W a b to taken alike in
         let within = subst (λ n. All (λ (r : Request). r.entry < n) requests) still.count gone.within in
-        let once : (i : ℕ) → times i (entries_out mid) ≤ 1 = λ i. (let few : times i (entries_out mid) ≤ cond (track_at mid i).out 1 0 = gone.sound.once i in let most = most_one (track_at mid i).out in omega (arith, few, most)) in (
+        let once : (i : ℕ) → times i (entries_out mid) ≤ 1 = λ i. (let few = gone.sound.once i in let most = at_most_one mid i in omega (arith, few, most)) in (
           own_width mid k.width after.out (abreast_sent k mid requests k.width a.out after.out abreast gone (sent_all port s mid (second_of_wall wall) elapsed requests a after x)),
           go_both g cs ds ts one two read port other (second_of_wall wall) elapsed out.0 mid k.out requests a after b behind within still out.1 once ready x y,
         )
