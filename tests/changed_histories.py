@@ -133,10 +133,12 @@ class Modelled:
             self._lanes = [lane for lane in self._lanes if lane.at > now]
             for lane in there:
                 self._machine.answer(lane.out, lane.reply)
-            for out in self._machine.clock(now, now)[0]:
-                lines.append(f"{now} {'renew' if out.renews else 'look'} {self._names[out.entry]}")
+            sent = self._machine.clock(now, now)[0]
+            for out in sent:
                 self._send(out, now)
             self._change(turn, now)
+            # (A turn tells of its requests at its end, and of none whose entry is no more then.)
+            lines += [f"{now} {'renew' if out.renews else 'look'} {self._names[out.entry]}" for out in sent if out.entry >= 0]
         for name, track in zip(self._names, self._machine.tracks):
             lines.append(f"{name} unknown" if track.end is None else f"{name} believed {int(track.end)}")
         return lines

@@ -15,11 +15,10 @@ use Rattle.watch_machine.specs.declared.lanes.Out.{Out}
 use Rattle.watch_machine.specs.declared.track.Track.{Track}
 use Rattle.watch_machine.specs.Beginning.{untopped_track}
 use Rattle.watch_machine.specs.Change.{IsChange, changed, entry_by, forest_after, former, former_at, out_after, track_by, tracks_after, was_at}
-use Rattle.watch_machine.specs.History.{Changed, IsChanged}
 use Rattle.watch_machine.specs.State.{WatchState, track_at}
 use Rattle.watch_machine.proofs.Changing.{out_length}
 use Rattle.watch_machine.proofs.Moved.{changed_track, former_low, place_there, times_moved, times_new, times_nobody, times_out}
-use Rattle.keep_asking.specs.InStep.{IsAbreast, MachineIsSound, entries_on, entries_out, seats_of, times}
+use Rattle.keep_asking.specs.InStep.{MachineIsSound, entries_on, entries_out, seats_of, times}
 use Rattle.keep_asking.specs.Laws.{ChangeLaw}
 use Rattle.keep_asking.proofs.Sound.{at_most_one, counts, lookup_flag, same_index, skips, times_append, times_cons}
 

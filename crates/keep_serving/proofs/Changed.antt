@@ -1,8 +1,9 @@
 -- Changed: a change is made, and leaves what is held in step with the lanes. For `make_change` and the turn.
-use Rattle.std.proofs.Common.{◌≡◌, ◌≢◌, ◌∙◌, ℕ, ◌+◌, ◌<◌, All, Bool, true, false, List, [], ◌++◌, Option, Some, None, Result, Ok, Err, append_assoc, length, map, refl, sym, ap, subst, arith, inl, inr}
+use Rattle.std.proofs.Common.{◌≡◌, ◌≢◌, ◌==◌, ◌∙◌, ℕ, ◌+◌, ◌<◌, All, Bool, true, false, List, [], ◌++◌, Option, Some, None, Result, Ok, Err, append_assoc, eqb-true, length, map, refl, sym, ap, ap₂, subst, arith, inl, inr}
+use Rattle.std.proofs.lemmas.List.{nil_from_length}
 use Rattle.std.proofs.lemmas.List.Elements.{All-nil}
 use Rattle.keep_agent.specs.Agent.{Agent}
-use Rattle.keep_agent.specs.Changed.{all_was}
+use Rattle.keep_agent.specs.Changed.{AgentIsChanged, all_was}
 use Rattle.keep_agent.specs.Turns.{AgentTurn}
 use Rattle.keep_agent.proofs.Left.{turn_entries}
 use Rattle.keep_asking.specs.InStep.{IsAbreast, entries_answered, entries_out, times}
@@ -19,8 +20,10 @@ use Rattle.watch_machine.specs.declared.event.Event.TheVariants as events
 use Rattle.watch_machine.specs.declared.fault.WatchFault.{WatchFault}
 use Rattle.watch_machine.specs.declared.lanes.Out.{Out}
 use Rattle.watch_machine.specs.History.{Changed}
+use Rattle.watch_machine.specs.State.{WatchState}
+use Rattle.watch_machine.proofs.Changing.{out_length}
 use Rattle.keep_serving.specs.Changes.{AllGiven, ChangeIsMade, InventoryIsServed, MadeChange, OneIsMade, ServesInventory}
-use Rattle.keep_serving.specs.Held.{Held, IsInStep, ServingSide, entries_unsent}
+use Rattle.keep_serving.specs.Held.{Held, IsInStep, ServingSide, entries_unsent, serving_side}
 use Rattle.keep_serving.specs.declared.change.Change.{Change}
 use Rattle.keep_serving.specs.declared.change.Change.TheVariants.{Need, Begin, Serve, Kept}
 use Rattle.keep_serving.proofs.InStep.{still_named}
@@ -32,6 +35,30 @@ served_already s old same = inl (same, refl)
 
 pub served_anew : (s : Inventory) (old new : ServingSide) → s ≢ old.held.agent.inventory → InventoryIsServed s old new → ServesInventory s old new
 served_anew s old new other served = inr (other, served)
+
+-- a list of no length
+pub none_left : {X : Type 0} (xs : List X) (n : ℕ) → n ≡ length xs → (n == 0) ≡ true → xs ≡ []
+none_left xs n is none = nil_from_length xs (sym is ∙ eqb-true n 0 none)
+
+-- as many requests are out after a change as before it
+pub as_many_out : (old new : Agent) (s : Inventory) → AgentIsChanged old s new → length new.machine.out ≡ length old.machine.out
+as_many_out old new s change =
+    let was = all_was old.inventory s in
+    ap (λ (m : WatchState). length m.out) change.machine.state ∙ out_length was (length s.forest.entries) old.machine.out
+
+pub another_served :
+    (s : Inventory) (h k : Held) (old new : Agent) (l m : Lanes) (from to : List ℕ) → h.pending ≡ [] → h.unsent ≡ [] → old ≡ h.agent → AgentIsChanged old s new → k ≡ record h { agent = new } →
+    from ≡ entries_out old.machine → to ≡ entries_out new.machine → m ≡ record l { out = renamed from to l.out } → InventoryIsServed s (serving_side h l) (serving_side k m)
+another_served s h k old new l m from to pending unsent agent change held from_is to_is lanes_are =
+    let is_new : k.agent ≡ new = ap (λ (x : Held). x.agent) held in
+    record {
+      pending = pending;
+      unsent = unsent;
+      agent = subst (λ (a : Agent). AgentIsChanged h.agent s a) (sym is_new) (subst (λ (a : Agent). AgentIsChanged a s new) agent change);
+      held = held ∙ ap (λ (a : Agent). record h { agent = a }) (sym is_new);
+      lanes = lanes_are
+          ∙ ap₂ (λ (xs ys : List ℕ). record l { out = renamed xs ys l.out }) (from_is ∙ ap (λ (a : Agent). entries_out a.machine) agent) (to_is ∙ ap (λ (a : Agent). entries_out a.machine) (sym is_new));
+    }
 
 -- ---- one after another
 

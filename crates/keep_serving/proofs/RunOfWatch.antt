@@ -1,5 +1,5 @@
 -- RunOfWatch: the law that all that happens to the Watch of an agent from its start on is one run of it.
-use Rattle.std.proofs.Common.{◌≡◌, ◌++◌, List, [], ◌∷◌, ℕ, filter, ap, refl, subst}
+use Rattle.std.proofs.Common.{◌≡◌, ◌++◌, true, List, [], ◌∷◌, ℕ, filter, ap, refl, subst}
 use Rattle.keep_agent.specs.Agent.{Agent, fresh}
 use Rattle.watch_machine.specs.declared.event.Event.{Event}
 use Rattle.watch_machine.specs.declared.event.Event.TheVariants as events

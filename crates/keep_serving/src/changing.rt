@@ -1,5 +1,5 @@
 //! A change is made.
-ghost use Rattle.std.specs.Prelude.{◌≡◌, ◌≤◌, [], OnErr, OnOk, Option, Result, length, map, vec_capacity};
+ghost use Rattle.std.specs.Prelude.{◌≡◌, ◌≤◌, [], OnErr, OnOk, Option, Result, length, map, true, vec_capacity};
 ghost use Rattle.keep_agent.specs.Turns.{AgentTurn};
 ghost use Rattle.keep_serving.specs.Changes.{AllGiven, ChangeIsMade, InventoryIsServed, MadeChange, OneIsMade, given_by, is_one_made};
 ghost use Rattle.keep_serving.specs.Held.{serving_side};
@@ -15,8 +15,8 @@ use keep_asking::SeenLanes;
 use keep_clock::Reading;
 use keep_inventory::Inventory;
 use keep_lanes::Lanes;
-use std::alloc::{AllocError, Global};
-use watch_machine::{Event, Out};
+use std::alloc::Global;
+use watch_machine::{Event, Out, WatchFault};
 
 impl Serving {
     /// Takes a change, where the neighbours have one, and makes it. Whether it was made.
@@ -84,33 +84,39 @@ impl Serving {
 
     /// Serves this inventory from now on. What is out stays out, on its lane.
     ///
-    /// The only error is lack of memory, also in a turn before, for want of which an answer waits to be handed in, or a request to be
+    /// The only error is out of memory, also in a turn before, for want of which an answer waits to be handed in, or a request to be
     /// sent. All is as it was then.
     fn serve_another<L: Lanes>(
         &mut self,
         alloc: Global,
         lanes: &mut L,
         inventory: Inventory,
-    ) -> Result<(), AllocError>
+    ) -> Result<(), WatchFault>
         ensures served { OnOk result (InventoryIsServed inventory (serving_side self.old (⟦<L as SeenLanes>⟧.seen lanes.old)) (serving_side self.new (⟦<L as SeenLanes>⟧.seen lanes.new))) }
         ensures kept { OnErr result (serving_side self.new (⟦<L as SeenLanes>⟧.seen lanes.new) ≡ serving_side self.old (⟦<L as SeenLanes>⟧.seen lanes.old)) }
         ensures width { L.width lanes.new ≡ L.width lanes.old }
         ensures port { L.host_port lanes.new ≡ L.host_port lanes.old }
     {
-        if !self.pending.is_empty() || !self.unsent.is_empty() {
-            return Err(AllocError);
+        if !self.is_idle() {
+            return Err(WatchFault::OutOfMemory);
         }
         // room for both lists is taken first, so that nothing fails behind the change
         let count = self.agent.watch().out().len();
         let from = Vec::with_capacity(alloc, count)?;
         let to = Vec::with_capacity(alloc, count)?;
         let from = entries_in(self.agent.watch().out(), from);
-        if self.agent.change(alloc, inventory).is_err() {
-            return Err(AllocError);
-        }
+        self.agent.change(alloc, inventory)?;
         let to = entries_in(self.agent.watch().out(), to);
         lanes.rename(&from, &to);
         Ok(())
+    }
+
+    /// Whether no answer waits to be handed in, and no request to be sent.
+    #[tactic(auto, using(crate::proofs::Changed::none_left))]
+    fn is_idle(&self) -> bool
+        ensures { result ≡ true → (self.now.pending ≡ []) × (self.now.unsent ≡ []) }
+    {
+        self.pending.is_empty() && self.unsent.is_empty()
     }
 }
 

@@ -1,6 +1,6 @@
 -- Alike watches: of two watches that are alike, over lanes in memory whose brokers differ in credentials alone, one line makes the same text,
 -- and leaves them alike. For the law that secrets change no answer.
-use Rattle.std.proofs.Common.{◌≡◌, ◌≢◌, ◌∙◌, ℕ, ◌/◌, ◌-◌, ◌<◌, ◌≤◌, ◌==◌, zero, suc, Bool, true, false, cond, is_some, List, [], ◌∷◌, ◌++◌, Option, Some, None, IfSome, Ok, All, get_or, length, map, refl, sym, ap, ap₂, subst, arith, inl, inr}
+use Rattle.std.proofs.Common.{◌≡◌, ◌≢◌, ◌∙◌, ℕ, ◌/◌, ◌-◌, ◌<◌, ◌≤◌, ◌==◌, zero, suc, Bool, true, false, is_some, List, [], ◌∷◌, ◌++◌, Option, Some, None, IfSome, Ok, All, get_or, length, map, refl, sym, ap, ap₂, subst, arith, inl, inr}
 use Rattle.std.proofs.lemmas.Bool.{cases_Bool, cond-false, cond-true}
 use Rattle.keep_inventory.specs.Inventories.{IsInventory, Inventory}
 use Rattle.keep_inventory.specs.declared.terms.Terms.{Terms}
@@ -24,7 +24,7 @@ use Rattle.watch_machine.specs.History.{Turn}
 use Rattle.watch_machine.specs.Press.{pressed}
 use Rattle.watch_machine.specs.Round.{asked_by_round}
 use Rattle.watch_machine.specs.Sending.{out_at}
-use Rattle.watch_machine.specs.State.{WatchState, track_at}
+use Rattle.watch_machine.specs.State.{WatchState}
 use Rattle.watch_machine.specs.Step.{readied}
 use Rattle.watch_machine.proofs.Cases.{of_value, value_is}
 use Rattle.watch_machine.specs.Clocks.{second_of_wall}

@@ -1,5 +1,5 @@
 -- What is handed in keeps the count of the entries, and an entry of which a request is out is one.
-use Rattle.std.proofs.Common.{◌≢◌, None, arith, length, subst, sym}
+use Rattle.std.proofs.Common.{◌≢◌, None, arith, subst, sym}
 use Rattle.keep_asking.specs.Handing.{out_of}
 use Rattle.watch_lines.specs.Watching.{Watching}
 use Rattle.watch_lines.proofs.OfEntries.{out_within}
