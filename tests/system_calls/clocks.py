@@ -14,7 +14,7 @@ SUSPENDED = 7200
 """Seconds by which CLOCK_BOOTTIME is ahead of CLOCK_MONOTONIC: as where the machine was suspended for so long."""
 SOON = 2
 """Seconds after which an entry is renewed that ends as much later than the margin."""
-LONGEST = max(1000, MARGIN * 1000 // 16)
+LONGEST = max(1000, min(30_000, MARGIN * 1000 // 16))
 """The longest wait, in milliseconds, while nothing happens: after it a suspension is seen."""
 REFUSED = 20
 """The milliseconds that are slept in the place of a wait that the system refuses."""
@@ -51,7 +51,7 @@ def elapsed_and_wall(stage: Stage) -> None:
         stage.check("the log has the wall's date", True, abs(shown - time.time()) < 60 + passed)
     waited = waits(calls)
     stage.check("each wait has an end", (True, []), (bool(waited), [wait for wait in waited if not 0 <= wait <= LONGEST]))
-    stage.check("it rests", True, len(waited) < RESTLESS * (passed + 1))
+    stage.check("it rests", (True, True), (any(waited), len(waited) < RESTLESS * (passed + 1)))
 
 
 def refused_waits(stage: Stage) -> None:

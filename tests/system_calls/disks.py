@@ -12,7 +12,6 @@ from .recording import CREATE, EXCLUSIVE, EXCLUSIVE_LOCK_AT_ONCE, Call
 from .stage import Stage, inventory, until
 
 WORDS = ("./vault.sock", "--control", "./control.sock", "--state", "./state")
-FOLDERS = (".", "./")
 NEEDED = 4_000_000_000
 """A moment until which an entry is needed, with its date: it is served so after a restart."""
 NEED = ("need", "web", str(NEEDED))
@@ -47,7 +46,7 @@ def replaced(calls: list[Call], path: str) -> list[str]:
     for call in calls:
         if call.result < 0:
             continue
-        if call.name == "open" and call.words[0].removeprefix("./") == beside and int(call.words[1], 8) & CREATE:
+        if call.name == "open" and call.words[0].removeprefix("./") == beside and is_made(call):
             steps.append("made anew" if int(call.words[1], 8) & EXCLUSIVE else "made")
         elif call.name == "rename" and tuple(word.removeprefix("./") for word in call.words) == (beside, path):
             steps.append("moved")
@@ -59,6 +58,22 @@ def replaced(calls: list[Call], path: str) -> list[str]:
 
 
 REPLACED = ["made anew", "write", "sync", "moved", "folder synced"]
+
+
+def is_synced(calls: list[Call], folder: str) -> bool:
+    """Whether the name of a new folder was synced before a file was made in it."""
+    made = next((at for at, call in enumerate(calls) if call.name == "mkdir" and call.words[0] == folder), len(calls))
+    for call in calls[made:]:
+        if call.name == "sync" and call.of == ".":
+            return True
+        if call.name == "open" and call.words[0].startswith(f"{folder}/") and is_made(call):
+            return False
+    return False
+
+
+def is_made(call: Call) -> bool:
+    """Whether an open makes a file where there is none."""
+    return bool(int(call.words[1], 8) & CREATE)
 
 
 def modes(folder: Path) -> dict[str, str]:
@@ -75,8 +90,7 @@ def keeps_changes(stage: Stage) -> None:
             calls = agent.recording.calls()
             made = [call for call in calls if call.name == "mkdir"]
             stage.check("the folder is made", [("./state", "700")], [(call.words[0], call.words[1]) for call in made])
-            at = calls.index(made[0]) if made else len(calls)
-            stage.check("and its name is on the disk", True, any(call.name == "sync" and call.of in FOLDERS for call in calls[at:]))
+            stage.check("and its name is on the disk before a file is made in it", True, is_synced(calls, "./state"))
             for each in ("copy", "journal"):
                 stage.check(f"the {each} is on the disk", REPLACED, replaced(calls, f"state/{each}"))
             stage.check("a need", b"ok\nweb is needed until " + DATE + b"\n", agent.asked(*NEED))

@@ -38,7 +38,8 @@ def has_limits(stage: Stage) -> None:
         stage.check(f"{place}: they wait so long", (True, []), (len(meeting) > 1, [call for call in meeting if not call.waits]))
         if path is None:
             polls = [int(call.words[0]) for call in calls if call.name == "poll"]
-            stage.check(f"{place}: how long the connect may take", (True, []), (bool(polls), [poll for poll in polls if not 0 < poll <= MOST]))
+            endless = [poll for poll in polls if not 0 < poll <= MOST]
+            stage.check(f"{place}: how long the connect may take", (True, []), (bool(polls), endless))
 
 
 def full_queue(stage: Stage) -> None:

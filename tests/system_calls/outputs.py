@@ -103,8 +103,11 @@ def to_file(stage: Stage) -> None:
 
 
 def to_nobody(stage: Stage) -> None:
-    """A pipe that nobody will read is opened and written to without waiting, and the lines are dropped and counted."""
-    reader, writer = os.pipe()
+    """A pipe in a folder that nobody reads is opened and written to without waiting, and the lines are dropped and counted."""
+    pipe = stage.room / "pipe"
+    os.mkfifo(pipe)
+    reader = os.open(pipe, os.O_RDONLY | os.O_NONBLOCK)
+    writer = os.open(pipe, os.O_WRONLY)
     os.close(reader)
     pages = stage.room / "pages.sock"
 

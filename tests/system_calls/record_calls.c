@@ -1,7 +1,8 @@
 /* Preloaded into a program, writes a line to the file that CALLS names for each of its calls by which an adapter meets the system:
    the call's name, its words, and `= RESULT`, which is - and the error's number where it failed. A wait is written before it begins,
    without a result. What a call reads or writes is named by its number, a letter for its kind (s a socket, p a pipe, t a terminal,
-   f a file, d a folder, c another device), and N where the call would not wait, else B: `write 9 pN 120 = 120`.
+   f a file, d a folder, c another device), and N where the call would not wait, else B: `write 9 pN 120 = 120`. (strace would not see
+   which clock is read, since that takes no call of the kernel.)
 
    It does what the environment says besides:
      BOOT_AHEAD    CLOCK_BOOTTIME is ahead by so many seconds, as where the machine was suspended for so long

@@ -16,7 +16,7 @@ from trying import SECONDS, SLOWER, Peer, Ran, Tally, framed
 from .recording import Recording
 
 SECRET = "s.web"
-TIMEOUT = 5
+TIMEOUT = min(5 * SLOWER, 60)
 """Seconds for which an agent here waits for an answer: so a busy machine does not lose one."""
 MARGIN = 4 * TIMEOUT
 """The least that such an agent takes."""
@@ -38,7 +38,7 @@ def until(holds: Callable[[], bool], seconds: float = PATIENCE) -> bool:
 def table(*lines: str) -> str:
     """A token that is needed for a day, issued now."""
     now = int(time.time())
-    own = ['name = "web"', f"issued = {now}", f"end = {now + 60}", "increment = 60", "max_ttl = 90000", f"need = {now + 86400}", *lines]
+    own = ['name = "web"', f"issued = {now}", f"end = {now + 3600}", "increment = 3600", "max_ttl = 90000", f"need = {now + 86400}", *lines]
     return "\n".join(["[[token]]", *own, ""])
 
 
