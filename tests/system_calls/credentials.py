@@ -6,9 +6,9 @@ import os
 import time
 from collections.abc import Callable
 
-from trying import SLOWER, Peer
+from trying import SLOWER, Peer, Ran
 
-from .stage import Serving, Stage, inventory, until
+from .stage import TIMEOUT, Serving, Stage, inventory, until
 
 LOOKED_AT = 2
 """Seconds between two looks at a file's stamp."""
@@ -51,3 +51,12 @@ def follows_files(stage: Stage) -> None:
         before = opened(agent)
         stage.check("a pipe is told of", True, agent.says(NO_FILE))
         stage.check("and not opened", (True, before), (agent.answers(), opened(agent)))
+
+
+def opens_no_pipe(stage: Stage) -> None:
+    """A start on a pipe in the place of a file is refused, and does not open it."""
+    os.mkfifo(stage.room / "held")
+    ran, recording = stage.run("serve", stage.write("one.toml", inventory(HELD)), "./none", "--timeout", str(TIMEOUT))
+    said = b"leasekeep: web: secret_file: the file cannot be read; put the credential there before the start\n"
+    stage.check("it is refused", Ran(1, b"", said), ran)
+    stage.check("it is not opened", [], [call for call in recording.calls("open") if call.words[0] == "held"])
