@@ -17,6 +17,8 @@ PIECE = 50
 """The most bytes that a write takes: less than a request has."""
 RESTLESS_FOR = 20
 """The milliseconds after which a connection is tried again that the system does not tell of."""
+AGAIN = 3
+"""More tries than a few that a busy machine may leave of a hundred."""
 LIFE = 3600
 """Seconds that a broker tells."""
 HELD = 2.0
@@ -77,7 +79,7 @@ def rests(stage: Stage) -> None:
             stage.check("it rests", True, tries(agent) < HELD * 5)
         with stage.serve(name, broker.word, told=stage.failing("epoll_ctl")) as agent:
             stage.check("not registered: it is told", True, agent.says("entry web "))
-            stage.check("not registered: it is tried again and again", True, tries(agent) > HELD * 5)
+            stage.check("not registered: it is tried again and again", True, tries(agent) > AGAIN)
 
 
 def full_queue(stage: Stage) -> None:
