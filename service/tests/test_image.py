@@ -103,8 +103,8 @@ class Image(unittest.TestCase):
         self.assertEqual((self.out / "Dockerfile").read_text(), DOCKERFILE)
         self.assertIn("\nADD root.tar /\n", DOCKERFILE)
 
-    def begun(self) -> tuple[subprocess.Popen[str], int]:
-        """The agent with the words of the image; process 1 as it is numbered outside."""
+    def started(self) -> subprocess.Popen[str]:
+        """The agent with the words of the image, under `unshare`."""
         apart = ["unshare", "--pid", "--fork", "--kill-child", "--net", f"--mount-proc={self.root}/proc"]
         outer = subprocess.Popen([*apart, "chroot", "--userspec=65532:65532", str(self.root), *words_of("ENTRYPOINT"), *words_of("CMD")],
                                  stdout=subprocess.PIPE, stderr=subprocess.STDOUT, text=True)
@@ -115,6 +115,11 @@ class Image(unittest.TestCase):
         self.addCleanup(at_last.cancel)
         assert outer.stdout is not None
         self.addCleanup(outer.stdout.close)
+        return outer
+
+    def begun(self) -> tuple[subprocess.Popen[str], int]:
+        """The same, and its process 1 as it is numbered outside."""
+        outer = self.started()
         end = time.monotonic() + SECONDS
         while not children(outer.pid):
             self.assertLess(time.monotonic(), end)
@@ -137,7 +142,7 @@ class Image(unittest.TestCase):
     @APART
     def test_it_serves_what_its_group_may_read(self) -> None:
         self.mount(0o440)
-        outer, _ = self.begun()
+        outer = self.started()
         assert outer.stdout is not None
         lines = iter(outer.stdout.readline, "")
         self.assertTrue(any(" begin start" in line for line in lines))
@@ -146,7 +151,7 @@ class Image(unittest.TestCase):
     @APART
     def test_it_refuses_what_others_may_read(self) -> None:
         self.mount(0o644)
-        outer, _ = self.begun()
+        outer = self.started()
         said, _ = outer.communicate(timeout=SECONDS)
         self.assertEqual((outer.returncode, said), (1, "leasekeep: /etc/leasekeep/inventory.toml: others may read or write this file "
                                                        "(mode 0644); chmod o-rwx it: it holds secrets\n"))
