@@ -1,5 +1,5 @@
 -- One more among those that are out: for `place_for` and `put`.
-use Rattle.std.proofs.Common.{◌≡◌, ℕ, ◌≤◌, ◌+◌, ◌++◌, List, [], ◌∷◌, take, drop, sym, ap, ◌∙◌, All, Option, take-append-drop}
+use Rattle.std.proofs.Common.{◌≡◌, ℕ, ◌≤◌, ◌++◌, List, [], ◌∷◌, take, drop, sym, ap, ◌∙◌, All, Option, take-append-drop}
 use Rattle.std.proofs.lemmas.List.{map-append}
 use Rattle.std.proofs.lemmas.List.Elements.{All-map}
 use Rattle.keep_lanes.specs.Out.{IsBelow, Out, OutIsPut}

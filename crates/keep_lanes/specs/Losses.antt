@@ -1,6 +1,6 @@
 -- Why a request has no answer.
 -- Source: this project's own.
-use Rattle.std.specs.Prelude.{ℕ, ◌==◌, Result, Ok, Err, if◌then◌else◌}
+use Rattle.std.specs.Prelude.{ℕ, ◌==◌, Result, if◌then◌else◌}
 use Rattle.keep_lanes.specs.declared.loss.Loss.{Loss}
 use Rattle.keep_lanes.specs.declared.loss.Loss.TheVariants.{Closed, Reply, Status}
 use Rattle.vault_http.specs.declared.dated_reply.DatedReply.{DatedReply}

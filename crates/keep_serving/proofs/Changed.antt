@@ -1,5 +1,5 @@
 -- Changed: a change is made, and leaves what is held in step with the lanes. For `make_change` and the turn.
-use Rattle.std.proofs.Common.{◌≡◌, ◌≢◌, ◌==◌, ◌∙◌, ℕ, ◌+◌, ◌<◌, All, Bool, true, false, List, [], ◌++◌, Option, Some, None, Result, Ok, Err, append_assoc, eqb-true, length, map, refl, sym, ap, ap₂, subst, arith, inl, inr}
+use Rattle.std.proofs.Common.{◌≡◌, ◌≢◌, ◌==◌, ◌∙◌, ℕ, ◌<◌, All, Bool, true, false, List, [], ◌++◌, Option, Some, None, Result, Ok, Err, append_assoc, eqb-true, length, map, refl, sym, ap, ap₂, subst, arith, inl, inr}
 use Rattle.std.proofs.lemmas.List.{nil_from_length}
 use Rattle.std.proofs.lemmas.List.Elements.{All-nil}
 use Rattle.keep_agent.specs.Agent.{Agent}
