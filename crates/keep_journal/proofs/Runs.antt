@@ -5,9 +5,9 @@ use Rattle.keep_disk.specs.Image.{File, Image, with_file_at}
 use Rattle.keep_disk.specs.State.{DiskState, DiskKeeps, LeavesAlone, Elapses, LeavesOnly}
 use Rattle.keep_disk.proofs.Moments.{started, goes_on, weaker, and_then}
 use Rattle.keep_journal.specs.Records.{at_rest, StandsFor, IsBeforeOrAfter}
-use Rattle.keep_journal.specs.Journals.{bytes_of_file, JournalIsAtRest, CrashLeaves, KeepsOthers, Exchanging, Settling, FileIsThere}
+use Rattle.keep_journal.specs.Journals.{bytes_of_file, JournalIsAtRest, CrashLeaves, KeepsOthers, FileIsThere}
 use Rattle.keep_journal.proofs.Readings.{stands_at_rest, stands_once, nothing_in_nil}
-use Rattle.keep_journal.proofs.Steps.{at_path, at_end, leaves_weaker, leaves_then, leaves_past, still_leaves, kept_has, kept_past, first_put, then_exchanged}
+use Rattle.keep_journal.proofs.Steps.{at_path, at_end, leaves_weaker, leaves_then, leaves_past, still_leaves, kept_has, kept_past}
 
 -- the file's records, where it is at rest with them
 pub rest_has : (path : List ℕ) (lines : List (List ℕ)) (size : ℕ) (t : DiskState) → JournalIsAtRest path lines size t → (d : Image) → t.may_leave d → StandsFor (bytes_of_file (d path)) lines
@@ -45,16 +45,6 @@ module _ (path target : List ℕ) (file : File) (apart : bytes_eq path target �
     seen = others.seen target apart ∙ there.seen;
     is_kept = kept_past path target t u apart others there.is_kept (λ c left. let l = at_end t u (CrashLeaves path P t) run counts c left in (l.0, l.1, l.2));
   }
-
--- the records are settled
-pub settled_leaves : (path target : List ℕ) (file : File) (lines : List (List ℕ)) (line : List ℕ) (apart : bytes_eq path target ≡ false) (size : ℕ) (s t u : DiskState)
-    → LeavesOnly s t (CrashLeaves path (IsBeforeOrAfter lines line) s) → ((m : ℕ) (c : Image) → m ≤ t.moment → t.may_leave c → t.left_since m c)
-    → JournalIsAtRest path (lines ++ line ∷ []) size t → LeavesOnly t u (Exchanging path target file (λ f. StandsFor f []) t) → LeavesOnly s u (Settling path target file lines line s)
-settled_leaves path target file lines line apart size s t u first counts rest second =
-    and_then s t u (Settling path target file lines line s) (Exchanging path target file (λ f. StandsFor f []) t)
-    (weaker s t (CrashLeaves path (IsBeforeOrAfter lines line) s) (Settling path target file lines line s) first (first_put path target file lines line apart s))
-    second
-    (then_exchanged path target file lines line apart s t (at_end s t (CrashLeaves path (IsBeforeOrAfter lines line) s) first counts) (rest_has path (lines ++ line ∷ []) size t rest))
 
 -- no bytes stand for no records
 pub none_stand : StandsFor [] []

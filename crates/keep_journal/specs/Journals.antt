@@ -1,10 +1,10 @@
 -- Journals: what a journal holds, and what a crash leaves of it.
 -- Source: this project's own.
-use Rattle.std.specs.Prelude.{◌≡◌, ◌⊎◌, ℕ, List, [], ◌∷◌, ◌++◌, length, Bool, false, IsTrue, Option, None, Some}
+use Rattle.std.specs.Prelude.{◌≡◌, ◌⊎◌, ℕ, List, [], length, Bool, false, IsTrue, Option, None, Some}
 use Rattle.std.specs.Str.{bytes_eq}
 use Rattle.keep_disk.specs.Image.{File, Image, SameElsewhere}
 use Rattle.keep_disk.specs.State.{DiskState, DiskKeeps}
-use Rattle.keep_journal.specs.Records.{AreLines, blocks, at_rest, StandsFor, IsBeforeOrAfter}
+use Rattle.keep_journal.specs.Records.{AreLines, blocks, at_rest, StandsFor}
 use Rattle.keep_journal.specs.declared.journal.Journal.{Journal}
 
 -- the bytes at a path; none where there is no file
@@ -67,15 +67,6 @@ pub record Exchanging (path target : List ℕ) (file : File) (P : List ℕ → T
   pub elsewhere : (other : List ℕ) → bytes_eq path other ≡ false → bytes_eq target other ≡ false → c other ≡ was other
   pub both : ((c target ≡ was target) × (c path ≡ was path))
       ⊎ ((c target ≡ Some file) × ((c path ≡ was path) ⊎ P (bytes_of_file (c path))))
-
--- what a crash leaves while a journal is settled: the target as it was, and the journal's file as it was or with the records,
--- or with one more; or the target new, and that file with all of these records or with none; and all else as it was
-pub record Settling (path target : List ℕ) (file : File) (lines : List (List ℕ)) (line : List ℕ) (old : DiskState) (c : Image) : Type 0 where
-  pub was : Image
-  pub before : old.may_leave was
-  pub elsewhere : (other : List ℕ) → bytes_eq path other ≡ false → bytes_eq target other ≡ false → c other ≡ was other
-  pub both : ((c target ≡ was target) × ((c path ≡ was path) ⊎ IsBeforeOrAfter lines line (bytes_of_file (c path))))
-      ⊎ ((c target ≡ Some file) × (StandsFor (bytes_of_file (c path)) (lines ++ line ∷ []) ⊎ StandsFor (bytes_of_file (c path)) []))
 
 -- the file at the path has these permission bits and bytes, and is on the disk
 pub record FileIsThere (path : List ℕ) (file : File) (s : DiskState) : Type 0 where
