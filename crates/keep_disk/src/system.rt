@@ -27,8 +27,8 @@ pub struct SystemDisk<'a, R> {
     rt: &'a R,
     faults: u64,
     fault: Why,
-    // A file was moved to this path, and its folder is not synced yet.
-    moved: Option<String>,
+    // Files were moved to these paths, and the folder of each is not synced yet.
+    moved: Vec<String>,
     // Those that are locked until the process ends, with their paths.
     locks: Vec<(String, File)>,
 }
@@ -40,7 +40,7 @@ impl<'a, R: Files<File = File> + AllocGlobal> SystemDisk<'a, R> {
             rt,
             faults: 0,
             fault: Why::Other,
-            moved: None,
+            moved: Vec::new(rt.alloc()),
             locks: Vec::new(rt.alloc()),
         }
     }
@@ -111,29 +111,33 @@ impl<'a, R: Files<File = File> + AllocGlobal> SystemDisk<'a, R> {
         }
     }
 
-    // One move at a time waits for its folder.
     fn try_move_beside(&mut self, path: &str) -> io::Result<()>
         ensures faults { self.new.faults ≡ self.old.faults }
         ensures fault { self.new.fault ≡ self.old.fault }
     {
-        if let Some(before) = &self.moved {
-            self.sync_folder(before.as_str())?;
-        }
         let beside = beside_of(self.rt.alloc(), path)?;
-        self.moved = Some(String::from_str(self.rt.alloc(), path)?);
+        if !self.is_moved(path) {
+            self.moved.push(String::from_str(self.rt.alloc(), path)?)?;
+        }
         fs::rename(self.rt, beside.as_str(), path)
     }
 
+    // A folder that cannot be synced is in the way of its own paths alone.
     fn try_sync(&mut self, path: &str) -> io::Result<()>
         ensures faults { self.new.faults ≡ self.old.faults }
         ensures fault { self.new.fault ≡ self.old.fault }
     {
         self.open_to_write(path)?.sync_all()?;
-        if let Some(moved) = &self.moved {
-            self.sync_folder(moved.as_str())?;
-            self.moved = None;
+        if self.is_moved(path) {
+            self.sync_folder(path)?;
+            self.moved.retain(|moved| moved.as_str() != path);
         }
         Ok(())
+    }
+
+    // Whether a file was moved to this path whose folder is not synced yet.
+    fn is_moved(&self, path: &str) -> bool {
+        self.moved.iter().any(|moved| moved.as_str() == path)
     }
 
     fn try_lock(&mut self, path: &str) -> io::Result<bool>
