@@ -61,7 +61,7 @@ module _ (store : Store) (places : Places) (s : DiskState) (file : File) (seen :
     since_half : (d : Image) → Half store places s d → Since places s d
     since_half d (inl left) = record { was = d; before = left; elsewhere = λ other p q. refl }
     since_half d (inr (f, is, inl left)) = record { was = d; before = left; elsewhere = λ other p q. refl }
-    since_half d (inr (f, is, inr (text, v, says, left))) = record {
+    since_half d (inr (f, is, inr (told, w, said, left))) = record {
       was = left.was;
       before = left.before;
       elsewhere = λ other p q. left.elsewhere other (ap (λ (j : List ℕ). bytes_eq j other) path ∙ q) p;

@@ -105,8 +105,8 @@ impl<'a, D: Disk> State<'a, D> {
         ensures waiting { OnOk result (waiting_in self.new.keeper ≡ changed (waiting_in self.old.keeper) now) }
         ensures copied { IfOk result (λ r. IsCopied D.is_known self.old.places bytes.now r.copy (D.state self.new.disk)) }
         ensures refused { IfErr result (IsFileFaultOf (Some bytes.now)) }
-        ensures sure { is_sure (store_in self.old) ≡ true → is_sure (store_in self.new) ≡ true }
-        ensures anew { OnOk result (is_sure (store_in self.new) ≡ true) }
+        ensures sure { OnOk result (is_sure (store_in self.new) ≡ true) }
+        ensures still { OnErr result (is_sure (store_in self.new) ≡ is_sure (store_in self.old)) }
         ensures book { OnErr result (book_in self.new ≡ book_in self.old) }
         ensures unchanged { OnErr result (waiting_in self.new.keeper ≡ waiting_in self.old.keeper) }
         ensures journal { journal_of (store_in self.new) ≡ journal_of (store_in self.old) }

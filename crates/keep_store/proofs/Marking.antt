@@ -1,8 +1,8 @@
 -- What a crash leaves while a file takes its place after a mark in the journal, and what stands on the disk then.
-use Rattle.std.proofs.Common.{◌≡◌, ◌⊎◌, inl, inr, ℕ, ◌≤◌, List, [], ◌∷◌, ◌++◌, false, Option, Some, refl, sym, ◌∙◌, ap, subst}
+use Rattle.std.proofs.Common.{◌≡◌, inl, inr, ℕ, ◌≤◌, List, [], ◌∷◌, ◌++◌, Bool, false, Option, sym, ◌∙◌, ap, subst}
 use Rattle.std.specs.Str.{bytes_eq}
-use Rattle.keep_disk.specs.Image.{File, Image, with_file_at}
-use Rattle.keep_disk.specs.State.{DiskState, IsAfter, LeavesAlone, LeavesOnly, DiskKeeps}
+use Rattle.keep_disk.specs.Image.{File, Image}
+use Rattle.keep_disk.specs.State.{DiskState, IsAfter, LeavesAlone, LeavesOnly}
 use Rattle.keep_disk.specs.Torn.{MovesFile}
 use Rattle.keep_disk.proofs.Moments.{and_then, weaker}
 use Rattle.keep_journal.specs.Journals.{CrashLeaves, JournalIsAtRest, bytes_of_file}
@@ -54,7 +54,7 @@ rest_alone path lines size s t alone rest = record {
   seen = ap (λ (image : Image). image path) alone.seen ∙ rest.seen;
   size_is = rest.size_is;
   is_kept = record {
-    sound = ap (λ f. f path) alone.sound ∙ rest.is_kept.sound;
+    sound = ap (λ (f : List ℕ → Bool). f path) alone.sound ∙ rest.is_kept.sound;
     durable = λ c left. rest.is_kept.durable c (alone.crash c left) ∙ ap (λ (image : Image). image path) (sym alone.seen);
   };
 }

@@ -72,11 +72,11 @@ module _ (old : Store) (m : Moving) (is : IsMoving (book_of old) m) where
         ∙ sym is.book.rows ∙ ap (λ (b : Book). b.rows) (sym booked)
 
 -- where the journal is emptied then, or left as it was, the rows are the same
-pub handed_replays : {X E A : Type 0} (r : Result X E) (old new : Store) → SaysByItself old → IsReplayed old → book_of new ≡ book_of old → OnOk r ((lines_in new ≡ []) × A) → OnErr r (lines_in new ≡ lines_in old)
+pub handed_replays : {X E : Type 0} (r : Result X E) (old new : Store) → SaysByItself old → IsReplayed old → book_of new ≡ book_of old → OnOk r (lines_in new ≡ []) → OnErr r (lines_in new ≡ lines_in old)
     → IsReplayed new
 handed_replays (Ok x) old new says so booked emptied same =
     ap (λ (b : Book). (replayed b.file (records_in (lines_in new))).rows) booked
-    ∙ ap (λ (ls : List (List ℕ)). (replayed (book_of old).file (records_in ls)).rows) emptied.0
+    ∙ ap (λ (ls : List (List ℕ)). (replayed (book_of old).file (records_in ls)).rows) emptied
     ∙ ap (λ (rs : List Record). (replayed (book_of old).file rs).rows) records_none
     ∙ says ∙ ap (λ (b : Book). b.rows) (sym booked)
 handed_replays (Err e) old new says so booked emptied same =

@@ -146,8 +146,9 @@ impl<'a> Store<'a> {
         requires replayed { IsReplayed self.old }
         ensures reloaded { IfOk result (λ notes. IsBookIf (option_copied bytes.entry) (records_in (lines_in self.old)) (book_of self.old).secrets (book_of self.new) notes.items) }
         ensures refused { IfErr result (IsFileFaultOf (option_copied bytes.entry)) }
-        ensures unchanged { OnErr result (self.new ≡ self.old) }
+        ensures unchanged { OnErr result (book_of self.new ≡ book_of self.old) }
         ensures sure { OnOk result (is_sure self.new ≡ true) }
+        ensures still { OnErr result (is_sure self.new ≡ is_sure self.old) }
         ensures journal { journal_of self.new ≡ journal_of self.old }
         ensures replayed { IsReplayed self.new }
     {

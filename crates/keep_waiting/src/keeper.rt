@@ -93,7 +93,9 @@ impl<'a> Keeper<'a> {
         ensures waiting { OnOk result (waiting_in self.new ≡ changed (waiting_in self.old) now) }
         ensures refused { IfErr result (IsFileFaultOf (option_copied bytes.entry)) }
         ensures sure { OnOk result (is_sure (store_of self.new) ≡ true) }
-        ensures unchanged { OnErr result (self.new ≡ self.old) }
+        ensures still { OnErr result (is_sure (store_of self.new) ≡ is_sure (store_of self.old)) }
+        ensures book { OnErr result (book_of (store_of self.new) ≡ book_of (store_of self.old)) }
+        ensures unchanged { OnErr result (waiting_in self.new ≡ waiting_in self.old) }
         ensures journal { journal_of (store_of self.new) ≡ journal_of (store_of self.old) }
         ensures replayed { IsReplayed (store_of self.new) }
     {
