@@ -35,7 +35,7 @@ may_have journal = journal.may_be_open
 abbrev pub JournalIsWhole : Journal → DiskState → Type 0
 JournalIsWhole journal s = JournalIsAtRest journal.path.now journal.lines.items journal.size s
 
--- its records are lines; and its file is at rest with them, unless a call has failed since it was written
+-- its records are lines; and its file is at rest with them, where this process has written it and no call has failed since
 pub record JournalHolds (known : Bool) (journal : Journal) (s : DiskState) : Type 0 where
   pub are_lines : AreLines (lines_of_journal journal)
   pub whole : IsTrue known → IsTrue journal.is_whole → JournalIsWhole journal s
@@ -48,16 +48,6 @@ pub record KeepsOthers (path : List ℕ) (old new : DiskState) : Type 0 where
 -- all but the file at this path is as some crash might have left it before, and so is that file, or it has P
 abbrev pub CrashLeaves : List ℕ → (List ℕ → Type 0) → DiskState → Image → Type 0
 CrashLeaves path P old c = (d : Image) × old.may_leave d × SameElsewhere path d c × ((c path ≡ d path) ⊎ P (bytes_of_file (c path)))
-
--- its file is its records and anything that stands for none, on the disk
-pub record Untidy (journal : Journal) (s : DiskState) : Type 0 where
-  pub are_lines : AreLines (lines_of_journal journal)
-  pub mode : ℕ
-  pub file : List ℕ
-  pub seen : s.seen (path_of_journal journal) ≡ Some (record { mode = mode; bytes = file })
-  pub stands : StandsFor file (lines_of_journal journal)
-  pub size_is : journal.size ≡ length (blocks (lines_of_journal journal))
-  pub is_kept : DiskKeeps (path_of_journal journal) s
 
 -- what a crash leaves while a file takes its place and then the journal's is made anew: the two as they were; or that file in
 -- its place, and the journal's as it was, or with P; and all else as it was

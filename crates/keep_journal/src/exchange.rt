@@ -146,7 +146,11 @@ impl<'a> Journal<'a> {
 }
 
 /// The bytes of the file at `path`; none where there is no file.
-fn bytes_at<D: Disk>(alloc: Global, disk: &mut D, path: &str) -> Result<Vec<u8>, DiskFault>
+pub(crate) fn bytes_at<D: Disk>(
+    alloc: Global,
+    disk: &mut D,
+    path: &str,
+) -> Result<Vec<u8>, DiskFault>
     ensures bytes { IfOk result (λ bytes. IsTrue D.is_known → bytes.items ≡ bytes_of_file ((D.state disk.old).seen path.now)) }
     ensures alone { IsTrue D.is_known → LeavesAlone (D.state disk.old) (D.state disk.new) }
     ensures time { IsTrue D.is_known → Elapses (D.state disk.old) (D.state disk.new) }
