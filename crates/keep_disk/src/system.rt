@@ -103,10 +103,10 @@ impl<'a, R: Files<File = File> + AllocGlobal> SystemDisk<'a, R> {
     }
 
     // A file system that cannot sync a folder at all says that the call is invalid. It promises nothing of names then, and no call
-    // would make it: what was asked is done as well as it can be.
+    // would make it: what was asked is done as well as it can be. On one that is read-only no name waits to be synced.
     fn sync_folder(&self, path: &str) -> io::Result<()> {
         match File::open(self.rt, folder_of(path))?.sync_all() {
-            Err(error) if error.kind() == ErrorKind::InvalidInput => Ok(()),
+            Err(error) if is_without_names(&error) => Ok(()),
             synced => synced,
         }
     }
@@ -148,11 +148,7 @@ impl<'a, R: Files<File = File> + AllocGlobal> SystemDisk<'a, R> {
         if self.is_held(path) {
             return Ok(true);
         }
-        let file = OpenOptions::new()
-            .write(true)
-            .create(true)
-            .mode(FILE_MODE)
-            .open(self.rt, path)?;
+        let file = self.open_to_lock(path)?;
         match file.try_lock() {
             Ok(()) => {}
             Err(TryLockError::WouldBlock) => return Ok(false),
@@ -163,10 +159,39 @@ impl<'a, R: Files<File = File> + AllocGlobal> SystemDisk<'a, R> {
         Ok(true)
     }
 
+    // Where nothing may be written, the lock of a file that is there can be had all the same.
+    fn open_to_lock(&self, path: &str) -> io::Result<File> {
+        let opened = OpenOptions::new()
+            .write(true)
+            .create(true)
+            .mode(FILE_MODE)
+            .open(self.rt, path);
+        match opened {
+            Err(error) if is_unwritable(&error) => File::open(self.rt, path),
+            opened => opened,
+        }
+    }
+
     // Whether this process holds the lock of the file at that path.
     fn is_held(&self, path: &str) -> bool {
         self.locks.iter().any(|held| held.0.as_str() == path)
     }
+}
+
+/// Whether a folder cannot be synced, or need not be.
+fn is_without_names(error: &io::Error) -> bool {
+    matches!(
+        error.kind(),
+        ErrorKind::InvalidInput | ErrorKind::ReadOnlyFilesystem
+    )
+}
+
+/// Whether a file may not be written.
+fn is_unwritable(error: &io::Error) -> bool {
+    matches!(
+        error.kind(),
+        ErrorKind::PermissionDenied | ErrorKind::ReadOnlyFilesystem
+    )
 }
 
 /// Counts a call that failed, unless it failed because memory ran out.
