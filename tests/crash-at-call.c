@@ -13,7 +13,8 @@
    Where CRASH_WHILE names a file, disk calls go, as long as it is there, as the word in it says:
      full       what needs room fails (ENOSPC): to make or write a file, to make a folder
      read-only  each fails (EROFS), and so it does to open a file for writing
-     stalls     each waits */
+     stalls     each waits
+     once N     call N fails (EIO), counted from 1 since the file is there */
 #define _GNU_SOURCE
 #include <errno.h>
 #include <fcntl.h>
@@ -236,9 +237,23 @@ static int is_refused(int needs_room) {
     return is_full || is_read_only;
 }
 
+/* 1 where this is the one call that the disk fails at present. */
+static int is_once(void) {
+    static long number;
+    const char *word = present_word();
+    if (strncmp(word, "once ", 5) != 0) {
+        number = 0;
+        return 0;
+    }
+    number += 1;
+    if (number != atol(word + 5)) return 0;
+    errno = EIO;
+    return 1;
+}
+
 /* What happens before the call whose turn it is; 1 where it is to fail, or the disk takes no such call. */
 static int stops(int turn, int needs_room) {
-    if (is_refused(needs_room)) return 1;
+    if (is_refused(needs_room) || is_once()) return 1;
     if (!turn) return 0;
     if (is_how("lost") || is_how("mixed")) lose();
     if (is_how("before") || is_how("half") || is_how("lost") || is_how("mixed")) die();

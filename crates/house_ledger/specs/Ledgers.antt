@@ -1,6 +1,6 @@
 -- Ledgers: the state of an agent on a disk, and what the calls of its house do to it.
 -- Source: this project's own; what is on the disk is keep_state's.
-use Rattle.std.specs.Prelude.{◌≡◌, ◌≢◌, ◌⊎◌, ℕ, Bool, true, false, IsTrue, List, [], ◌∷◌, ◌++◌, Option, Some, None, Result, Ok, Err, codes, if◌then◌else◌, length}
+use Rattle.std.specs.Prelude.{◌≡◌, ◌≢◌, ◌⊎◌, ℕ, Bool, true, false, IsTrue, List, [], ◌∷◌, ◌++◌, Option, Some, None, IfSome, Result, Ok, Err, codes, if◌then◌else◌, length}
 use Rattle.std.specs.declared.alloc.AllocError.{AllocError}
 use Rattle.keep_agent.specs.Waiting.{changed, is_rebuilding_due}
 use Rattle.keep_asking.specs.Sending.{Lanes}
@@ -22,9 +22,8 @@ use Rattle.keep_state.specs.Tables.{row_of_table}
 use Rattle.keep_state.specs.declared.fault.TableFault.{TableFault}
 use Rattle.keep_store.specs.Books.{HasSecrets, IsBookIf}
 use Rattle.keep_store.specs.Compacted.{compacted_lines, is_worth}
-use Rattle.keep_store.specs.Entering.{IsWhyNot}
 use Rattle.keep_store.specs.Records.{records_in}
-use Rattle.keep_store.specs.Stores.{ChangeIsTaken, journal_of, lines_in}
+use Rattle.keep_store.specs.Stores.{ChangeIsTaken, IsWhyUntaken, journal_of, lines_in}
 use Rattle.keep_store.specs.declared.secret.Secret.{Secret}
 use Rattle.keep_waiting.specs.Keepers.{InventoryIsGiven, waiting_in}
 use Rattle.keep_secrets.specs.Stamps.{FileCall}
@@ -34,7 +33,7 @@ use Rattle.house_ledger.specs.Inquiries.{AsksAbout, ProvesOn, asked_in}
 use Rattle.house_ledger.specs.Keeping.{KeepCall, Look, LookUp, Prove, Rebuilt, Reload, Settle, Take}
 use Rattle.house_words.specs.Outcomes.{Why, Whys}
 use Rattle.house_words.specs.Reading.{IsWellWritten, IsWide}
-use Rattle.house_words.specs.Reasons.{bare_words, settle_words, table_words, take_words}
+use Rattle.house_words.specs.Reasons.{bare_words, left_over_words, settle_words, table_words, take_words}
 use Rattle.house_words.specs.Rereading.{AreBytesOf, IsWhyNotReread, SaysCopy, SaysNotes}
 use Rattle.house_words.specs.Starts.{is_bare_row}
 use Rattle.house_ledger.specs.Takings.{LooksOrHears}
@@ -69,13 +68,14 @@ pub record IsTakenOn {D : Type 0} (known : Bool) (seen : D → DiskState) (now :
 
 abbrev pub TakesOn : {D : Type 0} → Bool → (D → DiskState) → ℕ → List ℕ → What → Result (Unit {0}) Why → Kept D → Kept D → Type 0
 TakesOn known seen now name w (Ok x) old new = IsTakenOn known seen now name w old new
-TakesOn known seen now name w (Err why) old new = IsAsItWas old new × SaysWhy (IsWhyNot (book_in old) name w) (take_words (book_in old).file.margin name w) why
+TakesOn known seen now name w (Err why) old new = IsAsItWas old new × SaysWhy (IsWhyUntaken (store_in old) name w) (take_words (book_in old).file.margin name w) why
 
 -- ---- settle, reload, and the others
 
 abbrev pub SettlesOn : {D : Type 0} → Bool → (D → DiskState) → Result (Unit {0}) Why → Kept D → Kept D → Type 0
-SettlesOn known seen (Ok x) old new = (copy : Option DiskFault) × IsSettledState known old copy new (seen old.disk) (seen new.disk)
-SettlesOn known seen (Err why) old new = (book_in new ≡ book_in old) × SaysWhy (IsWhyUnsettledState known old (seen old.disk)) settle_words why
+SettlesOn known seen (Ok x) old new = IsSettledState known old None new (seen old.disk) (seen new.disk)
+SettlesOn known seen (Err why) old new = ((book_in new ≡ book_in old) × SaysWhy (IsWhyUnsettledState known old (seen old.disk)) settle_words why)
+    ⊎ ((fault : DiskFault) × (IsSettledState known old (Some fault) new (seen old.disk) (seen new.disk) × IfSome why (λ text. text ≡ left_over_words fault)))
 
 -- what files have given is taken, and waits for a rebuilding; or it cannot be handed on, and all is as it was, as where they gave nothing
 abbrev pub TakenIf : {D : Type 0} → Bool → ℕ → List Secret → Kept D → Kept D → Type 0

@@ -8,9 +8,8 @@ ghost use Rattle.keep_disk.specs.declared.fault.DiskFault.{DiskFault};
 ghost use Rattle.keep_state.specs.Settles.{IsCopied};
 ghost use Rattle.keep_state.specs.States.{book_in, store_in};
 ghost use Rattle.keep_store.specs.Books.{IsBookIf};
-ghost use Rattle.keep_store.specs.Entering.{IsWhyNot};
 ghost use Rattle.keep_store.specs.Records.{records_in};
-ghost use Rattle.keep_store.specs.Stores.{lines_in};
+ghost use Rattle.keep_store.specs.Stores.{IsWhyUntaken, lines_in};
 ghost use Rattle.keep_waiting.specs.Keepers.{waiting_in};
 ghost use Rattle.house_ledger.specs.Ledgers.{AreCompacted, FilledWith, IsFilledOn, IsTakenOn, StaysOnDisk, apart_line};
 ghost use Rattle.house_words.specs.Noting.{left_lines, said_notes};
@@ -26,7 +25,7 @@ use crate::inquiry::{ask, hear};
 use crate::keeping::{Keeping, LookedUp};
 use house_words::{
     Demands, Gathered, Reread, after, bare_words, book_words, disk_words, gather, is_bare_row,
-    settle_words, table_words, take_words, unread_words, why_not_served, wide,
+    left_over_words, settle_words, table_words, take_words, unread_words, why_not_served, wide,
 };
 use keep_asking::SeenLanes;
 use keep_change::{Note, Row, What};
@@ -262,7 +261,7 @@ fn take_on<D: Disk>(
     what: What,
 ) -> Result<(), TakeFault>
     ensures taken { OnOk result (IsTakenOn D.is_known D.state now name what state.old state.new) }
-    ensures refused { IfErr result (IsWhyNot (book_in state.old) name what) }
+    ensures refused { IfErr result (IsWhyUntaken (store_in state.old) name what) }
     ensures unchanged { OnErr result (IsAsItWas state.old state.new) }
 {
     state.take(now, name, what)?;
@@ -378,7 +377,8 @@ impl<'a, D: Disk, I: Inputs + SecretFiles, L: Lanes> Keeping for Ledger<'a, D, I
 
     fn settle(&mut self, alloc: Global) -> Result<(), Option<Text>> {
         match self.state.settle() {
-            Ok(_) => Ok(()),
+            Ok(None) => Ok(()),
+            Ok(Some(fault)) => Err(left_over_words(alloc, fault).ok()),
             Err(fault) => Err(settle_words(alloc, fault).ok()),
         }
     }

@@ -45,6 +45,7 @@ written_words settling.OutOfMemory = codes "out of memory"
 
 -- why a change of the entry of that name is not taken
 abbrev pub take_words : ℕ → List ℕ → What → TakeFault → List ℕ
+take_words margin name w takes.Unread = codes "the file may have been written by a settle that failed: reload it first"
 take_words margin name w takes.NoRecord = codes "no journal can write it"
 take_words margin name w (takes.Refused fault) = change_fault_text margin name w fault
 take_words margin name w (takes.Unwritten fault) = written_words fault
@@ -67,6 +68,10 @@ settle_words settles.Changed = codes "the file has changed since it was read: re
 settle_words (settles.Unwritten fault) = written_words fault
 settle_words (settles.Disk fault) = codes "it cannot be written: " ++ disk_words fault
 settle_words settles.OutOfMemory = codes "out of memory"
+
+-- why the journal was left as it was once FILE says all that is kept
+abbrev pub left_over_words : DiskFault → List ℕ
+left_over_words fault = codes "the file is written, but the journal is left as it was: " ++ disk_words fault
 
 -- why a table is no entry
 abbrev pub table_words : TableFault → List ℕ

@@ -38,8 +38,8 @@ pub use gathered_secrets::{Gathered, gather};
 pub use moments::{moment_word, now_of, second_of};
 pub use reading::{read_to_serve, wide};
 pub use reasons::{
-    after, bare_words, book_words, disk_words, file_words, settle_words, table_words, take_words,
-    unread_words,
+    after, bare_words, book_words, disk_words, file_words, left_over_words, settle_words,
+    table_words, take_words, unread_words,
 };
 pub use reread::Reread;
 pub use unserved::why_not_served;

@@ -2,7 +2,7 @@
 ghost use Rattle.std.specs.Prelude.{◌≡◌, ◌++◌, ◌∷◌, IfOk, OnOk};
 ghost use Rattle.keep_tree.specs.Push.{is_lease};
 ghost use Rattle.keep_report.specs.FaultLine.{inventory_words, place_word, tree_word};
-ghost use Rattle.house_words.specs.Reasons.{bare_word, bare_words, book_words, disk_words, file_words, settle_words, table_words, take_words, unread_words, written_words};
+ghost use Rattle.house_words.specs.Reasons.{bare_word, bare_words, book_words, disk_words, file_words, left_over_words, settle_words, table_words, take_words, unread_words, written_words};
 
 use crate::demands::Demands;
 use crate::fault::StartFault;
@@ -32,6 +32,10 @@ pub fn take_words(
     ensures { IfOk result (λ text. text ≡ take_words margin name.now what.now fault) }
 {
     match fault {
+        TakeFault::Unread => Text::of(
+            alloc,
+            b"the file may have been written by a settle that failed: reload it first",
+        ),
         TakeFault::NoRecord => Text::of(alloc, b"no journal can write it"),
         TakeFault::Refused(fault) => why(alloc, margin, name, what, fault),
         TakeFault::Unwritten(fault) => written_words(alloc, b"", fault),
@@ -75,6 +79,17 @@ pub fn settle_words(alloc: Global, fault: SettleWhy) -> Result<Text, AllocError>
         SettleWhy::Disk(fault) => after(alloc, b"it cannot be written: ", disk_words(fault)),
         SettleWhy::OutOfMemory => Text::of(alloc, b"out of memory"),
     }
+}
+
+/// That FILE says all that is kept, but why the journal was left as it was.
+pub fn left_over_words(alloc: Global, fault: DiskFault) -> Result<Text, AllocError>
+    ensures { IfOk result (λ text. text ≡ left_over_words fault) }
+{
+    after(
+        alloc,
+        b"the file is written, but the journal is left as it was: ",
+        disk_words(fault),
+    )
 }
 
 /// Why a table is no entry.

@@ -1,10 +1,10 @@
 ghost use Rattle.journal_trial.specs.Trials.{TrialJournalIsSound};
 
-use crate::book::{Book, book_of};
+use crate::book::{Book, book_of, read_book};
 use crate::fault::Fault;
 use crate::records::found_in;
 use keep_change::{Change, Record, fingerprint, text_of, voids};
-use keep_disk::{FILE_MODE, SystemDisk};
+use keep_disk::{FILE_MODE, SystemDisk, replace};
 use keep_journal::{Journal, is_line};
 use keep_moment::Text;
 use keep_notes::why;
@@ -98,7 +98,16 @@ pub fn settle_all<R: Files<File = File> + AllocGlobal>(
     if !is_line(line.list()) {
         return Err(Fault::Lines);
     }
-    journal.settle(disk, file, FILE_MODE, bytes, line)?;
+    journal.put(disk, line)?;
+    if let Err(fault) = replace(disk, file, FILE_MODE, bytes) {
+        // Which of the two a start reads from now on is what counts.
+        *book = read_book(alloc, disk, file)?;
+        let found = found_in(alloc, journal.records())?;
+        book.replay(alloc, &found.records)?;
+        return Err(Fault::from(fault));
+    }
     *book = book_of(alloc, bytes, &settled.served)?;
+    let outs = vec![in alloc; true; journal.records().len()]?;
+    journal.compact(disk, &outs)?;
     Ok(())
 }

@@ -27,8 +27,8 @@ pub struct SystemDisk<'a, R> {
     rt: &'a R,
     faults: u64,
     fault: Why,
-    // A file was moved to this path, and its folder is not synced yet.
-    moved: Option<String>,
+    // Files were moved to these paths, and the folder of each is not synced yet.
+    moved: Vec<String>,
     // Those that are locked until the process ends, with their paths.
     locks: Vec<(String, File)>,
 }
@@ -40,7 +40,7 @@ impl<'a, R: Files<File = File> + AllocGlobal> SystemDisk<'a, R> {
             rt,
             faults: 0,
             fault: Why::Other,
-            moved: None,
+            moved: Vec::new(rt.alloc()),
             locks: Vec::new(rt.alloc()),
         }
     }
@@ -103,37 +103,41 @@ impl<'a, R: Files<File = File> + AllocGlobal> SystemDisk<'a, R> {
     }
 
     // A file system that cannot sync a folder at all says that the call is invalid. It promises nothing of names then, and no call
-    // would make it: what was asked is done as well as it can be.
+    // would make it: what was asked is done as well as it can be. On one that is read-only no name waits to be synced.
     fn sync_folder(&self, path: &str) -> io::Result<()> {
         match File::open(self.rt, folder_of(path))?.sync_all() {
-            Err(error) if error.kind() == ErrorKind::InvalidInput => Ok(()),
+            Err(error) if is_without_names(&error) => Ok(()),
             synced => synced,
         }
     }
 
-    // One move at a time waits for its folder.
     fn try_move_beside(&mut self, path: &str) -> io::Result<()>
         ensures faults { self.new.faults ≡ self.old.faults }
         ensures fault { self.new.fault ≡ self.old.fault }
     {
-        if let Some(before) = &self.moved {
-            self.sync_folder(before.as_str())?;
-        }
         let beside = beside_of(self.rt.alloc(), path)?;
-        self.moved = Some(String::from_str(self.rt.alloc(), path)?);
+        if !self.is_moved(path) {
+            self.moved.push(String::from_str(self.rt.alloc(), path)?)?;
+        }
         fs::rename(self.rt, beside.as_str(), path)
     }
 
+    // A folder that cannot be synced is in the way of its own paths alone.
     fn try_sync(&mut self, path: &str) -> io::Result<()>
         ensures faults { self.new.faults ≡ self.old.faults }
         ensures fault { self.new.fault ≡ self.old.fault }
     {
         self.open_to_write(path)?.sync_all()?;
-        if let Some(moved) = &self.moved {
-            self.sync_folder(moved.as_str())?;
-            self.moved = None;
+        if self.is_moved(path) {
+            self.sync_folder(path)?;
+            self.moved.retain(|moved| moved.as_str() != path);
         }
         Ok(())
+    }
+
+    // Whether a file was moved to this path whose folder is not synced yet.
+    fn is_moved(&self, path: &str) -> bool {
+        self.moved.iter().any(|moved| moved.as_str() == path)
     }
 
     fn try_lock(&mut self, path: &str) -> io::Result<bool>
@@ -144,11 +148,7 @@ impl<'a, R: Files<File = File> + AllocGlobal> SystemDisk<'a, R> {
         if self.is_held(path) {
             return Ok(true);
         }
-        let file = OpenOptions::new()
-            .write(true)
-            .create(true)
-            .mode(FILE_MODE)
-            .open(self.rt, path)?;
+        let file = self.open_to_lock(path)?;
         match file.try_lock() {
             Ok(()) => {}
             Err(TryLockError::WouldBlock) => return Ok(false),
@@ -159,10 +159,39 @@ impl<'a, R: Files<File = File> + AllocGlobal> SystemDisk<'a, R> {
         Ok(true)
     }
 
+    // Where nothing may be written, the lock of a file that is there can be had all the same.
+    fn open_to_lock(&self, path: &str) -> io::Result<File> {
+        let opened = OpenOptions::new()
+            .write(true)
+            .create(true)
+            .mode(FILE_MODE)
+            .open(self.rt, path);
+        match opened {
+            Err(error) if is_unwritable(&error) => File::open(self.rt, path),
+            opened => opened,
+        }
+    }
+
     // Whether this process holds the lock of the file at that path.
     fn is_held(&self, path: &str) -> bool {
         self.locks.iter().any(|held| held.0.as_str() == path)
     }
+}
+
+/// Whether a folder cannot be synced, or need not be.
+fn is_without_names(error: &io::Error) -> bool {
+    matches!(
+        error.kind(),
+        ErrorKind::InvalidInput | ErrorKind::ReadOnlyFilesystem
+    )
+}
+
+/// Whether a file may not be written.
+fn is_unwritable(error: &io::Error) -> bool {
+    matches!(
+        error.kind(),
+        ErrorKind::PermissionDenied | ErrorKind::ReadOnlyFilesystem
+    )
 }
 
 /// Counts a call that failed, unless it failed because memory ran out.

@@ -1,4 +1,4 @@
 mod Readings
-mod Steps
+pub mod Steps
 mod Writing
-mod Runs
+pub mod Runs

@@ -4,7 +4,7 @@ use Rattle.std.proofs.lemmas.Bool.{cases_eq}
 use Rattle.std.proofs.lemmas.List.{append-nil, take_at, drop_at, drop_more, take_all, drop_all}
 use Rattle.std.proofs.lemmas.Bool.{eq-eqb}
 use Rattle.memchr.specs.Find.{Nowhere, Passes, NoneBefore, is_byte}
-use Rattle.keep_disk.specs.Torn.{Torn, Cut}
+use Rattle.keep_disk.specs.Torn.{Torn}
 use Rattle.keep_disk.specs.Image.{overwritten}
 use Rattle.keep_journal.specs.Records.{IsRecordLine, AreLines, block, blocks, at_rest, StandsFor, IsBeforeOrAfter, lines_kept, is_out, lines_taken_out}
 
@@ -144,55 +144,6 @@ module _ (lines : List (List ℕ)) (size : ℕ) (are : AreLines lines) (size_is 
         let all : blocks (lines ++ line ∷ []) ++ [] ≡ blocks lines ++ (block line ++ []) = blocks_push lines line [] in
         let long : length (blocks (lines ++ line ∷ []) ++ []) ≡ length (blocks lines ++ (block line ++ [])) = ap length all in
         omega (arith, size_is, long, length-append (blocks (lines ++ line ∷ [])) [], length-append (blocks lines) (block line ++ []), length-append (block line) [], length-block line)
-
--- what a front of an end that begins with no record begins with
-take_back : (n : ℕ) (line rest end : List ℕ) → take n end ≡ block line ++ rest → end ≡ block line ++ (rest ++ drop n end)
-take_back n line rest end is = sym (take-append-drop n end) ∙ ap (λ (l : List ℕ). l ++ drop n end) is ∙ append_assoc (block line) rest (drop n end)
-
-take_past : (xs ys : List ℕ) (m n : ℕ) → m ≡ length xs + n → take m (xs ++ ys) ≡ xs ++ take n ys
-take_past [] ys m n is = let same : m ≡ n = omega arith in ap (λ (k : ℕ). take k ys) same
-take_past (x ∷ xs) ys zero n is = absurd (omega arith)
-take_past (x ∷ xs) ys (suc m) n is = ap (λ (l : List ℕ). x ∷ l) (take_past xs ys m n (omega arith))
-
-module _ (file : List ℕ) (lines : List (List ℕ)) (stands : StandsFor file lines) (size : ℕ) (size_is : size ≡ length (blocks lines)) where
-  pub no_longer : size ≤ length file
-  no_longer = let long : length file ≡ length (blocks lines ++ stands.end) = ap length stands.split in omega (arith, size_is, long, length-append (blocks lines) stands.end)
-
-  -- any cut keeps the records
-  pub cut_keeps : (c : List ℕ) → Cut size file c → StandsFor c lines
-  cut_keeps c cut =
-      let n = length c - size in
-      let whole : c ≡ take (length c) (blocks lines ++ stands.end) = sym cut.front ∙ ap (λ (l : List ℕ). take (length c) l) stands.split in
-      let parts : c ≡ blocks lines ++ take n stands.end = whole ∙ take_past (blocks lines) stands.end (length c) n (omega (arith, cut.no_shorter, no_longer, size_is)) in
-      record {
-        are_lines = stands.are_lines;
-        end = take n stands.end;
-        split = parts;
-        nothing = λ line rest is_line is. stands.nothing line (rest ++ drop n stands.end) is_line (take_back n line rest stands.end is);
-      }
-
-  pub cut_done : take size file ≡ blocks lines
-  cut_done = ap (λ (l : List ℕ). take size l) stands.split ∙ take_at (blocks lines) stands.end size (sym size_is)
-
-  -- one byte is no record
-  pub torn_end : (c : List ℕ) → Torn size 1 (blocks lines) c → StandsFor c lines
-  torn_end c torn =
-      let front : take size c ≡ blocks lines = torn.before ∙ take_all size (blocks lines) (omega (arith, size_is)) in
-      let whole : c ≡ blocks lines ++ drop size c = sym (take-append-drop size c) ∙ ap (λ (l : List ℕ). l ++ drop size c) front in
-      let short : length (drop size c) ≤ 1 = omega (arith, torn.no_longer, size_is, length-drop size c) in
-      record {
-        are_lines = stands.are_lines;
-        end = drop size c;
-        split = whole;
-        nothing = λ line rest is_line is.
-            let long : length (drop size c) ≡ length (block line ++ rest) = ap length is in
-            absurd (omega (arith, short, long, length-append (block line) rest, length-block line));
-      }
-
-  pub written_end : overwritten size (45 ∷ []) (blocks lines) ≡ at_rest lines
-  written_end =
-      ap (λ (l : List ℕ). l ++ 45 ∷ drop (size + 1) (blocks lines)) (take_all size (blocks lines) (omega (arith, size_is)))
-      ∙ ap (λ (l : List ℕ). blocks lines ++ 45 ∷ l) (drop_all (size + 1) (blocks lines) (omega (arith, size_is)))
 
 -- a front in which no line feed stands is a line
 pub line_from : (k : ℕ) (xs : List ℕ) → k ≤ length xs → ((j : ℕ) → j < k → slice_index xs j ≢ 10) → IsRecordLine (take k xs)

@@ -1,13 +1,13 @@
 -- What runs of several steps leave, and what they keep.
-use Rattle.std.proofs.Common.{◌≡◌, inl, ℕ, ◌≤◌, List, [], ◌∷◌, ◌++◌, false, Option, None, Some, refl, sym, ◌∙◌, ap, subst}
+use Rattle.std.proofs.Common.{◌≡◌, inl, ℕ, ◌≤◌, List, [], ◌∷◌, ◌++◌, false, Some, ◌∙◌, ap}
 use Rattle.std.specs.Str.{bytes_eq}
 use Rattle.keep_disk.specs.Image.{File, Image, with_file_at}
-use Rattle.keep_disk.specs.State.{DiskState, DiskKeeps, LeavesAlone, Elapses, LeavesOnly}
-use Rattle.keep_disk.proofs.Moments.{started, goes_on, weaker, and_then}
+use Rattle.keep_disk.specs.State.{DiskState, DiskKeeps, LeavesOnly}
+use Rattle.keep_disk.proofs.Moments.{weaker, and_then}
 use Rattle.keep_journal.specs.Records.{at_rest, StandsFor, IsBeforeOrAfter}
-use Rattle.keep_journal.specs.Journals.{bytes_of_file, JournalIsAtRest, CrashLeaves, KeepsOthers, Exchanging, Settling, FileIsThere}
-use Rattle.keep_journal.proofs.Readings.{stands_at_rest, stands_once, nothing_in_nil}
-use Rattle.keep_journal.proofs.Steps.{at_path, at_end, leaves_weaker, leaves_then, leaves_past, still_leaves, kept_has, kept_past, first_put, then_exchanged}
+use Rattle.keep_journal.specs.Journals.{bytes_of_file, JournalIsAtRest, CrashLeaves, KeepsOthers, FileIsThere}
+use Rattle.keep_journal.proofs.Readings.{stands_at_rest}
+use Rattle.keep_journal.proofs.Steps.{at_path, at_end, leaves_weaker, leaves_then, kept_has, kept_past}
 
 -- the file's records, where it is at rest with them
 pub rest_has : (path : List ℕ) (lines : List (List ℕ)) (size : ℕ) (t : DiskState) → JournalIsAtRest path lines size t → (d : Image) → t.may_leave d → StandsFor (bytes_of_file (d path)) lines
@@ -45,34 +45,3 @@ module _ (path target : List ℕ) (file : File) (apart : bytes_eq path target �
     seen = others.seen target apart ∙ there.seen;
     is_kept = kept_past path target t u apart others there.is_kept (λ c left. let l = at_end t u (CrashLeaves path P t) run counts c left in (l.0, l.1, l.2));
   }
-
--- the records are settled
-pub settled_leaves : (path target : List ℕ) (file : File) (lines : List (List ℕ)) (line : List ℕ) (apart : bytes_eq path target ≡ false) (size : ℕ) (s t u : DiskState)
-    → LeavesOnly s t (CrashLeaves path (IsBeforeOrAfter lines line) s) → ((m : ℕ) (c : Image) → m ≤ t.moment → t.may_leave c → t.left_since m c)
-    → JournalIsAtRest path (lines ++ line ∷ []) size t → LeavesOnly t u (Exchanging path target file (λ f. StandsFor f []) t) → LeavesOnly s u (Settling path target file lines line s)
-settled_leaves path target file lines line apart size s t u first counts rest second =
-    and_then s t u (Settling path target file lines line s) (Exchanging path target file (λ f. StandsFor f []) t)
-    (weaker s t (CrashLeaves path (IsBeforeOrAfter lines line) s) (Settling path target file lines line s) first (first_put path target file lines line apart s))
-    second
-    (then_exchanged path target file lines line apart s t (at_end s t (CrashLeaves path (IsBeforeOrAfter lines line) s) first counts) (rest_has path (lines ++ line ∷ []) size t rest))
-
--- no bytes stand for no records
-pub none_stand : StandsFor [] []
-none_stand = record { are_lines = tt; end = []; split = refl; nothing = nothing_in_nil }
-
--- a run after a read
-pub read_then : (path : List ℕ) (P Q : List ℕ → Type 0) (s t u : DiskState) → ((c : Image) → s.left_since s.moment c → s.may_leave c) → LeavesAlone s t → Elapses s t → ((f : List ℕ) → Q f → P f)
-    → LeavesOnly t u (CrashLeaves path Q t) → LeavesOnly s u (CrashLeaves path P s)
-read_then path P Q s t u only alone time means second =
-    and_then s t u (CrashLeaves path P s) (CrashLeaves path Q t)
-    (goes_on s s t (CrashLeaves path P s) (started s (CrashLeaves path P s) only (still_leaves path P s)) time (λ c now. still_leaves path P s c (alone.crash c now)))
-    second (λ c left. leaves_weaker path Q P s means c (leaves_past path Q s t alone.crash c left))
-
--- where there is no file there are no records
-pub none_there : (file : Option File) (lines : List (List ℕ)) → file ≡ None → StandsFor (bytes_of_file file) lines → [] ≡ lines
-none_there file lines none stands = stands_once [] [] lines none_stand (subst (λ (o : Option File). StandsFor (bytes_of_file o) lines) none stands)
-
--- where there is one, they are those of its bytes
-pub bytes_there : (seen : Option File) (bytes : List ℕ) (lines : List (List ℕ)) → ((file : File) × (seen ≡ Some file) × (bytes ≡ file.bytes)) → StandsFor (bytes_of_file seen) lines → StandsFor bytes lines
-bytes_there seen bytes lines there stands =
-    subst (λ (b : List ℕ). StandsFor b lines) (sym there.2) (subst (λ (o : Option File). StandsFor (bytes_of_file o) lines) there.1 stands)

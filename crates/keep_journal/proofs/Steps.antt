@@ -7,7 +7,7 @@ use Rattle.keep_disk.specs.Image.{File, Image, SameElsewhere, image_changed, wit
 use Rattle.keep_disk.specs.Torn.{Tears, MovesFile, IsTornFile}
 use Rattle.keep_disk.specs.State.{DiskState, DiskKeeps, OutcomesFollow, IsAfter, LeavesOnly}
 use Rattle.keep_journal.specs.Records.{StandsFor, IsBeforeOrAfter}
-use Rattle.keep_journal.specs.Journals.{bytes_of_file, CrashLeaves, KeepsOthers, Exchanging, Settling}
+use Rattle.keep_journal.specs.Journals.{bytes_of_file, CrashLeaves, KeepsOthers, Exchanging}
 
 pub other_side : {X : Type 0} (b : Bool) (x y : X) → b ≡ false → (if b then x else y) ≡ y
 other_side true x y is = absurd (true≢false is)
@@ -120,33 +120,6 @@ module _ (path target : List ℕ) (file : File) (P : List ℕ → Type 0) (apart
         ap (λ (image : Image). image target) moved ∙ at_path target (λ _. Some file) after.0,
         inl (ap (λ (image : Image). image path) moved ∙ elsewhere_changed target (λ _. Some file) after.0 path (apart_back path target apart)),
       )
-
--- a journal that is settled
-module _ (path target : List ℕ) (file : File) (lines : List (List ℕ)) (line : List ℕ) (apart : bytes_eq path target ≡ false) (s : DiskState) where
-  pub first_put : (c : Image) → CrashLeaves path (IsBeforeOrAfter lines line) s c → Settling path target file lines line s c
-  first_put c left = record {
-    was = left.0;
-    before = left.1;
-    elsewhere = λ other p q. left.2 other p;
-    both = inl (left.2 target apart, left.3);
-  }
-
-  pub then_exchanged : (t : DiskState) → ((d : Image) → t.may_leave d → CrashLeaves path (IsBeforeOrAfter lines line) s d)
-      → ((d : Image) → t.may_leave d → StandsFor (bytes_of_file (d path)) (lines ++ line ∷ []))
-      → (c : Image) → Exchanging path target file (λ f. StandsFor f []) t c → Settling path target file lines line s c
-  then_exchanged t before stands c x =
-      let from = before x.was x.before in
-      let same_stands : c path ≡ x.was path → StandsFor (bytes_of_file (c path)) (lines ++ line ∷ []) =
-      λ same. subst (λ (o : Option File). StandsFor (bytes_of_file o) (lines ++ line ∷ [])) (sym same) (stands x.was x.before) in
-      record {
-        was = from.0;
-        before = from.1;
-        elsewhere = λ other p q. x.elsewhere other p q ∙ from.2 other p;
-        both = ⊎_elim
-            (λ old. inl (old.0 ∙ from.2 target apart, inr (inr (same_stands old.1))))
-            (λ new. inr (new.0, ⊎_elim (λ same. inl (same_stands same)) (λ none. inr none) new.1))
-            x.both;
-      }
 
 -- a run after a call that changed nothing
 pub leaves_past : (path : List ℕ) (P : List ℕ → Type 0) (s t : DiskState) → ((c : Image) → t.may_leave c → s.may_leave c) → (c : Image) → CrashLeaves path P t c → CrashLeaves path P s c

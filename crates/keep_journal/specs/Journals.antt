@@ -1,10 +1,10 @@
 -- Journals: what a journal holds, and what a crash leaves of it.
 -- Source: this project's own.
-use Rattle.std.specs.Prelude.{◌≡◌, ◌⊎◌, ℕ, List, [], ◌∷◌, ◌++◌, length, Bool, false, IsTrue, Option, None, Some}
+use Rattle.std.specs.Prelude.{◌≡◌, ◌⊎◌, ℕ, List, [], length, Bool, false, IsTrue, Option, None, Some}
 use Rattle.std.specs.Str.{bytes_eq}
 use Rattle.keep_disk.specs.Image.{File, Image, SameElsewhere}
 use Rattle.keep_disk.specs.State.{DiskState, DiskKeeps}
-use Rattle.keep_journal.specs.Records.{AreLines, blocks, at_rest, StandsFor, IsBeforeOrAfter}
+use Rattle.keep_journal.specs.Records.{AreLines, blocks, at_rest, StandsFor}
 use Rattle.keep_journal.specs.declared.journal.Journal.{Journal}
 
 -- the bytes at a path; none where there is no file
@@ -35,7 +35,7 @@ may_have journal = journal.may_be_open
 abbrev pub JournalIsWhole : Journal → DiskState → Type 0
 JournalIsWhole journal s = JournalIsAtRest journal.path.now journal.lines.items journal.size s
 
--- its records are lines; and its file is at rest with them, unless a call has failed since it was written
+-- its records are lines; and its file is at rest with them, where this process has written it and no call has failed since
 pub record JournalHolds (known : Bool) (journal : Journal) (s : DiskState) : Type 0 where
   pub are_lines : AreLines (lines_of_journal journal)
   pub whole : IsTrue known → IsTrue journal.is_whole → JournalIsWhole journal s
@@ -49,16 +49,6 @@ pub record KeepsOthers (path : List ℕ) (old new : DiskState) : Type 0 where
 abbrev pub CrashLeaves : List ℕ → (List ℕ → Type 0) → DiskState → Image → Type 0
 CrashLeaves path P old c = (d : Image) × old.may_leave d × SameElsewhere path d c × ((c path ≡ d path) ⊎ P (bytes_of_file (c path)))
 
--- its file is its records and anything that stands for none, on the disk
-pub record Untidy (journal : Journal) (s : DiskState) : Type 0 where
-  pub are_lines : AreLines (lines_of_journal journal)
-  pub mode : ℕ
-  pub file : List ℕ
-  pub seen : s.seen (path_of_journal journal) ≡ Some (record { mode = mode; bytes = file })
-  pub stands : StandsFor file (lines_of_journal journal)
-  pub size_is : journal.size ≡ length (blocks (lines_of_journal journal))
-  pub is_kept : DiskKeeps (path_of_journal journal) s
-
 -- what a crash leaves while a file takes its place and then the journal's is made anew: the two as they were; or that file in
 -- its place, and the journal's as it was, or with P; and all else as it was
 pub record Exchanging (path target : List ℕ) (file : File) (P : List ℕ → Type 0) (old : DiskState) (c : Image) : Type 0 where
@@ -67,15 +57,6 @@ pub record Exchanging (path target : List ℕ) (file : File) (P : List ℕ → T
   pub elsewhere : (other : List ℕ) → bytes_eq path other ≡ false → bytes_eq target other ≡ false → c other ≡ was other
   pub both : ((c target ≡ was target) × (c path ≡ was path))
       ⊎ ((c target ≡ Some file) × ((c path ≡ was path) ⊎ P (bytes_of_file (c path))))
-
--- what a crash leaves while a journal is settled: the target as it was, and the journal's file as it was or with the records,
--- or with one more; or the target new, and that file with all of these records or with none; and all else as it was
-pub record Settling (path target : List ℕ) (file : File) (lines : List (List ℕ)) (line : List ℕ) (old : DiskState) (c : Image) : Type 0 where
-  pub was : Image
-  pub before : old.may_leave was
-  pub elsewhere : (other : List ℕ) → bytes_eq path other ≡ false → bytes_eq target other ≡ false → c other ≡ was other
-  pub both : ((c target ≡ was target) × ((c path ≡ was path) ⊎ IsBeforeOrAfter lines line (bytes_of_file (c path))))
-      ⊎ ((c target ≡ Some file) × (StandsFor (bytes_of_file (c path)) (lines ++ line ∷ []) ⊎ StandsFor (bytes_of_file (c path)) []))
 
 -- the file at the path has these permission bits and bytes, and is on the disk
 pub record FileIsThere (path : List ℕ) (file : File) (s : DiskState) : Type 0 where

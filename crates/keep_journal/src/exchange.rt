@@ -1,8 +1,8 @@
-ghost use Rattle.std.specs.Prelude.{◌≡◌, ◌⊎◌, ◌∷◌, [], ◌++◌, true, false, IsTrue, IfOk, OnOk, OnErr, List, ℕ};
+ghost use Rattle.std.specs.Prelude.{◌≡◌, [], ◌++◌, true, false, IsTrue, IfOk, OnOk, OnErr, List, ℕ};
 ghost use Rattle.std.specs.Str.{bytes_eq};
 ghost use Rattle.keep_disk.specs.State.{LeavesAlone, Elapses, LeavesOnly, TellsFailure};
-ghost use Rattle.keep_journal.specs.Records.{IsRecordLine, AreLines, StandsFor, lines_kept, lines_taken_out};
-ghost use Rattle.keep_journal.specs.Journals.{JournalIsWhole, JournalHolds, CrashLeaves, Exchanging, Settling, KeepsOthers, FileIsThere, bytes_of_file, path_of_journal, lines_of_journal};
+ghost use Rattle.keep_journal.specs.Records.{AreLines, StandsFor, lines_kept, lines_taken_out};
+ghost use Rattle.keep_journal.specs.Journals.{JournalIsWhole, JournalHolds, CrashLeaves, Exchanging, KeepsOthers, FileIsThere, bytes_of_file, path_of_journal, lines_of_journal};
 
 use crate::Journal;
 use crate::journal::{MOST_BYTES, write_anew};
@@ -67,34 +67,31 @@ impl<'a> Journal<'a> {
         self.exchange(disk, aside, FILE_MODE, &bytes, left)
     }
 
-    /// Makes `target` a file that holds what the records say, and the journal empty. `settling` is a record that says so, for
-    /// a crash between the two: the records with it mean as much as none, beside that file.
+    /// Makes `target` a file with these bytes, and then the journal empty.
     ///
-    /// After an `Err` the journal has the records, with `settling` or without.
-    pub fn settle<D: Disk>(
+    /// After an `Err` the journal has its records.
+    pub fn hand_over<D: Disk>(
         &mut self,
         disk: &mut D,
         target: &str,
         mode: u32,
         bytes: &[u8],
-        settling: Text,
     ) -> Result<(), DiskFault>
         requires apart { bytes_eq (path_of_journal self.old) target.now ≡ false }
-        requires line { IsRecordLine settling }
         requires held { JournalHolds D.is_known self.old (D.state disk.old) }
-        ensures settled { OnOk result ((lines_of_journal self.new ≡ []) × (IsTrue D.is_known → JournalIsWhole self.new (D.state disk.new)
-            × FileIsThere target.now (record { mode = mode; bytes = bytes.now }) (D.state disk.new))) }
-        ensures refused { OnErr result ((lines_of_journal self.new ≡ lines_of_journal self.old) ⊎ (lines_of_journal self.new ≡ lines_of_journal self.old ++ settling ∷ [])) }
+        ensures there { OnOk result (IsTrue D.is_known → FileIsThere target.now (record { mode = mode; bytes = bytes.now }) (D.state disk.new)) }
+        ensures emptied { OnOk result ((lines_of_journal self.new ≡ []) × (IsTrue D.is_known → JournalIsWhole self.new (D.state disk.new))) }
+        ensures refused { OnErr result (lines_of_journal self.new ≡ lines_of_journal self.old) }
         ensures path { path_of_journal self.new ≡ path_of_journal self.old }
         ensures held { JournalHolds D.is_known self.new (D.state disk.new) }
 
-        // A crash at any moment leaves the old file with the records, with the new one or without; or the new file with all of
-        // them or with none.
+        // A crash at any moment leaves the two as they were; or the new file, and the journal as it was or empty.
         ensures any_moment { IsTrue D.is_known → LeavesOnly (D.state disk.old) (D.state disk.new)
-            (Settling (path_of_journal self.old) target.now (record { mode = mode; bytes = bytes.now }) (lines_of_journal self.old) settling (D.state disk.old)) }
+            (Exchanging (path_of_journal self.old) target.now (record { mode = mode; bytes = bytes.now }) (λ file. StandsFor file []) (D.state disk.old)) }
+        ensures others { IsTrue D.is_known → (other : List ℕ) → bytes_eq (path_of_journal self.old) other ≡ false → bytes_eq target.now other ≡ false
+            → ((D.state disk.new).seen other ≡ (D.state disk.old).seen other) × ((D.state disk.new).is_sound other ≡ (D.state disk.old).is_sound other) }
         ensures cause { TellsFailure (D.state disk.old) (D.state disk.new) result }
     {
-        self.put(disk, settling)?;
         let none = Vec::new(self.alloc);
         self.exchange(disk, target, mode, bytes, none)
     }
@@ -118,6 +115,8 @@ impl<'a> Journal<'a> {
         ensures held { JournalHolds D.is_known self.new (D.state disk.new) }
         ensures any_moment { IsTrue D.is_known → LeavesOnly (D.state disk.old) (D.state disk.new)
             (Exchanging (path_of_journal self.old) target.now (record { mode = mode; bytes = bytes.now }) (λ file. StandsFor file lines.items) (D.state disk.old)) }
+        ensures others { IsTrue D.is_known → (other : List ℕ) → bytes_eq (path_of_journal self.old) other ≡ false → bytes_eq target.now other ≡ false
+            → ((D.state disk.new).seen other ≡ (D.state disk.old).seen other) × ((D.state disk.new).is_sound other ≡ (D.state disk.old).is_sound other) }
         ensures cause { TellsFailure (D.state disk.old) (D.state disk.new) result }
     {
         replace(disk, target, mode, bytes)?;
@@ -147,7 +146,11 @@ impl<'a> Journal<'a> {
 }
 
 /// The bytes of the file at `path`; none where there is no file.
-fn bytes_at<D: Disk>(alloc: Global, disk: &mut D, path: &str) -> Result<Vec<u8>, DiskFault>
+pub(crate) fn bytes_at<D: Disk>(
+    alloc: Global,
+    disk: &mut D,
+    path: &str,
+) -> Result<Vec<u8>, DiskFault>
     ensures bytes { IfOk result (λ bytes. IsTrue D.is_known → bytes.items ≡ bytes_of_file ((D.state disk.old).seen path.now)) }
     ensures alone { IsTrue D.is_known → LeavesAlone (D.state disk.old) (D.state disk.new) }
     ensures time { IsTrue D.is_known → Elapses (D.state disk.old) (D.state disk.new) }

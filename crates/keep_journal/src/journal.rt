@@ -1,11 +1,11 @@
 ghost use Rattle.std.specs.Prelude.{◌≡◌, ◌∷◌, [], ◌++◌, ◌≤◌, ◌<◌, ◌+◌, length, IsTrue, IfOk, OnOk, OnErr, List, ℕ, ◌^◌, Some, false, true};
-ghost use Rattle.keep_disk.specs.Image.{File};
-ghost use Rattle.keep_disk.specs.State.{DiskKeeps, Touches, LeavesOnly, TellsFailure};
+ghost use Rattle.keep_disk.specs.State.{Elapses, LeavesAlone, LeavesOnly, TellsFailure, Touches};
 ghost use Rattle.keep_journal.specs.Records.{IsRecordLine, AreLines, StandsFor, IsBeforeOrAfter};
-ghost use Rattle.keep_journal.specs.Journals.{JournalIsAtRest, JournalIsWhole, JournalHolds, CrashLeaves, Untidy, KeepsOthers, bytes_of_file, path_of_journal, lines_of_journal, may_have};
+ghost use Rattle.keep_journal.specs.Journals.{JournalIsAtRest, JournalIsWhole, JournalHolds, CrashLeaves, KeepsOthers, bytes_of_file, path_of_journal, lines_of_journal, may_have};
 
-use crate::records::{CLOSED, OPEN, read_records, tail_of, text_of};
-use keep_disk::{Disk, DiskFault, FILE_MODE, cut_synced, replace, write_synced};
+use crate::exchange::bytes_at;
+use crate::records::{OPEN, read_records, tail_of, text_of};
+use keep_disk::{Disk, DiskFault, FILE_MODE, replace, write_synced};
 use keep_moment::Text;
 use std::alloc::Global;
 
@@ -24,15 +24,16 @@ pub struct Journal<'a> {
     pub(crate) lines: Vec<Text>,
     // Where its closed gate stands.
     pub(crate) size: usize,
-    // No call has failed since its file was written.
+    // This process has written its file, and no call has failed since.
     pub(crate) is_whole: bool,
     // The gate of the record that was put last may be open on the disk.
     pub(crate) may_be_open: bool,
 }
 
 impl<'a> Journal<'a> {
-    /// Reads the journal at `path`, and makes one where there is none. What stands after its records is taken away: a record
-    /// of which a crash left a part, which was never acknowledged. It may crash too, at any moment.
+    /// Reads the journal at `path`; where there is no file it has no record. What stands after its records is a record of which a crash
+    /// left a part, which was never acknowledged. Nothing is written: the first record that is put makes the file anew, so that no
+    /// earlier process's word is taken for what is on the disk.
     ///
     /// `TooLong`: the file has more than 128 MiB.
     pub fn open<D: Disk>(
@@ -40,81 +41,23 @@ impl<'a> Journal<'a> {
         disk: &mut D,
         path: &'a str,
     ) -> Result<Journal<'a>, DiskFault>
-        // After a restart, what is read is what is on the disk.
-        requires { IsTrue D.is_known → DiskKeeps path.now (D.state disk.old) }
         ensures read { IfOk result (λ journal. IsTrue D.is_known
             → StandsFor (bytes_of_file ((D.state disk.old).seen path.now)) (lines_of_journal journal)) }
         ensures path { IfOk result (λ journal. path_of_journal journal ≡ path.now) }
-        ensures whole { IfOk result (λ journal. IsTrue D.is_known → JournalIsWhole journal (D.state disk.new)) }
         ensures held { IfOk result (λ journal. JournalHolds D.is_known journal (D.state disk.new)) }
-
-        // A crash at any moment leaves the same records.
-        ensures any_moment { IsTrue D.is_known → (lines : List (List ℕ)) → StandsFor (bytes_of_file ((D.state disk.old).seen path.now)) lines
-            → LeavesOnly (D.state disk.old) (D.state disk.new) (CrashLeaves path.now (λ file. StandsFor file lines) (D.state disk.old)) }
-        ensures others { IsTrue D.is_known → KeepsOthers path.now (D.state disk.old) (D.state disk.new) }
+        ensures alone { IsTrue D.is_known → LeavesAlone (D.state disk.old) (D.state disk.new) }
+        ensures time { IsTrue D.is_known → Elapses (D.state disk.old) (D.state disk.new) }
         ensures cause { TellsFailure (D.state disk.old) (D.state disk.new) result }
     {
-        let Some(text) = disk.read(alloc, path, MOST_BYTES)? else {
-            return Journal::begin(alloc, disk, path);
-        };
-        Journal::recover(alloc, disk, path, text.list())
-    }
-
-    /// The journal with no record, at a path at which there is no file.
-    fn begin<D: Disk>(alloc: Global, disk: &mut D, path: &'a str) -> Result<Journal<'a>, DiskFault>
-        ensures empty { IfOk result (λ journal. lines_of_journal journal ≡ []) }
-        ensures path { IfOk result (λ journal. path_of_journal journal ≡ path.now) }
-        ensures whole { IfOk result (λ journal. IsTrue D.is_known → JournalIsWhole journal (D.state disk.new)) }
-        ensures held { IfOk result (λ journal. JournalHolds D.is_known journal (D.state disk.new)) }
-        ensures any_moment { IsTrue D.is_known → LeavesOnly (D.state disk.old) (D.state disk.new)
-            (CrashLeaves path.now (λ file. StandsFor file []) (D.state disk.old)) }
-        ensures others { IsTrue D.is_known → KeepsOthers path.now (D.state disk.old) (D.state disk.new) }
-        ensures cause { TellsFailure (D.state disk.old) (D.state disk.new) result }
-    {
-        let mut journal = Journal {
+        let bytes = bytes_at(alloc, disk, path)?;
+        Ok(Journal {
             alloc,
             path,
-            lines: Vec::new(alloc),
+            lines: read_records(alloc, &bytes)?,
             size: 0,
             is_whole: false,
             may_be_open: false,
-        };
-        journal.refresh(disk)?;
-        Ok(journal)
-    }
-
-    /// The journal whose file has these bytes.
-    fn recover<D: Disk>(
-        alloc: Global,
-        disk: &mut D,
-        path: &'a str,
-        bytes: &[u8],
-    ) -> Result<Journal<'a>, DiskFault>
-        requires kept { IsTrue D.is_known → DiskKeeps path.now (D.state disk.old) }
-        requires seen { IsTrue D.is_known → (file : File) × ((D.state disk.old).seen path.now ≡ Some file) × (bytes.now ≡ file.bytes) }
-        ensures read { IfOk result (λ journal. StandsFor bytes.now (lines_of_journal journal)) }
-        ensures path { IfOk result (λ journal. path_of_journal journal ≡ path.now) }
-        ensures whole { IfOk result (λ journal. IsTrue D.is_known → JournalIsWhole journal (D.state disk.new)) }
-        ensures held { IfOk result (λ journal. JournalHolds D.is_known journal (D.state disk.new)) }
-        ensures any_moment { IsTrue D.is_known → (lines : List (List ℕ)) → StandsFor bytes.now lines
-            → LeavesOnly (D.state disk.old) (D.state disk.new) (CrashLeaves path.now (λ file. StandsFor file lines) (D.state disk.old)) }
-        ensures others { IsTrue D.is_known → KeepsOthers path.now (D.state disk.old) (D.state disk.new) }
-        ensures cause { TellsFailure (D.state disk.old) (D.state disk.new) result }
-    {
-        let found = read_records(alloc, bytes)?;
-        let journal = Journal {
-            alloc,
-            path,
-            lines: found.lines,
-            size: found.size,
-            is_whole: true,
-            may_be_open: false,
-        };
-        if found.is_at_rest {
-            return Ok(journal);
-        }
-        journal.mend(disk)?;
-        Ok(journal)
+        })
     }
 
     /// The records, in their order.
@@ -215,21 +158,7 @@ impl<'a> Journal<'a> {
         write_synced(disk, self.path, self.size, &[OPEN])
     }
 
-    /// Takes away what stands after the records, and closes the gate there.
-    fn mend<D: Disk>(&self, disk: &mut D) -> Result<(), DiskFault>
-        requires untidy { IsTrue D.is_known → Untidy self.now (D.state disk.old) }
-        ensures whole { OnOk result (IsTrue D.is_known → JournalIsWhole self.now (D.state disk.new)) }
-        ensures any_moment { IsTrue D.is_known → LeavesOnly (D.state disk.old) (D.state disk.new)
-            (CrashLeaves (path_of_journal self.now) (λ file. StandsFor file (lines_of_journal self.now)) (D.state disk.old)) }
-        ensures touches { IsTrue D.is_known → Touches (path_of_journal self.now) (D.state disk.old) (D.state disk.new) }
-        ensures cause { TellsFailure (D.state disk.old) (D.state disk.new) result }
-    {
-        // The cut has to be on the disk first: after a gate that is torn open, what was there would count.
-        cut_synced(disk, self.path, self.size)?;
-        write_synced(disk, self.path, self.size, &[CLOSED])
-    }
-
-    /// Writes the file anew with the records, unless no call has failed since it was written.
+    /// Writes the file anew with the records, unless this process has written it and no call has failed since.
     pub(crate) fn refresh<D: Disk>(&mut self, disk: &mut D) -> Result<(), DiskFault>
         requires held { JournalHolds D.is_known self.old (D.state disk.old) }
         ensures whole { OnOk result (IsTrue D.is_known → JournalIsWhole self.new (D.state disk.new)) }

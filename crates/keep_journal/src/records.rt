@@ -1,5 +1,5 @@
 ghost use Rattle.std.specs.Prelude.{◌≡◌, ◌≢◌, ◌+◌, ◌∷◌, [], ◌++◌, List, ℕ, length, IfOk, MatchOption, IsTrue, ◌↔◌};
-ghost use Rattle.keep_journal.specs.Records.{IsRecordLine, AreLines, block, blocks, at_rest, StandsFor, lines_kept, is_out, lines_taken_out};
+ghost use Rattle.keep_journal.specs.Records.{IsRecordLine, AreLines, block, at_rest, StandsFor, lines_kept, is_out, lines_taken_out};
 
 use keep_moment::Text;
 use memchr::memchr;
@@ -69,22 +69,9 @@ fn first_line(bytes: &[u8]) -> Option<(&[u8], &[u8])>
     Some((&bytes[..end], &bytes[end + 1..]))
 }
 
-/// What was read of a journal's file.
-#[derive(Drop)]
-pub(crate) struct Found {
-    /// The records.
-    pub(crate) lines: Vec<Text>,
-    /// How many bytes they take.
-    pub(crate) size: usize,
-    /// Whether nothing but a closed gate comes after them.
-    pub(crate) is_at_rest: bool,
-}
-
 /// The records for which these bytes stand.
-pub(crate) fn read_records(alloc: Global, bytes: &[u8]) -> Result<Found, AllocError>
-    ensures stands { IfOk result (λ found. StandsFor bytes.now found.lines.items) }
-    ensures size { IfOk result (λ found. found.size ≡ length (blocks found.lines.items)) }
-    ensures at_rest { IfOk result (λ found. IsTrue found.is_at_rest → bytes.now ≡ at_rest found.lines.items) }
+pub(crate) fn read_records(alloc: Global, bytes: &[u8]) -> Result<Vec<Text>, AllocError>
+    ensures { IfOk result (λ lines. StandsFor bytes.now lines.items) }
 {
     let mut lines = Vec::new(alloc);
     let mut rest = bytes;
@@ -92,18 +79,7 @@ pub(crate) fn read_records(alloc: Global, bytes: &[u8]) -> Result<Found, AllocEr
         lines.push(Text::of(alloc, line)?)?;
         rest = after;
     }
-    Ok(Found {
-        lines,
-        size: bytes.len() - rest.len(),
-        is_at_rest: is_closed_gate(rest),
-    })
-}
-
-/// Whether these bytes are a closed gate and nothing else.
-fn is_closed_gate(bytes: &[u8]) -> bool
-    ensures { IsTrue result ↔ bytes.now ≡ 45 ∷ [] }
-{
-    matches!(bytes, [CLOSED])
+    Ok(lines)
 }
 
 /// The records that are not to be taken out. Those past the end of `outs` stay.

@@ -4,9 +4,9 @@ use Rattle.std.specs.Str.{bytes_eq}
 use Rattle.keep_change.specs.declared.change.Record.{Record}
 use Rattle.keep_change.specs.Records.{record_of}
 use Rattle.keep_disk.specs.Image.{File, Image, SameElsewhere}
-use Rattle.keep_disk.specs.State.{DiskState, Elapses, IsAfter, DiskKeeps, LeavesAlone, LeavesOnly}
+use Rattle.keep_disk.specs.State.{DiskState, Elapses, IsAfter, LeavesAlone, LeavesOnly}
 use Rattle.keep_disk.proofs.Moments.{and_then, goes_on, started}
-use Rattle.keep_journal.specs.Journals.{CrashLeaves, Exchanging, bytes_of_file}
+use Rattle.keep_journal.specs.Journals.{Exchanging, bytes_of_file}
 use Rattle.keep_journal.specs.Records.{StandsFor, lines_kept}
 use Rattle.keep_store.specs.Compacted.{damages, undamaged}
 use Rattle.keep_store.specs.Records.{records_in}
@@ -15,29 +15,17 @@ use Rattle.keep_state.specs.Places.{Places}
 use Rattle.keep_state.proofs.Others.{apart_back, at_end}
 use Rattle.keep_state.specs.Recovers.{LeftByStart}
 
--- what is kept is kept by a call that changes nothing
-pub kept_alone : (path : List ℕ) (s t : DiskState) → LeavesAlone s t → DiskKeeps path s → DiskKeeps path t
-kept_alone path s t alone kept = record {
-  sound = ap (λ (f : List ℕ → Bool). f path) alone.sound ∙ kept.sound;
-  durable = λ c left. kept.durable c (alone.crash c left) ∙ ap (λ (image : Image). image path) (sym alone.seen);
-}
-
-abbrev bytes_there : List ℕ → DiskState → List ℕ
-bytes_there path s = bytes_of_file (s.seen path)
-
-pub stands_alone : (path : List ℕ) (lines : List (List ℕ)) (s t : DiskState) → LeavesAlone s t → StandsFor (bytes_there path s) lines → StandsFor (bytes_there path t) lines
-stands_alone path lines s t alone stands = subst (λ (image : Image). StandsFor (bytes_of_file (image path)) lines) (sym alone.seen) stands
-
 module _ (lines : List (List ℕ)) (places : Places) (s : DiskState) where
   -- the journal's file is as in an image that has P, and no other file is changed but those two
   pub from_one : (d c : Image) → LeftByStart lines places s d → c places.journal ≡ d places.journal
       → ((other : List ℕ) → bytes_eq places.journal other ≡ false → bytes_eq places.aside other ≡ false → bytes_eq places.copy other ≡ false → c other ≡ d other) → LeftByStart lines places s c
   from_one d c has same elsewhere = record {
-    now = has.now;
-    stands = subst (λ (file : Option File). StandsFor (bytes_of_file file) has.now) (sym same) has.stands;
-    same = has.same;
     was = has.was;
     before = has.before;
+    journal = ⊎_elim
+        (λ old. inl (same ∙ old))
+        (λ stands. inr (stands.0, subst (λ (file : Option File). StandsFor (bytes_of_file file) stands.0) (sym same) stands.1, stands.2))
+        has.journal;
     elsewhere = λ other a b e. elsewhere other a b e ∙ has.elsewhere other a b e;
   }
 
@@ -45,41 +33,20 @@ module _ (lines : List (List ℕ)) (places : Places) (s : DiskState) where
   pub anew : (d c : Image) (now : List (List ℕ)) → LeftByStart lines places s d → StandsFor (bytes_of_file (c places.journal)) now → records_in now ≡ records_in lines
       → ((other : List ℕ) → bytes_eq places.journal other ≡ false → bytes_eq places.aside other ≡ false → bytes_eq places.copy other ≡ false → c other ≡ d other) → LeftByStart lines places s c
   anew d c now has stands same elsewhere = record {
-    now = now;
-    stands = stands;
-    same = same;
     was = has.was;
     before = has.before;
+    journal = inr (now, stands, same);
     elsewhere = λ other a b e. elsewhere other a b e ∙ has.elsewhere other a b e;
   }
 
-  module _ (kept : DiskKeeps places.journal s) (stands : StandsFor (bytes_there places.journal s) lines) where
-    pub as_before : (c : Image) → s.may_leave c → LeftByStart lines places s c
-    as_before c left = record {
-      now = lines;
-      stands = subst (λ (file : Option File). StandsFor (bytes_of_file file) lines) (sym (kept.durable c left)) stands;
-      same = refl;
-      was = c;
-      before = left;
-      elsewhere = λ other a b e. refl;
-    }
+  pub as_before : (c : Image) → s.may_leave c → LeftByStart lines places s c
+  as_before c left = record { was = c; before = left; journal = inl refl; elsewhere = λ other a b e. refl }
 
-    pub locked : (t : DiskState) → ((c : Image) → s.left_since s.moment c → s.may_leave c) → LeavesAlone s t → Elapses s t → LeavesOnly s t (LeftByStart lines places s)
-    locked t only alone time = goes_on s s t (LeftByStart lines places s) (started s (LeftByStart lines places s) only as_before) time (λ c left. as_before c (alone.crash c left))
-
-    pub opened : (t u : DiskState) → LeavesOnly s t (LeftByStart lines places s) → LeavesAlone s t → LeavesOnly t u (CrashLeaves places.journal (λ f. StandsFor f lines) t) → LeavesOnly s u (LeftByStart lines places s)
-    opened t u run alone second = and_then s t u (LeftByStart lines places s) (CrashLeaves places.journal (λ f. StandsFor f lines) t) run second means
-      where
-        means : (c : Image) → CrashLeaves places.journal (λ f. StandsFor f lines) t c → LeftByStart lines places s c
-        means c (d, left, elsewhere, inl same) = from_one d c (as_before d (alone.crash d left)) same (λ other a b e. elsewhere other a)
-        means c (d, left, elsewhere, inr has) = anew d c lines (as_before d (alone.crash d left)) has refl (λ other a b e. elsewhere other a)
-
-    -- the lock, and then the journal at a path that is its own
-    pub begun : (path : List ℕ) → path ≡ places.journal → (t u : DiskState) → ((c : Image) → s.left_since s.moment c → s.may_leave c) → LeavesAlone s t → Elapses s t
-        → ((ls : List (List ℕ)) → StandsFor (bytes_of_file (t.seen path)) ls → LeavesOnly t u (CrashLeaves path (λ f. StandsFor f ls) t)) → LeavesOnly s u (LeftByStart lines places s)
-    begun path at t u only alone time second =
-        let there : StandsFor (bytes_of_file (t.seen path)) lines = subst (λ (p : List ℕ). StandsFor (bytes_of_file (t.seen p)) lines) (sym at) (stands_alone places.journal lines s t alone stands) in
-        opened t u (locked t only alone time) alone (subst (λ (p : List ℕ). LeavesOnly t u (CrashLeaves p (λ f. StandsFor f lines) t)) at (second lines there))
+  -- the lock, and then the journal is read
+  pub begun : (t u : DiskState) → ((c : Image) → s.left_since s.moment c → s.may_leave c) → LeavesAlone s t → Elapses s t → LeavesAlone t u → Elapses t u → LeavesOnly s u (LeftByStart lines places s)
+  begun t u only alone time alone_then time_then =
+      let locked = goes_on s s t (LeftByStart lines places s) (started s (LeftByStart lines places s) only as_before) time (λ c left. as_before c (alone.crash c left)) in
+      goes_on s t u (LeftByStart lines places s) locked time_then (λ c left. as_before c (alone.crash c (alone_then.crash c left)))
 
   module _ (t u : DiskState) (run : LeavesOnly s t (LeftByStart lines places s)) (counts : (n : ℕ) (c : Image) → n ≤ t.moment → t.may_leave c → t.left_since n c) where
     now_has : (c : Image) → t.may_leave c → LeftByStart lines places s c

@@ -1,6 +1,6 @@
 -- Recovers: the journal of a state folder at a start.
 -- Source: this project's own.
-use Rattle.std.specs.Prelude.{◌≡◌, ◌≢◌, ℕ, ◌-◌, List, ◌++◌, Option, Some, None, Bool, false, IsTrue, length}
+use Rattle.std.specs.Prelude.{◌≡◌, ◌≢◌, ◌⊎◌, ℕ, ◌-◌, List, ◌++◌, Option, Some, None, Bool, false, IsTrue, length}
 use Rattle.std.specs.Str.{bytes_eq}
 use Rattle.keep_disk.specs.Image.{Image}
 use Rattle.keep_disk.specs.State.{DiskState}
@@ -37,11 +37,11 @@ pub record IsRecovered (known : Bool) (places : Places) (s t : DiskState) (r : R
   pub path : path_of_journal r.journal ≡ places.journal
   pub held : JournalHolds known r.journal t
 
--- what a crash leaves meanwhile: a journal with the same records, and all but that, the file aside and the copy as before
+-- what a crash leaves meanwhile: the journal as it might have been left before, or one with the same records; and all but that, the file
+-- aside and the copy as before
 pub record LeftByStart (lines : List (List ℕ)) (places : Places) (s : DiskState) (c : Image) : Type 0 where
-  pub now : List (List ℕ)
-  pub stands : StandsFor (bytes_of_file (c places.journal)) now
-  pub same : records_in now ≡ records_in lines
   pub was : Image
   pub before : s.may_leave was
+  pub journal : (c places.journal ≡ was places.journal)
+      ⊎ ((now : List (List ℕ)) × StandsFor (bytes_of_file (c places.journal)) now × (records_in now ≡ records_in lines))
   pub elsewhere : (other : List ℕ) → bytes_eq places.journal other ≡ false → bytes_eq places.aside other ≡ false → bytes_eq places.copy other ≡ false → c other ≡ was other

@@ -1,16 +1,19 @@
 -- Settles: FILE and the journal become one file, and then the copy is that file too.
 -- Source: this project's own.
-use Rattle.std.specs.Prelude.{◌≡◌, ◌⊎◌, ℕ, List, Option, Some, None, Bool, false, IsTrue, bit_and}
+use Rattle.std.specs.Prelude.{◌≡◌, ◌⊎◌, ℕ, List, [], ◌∷◌, ◌++◌, Option, Some, None, Bool, true, false, IsTrue, bit_and}
 use Rattle.std.specs.Str.{bytes_eq}
 use Rattle.keep_change.specs.Words.{fingerprint}
-use Rattle.keep_disk.specs.Image.{File, Image, with_file_at}
+use Rattle.keep_disk.specs.Image.{File, Image}
 use Rattle.keep_disk.specs.State.{DiskState}
 use Rattle.keep_disk.specs.declared.fault.DiskFault.{DiskFault}
-use Rattle.keep_journal.specs.Journals.{FileIsThere}
+use Rattle.keep_inventory.specs.Served.{Served}
+use Rattle.keep_journal.specs.Journals.{FileIsThere, JournalIsWhole, bytes_of_file}
+use Rattle.keep_journal.specs.Records.{StandsFor}
 use Rattle.keep_store.specs.declared.fault.Unsettled.{Unsettled}
 use Rattle.keep_store.specs.declared.fault.Unsettled.TheVariants as unsettles
 use Rattle.keep_store.specs.declared.store.Store.{Store}
-use Rattle.keep_store.specs.Moved.{IsMovedIf, LeftByMove}
+use Rattle.keep_store.specs.Moved.{IsMovedBook, LeftByMove, SaysAllKept, SaysAlready, SaysByItself, mark_line}
+use Rattle.keep_store.specs.Stores.{book_of, is_sure, journal_of, lines_in}
 use Rattle.keep_state.specs.declared.fault.ReadFault.{ReadFault}
 use Rattle.keep_state.specs.declared.fault.ReadFault.TheVariants as reads
 use Rattle.keep_state.specs.declared.fault.SettleWhy.{SettleWhy}
@@ -46,18 +49,32 @@ abbrev pub unread_why : ReadFault → SettleWhy
 unread_why reads.OutOfMemory = OutOfMemory
 unread_why fault = Unread fault
 
--- the copy, where FILE has another text now
-abbrev pub IsCopiedIf : Bool → Places → Option (List ℕ) → Option DiskFault → DiskState → Type 0
-IsCopiedIf known places None copy s = copy ≡ None
-IsCopiedIf known places (Some text) copy s = IsCopied known places text copy s
+-- the copy is FILE and the journal is empty; or this says why the journal has its records still, and the mark of that text
+abbrev pub IsHandedOver : Bool → Places → List (List ℕ) → List ℕ → Option DiskFault → Store → DiskState → Type 0
+IsHandedOver known places lines text None new t = (lines_in new ≡ []) × (IsTrue known → FileIsThere places.copy (copy_with text) t × JournalIsWhole (journal_of new) t)
+IsHandedOver known places lines text (Some fault) new t = lines_in new ≡ lines ++ mark_line text ∷ []
 
--- FILE has become what is kept, or has said all that before; and the copy is FILE
-pub record IsSettledState {D : Type 0} (known : Bool) (old : Kept D) (copy : Option DiskFault) (new : Kept D) (s t : DiskState) : Type 0 where
+-- FILE has become what is kept, with this text
+pub record IsSettled (known : Bool) (old : Store) (places : Places) (mode : ℕ) (text : List ℕ) (left : Option DiskFault) (new : Store) (t : DiskState) : Type 0 where
+  pub served : Served
+  pub says : SaysAllKept (book_of old) text served
+  pub book : IsMovedBook (book_of old) text served (book_of new)
+  pub by_itself : SaysByItself new
+  pub sure : is_sure new ≡ true
+  pub there : IsTrue known → FileIsThere places.file (record { mode = mode; bytes = text }) t
+  pub handed : IsHandedOver known places (lines_in old) text left new t
+
+-- or it has said all that before
+abbrev pub IsSettledIf : Bool → Store → Places → ℕ → Option (List ℕ) → Option DiskFault → Store → DiskState → Type 0
+IsSettledIf known old places mode (Some text) left new t = IsSettled known old places mode text left new t
+IsSettledIf known old places mode None left new t = (left ≡ None) × ((new ≡ old) × SaysAlready (book_of old))
+
+-- FILE was read, and has become what is kept; and what is not done says why
+pub record IsSettledState {D : Type 0} (known : Bool) (old : Kept D) (left : Option DiskFault) (new : Kept D) (s t : DiskState) : Type 0 where
   pub read : FileRead
   pub was : IsTrue known → IsFileAt old.places.file s read
   pub text : Option (List ℕ)
-  pub moved : IsMovedIf known (store_in old) old.places.file (mode_of read.mode) text (store_in new) t
-  pub copied : IsCopiedIf known old.places text copy t
+  pub settled : IsSettledIf known (store_in old) old.places (mode_of read.mode) text left (store_in new) t
 
 -- FILE is read, and its bytes are those of the last reading, or not
 abbrev pub HasChanged : {D : Type 0} → Bool → Kept D → DiskState → Type 0
@@ -74,9 +91,20 @@ IsWhyUnsettledState known old s (Unwritten fault) = IsUnchanged known old s
 IsWhyUnsettledState known old s (Disk fault) = IsUnchanged known old s
 IsWhyUnsettledState known old s OutOfMemory = Unit {0}
 
--- what a crash leaves meanwhile: all as it might have been left before; or what the settling of FILE leaves, with the copy as it was,
--- or with a new one
+-- what a crash leaves once FILE is there: the old copy, and the journal with every change and the mark of FILE; or FILE as the copy,
+-- and that journal or an empty one; and all else as it was
+pub record HandingOver (store : Store) (places : Places) (mode : ℕ) (text : List ℕ) (s : DiskState) (c : Image) : Type 0 where
+  pub was : Image
+  pub before : s.may_leave was
+  pub elsewhere : (other : List ℕ) → bytes_eq places.file other ≡ false → bytes_eq places.journal other ≡ false → bytes_eq places.copy other ≡ false → c other ≡ was other
+  pub file : c places.file ≡ Some (record { mode = mode; bytes = text })
+  pub both : ((c places.copy ≡ was places.copy) × StandsFor (bytes_of_file (c places.journal)) (lines_in store ++ mark_line text ∷ []))
+      ⊎ ((c places.copy ≡ Some (copy_with text))
+      × (StandsFor (bytes_of_file (c places.journal)) (lines_in store ++ mark_line text ∷ []) ⊎ StandsFor (bytes_of_file (c places.journal)) []))
+
+-- what a crash leaves meanwhile: all as it might have been left before; or what the settling of FILE leaves; or, with FILE, what is left
+-- while the journal is handed over
 abbrev pub LeftBySettling : Store → Places → DiskState → Image → Type 0
 LeftBySettling store places s c = s.may_leave c
-    ⊎ ((file : File) × (d : Image) × (s.seen places.file ≡ Some file) × LeftByMove store places.file (mode_of file.mode) s d
-    × ((c ≡ d) ⊎ ((bytes : List ℕ) × (c ≡ with_file_at places.copy (copy_with bytes) d))))
+    ⊎ ((file : File) × (s.seen places.file ≡ Some file) × (LeftByMove store places.file (mode_of file.mode) s c
+    ⊎ ((text : List ℕ) × (v : Served) × SaysAllKept (book_of store) text v × HandingOver store places (mode_of file.mode) text s c)))

@@ -46,7 +46,7 @@ pub struct Unopened<D> {
 
 impl<'a, D: Disk> State<'a, D> {
     ghost use Rattle.std.specs.Prelude.{◌≡◌, ℕ, IfErr, IfOk, IsTrue, List, option_copied};
-    ghost use Rattle.keep_disk.specs.State.{DiskKeeps, LeavesOnly};
+    ghost use Rattle.keep_disk.specs.State.{LeavesOnly};
     ghost use Rattle.keep_journal.specs.Journals.{bytes_of_file};
     ghost use Rattle.keep_journal.specs.Records.{StandsFor};
     ghost use Rattle.keep_state.specs.Opens.{IsOpenedState, IsWhyUnopened};
@@ -66,8 +66,6 @@ impl<'a, D: Disk> State<'a, D> {
         file: Option<&[u8]>,
         copy: Option<&[u8]>,
     ) -> Result<Opened<'a, D>, Unopened<D>>
-        // After a restart, what is read is what is on the disk.
-        requires { IsTrue D.is_known → DiskKeeps paths.now.journal (D.state disk) }
         ensures opened { IfOk result (λ o. IsOpenedState D.is_known (option_copied file.entry) (option_copied copy.entry) paths.now (D.state disk) (D.state o.state.disk) o) }
         ensures refused { IfErr result (λ u. IsWhyUnopened D.is_known (option_copied file.entry) paths.now (D.state disk) u.why) }
 

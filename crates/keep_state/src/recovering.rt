@@ -1,5 +1,5 @@
 ghost use Rattle.std.specs.Prelude.{IfErr, IfOk, IsTrue, List, ℕ};
-ghost use Rattle.keep_disk.specs.State.{DiskKeeps, LeavesOnly};
+ghost use Rattle.keep_disk.specs.State.{LeavesOnly};
 ghost use Rattle.keep_journal.specs.Journals.{bytes_of_file};
 ghost use Rattle.keep_journal.specs.Records.{StandsFor};
 ghost use Rattle.keep_state.specs.Opens.{IsOfFolder};
@@ -25,8 +25,8 @@ pub struct Recovered<'a> {
     pub aside: Option<DiskFault>,
 }
 
-/// The journal of the folder, which is held from then on. Lines that no command has made go to the file aside first. It may crash too, at
-/// any moment.
+/// The journal of the folder, which is held from then on. Lines that no command has made go to the file aside first; nothing else is
+/// written. It may crash too, at any moment.
 ///
 /// # Errors
 ///
@@ -37,13 +37,11 @@ pub fn recover<'a, D: Disk>(
     disk: &mut D,
     paths: &'a Paths,
 ) -> Result<Recovered<'a>, OpenFault>
-    // After a restart, what is read is what is on the disk.
-    requires { IsTrue D.is_known → DiskKeeps paths.now.journal (D.state disk.old) }
     ensures recovered { IfOk result (IsRecovered D.is_known paths.now (D.state disk.old) (D.state disk.new)) }
 
     ensures refused { IfErr result (IsOfFolder D.is_known paths.now (D.state disk.old)) }
 
-    // A crash at any moment leaves the same records.
+    // A crash at any moment leaves the journal as it might have been left before, or the same records.
     ensures any_moment { IsTrue D.is_known → (lines : List (List ℕ)) → StandsFor (bytes_of_file ((D.state disk.old).seen paths.now.journal)) lines
         → LeavesOnly (D.state disk.old) (D.state disk.new) (LeftByStart lines paths.now (D.state disk.old)) }
 {

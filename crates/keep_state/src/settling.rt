@@ -7,26 +7,29 @@ use keep_disk::{Disk, DiskFault};
 const NOT_OTHERS: u32 = 0o770;
 
 impl<'a, D: Disk> State<'a, D> {
-    ghost use Rattle.std.specs.Prelude.{◌≡◌, ℕ, IfErr, IfOk, IsTrue, OnErr, List};
+    ghost use Rattle.std.specs.Prelude.{◌≡◌, ℕ, IfErr, IfOk, IsTrue, OnErr, List, true};
     ghost use Rattle.keep_disk.specs.State.{LeavesOnly};
     ghost use Rattle.keep_store.specs.Moved.{HasMarkAtMost};
+    ghost use Rattle.keep_store.specs.Stores.{is_sure};
     ghost use Rattle.keep_waiting.specs.Keepers.{waiting_in};
     ghost use Rattle.keep_state.specs.Settles.{IsSettledState, IsWhyUnsettledState, LeftBySettling};
     ghost use Rattle.keep_state.specs.States.{book_in, store_in};
 
-    /// Makes FILE one that says all that is kept, with its mode but for the bits of others, and the journal empty; and then FILE's bytes
-    /// the last good copy. The inner fault is why the copy could not be kept. Where FILE says all that already, nothing is written.
+    /// Makes FILE one that says all that is kept, with its mode but for the bits of others; then FILE's bytes the last good copy; and then
+    /// the journal empty. The inner fault is why the journal was left as it was, since the copy could not be kept or the journal not be
+    /// emptied: FILE says all that is kept all the same. Where FILE said all that before, nothing is written.
     ///
     /// # Errors
     ///
     /// The first in the order of [`SettleWhy`]. What is kept is as it was then; the journal may have a mark more, which changes
-    /// nothing, and the disk may have the new file where that has failed.
+    /// nothing. Where the disk may have the new FILE, no change is taken until FILE is read anew.
     pub fn settle(&mut self) -> Result<Option<DiskFault>, SettleWhy>
-        ensures settled { IfOk result (λ copy. IsSettledState D.is_known self.old copy self.new (D.state self.old.disk) (D.state self.new.disk)) }
+        ensures settled { IfOk result (λ left. IsSettledState D.is_known self.old left self.new (D.state self.old.disk) (D.state self.new.disk)) }
         ensures refused { IfErr result (IsWhyUnsettledState D.is_known self.old (D.state self.old.disk)) }
         ensures waiting { waiting_in self.new.keeper ≡ waiting_in self.old.keeper }
         ensures book { OnErr result (book_in self.new ≡ book_in self.old) }
         ensures lines { OnErr result (HasMarkAtMost (store_in self.old) (store_in self.new)) }
+        ensures sure { OnErr result (is_sure (store_in self.new) ≡ true → is_sure (store_in self.old) ≡ true) }
         ensures places { self.new.places ≡ self.old.places }
 
         // A crash at any moment leaves what gives the same inventory.
@@ -40,10 +43,9 @@ impl<'a, D: Disk> State<'a, D> {
         let Some(text) = moved else {
             return Ok(None);
         };
-        let kept = self
+        let left = self
             .keeper
-            .store()
-            .keep_copy(&mut self.disk, self.paths.copy(), text.as_bytes());
-        Ok(kept.err())
+            .hand_over(&mut self.disk, self.paths.copy(), text.as_bytes());
+        Ok(left.err())
     }
 }

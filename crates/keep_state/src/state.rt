@@ -44,7 +44,7 @@ pub struct Reloaded {
 }
 
 impl<'a, D: Disk> State<'a, D> {
-    ghost use Rattle.std.specs.Prelude.{◌≡◌, IfErr, IfOk, IsTrue, None, Ok, OnErr, OnOk, Some, false, if◌then◌else◌};
+    ghost use Rattle.std.specs.Prelude.{◌≡◌, Err, IfErr, IfOk, IsTrue, None, Ok, OnErr, OnOk, Some, false, true, if◌then◌else◌};
     ghost use Rattle.keep_agent.specs.Waiting.{changed, is_rebuilding_due};
     ghost use Rattle.keep_disk.specs.State.{IsAfter, LeavesAlone, LeavesOnly};
     ghost use Rattle.keep_disk.specs.Torn.{MovesFile};
@@ -53,9 +53,10 @@ impl<'a, D: Disk> State<'a, D> {
     ghost use Rattle.keep_served.specs.ForGood.{inventory_for_good};
     ghost use Rattle.keep_store.specs.Books.{HasSecrets, IsBookIf, IsFileFaultOf};
     ghost use Rattle.keep_store.specs.Compacted.{compacted_lines, is_worth};
-    ghost use Rattle.keep_store.specs.Entering.{IsWhyNot, line_for_change, may_hold};
+    ghost use Rattle.keep_store.specs.declared.fault.TakeFault.TheVariants.{Unread};
+    ghost use Rattle.keep_store.specs.Entering.{line_for_change, may_hold};
     ghost use Rattle.keep_store.specs.Records.{records_in};
-    ghost use Rattle.keep_store.specs.Stores.{ChangeIsTaken, journal_of, lines_in, path_of_store};
+    ghost use Rattle.keep_store.specs.Stores.{ChangeIsTaken, IsWhyUntaken, is_sure, journal_of, lines_in, path_of_store};
     ghost use Rattle.keep_waiting.specs.Keepers.{InventoryIsGiven, waiting_in};
     ghost use Rattle.keep_state.specs.Noted.{note_lines};
     ghost use Rattle.keep_state.specs.Reading.{IsFileAt, IsWhyUnread};
@@ -73,7 +74,9 @@ impl<'a, D: Disk> State<'a, D> {
         ensures taken { IfOk result (λ need. ChangeIsTaken (store_in self.old) name what need (store_in self.new)) }
         ensures waiting { IfOk result (λ need. waiting_in self.new.keeper ≡ (if need then waiting_in self.old.keeper else changed (waiting_in self.old.keeper) now)) }
         ensures acknowledged { OnOk result (IsTrue D.is_known → JournalIsWhole (journal_of (store_in self.new)) (D.state self.new.disk)) }
-        ensures refused { IfErr result (IsWhyNot (book_in self.old) name what) }
+        ensures refused { IfErr result (IsWhyUntaken (store_in self.old) name what) }
+        ensures unsure { is_sure (store_in self.old) ≡ false → result ≡ Err Unread }
+        ensures sure { is_sure (store_in self.new) ≡ is_sure (store_in self.old) }
         ensures book { OnErr result (book_in self.new ≡ book_in self.old) }
         ensures lines { OnErr result (lines_in (store_in self.new) ≡ lines_in (store_in self.old)) }
         ensures unchanged { OnErr result (waiting_in self.new.keeper ≡ waiting_in self.old.keeper) }
@@ -92,7 +95,7 @@ impl<'a, D: Disk> State<'a, D> {
     }
 
     /// Serves what these bytes say, which are those of FILE, with every change of the journal in order; that waits for a rebuilding from
-    /// now on. They are the last good copy then.
+    /// now on. They are the last good copy then, and changes are taken again.
     ///
     /// # Errors
     ///
@@ -102,6 +105,8 @@ impl<'a, D: Disk> State<'a, D> {
         ensures waiting { OnOk result (waiting_in self.new.keeper ≡ changed (waiting_in self.old.keeper) now) }
         ensures copied { IfOk result (λ r. IsCopied D.is_known self.old.places bytes.now r.copy (D.state self.new.disk)) }
         ensures refused { IfErr result (IsFileFaultOf (Some bytes.now)) }
+        ensures sure { OnOk result (is_sure (store_in self.new) ≡ true) }
+        ensures still { OnErr result (is_sure (store_in self.new) ≡ is_sure (store_in self.old)) }
         ensures book { OnErr result (book_in self.new ≡ book_in self.old) }
         ensures unchanged { OnErr result (waiting_in self.new.keeper ≡ waiting_in self.old.keeper) }
         ensures journal { journal_of (store_in self.new) ≡ journal_of (store_in self.old) }

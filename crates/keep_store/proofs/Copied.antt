@@ -13,13 +13,13 @@ on_ok (Ok x) f a = f a
 on_ok (Err e) f a = tt
 
 -- a path is another than this one either way round
-apart_back : (path other : List ℕ) → bytes_eq path other ≡ false → bytes_eq other path ≡ false
+pub apart_back : (path other : List ℕ) → bytes_eq path other ≡ false → bytes_eq other path ≡ false
 apart_back path other apart = ⊎_elim
     (λ same. absurd (true≢false (sym ((bytes_eq-Decides path other).1 (sym ((bytes_eq-Decides other path).0 same))) ∙ apart)))
     (λ no. no)
     (cases_Bool (bytes_eq other path))
 
-at_path : (path : List ℕ) (file : File) (image : Image) → with_file_at path file image path ≡ Some file
+pub at_path : (path : List ℕ) (file : File) (image : Image) → with_file_at path file image path ≡ Some file
 at_path path file image = ap (λ (b : Bool). if b then Some file else image path) ((bytes_eq-Decides path path).1 refl)
 
 pub moves_elsewhere : (copy : List ℕ) (file : File) (a b : Image) → MovesFile copy file a b → SameElsewhere copy a b

@@ -24,7 +24,7 @@ use Rattle.keep_disk.specs.declared.fault.DiskFault.TheVariants as disks
 use Rattle.keep_settle.specs.declared.fault.SettleFault.{SettleFault}
 use Rattle.keep_settle.specs.declared.fault.SettleFault.TheVariants as settles
 use Rattle.keep_store.specs.declared.fault.TakeFault.{TakeFault}
-use Rattle.keep_store.specs.declared.fault.TakeFault.TheVariants.{NoRecord, Refused, Unwritten, Disk, Unsure}
+use Rattle.keep_store.specs.declared.fault.TakeFault.TheVariants.{Unread, NoRecord, Refused, Unwritten, Disk, Unsure}
 use Rattle.keep_store.specs.declared.fault.TakeFault.TheVariants as takes
 use Rattle.keep_store.specs.Books.{Book}
 use Rattle.keep_store.specs.Entering.{IsReadAs, IsWhyNot, line_for_change, may_hold, record_for}
@@ -108,6 +108,7 @@ unwritten_unmade b c fault is = is
 
 -- what is unrecorded or unmade is not taken
 pub unrecorded_why : (b : Book) (name : List ℕ) (w : What) (fault : TakeFault) → IsUnrecorded b name w fault → IsWhyNot b name w fault
+unrecorded_why b name w Unread why = absurd why
 unrecorded_why b name w NoRecord why = why
 unrecorded_why b name w (Refused fault) why = absurd why
 unrecorded_why b name w (Unwritten fault) why = absurd why
@@ -116,6 +117,7 @@ unrecorded_why b name w (Unsure fault) why = absurd why
 unrecorded_why b name w takes.OutOfMemory why = tt
 
 pub unmade_why : (b : Book) (name : List ℕ) (w : What) (c : Change) (fault : TakeFault) → IsReadAs b.file name w c → IsUnmade b c fault → IsWhyNot b name w fault
+unmade_why b name w c Unread read why = absurd why
 unmade_why b name w c NoRecord read why = absurd why
 unmade_why b name w c (Refused fault) read why = (c, (read, why))
 unmade_why b name w c (Unwritten fault) read why = (c, (read, why))

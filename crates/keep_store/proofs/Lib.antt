@@ -10,4 +10,5 @@ pub mod Copied
 pub mod Digits
 pub mod Marked
 pub mod MovedOn
+pub mod Marking
 pub mod Undamaged

@@ -1,5 +1,5 @@
 -- A change that was taken, or not, beside its journal on a disk.
-use Rattle.std.proofs.Common.{◌≡◌, ◌⊎◌, inr, ℕ, Bool, List, [], ◌∷◌, ◌++◌, false, Result, Ok, refl, sym, ap, ◌∙◌}
+use Rattle.std.proofs.Common.{◌≡◌, ◌⊎◌, inr, ℕ, Bool, List, [], ◌∷◌, ◌++◌, true, false, Result, Ok, refl, sym, ap, subst, ◌∙◌}
 use Rattle.std.specs.Prelude.{string_bytes}
 use Rattle.keep_change.specs.declared.change.What.{What}
 use Rattle.keep_change.specs.declared.fault.ChangeFault.{ChangeFault}
@@ -10,14 +10,31 @@ use Rattle.keep_disk.specs.State as disks
 use Rattle.keep_journal.specs.Journals.{KeepsOthers}
 use Rattle.keep_store.specs.declared.entering.Entered.{Entered}
 use Rattle.keep_store.specs.declared.store.Store.{Store}
+use Rattle.keep_store.specs.declared.fault.TakeFault.{TakeFault}
+use Rattle.keep_store.specs.declared.fault.TakeFault.TheVariants.{Unread, NoRecord, Refused, Unwritten, Disk, Unsure}
+use Rattle.keep_store.specs.declared.fault.TakeFault.TheVariants as takes
 use Rattle.keep_store.specs.Books.{Book}
+use Rattle.keep_store.specs.Entering.{IsWhyNot}
 use Rattle.keep_store.specs.Records.{records_in}
-use Rattle.keep_store.specs.Stores.{IsReplayed, book_of, lines_in}
+use Rattle.keep_store.specs.Stores.{IsReplayed, IsWhyUntaken, book_of, is_sure, lines_in}
 use Rattle.keep_store.specs.code.Entered.{IsEntered}
 use Rattle.keep_store.proofs.Replayed.{taken_rows}
 
 pub others_stay : (path : List ℕ) (s : disks.DiskState) → KeepsOthers path s s
 others_stay path s = record { seen = λ other apart. refl; sound = λ other apart. refl }
+
+-- a change is not taken beside a file of which the store is sure, or because it is not
+pub why_untaken : (store : Store) (name : List ℕ) (w : What) (fault : TakeFault) → is_sure store ≡ true → IsWhyNot (book_of store) name w fault → IsWhyUntaken store name w fault
+why_untaken store name w Unread sure why = absurd why
+why_untaken store name w NoRecord sure why = (sure, why)
+why_untaken store name w (Refused fault) sure why = (sure, why)
+why_untaken store name w (Unwritten fault) sure why = (sure, why)
+why_untaken store name w (Disk fault) sure why = (sure, why)
+why_untaken store name w (Unsure fault) sure why = (sure, why)
+why_untaken store name w takes.OutOfMemory sure why = (sure, why)
+
+pub unread_why : (store : Store) (name : List ℕ) (w : What) (fault : TakeFault) → fault ≡ Unread → is_sure store ≡ false → IsWhyUntaken store name w fault
+unread_why store name w fault same unsure = subst (IsWhyUntaken store name w) (sym same) unsure
 
 abbrev rows_made : Book → Result (List Row) ChangeFault
 rows_made b = Ok b.rows

@@ -11,7 +11,7 @@ use Rattle.keep_change.specs.Changes.{change_refusal, rows_changed}
 use Rattle.keep_change.specs.Records.{IsRecord, record_of, record_text}
 use Rattle.keep_change.specs.Said.{said}
 use Rattle.keep_store.specs.declared.fault.TakeFault.{TakeFault}
-use Rattle.keep_store.specs.declared.fault.TakeFault.TheVariants.{NoRecord, Refused, Unwritten, Disk, Unsure, OutOfMemory}
+use Rattle.keep_store.specs.declared.fault.TakeFault.TheVariants.{Unread, NoRecord, Refused, Unwritten, Disk, Unsure, OutOfMemory}
 use Rattle.keep_store.specs.Books.{Book}
 
 -- a change of the entry of that name, beside what the file says of it
@@ -33,9 +33,10 @@ pub record IsChanged (old : Book) (name : List ℕ) (w : What) (c : Change) (new
   pub file : new.file ≡ old.file
   pub secrets : new.secrets ≡ old.secrets
 
--- why a change is not taken: no journal can write it; it is refused by name; the file that says what there is then would be none,
+-- why a change is not taken beside a file that was read: no journal can write it; it is refused by name; the file that says what there is then would be none,
 -- as over 1 MiB; the disk failed, and has it or not; or memory was refused
 abbrev pub IsWhyNot : Book → List ℕ → What → TakeFault → Type 0
+IsWhyNot b name w Unread = ⊥
 IsWhyNot b name w NoRecord = IsRecord (record_for b.file name w) → ⊥
 IsWhyNot b name w (Refused fault) = (c : Change) × (IsReadAs b.file name w c × (change_refusal b.file.margin b.rows c.name c.what ≡ Some fault))
 IsWhyNot b name w (Unwritten fault) = (c : Change) × (IsReadAs b.file name w c × (change_refusal b.file.margin b.rows c.name c.what ≡ None))

@@ -1,21 +1,23 @@
 -- Moved: a file that has become what a store keeps, and the store then.
 -- Source: this project's own.
-use Rattle.std.specs.Prelude.{◌≡◌, ◌⊎◌, ℕ, List, [], ◌∷◌, ◌++◌, Bool, false, IsTrue, Option, Some, None}
+use Rattle.std.specs.Prelude.{◌≡◌, ◌⊎◌, ℕ, List, [], ◌∷◌, ◌++◌, Bool, true, false, IsTrue, Option, Some, None}
 use Rattle.std.specs.Str.{bytes_eq}
 use Rattle.keep_change.specs.declared.change.Record.TheVariants.{Settling}
 use Rattle.keep_change.specs.Records.{record_text}
 use Rattle.keep_change.specs.Words.{fingerprint}
-use Rattle.keep_disk.specs.Image.{Image}
+use Rattle.keep_disk.specs.Image.{File, Image}
 use Rattle.keep_disk.specs.State.{DiskState}
 use Rattle.keep_inventory.specs.Served.{Served}
 use Rattle.keep_journal.specs.Journals as journals
+use Rattle.keep_journal.specs.Records.{IsBeforeOrAfter, StandsFor}
 use Rattle.keep_settle.specs.Order.{in_order}
 use Rattle.keep_settle.specs.Settled.{TextIsSettled}
 use Rattle.keep_store.specs.declared.fault.Unsettled.{Unsettled}
 use Rattle.keep_store.specs.declared.fault.Unsettled.TheVariants.{Changed, Unwritten, Disk, OutOfMemory}
 use Rattle.keep_store.specs.declared.store.Store.{Store}
 use Rattle.keep_store.specs.Books.{Book, IsBook, file_of}
-use Rattle.keep_store.specs.Stores.{book_of, journal_of, lines_in, path_of_store}
+use Rattle.keep_change.specs.Replay.{replayed}
+use Rattle.keep_store.specs.Stores.{book_of, is_sure, journal_of, lines_in, path_of_store}
 
 -- the text of a file that says all that is kept, with the margin of the one that was read, and what is read of it
 abbrev pub SaysAllKept : Book → List ℕ → Served → Type 0
@@ -31,12 +33,18 @@ pub record IsMovedBook (old : Book) (text : List ℕ) (v : Served) (new : Book) 
   pub rows : new.rows ≡ in_order old.rows
   pub secrets : new.secrets ≡ old.secrets
 
--- the file is there with that text, and no change is left in the journal
+-- the file gives the rows by itself, without a journal
+abbrev pub SaysByItself : Store → Type 0
+SaysByItself store = (replayed (book_of store).file []).rows ≡ (book_of store).rows
+
+-- the file is there with that text, and the journal has its mark
 pub record IsMoved (known : Bool) (old : Store) (target : List ℕ) (mode : ℕ) (text : List ℕ) (new : Store) (s : DiskState) : Type 0 where
   pub served : Served
   pub says : SaysAllKept (book_of old) text served
   pub book : IsMovedBook (book_of old) text served (book_of new)
-  pub lines : lines_in new ≡ []
+  pub lines : lines_in new ≡ lines_in old ++ mark_line text ∷ []
+  pub by_itself : SaysByItself new
+  pub sure : is_sure new ≡ true
   pub there : IsTrue known → journals.FileIsThere target (record { mode = mode; bytes = text }) s
   pub whole : IsTrue known → journals.JournalIsWhole (journal_of new) s
 
@@ -61,9 +69,23 @@ IsWhyUnsettled b present (Unwritten fault) = fingerprint present ≡ b.file.mark
 IsWhyUnsettled b present (Disk fault) = fingerprint present ≡ b.file.mark
 IsWhyUnsettled b present OutOfMemory = Unit {0}
 
+-- the file at the target has the bytes that were read of it, or is as it was, and the store was sure of it
+pub record IsStillThere (known : Bool) (old : Store) (target present : List ℕ) (s t : DiskState) : Type 0 where
+  pub sure : is_sure old ≡ true
+  pub bytes : IsTrue known → (t.seen target ≡ s.seen target) ⊎ (journals.bytes_of_file (t.seen target) ≡ present)
+
+-- what a crash leaves while a file takes its place, after a mark in the journal at this path: the old one, and the journal's file as it
+-- was or with these records, or with the mark besides; or the new one, with all of them; and all else as it was
+pub record Marking (path target : List ℕ) (file : File) (lines : List (List ℕ)) (mark : List ℕ) (old : DiskState) (c : Image) : Type 0 where
+  pub was : Image
+  pub before : old.may_leave was
+  pub elsewhere : (other : List ℕ) → bytes_eq path other ≡ false → bytes_eq target other ≡ false → c other ≡ was other
+  pub both : ((c target ≡ was target) × ((c path ≡ was path) ⊎ IsBeforeOrAfter lines mark (journals.bytes_of_file (c path))))
+      ⊎ ((c target ≡ Some file) × StandsFor (journals.bytes_of_file (c path)) (lines ++ mark ∷ []))
+
 -- what a crash leaves meanwhile: all as it might have been left before; or the old file, with the mark of the new text or without
--- it; or the new one, with every change and that mark, or with none
+-- it; or the new one, with every change and that mark
 abbrev pub LeftByMove : Store → List ℕ → ℕ → DiskState → Image → Type 0
 LeftByMove store target mode s c = s.may_leave c
     ⊎ ((text : List ℕ) × (v : Served) × SaysAllKept (book_of store) text v
-    × journals.Settling (path_of_store store) target (record { mode = mode; bytes = text }) (lines_in store) (mark_line text) s c)
+    × Marking (path_of_store store) target (record { mode = mode; bytes = text }) (lines_in store) (mark_line text) s c)

@@ -12,10 +12,12 @@ use Rattle.keep_change.specs.Replay.{replayed}
 use Rattle.keep_journal.specs.declared.journal.Journal.{Journal}
 use Rattle.keep_journal.specs.Journals.{lines_of_journal, path_of_journal}
 use Rattle.keep_store.specs.declared.fault.FileFault.{FileFault}
+use Rattle.keep_store.specs.declared.fault.TakeFault.{TakeFault}
+use Rattle.keep_store.specs.declared.fault.TakeFault.TheVariants.{Unread}
 use Rattle.keep_store.specs.declared.store.Opened.{Opened}
 use Rattle.keep_store.specs.declared.store.Store.{Store}
 use Rattle.keep_store.specs.Books.{Book, IsBookIf, IsFileFaultOf}
-use Rattle.keep_store.specs.Entering.{IsChanged, line_for_change}
+use Rattle.keep_store.specs.Entering.{IsChanged, IsWhyNot, line_for_change}
 use Rattle.keep_store.specs.Records.{records_in}
 
 abbrev pub journal_of : Store → Journal
@@ -29,6 +31,15 @@ lines_in store = lines_of_journal store.journal
 
 abbrev pub path_of_store : Store → List ℕ
 path_of_store store = path_of_journal store.journal
+
+-- the file is the one that was read, as far as the store has changed it
+abbrev pub is_sure : Store → Bool
+is_sure store = store.is_sure
+
+-- why a change is not taken: the file may be another one; or it is not taken beside this one
+abbrev pub IsWhyUntaken : Store → List ℕ → What → TakeFault → Type 0
+IsWhyUntaken store name w Unread = is_sure store ≡ false
+IsWhyUntaken store name w fault = (is_sure store ≡ true) × IsWhyNot store.book name w fault
 
 -- the rows are those that the file and the journal give together: all changes that were acknowledged, in order
 abbrev pub IsReplayed : Store → Type 0

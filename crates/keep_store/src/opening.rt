@@ -12,8 +12,8 @@ use keep_journal::Journal;
 use std::alloc::Global;
 
 impl<'a> Store<'a> {
-    ghost use Rattle.std.specs.Prelude.{◌≡◌, IfErr, IfOk, option_copied};
-    ghost use Rattle.keep_store.specs.Stores.{IsReplayed, StoreIsOpened};
+    ghost use Rattle.std.specs.Prelude.{◌≡◌, IfErr, IfOk, option_copied, true};
+    ghost use Rattle.keep_store.specs.Stores.{IsReplayed, StoreIsOpened, is_sure};
     ghost use Rattle.keep_store.specs.Books.{IsFileFaultOf};
 
     /// What is kept from a start on, over an open journal: the file with these bytes and every change of the journal in order; or, where
@@ -32,6 +32,7 @@ impl<'a> Store<'a> {
     ) -> Result<Opened<'a>, FileFault>
         ensures opened { IfOk result (StoreIsOpened (option_copied file.entry) (option_copied copy.entry) journal.entry) }
         ensures replayed { IfOk result (λ opened. IsReplayed opened.store) }
+        ensures sure { IfOk result (λ opened. is_sure opened.store ≡ true) }
         ensures refused { IfErr result (IsFileFaultOf (option_copied file.entry)) }
     {
         let records = records_in(alloc, journal.records())?;
@@ -40,6 +41,7 @@ impl<'a> Store<'a> {
             alloc,
             journal,
             book,
+            is_sure: true,
         };
         Ok(Opened {
             store,

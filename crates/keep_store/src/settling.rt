@@ -1,6 +1,8 @@
-ghost use Rattle.std.specs.Prelude.{◌≡◌, IfErr, IfOk, MatchOption, OnOk, false, true};
+ghost use Rattle.std.specs.Prelude.{◌≡◌, IfErr, IfOk, IsTrue, MatchOption, OnOk, false, true};
 ghost use Rattle.std.specs.Str.{bytes_eq};
 ghost use Rattle.keep_change.specs.Words.{fingerprint};
+ghost use Rattle.keep_disk.specs.State.{Elapses, LeavesAlone};
+ghost use Rattle.keep_journal.specs.Journals.{bytes_of_file};
 ghost use Rattle.keep_store.specs.Moved.{IsWhyUnsettled, SaysAlready, mark_line};
 ghost use Rattle.keep_store.specs.code.Moving.{IsMoving};
 
@@ -8,7 +10,7 @@ use crate::book::Book;
 use crate::fault::Unsettled;
 use crate::store::Store;
 use keep_change::{Record, fingerprint};
-use keep_disk::Disk;
+use keep_disk::{Disk, DiskFault, FILE_MODE, replace};
 use keep_moment::Text;
 use keep_settle::{SettleFault, Settled, settle};
 use std::alloc::{AllocError, Global};
@@ -25,20 +27,23 @@ struct Moving {
 }
 
 impl<'a> Store<'a> {
-    ghost use Rattle.std.specs.Prelude.{◌≡◌, IfErr, IfOk, IsTrue, OnErr, false, option_map, string_bytes};
+    ghost use Rattle.std.specs.Prelude.{◌≡◌, [], ℕ, List, IfErr, IfOk, IsTrue, OnErr, OnOk, false, true, option_map, string_bytes};
     ghost use Rattle.std.specs.Str.{bytes_eq};
-    ghost use Rattle.keep_disk.specs.State.{LeavesOnly, TellsFailure};
-    ghost use Rattle.keep_journal.specs.Journals.{JournalHolds};
-    ghost use Rattle.keep_store.specs.Moved.{HasMarkAtMost, IsMovedIf, IsWhyUnsettled, LeftByMove};
-    ghost use Rattle.keep_store.specs.Stores.{IsReplayed, book_of, journal_of, path_of_store};
+    ghost use Rattle.keep_disk.specs.State.{IsAfter, LeavesOnly};
+    ghost use Rattle.keep_disk.specs.Torn.{MovesFile};
+    ghost use Rattle.keep_journal.specs.Journals.{Exchanging, FileIsThere, JournalHolds, JournalIsWhole, bytes_of_file};
+    ghost use Rattle.keep_journal.specs.Records.{StandsFor};
+    ghost use Rattle.keep_store.specs.Moved.{HasMarkAtMost, IsMovedIf, IsStillThere, IsWhyUnsettled, LeftByMove, SaysByItself};
+    ghost use Rattle.keep_store.specs.Stores.{IsReplayed, book_of, is_sure, journal_of, lines_in, path_of_store};
 
-    /// Makes the file at `target`, whose bytes are `present`, one that says all that is kept, with this mode, and the journal empty.
-    /// It gives the text that the file has then; `None`: the file says all that already, and nothing is written.
+    /// Makes the file at `target`, whose bytes are `present`, one that says all that is kept, with this mode. It gives the text that the
+    /// file has then; `None`: the file says all that already, and nothing is written. The journal keeps its records, with a mark by which
+    /// they change nothing of that file, until it is emptied.
     ///
     /// # Errors
     ///
     /// The first in the order of [`Unsettled`]. What is kept is as it was then; the journal may have a mark more, which changes
-    /// nothing, and the disk may have the new file where that has failed.
+    /// nothing. Where the disk may have the new file, the store is not sure of it any more, and takes no change until it is read anew.
     pub fn settle<D: Disk>(
         &mut self,
         disk: &mut D,
@@ -53,6 +58,7 @@ impl<'a> Store<'a> {
         ensures refused { IfErr result (IsWhyUnsettled (book_of self.old) present.now) }
         ensures book { OnErr result (book_of self.new ≡ book_of self.old) }
         ensures lines { OnErr result (HasMarkAtMost self.old self.new) }
+        ensures sure { OnErr result (is_sure self.new ≡ true → IsStillThere D.is_known self.old target.now present.now (D.state disk.old) (D.state disk.new)) }
         ensures path { path_of_store self.new ≡ path_of_store self.old }
         ensures held { JournalHolds D.is_known (journal_of self.new) (D.state disk.new) }
         ensures replayed { IsReplayed self.new }
@@ -65,10 +71,83 @@ impl<'a> Store<'a> {
             return Ok(None);
         };
         let Moving { text, line, book } = moving;
-        self.journal
-            .settle(disk, target, mode, text.as_bytes(), line)?;
+        self.journal.put(disk, line)?;
+        self.put_in_place(disk, target, mode, text.as_bytes(), present)?;
         self.book = book;
         Ok(Some(text))
+    }
+
+    /// Makes these bytes, which are those of the file, the last good copy, at a path that is not the journal's; and then the journal
+    /// empty, where the file says all that is kept by itself. Where the copy cannot be kept the journal has its records.
+    pub fn hand_over<D: Disk>(
+        &mut self,
+        disk: &mut D,
+        copy: &str,
+        bytes: &[u8],
+    ) -> Result<(), DiskFault>
+        requires said { SaysByItself self.old }
+        requires apart { bytes_eq (path_of_store self.old) copy.now ≡ false }
+        requires held { JournalHolds D.is_known (journal_of self.old) (D.state disk.old) }
+        requires replayed { IsReplayed self.old }
+        ensures there { OnOk result (IsTrue D.is_known → FileIsThere copy.now (record { mode = FILE_MODE; bytes = bytes.now }) (D.state disk.new)) }
+        ensures emptied { OnOk result ((lines_in self.new ≡ []) × (IsTrue D.is_known → JournalIsWhole (journal_of self.new) (D.state disk.new))) }
+        ensures refused { OnErr result (lines_in self.new ≡ lines_in self.old) }
+        ensures book { book_of self.new ≡ book_of self.old }
+        ensures sure { is_sure self.new ≡ is_sure self.old }
+        ensures path { path_of_store self.new ≡ path_of_store self.old }
+        ensures held { JournalHolds D.is_known (journal_of self.new) (D.state disk.new) }
+        ensures replayed { IsReplayed self.new }
+
+        // A crash at any moment leaves the old copy with the records; or the new one, with the records or with none.
+        ensures any_moment { IsTrue D.is_known → LeavesOnly (D.state disk.old) (D.state disk.new)
+            (Exchanging (path_of_store self.old) copy.now (record { mode = FILE_MODE; bytes = bytes.now }) (λ file. StandsFor file []) (D.state disk.old)) }
+        ensures others { IsTrue D.is_known → (other : List ℕ) → bytes_eq (path_of_store self.old) other ≡ false → bytes_eq copy.now other ≡ false
+            → ((D.state disk.new).seen other ≡ (D.state disk.old).seen other) × ((D.state disk.new).is_sound other ≡ (D.state disk.old).is_sound other) }
+    {
+        self.journal.hand_over(disk, copy, FILE_MODE, bytes)
+    }
+
+    // Puts a file with these bytes in the place of one whose bytes are `present`. Where that fails, it is looked at which one is there.
+    fn put_in_place<D: Disk>(
+        &mut self,
+        disk: &mut D,
+        target: &str,
+        mode: u32,
+        bytes: &[u8],
+        present: &[u8],
+    ) -> Result<(), DiskFault>
+        requires apart { bytes_eq (path_of_store self.old) target.now ≡ false }
+        requires whole { IsTrue D.is_known → JournalIsWhole (journal_of self.old) (D.state disk.old) }
+        ensures there { OnOk result (IsTrue D.is_known → FileIsThere target.now (record { mode = mode; bytes = bytes.now }) (D.state disk.new)) }
+        ensures placed { OnOk result (is_sure self.new ≡ true) }
+        ensures sure { OnErr result (is_sure self.new ≡ true → (is_sure self.old ≡ true) × (IsTrue D.is_known → bytes_of_file ((D.state disk.new).seen target.now) ≡ present.now)) }
+        ensures rest { self.new ≡ record self.old { is_sure = self.new.is_sure } }
+        ensures whole { IsTrue D.is_known → JournalIsWhole (journal_of self.old) (D.state disk.new) }
+        ensures any_moment { IsTrue D.is_known → LeavesOnly (D.state disk.old) (D.state disk.new)
+            (IsAfter (MovesFile target.now (record { mode = mode; bytes = bytes.now })) (D.state disk.old)) }
+    {
+        match replace(disk, target, mode, bytes) {
+            Ok(()) => {
+                self.is_sure = true;
+                Ok(())
+            }
+            Err(fault) => {
+                self.is_sure &= has_still(self.alloc, disk, target, present);
+                Err(fault)
+            }
+        }
+    }
+}
+
+// Whether the file at a path has these bytes still, as far as it can be read.
+fn has_still<D: Disk>(alloc: Global, disk: &mut D, path: &str, bytes: &[u8]) -> bool
+    ensures still { IsTrue D.is_known → result ≡ true → bytes_of_file ((D.state disk.old).seen path.now) ≡ bytes.now }
+    ensures alone { IsTrue D.is_known → LeavesAlone (D.state disk.old) (D.state disk.new) }
+    ensures time { IsTrue D.is_known → Elapses (D.state disk.old) (D.state disk.new) }
+{
+    match disk.read(alloc, path, bytes.len()) {
+        Ok(Some(found)) => found.list() == bytes,
+        Ok(None) | Err(_) => false,
     }
 }
 

@@ -17,6 +17,8 @@ pub struct Store<'a> {
     pub(crate) alloc: Global,
     pub(crate) journal: Journal<'a>,
     pub(crate) book: Book,
+    // The book's file is the one that stands at its place, as far as this store has changed it.
+    pub(crate) is_sure: bool,
 }
 
 /// A store at a start.
@@ -31,7 +33,7 @@ pub struct Opened<'a> {
 }
 
 impl<'a> Store<'a> {
-    ghost use Rattle.std.specs.Prelude.{◌≡◌, Ok, IfErr, IfOk, OnErr, OnOk, IsTrue, false, option_copied};
+    ghost use Rattle.std.specs.Prelude.{◌≡◌, Ok, Err, IfErr, IfOk, OnErr, OnOk, IsTrue, true, false, option_copied};
     ghost use Rattle.std.specs.Str.{bytes_eq};
     ghost use Rattle.keep_disk.specs.State.{IsAfter, LeavesOnly, OutcomesFollow, TellsFailure};
     ghost use Rattle.keep_disk.specs.Torn.{MovesFile};
@@ -39,15 +41,23 @@ impl<'a> Store<'a> {
     ghost use Rattle.keep_journal.specs.Records.{IsBeforeOrAfter, StandsFor};
     ghost use Rattle.keep_served.specs.ForGood.{inventory_for_good};
     ghost use Rattle.keep_store.specs.Books.{HasSecrets, IsBookIf, IsFileFaultOf};
-    ghost use Rattle.keep_store.specs.Entering.{IsWhyNot, line_for_change, may_hold};
+    ghost use Rattle.keep_store.specs.declared.fault.TakeFault.TheVariants.{Unread};
+    ghost use Rattle.keep_store.specs.Entering.{line_for_change, may_hold};
     ghost use Rattle.keep_store.specs.Records.{records_in};
-    ghost use Rattle.keep_store.specs.Stores.{ChangeIsTaken, IsReplayed, book_of, journal_of, lines_in, path_of_store};
+    ghost use Rattle.keep_store.specs.Stores.{ChangeIsTaken, IsReplayed, IsWhyUntaken, book_of, is_sure, journal_of, lines_in, path_of_store};
 
     /// What the file says, and what is served.
     pub fn book(&self) -> &Book
         ensures { result.now ≡ book_of self.now }
     {
         &self.book
+    }
+
+    /// Whether the file is the one that was read: no settling has failed since that may have put another in its place.
+    pub fn is_sure(&self) -> bool
+        ensures { result ≡ is_sure self.now }
+    {
+        self.is_sure
     }
 
     /// The lines of the journal, in order.
@@ -65,17 +75,21 @@ impl<'a> Store<'a> {
     }
 
     /// Makes a change of the entry of that name. At `Ok` it is acknowledged: each crash from then on leaves a journal that has it.
-    /// `true` is a need, which the Watch takes by itself; any other change takes a rebuilding.
+    /// `true` is a need, which the Watch takes by itself; any other change takes a rebuilding. No change is taken beside a file that may
+    /// not be the one that a start reads.
     ///
     /// # Errors
     ///
     /// The first in the order of [`TakeFault`]. All is as it was then; but that the disk may have the change, where that is said.
+    #[tactic(auto, using(crate::proofs::Taken::why_untaken, crate::proofs::Taken::unread_why))]
     pub fn take<D: Disk>(&mut self, disk: &mut D, name: Name, what: What) -> Result<bool, TakeFault>
         requires held { JournalHolds D.is_known (journal_of self.old) (D.state disk.old) }
         requires replayed { IsReplayed self.old }
         ensures taken { IfOk result (λ need. ChangeIsTaken self.old name what need self.new) }
         ensures acknowledged { OnOk result (IsTrue D.is_known → JournalIsWhole (journal_of self.new) (D.state disk.new)) }
-        ensures refused { IfErr result (IsWhyNot (book_of self.old) name what) }
+        ensures refused { IfErr result (IsWhyUntaken self.old name what) }
+        ensures unsure { is_sure self.old ≡ false → result ≡ Err Unread }
+        ensures sure { is_sure self.new ≡ is_sure self.old }
         ensures book { OnErr result (book_of self.new ≡ book_of self.old) }
         ensures lines { OnErr result (lines_in self.new ≡ lines_in self.old) }
         ensures path { OnErr result (path_of_store self.new ≡ path_of_store self.old) }
@@ -91,6 +105,7 @@ impl<'a> Store<'a> {
             (CrashLeaves (path_of_store self.old) (λ file. StandsFor file (lines_in self.old)) (D.state disk.old))) }
         ensures others { IsTrue D.is_known → KeepsOthers (path_of_store self.old) (D.state disk.old) (D.state disk.new) }
     {
+        self.refuse_unread()?;
         let entered = self.book.enter(self.alloc, name, what)?;
         let Entered {
             line,
@@ -107,6 +122,19 @@ impl<'a> Store<'a> {
         }
     }
 
+    // Refuses every change as long as the file may not be the one that was read.
+    fn refuse_unread(&self) -> Result<(), TakeFault>
+        ensures sure { OnOk result (is_sure self.now ≡ true) }
+        ensures refused { IfErr result (λ fault. (fault ≡ Unread) × (is_sure self.now ≡ false)) }
+        ensures unsure { is_sure self.now ≡ false → result ≡ Err Unread }
+    {
+        if self.is_sure {
+            Ok(())
+        } else {
+            Err(TakeFault::Unread)
+        }
+    }
+
     /// Serves what a file with these bytes says from now on, with every change of the journal in order; a note on each of them that was
     /// not made, by the place of its record. Where the file is refused, all is as it was.
     ///
@@ -119,12 +147,15 @@ impl<'a> Store<'a> {
         ensures reloaded { IfOk result (λ notes. IsBookIf (option_copied bytes.entry) (records_in (lines_in self.old)) (book_of self.old).secrets (book_of self.new) notes.items) }
         ensures refused { IfErr result (IsFileFaultOf (option_copied bytes.entry)) }
         ensures unchanged { OnErr result (book_of self.new ≡ book_of self.old) }
+        ensures sure { OnOk result (is_sure self.new ≡ true) }
+        ensures still { OnErr result (is_sure self.new ≡ is_sure self.old) }
         ensures journal { journal_of self.new ≡ journal_of self.old }
         ensures replayed { IsReplayed self.new }
     {
         let records = records_in(self.alloc, self.journal.records())?;
         let (book, notes) = read_if(self.alloc, bytes, &records, &self.book.secrets)?;
         self.book = book;
+        self.is_sure = true;
         Ok(notes)
     }
 
@@ -134,6 +165,7 @@ impl<'a> Store<'a> {
         requires replayed { IsReplayed self.old }
         ensures taken { OnOk result (HasSecrets (book_of self.old) secrets.items (book_of self.new)) }
         ensures unchanged { OnErr result (book_of self.new ≡ book_of self.old) }
+        ensures sure { is_sure self.new ≡ is_sure self.old }
         ensures journal { journal_of self.new ≡ journal_of self.old }
         ensures replayed { IsReplayed self.new }
     {

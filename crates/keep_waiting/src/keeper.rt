@@ -1,6 +1,6 @@
 use keep_agent::Waiting;
 use keep_change::{Note, What};
-use keep_disk::{Disk, DiskFault};
+use keep_disk::{Disk, DiskFault, FILE_MODE};
 use keep_inventory::Inventory;
 use keep_moment::Name;
 use keep_settle::SettleFault;
@@ -17,19 +17,20 @@ pub struct Keeper<'a> {
 }
 
 impl<'a> Keeper<'a> {
-    ghost use Rattle.std.specs.Prelude.{◌≡◌, IfErr, IfOk, IsTrue, None, Ok, OnErr, OnOk, false, if◌then◌else◌, option_copied, option_map, string_bytes};
+    ghost use Rattle.std.specs.Prelude.{◌≡◌, [], ℕ, List, Err, IfErr, IfOk, IsTrue, None, Ok, OnErr, OnOk, false, true, if◌then◌else◌, option_copied, option_map, string_bytes};
     ghost use Rattle.std.specs.Str.{bytes_eq};
     ghost use Rattle.keep_agent.specs.Waiting.{changed, is_rebuilding_due};
     ghost use Rattle.keep_disk.specs.State.{LeavesOnly};
-    ghost use Rattle.keep_journal.specs.Journals.{CrashLeaves, JournalHolds, JournalIsWhole, KeepsOthers};
+    ghost use Rattle.keep_journal.specs.Journals.{CrashLeaves, Exchanging, FileIsThere, JournalHolds, JournalIsWhole, KeepsOthers};
     ghost use Rattle.keep_journal.specs.Records.{IsBeforeOrAfter, StandsFor};
     ghost use Rattle.keep_store.specs.Books.{HasSecrets, IsBookIf, IsFileFaultOf};
     ghost use Rattle.keep_store.specs.Compacted.{compacted_lines, is_worth};
-    ghost use Rattle.keep_store.specs.Entering.{IsWhyNot, line_for_change, may_hold};
-    ghost use Rattle.keep_store.specs.Moved.{HasMarkAtMost, IsMovedIf, IsWhyUnsettled, LeftByMove};
+    ghost use Rattle.keep_store.specs.declared.fault.TakeFault.TheVariants.{Unread};
+    ghost use Rattle.keep_store.specs.Entering.{line_for_change, may_hold};
+    ghost use Rattle.keep_store.specs.Moved.{HasMarkAtMost, IsMovedIf, IsStillThere, IsWhyUnsettled, LeftByMove, SaysByItself};
     ghost use Rattle.keep_waiting.specs.Keepers.{InventoryIsGiven, store_of, waiting_in};
     ghost use Rattle.keep_store.specs.Records.{records_in};
-    ghost use Rattle.keep_store.specs.Stores.{ChangeIsTaken, IsReplayed, book_of, journal_of, lines_in, path_of_store};
+    ghost use Rattle.keep_store.specs.Stores.{ChangeIsTaken, IsReplayed, IsWhyUntaken, book_of, is_sure, journal_of, lines_in, path_of_store};
 
     /// A store of which no change waits.
     pub fn new(store: Store<'a>) -> Keeper<'a>
@@ -63,7 +64,9 @@ impl<'a> Keeper<'a> {
         ensures taken { IfOk result (λ need. ChangeIsTaken (store_of self.old) name what need (store_of self.new)) }
         ensures waiting { IfOk result (λ need. waiting_in self.new ≡ (if need then waiting_in self.old else changed (waiting_in self.old) now)) }
         ensures acknowledged { OnOk result (IsTrue D.is_known → JournalIsWhole (journal_of (store_of self.new)) (D.state disk.new)) }
-        ensures refused { IfErr result (IsWhyNot (book_of (store_of self.old)) name what) }
+        ensures refused { IfErr result (IsWhyUntaken (store_of self.old) name what) }
+        ensures unsure { is_sure (store_of self.old) ≡ false → result ≡ Err Unread }
+        ensures sure { is_sure (store_of self.new) ≡ is_sure (store_of self.old) }
         ensures book { OnErr result (book_of (store_of self.new) ≡ book_of (store_of self.old)) }
         ensures lines { OnErr result (lines_in (store_of self.new) ≡ lines_in (store_of self.old)) }
         ensures path { OnErr result (path_of_store (store_of self.new) ≡ path_of_store (store_of self.old)) }
@@ -89,6 +92,8 @@ impl<'a> Keeper<'a> {
         ensures reloaded { IfOk result (λ notes. IsBookIf (option_copied bytes.entry) (records_in (lines_in (store_of self.old))) (book_of (store_of self.old)).secrets (book_of (store_of self.new)) notes.items) }
         ensures waiting { OnOk result (waiting_in self.new ≡ changed (waiting_in self.old) now) }
         ensures refused { IfErr result (IsFileFaultOf (option_copied bytes.entry)) }
+        ensures sure { OnOk result (is_sure (store_of self.new) ≡ true) }
+        ensures still { OnErr result (is_sure (store_of self.new) ≡ is_sure (store_of self.old)) }
         ensures book { OnErr result (book_of (store_of self.new) ≡ book_of (store_of self.old)) }
         ensures unchanged { OnErr result (waiting_in self.new ≡ waiting_in self.old) }
         ensures journal { journal_of (store_of self.new) ≡ journal_of (store_of self.old) }
@@ -106,6 +111,7 @@ impl<'a> Keeper<'a> {
         ensures waiting { OnOk result (waiting_in self.new ≡ changed (waiting_in self.old) now) }
         ensures book { OnErr result (book_of (store_of self.new) ≡ book_of (store_of self.old)) }
         ensures unchanged { OnErr result (waiting_in self.new ≡ waiting_in self.old) }
+        ensures sure { is_sure (store_of self.new) ≡ is_sure (store_of self.old) }
         ensures journal { journal_of (store_of self.new) ≡ journal_of (store_of self.old) }
         ensures replayed { IsReplayed (store_of self.new) }
     {
@@ -130,6 +136,7 @@ impl<'a> Keeper<'a> {
         ensures refused { IfErr result (IsWhyUnsettled (book_of (store_of self.old)) present.now) }
         ensures book { OnErr result (book_of (store_of self.new) ≡ book_of (store_of self.old)) }
         ensures lines { OnErr result (HasMarkAtMost (store_of self.old) (store_of self.new)) }
+        ensures sure { OnErr result (is_sure (store_of self.new) ≡ true → IsStillThere D.is_known (store_of self.old) target.now present.now (D.state disk.old) (D.state disk.new)) }
         ensures path { path_of_store (store_of self.new) ≡ path_of_store (store_of self.old) }
         ensures held { JournalHolds D.is_known (journal_of (store_of self.new)) (D.state disk.new) }
         ensures replayed { IsReplayed (store_of self.new) }
@@ -138,11 +145,40 @@ impl<'a> Keeper<'a> {
         self.store.settle(disk, target, mode, present)
     }
 
+    /// Keeps the copy, and then takes every record out of the journal, as [`Store::hand_over`] does. What waits goes on waiting.
+    pub fn hand_over<D: Disk>(
+        &mut self,
+        disk: &mut D,
+        copy: &str,
+        bytes: &[u8],
+    ) -> Result<(), DiskFault>
+        requires said { SaysByItself (store_of self.old) }
+        requires apart { bytes_eq (path_of_store (store_of self.old)) copy.now ≡ false }
+        requires held { JournalHolds D.is_known (journal_of (store_of self.old)) (D.state disk.old) }
+        requires replayed { IsReplayed (store_of self.old) }
+        ensures there { OnOk result (IsTrue D.is_known → FileIsThere copy.now (record { mode = FILE_MODE; bytes = bytes.now }) (D.state disk.new)) }
+        ensures emptied { OnOk result ((lines_in (store_of self.new) ≡ []) × (IsTrue D.is_known → JournalIsWhole (journal_of (store_of self.new)) (D.state disk.new))) }
+        ensures refused { OnErr result (lines_in (store_of self.new) ≡ lines_in (store_of self.old)) }
+        ensures waiting { waiting_in self.new ≡ waiting_in self.old }
+        ensures book { book_of (store_of self.new) ≡ book_of (store_of self.old) }
+        ensures sure { is_sure (store_of self.new) ≡ is_sure (store_of self.old) }
+        ensures path { path_of_store (store_of self.new) ≡ path_of_store (store_of self.old) }
+        ensures held { JournalHolds D.is_known (journal_of (store_of self.new)) (D.state disk.new) }
+        ensures replayed { IsReplayed (store_of self.new) }
+        ensures any_moment { IsTrue D.is_known → LeavesOnly (D.state disk.old) (D.state disk.new)
+            (Exchanging (path_of_store (store_of self.old)) copy.now (record { mode = FILE_MODE; bytes = bytes.now }) (λ file. StandsFor file []) (D.state disk.old)) }
+        ensures others { IsTrue D.is_known → (other : List ℕ) → bytes_eq (path_of_store (store_of self.old)) other ≡ false → bytes_eq copy.now other ≡ false
+            → ((D.state disk.new).seen other ≡ (D.state disk.old).seen other) × ((D.state disk.new).is_sound other ≡ (D.state disk.old).is_sound other) }
+    {
+        self.store.hand_over(disk, copy, bytes)
+    }
+
     /// Takes void records out of the journal, as [`Store::compact`] does. What waits goes on waiting.
     pub fn compact<D: Disk>(&mut self, disk: &mut D) -> Result<bool, DiskFault>
         requires held { JournalHolds D.is_known (journal_of (store_of self.old)) (D.state disk.old) }
         requires replayed { IsReplayed (store_of self.old) }
         ensures worth { IfOk result (λ done. done ≡ is_worth (lines_in (store_of self.old))) }
+        ensures sure { is_sure (store_of self.new) ≡ is_sure (store_of self.old) }
         ensures lines { IfOk result (λ done. lines_in (store_of self.new) ≡ (if done then compacted_lines (lines_in (store_of self.old)) else lines_in (store_of self.old))) }
         ensures waiting { waiting_in self.new ≡ waiting_in self.old }
         ensures refused { OnErr result (lines_in (store_of self.new) ≡ lines_in (store_of self.old)) }

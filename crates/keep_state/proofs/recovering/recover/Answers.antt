@@ -11,13 +11,13 @@ pub returns-in_err-journal-clause-any_moment : goal.returns-in_err-journal-claus
 returns-in_err-journal-clause-any_moment g c known lines stands =
     let s = g.D.Disk.state in
     let p = c.args.paths.now in
-    begun lines p (s c.args.disk.now) (c.requires known) stands c.journal.result.now c.journal.ensures.value (s c.lock-2.new.self) (s c.open.new.disk) (g.met.D.Disk.only_now c.args.disk.now) (c.lock-2.ensures.alone known) (c.lock-2.ensures.time known) (c.open.ensures.any_moment known)
+    begun lines p (s c.args.disk.now) (s c.lock-2.new.self) (s c.open.new.disk) (g.met.D.Disk.only_now c.args.disk.now) (c.lock-2.ensures.alone known) (c.lock-2.ensures.time known) (c.open.ensures.alone known) (c.open.ensures.time known)
 
 pub returns-in_err-damaged-clause-any_moment : goal.returns-in_err-damaged-clause-any_moment
 returns-in_err-damaged-clause-any_moment g c known lines stands =
     let s = g.D.Disk.state in
     let p = c.args.paths.now in
-    begun lines p (s c.args.disk.now) (c.requires known) stands c.journal.result.now c.journal.ensures.value (s c.lock-2.new.self) (s c.open.new.disk) (g.met.D.Disk.only_now c.args.disk.now) (c.lock-2.ensures.alone known) (c.lock-2.ensures.time known) (c.open.ensures.any_moment known)
+    begun lines p (s c.args.disk.now) (s c.lock-2.new.self) (s c.open.new.disk) (g.met.D.Disk.only_now c.args.disk.now) (c.lock-2.ensures.alone known) (c.lock-2.ensures.time known) (c.open.ensures.alone known) (c.open.ensures.time known)
 
 pub returns-then-damaged-eq0-clause-recovered : goal.returns-then-damaged-eq0-clause-recovered
 returns-then-damaged-eq0-clause-recovered g c =
@@ -40,7 +40,7 @@ pub returns-then-damaged-eq0-clause-any_moment : goal.returns-then-damaged-eq0-c
 returns-then-damaged-eq0-clause-any_moment g c known lines stands =
     let s = g.D.Disk.state in
     let p = c.args.paths.now in
-    begun lines p (s c.args.disk.now) (c.requires known) stands c.journal.result.now c.journal.ensures.value (s c.lock-2.new.self) (s c.open.new.disk) (g.met.D.Disk.only_now c.args.disk.now) (c.lock-2.ensures.alone known) (c.lock-2.ensures.time known) (c.open.ensures.any_moment known)
+    begun lines p (s c.args.disk.now) (s c.lock-2.new.self) (s c.open.new.disk) (g.met.D.Disk.only_now c.args.disk.now) (c.lock-2.ensures.alone known) (c.lock-2.ensures.time known) (c.open.ensures.alone known) (c.open.ensures.time known)
 
 pub returns-clause-any_moment : goal.returns-clause-any_moment
 returns-clause-any_moment g c known lines stands =
@@ -48,7 +48,7 @@ returns-clause-any_moment g c known lines stands =
     let p = c.args.paths.now in
     let read = lines_of_journal c.in_ok-journal.journal in
     let file : File = record { mode = 384; bytes = bytes_of_file ((s c.open.new.disk).seen c.aside.result.now) ++ lines_taken_out read (damages read) } in
-    let run = begun lines p (s c.args.disk.now) (c.requires known) stands c.journal.result.now c.journal.ensures.value (s c.lock-2.new.self) (s c.open.new.disk) (g.met.D.Disk.only_now c.args.disk.now) (c.lock-2.ensures.alone known) (c.lock-2.ensures.time known) (c.open.ensures.any_moment known) in
+    let run = begun lines p (s c.args.disk.now) (s c.lock-2.new.self) (s c.open.new.disk) (g.met.D.Disk.only_now c.args.disk.now) (c.lock-2.ensures.alone known) (c.lock-2.ensures.time known) (c.open.ensures.alone known) (c.open.ensures.time known) in
     let is = stands_before c.journal.result.now p.journal read (s c.args.disk.now) (s c.lock-2.new.self) c.journal.ensures.value (c.lock-2.ensures.alone known) (c.in_ok-journal.ensures.read known) in
     let same : read ≡ lines = c.records_are_read_back.ensures.one (bytes_of_file ((s c.args.disk.now).seen p.journal)) read lines is stands in
     then_aside lines p (s c.args.disk.now) (s c.open.new.disk) (s c.set_damaged_aside.new.disk) run (g.met.D.Disk.counts_now c.open.new.disk) (path_of_journal c.in_ok-journal.journal) c.aside.result.now read (c.in_ok-journal.ensures.path ∙ c.journal.ensures.value) c.aside.ensures.value same file

@@ -4,7 +4,8 @@ use Rattle.keep_disk.specs.State.{IsAfter}
 use Rattle.keep_disk.proofs.Moments.{weaker}
 use Rattle.keep_journal.specs.Records.{StandsFor}
 use Rattle.keep_journal.specs.Journals.{Exchanging, path_of_journal}
-use Rattle.keep_journal.proofs.Steps.{first_in_place, on_any}
+use Rattle.std.proofs.Common.{◌∙◌}
+use Rattle.keep_journal.proofs.Steps.{first_in_place, moves_elsewhere, on_any}
 use Rattle.keep_journal.proofs.Runs.{in_place, there_past}
 use Rattle.keep_journal.proofs.journal.Journal.exchange.Goals as goal
 
@@ -28,3 +29,20 @@ returns-clause-there g c = on_any c.rewrite.result (λ known.
     there_past path target file c.requires.apart (s c.args.disk.now) (s c.replace.new.disk) (λ f. StandsFor f c.args.lines.items) (s c.rewrite.new.disk)
     (in_place path target file c.requires.apart (s c.args.disk.now) (s c.replace.new.disk) placed.0 placed.1)
     (c.rewrite.ensures.others known) (c.rewrite.ensures.any_moment known) (g.met.D.Disk.counts_now c.rewrite.new.disk))
+
+pub returns-in_err-replace-clause-others : goal.returns-in_err-replace-clause-others
+returns-in_err-replace-clause-others g c known other p q =
+    let s = g.D.Disk.state in
+    let file : File = record { mode = c.args.mode; bytes = c.args.bytes.now } in (
+      moves_elsewhere c.args.target.now file (s c.args.disk.now).seen (s c.replace.new.disk).seen (c.replace.ensures.seen known) other q,
+      c.replace.ensures.sound known other q,
+    )
+
+pub returns-clause-others : goal.returns-clause-others
+returns-clause-others g c known other p q =
+    let s = g.D.Disk.state in
+    let file : File = record { mode = c.args.mode; bytes = c.args.bytes.now } in (
+      (c.rewrite.ensures.others known).seen other p
+          ∙ moves_elsewhere c.args.target.now file (s c.args.disk.now).seen (s c.replace.new.disk).seen (c.replace.ensures.seen known) other q,
+      (c.rewrite.ensures.others known).sound other p ∙ c.replace.ensures.sound known other q,
+    )

@@ -1,15 +1,20 @@
--- FILE becomes what is kept, and then the copy is FILE.
-use Rattle.std.proofs.Common.{◌≡◌, ℕ, IsTrue, List, Option, Some, OnOk, sym, ap, subst, ◌∙◌}
+-- FILE becomes what is kept; then the copy is FILE, and the journal empty.
+use Rattle.std.proofs.Common.{◌≡◌, ℕ, IsTrue, List, [], ◌∷◌, ◌++◌, true, false, Option, Some, OnOk, sym, ap, subst, ◌∙◌}
 use Rattle.std.specs.Prelude.{option_map, string_bytes}
-use Rattle.keep_disk.specs.Image.{File}
-use Rattle.keep_disk.specs.State.{IsAfter, LeavesOnly, OutcomesFollow}
-use Rattle.keep_disk.specs.Torn.{MovesFile}
-use Rattle.keep_journal.specs.Journals.{FileIsThere, KeepsOthers}
-use Rattle.keep_store.specs.Moved.{IsMovedIf, LeftByMove}
+use Rattle.std.specs.Str.{bytes_eq}
+use Rattle.keep_change.specs.Replay.{replayed}
+use Rattle.keep_disk.specs.Image.{File, Image}
+use Rattle.keep_disk.specs.State.{LeavesOnly}
+use Rattle.keep_journal.specs.Journals.{Exchanging, FileIsThere, JournalIsAtRest, bytes_of_file}
+use Rattle.keep_journal.specs.Records.{StandsFor}
+use Rattle.keep_store.specs.Books.{Book}
+use Rattle.keep_store.specs.Moved.{IsMoved, IsMovedBook, IsMovedIf, LeftByMove, mark_line}
+use Rattle.keep_store.specs.Stores.{book_of, is_sure, journal_of, lines_in, path_of_store}
 use Rattle.keep_waiting.specs.Keepers.{store_of}
 use Rattle.keep_state.specs.Settles.{IsSettledState, LeftBySettling, copy_with, mode_of}
 use Rattle.keep_state.specs.States.{Kept, store_in}
-use Rattle.keep_state.proofs.Renewed.{copied_so, moved_past, not_copied, then_copied}
+use Rattle.keep_journal.proofs.Steps.{on_refused}
+use Rattle.keep_state.proofs.Renewed.{file_past, handed_so, not_copied, on_err, then_handed}
 use Rattle.keep_state.proofs.state.State.settle.Goals as goal
 
 pub returns-in_err-moved-clause-any_moment : goal.returns-in_err-moved-clause-any_moment
@@ -21,6 +26,10 @@ returns-in_err-moved-clause-any_moment g c known =
     subst (λ (k : Kept g.row.D.Denot). LeavesOnly (s k.disk) (s c.settle.new.disk) (LeftBySettling (store_in k) k.places (s k.disk))) c.self.view_is
     (not_copied (store_in k) k.places (s k.disk) file seen (s c.read_file.new.disk) (s c.settle.new.disk) (c.read_file.ensures.alone known) (c.read_file.ensures.any_moment known) (subst (λ (p : List ℕ). LeavesOnly (s c.read_file.new.disk) (s c.settle.new.disk) (LeftByMove (store_in k) p (mode_of c.in_ok-bytes.field-0.mode) (s c.read_file.new.disk))) c.file-2.ensures.value (c.settle.ensures.any_moment known)))
 
+pub returns-in_err-moved-clause-sure : goal.returns-in_err-moved-clause-sure
+returns-in_err-moved-clause-sure g c = on_refused c.from_residual-in_err-moved.result (λ sure.
+    subst (λ (k : Kept g.row.D.Denot). is_sure (store_in k) ≡ true) c.self.view_is (c.in_err-moved.ensures.sure sure).sure)
+
 pub returns-in_default-clause-any_moment : goal.returns-in_default-clause-any_moment
 returns-in_default-clause-any_moment g c known =
     let s = g.D.Disk.state in
@@ -30,29 +39,49 @@ returns-in_default-clause-any_moment g c known =
     subst (λ (k : Kept g.row.D.Denot). LeavesOnly (s k.disk) (s c.settle.new.disk) (LeftBySettling (store_in k) k.places (s k.disk))) c.self.view_is
     (not_copied (store_in k) k.places (s k.disk) file seen (s c.read_file.new.disk) (s c.settle.new.disk) (c.read_file.ensures.alone known) (c.read_file.ensures.any_moment known) (subst (λ (p : List ℕ). LeavesOnly (s c.read_file.new.disk) (s c.settle.new.disk) (LeftByMove (store_in k) p (mode_of c.in_ok-bytes.field-0.mode) (s c.read_file.new.disk))) c.file-2.ensures.value (c.settle.ensures.any_moment known)))
 
+pub hand_over-left-requires-clause-said : goal.hand_over-left-requires-clause-said
+hand_over-left-requires-clause-said g c =
+    let s = g.D.Disk.state in
+    let moved = subst (λ (o : Option _). IsMovedIf g.D.Disk.is_known (store_of c.self.inside.keeper) c.file-2.result.now (mode_of c.in_ok-bytes.field-0.mode) (option_map string_bytes o) (store_of c.settle.new.self) (s c.settle.new.disk)) c.in-Some.is c.in_ok-moved.ensures.settled in
+    moved.by_itself
+
 pub returns-clause-settled : goal.returns-clause-settled
 returns-clause-settled g c =
     let s = g.D.Disk.state in
     let k : Kept g.row.D.Denot = record { keeper = c.self.inside.keeper; disk = c.self.inside.disk; places = c.self.inside.paths.now } in
-    let new : Kept g.row.D.Denot = record { keeper = c.settle.new.self; disk = c.keep_copy-kept.new.disk; places = c.self.inside.paths.now } in
+    let new : Kept g.row.D.Denot = record { keeper = c.hand_over-left.new.self; disk = c.hand_over-left.new.disk; places = c.self.inside.paths.now } in
     let file : File = record { mode = c.in_ok-bytes.field-0.mode; bytes = c.in_ok-bytes.field-0.bytes } in
     let text = string_bytes c.in-Some.text in
     let u = s c.settle.new.disk in
-    let v = s c.keep_copy-kept.new.disk in
+    let v = s c.hand_over-left.new.disk in
+    let at = c.settle.ensures.path ∙ c.self.invariant.path in
+    let p = path_of_store (store_of c.settle.new.self) in
     let moved = subst (λ (o : Option _). IsMovedIf g.D.Disk.is_known (store_in k) c.file-2.result.now (mode_of c.in_ok-bytes.field-0.mode) (option_map string_bytes o) (store_of c.settle.new.self) u) c.in-Some.is c.in_ok-moved.ensures.settled in
-    let there = subst (λ (p : List ℕ). IsMovedIf g.D.Disk.is_known (store_in k) p (mode_of c.in_ok-bytes.field-0.mode) (Some text) (store_of c.settle.new.self) u) c.file-2.ensures.value moved in
+    let there = subst (λ (q : List ℕ). IsMovedIf g.D.Disk.is_known (store_in k) q (mode_of c.in_ok-bytes.field-0.mode) (Some text) (store_of c.settle.new.self) u) c.file-2.ensures.value moved in
+    let run : IsTrue g.D.Disk.is_known → LeavesOnly u v (Exchanging k.places.journal k.places.copy (copy_with text) (λ f. StandsFor f []) u) =
+    λ known. subst (λ (q : List ℕ). LeavesOnly u v (Exchanging q k.places.copy (copy_with text) (λ f. StandsFor f []) u)) at
+    (subst (λ (q : List ℕ). LeavesOnly u v (Exchanging p q (copy_with text) (λ f. StandsFor f []) u)) c.copy.ensures.value
+    (subst (λ (b : List ℕ). LeavesOnly u v (Exchanging p c.copy.result.now (copy_with b) (λ f. StandsFor f []) u)) c.as_bytes.ensures.value (c.hand_over-left.ensures.any_moment known))) in
+    let others : IsTrue g.D.Disk.is_known → (other : List ℕ) → bytes_eq k.places.journal other ≡ false → bytes_eq k.places.copy other ≡ false → (v.seen other ≡ u.seen other) × (v.is_sound other ≡ u.is_sound other) =
+    λ known other a b. c.hand_over-left.ensures.others known other (ap (λ (q : List ℕ). bytes_eq q other) at ∙ a) (ap (λ (q : List ℕ). bytes_eq q other) c.copy.ensures.value ∙ b) in
     subst (λ (k : Kept g.row.D.Denot). IsSettledState g.D.Disk.is_known k c.err.result new (s k.disk) v) c.self.view_is
     (record {
       read = record { bytes = c.in_ok-bytes.field-0.bytes; mode = c.in_ok-bytes.field-0.mode };
       was = λ known. let seen : (s k.disk).seen k.places.file ≡ Some file = cc (c.in_ok-bytes.ensures.read known, c.file.ensures.value) in seen;
       text = Some text;
-      moved = moved_past g.D.Disk.is_known (store_in k) (store_of c.settle.new.self) k.places c.file.ensures.apart (c.settle.ensures.path ∙ c.self.invariant.path) text u v
-          (λ known. subst (λ (p : List ℕ). KeepsOthers p u v) c.copy.ensures.value (c.keep_copy-kept.ensures.others known))
-          (λ known. subst (λ (p : List ℕ). OutcomesFollow (MovesFile p (copy_with text)) u v) c.copy.ensures.value (subst (λ (b : List ℕ). OutcomesFollow (MovesFile c.copy.result.now (copy_with b)) u v) c.as_bytes.ensures.value (c.keep_copy-kept.ensures.crash known)))
-          (mode_of c.in_ok-bytes.field-0.mode) text there;
-      copied = copied_so g.D.Disk.is_known k.places text c.keep_copy-kept.result c.err.result v c.err.ensures.value
-          (subst (λ (p : List ℕ). OnOk c.keep_copy-kept.result (IsTrue g.D.Disk.is_known → FileIsThere p (copy_with text) v)) c.copy.ensures.value
-          (subst (λ (b : List ℕ). OnOk c.keep_copy-kept.result (IsTrue g.D.Disk.is_known → FileIsThere c.copy.result.now (copy_with b) v)) c.as_bytes.ensures.value c.keep_copy-kept.ensures.there));
+      settled = record {
+        served = there.served;
+        says = there.says;
+        book = subst (λ (b : Book). IsMovedBook (book_of (store_in k)) text there.served b) (sym c.hand_over-left.ensures.book) there.book;
+        by_itself = subst (λ (b : Book). (replayed b.file []).rows ≡ b.rows) (sym c.hand_over-left.ensures.book) there.by_itself;
+        sure = c.hand_over-left.ensures.sure ∙ there.sure;
+        there = λ known. file_past k.places c.file.ensures.apart (record { mode = mode_of c.in_ok-bytes.field-0.mode; bytes = text }) u v (others known) (run known) (g.met.D.Disk.counts_now c.hand_over-left.new.disk) (there.there known);
+        handed = handed_so g.D.Disk.is_known k.places (lines_in (store_in k)) text c.hand_over-left.result c.err.result (store_of c.hand_over-left.new.self) v c.err.ensures.value
+            (subst (λ (q : List ℕ). OnOk c.hand_over-left.result (IsTrue g.D.Disk.is_known → FileIsThere q (copy_with text) v)) c.copy.ensures.value
+            (subst (λ (b : List ℕ). OnOk c.hand_over-left.result (IsTrue g.D.Disk.is_known → FileIsThere c.copy.result.now (copy_with b) v)) c.as_bytes.ensures.value c.hand_over-left.ensures.there))
+            c.hand_over-left.ensures.emptied
+            (on_err c.hand_over-left.result (λ same. same ∙ there.lines) c.hand_over-left.ensures.refused);
+      };
     })
 
 pub returns-clause-any_moment : goal.returns-clause-any_moment
@@ -61,7 +90,20 @@ returns-clause-any_moment g c known =
     let k : Kept g.row.D.Denot = record { keeper = c.self.inside.keeper; disk = c.self.inside.disk; places = c.self.inside.paths.now } in
     let file : File = record { mode = c.in_ok-bytes.field-0.mode; bytes = c.in_ok-bytes.field-0.bytes } in
     let seen : (s k.disk).seen k.places.file ≡ Some file = cc (c.in_ok-bytes.ensures.read known, c.file.ensures.value) in
-    subst (λ (k : Kept g.row.D.Denot). LeavesOnly (s k.disk) (s c.keep_copy-kept.new.disk) (LeftBySettling (store_in k) k.places (s k.disk))) c.self.view_is
-    (then_copied (store_in k) k.places (s k.disk) file seen (s c.read_file.new.disk) (s c.settle.new.disk) (c.read_file.ensures.alone known) (c.read_file.ensures.any_moment known) (subst (λ (p : List ℕ). LeavesOnly (s c.read_file.new.disk) (s c.settle.new.disk) (LeftByMove (store_in k) p (mode_of c.in_ok-bytes.field-0.mode) (s c.read_file.new.disk))) c.file-2.ensures.value (c.settle.ensures.any_moment known))
-    c.as_bytes.result.now (s c.keep_copy-kept.new.disk) (g.met.D.Disk.counts_now c.settle.new.disk)
-    (subst (λ (p : List ℕ). LeavesOnly (s c.settle.new.disk) (s c.keep_copy-kept.new.disk) (IsAfter (MovesFile p (copy_with c.as_bytes.result.now)) (s c.settle.new.disk))) c.copy.ensures.value (c.keep_copy-kept.ensures.any_moment known)))
+    let text = string_bytes c.in-Some.text in
+    let u = s c.settle.new.disk in
+    let v = s c.hand_over-left.new.disk in
+    let at = c.settle.ensures.path ∙ c.self.invariant.path in
+    let p = path_of_store (store_of c.settle.new.self) in
+    let moved = subst (λ (o : Option _). IsMovedIf g.D.Disk.is_known (store_in k) c.file-2.result.now (mode_of c.in_ok-bytes.field-0.mode) (option_map string_bytes o) (store_of c.settle.new.self) u) c.in-Some.is c.in_ok-moved.ensures.settled in
+    let there = subst (λ (q : List ℕ). IsMovedIf g.D.Disk.is_known (store_in k) q (mode_of c.in_ok-bytes.field-0.mode) (Some text) (store_of c.settle.new.self) u) c.file-2.ensures.value moved in
+    let rest : JournalIsAtRest k.places.journal (lines_in (store_in k) ++ mark_line text ∷ []) (journal_of (store_of c.settle.new.self)).size u =
+    subst (λ (ls : List (List ℕ)). JournalIsAtRest k.places.journal ls (journal_of (store_of c.settle.new.self)).size u) there.lines
+    (subst (λ (q : List ℕ). JournalIsAtRest q (lines_in (store_of c.settle.new.self)) (journal_of (store_of c.settle.new.self)).size u) at (there.whole known)) in
+    let run : LeavesOnly u v (Exchanging k.places.journal k.places.copy (copy_with text) (λ f. StandsFor f []) u) =
+    subst (λ (q : List ℕ). LeavesOnly u v (Exchanging q k.places.copy (copy_with text) (λ f. StandsFor f []) u)) at
+    (subst (λ (q : List ℕ). LeavesOnly u v (Exchanging p q (copy_with text) (λ f. StandsFor f []) u)) c.copy.ensures.value
+    (subst (λ (b : List ℕ). LeavesOnly u v (Exchanging p c.copy.result.now (copy_with b) (λ f. StandsFor f []) u)) c.as_bytes.ensures.value (c.hand_over-left.ensures.any_moment known))) in
+    subst (λ (k : Kept g.row.D.Denot). LeavesOnly (s k.disk) v (LeftBySettling (store_in k) k.places (s k.disk))) c.self.view_is
+    (then_handed (store_in k) k.places (s k.disk) file seen (s c.read_file.new.disk) u (c.read_file.ensures.alone known) (c.read_file.ensures.any_moment known) (subst (λ (q : List ℕ). LeavesOnly (s c.read_file.new.disk) u (LeftByMove (store_in k) q (mode_of c.in_ok-bytes.field-0.mode) (s c.read_file.new.disk))) c.file-2.ensures.value (c.settle.ensures.any_moment known))
+    c.file.ensures.apart c.self.invariant.path text there.served there.says (journal_of (store_of c.settle.new.self)).size (there.there known) rest (g.met.D.Disk.counts_now c.settle.new.disk) v run)
