@@ -42,7 +42,9 @@ fn event_by(watch: &Watch, entry: u32, since: Millis, reply: Reply) -> Option<Ev
     ensures { result ≡ event_by watch.now entry since reply }
 {
     let Reply::Told {
-        seconds, renewable, ..
+        seconds,
+        renewable,
+        ..
     } = reply
     else {
         return None;

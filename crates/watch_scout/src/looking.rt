@@ -102,9 +102,10 @@ impl Scout {
         let looked = known_end(watch.end_of(index));
         let is_wanted = watch.is_wanted(index);
         if is_wanted {
+            let out = one_more(self.out, self.width);
             let since = Some(watch.clocks().at);
             self.set_seen(index, Seen { looked, since });
-            self.out = one_more(self.out, self.width);
+            self.out = out;
         } else {
             let since = self.seen(index).since;
             self.set_seen(index, Seen { looked, since });

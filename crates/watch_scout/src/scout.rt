@@ -48,12 +48,7 @@ fn unseen() -> Seen
 impl Scout {
     /// A scout beside a watch over this forest. `margin` is that of the agent in front, in seconds; at most `width` lookups are out at
     /// once. The only error is lack of memory.
-    pub fn new(
-        alloc: Global,
-        forest: &Forest,
-        margin: u32,
-        width: u32,
-    ) -> Result<Scout, AllocError>
+    pub fn new(alloc: Global, forest: &Forest, margin: u32, width: u32) -> Result<Scout, AllocError>
         ensures { IfOk result (λ scout. scout ≡ opened_scout forest.now margin width) }
     {
         let seen = vec![in alloc; unseen(); forest.len() as usize]?;
