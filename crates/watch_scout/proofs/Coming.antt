@@ -1,6 +1,6 @@
 -- Coming: entries that come up one after another. For `look`.
 use Rattle.std.proofs.Common.{◌≡◌, ◌∙◌, ℕ, suc, ◌+◌, ◌-◌, ◌<◌, Bool, true, false, Some, length, refl, ap, arith, inl, inr}
-use Rattle.std.proofs.lemmas.Bool.{cases_Bool, cond-false, cond-true}
+use Rattle.std.proofs.lemmas.Bool.{and_from, cases_Bool, cond-false, cond-true}
 use Rattle.std.proofs.lemmas.List.{length-set}
 use Rattle.watch_machine.specs.State.{WatchState}
 use Rattle.watch_machine.specs.Wanted.{is_wanted}
@@ -15,11 +15,15 @@ one_left i n within = omega (arith, within)
 -- the lookup of the first one goes out, or the next one comes up
 pub first_goes : (w : WatchState) (i n : ℕ) (s : ScoutState) → i < n → goes_out s w i ≡ true → first_from w i (n - i) s ≡ record { entry = Some i; state = came_up s w i }
 first_goes w i n s within goes =
-    ap (λ k. first_from w i k s) (one_left i n within) ∙ cond-true (goes_out s w i) (record { entry = Some i; state = came_up s w i }) (first_from w (suc i) (n - suc i) (came_up s w i)) goes
+    let here : Found = record { entry = Some i; state = came_up s w i } in
+    ap (λ k. first_from w i k s) (one_left i n within) ∙ cond-true (goes_out s w i) here (first_from w (suc i) (n - suc i) (came_up s w i)) goes
 
 pub next_comes : (w : WatchState) (i n : ℕ) (s : ScoutState) → i < n → goes_out s w i ≡ false → first_from w i (n - i) s ≡ first_from w (i + 1) (n - (i + 1)) (came_up s w i)
 next_comes w i n s within goes =
-    ap (λ k. first_from w i k s) (one_left i n within) ∙ cond-false (goes_out s w i) (record { entry = Some i; state = came_up s w i }) (first_from w (suc i) (n - suc i) (came_up s w i)) goes
+    let here : Found = record { entry = Some i; state = came_up s w i } in
+    let after : suc i ≡ i + 1 = omega arith in
+    ap (λ k. first_from w i k s) (one_left i n within) ∙ cond-false (goes_out s w i) here (first_from w (suc i) (n - suc i) (came_up s w i)) goes
+    ∙ ap (λ j. first_from w j (n - j) (came_up s w i)) after
 
 -- each is still seen
 pub all_seen : (s : ScoutState) (w : WatchState) (i : ℕ) → length (came_up s w i).seen ≡ length s.seen
@@ -33,7 +37,7 @@ none_out s w i stays =
     elim (cases_Bool (is_at_hand s w i)) as (λ _. (came_up s w i).out ≡ s.out) [
       | inl at_hand ↦
           elim (cases_Bool (is_wanted w i)) as (λ _. (came_up s w i).out ≡ s.out) [
-            | inl wanted ↦ absurd (not_both (let both : goes_out s w i ≡ true = (rw (at_hand, wanted) in refl) in both) stays)
+            | inl wanted ↦ absurd (not_both (and_from (is_at_hand s w i) (is_wanted w i) at_hand wanted) stays)
             | inr unwanted ↦ ap (λ (t : ScoutState). t.out) (cond-true (is_at_hand s w i) (had_look s w i) s at_hand ∙ cond-false (is_wanted w i) (looked_up s w i) (passed_over s w i) unwanted)
           ]
       | inr away ↦ ap (λ (t : ScoutState). t.out) (cond-false (is_at_hand s w i) (had_look s w i) s away)
