@@ -91,9 +91,10 @@ def keeps_changes(stage: Stage) -> None:
             made = [call for call in calls if call.name == "mkdir"]
             stage.check("the folder is made", [("./state", "700")], [(call.words[0], call.words[1]) for call in made])
             stage.check("and its name is on the disk before a file is made in it", True, is_synced(calls, "./state"))
-            for each in ("copy", "journal"):
-                stage.check(f"the {each} is on the disk", REPLACED, replaced(calls, f"state/{each}"))
+            stage.check("the copy is on the disk", REPLACED, replaced(calls, "state/copy"))
+            stage.check("a start writes no journal", [], replaced(calls, "state/journal"))
             stage.check("a need", b"ok\nweb is needed until " + DATE + b"\n", agent.asked(*NEED))
+            stage.check("the journal is made by it", REPLACED, replaced(before_ok(agent.recording.calls()), "state/journal")[: len(REPLACED)])
             stage.check("it is on the disk before", True, synced_after(before_ok(agent.recording.calls()), "state/journal", "pwrite"))
             stage.check("modes", {each: "0o700" if each == "state" else "0o600" for each in modes(state)}, modes(state))
             stage.check("the file of the ends", "0o600", oct(stat.S_IMODE((stage.room / "ends").stat().st_mode)))
@@ -137,7 +138,7 @@ def holds_its_folder(stage: Stage) -> None:
 
 
 def mends_a_journal(stage: Stage) -> None:
-    """What stands after the last record is cut off, and that is on the disk before anything is written there."""
+    """A start reads a journal with a torn record after its last one, and writes nothing; the first change makes the journal anew."""
     name = stage.write("one.toml", inventory())
     state = stage.room / "state"
     state.mkdir(0o700)
@@ -147,9 +148,10 @@ def mends_a_journal(stage: Stage) -> None:
     with stage.broker(), stage.serve(name, *WORDS) as agent:
         stage.check("it answers", True, agent.answers())
         stage.check("the records hold", True, DATE in agent.asked("status"))
-        stage.check("and nothing else", record + "-", (state / "journal").read_text())
-        made = [call for call in agent.recording.calls("cut", "sync", "pwrite") if place_of(call) == "state/journal"]
-        stage.check("in order", ["cut", "sync", "pwrite", "sync"], [call.name for call in made])
+        stage.check("the journal is as it was", record + torn, (state / "journal").read_text())
+        stage.check("a change", True, agent.asked("need", "web", "0").startswith(b"ok\n"))
+        stage.check("the journal is made anew", REPLACED, replaced(before_ok(agent.recording.calls()), "state/journal")[: len(REPLACED)])
+        stage.check("and holds both, and nothing else", f"{record}+need web {was} 0\n-", (state / "journal").read_text())
 
 
 def tells_of_failures(stage: Stage) -> None:

@@ -242,7 +242,7 @@ module _ {S T D K E : Type 0} (does : KeepCall → K → K → Type 0) (rows : K
 
   pub asked_for : (due : Result (Option (Inventory × Vec Mark Global)) AllocError) (change : Option Change) (old new : House S T D K E) → AsksIf does rows path reads gives agent now due change old new → Spares does (makes_by change) old new
   asked_for (Ok None) change old new h = goes_on_if h.heard change old h.mid new (heard_for does rows agent now old.awaited h.heard old h.mid h.hears) h.then
-  asked_for (Ok (Some p)) change old new h = any change old new (spares does old new (record { state = ap (λ x. x.state) h.1.1; ends = ap (λ x. x.ends) h.1.1 }))
+  asked_for (Ok (Some p)) change old new h = any change old new (spares does old new (record { state = ap (λ x. x.state) h.1; ends = ap (λ x. x.ends) h.1 }))
   asked_for (Err e) change old new h = any change old new (lacked change old new h)
 
 -- ---- what was given is settled
@@ -258,8 +258,6 @@ module _ {S T D K E : Type 0} (does : KeepCall → K → K → Type 0) (agent : 
   settled_by false (Some (givens.Aside client text at)) old new h = spares does old new (record { state = ap (λ x. x.state) h.1; ends = ap (λ x. x.ends) h.1 })
   settled_by true (Some (givens.Served marks)) old new h = record { asked = rebuilt_by does old.state new.state h.0; ends = ap (λ x. x.ends) h.1 }
   settled_by false (Some (givens.Served marks)) old new h = spares does old new (left old new h)
-  settled_by true (Some givens.Unchanged) old new h = record { asked = rebuilt_by does old.state new.state h.0; ends = ap (λ x. x.ends) h.1 }
-  settled_by false (Some givens.Unchanged) old new h = spares does old new (left old new h)
 
   pub settled_given : (is_made : Bool) (old new : House S T D K E) → SettlesGiven does agent is_made old new → Spares does 0 old new
   settled_given is_made old new h = (let all = settled_by is_made old.given (record old { given = None }) new h in record { asked = all.asked; ends = all.ends })

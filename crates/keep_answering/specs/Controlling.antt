@@ -17,7 +17,6 @@ use Rattle.keep_onlook.specs.declared.board.Surroundings.{Surroundings}
 use Rattle.keep_answering.specs.Wanting.{ClientWants, TellsRequestLine, refusal_text}
 use Rattle.keep_answering.specs.declared.asked.Asked.{Asked}
 use Rattle.keep_answering.specs.declared.control.Control.{Control}
-use Rattle.keep_answering.specs.declared.control.TheConstants.{MOST_CLIENTS}
 use Rattle.keep_answering.specs.declared.lines.RequestLines.{RequestLines}
 use Rattle.keep_answering.specs.declared.wanted.Wanted.{Wanted}
 use Rattle.keep_answering.specs.declared.wanted.Wanted.TheVariants as wanted
@@ -62,8 +61,9 @@ OneIsReplied agent around now enough old new = FirstIsReplied agent around now (
 
 -- ---- a call
 
-abbrev pub nobody_asks : {T D : Type 0} → D → Control T D
-nobody_asks door = record { clients = record { guests = []; next = 0; limits = record { guests = MOST_CLIENTS; bytes = LINE_MAX }; framing = record {} }; door = door; asking = None }
+-- a door with room for so many clients
+abbrev pub nobody_asks : {T D : Type 0} → ℕ → D → Control T D
+nobody_asks room door = record { clients = record { guests = []; next = 0; limits = record { guests = room; bytes = LINE_MAX }; framing = record {} }; door = door; asking = None }
 
 -- a request is there that may be taken: so the next turn is to come at once, which writes its answer
 abbrev pub can_be_asked : {T D : Type 0} → Control T D → Bool

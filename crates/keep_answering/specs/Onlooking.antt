@@ -20,7 +20,6 @@ use Rattle.keep_onlook.specs.declared.board.Surroundings.{Surroundings}
 use Rattle.keep_answering.specs.Resting.{rest_before}
 use Rattle.keep_answering.specs.declared.heads.Heads.{Heads}
 use Rattle.keep_answering.specs.declared.onlookers.Onlookers.{Onlookers}
-use Rattle.keep_answering.specs.declared.onlookers.TheConstants.{MOST_ONLOOKERS}
 use Rattle.keep_answering.specs.declared.rest.Rest.{Rest}
 use Rattle.keep_answering.specs.declared.went.Went.{Went}
 
@@ -74,8 +73,9 @@ rest_with false now rest = rest
 
 -- ---- a call
 
-abbrev pub nobody : {T D : Type 0} → D → Onlookers T D
-nobody door = record { clients = record { guests = []; next = 0; limits = record { guests = MOST_ONLOOKERS; bytes = HEAD_MAX }; framing = record {} }; door = door; rest = record { until = 0; begun = None } }
+-- a door with room for so many onlookers
+abbrev pub nobody : {T D : Type 0} → ℕ → D → Onlookers T D
+nobody room door = record { clients = record { guests = []; next = 0; limits = record { guests = room; bytes = HEAD_MAX }; framing = record {} }; door = door; rest = record { until = 0; begun = None } }
 
 -- each goes on by one call of its connection at most, some are let in, and then one of those who have asked is sent its answer
 pub record OnlookingGoesOn {T D : Type 0} (remaining written : T → Option (List ℕ)) (calls : T → Option (List Call)) (log : D → Option (DoorLog T)) (agent : Agent) (around : Surroundings) (now : ℕ)

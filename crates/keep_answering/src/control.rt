@@ -14,7 +14,7 @@ use keep_onlook::{Page, Surroundings, board_of, told_of};
 use std::alloc::{AllocError, Global};
 use std::mem;
 
-/// The most clients at a time.
+/// The most clients at a time, where the descriptors suffice.
 pub const MOST_CLIENTS: usize = 32;
 
 /// The clients of an agent's control socket, and the door by which they come in.
@@ -27,12 +27,12 @@ pub struct Control<T, D> {
 }
 
 impl<T: Talk, D: Door<T>> Control<T, D> {
-    /// A door with nobody inside. It takes no memory.
-    pub fn new(alloc: Global, door: D) -> Control<T, D>
-        ensures { result ≡ nobody_asks door }
+    /// A door with nobody inside, and with room for so many clients at a time. It takes no memory.
+    pub fn new(alloc: Global, door: D, guests: usize) -> Control<T, D>
+        ensures { result ≡ nobody_asks guests door }
     {
         let limits = Limits {
-            guests: MOST_CLIENTS,
+            guests,
             bytes: LINE_MAX,
         };
         Control {

@@ -11,7 +11,7 @@ use keep_clients::{Clients, Door, Limits, Talk};
 use keep_onlook::{HEAD_MAX, Surroundings};
 use std::alloc::{AllocError, Global};
 
-/// The most onlookers at a time.
+/// The most onlookers at a time, where the descriptors suffice.
 pub const MOST_ONLOOKERS: usize = 16;
 
 /// The onlookers of an agent, and the door by which they come in.
@@ -24,12 +24,12 @@ pub struct Onlookers<T, D> {
 }
 
 impl<T: Talk, D: Door<T>> Onlookers<T, D> {
-    /// A door with nobody inside. It takes no memory.
-    pub fn new(alloc: Global, door: D) -> Onlookers<T, D>
-        ensures { result ≡ nobody door }
+    /// A door with nobody inside, and with room for so many onlookers at a time. It takes no memory.
+    pub fn new(alloc: Global, door: D, guests: usize) -> Onlookers<T, D>
+        ensures { result ≡ nobody guests door }
     {
         let limits = Limits {
-            guests: MOST_ONLOOKERS,
+            guests,
             bytes: HEAD_MAX,
         };
         Onlookers {

@@ -276,7 +276,7 @@ module _ {S T D K E : Type 0} (does : KeepCall → K → K → Type 0) (rows : K
 
   pub asked_for : (due : Result (Option (Inventory × Vec Mark Global)) AllocError) (change : Option Change) (old new : House S T D K E) → AsksIf does rows path reads gives agent now due change old new → AreSame old new
   asked_for (Ok None) change old new h = gone_on change old new h
-  asked_for (Ok (Some p)) change old new h = record { sink = ap (λ x. x.sink) h.1.1; control = ap (λ x. is_some x.control) h.1.1; state = ap (λ x. is_some x.state) h.1.1 }
+  asked_for (Ok (Some p)) change old new h = record { sink = ap (λ x. x.sink) h.1; control = ap (λ x. is_some x.control) h.1; state = ap (λ x. is_some x.state) h.1 }
   asked_for (Err e) change old new h = lacked change old new h
 
   -- nobody asks, and nothing is kept: none is given
@@ -364,8 +364,6 @@ settled_by does agent true (Some (givens.Aside client text at)) old new h =
 settled_by does agent false (Some (givens.Aside client text at)) old new h = record { sink = ap (λ x. x.sink) h.1; control = told_aside client [] at old.control new.control h.0; state = ap (λ x. is_some x.state) h.1 }
 settled_by does agent true (Some (givens.Served marks)) old new h = record { sink = ap (λ x. x.sink) h.1; control = ap (λ x. is_some x.control) h.1; state = rebuilt does old.state new.state h.0 }
 settled_by does agent false (Some (givens.Served marks)) old new h = same old new h
-settled_by does agent true (Some givens.Unchanged) old new h = record { sink = ap (λ x. x.sink) h.1; control = ap (λ x. is_some x.control) h.1; state = rebuilt does old.state new.state h.0 }
-settled_by does agent false (Some givens.Unchanged) old new h = same old new h
 
 pub settled_given : {S T D K E : Type 0} (does : KeepCall → K → K → Type 0) (agent : Agent) (is_made : Bool) (old new : House S T D K E) → SettlesGiven does agent is_made old new → AreSame old new
 settled_given does agent is_made old new h = let all = settled_by does agent is_made old.given (record old { given = None }) new h in record { sink = all.sink; control = all.control; state = all.state }

@@ -98,7 +98,6 @@ addressed client (Some (givens.Need need)) = Some (givens.Need need)
 addressed client (Some (givens.Answer sent at)) = Some (givens.Aside client sent at)
 addressed client (Some (givens.Aside other sent at)) = Some (givens.Aside other sent at)
 addressed client (Some (givens.Served marks)) = Some (givens.Served marks)
-addressed client (Some givens.Unchanged) = Some givens.Unchanged
 
 abbrev pub TellsNothingAside : {S T D K E : Type 0} → Reading → Awaited → House S T D K E → House S T D K E → Type 0
 TellsNothingAside {S} {T} {D} {K} {E} now a old new = (mid : House S T D K E) × (WillTell (Err None) now.elapsed old mid × (new ≡ record mid { given = addressed a.client mid.given }))

@@ -1,6 +1,6 @@
 -- Commands: what clients ask for is carried out, and what comes of it.
 -- Source: this project's own; docs/running.md, "Changes while it runs".
-use Rattle.std.specs.Prelude.{◌≡◌, ◌≢◌, ◌/◌, ℕ, Bool, true, false, List, [], ◌∷◌, Option, Some, None, IfSome, Vec, Result, Ok, Err, codes, length, replicate}
+use Rattle.std.specs.Prelude.{◌≡◌, ◌/◌, ℕ, Bool, true, false, List, [], ◌∷◌, Option, Some, None, IfSome, Vec, Result, Ok, Err, codes, length, replicate}
 use Rattle.std.specs.declared.alloc.AllocError.{AllocError}
 use Rattle.std.specs.declared.alloc.Global.{Global}
 use Rattle.keep_agent.specs.Agent.{Agent}
@@ -183,15 +183,6 @@ RebuildingIsDue gives now (Ok (Some p)) None = ⊥
 RebuildingIsDue gives now (Ok None) (Some k) = gives now.elapsed (Ok None) k
 RebuildingIsDue gives now (Ok (Some p)) (Some k) = gives now.elapsed (Ok (Some p.0)) k × (p.1.items ≡ replicate (length p.0.forest.entries) fresh_mark)
 
--- what is given with an inventory: whether it is served already, or these marks for another one
-abbrev pub IsGivenWith : Agent → Inventory → List Mark → Option Given → Type 0
-IsGivenWith agent s marks None = ⊥
-IsGivenWith agent s marks (Some (givens.Need need)) = ⊥
-IsGivenWith agent s marks (Some (givens.Answer sent at)) = ⊥
-IsGivenWith agent s marks (Some (givens.Aside client sent at)) = ⊥
-IsGivenWith agent s marks (Some (givens.Served given)) = (s ≢ agent.inventory) × (given.items ≡ marks)
-IsGivenWith agent s marks (Some givens.Unchanged) = s ≡ agent.inventory
-
 module _ {S T D K E : Type 0} (does : KeepCall → K → K → Type 0) (rows : K → List Row) (path : K → List ℕ) (reads : List ℕ → Result Row Why → Type 0)
     (gives : ℕ → Result (Option Inventory) AllocError → K → Type 0) (agent : Agent) (now : Reading) where
   abbrev pub CarriesOut : Asked → Change → House S T D K E → House S T D K E → Type 0
@@ -234,7 +225,7 @@ module _ {S T D K E : Type 0} (does : KeepCall → K → K → Type 0) (rows : K
   -- before all that
   abbrev pub AsksIf : Result (Option (Inventory × Vec Mark Global)) AllocError → Option Change → House S T D K E → House S T D K E → Type 0
   AsksIf (Ok None) change old new = GoesOnWithClients change old new
-  AsksIf (Ok (Some p)) change old new = (change ≡ Some (changes.Serve p.0)) × (IsGivenWith agent p.0 p.1.items new.given × (new ≡ record old { given = new.given }))
+  AsksIf (Ok (Some p)) change old new = (change ≡ Some (changes.Serve p.0)) × (new ≡ record old { given = Some (givens.Served p.1) })
   AsksIf (Err e) change old new = LacksMemory change old new
 
   abbrev pub AsksFor : Option Change → House S T D K E → House S T D K E → Type 0
@@ -242,14 +233,13 @@ module _ {S T D K E : Type 0} (does : KeepCall → K → K → Type 0) (rows : K
 
 -- ---- what was given is settled
 
--- another inventory was given last
+-- an inventory was given last
 abbrev pub is_served : Option Given → Bool
 is_served None = false
 is_served (Some (givens.Need need)) = false
 is_served (Some (givens.Answer sent now)) = false
 is_served (Some (givens.Aside client sent now)) = false
 is_served (Some (givens.Served marks)) = true
-is_served (Some givens.Unchanged) = false
 
 -- the log says that the entry is needed until then, and its client is told
 pub record TellsNeed {S T D K E : Type 0} (agent : Agent) (name : List ℕ) (until now : ℕ) (old new : House S T D K E) : Type 0 where
@@ -289,18 +279,12 @@ SettlesServed does agent true marks old new =
     StateIsRebuilt does old.state new.state × (new ≡ record old { state = new.state; desk = record old.desk { marks = marks_anew agent (length marks) } })
 SettlesServed does agent false marks old new = new ≡ old
 
--- it is served already: no change waits for it any more, and nothing else is another
-abbrev pub SettlesUnchanged : {S T D K E : Type 0} → (KeepCall → K → K → Type 0) → Bool → House S T D K E → House S T D K E → Type 0
-SettlesUnchanged does true old new = StateIsRebuilt does old.state new.state × (new ≡ record old { state = new.state })
-SettlesUnchanged does false old new = new ≡ old
-
 abbrev pub SettlesBy : {S T D K E : Type 0} → (KeepCall → K → K → Type 0) → Agent → Bool → Option Given → House S T D K E → House S T D K E → Type 0
 SettlesBy does agent is_made None old new = new ≡ old
 SettlesBy does agent is_made (Some (givens.Need need)) old new = SettlesNeed agent is_made need old new
 SettlesBy does agent is_made (Some (givens.Answer sent now)) old new = SettlesAnswer agent is_made sent now old new
 SettlesBy does agent is_made (Some (givens.Aside client sent now)) old new = SettlesAside agent is_made client sent now old new
 SettlesBy does agent is_made (Some (givens.Served marks)) old new = SettlesServed does agent is_made marks.items old new
-SettlesBy does agent is_made (Some givens.Unchanged) old new = SettlesUnchanged does is_made old new
 
 abbrev pub SettlesGiven : {S T D K E : Type 0} → (KeepCall → K → K → Type 0) → Agent → Bool → House S T D K E → House S T D K E → Type 0
 SettlesGiven does agent is_made old new = SettlesBy does agent is_made old.given (record old { given = None }) new

@@ -39,10 +39,8 @@ pub enum Given {
         /// When it was carried out, in milliseconds of the clock that never steps.
         at: u64,
     },
-    /// Another inventory, and marks for its entries.
+    /// An inventory, and marks for its entries.
     Served(Vec<Mark>),
-    /// The inventory that is served already.
-    Unchanged,
 }
 
 /// A change of a client's that is made once the credential was looked up that it brings.
@@ -55,14 +53,13 @@ pub struct Awaited {
     pub what: What,
 }
 
-/// Whether another inventory was given last.
+/// Whether an inventory was given last.
 pub(crate) fn is_served(given: &Option<Given>) -> bool
     ensures { result ≡ is_served given.now }
 {
     match given {
         Some(Given::Served(_)) => true,
-        Some(Given::Need(_) | Given::Answer { .. } | Given::Aside { .. } | Given::Unchanged)
-        | None => false,
+        Some(Given::Need(_) | Given::Answer { .. } | Given::Aside { .. }) | None => false,
     }
 }
 

@@ -1,6 +1,5 @@
 //! What clients ask for is carried out, and what is given of it to the loop is settled.
-ghost use Rattle.std.specs.Prelude.{Some};
-ghost use Rattle.keep_house.specs.Commands.{AsksFor, CarriesOut, GoesOnWithClients, IsGivenWith, RebuildingIsDue, ServesClients, SettlesAnswer, SettlesAside, SettlesGiven, SettlesNeed, SettlesServed, SettlesUnchanged, StateIsRebuilt, TellsNeed};
+ghost use Rattle.keep_house.specs.Commands.{AsksFor, CarriesOut, GoesOnWithClients, RebuildingIsDue, ServesClients, SettlesAnswer, SettlesAside, SettlesGiven, SettlesNeed, SettlesServed, StateIsRebuilt, TellsNeed};
 ghost use Rattle.keep_house.specs.Houses.{ClientsAsk};
 ghost use Rattle.keep_lines.specs.Text.{name_of};
 
@@ -32,7 +31,7 @@ impl<S, T: Talk, D: Door<T>, K: Keeping, E> House<S, T, D, K, E> {
         match due_with_marks(alloc, &self.state, now) {
             Ok(None) => self.go_on_with_clients(alloc, agent, now),
             Ok(Some((inventory, marks))) => {
-                self.given = Some(given_with(agent, &inventory, marks));
+                self.given = Some(Given::Served(marks));
                 Some(Change::Serve(inventory))
             }
             Err(AllocError) => {
@@ -97,7 +96,6 @@ impl<S, T: Talk, D: Door<T>, K: Keeping, E> House<S, T, D, K, E> {
                 self.settle_aside(alloc, agent, client, sent, at, is_made)
             }
             Some(Given::Served(marks)) => self.settle_served(agent, marks, is_made),
-            Some(Given::Unchanged) => self.settle_unchanged(is_made),
         }
     }
 
@@ -163,25 +161,6 @@ impl<S, T: Talk, D: Door<T>, K: Keeping, E> House<S, T, D, K, E> {
             rebuilt(&mut self.state);
             self.desk.serve(agent, marks);
         }
-    }
-
-    fn settle_unchanged(&mut self, is_made: bool)
-        ensures { SettlesUnchanged K.does is_made self.old self.new }
-    {
-        if is_made {
-            rebuilt(&mut self.state);
-        }
-    }
-}
-
-// What is given with an inventory, and marks for its entries.
-fn given_with(agent: &Agent, inventory: &Inventory, marks: Vec<Mark>) -> Given
-    ensures { IsGivenWith agent.now inventory.now marks.items (Some result) }
-{
-    if agent.serves(inventory) {
-        Given::Unchanged
-    } else {
-        Given::Served(marks)
     }
 }
 

@@ -1,11 +1,12 @@
 //! An agent from its start to its last turn: its clock, its lanes, and its log and doors.
-ghost use Rattle.std.specs.Prelude.{◌≡◌, [], IfOk, max, min};
+ghost use Rattle.std.specs.Prelude.{◌≡◌, ◌≤◌, [], IfOk, max, min};
 ghost use Rattle.leasekeep.specs.Ends.{EndsServe};
 
 use crate::house::{Ready, serve_with};
 use keep_answering::{Control, Onlookers};
 use keep_clients::{SocketDoor, SocketTalk};
 use keep_clock::{Clock as _, Reading, SystemClock};
+use keep_command::SystemFiles;
 use keep_device::{Sink, Watched};
 use keep_disk::SystemDisk;
 use keep_engine::{Exit, PROGRAM, Stop};
@@ -16,7 +17,7 @@ use keep_proving::Proving;
 use leasekeep_commands::{Room, Served, Socket};
 use serve_start::{
     CLIENTS, Folder, Guests, ONLOOKERS, Start, SystemLedger, desk_of, folder_of, make_start,
-    open_door, take_over,
+    open_door, places_for, take_over,
 };
 use std::alloc::{AllocError, Global};
 use std::fs::File;
@@ -63,7 +64,8 @@ where
     E: Sink,
     ensures { EndsServe result (⟦<E as Watched>⟧.change errors.old errors.new) }
 {
-    let Ok(mut lanes) = lanes_of(rt, served, clock, width_of(served)) else {
+    let width = width_of(served);
+    let Ok(mut lanes) = lanes_of(rt, served, clock, width) else {
         return Stop::Memory.report(PROGRAM, errors);
     };
     run_over(rt, served, demands, log, clock, &mut lanes, errors)
@@ -90,6 +92,13 @@ where
         Ok(start) => ended(run_from(rt, served, start, log, clock, lanes), errors),
         Err(exit) => exit,
     }
+}
+
+/// How many requests may be out at once.
+fn width_of(served: &Served<'_>) -> u32
+    ensures { result ≤ 32 }
+{
+    served.width.min(u64::from(MOST_WIDTH)) as u32
 }
 
 /// The state folder, where there is one.
@@ -151,14 +160,16 @@ where
     let path = ends_path(alloc, served.room)?;
     let inventory = &start.inventories.served;
     let (ends, known) = take_over(rt, path, inventory, now, &mut desk)?;
+    let width = width_of(served);
+    let places = places_for(alloc, &mut SystemFiles::new(rt), width, now, &mut desk);
     let clients = door_of(rt, clock, now, served.control, CLIENTS, &mut desk);
     let onlookers = door_of(rt, clock, now, served.listen, ONLOOKERS, &mut desk);
     Ok(Ready {
         desk,
         known,
         ends,
-        control: clients.map(|door| Control::new(alloc, door)),
-        onlookers: onlookers.map(|door| Onlookers::new(alloc, door)),
+        control: clients.map(|door| Control::new(alloc, door, places.clients)),
+        onlookers: onlookers.map(|door| Onlookers::new(alloc, door, places.onlookers)),
     })
 }
 
@@ -221,11 +232,6 @@ where
         askers.push(Asker::new(Proving::new(lane)))?;
     }
     Ok(askers)
-}
-
-/// How many requests may be out at once.
-fn width_of(served: &Served<'_>) -> u32 {
-    served.width.min(u64::from(MOST_WIDTH)) as u32
 }
 
 /// So many lanes to the broker, which wait by this clock. The only error is lack of memory.

@@ -10,7 +10,7 @@ use crate::running::MemoryLanes;
 use crate::settings::{ENDS, FILE, Setting, Store};
 use broker_table::Table;
 use keep_agent::KnownEnd;
-use keep_answering::{Control, Onlookers};
+use keep_answering::{Control, MOST_CLIENTS, MOST_ONLOOKERS, Onlookers};
 use keep_change::Note;
 use keep_clock::{Clock as _, Reading};
 use keep_disk::{DiskFault, MemoryDisk, Why};
@@ -313,8 +313,8 @@ fn known_of(
 /// Nobody asks or looks on, and nothing was given or said yet.
 fn let_in(alloc: Global, now: Reading, house: &mut MemoryHouse<'_>) {
     let seconds = Some(now.wall / 1000);
-    let control = Control::new(alloc, PeerDoor::new(alloc));
-    let onlookers = Onlookers::new(alloc, PeerDoor::new(alloc));
+    let control = Control::new(alloc, PeerDoor::new(alloc), MOST_CLIENTS);
+    let onlookers = Onlookers::new(alloc, PeerDoor::new(alloc), MOST_ONLOOKERS);
     put(&mut house.control, Some(control));
     put(&mut house.onlookers, Some(onlookers));
     house.file = FileReading {

@@ -1,0 +1,102 @@
+//! The descriptors that the process may have open at once, and how many guests of the agent they leave room for. A client must not take
+//! the descriptor that a request needs: a renewal that cannot open its socket is a renewal that is not sent.
+ghost use Rattle.std.specs.Prelude.{◌≡◌, ℕ, ◌≤◌, ◌+◌};
+ghost use Rattle.serve_start.specs.Descriptors.{needed, places_within};
+
+use house_log::Desk;
+use keep_answering::{MOST_CLIENTS, MOST_ONLOOKERS};
+use keep_clock::Reading;
+use keep_files::Inputs;
+use keep_log::Level;
+use std::alloc::Global;
+
+/// Where Linux tells the limits of a process (proc(5)).
+const LIMITS: &str = "/proc/self/limits";
+
+/// The bytes of that file at most: it has some 1,300.
+const MOST_LIMITS: usize = 8192;
+
+/// How many guests the agent lets in at a time.
+#[derive(Clone, Copy, Debug, PartialEq, Eq)]
+pub struct Places {
+    pub clients: usize,
+    pub onlookers: usize,
+}
+
+/// The descriptors that an agent with so many lanes needs, if one client and one onlooker are to be let in beside its requests: three
+/// for each lane, one for a request of the Watch, and two for the lookup of a file's credential, its own and that by which it is told of; and 26 for all
+/// else, which are 13 that stay open, eight for the files of a change, some to spare, and those of the two guests.
+fn needed(width: u32) -> u64
+    requires { width ≤ 32 }
+    ensures { result ≡ needed width }
+{
+    26 + 3 * u64::from(width)
+}
+
+/// How many guests an agent with so many lanes lets in where so many descriptors may be open at once: what it does not need itself goes to
+/// onlookers, a third of it, and to clients; one of each is always let in.
+pub fn places_within(limit: u64, width: u32) -> Places
+    requires { width ≤ 32 }
+    ensures places { result ≡ places_within limit width }
+    ensures fits { needed width ≤ limit → needed width + result.clients + result.onlookers ≤ limit + 2 }
+{
+    let free = limit.saturating_sub(needed(width));
+    let third = free / 3;
+    Places {
+        clients: 1 + (free - third).min(MOST_CLIENTS as u64 - 1) as usize,
+        onlookers: 1 + third.min(MOST_ONLOOKERS as u64 - 1) as usize,
+    }
+}
+
+/// How many guests an agent with so many lanes lets in. Where the system does not tell how many descriptors may be open at once, as many
+/// as there can be; where it allows fewer than are needed, that is a warning.
+pub fn places_for<I: Inputs>(
+    alloc: Global,
+    inputs: &mut I,
+    width: u32,
+    now: Reading,
+    desk: &mut Desk,
+) -> Places
+    requires { width ≤ 32 }
+    ensures { (limit : ℕ) × (result ≡ places_within limit width) }
+{
+    let limit = descriptor_limit(alloc, inputs).unwrap_or(u64::MAX);
+    if limit < needed(width) {
+        warn(alloc, now, limit, needed(width), desk);
+    }
+    places_within(limit, width)
+}
+
+/// Warns of too few descriptors, unless memory is wanting for the words.
+fn warn(alloc: Global, now: Reading, limit: u64, needed: u64, desk: &mut Desk) {
+    if let Ok(text) = format!(in alloc; "{limit} may be open at once, and {needed} are needed") {
+        desk.hear_at_start(alloc, now, Level::Warning, "descriptors", text.as_bytes());
+    }
+}
+
+/// How many descriptors the process may have open at once. `None` where the system does not tell.
+fn descriptor_limit<I: Inputs>(alloc: Global, inputs: &mut I) -> Option<u64> {
+    match inputs.read(alloc, LIMITS, MOST_LIMITS) {
+        Ok(text) => limit_in(text.list()),
+        Err(_) => None,
+    }
+}
+
+/// What the row of open files says of the soft limit. A limit of `unlimited` is none.
+fn limit_in(limits: &[u8]) -> Option<u64> {
+    for line in limits.split(|byte| *byte == b'\n') {
+        if let Some(row) = line.strip_prefix(b"Max open files") {
+            return first_number(row.trim_ascii_start());
+        }
+    }
+    None
+}
+
+/// The number with which a text begins.
+fn first_number(text: &[u8]) -> Option<u64> {
+    let end = text
+        .iter()
+        .position(|byte| !byte.is_ascii_digit())
+        .unwrap_or(text.len());
+    str::from_utf8(&text[..end]).ok()?.parse().ok()
+}
