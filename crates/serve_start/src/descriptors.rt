@@ -23,9 +23,9 @@ pub struct Places {
     pub onlookers: usize,
 }
 
-/// The descriptors that an agent with so many lanes needs, if one client and one onlooker are to be let in beside its requests: three
-/// for each lane, one for a request of the Watch, and two for the lookup of a file's credential, its own and that by which it is told of; and 26 for all
-/// else, which are 13 that stay open, eight for the files of a change, some to spare, and those of the two guests.
+/// The descriptors that an agent with so many lanes needs, if one client and one onlooker are to be let in beside its requests: three for
+/// each lane, one for a request of the Watch, and two for the lookup of what a file holds, its own and that by which the wait is told of it;
+/// and 26 for all else, which are 13 that stay open, eight for the files of a change, some to spare, and those of the two guests.
 fn needed(width: u32) -> u64
     requires { width ≤ 32 }
     ensures { result ≡ needed width }
