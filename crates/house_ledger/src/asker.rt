@@ -116,7 +116,8 @@ pub(crate) fn hear_first<L: Lanes>(
     askers: &mut [Asker<L>],
     now: u64,
 ) -> Result<Option<FileWord>, AllocError>
-    ensures { HearsFirst ⟦<L as SeenLanes>⟧.seen now askers.old result askers.new }
+    ensures many { length askers.new ≡ length askers.old }
+    ensures heard { HearsFirst ⟦<L as SeenLanes>⟧.seen now askers.old result askers.new }
 {
     for asker in askers.iter_mut() {
         match asker.hear(alloc, now) {
@@ -142,7 +143,8 @@ pub(crate) fn ask_at<L: Lanes>(
     requires within { at < length askers.old }
     requires free { free_place askers.old ≡ Some at }
     requires entry { IsCandidate candidate }
-    ensures { AskerAsks ⟦<L as SeenLanes>⟧.seen L.host_port at now asked candidate result askers.old askers.new }
+    ensures many { length askers.new ≡ length askers.old }
+    ensures asks { AskerAsks ⟦<L as SeenLanes>⟧.seen L.host_port at now asked candidate result askers.old askers.new }
 {
     askers[at].ask(alloc, now, asked, candidate)
 }

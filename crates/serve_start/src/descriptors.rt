@@ -24,8 +24,8 @@ pub struct Places {
 }
 
 /// The descriptors that an agent with so many lanes needs, if one client and one onlooker are to be let in beside its requests: three for
-/// each lane, one for a request of the Watch, and two for the lookup of what a file holds, its own and that by which the wait is told of it;
-/// and 26 for all else, which are 13 that stay open, eight for the files of a change, some to spare, and those of the two guests.
+/// each lane, one for a request of the Watch, and two for the lookup of what a file holds, its own and one by which the wait is told of
+/// it; and 26 for all else, which are 13 that stay open, eight for the files of a change, some to spare, and those of the two guests.
 fn needed(width: u32) -> u64
     requires { width ≤ 32 }
     ensures { result ≡ needed width }
