@@ -7,6 +7,7 @@ use Rattle.std.proofs.lemmas.Option.{slice_get_read}
 use Rattle.std.specs.declared.alloc.AllocError.{AllocError}
 use Rattle.keep_asking.specs.Sending.{Lanes}
 use Rattle.keep_clock.specs.declared.reading.Reading.{Reading}
+use Rattle.keep_device.proofs.Lent.{written_back}
 use Rattle.keep_proving.specs.declared.candidate.Candidate.{Candidate}
 use Rattle.house_ledger.specs.Askers.{AskerAsks, FileGoesOut, HearsFirst, HearsIf, free_place, is_free}
 use Rattle.house_ledger.specs.declared.asked_file.AskedFile.{AskedFile}
@@ -82,3 +83,20 @@ module _ {L : Type 0} where
   pub asked_at : (lanes_seen : L → Lanes) (port : L → ℕ) (i : ℕ) (now : Reading) (a : AskedFile) (c : Candidate) (result : Result (Unit {0}) AllocError) (askers : List (Asker L)) (x n : Asker L)
       → i < length askers → x ≡ get_or askers i x → FileGoesOut lanes_seen port now a c result x n → AskerAsks lanes_seen port i now a c result askers (set askers i n)
   asked_at lanes_seen port i now a c result askers x n within is goes = (x, (n, (slice_get_read askers (length askers) i x refl within is, (goes, refl))))
+
+-- ---- those of a ledger, which are lent whole
+
+module _ {L : Type 0} (len : ℕ) (old items new : List (Asker L)) (same : items ≡ old) (many : length new ≡ length items) (whole : len ≡ length old) where
+  back : take len (new ++ drop (length new) old) ≡ new
+  back = written_back len new old (many ∙ ap length same) whole
+
+  pub heard_whole : (lanes_seen : L → Lanes) (now : ℕ) (result word : Result (Option FileWord) AllocError) → result ≡ word → HearsFirst lanes_seen now items result new
+      → HearsFirst lanes_seen now old word (take len (new ++ drop (length new) old))
+  heard_whole lanes_seen now result word is h =
+      subst (HearsFirst lanes_seen now old word) (sym back) (subst (λ (l : List (Asker L)). HearsFirst lanes_seen now l word new) same (subst (λ (w : Result (Option FileWord) AllocError). HearsFirst lanes_seen now items w new) is h))
+
+  pub asked_whole : (lanes_seen : L → Lanes) (port : L → ℕ) (i : ℕ) (now : Reading) (a : AskedFile) (c : Candidate) (result answer : Result (Unit {0}) AllocError) → result ≡ answer
+      → AskerAsks lanes_seen port i now a c result items new → AskerAsks lanes_seen port i now a c answer old (take len (new ++ drop (length new) old))
+  asked_whole lanes_seen port i now a c result answer is h =
+      subst (AskerAsks lanes_seen port i now a c answer old) (sym back)
+      (subst (λ (l : List (Asker L)). AskerAsks lanes_seen port i now a c answer l new) same (subst (λ (r : Result (Unit {0}) AllocError). AskerAsks lanes_seen port i now a c r items new) is h))

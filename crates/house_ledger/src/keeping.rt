@@ -21,7 +21,7 @@ use std::alloc::{AllocError, Global};
 pub enum LookedUp {
     /// Its lookup is out, and [`Keeping::prove`] gives the verdict.
     Out,
-    /// Another credential is being looked up.
+    /// The credential of another change is being looked up.
     Later,
     /// There is nothing to be looked up.
     Nothing,
