@@ -31,14 +31,21 @@ module _ {L : Type 0} (lanes_seen : L → Lanes) (now : ℕ) where
   here : (old new : List (Asker L)) (i : ℕ) (d : Asker L) → i < length new → drop i new ≡ drop i old → drop i old ≡ get_or new i d ∷ drop (i + 1) old
   here old new i d within rest = sym rest ∙ drop_more new i d within ∙ ap (λ (l : List (Asker L)). get_or new i d ∷ l) (drop_more_same new old i rest)
 
+  heard_by : (d from n : Asker L) (result word : Result (Option FileWord) AllocError) (i : ℕ) (new : List (Asker L)) → result ≡ word → HearsIf lanes_seen now from.asked result from n → from ≡ get_or new i d
+      → HearsIf lanes_seen now (get_or new i d).asked word (get_or new i d) n
+  heard_by d from n result word i new given heard is =
+      subst (λ (x : Asker L). HearsIf lanes_seen now x.asked word x n) is (subst (λ (w : Result (Option FileWord) AllocError). HearsIf lanes_seen now from.asked w from n) given heard)
+
   -- that of one more has no word
-  pub one_more : (old new : List (Asker L)) (i : ℕ) (d n : Asker L) → i < length new → SoFar old new i → HearsIf lanes_seen now (get_or new i d).asked (Ok None) (get_or new i d) n → SoFar old (set new i n) (i + 1)
-  one_more old new i d n within so one = record {
+  pub one_more : (old new : List (Asker L)) (i : ℕ) (d from n : Asker L) (word : Result (Option FileWord) AllocError) → i < length new → SoFar old new i → word ≡ Ok None → HearsIf lanes_seen now from.asked word from n
+      → from ≡ get_or new i d → SoFar old (set new i n) (i + 1)
+  one_more old new i d from n word within so none heard is = record {
     many = length-set new i n ∙ so.many;
     rest = drop-set-lt (i + 1) new i n (omega arith) ∙ drop_more_same new old i so.rest;
     follow = λ result left h.
         subst (HearsFirst lanes_seen now old result) (sym (append_assoc (take i new) (n ∷ []) left) ∙ ap (λ (l : List (Asker L)). l ++ left) (sym (take_more_set new i n within)))
-        (so.follow result (n ∷ left) (subst (λ (l : List (Asker L)). HearsFirst lanes_seen now l result (n ∷ left)) (sym (here old new i d within so.rest)) (Ok None, (one, h))));
+        (so.follow result (n ∷ left) (subst (λ (l : List (Asker L)). HearsFirst lanes_seen now l result (n ∷ left)) (sym (here old new i d within so.rest))
+        (Ok None, (heard_by d from n word (Ok None) i new none heard is, h))));
   }
 
   ends_at : (old new : List (Asker L)) (i : ℕ) (d n : Asker L) (word : Result (Option FileWord) AllocError) → i < length new → SoFar old new i
@@ -48,14 +55,16 @@ module _ {L : Type 0} (lanes_seen : L → Lanes) (now : ℕ) where
       (so.follow word (n ∷ drop (i + 1) old) (subst (λ (l : List (Asker L)). HearsFirst lanes_seen now l word (n ∷ drop (i + 1) old)) (sym (here old new i d within so.rest)) h))
 
   -- there is a word on the file of one, and the others are left alone
-  pub word_at : (old new : List (Asker L)) (i : ℕ) (d n : Asker L) (word : FileWord) → i < length new → SoFar old new i → HearsIf lanes_seen now (get_or new i d).asked (Ok (Some word)) (get_or new i d) n
-      → HearsFirst lanes_seen now old (Ok (Some word)) (set new i n)
-  word_at old new i d n word within so one = ends_at old new i d n (Ok (Some word)) within so (Ok (Some word), (one, (refl, refl)))
+  pub word_at : (old new : List (Asker L)) (i : ℕ) (d from n : Asker L) (result : Result (Option FileWord) AllocError) (word : FileWord) → i < length new → SoFar old new i → result ≡ Ok (Some word)
+      → HearsIf lanes_seen now from.asked result from n → from ≡ get_or new i d → HearsFirst lanes_seen now old (Ok (Some word)) (set new i n)
+  word_at old new i d from n result word within so some heard is =
+      ends_at old new i d n (Ok (Some word)) within so (Ok (Some word), (heard_by d from n result (Ok (Some word)) i new some heard is, (refl, refl)))
 
   -- or memory is wanting for it
-  pub want_at : (old new : List (Asker L)) (i : ℕ) (d n : Asker L) (e : AllocError) → i < length new → SoFar old new i → HearsIf lanes_seen now (get_or new i d).asked (Err e) (get_or new i d) n
-      → HearsFirst lanes_seen now old (Err e) (set new i n)
-  want_at old new i d n e within so one = ends_at old new i d n (Err e) within so (Err e, (one, (refl, refl)))
+  pub want_at : (old new : List (Asker L)) (i : ℕ) (d from n : Asker L) (result : Result (Option FileWord) AllocError) (e : AllocError) → i < length new → SoFar old new i → result ≡ Err e
+      → HearsIf lanes_seen now from.asked result from n → from ≡ get_or new i d → HearsFirst lanes_seen now old (Err e) (set new i n)
+  want_at old new i d from n result e within so err heard is =
+      ends_at old new i d n (Err e) within so (Err e, (heard_by d from n result (Err e) i new err heard is, (refl, refl)))
 
   -- or on none
   pub none_heard : (old new : List (Asker L)) (i : ℕ) → length new ≤ i → SoFar old new i → HearsFirst lanes_seen now old (Ok None) new

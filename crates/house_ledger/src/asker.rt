@@ -111,6 +111,7 @@ impl<L: Lanes> Asker<L> {
 
 /// The broker's word on the file of the first of them on whose file there is one. It waits for nothing. The only error is lack of memory:
 /// the file of one is looked up no more then.
+#[tactic(auto, using(crate::proofs::Asking::none_yet))]
 pub(crate) fn hear_first<L: Lanes>(
     alloc: Global,
     askers: &mut [Asker<L>],
