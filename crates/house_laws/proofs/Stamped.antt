@@ -170,8 +170,8 @@ module _ {D I L : Type 0} (calls : I → Option (List FileCall)) (lanes_seen : L
   judged : (word : FileWord) (old new : Ledger D I L) → JudgesFile calls lanes_seen port now looked word old new → IsBeside old new
   judged word old new (inl h) = beside old new h.1.1
   judged word old new (inr h) =
-      let all = taken word.asked.due _ old h.1.0 h.1.1.0 in
-      record { inputs = ap (λ l. l.inputs) h.1.1.1 ∙ all.inputs; disk = ap (λ l. l.state.disk) h.1.1.1 ∙ all.disk }
+      let all = taken word.asked.due _ old h.1.mid h.1.takes in
+      record { inputs = ap (λ l. l.inputs) h.1.rest ∙ all.inputs; disk = ap (λ l. l.state.disk) h.1.rest ∙ all.disk }
 
   -- ---- how often files are called
 

@@ -1,13 +1,13 @@
 -- Asking: files are looked up by askers, and heard of. For `hear_first`, `ask_at`, `ask_about` and `look`.
-use Rattle.std.proofs.Common.{◌≡◌, ◌∙◌, ℕ, ◌<◌, ◌≤◌, ◌+◌, arith, Bool, true, false, not, ◌&&◌, List, [], ◌∷◌, ◌++◌, Option, Some, None, Result, Ok, Err, ap, append-nil, append_assoc, drop, get_or, is_none, is_some, length, refl, set, subst, sym, take}
+use Rattle.std.proofs.Common.{◌≡◌, ◌∙◌, ℕ, ◌<◌, ◌≤◌, ◌+◌, arith, Bool, true, false, not, ◌&&◌, List, [], ◌∷◌, ◌++◌, Option, Some, None, Result, Ok, Err, Vec, ap, append-nil, append_assoc, drop, get_or, is_none, is_some, length, refl, set, subst, suc, sym, take}
 use Rattle.std.proofs.lemmas.Grind.{drop_more_same}
-use Rattle.std.proofs.lemmas.List.{drop-set-lt, drop_all, drop_more, length-set, set_split, take_all, take_more_set}
+use Rattle.std.proofs.lemmas.List.{drop-set-lt, drop_all, drop_more, length-set, set_split, take_all, take_more_set, with_items_is}
 use Rattle.std.proofs.lemmas.List.Quantifiers.{position-Some}
 use Rattle.std.proofs.lemmas.Option.{slice_get_read}
+use Rattle.std.specs.Vec.{with_items}
 use Rattle.std.specs.declared.alloc.AllocError.{AllocError}
 use Rattle.keep_asking.specs.Sending.{Lanes}
 use Rattle.keep_clock.specs.declared.reading.Reading.{Reading}
-use Rattle.keep_device.proofs.Lent.{written_back}
 use Rattle.keep_proving.specs.declared.candidate.Candidate.{Candidate}
 use Rattle.house_ledger.specs.Askers.{AskerAsks, FileGoesOut, HearsFirst, HearsIf, free_place, is_free}
 use Rattle.house_ledger.specs.declared.asked_file.AskedFile.{AskedFile}
@@ -51,7 +51,9 @@ module _ {L : Type 0} (lanes_seen : L → Lanes) (now : ℕ) where
   ends_at : (old new : List (Asker L)) (i : ℕ) (d n : Asker L) (word : Result (Option FileWord) AllocError) → i < length new → SoFar old new i
       → HearsFirst lanes_seen now (get_or new i d ∷ drop (i + 1) old) word (n ∷ drop (i + 1) old) → HearsFirst lanes_seen now old word (set new i n)
   ends_at old new i d n word within so h =
-      subst (HearsFirst lanes_seen now old word) (ap (λ (l : List (Asker L)). take i new ++ n ∷ l) (sym (drop_more_same new old i so.rest)) ∙ sym (set_split new i n within))
+      let one : suc i ≡ i + 1 = omega arith in
+      let whole : set new i n ≡ take i new ++ n ∷ drop (i + 1) new = subst (λ (k : ℕ). set new i n ≡ take i new ++ n ∷ drop k new) one (set_split new i n within) in
+      subst (HearsFirst lanes_seen now old word) (ap (λ (l : List (Asker L)). take i new ++ n ∷ l) (sym (drop_more_same new old i so.rest)) ∙ sym whole)
       (so.follow word (n ∷ drop (i + 1) old) (subst (λ (l : List (Asker L)). HearsFirst lanes_seen now l word (n ∷ drop (i + 1) old)) (sym (here old new i d within so.rest)) h))
 
   -- there is a word on the file of one, and the others are left alone
@@ -95,17 +97,17 @@ module _ {L : Type 0} where
 
 -- ---- those of a ledger, which are lent whole
 
-module _ {L : Type 0} (len : ℕ) (old items new : List (Asker L)) (same : items ≡ old) (many : length new ≡ length items) (whole : len ≡ length old) where
-  back : take len (new ++ drop (length new) old) ≡ new
-  back = written_back len new old (many ∙ ap length same) whole
+module _ {L Z : Type 0} (v : Vec (Asker L) Z) (items new : List (Asker L)) (same : items ≡ v.items) (many : length new ≡ length items) where
+  back : (with_items v new).items ≡ new
+  back = with_items_is v new (many ∙ ap length same ∙ sym v.ok.0)
 
   pub heard_whole : (lanes_seen : L → Lanes) (now : ℕ) (result word : Result (Option FileWord) AllocError) → result ≡ word → HearsFirst lanes_seen now items result new
-      → HearsFirst lanes_seen now old word (take len (new ++ drop (length new) old))
+      → HearsFirst lanes_seen now v.items word (with_items v new).items
   heard_whole lanes_seen now result word is h =
-      subst (HearsFirst lanes_seen now old word) (sym back) (subst (λ (l : List (Asker L)). HearsFirst lanes_seen now l word new) same (subst (λ (w : Result (Option FileWord) AllocError). HearsFirst lanes_seen now items w new) is h))
+      subst (HearsFirst lanes_seen now v.items word) (sym back) (subst (λ (l : List (Asker L)). HearsFirst lanes_seen now l word new) same (subst (λ (w : Result (Option FileWord) AllocError). HearsFirst lanes_seen now items w new) is h))
 
   pub asked_whole : (lanes_seen : L → Lanes) (port : L → ℕ) (i : ℕ) (now : Reading) (a : AskedFile) (c : Candidate) (result answer : Result (Unit {0}) AllocError) → result ≡ answer
-      → AskerAsks lanes_seen port i now a c result items new → AskerAsks lanes_seen port i now a c answer old (take len (new ++ drop (length new) old))
+      → AskerAsks lanes_seen port i now a c result items new → AskerAsks lanes_seen port i now a c answer v.items (with_items v new).items
   asked_whole lanes_seen port i now a c result answer is h =
-      subst (AskerAsks lanes_seen port i now a c answer old) (sym back)
+      subst (AskerAsks lanes_seen port i now a c answer v.items) (sym back)
       (subst (λ (l : List (Asker L)). AskerAsks lanes_seen port i now a c answer l new) same (subst (λ (r : Result (Unit {0}) AllocError). AskerAsks lanes_seen port i now a c r items new) is h))

@@ -163,13 +163,18 @@ module _ {D I L : Type 0} (calls : I → Option (List FileCall)) (lanes_seen : L
 
   -- ---- the broker's word is there
 
-  -- what the file holds is taken or refused, and the look goes on where it was. Where the entry names another file by then, or has gone,
-  -- nothing is taken
+  -- what a file gives is taken, and the look goes on where it was
+  pub record TakesBeside (due : DueFile) (held : Result (List ℕ) SecretTrouble) (old new : Ledger D I L) : Type 0 where
+    pub mid : Ledger D I L
+    pub takes : TakesHeldUp due held old mid
+    pub rest : new ≡ record mid { looking = record mid.looking { next = old.looking.next } }
+
+  -- it is what the verdict leaves of that. Where the entry names another file by then, or has gone, nothing is taken
   abbrev pub JudgesFile : FileWord → Ledger D I L → Ledger D I L → Type 0
   JudgesFile word old new =
       ((names_file (named (book_in old.state).rows word.asked.due.name) word.asked.due.file ≡ false) × ((looked ≡ quiet true) × (new ≡ old)))
       ⊎ ((names_file (named (book_in old.state).rows word.asked.due.name) word.asked.due.file ≡ true)
-      × ((mid : Ledger D I L) × (TakesHeldUp word.asked.due (judged word.asked.credential word.verdict) old mid × (new ≡ record mid { looking = record mid.looking { next = old.looking.next } }))))
+      × TakesBeside word.asked.due (judged word.asked.credential word.verdict) old new)
 
   -- ---- a look
 

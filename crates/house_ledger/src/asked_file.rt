@@ -1,7 +1,7 @@
 //! A file of a credential is looked at and read, and what it holds is looked up before it is taken.
 ghost use Rattle.std.specs.Prelude.{◌≡◌, ◌⊎◌, Ok, Some};
 ghost use Rattle.keep_proving.specs.Lookups.{IsCandidate};
-ghost use Rattle.house_ledger.specs.Takings.{IsEarly, IsPass, JudgesFile, LooksOn, LooksUpBy, LooksUpNew, ReadsNew, ReadsUp, TakesHeldUp, TakesRead, judged, past};
+ghost use Rattle.house_ledger.specs.Takings.{IsEarly, IsPass, JudgesFile, LooksOn, LooksUpBy, LooksUpNew, ReadsNew, ReadsUp, TakesBeside, TakesHeldUp, TakesRead, judged, past};
 
 use crate::asker::{FileWord, ask_at, free_place, is_asked_for, may_look};
 use crate::candidates::candidate_of_file;
@@ -144,7 +144,7 @@ impl<'a, D: Disk, I: Inputs + SecretFiles, L: Lanes> Ledger<'a, D, I, L> {
         self.look_around(alloc, now)
     }
 
-    /// What a file holds is taken or refused by the broker's word, where the entry still names the file; and the look goes on where it was.
+    /// What a file holds is taken or refused by the broker's word, where the entry still names the file.
     pub(crate) fn judge_file(&mut self, alloc: Global, now: Reading, word: FileWord) -> Looked
         ensures { JudgesFile I.calls ⟦<L as SeenLanes>⟧.seen L.host_port now result word self.old self.new }
     {
@@ -153,8 +153,21 @@ impl<'a, D: Disk, I: Inputs + SecretFiles, L: Lanes> Ledger<'a, D, I, L> {
         if !names_file(self.state.rows(), due.name.list(), due.file.list()) {
             return quiet(true);
         }
+        self.take_beside(alloc, now, due, judged(credential, verdict))
+    }
+
+    // Takes what a file gives, and the look goes on where it was.
+    fn take_beside(
+        &mut self,
+        alloc: Global,
+        now: Reading,
+        due: DueFile,
+        held: Result<Text, SecretTrouble>,
+    ) -> Looked
+        ensures { TakesBeside I.calls ⟦<L as SeenLanes>⟧.seen L.host_port now result due held self.old self.new }
+    {
         let next = self.looking.next;
-        let looked = self.take_held(alloc, now, due, judged(credential, verdict));
+        let looked = self.take_held(alloc, now, due, held);
         go_on_at(&mut self.looking, next);
         looked
     }

@@ -1,5 +1,6 @@
 //! Those over whose lanes files of credentials are looked up, one file each at a time.
 ghost use Rattle.std.specs.Prelude.{◌≡◌, ◌<◌, IfSome, None, Some, length, true};
+ghost use Rattle.std.specs.List.{list_any};
 ghost use Rattle.keep_proving.specs.Lookups.{IsCandidate};
 ghost use Rattle.house_ledger.specs.Askers.{AskerAsks, FileGoesOut, HearsFirst, HearsIf, HearsOf, asks_for, free_place, is_asked_for, is_free, may_look};
 
@@ -96,6 +97,7 @@ impl<L: Lanes> Asker<L> {
         now: u64,
         asked: AskedFile,
     ) -> Result<Option<FileWord>, AllocError>
+        requires { self.old.asked ≡ None }
         ensures { HearsOf ⟦<L as SeenLanes>⟧.seen now asked result self.old self.new }
     {
         match self.proving.go_on(alloc, now) {
@@ -162,7 +164,14 @@ pub(crate) fn free_place<L: Lanes>(askers: &[Asker<L>]) -> Option<usize>
 pub(crate) fn may_look<L: Lanes>(askers: &[Asker<L>]) -> bool
     ensures { result ≡ may_look askers.now }
 {
-    askers.is_empty() || askers.iter().any(|asker| asker.is_free())
+    askers.is_empty() || has_free(askers)
+}
+
+// Whether one of them looks nothing up.
+fn has_free<L: Lanes>(askers: &[Asker<L>]) -> bool
+    ensures { result ≡ list_any is_free askers.now }
+{
+    askers.iter().any(|asker| asker.is_free())
 }
 
 /// Whether one of them looks up what this file holds for the entry of that name.
