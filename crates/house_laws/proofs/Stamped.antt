@@ -1,5 +1,5 @@
 -- Stamped: how many stamps a ledger looks at and how many files it reads, and that its disk is left alone. For the laws of disks.
-use Rattle.std.proofs.Common.{◌≡◌, ◌∙◌, ℕ, zero, suc, ◌+◌, ◌-◌, ◌*◌, ◌≤◌, ◌≢◌, Bool, inl, inr, List, [], ◌∷◌, ◌++◌, Option, Some, None, Result, Ok, Err, ap, append-nil, append_assoc, arith, length, refl, subst, sym}
+use Rattle.std.proofs.Common.{◌≡◌, ◌∙◌, ℕ, zero, suc, ◌+◌, ◌-◌, ◌*◌, ◌≤◌, ◌≢◌, ◌⊎◌, Bool, inl, inr, List, [], ◌∷◌, ◌++◌, Option, Some, None, Result, Ok, Err, ap, append-nil, append_assoc, arith, length, refl, subst, sym}
 use Rattle.std.proofs.lemmas.List.Sums.{sum_by-append, sum_by-cons}
 use Rattle.std.specs.List.{sum_by}
 use Rattle.std.specs.declared.alloc.AllocError.{AllocError}
@@ -8,7 +8,7 @@ use Rattle.keep_change.specs.declared.row.Row.{Row}
 use Rattle.keep_clock.specs.declared.reading.Reading.{Reading}
 use Rattle.keep_device.specs.declared.fault.InputFault.{InputFault}
 use Rattle.keep_disk.specs.State.{DiskState}
-use Rattle.keep_proving.specs.declared.verdict.Verdict.{Verdict}
+use Rattle.keep_proving.specs.declared.candidate.Candidate.{Candidate}
 use Rattle.keep_secrets.specs.Looking.{Passes, PassesByStep, Steps}
 use Rattle.keep_secrets.specs.Stamps.{FileCall, Made, Opened, Stamped}
 use Rattle.keep_secrets.specs.declared.looking.DueFile.{DueFile}
@@ -26,10 +26,9 @@ use Rattle.keep_store.specs.declared.secret.Secret.{Secret}
 use Rattle.house_laws.specs.Disks.{AllAsked, AsksLittle, FewAreMade, KeeperIsCalled, LedgerIsSpared, LedgerLaw, SparesIf, SparesLedger, looks_of, makes_of, opens_of, stamps_of}
 use Rattle.house_ledger.specs.Keeping.{KeepCall, Look, LookUp, Prove, Rebuilt, Reload, Settle, Take}
 use Rattle.house_ledger.specs.Ledgers.{DoesLedger}
-use Rattle.house_ledger.specs.Takings.{AwaitsIf, HearsVerdictIf, IsFileReadAs, JudgesFile, LooksBy, LooksIf, LooksUpNew, ReadsUp, TakesHeldUp, TakesRead, TakesUpFile}
+use Rattle.house_ledger.specs.Takings.{AwaitsIf, IsEarly, IsFileReadAs, IsPass, JudgesFile, LooksBy, LooksByWord, LooksOn, LooksOrHears, LooksUpBy, LooksUpNew, ReadsNew, ReadsUp, TakesHeldUp, TakesRead, TakesUpFile}
 use Rattle.house_ledger.specs.declared.asked_file.AskedFile.{AskedFile}
-use Rattle.house_ledger.specs.declared.keeping.LookedUp.{LookedUp}
-use Rattle.house_ledger.specs.declared.keeping.LookedUp.TheVariants as lookups
+use Rattle.house_ledger.specs.declared.asker.FileWord.{FileWord}
 use Rattle.house_ledger.specs.declared.ledger.Ledger.{Ledger}
 
 -- ---- calls of files, one after another
@@ -147,14 +146,20 @@ module _ {D I L : Type 0} (calls : I → Option (List FileCall)) (lanes_seen : L
   taken : (due : DueFile) (held : Result (List ℕ) SecretTrouble) (old new : Ledger D I L) → TakesHeldUp calls lanes_seen port now looked due held old new → IsBeside old new
   taken due held old new h = record { inputs = ap (λ l. l.inputs) h.rest; disk = disk_left due held old new h.takes }
 
-  awaited : (due : DueFile) (credential : List ℕ) (result : Result LookedUp AllocError) (old new : Ledger D I L) → AwaitsIf calls lanes_seen port now looked due credential result old new → IsBeside old new
-  awaited due credential (Ok lookups.Out) old new h = record { inputs = ap (λ l. l.inputs) h.1; disk = ap (λ l. l.state.disk) h.1 }
-  awaited due credential (Ok lookups.Later) old new h = beside old new h.1
-  awaited due credential (Ok lookups.Nothing) old new h = taken due (Ok credential) old new h
-  awaited due credential (Err e) old new h = beside old new h.1
+  awaited : (due : DueFile) (result : Result (Unit {0}) AllocError) (old new : Ledger D I L) → AwaitsIf calls lanes_seen port now looked due result old new → IsBeside old new
+  awaited due (Ok x) old new h = record { inputs = ap (λ l. l.inputs) h.1; disk = ap (λ l. l.state.disk) h.1 }
+  awaited due (Err e) old new h = beside old new h.1
+
+  looked_up_by : (a : AskedFile) (c : Result (Option Candidate) AllocError) (old new : Ledger D I L) → LooksUpBy calls lanes_seen port now looked a c old new → IsBeside old new
+  looked_up_by a (Ok None) old new h = taken a.due (Ok a.credential) old new h
+  looked_up_by a (Ok (Some c)) old new (inl h) = taken a.due (Ok a.credential) old new h.1
+  looked_up_by a (Ok (Some c)) old new (inr h) =
+      let all = awaited a.due h.result h.mid new h.then in
+      record { inputs = all.inputs ∙ ap (λ l. l.inputs) h.beside; disk = all.disk ∙ ap (λ l. l.state.disk) h.beside }
+  looked_up_by a (Err e) old new h = beside old new h.1
 
   looked_up : (due : DueFile) (credential : List ℕ) (old new : Ledger D I L) → LooksUpNew calls lanes_seen port now looked due credential old new → IsBeside old new
-  looked_up due credential old new h = (let all = awaited due credential h.result (record old { proving = h.proving }) new h.then in record { inputs = all.inputs; disk = all.disk })
+  looked_up due credential old new h = looked_up_by _ h.candidate old new h.looks
 
   read_taken : (due : DueFile) (read : Result (Result (List ℕ) SecretTrouble) AllocError) (old new : Ledger D I L) → TakesRead calls lanes_seen port now looked due read old new → IsBeside old new
   read_taken due (Ok (Ok credential)) old new (inl h) = taken due (Ok credential) old new h.1
@@ -162,14 +167,11 @@ module _ {D I L : Type 0} (calls : I → Option (List FileCall)) (lanes_seen : L
   read_taken due (Ok (Err trouble)) old new h = taken due (Err trouble) old new h
   read_taken due (Err e) old new h = beside old new h.1
 
-  judged : (a : AskedFile) (verdict : Verdict) (old new : Ledger D I L) → JudgesFile calls lanes_seen port now looked a verdict old new → IsBeside old new
-  judged a verdict old new (inl h) = beside old new h.1.1
-  judged a verdict old new (inr h) = taken a.due _ old new h.1
-
-  heard : (a : AskedFile) (verdict : Result (Option Verdict) AllocError) (old new : Ledger D I L) → HearsVerdictIf calls lanes_seen port now looked a verdict old new → IsBeside old new
-  heard a (Ok None) old new h = record { inputs = ap (λ l. l.inputs) h.1; disk = ap (λ l. l.state.disk) h.1 }
-  heard a (Ok (Some verdict)) old new h = judged a verdict old new h
-  heard a (Err e) old new h = beside old new h.1
+  judged : (word : FileWord) (old new : Ledger D I L) → JudgesFile calls lanes_seen port now looked word old new → IsBeside old new
+  judged word old new (inl h) = beside old new h.1.1
+  judged word old new (inr h) =
+      let all = taken word.asked.due _ old h.1.mid h.1.takes in
+      record { inputs = ap (λ l. l.inputs) h.1.rest ∙ all.inputs; disk = ap (λ l. l.state.disk) h.1.rest ∙ all.disk }
 
   -- ---- how often files are called
 
@@ -184,22 +186,40 @@ module _ {D I L : Type 0} (calls : I → Option (List FileCall)) (lanes_seen : L
         disk = rest.disk;
       }
 
+  read_new : (due : DueFile) (old new : Ledger D I L) → ReadsNew calls lanes_seen port now looked due old new → LedgerIsSpared calls 0 1 old new
+  read_new due old new (inl h) = spared 0 1 old new (record { inputs = ap (λ l. l.inputs) h.1.1; disk = ap (λ l. l.state.disk) h.1.1 })
+  read_new due old new (inr h) = read_up due old new h.1
+
   passed : (pass : Pass) (old new : Ledger D I L) → LooksBy calls lanes_seen port now looked pass old new → LedgerIsSpared calls 0 1 old new
   passed passes.End old new h = spared 0 1 old new (record { inputs = ap (λ l. l.inputs) h.1.1; disk = ap (λ l. l.state.disk) h.1.1 })
   passed (passes.Later at) old new h = spared 0 1 old new (record { inputs = ap (λ l. l.inputs) h.1; disk = ap (λ l. l.state.disk) h.1 })
-  passed (passes.Due due) old new h = read_up due old new h
+  passed (passes.Due due) old new h = read_new due old new h
   passed passes.Want old new h = spared 0 1 old new (beside old new h.1)
 
-  looks_few : (a : Option AskedFile) (old new : Ledger D I L) → LooksIf calls lanes_seen port now looked a old new → LedgerIsSpared calls 64 1 old new
-  looks_few (Some a) old new h = (let all = heard a h.verdict (record old { asked = None; proving = h.proving }) new h.then in spared 64 1 old new (record { inputs = all.inputs; disk = all.disk }))
-  looks_few None old new (inl h) = spared 64 1 old new (beside old new h.same)
-  looks_few None old new (inr h) =
+  looks_around : (old new : Ledger D I L) → IsEarly calls lanes_seen port now looked old new ⊎ IsPass calls lanes_seen port now looked old new → LedgerIsSpared calls 64 1 old new
+  looks_around old new (inl h) = spared 64 1 old new (beside old new h.same)
+  looks_around old new (inr h) =
       let rest = passed h.pass (record old { inputs = h.files }) new h.ends in
       let looked_at = pass_few calls _ _ _ _ _ _ 64 old.inputs h.pass h.files h.passes in
       record {
         files = few_more (64 + 0) (0 + 1) 64 1 (calls old.inputs) (calls new.inputs) (omega arith) (omega arith) (few_join 64 0 0 1 (calls old.inputs) (calls h.files) (calls new.inputs) looked_at rest.files);
         disk = rest.disk;
       }
+
+  looks_on : (old new : Ledger D I L) → LooksOn calls lanes_seen port now looked old new → LedgerIsSpared calls 64 1 old new
+  looks_on old new (inl h) = looks_around old new h.1
+  looks_on old new (inr h) = spared 64 1 old new (beside old new h.1.1)
+
+  looks_by : (word : Result (Option FileWord) AllocError) (old new : Ledger D I L) → LooksByWord calls lanes_seen port now looked word old new → LedgerIsSpared calls 64 1 old new
+  looks_by (Ok None) old new h = looks_on old new h
+  looks_by (Ok (Some word)) old new h = spared 64 1 old new (judged word old new h)
+  looks_by (Err e) old new h = spared 64 1 old new (beside old new h.1)
+
+  -- hearing of what was asked before calls no file
+  looks_few : (old new : Ledger D I L) → LooksOrHears calls lanes_seen port now looked old new → LedgerIsSpared calls 64 1 old new
+  looks_few old new h =
+      let all = looks_by h.word h.heard new h.looks in
+      record { files = subst (λ (i : I). FewAreMade 64 1 (calls i) (calls new.inputs)) (ap (λ l. l.inputs) h.beside) all.files; disk = all.disk ∙ ap (λ l. l.state.disk) h.beside }
 
 -- ---- each call of a ledger
 
@@ -216,7 +236,7 @@ module _ {D I L : Type 0} (known : Bool) (seen : D → DiskState) (calls : I →
   by_call (Prove now result) old new none h = untouched old new (ap (λ l. l.inputs) h.1) (ap (λ l. l.state.disk) h.1)
   by_call (Settle result) old new none h = absurd (omega (arith, none))
   by_call (Reload now result) old new none h = absurd (omega (arith, none))
-  by_call (Look now looked) old new none h = looks_few calls lanes_seen port now looked old.asked old new h
+  by_call (Look now looked) old new none h = looks_few calls lanes_seen port now looked old new h
   by_call Rebuilt old new none h = untouched old new (ap (λ l. l.inputs) h.1.1.1) h.1.1.0
 
   pub ledger_law : LedgerLaw known seen calls lanes_seen port

@@ -1,4 +1,4 @@
 pub mod TakenUp
 pub mod Compacting
 pub mod WhyUnserved
-pub mod Waits
+pub mod Asking

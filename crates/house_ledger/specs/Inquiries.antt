@@ -1,4 +1,5 @@
--- Inquiries: a credential is looked up over lanes of its own, where there are any, and the broker's word on it is heard.
+-- Inquiries: the credential that a client's change brings is looked up over a lane of its own, where there is one, and the broker's word
+-- on it is heard.
 -- Source: this project's own.
 use Rattle.std.specs.Prelude.{◌≡◌, ℕ, Option, Some, None, Result, Ok, Err}
 use Rattle.std.specs.declared.alloc.AllocError.{AllocError}

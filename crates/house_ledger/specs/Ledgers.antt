@@ -13,9 +13,7 @@ use Rattle.keep_disk.specs.declared.fault.DiskFault.{DiskFault}
 use Rattle.keep_files.specs.Files.{Files}
 use Rattle.keep_inventory.specs.Inventories.{Inventory}
 use Rattle.keep_journal.specs.Journals.{JournalIsWhole}
-use Rattle.keep_proving.specs.Lookups.{Inquiry}
 use Rattle.keep_proving.specs.declared.candidate.Candidate.{Candidate}
-use Rattle.keep_proving.specs.declared.verdict.Verdict.{Verdict}
 use Rattle.keep_state.specs.Settles.{IsCopied, IsSettledState, IsWhyUnsettledState}
 use Rattle.keep_state.specs.States.{Kept, book_in, store_in}
 use Rattle.keep_state.specs.Tables.{row_of_table}
@@ -38,7 +36,6 @@ use Rattle.house_words.specs.Rereading.{AreBytesOf, IsWhyNotReread, SaysCopy, Sa
 use Rattle.house_words.specs.Starts.{is_bare_row}
 use Rattle.house_ledger.specs.Takings.{LooksOrHears}
 use Rattle.house_ledger.specs.Untouched.{IsAsItWas}
-use Rattle.house_ledger.specs.declared.asked_file.AskedFile.{AskedFile}
 use Rattle.house_words.specs.declared.demands.Demands.{Demands}
 use Rattle.house_ledger.specs.declared.keeping.LookedUp.{LookedUp}
 use Rattle.house_words.specs.declared.reread.Reread.{Reread}
@@ -126,11 +123,6 @@ abbrev pub ReloadsOn : {D : Type 0} → Bool → (D → DiskState) → Demands �
 ReloadsOn known seen demands now (Ok reread) old new = IsReloadedOn known seen demands now reread old new
 ReloadsOn known seen demands now (Err whys) old new = IsAsItWas old new × IsWhyNotReread known seen demands old whys.items
 
--- a verdict on what a file holds is none of a client's
-abbrev pub ProvesIf : {L : Type 0} → (L → Lanes) → Option AskedFile → ℕ → Result (Option Verdict) AllocError → Option (Inquiry L) → Option (Inquiry L) → Type 0
-ProvesIf lanes_seen (Some other) now result old new = (result ≡ Ok None) × (new ≡ old)
-ProvesIf lanes_seen None now result old new = ProvesOn lanes_seen now result old new
-
 module _ {D I L : Type 0} (known : Bool) (seen : D → DiskState) (calls : I → Option (List FileCall)) (lanes_seen : L → Lanes) (port : L → ℕ) where
   -- what a change brings is looked up, and nothing else changes
   abbrev pub LooksUpOn : Reading → List ℕ → What → Result LookedUp AllocError → Ledger D I L → Ledger D I L → Type 0
@@ -141,7 +133,7 @@ module _ {D I L : Type 0} (known : Bool) (seen : D → DiskState) (calls : I →
   -- nothing else changes
   abbrev pub DoesLedger : KeepCall → Ledger D I L → Ledger D I L → Type 0
   DoesLedger (LookUp now name w result) old new = LooksUpOn now name w result old new × (new ≡ record old { proving = new.proving })
-  DoesLedger (Prove now result) old new = ProvesIf lanes_seen old.asked now result old.proving new.proving × (new ≡ record old { proving = new.proving })
+  DoesLedger (Prove now result) old new = ProvesOn lanes_seen now result old.proving new.proving × (new ≡ record old { proving = new.proving })
   DoesLedger (Take now name w result) old new = TakesOn known seen now name w result old.state new.state × (new ≡ record old { state = new.state })
   DoesLedger (Settle result) old new = SettlesOn known seen result old.state new.state × (new ≡ record old { state = new.state })
   DoesLedger (Reload now result) old new = ReloadsOn known seen old.demands now result old.state new.state × (new ≡ record old { state = new.state })

@@ -1,12 +1,11 @@
 -- Takings: a file of a credential is looked at and read, and what it holds is looked up at the broker and taken into a state.
 -- Source: docs/running.md, "Secrets by file".
-use Rattle.std.specs.Prelude.{◌≡◌, ◌⊎◌, ◌<◌, ◌≤◌, ℕ, Bool, true, false, List, Option, Some, None, Result, Ok, Err, drop}
+use Rattle.std.specs.Prelude.{◌≡◌, ◌⊎◌, ◌<◌, ◌≤◌, ℕ, ◌+◌, Bool, true, false, List, Option, Some, None, IfOk, Result, Ok, Err, drop, min}
 use Rattle.std.specs.declared.alloc.AllocError.{AllocError}
 use Rattle.keep_agent.specs.Waiting.{changed}
 use Rattle.keep_asking.specs.Sending.{Lanes}
 use Rattle.keep_change.specs.Rows.{named}
 use Rattle.keep_clock.specs.declared.reading.Reading.{Reading}
-use Rattle.keep_proving.specs.Lookups.{Inquiry}
 use Rattle.keep_proving.specs.declared.candidate.Candidate.{Candidate}
 use Rattle.keep_proving.specs.declared.verdict.Verdict.{Verdict}
 use Rattle.keep_proving.specs.declared.verdict.Verdict.TheVariants.{Good, Refused, Endless, Missing}
@@ -24,16 +23,15 @@ use Rattle.keep_secrets.specs.declared.looking.Pass.{Pass}
 use Rattle.keep_secrets.specs.declared.looking.Pass.TheVariants as passes
 use Rattle.keep_secrets.specs.declared.looking.SecretTrouble.{SecretTrouble}
 use Rattle.keep_secrets.specs.declared.looking.SecretTrouble.TheVariants as troubles
-use Rattle.keep_secrets.specs.declared.looking.TheConstants.{MOST_LOOKS}
+use Rattle.keep_secrets.specs.declared.looking.TheConstants.{MOST_LOOKS, NEVER}
 use Rattle.keep_secrets.specs.declared.news.Became.{Became}
 use Rattle.keep_secrets.specs.declared.news.Became.TheVariants.{Taken, Same, Troubled}
 use Rattle.keep_secrets.specs.declared.news.Looked.{Looked}
 use Rattle.house_ledger.specs.Candidates.{IsFileCandidate}
-use Rattle.house_ledger.specs.Inquiries.{AsksAbout, ProvesOn, asked_in}
+use Rattle.house_ledger.specs.Askers.{AskerAsks, HearsFirst, free_place, is_asked_for, may_look}
 use Rattle.house_ledger.specs.Untouched.{IsAsItWas}
 use Rattle.house_ledger.specs.declared.asked_file.AskedFile.{AskedFile}
-use Rattle.house_ledger.specs.declared.keeping.LookedUp.{LookedUp}
-use Rattle.house_ledger.specs.declared.keeping.LookedUp.TheVariants as lookups
+use Rattle.house_ledger.specs.declared.asker.FileWord.{FileWord}
 use Rattle.house_ledger.specs.declared.ledger.Ledger.{Ledger}
 
 -- ---- a credential
@@ -113,29 +111,41 @@ judged credential (Refused status) = Err (troubles.Refused status)
 judged credential Endless = Err troubles.Endless
 judged credential (Missing why) = Ok credential
 
--- the entry by itself, with this credential, is looked up
-abbrev pub FileIsAsked : {D L : Type 0} → (L → Lanes) → (L → ℕ) → Reading → DueFile → List ℕ → Result LookedUp AllocError → Kept D → Option (Inquiry L) → Option (Inquiry L) → Type 0
-FileIsAsked lanes_seen port now due credential (Ok result) kept old new =
-    (c : Option Candidate) × (IsFileCandidate (book_in kept).file.margin (book_in kept).rows (book_in kept).text due.name credential c × AsksAbout lanes_seen port now c (Ok result) old new)
-FileIsAsked lanes_seen port now due credential (Err e) kept old new = asked_in new ≡ asked_in old
+-- the look goes on after that row
+abbrev pub past : ℕ → Looking → Looking
+past at looking = record looking { next = min (at + 1) NEVER }
 
 module _ {D I L : Type 0} (calls : I → Option (List FileCall)) (lanes_seen : L → Lanes) (port : L → ℕ) (now : Reading) (looked : Looked) where
   pub record TakesHeldUp (due : DueFile) (held : Result (List ℕ) SecretTrouble) (old new : Ledger D I L) : Type 0 where
     pub takes : TakesUpFile now.elapsed due held old.looking old.state looked new.looking new.state
     pub rest : new ≡ record old { looking = new.looking; state = new.state }
 
-  -- then it waits for the broker's word; while another one is looked up it is due still; and it is taken where nothing is looked up
-  abbrev pub AwaitsIf : DueFile → List ℕ → Result LookedUp AllocError → Ledger D I L → Ledger D I L → Type 0
-  AwaitsIf due credential (Ok lookups.Out) old new = (looked ≡ quiet false) × (new ≡ record old { asked = Some (record { due = due; credential = credential }) })
-  AwaitsIf due credential (Ok lookups.Later) old new = (looked ≡ quiet false) × (new ≡ old)
-  AwaitsIf due credential (Ok lookups.Nothing) old new = TakesHeldUp due (Ok credential) old new
-  AwaitsIf due credential (Err e) old new = (looked ≡ wanting) × (new ≡ old)
+  -- it waits for the broker's word, and the look goes on; or memory is wanting, and it is due still
+  abbrev pub AwaitsIf : DueFile → Result (Unit {0}) AllocError → Ledger D I L → Ledger D I L → Type 0
+  AwaitsIf due (Ok x) old new = (looked ≡ quiet true) × (new ≡ record old { looking = past due.at old.looking })
+  AwaitsIf due (Err e) old new = (looked ≡ wanting) × (new ≡ old)
 
+  -- the first asker that is free looks it up
+  pub record IsLookedUp (a : AskedFile) (c : Candidate) (old new : Ledger D I L) : Type 0 where
+    pub place : ℕ
+    pub free : free_place old.askers.items ≡ Some place
+    pub result : Result (Unit {0}) AllocError
+    pub mid : Ledger D I L
+    pub asks : AskerAsks lanes_seen port place now a c result old.askers.items mid.askers.items
+    pub beside : mid ≡ record old { askers = mid.askers }
+    pub then : AwaitsIf a.due result mid new
+
+  -- where there is nothing to be looked up, or nobody who does that, it is taken at once
+  abbrev pub LooksUpBy : AskedFile → Result (Option Candidate) AllocError → Ledger D I L → Ledger D I L → Type 0
+  LooksUpBy a (Ok None) old new = TakesHeldUp a.due (Ok a.credential) old new
+  LooksUpBy a (Ok (Some c)) old new = ((free_place old.askers.items ≡ None) × TakesHeldUp a.due (Ok a.credential) old new) ⊎ IsLookedUp a c old new
+  LooksUpBy a (Err e) old new = (looked ≡ wanting) × (new ≡ old)
+
+  -- the entry by itself, with this credential, is looked up
   pub record LooksUpNew (due : DueFile) (credential : List ℕ) (old new : Ledger D I L) : Type 0 where
-    pub result : Result LookedUp AllocError
-    pub proving : Option (Inquiry L)
-    pub asks : FileIsAsked lanes_seen port now due credential result old.state old.proving proving
-    pub then : AwaitsIf due credential result (record old { proving = proving }) new
+    pub candidate : Result (Option Candidate) AllocError
+    pub which : IfOk candidate (IsFileCandidate (book_in old.state).file.margin (book_in old.state).rows (book_in old.state).text due.name credential)
+    pub looks : LooksUpBy (record { due = due; credential = credential }) candidate old new
 
   -- one that the entry has already is not looked up
   abbrev pub TakesRead : DueFile → Result (Result (List ℕ) SecretTrouble) AllocError → Ledger D I L → Ledger D I L → Type 0
@@ -153,31 +163,32 @@ module _ {D I L : Type 0} (calls : I → Option (List FileCall)) (lanes_seen : L
 
   -- ---- the broker's word is there
 
-  -- where the entry names another file by then, or has gone, nothing is taken
-  abbrev pub JudgesFile : AskedFile → Verdict → Ledger D I L → Ledger D I L → Type 0
-  JudgesFile a verdict old new =
-      ((names_file (named (book_in old.state).rows a.due.name) a.due.file ≡ false) × ((looked ≡ quiet true) × (new ≡ old)))
-      ⊎ ((names_file (named (book_in old.state).rows a.due.name) a.due.file ≡ true) × TakesHeldUp a.due (judged a.credential verdict) old new)
+  -- what a file gives is taken, and the look goes on where it was
+  pub record TakesBeside (due : DueFile) (held : Result (List ℕ) SecretTrouble) (old new : Ledger D I L) : Type 0 where
+    pub mid : Ledger D I L
+    pub takes : TakesHeldUp due held old mid
+    pub rest : new ≡ record mid { looking = record mid.looking { next = old.looking.next } }
 
-  -- till then it waits on. Where memory is wanting for the word, it is due still
-  abbrev pub HearsVerdictIf : AskedFile → Result (Option Verdict) AllocError → Ledger D I L → Ledger D I L → Type 0
-  HearsVerdictIf a (Ok None) old new = (looked ≡ quiet false) × (new ≡ record old { asked = Some a })
-  HearsVerdictIf a (Ok (Some verdict)) old new = JudgesFile a verdict old new
-  HearsVerdictIf a (Err e) old new = (looked ≡ wanting) × (new ≡ old)
-
-  pub record HearsFile (a : AskedFile) (old new : Ledger D I L) : Type 0 where
-    pub verdict : Result (Option Verdict) AllocError
-    pub proving : Option (Inquiry L)
-    pub proves : ProvesOn lanes_seen now.elapsed verdict old.proving proving
-    pub then : HearsVerdictIf a verdict (record old { proving = proving }) new
+  -- it is what the verdict leaves of that. Where the entry names another file by then, or has gone, nothing is taken
+  abbrev pub JudgesFile : FileWord → Ledger D I L → Ledger D I L → Type 0
+  JudgesFile word old new =
+      ((names_file (named (book_in old.state).rows word.asked.due.name) word.asked.due.file ≡ false) × ((looked ≡ quiet true) × (new ≡ old)))
+      ⊎ ((names_file (named (book_in old.state).rows word.asked.due.name) word.asked.due.file ≡ true)
+      × TakesBeside word.asked.due (judged word.asked.credential word.verdict) old new)
 
   -- ---- a look
+
+  -- a file of which the lookup is out is not read meanwhile
+  abbrev pub ReadsNew : DueFile → Ledger D I L → Ledger D I L → Type 0
+  ReadsNew due old new =
+      ((is_asked_for due.name due.file old.askers.items ≡ true) × ((looked ≡ quiet true) × (new ≡ record old { looking = past due.at old.looking })))
+      ⊎ ((is_asked_for due.name due.file old.askers.items ≡ false) × ReadsUp due old new)
 
   -- how a pass ends
   abbrev pub LooksBy : Pass → Ledger D I L → Ledger D I L → Type 0
   LooksBy passes.End old new = (looked ≡ quiet false) × (IsPassed now.elapsed old.looking new.looking × (new ≡ record old { looking = new.looking }))
   LooksBy (passes.Later at) old new = (looked ≡ quiet true) × (new ≡ record old { looking = record old.looking { next = at } })
-  LooksBy (passes.Due due) old new = ReadsUp due old new
+  LooksBy (passes.Due due) old new = ReadsNew due old new
   LooksBy passes.Want old new = (looked ≡ wanting) × (new ≡ old)
 
   -- a pass over the rows goes on
@@ -194,10 +205,20 @@ module _ {D I L : Type 0} (calls : I → Option (List FileCall)) (lanes_seen : L
     pub told : looked ≡ quiet false
     pub same : new ≡ old
 
-  -- while the credential of a file is looked up no file is looked at
-  abbrev pub LooksIf : Option AskedFile → Ledger D I L → Ledger D I L → Type 0
-  LooksIf (Some a) old new = HearsFile a (record old { asked = None }) new
-  LooksIf None old new = IsEarly old new ⊎ IsPass old new
+  -- where nobody could look up what they hold no file is looked at
+  abbrev pub LooksOn : Ledger D I L → Ledger D I L → Type 0
+  LooksOn old new =
+      ((may_look old.askers.items ≡ true) × (IsEarly old new ⊎ IsPass old new)) ⊎ ((may_look old.askers.items ≡ false) × ((looked ≡ quiet false) × (new ≡ old)))
 
-  abbrev pub LooksOrHears : Ledger D I L → Ledger D I L → Type 0
-  LooksOrHears old new = LooksIf old.asked old new
+  -- files are looked at where there is no word yet on what others hold. Where memory is wanting for a word, its file is due still
+  abbrev pub LooksByWord : Result (Option FileWord) AllocError → Ledger D I L → Ledger D I L → Type 0
+  LooksByWord (Ok None) old new = LooksOn old new
+  LooksByWord (Ok (Some word)) old new = JudgesFile word old new
+  LooksByWord (Err e) old new = (looked ≡ wanting) × (new ≡ old)
+
+  pub record LooksOrHears (old new : Ledger D I L) : Type 0 where
+    pub word : Result (Option FileWord) AllocError
+    pub heard : Ledger D I L
+    pub hears : HearsFirst lanes_seen now.elapsed old.askers.items word heard.askers.items
+    pub beside : heard ≡ record old { askers = heard.askers }
+    pub looks : LooksByWord word heard new

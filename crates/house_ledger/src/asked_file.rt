@@ -1,10 +1,10 @@
 //! A file of a credential is looked at and read, and what it holds is looked up before it is taken.
-ghost use Rattle.std.specs.Prelude.{◌≡◌, ◌⊎◌, Ok};
-ghost use Rattle.house_ledger.specs.Takings.{FileIsAsked, HearsFile, IsEarly, IsPass, JudgesFile, LooksUpNew, ReadsUp, TakesHeldUp, TakesRead, judged};
+ghost use Rattle.std.specs.Prelude.{◌≡◌, ◌⊎◌, Ok, Some};
+ghost use Rattle.keep_proving.specs.Lookups.{IsCandidate};
+ghost use Rattle.house_ledger.specs.Takings.{IsEarly, IsPass, JudgesFile, LooksOn, LooksUpBy, LooksUpNew, ReadsNew, ReadsUp, TakesBeside, TakesHeldUp, TakesRead, judged, past};
 
+use crate::asker::{FileWord, ask_at, free_place, is_asked_for, may_look};
 use crate::candidates::candidate_of_file;
-use crate::inquiry::{ask, hear};
-use crate::keeping::LookedUp;
 use crate::ledger::Ledger;
 use crate::secret_changes::{quiet, take_up, wanting};
 use keep_asking::SeenLanes;
@@ -13,7 +13,7 @@ use keep_disk::Disk;
 use keep_files::Inputs;
 use keep_lanes::Lanes;
 use keep_moment::Text;
-use keep_proving::Verdict;
+use keep_proving::{Candidate, Verdict};
 use keep_secrets::{
     DueFile, Looked, Looking, Pass, SecretFiles, SecretTrouble, has_it, names_file, read_held,
 };
@@ -29,9 +29,9 @@ pub struct AskedFile {
 }
 
 impl<'a, D: Disk, I: Inputs + SecretFiles, L: Lanes> Ledger<'a, D, I, L> {
-    /// Looks at the files of credentials that the rows name, where it is time for that, until one is to be read; reads that one, and takes
-    /// what it holds, or looks that up first.
-    pub(crate) fn look_around(&mut self, alloc: Global, now: Reading) -> Looked
+    // Looks at the files of credentials that the rows name, where it is time for that, until one is to be read; reads that one, and takes
+    // what it holds, or looks that up first.
+    fn look_around(&mut self, alloc: Global, now: Reading) -> Looked
         ensures { IsEarly I.calls ⟦<L as SeenLanes>⟧.seen L.host_port now result self.old self.new ⊎ IsPass I.calls ⟦<L as SeenLanes>⟧.seen L.host_port now result self.old self.new }
     {
         if now.elapsed < self.looking.from {
@@ -49,9 +49,20 @@ impl<'a, D: Disk, I: Inputs + SecretFiles, L: Lanes> Ledger<'a, D, I, L> {
                 go_on_at(&mut self.looking, at);
                 quiet(true)
             }
-            Pass::Due(due) => self.read_up(alloc, now, due),
+            Pass::Due(due) => self.read_new(alloc, now, due),
             Pass::Want => wanting(),
         }
+    }
+
+    // Reads a file, unless what it held is looked up still: then the look goes on.
+    fn read_new(&mut self, alloc: Global, now: Reading, due: DueFile) -> Looked
+        ensures { ReadsNew I.calls ⟦<L as SeenLanes>⟧.seen L.host_port now result due self.old self.new }
+    {
+        if is_asked_for(&self.askers, due.name.list(), due.file.list()) {
+            go_on_past(&mut self.looking, due.at);
+            return quiet(true);
+        }
+        self.read_up(alloc, now, due)
     }
 
     // Reads a file, and takes what it holds, or looks that up first.
@@ -90,61 +101,75 @@ impl<'a, D: Disk, I: Inputs + SecretFiles, L: Lanes> Ledger<'a, D, I, L> {
     fn look_up_new(&mut self, alloc: Global, now: Reading, due: DueFile, credential: Text) -> Looked
         ensures { LooksUpNew I.calls ⟦<L as SeenLanes>⟧.seen L.host_port now result due credential self.old self.new }
     {
-        match self.ask_about(alloc, now, &due, &credential) {
-            Ok(LookedUp::Out) => {
-                self.asked = Some(AskedFile { due, credential });
-                quiet(false)
+        match candidate_of_file(alloc, &self.state, due.name.list(), &credential) {
+            Ok(None) => self.take_held(alloc, now, due, Ok(credential)),
+            Ok(Some(candidate)) => {
+                self.ask_about(alloc, now, AskedFile { due, credential }, candidate)
             }
-            Ok(LookedUp::Later) => quiet(false),
-            Ok(LookedUp::Nothing) => self.take_held(alloc, now, due, Ok(credential)),
             Err(AllocError) => wanting(),
         }
     }
 
-    // Looks the credential of a file up, where there is something to be looked up and nothing else is. The only error is lack of memory.
+    // The first that is free looks it up, and the look goes on. Where nobody looks anything up it is taken at once.
     fn ask_about(
         &mut self,
         alloc: Global,
         now: Reading,
-        due: &DueFile,
-        credential: &Text,
-    ) -> Result<LookedUp, AllocError>
-        ensures asks { FileIsAsked ⟦<L as SeenLanes>⟧.seen L.host_port now due.now credential.now result self.old.state self.old.proving self.new.proving }
-        ensures rest { self.new ≡ record self.old { proving = self.new.proving } }
+        asked: AskedFile,
+        candidate: Candidate,
+    ) -> Looked
+        requires { IsCandidate candidate }
+        ensures { LooksUpBy I.calls ⟦<L as SeenLanes>⟧.seen L.host_port now result asked (Ok (Some candidate)) self.old self.new }
     {
-        let candidate = candidate_of_file(alloc, &self.state, due.name.list(), credential)?;
-        ask(alloc, &mut self.proving, now, candidate)
-    }
-
-    /// What a file holds is taken or refused by the broker's word, once that is there; till then it waits on.
-    pub(crate) fn hear_file(&mut self, alloc: Global, now: Reading, asked: AskedFile) -> Looked
-        ensures { HearsFile I.calls ⟦<L as SeenLanes>⟧.seen L.host_port now result asked self.old self.new }
-    {
-        match hear(alloc, &mut self.proving, now.elapsed) {
-            Ok(None) => {
-                self.asked = Some(asked);
-                quiet(false)
+        let Some(place) = free_place(&self.askers) else {
+            return self.take_held(alloc, now, asked.due, Ok(asked.credential));
+        };
+        let row = asked.due.at;
+        match ask_at(alloc, &mut self.askers, place, now, asked, candidate) {
+            Ok(()) => {
+                go_on_past(&mut self.looking, row);
+                quiet(true)
             }
-            Ok(Some(verdict)) => self.judge_file(alloc, now, asked, verdict),
             Err(AllocError) => wanting(),
         }
     }
 
-    // It is taken or refused by the verdict on it, where the entry still names the file.
-    fn judge_file(
-        &mut self,
-        alloc: Global,
-        now: Reading,
-        asked: AskedFile,
-        verdict: Verdict,
-    ) -> Looked
-        ensures { JudgesFile I.calls ⟦<L as SeenLanes>⟧.seen L.host_port now result asked verdict self.old self.new }
+    /// Looks at files of credentials, where somebody can look up what they hold.
+    pub(crate) fn look_on(&mut self, alloc: Global, now: Reading) -> Looked
+        ensures { LooksOn I.calls ⟦<L as SeenLanes>⟧.seen L.host_port now result self.old self.new }
     {
+        if !may_look(&self.askers) {
+            return quiet(false);
+        }
+        self.look_around(alloc, now)
+    }
+
+    /// What a file holds is taken or refused by the broker's word, where the entry still names the file.
+    pub(crate) fn judge_file(&mut self, alloc: Global, now: Reading, word: FileWord) -> Looked
+        ensures { JudgesFile I.calls ⟦<L as SeenLanes>⟧.seen L.host_port now result word self.old self.new }
+    {
+        let FileWord { asked, verdict } = word;
         let AskedFile { due, credential } = asked;
         if !names_file(self.state.rows(), due.name.list(), due.file.list()) {
             return quiet(true);
         }
-        self.take_held(alloc, now, due, judged(credential, verdict))
+        self.take_beside(alloc, now, due, judged(credential, verdict))
+    }
+
+    // Takes what a file gives, and the look goes on where it was.
+    fn take_beside(
+        &mut self,
+        alloc: Global,
+        now: Reading,
+        due: DueFile,
+        held: Result<Text, SecretTrouble>,
+    ) -> Looked
+        ensures { TakesBeside I.calls ⟦<L as SeenLanes>⟧.seen L.host_port now result due held self.old self.new }
+    {
+        let next = self.looking.next;
+        let looked = self.take_held(alloc, now, due, held);
+        go_on_at(&mut self.looking, next);
+        looked
     }
 
     // Takes what a file gives, and keeps what came of it.
@@ -173,6 +198,13 @@ fn go_on_at(looking: &mut Looking, at: usize)
     ensures { looking.new ≡ record looking.old { next = at } }
 {
     looking.next = at;
+}
+
+// The look goes on after this row.
+fn go_on_past(looking: &mut Looking, at: usize)
+    ensures { looking.new ≡ past at looking.old }
+{
+    looking.next = at.saturating_add(1);
 }
 
 // What the file gives by the broker's word: a lookup without an answer says nothing against it.

@@ -1,4 +1,4 @@
-//! A credential is looked up before it is taken, over lanes of its own, where there are any.
+//! The credential that a client's change brings is looked up before it is taken, over a lane of its own, where there is one.
 ghost use Rattle.std.specs.Prelude.{IfSome};
 ghost use Rattle.keep_proving.specs.Lookups.{IsCandidate};
 ghost use Rattle.house_ledger.specs.Inquiries.{AsksAbout, ProvesOn};

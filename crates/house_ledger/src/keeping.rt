@@ -21,7 +21,7 @@ use std::alloc::{AllocError, Global};
 pub enum LookedUp {
     /// Its lookup is out, and [`Keeping::prove`] gives the verdict.
     Out,
-    /// Another credential is being looked up.
+    /// The credential of another change is being looked up.
     Later,
     /// There is nothing to be looked up.
     Nothing,
@@ -83,8 +83,8 @@ pub trait Keeping {
     fn due(&self, alloc: Global, now: u64) -> Result<Option<Inventory>, AllocError>
         ensures { Self.gives now result self.now };
 
-    /// Looks at files of credentials, where it is time for that, until one is to be read; and takes what that one holds, once it was
-    /// looked up. While one is looked up no other is looked at. It waits for nothing but the files.
+    /// Takes what a file of a credential holds, once that was looked up. Where nothing was, looks at files, where it is time for that and
+    /// one more can be looked up, until one is to be read. It waits for nothing but the files.
     fn look(&mut self, alloc: Global, now: Reading) -> Looked
         ensures { Self.does (Look now result) self.old self.new };
 

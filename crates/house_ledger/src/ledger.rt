@@ -19,10 +19,11 @@ ghost use Rattle.house_words.specs.Rereading.{AreAtMost, AreBytesOf, IsWhyNotRer
 ghost use Rattle.house_words.specs.Starts.{is_bare_row};
 ghost use Rattle.house_ledger.specs.Untouched.{IsAsItWas};
 
-use crate::asked_file::AskedFile;
+use crate::asker::{Asker, hear_first};
 use crate::candidates::candidate_of;
 use crate::inquiry::{ask, hear};
 use crate::keeping::{Keeping, LookedUp};
+use crate::secret_changes::wanting;
 use house_words::{
     Demands, Gathered, Reread, after, bare_words, book_words, disk_words, gather, is_bare_row,
     left_over_words, settle_words, table_words, take_words, unread_words, why_not_served, wide,
@@ -42,7 +43,6 @@ use keep_state::{Reloaded, State, TableFault, read_table};
 use keep_store::{Secret, TakeFault};
 use keep_words::push_number;
 use std::alloc::{AllocError, Global};
-use std::mem;
 
 /// The notes of a file that are said at most; what is left is counted in one more.
 const MOST_NOTES: usize = 100;
@@ -60,10 +60,10 @@ pub struct Ledger<'a, D: Disk, I, L: Lanes> {
     pub inputs: I,
     /// How far the look at them has come.
     pub looking: Looking,
-    /// Over which a credential is looked up before it is taken, where that is done.
+    /// Over which the credential of a client's change is looked up before it is taken, where that is done.
     pub proving: Option<Proving<L>>,
-    /// The credential of a file that is looked up, where one is.
-    pub asked: Option<AskedFile>,
+    /// Over which the credentials of files are, one file each at a time; none, where that is not done.
+    pub askers: Vec<Asker<L>>,
 }
 
 impl<'a, D: Disk, I: Inputs, L: Lanes> Ledger<'a, D, I, L> {
@@ -369,9 +369,6 @@ impl<'a, D: Disk, I: Inputs + SecretFiles, L: Lanes> Keeping for Ledger<'a, D, I
     }
 
     fn prove(&mut self, alloc: Global, now: u64) -> Result<Option<Verdict>, AllocError> {
-        if self.asked.is_some() {
-            return Ok(None);
-        }
         hear(alloc, &mut self.proving, now)
     }
 
@@ -406,9 +403,10 @@ impl<'a, D: Disk, I: Inputs + SecretFiles, L: Lanes> Keeping for Ledger<'a, D, I
     }
 
     fn look(&mut self, alloc: Global, now: Reading) -> Looked {
-        match mem::replace(&mut self.asked, None) {
-            Some(asked) => self.hear_file(alloc, now, asked),
-            None => self.look_around(alloc, now),
+        match hear_first(alloc, &mut self.askers, now.elapsed) {
+            Ok(None) => self.look_on(alloc, now),
+            Ok(Some(word)) => self.judge_file(alloc, now, word),
+            Err(AllocError) => wanting(),
         }
     }
 

@@ -3,11 +3,12 @@
 //! The contract for the layer above: [`Keeping`] is what is asked of whoever keeps changes, and each call is known by what it was asked
 //! for and what came of it (`specs/Keeping`). A [`Ledger`] keeps them in a state on a disk (`specs/Ledgers`): a change that it takes holds
 //! over a restart, and one that it refuses leaves all as it was (`specs/Untouched`). The credential that a change brings is looked up
-//! first, by itself (`specs/Candidates`, `specs/Inquiries`), and so is what a file holds before it is taken (`specs/Takings`). Begin
-//! with `specs/Keeping` and `specs/Ledgers`, then `keeping` and `ledger`.
+//! first, by itself (`specs/Candidates`, `specs/Inquiries`), and so is what a file holds before it is taken (`specs/Takings`), of as many
+//! files at once as there are askers (`specs/Askers`). Begin with `specs/Keeping` and `specs/Ledgers`, then `keeping` and `ledger`.
 #![tactic(auto)]
 
 mod asked_file;
+mod asker;
 mod candidates;
 mod inquiry;
 mod keeping;
@@ -15,5 +16,6 @@ mod ledger;
 mod secret_changes;
 
 pub use asked_file::AskedFile;
+pub use asker::{Asker, FileWord};
 pub use keeping::{Keeping, LookedUp};
 pub use ledger::Ledger;

@@ -30,7 +30,7 @@ mod secret_news;
 pub use follow_command::MOST_FOLLOWERS;
 pub use given::{Awaited, Given, GivenNeed};
 pub use house::House;
-pub use house_ledger::{AskedFile, Keeping, Ledger, LookedUp};
+pub use house_ledger::{AskedFile, Asker, Keeping, Ledger, LookedUp};
 pub use house_log::{Desk, MOST_GIVEN, Mark, Rooms, Want};
 pub use house_words::{
     Demands, Reread, StartFault, disk_words, faults_as_written, faults_to_serve, file_words,

@@ -10,7 +10,7 @@ use keep_command::SystemFiles;
 use keep_device::{Sink, Watched};
 use keep_disk::SystemDisk;
 use keep_engine::{Exit, PROGRAM, Stop};
-use keep_house::{Demands, Desk};
+use keep_house::{Asker, Demands, Desk};
 use keep_lanes::{Lanes, LanesOver, MOST_WIDTH, SocketLanes};
 use keep_log::StandardOutput;
 use keep_proving::Proving;
@@ -141,7 +141,7 @@ where
     serve_with(rt.alloc(), now, start, ready, log, clock, lanes)
 }
 
-/// Gives the ledger of a start a lane, opens the log and the doors, and takes over the ends that a file keeps. The only error is lack of
+/// Gives the ledger of a start lanes of its own, opens the log and the doors, and takes over the ends that a file keeps. The only error is lack of
 /// memory.
 fn make_ready<'a, R>(
     rt: &'a R,
@@ -154,7 +154,7 @@ where
     R: Files<File = File> + AllocGlobal + Net + Clock,
 {
     let alloc = rt.alloc();
-    prove_over_lane(rt, served, clock, start)?;
+    prove_over_lanes(rt, served, clock, start)?;
     let count = start.inventories.served.forest().len();
     let mut desk = desk_of(alloc, served.form, count, now, &start.said)?;
     let path = ends_path(alloc, served.room)?;
@@ -198,8 +198,8 @@ fn ends_path(alloc: Global, room: Option<Room<'_>>) -> Result<Option<String>, Al
     }
 }
 
-/// Has a credential looked up over a lane of its own before a ledger takes it. The only error is lack of memory.
-fn prove_over_lane<'a, R>(
+/// Has a credential looked up over lanes of its own before a ledger takes it. The only error is lack of memory.
+fn prove_over_lanes<'a, R>(
     rt: &'a R,
     served: &Served<'a>,
     clock: &SystemClock<'_, R>,
@@ -210,9 +210,28 @@ where
 {
     if start.ledger.is_some() {
         let lane = lanes_of(rt, served, clock, 1)?;
-        start.prove_by(Proving::new(lane));
+        let askers = askers_of(rt, served, clock)?;
+        start.prove_by(Proving::new(lane), askers);
     }
     Ok(())
+}
+
+/// Those who look up what files of credentials hold: as many as requests may be out at once, each over a lane of its own. The only error is
+/// lack of memory.
+fn askers_of<'a, R>(
+    rt: &'a R,
+    served: &Served<'a>,
+    clock: &SystemClock<'_, R>,
+) -> Result<Vec<Asker<SocketLanes<'a, R>>>, AllocError>
+where
+    R: Files<File = File> + AllocGlobal + Net + Clock,
+{
+    let mut askers = Vec::new(rt.alloc());
+    for _ in 0..width_of(served) {
+        let lane = lanes_of(rt, served, clock, 1)?;
+        askers.push(Asker::new(Proving::new(lane)))?;
+    }
+    Ok(askers)
 }
 
 /// So many lanes to the broker, which wait by this clock. The only error is lack of memory.

@@ -15,7 +15,7 @@ use keep_change::Note;
 use keep_clock::{Clock as _, Reading};
 use keep_disk::{DiskFault, MemoryDisk, Why};
 use keep_ends::{EndsFile, known_events, load_ends};
-use keep_house::{Demands, Desk, House, Ledger};
+use keep_house::{Asker, Demands, Desk, House, Ledger};
 use keep_inventory::{Inventory, read};
 use keep_lanes::NumberedFault;
 use keep_log::{Level, MemorySink};
@@ -113,8 +113,7 @@ impl<'a> Play<'a> {
         let state = &mut self.house.others.state;
         let notes = open(alloc, self.paths, setting, state, refused)?;
         if let Some(ledger) = state {
-            let proving = proving(alloc, setting, refused)?;
-            put(&mut ledger.proving, proving);
+            look_up(alloc, ledger, setting, refused)?;
             fill(alloc, ledger, &notes, &mut self.said)?;
         }
         Ok(())
@@ -204,24 +203,51 @@ fn ledger_of<'a>(
         inputs: drawer,
         looking: Looking::new(alloc),
         proving: None,
-        asked: None,
+        askers: Vec::new(alloc),
     }
 }
 
-/// What looks credentials up over a lane of its own, where that is done.
+/// Credentials are looked up from now on over lanes of their own, where that is done.
+fn look_up(
+    alloc: Global,
+    ledger: &mut MemoryLedger<'_>,
+    setting: &Setting,
+    refused: Fault,
+) -> Result<(), Fault> {
+    if !setting.looks_up {
+        return Ok(());
+    }
+    let proving = proving(alloc, setting, refused)?;
+    put(&mut ledger.proving, Some(proving));
+    let askers = askers(alloc, setting, refused)?;
+    put(&mut ledger.askers, askers);
+    Ok(())
+}
+
+/// What looks one credential up at a time, over a lane of its own.
 fn proving(
     alloc: Global,
     setting: &Setting,
     refused: Fault,
-) -> Result<Option<Proving<MemoryLanes>>, Fault> {
-    if !setting.looks_up {
-        return Ok(None);
-    }
+) -> Result<Proving<MemoryLanes>, Fault> {
     let mut lanes = lanes_of(alloc, setting, 1, refused)?;
     if let Some(NumberedFault { number, fault }) = setting.lookup_fault {
         lanes.set_fault(number, fault)?;
     }
-    Ok(Some(Proving::new(lanes)))
+    Ok(Proving::new(lanes))
+}
+
+/// As many of these for files as requests may be out at once.
+fn askers(
+    alloc: Global,
+    setting: &Setting,
+    refused: Fault,
+) -> Result<Vec<Asker<MemoryLanes>>, Fault> {
+    let mut askers = Vec::new(alloc);
+    for _ in 0..setting.width {
+        askers.push(Asker::new(proving(alloc, setting, refused)?))?;
+    }
+    Ok(askers)
 }
 
 /// What is served: by a ledger, or the file alone.

@@ -5,9 +5,9 @@ use Rattle.keep_answering.specs.declared.control.TheConstants.{MOST_CLIENTS}
 use Rattle.keep_answering.specs.declared.onlookers.TheConstants.{MOST_ONLOOKERS}
 use Rattle.serve_start.specs.declared.descriptors.Places.{Places}
 
--- what an agent with so many lanes needs, with one guest of each kind: two descriptors for each lane, and 26 for all else
+-- what an agent with so many lanes needs, with one guest of each kind: three descriptors for each lane, and 26 for all else
 abbrev pub needed : ℕ → ℕ
-needed width = 26 + 2 * width
+needed width = 26 + 3 * width
 
 -- what this limit leaves for more guests
 abbrev pub free_within : ℕ → ℕ → ℕ

@@ -23,14 +23,14 @@ pub struct Places {
     pub onlookers: usize,
 }
 
-/// The descriptors that an agent with so many lanes needs, if one client and one onlooker are to be let in beside its requests: two for
-/// each lane, one for the requests of the Watch and one for the lookups of new credentials; and 26 for all else, which are 13 that stay
-/// open, eight for the files of a change, some to spare, and those of the two guests.
+/// The descriptors that an agent with so many lanes needs, if one client and one onlooker are to be let in beside its requests: three for
+/// each lane, one for a request of the Watch, and two for the lookup of what a file holds, its own and one by which the wait is told of
+/// it; and 26 for all else, which are 13 that stay open, eight for the files of a change, some to spare, and those of the two guests.
 fn needed(width: u32) -> u64
     requires { width ≤ 32 }
     ensures { result ≡ needed width }
 {
-    26 + 2 * u64::from(width)
+    26 + 3 * u64::from(width)
 }
 
 /// How many guests an agent with so many lanes lets in where so many descriptors may be open at once: what it does not need itself goes to

@@ -178,7 +178,7 @@ fn begin_with<'a, D: Disk + Drop, I: Inputs + Drop, L: Lanes + Drop>(
         inputs: files,
         looking: Looking::new(alloc),
         proving: None,
-        asked: None,
+        askers: Vec::new(alloc),
     };
     let inventories = filled(alloc, &mut ledger, &notes, &mut said)?;
     Ok(Start {

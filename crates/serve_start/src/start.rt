@@ -5,7 +5,7 @@ use crate::folder::{Folder, NotBegun, begin, refuse_changes, refuse_held};
 use crate::reading::{Inventories, read_inventory, refuse_written};
 use crate::said::Said;
 use crate::secrets::SystemSecrets;
-use house_ledger::Ledger;
+use house_ledger::{Asker, Ledger};
 use house_words::Demands;
 use keep_device::{Sink, Watched};
 use keep_disk::{Disk, SystemDisk};
@@ -29,10 +29,12 @@ pub struct Start<K> {
 }
 
 impl<'a, D: Disk, I, L: Lanes + Drop> Start<Ledger<'a, D, I, L>> {
-    /// Has a credential looked up over these lanes before a ledger takes it, where there is one.
-    pub fn prove_by(&mut self, proving: Proving<L>) {
+    /// Has a credential looked up before a ledger takes it, where there is one: that of a client's change over these lanes, and those of
+    /// files by these askers.
+    pub fn prove_by(&mut self, proving: Proving<L>, askers: Vec<Asker<L>>) {
         if let Some(ledger) = &mut self.ledger {
             ledger.proving = Some(proving);
+            ledger.askers = askers;
         }
     }
 }

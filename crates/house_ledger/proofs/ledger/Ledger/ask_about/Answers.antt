@@ -1,12 +1,35 @@
--- The entry of that name is looked up, or memory was wanting.
-use Rattle.std.proofs.Common.{List, ℕ, subst}
-use Rattle.keep_state.specs.States.{book_in}
-use Rattle.house_ledger.specs.Candidates.{IsFileCandidate}
-use Rattle.house_ledger.proofs.Waits.{file_asked}
+-- The first that is free looks it up, or memory is wanting for that.
+use Rattle.std.proofs.Common.{◌≡◌, ◌∙◌, Ok, Err, ap, inr, refl, sym}
+use Rattle.std.specs.Vec.{with_items}
+use Rattle.keep_secrets.specs.declared.looking.Looking.{Looking}
+use Rattle.house_ledger.specs.Askers.{free_place}
+use Rattle.house_ledger.proofs.Asking.{asked_whole}
 use Rattle.house_ledger.proofs.ledger.Ledger.ask_about.Goals as goal
 
-pub returns-clause-asks : goal.returns-clause-asks
-returns-clause-asks g c =
-    let book = book_in c.args.self.now.state in
-    file_asked _ g.L.Lanes.host_port c.args.now c.args.due.now c.args.credential.now c.args.self.now.state c.in_ok-candidate.candidate c.ask.result c.args.self.now.proving c.ask.new.proving
-    (subst (λ (n : List ℕ). IsFileCandidate book.file.margin book.rows book.text n c.args.credential.now c.in_ok-candidate.candidate) c.list.ensures c.in_ok-candidate.ensures.found) c.ask.ensures
+pub returns-in-Ok : goal.returns-in-Ok
+returns-in-Ok g c =
+    let v = c.args.self.now.askers in
+    let new = c.ask_at.new.askers in
+    inr (record {
+      place = c.in-Some.place;
+      free = sym (ap free_place c.deref.ensures.value) ∙ sym c.free_place.ensures.place ∙ c.in-Some.is;
+      result = Ok c.in-Ok.field-0;
+      mid = record c.args.self.now { askers = with_items v new };
+      asks = asked_whole v c.deref_mut.result.now new c.deref_mut.ensures.value c.ask_at.ensures.many _ g.L.Lanes.host_port c.in-Some.place c.args.now c.args.asked c.args.candidate c.ask_at.result (Ok c.in-Ok.field-0) c.in-Ok.is c.ask_at.ensures.asks;
+      beside = refl;
+      then = (c.quiet.ensures, ap (λ (l : Looking). record c.args.self.now { askers = with_items v new; looking = l }) c.go_on_past.ensures);
+    })
+
+pub returns-in-Err : goal.returns-in-Err
+returns-in-Err g c =
+    let v = c.args.self.now.askers in
+    let new = c.ask_at.new.askers in
+    inr (record {
+      place = c.in-Some.place;
+      free = sym (ap free_place c.deref.ensures.value) ∙ sym c.free_place.ensures.place ∙ c.in-Some.is;
+      result = Err c.in-Err.field-0;
+      mid = record c.args.self.now { askers = with_items v new };
+      asks = asked_whole v c.deref_mut.result.now new c.deref_mut.ensures.value c.ask_at.ensures.many _ g.L.Lanes.host_port c.in-Some.place c.args.now c.args.asked c.args.candidate c.ask_at.result (Err c.in-Err.field-0) c.in-Err.is c.ask_at.ensures.asks;
+      beside = refl;
+      then = (c.wanting.ensures, refl);
+    })
