@@ -9,6 +9,7 @@ use Rattle.keep_clock.specs.declared.reading.Reading.{Reading}
 use Rattle.keep_device.specs.declared.fault.InputFault.{InputFault}
 use Rattle.keep_disk.specs.State.{DiskState}
 use Rattle.keep_proving.specs.declared.candidate.Candidate.{Candidate}
+use Rattle.keep_proving.specs.declared.verdict.Verdict.{Verdict}
 use Rattle.keep_secrets.specs.Looking.{Passes, PassesByStep, Steps}
 use Rattle.keep_secrets.specs.Stamps.{FileCall, Made, Opened, Stamped}
 use Rattle.keep_secrets.specs.declared.looking.DueFile.{DueFile}
@@ -167,10 +168,10 @@ module _ {D I L : Type 0} (calls : I → Option (List FileCall)) (lanes_seen : L
   read_taken due (Ok (Err trouble)) old new h = taken due (Err trouble) old new h
   read_taken due (Err e) old new h = beside old new h.1
 
-  judged : (word : FileWord) (old new : Ledger D I L) → JudgesFile calls lanes_seen port now looked word old new → IsBeside old new
-  judged word old new (inl h) = beside old new h.1.1
-  judged word old new (inr h) =
-      let all = taken word.asked.due _ old h.1.mid h.1.takes in
+  judged : (a : AskedFile) (verdict : Verdict) (old new : Ledger D I L) → JudgesFile calls lanes_seen port now looked a verdict old new → IsBeside old new
+  judged a verdict old new (inl h) = beside old new h.1.1
+  judged a verdict old new (inr h) =
+      let all = taken a.due _ old h.1.mid h.1.takes in
       record { inputs = ap (λ l. l.inputs) h.1.rest ∙ all.inputs; disk = ap (λ l. l.state.disk) h.1.rest ∙ all.disk }
 
   -- ---- how often files are called
@@ -212,7 +213,7 @@ module _ {D I L : Type 0} (calls : I → Option (List FileCall)) (lanes_seen : L
 
   looks_by : (word : Result (Option FileWord) AllocError) (old new : Ledger D I L) → LooksByWord calls lanes_seen port now looked word old new → LedgerIsSpared calls 64 1 old new
   looks_by (Ok None) old new h = looks_on old new h
-  looks_by (Ok (Some word)) old new h = spared 64 1 old new (judged word old new h)
+  looks_by (Ok (Some word)) old new h = spared 64 1 old new (judged word.asked word.verdict old new h)
   looks_by (Err e) old new h = spared 64 1 old new (beside old new h.1)
 
   -- hearing of what was asked before calls no file

@@ -3,7 +3,7 @@ use Rattle.std.proofs.Common.{◌≡◌, ◌∙◌, ℕ, ◌<◌, ◌≤◌, ◌
 use Rattle.std.proofs.lemmas.Grind.{drop_more_same}
 use Rattle.std.proofs.lemmas.List.{drop-set-lt, drop_all, drop_more, length-set, set_split, take_all, take_more_set, with_items_is}
 use Rattle.std.proofs.lemmas.List.Quantifiers.{position-Some}
-use Rattle.std.proofs.lemmas.Option.{slice_get_read}
+use Rattle.std.proofs.lemmas.Option.{slice_get-get_or}
 use Rattle.std.specs.Vec.{with_items}
 use Rattle.std.specs.declared.alloc.AllocError.{AllocError}
 use Rattle.keep_asking.specs.Sending.{Lanes}
@@ -91,9 +91,9 @@ module _ {L : Type 0} where
   pub is_free_at : (askers : List (Asker L)) (i : ℕ) (d : Asker L) → free_place askers ≡ Some i → is_free (get_or askers i d) ≡ true
   is_free_at askers i d h = (position-Some is_free askers i d h).1
 
-  pub asked_at : (lanes_seen : L → Lanes) (port : L → ℕ) (i : ℕ) (now : Reading) (a : AskedFile) (c : Candidate) (result : Result (Unit {0}) AllocError) (askers : List (Asker L)) (x n : Asker L)
-      → i < length askers → x ≡ get_or askers i x → FileGoesOut lanes_seen port now a c result x n → AskerAsks lanes_seen port i now a c result askers (set askers i n)
-  asked_at lanes_seen port i now a c result askers x n within is goes = (x, (n, (slice_get_read askers (length askers) i x refl within is, (goes, refl))))
+  pub asked_at : (lanes_seen : L → Lanes) (port : L → ℕ) (i : ℕ) (now : Reading) (a : AskedFile) (c : Candidate) (result : Result (Unit {0}) AllocError) (askers : List (Asker L)) (d n : Asker L)
+      → i < length askers → FileGoesOut lanes_seen port now a c result (get_or askers i d) n → AskerAsks lanes_seen port i now a c result askers (set askers i n)
+  asked_at lanes_seen port i now a c result askers d n within goes = (get_or askers i d, (n, (slice_get-get_or askers i d within, (goes, refl))))
 
 -- ---- those of a ledger, which are lent whole
 

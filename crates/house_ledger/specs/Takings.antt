@@ -170,11 +170,11 @@ module _ {D I L : Type 0} (calls : I → Option (List FileCall)) (lanes_seen : L
     pub rest : new ≡ record mid { looking = record mid.looking { next = old.looking.next } }
 
   -- it is what the verdict leaves of that. Where the entry names another file by then, or has gone, nothing is taken
-  abbrev pub JudgesFile : FileWord → Ledger D I L → Ledger D I L → Type 0
-  JudgesFile word old new =
-      ((names_file (named (book_in old.state).rows word.asked.due.name) word.asked.due.file ≡ false) × ((looked ≡ quiet true) × (new ≡ old)))
-      ⊎ ((names_file (named (book_in old.state).rows word.asked.due.name) word.asked.due.file ≡ true)
-      × TakesBeside word.asked.due (judged word.asked.credential word.verdict) old new)
+  abbrev pub JudgesFile : AskedFile → Verdict → Ledger D I L → Ledger D I L → Type 0
+  JudgesFile a verdict old new =
+      ((names_file (named (book_in old.state).rows a.due.name) a.due.file ≡ false) × ((looked ≡ quiet true) × (new ≡ old)))
+      ⊎ ((names_file (named (book_in old.state).rows a.due.name) a.due.file ≡ true)
+      × TakesBeside a.due (judged a.credential verdict) old new)
 
   -- ---- a look
 
@@ -213,7 +213,7 @@ module _ {D I L : Type 0} (calls : I → Option (List FileCall)) (lanes_seen : L
   -- files are looked at where there is no word yet on what others hold. Where memory is wanting for a word, its file is due still
   abbrev pub LooksByWord : Result (Option FileWord) AllocError → Ledger D I L → Ledger D I L → Type 0
   LooksByWord (Ok None) old new = LooksOn old new
-  LooksByWord (Ok (Some word)) old new = JudgesFile word old new
+  LooksByWord (Ok (Some word)) old new = JudgesFile word.asked word.verdict old new
   LooksByWord (Err e) old new = (looked ≡ wanting) × (new ≡ old)
 
   pub record LooksOrHears (old new : Ledger D I L) : Type 0 where

@@ -3,7 +3,7 @@ ghost use Rattle.std.specs.Prelude.{◌≡◌, ◌⊎◌, Ok, Some};
 ghost use Rattle.keep_proving.specs.Lookups.{IsCandidate};
 ghost use Rattle.house_ledger.specs.Takings.{IsEarly, IsPass, JudgesFile, LooksOn, LooksUpBy, LooksUpNew, ReadsNew, ReadsUp, TakesBeside, TakesHeldUp, TakesRead, judged, past};
 
-use crate::asker::{FileWord, ask_at, free_place, is_asked_for, may_look};
+use crate::asker::{ask_at, free_place, is_asked_for, may_look};
 use crate::candidates::candidate_of_file;
 use crate::ledger::Ledger;
 use crate::secret_changes::{quiet, take_up, wanting};
@@ -145,10 +145,15 @@ impl<'a, D: Disk, I: Inputs + SecretFiles, L: Lanes> Ledger<'a, D, I, L> {
     }
 
     /// What a file holds is taken or refused by the broker's word, where the entry still names the file.
-    pub(crate) fn judge_file(&mut self, alloc: Global, now: Reading, word: FileWord) -> Looked
-        ensures { JudgesFile I.calls ⟦<L as SeenLanes>⟧.seen L.host_port now result word self.old self.new }
+    pub(crate) fn judge_file(
+        &mut self,
+        alloc: Global,
+        now: Reading,
+        asked: AskedFile,
+        verdict: Verdict,
+    ) -> Looked
+        ensures { JudgesFile I.calls ⟦<L as SeenLanes>⟧.seen L.host_port now result asked verdict self.old self.new }
     {
-        let FileWord { asked, verdict } = word;
         let AskedFile { due, credential } = asked;
         if !names_file(self.state.rows(), due.name.list(), due.file.list()) {
             return quiet(true);

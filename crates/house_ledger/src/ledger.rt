@@ -19,7 +19,7 @@ ghost use Rattle.house_words.specs.Rereading.{AreAtMost, AreBytesOf, IsWhyNotRer
 ghost use Rattle.house_words.specs.Starts.{is_bare_row};
 ghost use Rattle.house_ledger.specs.Untouched.{IsAsItWas};
 
-use crate::asker::{Asker, hear_first};
+use crate::asker::{Asker, FileWord, hear_first};
 use crate::candidates::candidate_of;
 use crate::inquiry::{ask, hear};
 use crate::keeping::{Keeping, LookedUp};
@@ -405,7 +405,10 @@ impl<'a, D: Disk, I: Inputs + SecretFiles, L: Lanes> Keeping for Ledger<'a, D, I
     fn look(&mut self, alloc: Global, now: Reading) -> Looked {
         match hear_first(alloc, &mut self.askers, now.elapsed) {
             Ok(None) => self.look_on(alloc, now),
-            Ok(Some(word)) => self.judge_file(alloc, now, word),
+            Ok(Some(word)) => {
+                let FileWord { asked, verdict } = word;
+                self.judge_file(alloc, now, asked, verdict)
+            }
             Err(AllocError) => wanting(),
         }
     }

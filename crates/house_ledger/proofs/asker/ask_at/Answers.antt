@@ -4,4 +4,4 @@ use Rattle.house_ledger.proofs.asker.ask_at.Goals as goal
 
 pub returns-clause-asks : goal.returns-clause-asks
 returns-clause-asks g c =
-    asked_at _ g.L.Lanes.host_port c.args.at c.args.now c.args.asked c.args.candidate c.ask.result c.args.askers.now c.index-askers-at.result c.ask.new.self c.requires.within c.index-askers-at.is c.ask.ensures
+    asked_at _ g.L.Lanes.host_port c.args.at c.args.now c.args.asked c.args.candidate c.ask.result c.args.askers.now c.index-askers-at.result c.ask.new.self c.requires.within c.ask.ensures
