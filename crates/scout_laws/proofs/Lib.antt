@@ -1,0 +1,5 @@
+pub mod Lookups
+pub mod Lanes
+pub mod Handing
+pub mod Leaving
+pub mod Truly

@@ -1,0 +1,5 @@
+pub mod Steps
+pub mod Looks
+pub mod Behind
+pub mod RealEnds
+pub mod Resting

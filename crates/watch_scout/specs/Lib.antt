@@ -1,0 +1,4 @@
+pub mod Behind
+pub mod State
+pub mod Looking
+pub mod Hearing
