@@ -49,7 +49,7 @@ rest_from : (b c : Bool) → (not b && c) ≡ true → c ≡ true
 rest_from true c h = absurd cc
 rest_from false c h = h
 
-pub end_in : Event → ℕ
+abbrev pub end_in : Event → ℕ
 end_in (Clock wall elapsed) = 0
 end_in (Looked j reply terms) = 0
 end_in (Renewed j reply) = 0
