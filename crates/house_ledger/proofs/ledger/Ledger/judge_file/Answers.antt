@@ -17,6 +17,8 @@ returns g c =
     sym (c.names_file.ensures ∙ ap (λ (r : List Row). names_file (named r c.list.result.now) c.list-2.result.now) c.rows.ensures
     ∙ ap (λ (n : List ℕ). names_file (named rows n) c.list-2.result.now) c.list.ensures ∙ ap (λ (f : List ℕ). names_file (named rows due.name) f) c.list-2.ensures)
     ∙ c.if-not-names_file.false in
-    inr (names,
+    inr (
+      names,
       subst (λ (h : Result (List ℕ) SecretTrouble).
-        TakesBeside g.I.SecretFiles.calls (λ lanes. lanes_of (g.L.Lanes.behind lanes) (g.L.Lanes.out lanes) (g.L.Lanes.seconds lanes)) g.L.Lanes.host_port c.args.now c.take_beside.result due h c.args.self.now c.take_beside.new.self) c.judged.ensures c.take_beside.ensures)
+          TakesBeside g.I.SecretFiles.calls (λ lanes. lanes_of (g.L.Lanes.behind lanes) (g.L.Lanes.out lanes) (g.L.Lanes.seconds lanes)) g.L.Lanes.host_port c.args.now c.take_beside.result due h c.args.self.now c.take_beside.new.self) c.judged.ensures c.take_beside.ensures,
+    )
