@@ -8,9 +8,9 @@ import random
 from dataclasses import dataclass
 from pathlib import Path
 
+from bad_hours import SECOND, START
 from trying import TOP, run
-from watch_model import SECOND, Entry, Machine, Out, Reply
-from watch_plays import START
+from watch_model import Entry, Machine, Out, Reply
 
 NEED = 90_000_000
 SHARED = 5 * SECOND

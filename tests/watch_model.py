@@ -8,9 +8,9 @@ import json
 import math
 from dataclasses import dataclass, field, replace
 
-from watch_plays import SILENT, START, TOGETHER, Judge, Row, true_reply
+from bad_hours import SECOND, START, TOGETHER
+from watch_plays import SILENT, Judge, Row, true_reply
 
-SECOND = 1000
 DAY = 86_400_000
 LONGEST = 300_000
 NEVER = math.inf

@@ -14,16 +14,12 @@ from collections.abc import Callable
 from dataclasses import dataclass, field
 from pathlib import Path
 
+from bad_hours import SECOND, START, TOGETHER
 from trying import SECONDS, TOP, framed, whole_request
 
 sys.path.insert(0, str(TOP / "service"))
 from tests.model.program_time import ProgramTime  # noqa: E402
 
-START = 1_000_000
-"""The elapsed clock at the start, in milliseconds; the wall is as far on as that."""
-SECOND = 1000
-TOGETHER = 6
-"""Milliseconds for which answers are waited for after the first, and one that rounding costs."""
 
 
 # ---- the broker

@@ -19,6 +19,8 @@ from .world import World
 MOST = 65536
 CONTROL, PAGES, STATE, ENDS = "control.sock", "pages.sock", "state", "ends"
 """What stands in its folder."""
+PLAIN = {**os.environ, "ASAN_OPTIONS": "quarantine_size_mb=0"}
+"""For a build under a sanitizer, which would keep what was freed."""
 
 
 @dataclass(frozen=True)
@@ -120,7 +122,7 @@ class Agent:
         with self._log_path.open("wb") as log, self._error_path.open("wb") as errors:
             self._process = subprocess.Popen(
                 [str(self._program), "serve", *self._words, "--log", "json"], cwd=self._room, pass_fds=self._turns.handles,
-                stdin=subprocess.DEVNULL, stdout=log, stderr=errors, env={**os.environ, **self._turns.environment(self._boot_file)})
+                stdin=subprocess.DEVNULL, stdout=log, stderr=errors, env={**PLAIN, **self._turns.environment(self._boot_file)})
         self._turns.begun()
         self._log, self._unread = os.open(self._log_path, os.O_RDONLY), b""
         self.world.living.append(self)
@@ -165,6 +167,11 @@ class Agent:
     def kill_at_call(self, number: int) -> None:
         """It will be killed before its so many-th call from now on that others can see."""
         self._turns.put(Cell.KILLED, number)
+
+    def memory(self) -> int:
+        """The bytes that it has in memory."""
+        pages = Path(f"/proc/{self._process.pid}/statm").read_text().split()[1]
+        return int(pages) * os.sysconf("SC_PAGE_SIZE")
 
     def errors(self) -> str:
         """What it has written on standard error."""

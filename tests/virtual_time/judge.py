@@ -3,6 +3,7 @@
 from __future__ import annotations
 
 from pathlib import Path
+from stat import S_ISREG
 
 from .agent import Agent
 from .clock import NANOSECONDS, ns
@@ -20,7 +21,9 @@ class Judge:
     def __init__(self, broker: Broker, agent: Agent, ends: Path, width: int) -> None:
         self._broker, self._agent, self._ends, self._width = broker, agent, ends, width
         self.faults: list[str] = []
-        self._judged = 0
+        self.believed: dict[str, int] = {}
+        """The ends in the file, on the clock that never steps."""
+        self._judged = self._twice = 0
         self._last: dict[str, Asked] = {}
         self._stamp: tuple[int, int] = (0, 0)
         self._crowded = False
@@ -29,6 +32,9 @@ class Judge:
     def watch(self) -> None:
         """Judges what is new."""
         self._judge_requests()
+        for name in self._broker.twice[self._twice:]:
+            self._tell(f"{name} is asked while it is being asked")
+        self._twice = len(self._broker.twice)
         if self._broker.out > self._width + 1 and not self._crowded:
             self._crowded = True
             self._tell(f"{self._broker.out} requests are out of {self._width}, and one for a credential")
@@ -60,16 +66,19 @@ class Judge:
             seen = self._ends.stat()
         except OSError:
             return
+        if not S_ISREG(seen.st_mode):
+            return
         stamp = seen.st_mtime_ns, seen.st_ino
         if stamp == self._stamp:
             return
         self._stamp = stamp
         clocks, latest = self._agent.clocks, self._broker.vault.latest_ends()
-        for line in self._ends.read_text().splitlines():
-            name, end, *_ = line.split()
+        rows = [line.split() for line in self._ends.read_text(errors="replace").splitlines()]
+        self.believed = {row[0]: ns(int(row[1])) for row in rows if len(row) == 5 and row[0] in latest and row[1].isdigit()}
+        for name, end in self.believed.items():
             real = clocks.elapsed(latest[name])
-            if ns(int(end)) > real:
-                self._tell(f"the file of the ends has {name} end at {end}, and the broker at {real / NANOSECONDS:.3f}")
+            if end > real:
+                self._tell(f"the file of the ends has {name} end at {end / NANOSECONDS:.0f}, and the broker at {real / NANOSECONDS:.3f}")
 
     def judge_status(self, ends: dict[str, float], slack: float) -> None:
         """Ends that the agent shows, in seconds since 1970, are no later than the broker's. `slack`: by how much its clock may be wrong."""

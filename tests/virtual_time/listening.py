@@ -23,6 +23,8 @@ class Connection:
         self._broker, self._stream, self._world = broker, stream, broker.world
         self._heard = b""
         self._is_open = True
+        self.asks: tuple[int, str] | None = None
+        """From which run of the agent its request is, and with which credential."""
         stream.setblocking(False)
         self._world.listen(stream, self._hear)
 
@@ -74,6 +76,8 @@ class Broker:
         """The whole reply to a whole request, in place of what the rules say."""
         self.texts: list[bytes] = []
         """Each request as it came."""
+        self.twice: list[str] = []
+        """The name of each entry that was asked while a request of it was out."""
         self.tells_date = False
         self.nodes_ahead: tuple[float, ...] = (0.0,)
         """By how many seconds the clocks of its nodes are ahead, of which one after the other tells the date."""
@@ -129,6 +133,9 @@ class Broker:
         now, request = self.world.now, request_of(text)
         self.texts.append(text)
         name = self.vault.hear(request, now, self._run_at())
+        connection.asks = self._run_at(), request.credential
+        if any(one.asks == connection.asks for one in self._out if one is not connection):
+            self.twice.append(name or request.credential)
         latency = ns(self.latency if self.latency_of is None else self.latency_of())
         amiss = next((one for one in self.faults if one.holds(now, request, name)), None)
         if self.text_of is not None:

@@ -36,6 +36,7 @@ class Stage:
         self.world = World()
         self.world.now = ns(began)
         self.fleet, self.timeout, self.width = fleet, timeout, width
+        self.late = ns(late)
         self.clocks = Clocks(wall_ahead, slow)
         self.broker = Broker(self.world, self.room / SOCKET, lambda: self.agent.run)
         self.broker.latency = latency

@@ -1,23 +1,21 @@
-"""The plots of tests/storms, played by `leasekeep serve`: outages ten milliseconds shorter than docs/watch.md says may be survived, at
-moments that are chosen against the agent; parts of a fleet that are silent for good; and a broker that does anything."""
+"""Bad hours: outages ten milliseconds shorter than docs/watch.md says may be survived, at moments that are chosen against the agent; parts
+of a fleet that are silent for good; and a broker that does anything."""
 
 from __future__ import annotations
 
 import random
 from pathlib import Path
 
-from trying import suite
-from watch_plays import SECOND, START
-from watch_plays import Row as Plotted
+from bad_hours import SECOND, START, Hang, Manner, Storm, hangs, storms
 
 from .clock import MILLISECOND, NEVER
 from .faults import Act, Fault, about
 from .fleet import FAR, Entry, Fleet
-from .stage import Stage
+from .stage import TOLD, Stage
+from .strict import Strict
 from .vault import Request
 
-plots = suite("storms")
-MANNERS = {plots.SILENT: Act.SILENT, plots.CLOSED: Act.CLOSED}
+MANNERS = {Manner.SILENT: Act.SILENT, Manner.CLOSED: Act.CLOSED, Manner.UNAVAILABLE: Act.STATUS}
 
 
 def moment(millis: int) -> int:
@@ -25,35 +23,48 @@ def moment(millis: int) -> int:
     return (millis - START) * MILLISECOND
 
 
-def fleet_of(rows: dict[str, Plotted], margin: int) -> Fleet:
-    return Fleet(tuple(Entry(name, left=(row.end - START) / SECOND, step=row.step, need=FAR) for name, row in rows.items()), margin)
-
-
-def staged(program: Path, plotted: object) -> Stage:
+def staged(program: Path, plot: Storm | Hang) -> Stage:
     """The stage of a storm or a hang."""
-    plot = plots.Storm if isinstance(plotted, plots.Storm) else plots.Hang
-    assert isinstance(plotted, plot)
-    return Stage(program, fleet_of(plotted.rows, plotted.margin), width=plotted.width, timeout=plotted.timeout,
-                 latency=plotted.reply / SECOND, late=plotted.late / SECOND)
+    entries = tuple(Entry(name, left=(end - START) / SECOND, step=plot.step, need=FAR) for name, end in plot.ends.items())
+    return Stage(program, Fleet(entries, plot.margin), width=plot.width, timeout=plot.timeout, latency=plot.reply / SECOND,
+                 late=plot.late / SECOND)
 
 
 def play_storm(program: Path, seed: int) -> list[str]:
     """An outage as long as may be: nothing is lost."""
-    storm = next(plots.storms(random.Random(seed), 1))
+    storm = next(storms(random.Random(seed), 1))
     with staged(program, storm) as stage:
-        act = MANNERS.get(storm.manner, Act.STATUS)
-        stage.broker.faults = [Fault(moment(storm.begins - storm.reply), moment(storm.begins + storm.lasts), act, 503)]
+        strict = Strict(stage)
+        since, until = moment(storm.begins - storm.reply), moment(storm.begins + storm.lasts)
+        stage.broker.faults = [Fault(since, until, MANNERS[storm.manner], 503)]
         stage.world.run(moment(storm.begins + storm.lasts + 3 * storm.margin * SECOND))
-        return stage.faults()
+        return stage.faults() + strict.faults
+
+
+def hung(program: Path, seed: int, is_crowded: bool) -> tuple[list[str], list[str]]:
+    """Requests about some entries are silent for good, as many as there are lanes or more where they are crowded, and fewer else. What went
+    wrong, but for the others that are lost, which come second."""
+    hang = next(hangs(random.Random(seed), 1, is_crowded))
+    with staged(program, hang) as stage:
+        strict = Strict(stage)
+        stage.broker.faults = [Fault(moment(hang.begins), NEVER, Act.SILENT, picks=about(*hang.hung))]
+        stage.world.run(moment(hang.begins + 3 * hang.margin * SECOND))
+        lost = [name for name in stage.lost() if name not in hang.hung]
+        return stage.faults(sick=stage.fleet.names) + strict.faults, lost
 
 
 def play_hang(program: Path, seed: int) -> list[str]:
-    """Requests about some entries are silent for good: nobody else is lost."""
-    hang = next(plots.hangs(random.Random(seed), 1))
-    with staged(program, hang) as stage:
-        stage.broker.faults = [Fault(moment(hang.begins), NEVER, Act.SILENT, picks=about(*hang.hung))]
-        stage.world.run(moment(hang.begins + 3 * hang.margin * SECOND))
-        return stage.faults(sick=hang.hung)
+    """Fewer are silent than there are lanes: nobody else is lost."""
+    found, lost = hung(program, seed, False)
+    return found + ([f"lost {len(lost)}: {' '.join(lost)}"] if lost else [])
+
+
+def play_crowd(program: Path, seed: int) -> list[str]:
+    """As many are silent as there are lanes, or more: others may be lost, which is told and no fault."""
+    found, lost = hung(program, seed, True)
+    for told in TOLD:
+        told(f"lost {len(lost)} others: {' '.join(lost) or 'nobody'}")
+    return found
 
 
 def play_chaos(program: Path, seed: int) -> list[str]:

@@ -2,8 +2,8 @@
 
 from __future__ import annotations
 
-from . import Case, ceilings, changes, clocks, good_brokers, lanes, outages, replies, restarts
+from . import Case, ceilings, changes, clocks, files, good_brokers, lanes, outages, replies, restarts, told
 
-MODULES = (good_brokers, outages, restarts, clocks, ceilings, lanes, changes, replies)
+MODULES = (good_brokers, outages, restarts, clocks, ceilings, lanes, changes, files, replies, told)
 KEPT: tuple[Case, ...] = tuple(case for module in MODULES for case in module.KEPT)
 NOT_YET: tuple[Case, ...] = tuple(case for module in MODULES for case in module.NOT_YET)

@@ -176,6 +176,41 @@ def a_disk_that_is_full(program: Path) -> list[str]:
         return stage.faults()
 
 
+def changes_while_the_disk_stalls(program: Path) -> list[str]:
+    """For 20 seconds, from right before the time of 12 entries on (m 60): each kind of change is told once the disk goes on, and holds
+    after a kill. What is told before that is on the disk, so nothing is."""
+    found = []
+    for words in (("need", "e1", str(ALWAYS - 1)), ("drop", "e3"), ("settle",), ("reload",)):
+        with Stage(program, fleet(12, 300, 60, 100)) as stage:
+            stage.on(10)
+            stage.equal("a need before", "ok", stage.ask("need", "e2", str(ALWAYS - 2))[0])
+            if words == ("reload",):
+                stage.write(INVENTORY, stage.fleet.changed("e4", need=ALWAYS - 4).text())
+            stage.on(39)
+            stage.agent.disk_stalls(20)
+            client = stage.client(*words)
+            stage.on(55)
+            stage.must(not client.is_done, f"{words[0]}: told before the disk goes on")
+            stage.on(70)
+            stage.must(client.is_ok, f"{words[0]}: told {client.lines}")
+            stage.restart()
+            stage.on(80)
+            needs = {name: row["need"] for name, row in stage.shown().items() if name in ("e1", "e2", "e3", "e4")}
+            wanted = {name: stage.fleet.get(name).need for name in ("e1", "e2", "e3", "e4")} | {"e2": ALWAYS - 2}
+            match words[0]:
+                case "need":
+                    wanted["e1"] = ALWAYS - 1
+                case "drop":
+                    del wanted["e3"]
+                    stage.fleet = stage.fleet.without("e3")
+                case "reload":
+                    wanted["e4"] = ALWAYS - 4
+            stage.equal(f"{words[0]}: needs", wanted, needs)
+            stage.on(HOUR)
+            found += stage.faults()
+    return found
+
+
 def leases_under_a_token_of_a_file(program: Path) -> list[str]:
     """A token whose file comes later than the agent, and a lease under it: both are kept from then on, and others all the time."""
     entries = (Entry("web", left=600, step=900, file="web.token"), Entry("own", left=600, step=900),
@@ -191,6 +226,7 @@ def leases_under_a_token_of_a_file(program: Path) -> list[str]:
 
 KEPT: tuple[Case, ...] = (
     a_need_while_a_round_is_tried_again, needs_in_a_loop, what_was_acknowledged_holds, file_wins, a_file_that_rotates,
-    a_secret_that_the_broker_refuses, changes_in_an_outage, a_disk_that_is_full, leases_under_a_token_of_a_file,
+    a_secret_that_the_broker_refuses, changes_in_an_outage, a_disk_that_is_full, changes_while_the_disk_stalls,
+    leases_under_a_token_of_a_file,
 )
 NOT_YET: tuple[Case, ...] = ()

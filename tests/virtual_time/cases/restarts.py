@@ -3,6 +3,8 @@
 from __future__ import annotations
 
 import hashlib
+import os
+from collections.abc import Callable
 from pathlib import Path
 
 from ..agent import ENDS
@@ -178,6 +180,85 @@ def a_start_waits_for_its_part(program: Path) -> list[str]:
         return stage.faults()
 
 
+def suspended_in_a_start_that_waits(program: Path) -> list[str]:
+    """The machine is suspended until five seconds behind the time of each entry: it renews them within a second of that."""
+    part = part_of("a", 60)
+    with Stage(program, fleet(5, 3600, 60, 3000), words=("--spread", "60", "--name", "a")) as stage:
+        stage.on(10)
+        stage.restart()
+        stage.on(10 + part / 2)
+        stage.equal("it waits", 0, sum(one.run == 2 for one in stage.broker.vault.asked))
+        stage.agent.suspend(2945 - stage.now)
+        stage.on(2946.1)
+        stage.equal("renewed", 5, stage.broker.vault.count(renews=True))
+        stage.on(2 * HOUR)
+        return stage.faults()
+
+
+def written(text: Callable[[bytes], bytes]) -> Callable[[Path], object]:
+    """Writes that into the file of the ends, by what it held."""
+    return lambda path: path.write_bytes(text(path.read_bytes()))
+
+
+def in_its_place(make: Callable[[Path], object]) -> Callable[[Path], object]:
+    """Something else in the place of the file."""
+    def done(path: Path) -> None:
+        path.unlink()
+        make(path)
+    return done
+
+
+def ends_that_are_none(program: Path) -> list[str]:
+    """Lines of the file of the ends are spoiled, or it is no file. After a kill, when the time of each entry has come, those whose lines
+    are whole are renewed first, and the others looked up. Nothing is lost."""
+    found, names = [], [f"e{place}" for place in range(6)]
+    rows: tuple[tuple[Callable[[Path], object], list[str]], ...] = (
+        (written(lambda whole: whole), names), (written(lambda whole: b""), []), (written(lambda whole: b"\xff" * 50), []),
+        (written(lambda whole: b"e0 1\n" * 1000), []), (written(lambda whole: whole[:-9]), names[:-1]),
+        (written(lambda whole: whole.replace(b" yes ", b" maybe ", 1)), names[1:]),
+        (written(lambda whole: b"x" * 9000 + b"\n" + whole), names), (in_its_place(os.mkdir), []),
+    )
+    for number, (spoil, known) in enumerate(rows):
+        with Stage(program, fleet(6, 600, 60, 300), latency=0.02) as stage:
+            stage.on(239)
+            stage.agent.kill()
+            spoil(stage.room / ENDS)
+            stage.on(241)
+            stage.start()
+            stage.on(243)
+            first = {one.name: one.renews for one in reversed(stage.broker.vault.asked) if one.run == 2}
+            stage.equal(f"row {number}: renewed first", known, sorted(name for name, renews in first.items() if renews))
+            stage.equal(f"row {number}: asked", names, sorted(first))
+            stage.on(2 * HOUR)
+            found += stage.faults()
+    return found
+
+
+def a_pipe_in_the_place_of_its_ends(program: Path) -> list[str]:
+    """Nobody writes to it: the start does not wait for that."""
+    with Stage(program, fleet(2, 600, 60, 300)) as stage:
+        stage.on(10)
+        stage.agent.kill()
+        in_its_place(os.mkfifo)(stage.room / ENDS)
+        stage.start()
+        stage.on(HOUR)
+        return stage.faults()
+
+
+def its_memory_stays(program: Path) -> list[str]:
+    """Over some 3,000 requests, and changes by clients, it takes no more memory than after the first hours."""
+    with Stage(program, fleet(8, 100, 20, 60)) as stage:
+        sizes = list[int]()
+        for hour in range(1, 9):
+            stage.on(hour * HOUR)
+            for number in range(20):
+                stage.ask("need", "e1", str(stage.fleet.get("e1").need + 20 * hour + number))
+            stage.ask("status")
+            sizes.append(stage.agent.memory())
+        stage.must(sizes[-1] < sizes[1] + 2**21, f"its memory grows: {sizes}")
+        return stage.faults()
+
+
 def an_orphan_whose_parent_in_the_file_has_ended(program: Path) -> list[str]:
     """FILE has it under a token that has ended; the broker says that it is an orphan. Killed while everything gets 403 for 30 seconds, the
     agent asks it once, and then no more. (The world of seed 101.)"""
@@ -194,6 +275,7 @@ def an_orphan_whose_parent_in_the_file_has_ended(program: Path) -> list[str]:
 KEPT: tuple[Case, ...] = (
     killed_inside_the_margin, later_ones_end_sooner, a_step_little_over_the_margin, killed_early_in_an_outage,
     killed_in_an_outage_with_no_ends_known, not_there_for_a_while, another_boot, ended_by_systemd, a_disk_that_stalls,
-    ends_that_cannot_be_kept, killed_at_any_call, a_start_waits_for_its_part,
+    ends_that_cannot_be_kept, killed_at_any_call, a_start_waits_for_its_part, suspended_in_a_start_that_waits,
+    ends_that_are_none, its_memory_stays,
 )
-NOT_YET: tuple[Case, ...] = (an_orphan_whose_parent_in_the_file_has_ended,)
+NOT_YET: tuple[Case, ...] = (an_orphan_whose_parent_in_the_file_has_ended, a_pipe_in_the_place_of_its_ends)
