@@ -68,6 +68,10 @@ class Clocks:
         passed = moment - self.booted
         return ns(BOOTED) + passed - passed * self._slow // NANOSECONDS
 
+    def lag(self, moment: int) -> int:
+        """By how much CLOCK_BOOTTIME has come to lag then."""
+        return (moment - self.booted) * self._slow // NANOSECONDS
+
     def wall(self, moment: int) -> int:
         """What CLOCK_REALTIME shows then."""
         return ns(BEGAN) + moment - moment * self._slow // NANOSECONDS + self.wall_ahead

@@ -77,7 +77,7 @@ class Judge:
         self.believed = {row[0]: ns(int(row[1])) for row in rows if len(row) == 5 and row[0] in latest and row[1].isdigit()}
         for name, end in self.believed.items():
             real = clocks.elapsed(latest[name])
-            if end > real:
+            if end > real + clocks.lag(latest[name]):
                 self._tell(f"the file of the ends has {name} end at {end / NANOSECONDS:.0f}, and the broker at {real / NANOSECONDS:.3f}")
 
     def judge_status(self, ends: dict[str, float], slack: float) -> None:

@@ -168,7 +168,8 @@ def short_is_said_in_time(program: Path) -> list[str]:
 
 
 def leases_that_went_with_a_revoked_token(program: Path) -> list[str]:
-    """Its file gets another one: its leases are told as gone, and one with a new id in its file is kept again."""
+    """Its file gets another one. A lease that went with the old one is told as gone when its time has come, and one with a new id in its
+    file is kept."""
     entries = (Entry("app", left=800, step=900, file="app.token"), Entry("web", left=800, step=900),
                Entry("db", Kind.LEASE, "app", left=800, step=900, file="db.lease", credential="db/1"),
                Entry("mq", Kind.LEASE, "app", left=800, step=900))
@@ -182,9 +183,10 @@ def leases_that_went_with_a_revoked_token(program: Path) -> list[str]:
         other = vault.add(Entry("app", left=2000, step=900, credential="s.two").row(None))
         stage.write("app.token", "s.two\n")
         stage.on(35)
-        stage.equal("gone", [("db", "400"), ("mq", "400")], sorted(line.words for line in stage.agent.said("gone", level="alert")))
         vault.add(Entry("db", Kind.LEASE, left=2000, step=900, credential="db/2").row(other))
         stage.write("db.lease", "db/2\n")
+        stage.on(745)
+        stage.equal("gone", [("mq", "400")], [line.words for line in stage.agent.said("gone", level="alert")])
         stage.on(2 * HOUR)
         stage.equal("states", {"app": "kept", "web": "kept", "db": "kept", "mq": "gone"},
                     {name: row["state"] for name, row in stage.shown().items()})
