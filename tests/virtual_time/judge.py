@@ -23,6 +23,8 @@ class Judge:
         self.faults: list[str] = []
         self.believed: dict[str, int] = {}
         """The ends in the file, on the clock that never steps."""
+        self.reads = 0
+        """How often the file was read anew."""
         self._judged = self._twice = 0
         self._last: dict[str, Asked] = {}
         self._stamp: tuple[int, int] = (0, 0)
@@ -72,6 +74,7 @@ class Judge:
         if stamp == self._stamp:
             return
         self._stamp = stamp
+        self.reads += 1
         clocks, latest = self._agent.clocks, self._broker.vault.latest_ends()
         rows = [line.split() for line in self._ends.read_text(errors="replace").splitlines()]
         self.believed = {row[0]: ns(int(row[1])) for row in rows if len(row) == 5 and row[0] in latest and row[1].isdigit()}

@@ -19,8 +19,10 @@ class Strict:
     def __init__(self, stage: Stage) -> None:
         self._stage, self._margin = stage, ns(stage.fleet.margin)
         self.faults: list[str] = []
-        self._lines = self._asked = 0
-        """What of the log, and of the requests, was judged."""
+        self._lines = self._asked = self._reads = 0
+        """What of the log, of the requests, and of the file of the ends was judged."""
+        self._told: set[str] = set()
+        """Those that were told an end which the file may not have yet: it is written once a second at most."""
         self._in_round: set[str] = set()
         self._failed: dict[str, int] = {}
         """Since when each has failed that was not granted or looked up since."""
@@ -34,6 +36,9 @@ class Strict:
         """Judges what is new."""
         stage = self._stage
         self._hear_log()
+        if self._reads < stage.judge.reads:
+            self._reads = stage.judge.reads
+            self._told.clear()
         if self._quiet_since is not None:
             self._nobody_is_forgotten(self._quiet_since)
         asked = stage.broker.vault.asked[self._asked:]
@@ -61,12 +66,13 @@ class Strict:
                     self._is_away = line.event == "away"
                 case "entry" | "told":
                     self._failed.pop(line.words[0], None)
+                    self._told.add(line.words[0])
                     if line.event == "told":
                         self._in_round.discard(line.words[0])
 
     def _nobody_is_early(self, one: Asked) -> None:
         end = self._stage.judge.believed.get(one.name)
-        if not one.renews or end is None or one.name in self._in_round or one.name in self._failed:
+        if not one.renews or end is None or one.name in self._told | self._in_round | set(self._failed):
             return
         early = end - self._margin - self._stage.clocks.elapsed(one.moment)
         if early > 0:
@@ -76,7 +82,7 @@ class Strict:
         """No request was out since then: whose time has come, or who may be tried again, has waited no longer than it takes to wake up."""
         now, clocks = self._stage.world.now, self._stage.clocks
         for name, end in self._stage.judge.believed.items():
-            if end > clocks.elapsed(now):
+            if end > clocks.elapsed(now) and name not in self._told:
                 waited = now - max(quiet_since, self._due(name, end))
                 if waited > TICK + 2 * self._stage.late:
                     self._tell(f"{name} waits for {waited / NANOSECONDS:.3f} s, and nobody is asked")
