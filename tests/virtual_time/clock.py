@@ -85,7 +85,7 @@ class Clocks:
         if monotonic >= NEVER:
             return NEVER
         shown = monotonic + self._suspended - ns(BOOTED)
-        moment = self.booted + shown + shown * self._slow // NANOSECONDS
+        moment = self.booted + shown * NANOSECONDS // (NANOSECONDS - self._slow) - 2 * (self._slow > 0)
         while self.monotonic(moment) < monotonic:
             moment += 1
         return moment
