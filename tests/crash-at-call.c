@@ -8,6 +8,9 @@
    Disk calls: what makes, writes, cuts, syncs, moves or removes a file or a folder; standard streams are none. Where CRASH_LOG
    names a file, each is written there, a word and a line feed.
 
+   Where CRASH_UNDO names a file, what no sync has put on the disk is noted there: the next process that is told of it in the same
+   folder goes on with that, and a machine that loses its power in it loses what the first one has not synced, too.
+
    Where CRASH_FOLDER is a number and a path, each sync of the folder at that path fails with that error.
 
    Where CRASH_WHILE names a file, disk calls go, as long as it is there, as the word in it says:
@@ -33,7 +36,7 @@
 enum kind { BYTES, MADE, MOVED };
 
 /* What undoes one call: the file's bytes as they were, a file that was not there, or the file that stood where one was moved to. A
-   sync puts it on the disk of that file, or, of a name, of the folder in which it stands. */
+   sync puts it on the disk of that file, or, of a name, of the folder in which it stands. The path of bytes is where the file is. */
 struct undo {
     enum kind kind;
     int fd;
@@ -64,9 +67,22 @@ static int is_how(const char *how) {
 
 /* ---- what a crash of the machine loses */
 
+/* Notes all that for the next process. */
+static void save(void) {
+    const char *name = getenv("CRASH_UNDO");
+    if (!name) return;
+    int fd = syscall(SYS_openat, AT_FDCWD, name, O_WRONLY | O_CREAT | O_TRUNC | O_CLOEXEC, 0600);
+    for (int index = 0; index < undo_count; index++) {
+        syscall(SYS_write, fd, undos[index], sizeof *undos[index]);
+        syscall(SYS_write, fd, undos[index]->old, undos[index]->count);
+    }
+    syscall(SYS_close, fd);
+}
+
 static void add(struct undo *undo) {
     if (undo_count == MOST) abort();
     undos[undo_count++] = undo;
+    save();
 }
 
 static void forget(int index) {
@@ -99,6 +115,7 @@ static void keep_bytes(int fd, off_t at, size_t count) {
     struct undo *undo = room_of(sizeof *undo);
     undo->kind = BYTES;
     undo->fd = own;
+    if (readlink(name, undo->path, sizeof undo->path - 1) < 0) abort();
     undo->device = seen.st_dev;
     undo->inode = seen.st_ino;
     undo->at = at;
@@ -128,6 +145,16 @@ static void keep_made(const char *path) {
     add(undo);
 }
 
+/* The bytes of a file that is moved are found where it is then. */
+static void follow(const char *from, const char *path) {
+    struct stat seen;
+    if (stat(from, &seen) < 0) return;
+    for (int index = 0; index < undo_count; index++) {
+        struct undo *undo = undos[index];
+        if (undo->kind == BYTES && undo->device == seen.st_dev && undo->inode == seen.st_ino) snprintf(undo->path, sizeof undo->path, "%s", path);
+    }
+}
+
 static void keep_moved(const char *from, const char *path) {
     struct stat seen;
     struct undo *undo = room_of(sizeof *undo);
@@ -143,7 +170,28 @@ static void keep_moved(const char *from, const char *path) {
         undo->old = bytes_of(fd, 0, seen.st_size);
         syscall(SYS_close, fd);
     }
+    follow(from, path);
     add(undo);
+}
+
+/* What the processes before this one have left. Bytes of a file that nobody finds any more are never seen again. */
+__attribute__((constructor)) static void load(void) {
+    const char *name = getenv("CRASH_UNDO");
+    int fd = name ? syscall(SYS_openat, AT_FDCWD, name, O_RDONLY | O_CLOEXEC, 0) : -1;
+    struct undo *undo = room_of(sizeof *undo);
+    while (fd >= 0 && syscall(SYS_read, fd, undo, sizeof *undo) == sizeof *undo) {
+        struct stat seen;
+        undo->old = room_of(undo->count + 1);
+        if (undo->count && syscall(SYS_read, fd, undo->old, undo->count) != (long)undo->count) abort();
+        if (undo->kind == BYTES) {
+            undo->fd = syscall(SYS_openat, AT_FDCWD, undo->path, O_RDWR | O_CLOEXEC, 0);
+            if (undo->fd < 0 || fstat(undo->fd, &seen) < 0) continue;
+            if (undo->device != seen.st_dev || undo->inode != seen.st_ino) continue;
+        }
+        undos[undo_count++] = undo;
+        undo = room_of(sizeof *undo);
+    }
+    if (fd >= 0) syscall(SYS_close, fd);
 }
 
 /* A file is on the disk, or the names in a folder are. */
@@ -153,6 +201,7 @@ static void synced(int fd) {
     for (int index = undo_count - 1; index >= 0; index--) {
         if (undos[index]->device == seen.st_dev && undos[index]->inode == seen.st_ino) forget(index);
     }
+    save();
 }
 
 static unsigned drawn;
@@ -190,6 +239,8 @@ static void lose(void) {
     drawn = text ? atoi(text) : 0;
     for (int index = undo_count - 1; index >= 0; index--)
         if (is_how("lost") || draw(2)) take_back(undos[index]);
+    undo_count = 0;
+    save();
 }
 
 /* ---- the call whose turn it is */
@@ -273,6 +324,7 @@ static void ended(int turn) {
 static ssize_t write_bytes(int fd, const void *bytes, size_t count, off_t at, int is_at_place) {
     int turn = is_turn("write");
     if (turn && is_how("half")) {
+        keep_bytes(fd, at, count);
         syscall(SYS_pwrite64, fd, bytes, count / 2, at);
         die();
     }
