@@ -1,5 +1,5 @@
-"""Random bad hours for an agent: outages as long as docs/watch.md says may be survived, and parts of a fleet that are silent. Moments are
-in milliseconds of the clock that never steps, which shows START at the beginning."""
+"""Random bad hours for an agent: outages as long as docs/watch.md says may be survived, with more trouble in them, and parts of a fleet that
+are silent. Moments are in milliseconds of the clock that never steps, which shows START at the beginning."""
 
 from __future__ import annotations
 
@@ -7,6 +7,8 @@ import random
 from collections.abc import Iterator
 from dataclasses import dataclass
 from enum import Enum
+
+from troubles import NONE, Incident, Trouble, trouble
 
 START = 1_000_000
 SECOND = 1000
@@ -25,7 +27,7 @@ class Manner(Enum):
 @dataclass(frozen=True)
 class Storm:
     """An outage of a broker of tokens, whose ends are given and which it renews by `step` seconds. It is away from `begins`, for `lasts`.
-    While it is there a reply takes `reply`; clocks are `late`. `margin` and `timeout` are in seconds."""
+    While it is there a reply takes `reply`; clocks are `late`. `margin` and `timeout` are in seconds. What else goes wrong is its trouble."""
 
     ends: dict[str, int]
     step: int
@@ -37,6 +39,11 @@ class Storm:
     begins: int
     lasts: int
     manner: Manner
+    trouble: Trouble
+
+    def moment(self, incident: Incident) -> int:
+        """When that happens in it."""
+        return self.begins + int(incident.part * self.lasts)
 
 
 @dataclass(frozen=True)
@@ -54,13 +61,13 @@ class Hang:
     begins: int
 
 
-def longest(margin: int, count: int, width: int, timeout: int, reply: int, late: int) -> float:
-    """The bound of docs/watch.md, in seconds."""
+def longest(margin: int, entries: int, width: int, timeout: int, reply: int, late: int, amiss: Trouble = NONE) -> float:
+    """The bound of docs/watch.md, in seconds, less what a quota costs besides."""
     d, w = reply / SECOND, (late + TOGETHER) / SECOND
-    rounds = -(-count // width)
-    quiet = rounds * (d + w) + w
+    count = entries + amiss.joins(entries)
+    quiet = -(-count // width) * (d + w) + w
     pause = max(1.0, min(30.0, quiet / 15))
-    return margin - timeout - 2 * (d + w) - quiet - pause
+    return margin - timeout - 2 * (d + w) - quiet - pause - amiss.costs(margin, count, quiet)
 
 
 def ends_of(chance: random.Random, count: int, step: int) -> dict[str, int]:
@@ -76,14 +83,15 @@ def storms(chance: random.Random, count: int) -> Iterator[Storm]:
     while made < count:
         margin, width, timeout = chance.choice((20, 40, 60, 120, 600)), chance.randint(1, 16), chance.choice((1, 2, 3, 5))
         entries, reply, late = chance.randint(1, 60), chance.randint(1, 240), chance.randint(0, 200)
-        lasts = longest(margin, entries, width, timeout, reply, late)
+        amiss = trouble(chance, [f"e{number}" for number in range(entries)])
+        lasts = longest(margin, entries, width, timeout, reply, late, amiss)
         if margin < 4 * timeout or lasts <= 0:
             continue
         step = chance.randint(2 * margin, 6 * margin)
         ends = ends_of(chance, entries, step)
         its_time = chance.choice([*ends.values()]) - margin * SECOND
         begins = its_time + chance.randint(-2 * reply - SECOND, 2 * SECOND)
-        yield Storm(ends, step, margin, width, timeout, reply, late, begins, int(lasts * SECOND) - 10, chance.choice([*Manner]))
+        yield Storm(ends, step, margin, width, timeout, reply, late, begins, int(lasts * SECOND) - 10, chance.choice([*Manner]), amiss)
         made += 1
 
 

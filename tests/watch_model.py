@@ -438,11 +438,11 @@ class Machine:
                 self.tracks[index].attempt = self._pressed(self.tracks[index])
 
     def _let_go(self, track: Track) -> None:
+        """Of a try that is pressed no more is left than the lookup that is owed. One that is not pressed goes on: a reply alone ends it."""
         attempt = track.attempt
-        if attempt and not track.owes:
-            track.attempt = None
-        elif attempt and attempt.pressed:
-            track.attempt = replace(attempt, at=max(attempt.at, track.rested), renews=False, pressed=False)
+        if attempt and attempt.pressed:
+            owed = replace(attempt, at=max(attempt.at, track.rested), renews=False, pressed=False)
+            track.attempt = owed if track.owes else None
 
     def _asks(self, needs: list[float]) -> list[int]:
         """Whom a round asks: those who cannot wait for the next one, where those whom it cannot ask are renewed now."""

@@ -49,6 +49,9 @@ Judge = Callable[[int, str], Fate]
 """The fate of a request that comes at that moment, and is about that entry."""
 
 SILENT, CLOSED = Fate(None), Fate(0, b"")
+UNAVAILABLE = framed(b"", b"503 Service Unavailable")
+BUSY = framed(b'{"errors":[]}', b"429 Too Many Requests")
+REVOKED = framed(b'{"errors":[]}', b"404 Not Found")
 
 
 def has_ended(rows: dict[str, Row], name: str, now: int) -> bool:
@@ -258,12 +261,14 @@ class Seen:
 
 @dataclass
 class Judging:
-    """Judges lines as they come. `margin` in seconds; `strict`: each reply is a true one or none, so all that is said holds."""
+    """Judges lines as they come. `margin` in seconds; `strict`: each reply is a true one or none, so all that is said holds, but for how
+    soon those are asked again that are `sick`."""
 
     margin: int
     width: int
     rows: dict[str, Row]
     strict: bool
+    sick: frozenset[str] = frozenset()
     faults: list[str] = field(default_factory=list)
     is_away: bool = False
     lost_at: int | None = None
@@ -317,21 +322,23 @@ class Judging:
         most = now + max(SECOND, min(30 * SECOND, self.margin * 250))
         self._must(until <= most, f"at {now}: waits until {until}, past {most}")
         for name, entry in self.entries.items():
-            if self.strict and entry.end is not None and entry.end > now:
+            if self.strict and name not in self.sick and entry.end is not None and entry.end > now:
                 self._waits(now, until, name, entry)
 
     def _waits(self, now: int, until: int, name: str, entry: Seen) -> None:
-        """An entry whose time comes, or which has failed, is not forgotten."""
+        """An entry whose time comes, or which has failed, is not forgotten. (While the broker is away, one that failed before its time and
+        whom no round asks may share a longer pause.)"""
         assert entry.end is not None
-        if entry.failed_since is not None:
+        its_time = entry.end - self.margin * SECOND
+        if entry.failed_since is not None and not (self.is_away and not entry.in_round and entry.failed_since < its_time):
             left = entry.end - entry.failed_since
             longest = 30 if left <= 2 * self.margin * SECOND else 300
             pause = max(SECOND, min(longest * SECOND, left // 16))
             since = max(entry.failed_since, self.lost_at or 0)
             self._must(until <= max(now, since + pause) + SECOND, f"at {now}: {name} failed at {since}, left {left}, waits until {until}")
         else:
-            its_time = entry.end - self.margin * SECOND
-            self._must(until <= max(its_time, now), f"at {now}: the time of {name} is {its_time}, waits until {until}")
+            rested = entry.asked + SECOND
+            self._must(until <= max(its_time, now, rested), f"at {now}: the time of {name} is {its_time}, waits until {until}")
 
     def _request(self, now: int, name: str, renews: bool) -> None:
         entry = self.entries[name]

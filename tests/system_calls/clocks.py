@@ -16,6 +16,8 @@ SOON = 2
 """Seconds after which an entry is renewed that ends as much later than the margin."""
 LONGEST = max(1000, min(30_000, MARGIN * 1000 // 16))
 """The longest wait, in milliseconds, while nothing happens: after it a suspension is seen."""
+UNTOLD = 1000
+"""The most milliseconds that are slept where nothing tells of sockets: each is tried after that."""
 REFUSED = 20
 """The milliseconds that are slept in the place of a wait that the system refuses."""
 SLEEPS_WITHIN = 5 * SLOWER
@@ -61,7 +63,7 @@ def refused_waits(stage: Stage) -> None:
 
 def without_poll(stage: Stage) -> None:
     """Where the system gives nothing that waits for sockets, a wait is a sleep, and each neighbour is tried."""
-    rests(stage, "epoll_create", LONGEST)
+    rests(stage, "epoll_create", UNTOLD)
 
 
 def rests(stage: Stage, refused: str, longest: int) -> None:

@@ -8,10 +8,11 @@ from collections.abc import Callable
 
 from trying import SLOWER, Peer, Ran
 
+from .clocks import LONGEST
 from .stage import TIMEOUT, Serving, Stage, inventory, until
 
-LOOKED_AT = 2
-"""Seconds between two looks at a file's stamp."""
+LOOKED_AT = 10 + LONGEST / 1000
+"""Seconds between two looks at a file's stamp: ten, and as long as a turn waits."""
 FIRST, SECOND = "s.one", "s.two"
 """Two credentials of one length."""
 HELD = 'secret_file = "held"'

@@ -3,13 +3,14 @@
 from __future__ import annotations
 
 import fcntl
+import os
 import stat
 from pathlib import Path
 
 from trying import Ran
 
 from .recording import CREATE, EXCLUSIVE, EXCLUSIVE_LOCK_AT_ONCE, Call
-from .stage import Stage, inventory, until
+from .stage import Serving, Stage, inventory, until
 
 WORDS = ("./vault.sock", "--control", "./control.sock", "--state", "./state")
 NEEDED = 4_000_000_000
@@ -152,6 +153,37 @@ def mends_a_journal(stage: Stage) -> None:
         stage.check("a change", True, agent.asked("need", "web", "0").startswith(b"ok\n"))
         stage.check("the journal is made anew", REPLACED, replaced(before_ok(agent.recording.calls()), "state/journal")[: len(REPLACED)])
         stage.check("and holds both, and nothing else", f"{record}+need web {was} 0\n-", (state / "journal").read_text())
+
+
+def opened_as_it_was(agent: Serving, path: str) -> list[Call]:
+    """The calls that open what stood at a path before another file was moved there."""
+    opened: list[Call] = []
+    for call in agent.recording.calls("open", "rename"):
+        words = [word.removeprefix("./") for word in call.words]
+        if call.name == "rename" and call.result == 0 and words[1] == path:
+            break
+        opened += [call] if call.name == "open" and words[0] == path else []
+    return opened
+
+
+def opens_no_pipe(stage: Stage) -> None:
+    """A pipe in the place of one of its own files is not opened, which would wait for somebody at its other end."""
+    name = stage.write("one.toml", inventory())
+    (stage.room / "state").mkdir(0o700)
+    irregular = "it is not a regular file"
+    lines = {"state/lock": f"alert: folder ./state cannot be used ({irregular})", "state/journal": f"alert: folder ./state cannot be used ({irregular})",
+             "state/copy": "", "ends": f"alert: ends cannot be read: {irregular}", "ends.lock": ""}
+    with stage.broker():
+        for path, line in lines.items():
+            (stage.room / path).unlink(missing_ok=True)
+            os.mkfifo(stage.room / path, 0o600)
+            with stage.serve(name, *WORDS) as agent:
+                stage.check(f"{path}: it answers", True, agent.answers())
+                stage.check(f"{path}: it is not opened", [], opened_as_it_was(agent, path))
+                if line:
+                    stage.check(f"{path}: that is said", True, agent.says(line))
+            for left in (stage.room / path, stage.room / "ends"):
+                left.unlink(missing_ok=True)
 
 
 def tells_of_failures(stage: Stage) -> None:

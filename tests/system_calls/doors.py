@@ -4,10 +4,11 @@ from __future__ import annotations
 
 import socket
 import stat
+import time
 from pathlib import Path
 
 from .recording import ADD, CAN_READ, CAN_WRITE, Call
-from .stage import OK, Stage, inventory, talk
+from .stage import OK, PATIENCE, Stage, inventory, talk
 
 PIECE = 20
 """The most bytes that a write takes: less than each answer has."""
@@ -43,6 +44,19 @@ def answers(stage: Stage) -> None:
     for door in ("./control.sock", f"127.0.0.1:{port}"):
         stage.check(f"{door} is waited for", True, bool(told.get(door, 0) & CAN_READ))
         stage.check(f"and its guests are", CAN_READ | CAN_WRITE, told.get(f"guest of {door}", 0) & (CAN_READ | CAN_WRITE))
+
+
+def closes_the_untold(stage: Stage) -> None:
+    """Where the system does not tell of a guest, its connection is closed: nobody would wait for it."""
+    name = stage.write("one.toml", inventory())
+    with stage.broker(), stage.serve(name, "./vault.sock", "--control", "./control.sock", told=stage.failing("")) as agent:
+        stage.check("it answers", True, agent.answers())
+        stage.failing("epoll_ctl")
+        began = time.monotonic()
+        stage.check("one of whom nobody tells is sent nothing", b"", agent.asked("health"))
+        stage.check("its connection is closed at once", True, time.monotonic() - began < PATIENCE / 2)
+        stage.failing("")
+        stage.check("the next one is answered", OK, agent.asked("health"))
 
 
 def is_for_its_group(stage: Stage) -> None:

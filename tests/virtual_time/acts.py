@@ -11,7 +11,7 @@ from .clock import NANOSECONDS, ns
 from .faults import Act, Fault, Picks, about, both, everything, lookups, renewals
 from .fleet import ALWAYS, FAR, Entry, Fleet
 from .ledger import Ledger
-from .plots import Plot, longest, plot
+from .plots import Plot, longest, plot, unseen
 from .stage import Stage
 from .vault import Row
 
@@ -33,8 +33,6 @@ class Actor:
         self.faults: list[str] = []
         self._waiting: list[tuple[Row, int, int]] = []
         """Credentials that stand in files and are not taken yet; in which run of the agent each was written, and behind how many lines."""
-        self._replaced: list[tuple[Entry, int]] = []
-        """Entries as they were before another credential was acknowledged, and in which run."""
         stage.world.watchers.append(self._watch_files)
 
     def say(self, text: str) -> None:
@@ -152,7 +150,7 @@ class Actor:
             self._start()
 
     def suspended(self) -> None:
-        length = self._length(True)
+        length = self._length(True) - unseen(self._plot.fleet.margin)
         if length > 0.2:
             self.say(f"suspended for {length:.3f}")
             self._stage.agent.suspend(length)
@@ -208,34 +206,23 @@ class Actor:
     def add(self) -> None:
         margin = self._plot.fleet.margin
         entry = Entry(f"a{self._next()}", left=self._stage.now + 4 * margin + SPARE, step=4 * margin)
-        self._stage.broker.vault.add(entry.row(None))
         self.say(f"add {entry.name}")
-        self._ledger.ask(lambda fleet: fleet.with_entry(entry), "add", entry.table(), undone=lambda: self._forget(entry.secret))
-
-    def _forget(self, credential: str) -> None:
-        self._stage.broker.vault.rows.pop(credential, None)
+        self._ledger.add(entry)
 
     def drop(self) -> None:
         entry = self._leaf()
         if entry is not None and len(self._stage.fleet.entries) > 1:
             self.say(f"drop {entry.name}")
-            name = entry.name
-            self.sick.add(name)
-            self._ledger.ask(lambda fleet: fleet.without(name), "drop", name)
+            self.sick.add(entry.name)
+            self._ledger.drop(entry.name)
 
     def replace(self) -> None:
         entry = self._leaf()
         if entry is None or entry.file:
             return
         name, secret = entry.name, f"{entry.secret}.{self._next()}"
-        given = self._spare(entry, secret, SPARE)
         self.say(f"replace {name} {secret}")
-
-        def change(fleet: Fleet) -> Fleet:
-            given.is_spare = False
-            self._replaced.append((fleet.get(name), self._stage.agent.run))
-            return fleet.changed(name, credential=secret)
-        self._ledger.ask(change, "replace", name, secret, unsure=lambda: self.sick.add(name))
+        self._ledger.replace(name, self._spare(entry, secret, SPARE), unsure=lambda: self.sick.add(name))
 
     def _spare(self, entry: Entry, secret: str, more: int) -> Row:
         """Another credential of an entry, which the agent does not have yet."""
@@ -300,7 +287,7 @@ class Actor:
 
     def _old_credentials(self) -> list[str]:
         """After a restart no credential is sent in whose place another one was acknowledged."""
-        old = {entry.secret: run for entry, run in self._replaced if entry.name not in self.sick}
+        old = {entry.secret: run for entry, run in self._ledger.replaced if entry.name not in self.sick}
         return [f"at {one.moment / NANOSECONDS:.3f}: {one.name} is asked with {one.credential}, which was replaced before a restart"
                 for one in self._stage.broker.vault.asked if one.run > old.get(one.credential, one.run)]
 

@@ -184,6 +184,11 @@ class Agent:
         own = self.clocks.moment_of(self._turns.get(Cell.UNTIL))
         return max(min(own, self._heard), self._suspended_until)
 
+    @property
+    def rests(self) -> int:
+        """How many waits of this run were over by themselves, with nothing that the program waited for."""
+        return self._turns.get(Cell.WAITS)
+
     def was_poked(self) -> None:
         self._heard = min(self._heard, self.world.now + self._late)
 

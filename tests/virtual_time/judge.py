@@ -55,11 +55,12 @@ class Judge:
         self._judged = len(asked)
 
     def _may_follow(self, before: Asked, one: Asked) -> bool:
-        """Whether it is the renewal right behind its lookup, or another watch knows of no request that the one before it made."""
+        """Whether it is the renewal right behind its lookup, or what asks knows of no request before it: it has been started again, or the
+        credential was looked up before it was taken."""
         if one.renews and not before.renews:
             return True
-        began = [line.moment for line in self._agent.said("begin", "start")]
-        return one.run != before.run or any(before.moment <= moment <= one.moment for moment in began)
+        taken = self._agent.said("add", one.name) + self._agent.said("replace", one.name)
+        return one.run != before.run or any(before.moment <= line.moment <= one.moment for line in taken)
 
     # ---- ends
 

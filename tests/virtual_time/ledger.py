@@ -7,8 +7,9 @@ from dataclasses import dataclass
 from itertools import product
 
 from .agent import Client
-from .fleet import Fleet
+from .fleet import Entry, Fleet
 from .stage import INVENTORY, Stage
+from .vault import Row
 
 Change = Callable[[Fleet], Fleet]
 Standing = dict[str, int]
@@ -39,6 +40,8 @@ class Ledger:
         self._unsure: list[Change] = []
         self._edits: list[Change] = []
         """Of FILE, since it was last read."""
+        self.replaced: list[tuple[Entry, int]] = []
+        """Entries as they were before another credential was acknowledged, and in which run."""
         stage.world.watchers.append(self._watch)
 
     @property
@@ -50,6 +53,26 @@ class Ledger:
         client = self._stage.client(*words)
         self._asked.append(Asked(client, change, undone, unsure))
         return client
+
+    def add(self, entry: Entry) -> Client:
+        """A client adds a token, which the broker has from now on; it has not, where it is refused."""
+        rows = self._stage.broker.vault.rows
+        rows[entry.secret] = entry.row(None)
+
+        def forget() -> None:
+            rows.pop(entry.secret, None)
+        return self.ask(lambda fleet: fleet.with_entry(entry), "add", entry.table(), undone=forget)
+
+    def drop(self, name: str) -> Client:
+        return self.ask(lambda fleet: fleet.without(name), "drop", name)
+
+    def replace(self, name: str, given: Row, unsure: Callable[[], None] = nothing) -> Client:
+        """A client gives an entry another credential, which the broker has spare."""
+        def change(fleet: Fleet) -> Fleet:
+            given.is_spare = False
+            self.replaced.append((fleet.get(name), self._stage.agent.run))
+            return fleet.changed(name, credential=given.credential)
+        return self.ask(change, "replace", name, given.credential, unsure=unsure)
 
     def edit(self, change: Change) -> None:
         """An operator writes FILE anew; it counts once it is read."""

@@ -20,6 +20,11 @@ def longest(margin: float, count: int, width: int, timeout: float, latency: floa
     return margin - timeout - 2 * (latency + late) - quiet - max(1.0, min(30.0, quiet / 15))
 
 
+def unseen(margin: float) -> float:
+    """For how many seconds a suspension that is over may go unseen: the longest wait of a turn."""
+    return max(1.0, min(30.0, margin / 16))
+
+
 @dataclass(frozen=True)
 class Plot:
     """What a world begins with."""

@@ -1,20 +1,24 @@
-"""Bad hours: outages ten milliseconds shorter than docs/watch.md says may be survived, at moments that are chosen against the agent; parts
-of a fleet that are silent for good; and a broker that does anything."""
+"""Bad hours: outages ten milliseconds shorter than docs/watch.md says may be survived, at moments that are chosen against the agent, with
+more trouble in them; parts of a fleet that are silent for good; and a broker that does anything."""
 
 from __future__ import annotations
 
 import random
+from dataclasses import replace
 from pathlib import Path
 
 from bad_hours import SECOND, START, Hang, Manner, Storm, hangs, storms
+from troubles import Incident, What
 
-from .clock import MILLISECOND, NEVER
+from .clock import MILLISECOND, NEVER, ns
 from .faults import Act, Fault, about
 from .fleet import FAR, Entry, Fleet
+from .ledger import Ledger
 from .stage import TOLD, Stage
 from .strict import Strict
 from .vault import Request
 
+MINUTE = 60
 MANNERS = {Manner.SILENT: Act.SILENT, Manner.CLOSED: Act.CLOSED, Manner.UNAVAILABLE: Act.STATUS}
 
 
@@ -32,13 +36,53 @@ def staged(program: Path, plot: Storm | Hang) -> Stage:
 
 def play_storm(program: Path, seed: int) -> list[str]:
     """An outage as long as may be: nothing is lost."""
-    storm = next(storms(random.Random(seed), 1))
+    return play_served(program, next(storms(random.Random(seed), 1)))
+
+
+def play_served(program: Path, storm: Storm) -> list[str]:
+    """What goes wrong where nothing is to be lost but what is revoked or dropped."""
     with staged(program, storm) as stage:
-        strict = Strict(stage)
+        strict = Strict(stage, storm.trouble.touched)
         since, until = moment(storm.begins - storm.reply), moment(storm.begins + storm.lasts)
-        stage.broker.faults = [Fault(since, until, MANNERS[storm.manner], 503)]
-        stage.world.run(moment(storm.begins + storm.lasts + 3 * storm.margin * SECOND))
-        return stage.faults() + strict.faults
+        stage.broker.faults = [
+            Fault(since, until, MANNERS[storm.manner], 503), Fault(since, NEVER, Act.STATUS, 404, about(*storm.trouble.revoked))]
+        changer = Changer(stage, 4 * storm.margin)
+        stage.world.run(since)
+        stage.broker.vault.quota = storm.trouble.quota
+        for incident in storm.trouble.incidents:
+            stage.world.run(moment(storm.moment(incident)))
+            changer.happen(incident)
+        stage.world.run(until + 3 * ns(storm.margin))
+        return stage.faults(sick=storm.trouble.revoked) + strict.faults
+
+
+class Changer:
+    """Lets happen what happens in an outage. What is new ends `left` seconds and a step after it came to be, and a minute more."""
+
+    def __init__(self, stage: Stage, left: int) -> None:
+        self._stage, self._left, self._ledger = stage, left, Ledger(stage)
+
+    def happen(self, incident: Incident) -> None:
+        self._stage.tell(f"{incident.what.value}: {incident.name}")
+        match incident.what:
+            case What.BEGIN:
+                self._stage.clocks.wall_ahead += ns(3)
+            case What.RELOAD:
+                self._ledger.reload()
+            case What.EDIT:
+                self._ledger.edit(lambda fleet: fleet.changed(incident.name, step=fleet.get(incident.name).step + 7))
+                self._ledger.reload()
+            case What.ADD:
+                self._ledger.add(self._new(incident.name))
+            case What.DROP:
+                self._ledger.drop(incident.name)
+            case What.REPLACE:
+                given = replace(self._new(incident.name), credential=f"s.{incident.name}.new")
+                self._ledger.replace(incident.name, self._stage.broker.vault.add(given.row(None, is_spare=True)))
+
+    def _new(self, name: str) -> Entry:
+        step = self._stage.fleet.entries[0].step
+        return Entry(name, left=self._stage.now + self._left + step + MINUTE, step=step)
 
 
 def hung(program: Path, seed: int, is_crowded: bool) -> tuple[list[str], list[str]]:

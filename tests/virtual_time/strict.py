@@ -16,8 +16,9 @@ LONG, LONGER = 30, 300
 class Strict:
     """Watches the world of a stage. `faults`: what went wrong, a line each."""
 
-    def __init__(self, stage: Stage) -> None:
-        self._stage, self._margin = stage, ns(stage.fleet.margin)
+    def __init__(self, stage: Stage, others: frozenset[str] = frozenset()) -> None:
+        """`others`: entries of which nothing is said, since they are refused, or do not stay what they are."""
+        self._stage, self._margin, self._others = stage, ns(stage.fleet.margin), others
         self.faults: list[str] = []
         self._lines = self._asked = self._reads = 0
         """What of the log, of the requests, and of the file of the ends was judged."""
@@ -26,8 +27,12 @@ class Strict:
         self._in_round: set[str] = set()
         self._failed: dict[str, int] = {}
         """Since when each has failed that was not granted or looked up since."""
+        self._unpressed: set[str] = set()
+        """Those of them that failed before their time, and that no round asked."""
         self._is_away, self._lost_at = False, 0
         """Whether the broker counts as away, and when a request was last lost."""
+        self._asked_at: dict[str, int] = {}
+        """When each was last asked."""
         self._quiet_since: int | None = 0
         """Since when no request is out."""
         stage.world.watchers.append(self.watch)
@@ -45,6 +50,7 @@ class Strict:
         self._asked += len(asked)
         for one in asked:
             self._nobody_is_early(one)
+            self._asked_at[one.name] = one.moment
         if stage.broker.out:
             self._quiet_since = None
         elif asked or self._quiet_since is None:
@@ -61,7 +67,7 @@ class Strict:
                 case "wake":
                     self._in_round |= set(line.words[1:])
                 case "lost":
-                    self._failed[line.words[0]] = self._lost_at = line.moment
+                    self._lose(line.words[0], line.moment)
                 case "away" | "back":
                     self._is_away = line.event == "away"
                 case "entry" | "told":
@@ -70,9 +76,17 @@ class Strict:
                     if line.event == "told":
                         self._in_round.discard(line.words[0])
 
+    def _lose(self, name: str, moment: int) -> None:
+        self._failed[name] = self._lost_at = moment
+        end = self._stage.judge.believed.get(name)
+        if end is not None and moment < self._its_time(end) and name not in self._in_round:
+            self._unpressed.add(name)
+        else:
+            self._unpressed.discard(name)
+
     def _nobody_is_early(self, one: Asked) -> None:
         end = self._stage.judge.believed.get(one.name)
-        if not one.renews or end is None or one.name in self._told | self._in_round | set(self._failed):
+        if not one.renews or end is None or one.name in self._others | self._told | self._in_round | set(self._failed):
             return
         early = end - self._margin - self._stage.clocks.elapsed(one.moment)
         if early > 0:
@@ -82,19 +96,24 @@ class Strict:
         """No request was out since then: whose time has come, or who may be tried again, has waited no longer than it takes to wake up."""
         now, clocks = self._stage.world.now, self._stage.clocks
         for name, end in self._stage.judge.believed.items():
-            if end > clocks.elapsed(now) and name not in self._told:
+            if end > clocks.elapsed(now) and name not in self._others | self._told:
                 waited = now - max(quiet_since, self._due(name, end))
                 if waited > TICK + 2 * self._stage.late:
                     self._tell(f"{name} waits for {waited / NANOSECONDS:.3f} s, and nobody is asked")
 
-    def _due(self, name: str, end: int) -> int:
-        """The moment from which it has to be asked where nobody else is. (What is left counts in whole seconds. While the broker is away, all
-        that failed share one pause, which is no longer than that of any of them.)"""
+    def _its_time(self, end: int) -> int:
+        """The time of an entry with that end, as a moment of the world."""
         clocks = self._stage.clocks
+        return clocks.booted + end - self._margin - clocks.elapsed(clocks.booted)
+
+    def _due(self, name: str, end: int) -> int:
+        """The moment from which it has to be asked where nobody else is: its time, or a second behind a request that was shortly before that.
+        (What is left counts in whole seconds. While the broker is away, all that failed share one pause, which is no longer than that of
+        any of them whose time had come, or whom a round asks.)"""
         failed = self._failed.get(name)
-        if failed is None:
-            return clocks.booted + end - self._margin - clocks.elapsed(clocks.booted)
-        left = end - clocks.elapsed(failed)
+        if failed is None or self._is_away and name in self._unpressed:
+            return max(self._its_time(end), self._asked_at.get(name, 0) + NANOSECONDS)
+        left = end - self._stage.clocks.elapsed(failed)
         longest = LONG if left <= 2 * self._margin else LONGER
         since = max(failed, self._lost_at) if self._is_away else failed
         return since + max(NANOSECONDS, min(ns(longest), left // 16)) + NANOSECONDS

@@ -5,7 +5,7 @@
    - if it has said something since (`has_said`), or something else may happen before its wait is over (HORIZON), it writes a byte to
      REPORT and stands still until a byte comes from GO: the test answers, and moves the clocks on;
    - else nobody could tell the difference, so it sets its clock to the end of its wait by itself. An hour without a request, which is
-     3,600 waits of a second, takes no turn of the test.
+     120 waits or more, takes no turn of the test.
 
    BOOT names a file that stands in the place of the kernel's for the boot's id. Disk calls (those that make, write, sync, move or remove
    a file) wait until DISK_WAITS, and fail with DISK_FAILS where that is not 0. Before its call of number KILLED, counted down, it is

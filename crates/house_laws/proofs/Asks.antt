@@ -19,10 +19,10 @@ use Rattle.keep_proving.specs.declared.verdict.Verdict.TheVariants as verdicts
 use Rattle.keep_serving.specs.declared.change.Change.{Change}
 use Rattle.keep_house.specs.Admitting.{AdmitsIf, FollowsLog, asking_in}
 use Rattle.keep_house.specs.Awaiting.{HearsFor, Judges, LooksUpBy, LooksUpFirst, LooksUpIf, Makes, ProvesBy, VerdictIs}
-use Rattle.keep_house.specs.Commands.{AddsIf, AsksIf, CarriesIf, CarriesOut, GivesNeed, GoesOnIf, LacksMemory, NeedIsKept, NeedsIf, RereadBy, ServesClients, SettlesBy, SettlesGiven, StateIsRebuilt, TellsReload}
+use Rattle.keep_house.specs.Commands.{AddsIf, AsksIf, CarriesIf, CarriesOut, GivesNeed, GoesOnIf, LacksMemory, NeedIsKept, NeedsIf, RereadBy, ServesClients, SettlesBy, SettlesGiven, StateIsServed, TellsReload}
 use Rattle.house_laws.specs.Disks.{IsAskedWithin, KeeperIsCalled, looks_of, makes_of}
 use Rattle.keep_house.specs.Houses.{ClientIsSent, Concludes, WillRefuse, WillTell}
-use Rattle.house_ledger.specs.Keeping.{KeepCall, KeeperIsAsked, LookUp, Prove, Rebuilt, Reload, Settle, Take}
+use Rattle.house_ledger.specs.Keeping.{KeepCall, KeeperIsAsked, LookUp, MarkServed, Prove, Reload, Settle, Take}
 use Rattle.house_words.specs.Outcomes.{Outcome, Why, Whys, done_of}
 use Rattle.house_log.specs.Lines.{Line}
 use Rattle.keep_house.specs.declared.given.Awaited.{Awaited}
@@ -66,10 +66,10 @@ module _ {K : Type 0} (does : KeepCall → K → K → Type 0) where
   reread_by now (Some result) (Some old) None h = absurd h
   reread_by now (Some result) (Some old) (Some new) h = within_one does (Reload now.elapsed result) (Some old) (Some new) (new, (h, refl))
 
-  rebuilt_by : (old new : Option K) → StateIsRebuilt does old new → IsAskedWithin does 0 0 old new
-  rebuilt_by None new h = within_none does None new h
-  rebuilt_by (Some old) None h = absurd h
-  rebuilt_by (Some old) (Some new) h = within_one does Rebuilt (Some old) (Some new) (new, (h, refl))
+  marked_by : (old new : Option K) → StateIsServed does old new → IsAskedWithin does 0 0 old new
+  marked_by None new h = within_none does None new h
+  marked_by (Some old) None h = absurd h
+  marked_by (Some old) (Some new) h = within_one does MarkServed (Some old) (Some new) (new, (h, refl))
 
 -- ---- what else is done leaves who keeps changes and the ends alone
 
@@ -256,9 +256,9 @@ module _ {S T D K E : Type 0} (does : KeepCall → K → K → Type 0) (agent : 
   settled_by false (Some (givens.Answer text at)) old new h = spares does old new (record { state = ap (λ x. x.state) h.1; ends = ap (λ x. x.ends) h.1 })
   settled_by true (Some (givens.Aside client text at)) old new h = spares does old new (record { state = ap (λ x. x.state) h.rest; ends = ap (λ x. x.ends) h.rest })
   settled_by false (Some (givens.Aside client text at)) old new h = spares does old new (record { state = ap (λ x. x.state) h.1; ends = ap (λ x. x.ends) h.1 })
-  settled_by true (Some (givens.Served marks)) old new h = record { asked = rebuilt_by does old.state new.state h.0; ends = ap (λ x. x.ends) h.1 }
+  settled_by true (Some (givens.Served marks)) old new h = record { asked = marked_by does old.state new.state h.0; ends = ap (λ x. x.ends) h.1 }
   settled_by false (Some (givens.Served marks)) old new h = spares does old new (left old new h)
-  settled_by true (Some givens.Unchanged) old new h = record { asked = rebuilt_by does old.state new.state h.0; ends = ap (λ x. x.ends) h.1 }
+  settled_by true (Some givens.Unchanged) old new h = record { asked = marked_by does old.state new.state h.0; ends = ap (λ x. x.ends) h.1 }
   settled_by false (Some givens.Unchanged) old new h = spares does old new (left old new h)
 
   pub settled_given : (is_made : Bool) (old new : House S T D K E) → SettlesGiven does agent is_made old new → Spares does 0 old new

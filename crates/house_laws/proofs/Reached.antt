@@ -9,7 +9,7 @@ use Rattle.keep_disk.specs.State.{DiskState}
 use Rattle.keep_inventory.specs.Inventories.{Inventory}
 use Rattle.keep_log.specs.declared.writing.TheConstants.{MOST_TRIES}
 use Rattle.keep_serving.specs.Days.{PassesToOthers, SettlesOthers}
-use Rattle.keep_serving.specs.Neighbours.{Give, GoOn, Hear, NeighbourCall, Settle}
+use Rattle.keep_serving.specs.Neighbours.{Give, GoOn, Hear, NeighbourCall, Rest, Settle}
 use Rattle.keep_serving.specs.declared.day.EarlyDay.{EarlyDay}
 use Rattle.keep_serving.specs.declared.neighbours.Happened.{Happened}
 use Rattle.keep_serving.specs.declared.neighbours.Happened.TheVariants as happened
@@ -27,6 +27,7 @@ DoesToReader tries (Hear thing) old new = new ≡ old
 DoesToReader tries (GoOn is_busy) old new = tries new ≤ tries old + MOST_TRIES
 DoesToReader tries (Give change) old new = new ≡ old
 DoesToReader tries (Settle is_made) old new = new ≡ old
+DoesToReader tries (Rest now rest) old new = new ≡ old
 
 module _ {S T D K E : Type 0} where
   next_heard : (agent : Agent) (next : Option (Option Next)) (old new : House S T D K E) → HearsNext agent next old new → new.sink ≡ old.sink
@@ -57,6 +58,7 @@ module _ {S T D K E : Type 0} (given : S → Option (List ℕ)) (failures tries 
   reader_of (Give change) old new h = (asked_for does rows path reads gives h.0 h.1.0 h.1.1.0 change old new h.1.1.1.1).sink
   reader_of (Settle is_made) old new h =
       ap (λ x. x.sink) h.1.rest ∙ (settled_given does h.0 is_made h.1.heard h.1.settled h.1.settles).sink ∙ served_heard _ old h.1.heard h.1.served
+  reader_of (Rest now rest) old new h = ap (λ x. x.sink) h.0
 
   -- ---- the same after one more neighbour, that asks for a beginning
 
@@ -71,3 +73,4 @@ module _ {S T D K E : Type 0} (given : S → Option (List ℕ)) (failures tries 
   reader_of_day (Give (Some change)) old new (inl h) = reader_of (Give (Some change)) old.others new.others h.1
   reader_of_day (Give (Some change)) old new (inr h) = reader_of (Give None) old.others new.others h.1.1
   reader_of_day (Settle is_made) old new h = settled_on old.is_own is_made old.others new.others h
+  reader_of_day (Rest now rest) old new h = ap (λ x. x.others.sink) h.0

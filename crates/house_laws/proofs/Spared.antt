@@ -15,7 +15,7 @@ use Rattle.keep_inventory.specs.Inventories.{Inventory}
 use Rattle.keep_secrets.specs.declared.news.Looked.{Looked}
 use Rattle.keep_serving.specs.Changes.{given_by}
 use Rattle.keep_serving.specs.Days.{PassesToOthers, SettlesOthers}
-use Rattle.keep_serving.specs.Neighbours.{AllCalled, Give, GoOn, Hear, NeighbourCall, Settle, calls_at}
+use Rattle.keep_serving.specs.Neighbours.{AllCalled, Give, GoOn, Hear, NeighbourCall, Rest, Settle, calls_at}
 use Rattle.keep_serving.specs.declared.change.Change.{Change}
 use Rattle.keep_serving.specs.declared.day.EarlyDay.{EarlyDay}
 use Rattle.keep_serving.specs.declared.neighbours.Happened.{Happened}
@@ -80,6 +80,7 @@ module _ {E : Type 0} (known : Bool) (state : E → DiskState) where
   DoesToEnds (GoOn is_busy) old new = MayBeTried old new
   DoesToEnds (Give change) old new = AreEndsLeft old new
   DoesToEnds (Settle is_made) old new = AreEndsLeft old new
+  DoesToEnds (Rest now rest) old new = AreEndsLeft old new
 
   module _ {N : Type 0} (does : NeighbourCall → N → N → Type 0) (ends : N → Option (EndsFile E)) (by : (call : NeighbourCall) (old new : N) → does call old new → DoesToEnds call (ends old) (ends new)) where
     left_of : (calls : List NeighbourCall) (old new : N) → AllCalled does calls old new → weight goes calls ≡ 0 → AreEndsLeft (ends old) (ends new)
@@ -88,6 +89,7 @@ module _ {E : Type 0} (known : Bool) (state : E → DiskState) where
     left_of (GoOn is_busy ∷ rest) old new h none = absurd (omega (arith, none))
     left_of (Give change ∷ rest) old new h none = left_join (ends old) (ends h.0) (ends new) (by (Give change) old h.0 h.1.0) (left_of rest h.0 new h.1.1 (omega (arith, none)))
     left_of (Settle is_made ∷ rest) old new h none = left_join (ends old) (ends h.0) (ends new) (by (Settle is_made) old h.0 h.1.0) (left_of rest h.0 new h.1.1 (omega (arith, none)))
+    left_of (Rest now left ∷ rest) old new h none = left_join (ends old) (ends h.0) (ends new) (by (Rest now left) old h.0 h.1.0) (left_of rest h.0 new h.1.1 (omega (arith, none)))
 
     tried_of : (calls : List NeighbourCall) (old new : N) → AllCalled does calls old new → weight goes calls ≤ 1 → MayBeTried (ends old) (ends new)
     tried_of [] old new h few = inl (left_same (ends old) (ends new) (ap ends h))
@@ -95,6 +97,7 @@ module _ {E : Type 0} (known : Bool) (state : E → DiskState) where
     tried_of (GoOn is_busy ∷ rest) old new h few = tried_left (ends old) (ends h.0) (ends new) (by (GoOn is_busy) old h.0 h.1.0) (left_of rest h.0 new h.1.1 (omega (arith, few)))
     tried_of (Give change ∷ rest) old new h few = left_tried (ends old) (ends h.0) (ends new) (by (Give change) old h.0 h.1.0) (tried_of rest h.0 new h.1.1 (omega (arith, few)))
     tried_of (Settle is_made ∷ rest) old new h few = left_tried (ends old) (ends h.0) (ends new) (by (Settle is_made) old h.0 h.1.0) (tried_of rest h.0 new h.1.1 (omega (arith, few)))
+    tried_of (Rest now left ∷ rest) old new h few = left_tried (ends old) (ends h.0) (ends new) (by (Rest now left) old h.0 h.1.0) (tried_of rest h.0 new h.1.1 (omega (arith, few)))
 
     pub ends_law : TriesEnds does known state ends
     ends_law width t old new h = tried_of (calls_at t.reading h.answers h.is_handed t) old new h.called (goes_once t.reading h.answers h.is_handed t)
@@ -162,6 +165,7 @@ module _ {S T D K E : Type 0} (given : S → Option (List ℕ)) (failures tries 
       let settled = settled_given asks h.0 is_made h.1.heard h.1.settled h.1.settles in
       subst (λ (s : Option K). IsAskedWithin asks 0 0 s new.state) heard.0
       (subst (λ (s : Option K). IsAskedWithin asks 0 0 h.1.heard.state s) (sym (ap (λ x. x.state) h.1.rest)) settled.asked)
+  asked_at (Rest now rest) old new h = within_none asks old.state new.state (ap (λ x. x.state) h.0)
 
   pub ends_at : (call : NeighbourCall) (old new : House S T D K E) → Does call old new → DoesToEnds known state call old.ends new.ends
   ends_at (Hear thing) old new h = (heard_of h.0 h.1.0 old new h.1.1.1).1
@@ -175,6 +179,7 @@ module _ {S T D K E : Type 0} (given : S → Option (List ℕ)) (failures tries 
       let heard = served_heard _ old h.1.heard h.1.served in
       let settled = settled_given asks h.0 is_made h.1.heard h.1.settled h.1.settles in
       left_join old.ends h.1.heard.ends new.ends heard.1 (left_same h.1.heard.ends new.ends (ap (λ x. x.ends) h.1.rest ∙ settled.ends))
+  ends_at (Rest now rest) old new h = left_same old.ends new.ends (ap (λ x. x.ends) h.0)
 
   -- ---- the same after one more neighbour, that asks for a beginning
 
@@ -192,6 +197,7 @@ module _ {S T D K E : Type 0} (given : S → Option (List ℕ)) (failures tries 
   asked_day (Give (Some change)) old new (inl h) = asked_at (Give (Some change)) old.others new.others h.1
   asked_day (Give (Some change)) old new (inr h) = within_more asks 0 0 0 1 old.others.state new.others.state (omega arith) (omega arith) (asked_at (Give None) old.others new.others h.1.1)
   asked_day (Settle is_made) old new h = settled_asked old.is_own is_made old.others new.others h
+  asked_day (Rest now rest) old new h = within_none asks old.others.state new.others.state (ap (λ x. x.others.state) h.0)
 
   settled_left : (is_own is_made : Bool) (old new : House S T D K E) → SettlesOthers Does is_own is_made old new → AreEndsLeft old.ends new.ends
   settled_left true is_made old new h = left_same old.ends new.ends (ap (λ x. x.ends) h)
@@ -204,3 +210,4 @@ module _ {S T D K E : Type 0} (given : S → Option (List ℕ)) (failures tries 
   ends_day (Give (Some change)) old new (inl h) = ends_at (Give (Some change)) old.others new.others h.1
   ends_day (Give (Some change)) old new (inr h) = ends_at (Give None) old.others new.others h.1.1
   ends_day (Settle is_made) old new h = settled_left old.is_own is_made old.others new.others h
+  ends_day (Rest now rest) old new h = left_same old.others.ends new.others.ends (ap (λ x. x.others.ends) h.0)

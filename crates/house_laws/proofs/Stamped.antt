@@ -25,7 +25,7 @@ use Rattle.keep_serving.specs.Changes.{given_by}
 use Rattle.keep_serving.specs.Neighbours.{NeighbourCall}
 use Rattle.keep_store.specs.declared.secret.Secret.{Secret}
 use Rattle.house_laws.specs.Disks.{AllAsked, AsksLittle, FewAreMade, KeeperIsCalled, LedgerIsSpared, LedgerLaw, SparesIf, SparesLedger, looks_of, makes_of, opens_of, stamps_of}
-use Rattle.house_ledger.specs.Keeping.{KeepCall, Look, LookUp, Prove, Rebuilt, Reload, Settle, Take}
+use Rattle.house_ledger.specs.Keeping.{KeepCall, Look, LookUp, MarkServed, Prove, Reload, RestFor, Settle, Take}
 use Rattle.house_ledger.specs.Ledgers.{DoesLedger}
 use Rattle.house_ledger.specs.Takings.{AwaitsIf, IsEarly, IsFileReadAs, IsPass, JudgesFile, LooksBy, LooksByWord, LooksOn, LooksOrHears, LooksUpBy, LooksUpNew, ReadsNew, ReadsUp, TakesHeldUp, TakesRead, TakesUpFile}
 use Rattle.house_ledger.specs.declared.asked_file.AskedFile.{AskedFile}
@@ -238,7 +238,8 @@ module _ {D I L : Type 0} (known : Bool) (seen : D → DiskState) (calls : I →
   by_call (Settle result) old new none h = absurd (omega (arith, none))
   by_call (Reload now result) old new none h = absurd (omega (arith, none))
   by_call (Look now looked) old new none h = looks_few calls lanes_seen port now looked old new h
-  by_call Rebuilt old new none h = untouched old new (ap (λ l. l.inputs) h.1.1.1) h.1.1.0
+  by_call MarkServed old new none h = untouched old new (ap (λ l. l.inputs) h.1.1.1) h.1.1.0
+  by_call (RestFor now rest) old new none h = untouched old new (ap (λ l. l.inputs) h.0) (ap (λ l. l.state.disk) h.0)
 
   pub ledger_law : LedgerLaw known seen calls lanes_seen port
   ledger_law = by_call

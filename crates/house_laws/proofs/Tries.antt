@@ -1,6 +1,6 @@
 -- Tries: how often the log's reader is tried in a turn. For `a_turn_tries_the_reader_little`.
 use Rattle.std.proofs.Common.{ℕ, ◌+◌, ◌*◌, ◌≤◌, List, [], ◌∷◌, ap, arith}
-use Rattle.keep_serving.specs.Neighbours.{AllCalled, Give, GoOn, Hear, NeighbourCall, Settle, calls_at}
+use Rattle.keep_serving.specs.Neighbours.{AllCalled, Give, GoOn, Hear, NeighbourCall, Rest, Settle, calls_at}
 use Rattle.house_laws.specs.Tried.{IsTriedLittle}
 use Rattle.house_laws.proofs.Reached.{DoesToReader}
 use Rattle.house_laws.proofs.Weighed.{goes, goes_once, weight}
@@ -12,6 +12,7 @@ module _ {S H : Type 0} (does : NeighbourCall → H → H → Type 0) (tries : S
   tries_of (GoOn is_busy ∷ rest) old new h = (let one = by (GoOn is_busy) old h.0 h.1.0 in let more = tries_of rest h.0 new h.1.1 in omega (arith, one, more))
   tries_of (Give change ∷ rest) old new h = (let same = ap tries (by (Give change) old h.0 h.1.0) in let more = tries_of rest h.0 new h.1.1 in omega (arith, same, more))
   tries_of (Settle is_made ∷ rest) old new h = (let same = ap tries (by (Settle is_made) old h.0 h.1.0) in let more = tries_of rest h.0 new h.1.1 in omega (arith, same, more))
+  tries_of (Rest now left ∷ rest) old new h = (let same = ap tries (by (Rest now left) old h.0 h.1.0) in let more = tries_of rest h.0 new h.1.1 in omega (arith, same, more))
 
 pub tries_law : {S H : Type 0} → (does : NeighbourCall → H → H → Type 0) (tries : S → ℕ) (reader : H → S) (by : (call : NeighbourCall) (old new : H) → does call old new → DoesToReader tries call (reader old) (reader new)) → IsTriedLittle does tries reader
 tries_law does tries reader by width t old new h =

@@ -82,7 +82,7 @@ AnsweredAlike =
     (a b : Agent) → AgentsAreAlike a b → (i : ℕ) (operation : Operation) (said : Said) (notes : Notes) (before : Option Trouble) →
     answered_lines b i operation said notes before ≡ answered_lines a i operation said notes before
 
--- after a rebuilding what was said is carried over
+-- once another inventory is served what was said is carried over
 abbrev pub CarriedAlike : Type 0
 CarriedAlike = (a b : Agent) → AgentsAreAlike a b → (count : ℕ) → marks_anew b count ≡ marks_anew a count
 

@@ -22,7 +22,7 @@ use Rattle.keep_serving.specs.Turns.{ServingTurn}
 use Rattle.keep_serving.specs.declared.day.EarlyDay.{EarlyDay}
 use Rattle.keep_state.specs.States.{book_in}
 use Rattle.keep_house.specs.Doing.{DoesToHouse}
-use Rattle.house_ledger.specs.Keeping.{KeepCall, Look, LookUp, Prove, Rebuilt, Reload, Settle, Take}
+use Rattle.house_ledger.specs.Keeping.{KeepCall, Look, LookUp, MarkServed, Prove, Reload, RestFor, Settle, Take}
 use Rattle.house_words.specs.Outcomes.{Why}
 use Rattle.house_ledger.specs.Ledgers.{DoesLedger, GivesLedger, ReadsTable}
 use Rattle.keep_house.specs.declared.house.House.{House}
@@ -49,7 +49,8 @@ looks_of (Prove now result) = 0
 looks_of (Settle result) = 0
 looks_of (Reload now result) = 0
 looks_of (Look now looked) = 1
-looks_of Rebuilt = 0
+looks_of MarkServed = 0
+looks_of (RestFor now rest) = 0
 
 -- calls that make a change: no other but a look is to call a disk
 abbrev pub makes_of : KeepCall → ℕ
@@ -59,7 +60,8 @@ makes_of (Prove now result) = 0
 makes_of (Settle result) = 1
 makes_of (Reload now result) = 1
 makes_of (Look now looked) = 0
-makes_of Rebuilt = 0
+makes_of MarkServed = 0
+makes_of (RestFor now rest) = 0
 
 -- so many looks at most, and so many changes
 pub record IsAskedWithin {K : Type 0} (asks : KeepCall → K → K → Type 0) (looks makes : ℕ) (old new : Option K) : Type 0 where

@@ -1,5 +1,5 @@
 -- Asking: files are looked up by askers, and heard of. For `hear_first`, `ask_at`, `ask_about` and `look`.
-use Rattle.std.proofs.Common.{◌≡◌, ◌∙◌, ℕ, ◌<◌, ◌≤◌, ◌+◌, arith, Bool, true, false, not, ◌&&◌, List, [], ◌∷◌, ◌++◌, Option, Some, None, Result, Ok, Err, Vec, ap, append-nil, append_assoc, drop, get_or, is_none, is_some, length, refl, set, subst, suc, sym, take}
+use Rattle.std.proofs.Common.{◌≡◌, ◌∙◌, ℕ, ◌<◌, ◌≤◌, ◌+◌, arith, true, not, ◌&&◌, List, [], ◌∷◌, ◌++◌, Option, Some, None, Result, Ok, Err, Vec, ap, append-nil, append_assoc, drop, get_or, is_none, is_some, length, refl, set, subst, suc, sym, take}
 use Rattle.std.proofs.lemmas.Grind.{drop_more_same}
 use Rattle.std.proofs.lemmas.List.{drop-set-lt, drop_all, drop_more, length-set, set_split, take_all, take_more_set, with_items_is}
 use Rattle.std.proofs.lemmas.List.Quantifiers.{position-Some}

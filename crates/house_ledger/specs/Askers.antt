@@ -1,6 +1,6 @@
 -- Askers: over the lanes of each of them what one file of a credential holds is looked up, and the broker's word on it is heard.
 -- Source: docs/running.md, "Secrets by file".
-use Rattle.std.specs.Prelude.{◌≡◌, ℕ, ◌==◌, Bool, true, false, not, ◌&&◌, ◌||◌, List, [], ◌∷◌, Option, Some, None, Result, Ok, Err, bytes_eq, is_none, is_some, length}
+use Rattle.std.specs.Prelude.{◌≡◌, ℕ, ◌==◌, Bool, false, not, ◌&&◌, ◌||◌, List, [], ◌∷◌, Option, Some, None, Result, Ok, Err, bytes_eq, is_none, is_some, length}
 use Rattle.std.specs.List.{list_any, position, slice_get, slice_set}
 use Rattle.std.specs.declared.alloc.AllocError.{AllocError}
 use Rattle.keep_asking.specs.Sending.{Lanes}
@@ -24,6 +24,10 @@ free_place askers = position is_free askers
 -- files may be looked at: one of them is free, or there are none, and nothing is looked up
 abbrev pub may_look : {L : Type 0} → List (Asker L) → Bool
 may_look askers = length askers == 0 || list_any is_free askers
+
+-- one of them looks something up
+abbrev pub is_any_asking : {L : Type 0} → List (Asker L) → Bool
+is_any_asking askers = list_any (λ a. not (is_free a)) askers
 
 -- what that file holds for the entry of that name is looked up
 abbrev pub is_file_of : List ℕ → List ℕ → Option AskedFile → Bool

@@ -12,7 +12,8 @@ use Rattle.house_words.specs.declared.reread.Reread.{Reread}
 
 -- at a moment of the clock that never steps, in milliseconds, a change of the entry of that name is to be made, and was or was not; at a
 -- reading the credential that it brings is to be looked up, and at a moment the verdict on it is asked for; the file is to hold every
--- change; at a moment it is to be read anew; at a reading files of credentials are to be looked at; a rebuilding was made
+-- change; at a moment it is to be read anew; at a reading files of credentials are to be looked at; what was due is served; at a moment it is
+-- asked for how long it may be left alone
 pub data KeepCall : Type 0 where
   Take : ℕ → List ℕ → What → Result (Unit {0}) Why → KeepCall
   LookUp : Reading → List ℕ → What → Result LookedUp AllocError → KeepCall
@@ -20,7 +21,8 @@ pub data KeepCall : Type 0 where
   Settle : Result (Unit {0}) Why → KeepCall
   Reload : ℕ → Result Reread Whys → KeepCall
   Look : Reading → Looked → KeepCall
-  Rebuilt : KeepCall
+  MarkServed : KeepCall
+  RestFor : ℕ → Option ℕ → KeepCall
 
 -- whoever keeps changes was asked for that, and the line says so; where nobody does, that is why it was not done
 abbrev pub KeeperIsAsked : {K : Type 0} → (KeepCall → K → K → Type 0) → (Result (Unit {0}) Why → KeepCall) → (K → List ℕ → Type 0) → Outcome → Option K → Option K → Type 0

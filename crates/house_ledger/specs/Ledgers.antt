@@ -1,13 +1,15 @@
 -- Ledgers: the state of an agent on a disk, and what the calls of its house do to it.
 -- Source: this project's own; what is on the disk is keep_state's.
-use Rattle.std.specs.Prelude.{◌≡◌, ◌≢◌, ◌⊎◌, ℕ, Bool, true, false, IsTrue, List, [], ◌∷◌, ◌++◌, Option, Some, None, IfSome, Result, Ok, Err, codes, if◌then◌else◌, length}
+use Rattle.std.specs.Prelude.{◌≡◌, ◌≢◌, ◌⊎◌, ℕ, Bool, true, false, ◌||◌, IsTrue, List, [], ◌∷◌, ◌++◌, Option, Some, None, IfSome, Result, Ok, Err, codes, if◌then◌else◌, is_some, length, nat_le}
 use Rattle.std.specs.declared.alloc.AllocError.{AllocError}
-use Rattle.keep_agent.specs.Waiting.{changed, is_rebuilding_due}
+use Rattle.keep_agent.specs.Waiting.{change_due_at, changed, is_change_due}
 use Rattle.keep_asking.specs.Sending.{Lanes}
 use Rattle.keep_change.specs.declared.change.What.{What}
 use Rattle.keep_change.specs.declared.replaying.Note.{Note}
 use Rattle.keep_change.specs.declared.row.Row.{Row}
+use Rattle.keep_clock.specs.Rests.{rest_until, shorter}
 use Rattle.keep_clock.specs.declared.reading.Reading.{Reading}
+use Rattle.keep_clock.specs.declared.rest.TheConstants.{TRY_AGAIN}
 use Rattle.keep_disk.specs.State.{DiskState}
 use Rattle.keep_disk.specs.declared.fault.DiskFault.{DiskFault}
 use Rattle.keep_files.specs.Files.{Files}
@@ -24,11 +26,13 @@ use Rattle.keep_store.specs.Records.{records_in}
 use Rattle.keep_store.specs.Stores.{ChangeIsTaken, IsWhyUntaken, journal_of, lines_in}
 use Rattle.keep_store.specs.declared.secret.Secret.{Secret}
 use Rattle.keep_waiting.specs.Keepers.{InventoryIsGiven, waiting_in}
+use Rattle.keep_secrets.specs.Looking.{begun_anew}
 use Rattle.keep_secrets.specs.Stamps.{FileCall}
+use Rattle.house_ledger.specs.Askers.{is_any_asking}
 use Rattle.house_ledger.specs.Candidates.{IsCandidateFor}
 use Rattle.house_words.specs.Gathering.{AreGathered}
 use Rattle.house_ledger.specs.Inquiries.{AsksAbout, ProvesOn, asked_in}
-use Rattle.house_ledger.specs.Keeping.{KeepCall, Look, LookUp, Prove, Rebuilt, Reload, Settle, Take}
+use Rattle.house_ledger.specs.Keeping.{KeepCall, Look, LookUp, MarkServed, Prove, Reload, RestFor, Settle, Take}
 use Rattle.house_words.specs.Outcomes.{Why, Whys}
 use Rattle.house_words.specs.Reading.{IsWellWritten, IsWide}
 use Rattle.house_words.specs.Reasons.{bare_words, left_over_words, settle_words, table_words, take_words}
@@ -74,7 +78,7 @@ SettlesOn known seen (Ok x) old new = IsSettledState known old None new (seen ol
 SettlesOn known seen (Err why) old new = ((book_in new ≡ book_in old) × SaysWhy (IsWhyUnsettledState known old (seen old.disk)) settle_words why)
     ⊎ ((fault : DiskFault) × (IsSettledState known old (Some fault) new (seen old.disk) (seen new.disk) × IfSome why (λ text. text ≡ left_over_words fault)))
 
--- what files have given is taken, and waits for a rebuilding; or it cannot be handed on, and all is as it was, as where they gave nothing
+-- what files have given is taken, and waits to be served; or it cannot be handed on, and all is as it was, as where they gave nothing
 abbrev pub TakenIf : {D : Type 0} → Bool → ℕ → List Secret → Kept D → Kept D → Type 0
 TakenIf true now secrets old new = HasSecrets (book_in old) secrets (book_in new) × (waiting_in new.keeper ≡ changed (waiting_in old.keeper) now)
 TakenIf false now secrets old new = IsAsItWas old new
@@ -123,6 +127,15 @@ abbrev pub ReloadsOn : {D : Type 0} → Bool → (D → DiskState) → Demands �
 ReloadsOn known seen demands now (Ok reread) old new = IsReloadedOn known seen demands now reread old new
 ReloadsOn known seen demands now (Err whys) old new = IsAsItWas old new × IsWhyNotReread known seen demands old whys.items
 
+-- for a second at most while something goes on turn by turn: a credential is looked up, or files are looked at
+abbrev pub rest_while : Bool → Option ℕ
+rest_while goes_on = if goes_on then Some TRY_AGAIN else None
+
+-- and no longer than until a change is due
+abbrev pub ledger_rest : {D I L : Type 0} → ℕ → Ledger D I L → Option ℕ
+ledger_rest now l =
+    shorter (rest_while (is_some (asked_in l.proving) || (is_any_asking l.askers.items || nat_le l.looking.from now))) (rest_until (change_due_at (waiting_in l.state.keeper)) now)
+
 module _ {D I L : Type 0} (known : Bool) (seen : D → DiskState) (calls : I → Option (List FileCall)) (lanes_seen : L → Lanes) (port : L → ℕ) where
   -- what a change brings is looked up, and nothing else changes
   abbrev pub LooksUpOn : Reading → List ℕ → What → Result LookedUp AllocError → Ledger D I L → Ledger D I L → Type 0
@@ -136,10 +149,11 @@ module _ {D I L : Type 0} (known : Bool) (seen : D → DiskState) (calls : I →
   DoesLedger (Prove now result) old new = ProvesOn lanes_seen now result old.proving new.proving × (new ≡ record old { proving = new.proving })
   DoesLedger (Take now name w result) old new = TakesOn known seen now name w result old.state new.state × (new ≡ record old { state = new.state })
   DoesLedger (Settle result) old new = SettlesOn known seen result old.state new.state × (new ≡ record old { state = new.state })
-  DoesLedger (Reload now result) old new = ReloadsOn known seen old.demands now result old.state new.state × (new ≡ record old { state = new.state })
+  DoesLedger (Reload now result) old new = ReloadsOn known seen old.demands now result old.state new.state × (new ≡ record old { state = new.state; looking = begun_anew old.looking })
   DoesLedger (Look now looked) old new = LooksOrHears calls lanes_seen port now looked old new
-  DoesLedger Rebuilt old new =
+  DoesLedger MarkServed old new =
       (waiting_in new.state.keeper ≡ None) × ((store_in new.state ≡ store_in old.state) × ((new.state.disk ≡ old.state.disk) × (new ≡ record old { state = new.state })))
+  DoesLedger (RestFor now rest) old new = (new ≡ old) × (rest ≡ ledger_rest now old)
 
 -- the row of a table, unless its entry has no credential; or why there is none
 abbrev pub ReadsTable : List ℕ → Result Row Why → Type 0
@@ -148,9 +162,9 @@ ReadsTable table (Err None) = Unit {0}
 ReadsTable table (Err (Some why)) =
     ((fault : TableFault) × ((row_of_table table ≡ Err fault) × (why ≡ table_words fault))) ⊎ ((row : Row) × ((row_of_table table ≡ Ok row) × ((is_bare_row row ≡ true) × (why ≡ bare_words row))))
 
--- what is served from a moment on, where a rebuilding is due
+-- what is served from a moment on, where that is due
 abbrev pub GivesLedger : {D I L : Type 0} → ℕ → Result (Option Inventory) AllocError → Ledger D I L → Type 0
-GivesLedger now (Ok None) l = is_rebuilding_due (waiting_in l.state.keeper) now ≡ false
+GivesLedger now (Ok None) l = is_change_due (waiting_in l.state.keeper) now ≡ false
 GivesLedger now (Ok (Some inventory)) l =
     (narrow : Inventory) × (InventoryIsGiven (waiting_in l.state.keeper) now (book_in l.state).text (Some narrow) × IsWide l.demands.earlier (book_in l.state).text narrow inventory)
 GivesLedger now (Err e) l = Unit {0}

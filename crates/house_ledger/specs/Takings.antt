@@ -46,7 +46,7 @@ module _ {D : Type 0} (now : ℕ) (due : DueFile) (credential : List ℕ) (old :
     pub became_is : became ≡ Same
     pub untouched : IsAsItWas old new
 
-  -- it is taken, beside what is held of all other files that are named still, and waits for a rebuilding; the journal stays as it is
+  -- it is taken, beside what is held of all other files that are named still, and waits to be served; the journal stays as it is
   pub record IsTakenNow : Type 0 where
     pub is_new : is_held_already due credential old ≡ false
     pub became_is : became ≡ Taken

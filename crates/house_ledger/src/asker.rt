@@ -2,7 +2,7 @@
 ghost use Rattle.std.specs.Prelude.{◌≡◌, ◌<◌, IfSome, None, Some, length, true};
 ghost use Rattle.std.specs.List.{list_any};
 ghost use Rattle.keep_proving.specs.Lookups.{IsCandidate};
-ghost use Rattle.house_ledger.specs.Askers.{AskerAsks, FileGoesOut, HearsFirst, HearsIf, HearsOf, asks_for, free_place, is_asked_for, is_free, may_look};
+ghost use Rattle.house_ledger.specs.Askers.{AskerAsks, FileGoesOut, HearsFirst, HearsIf, HearsOf, asks_for, free_place, is_any_asking, is_asked_for, is_free, may_look};
 
 use crate::asked_file::AskedFile;
 use house_words::second_of;
@@ -172,6 +172,13 @@ fn has_free<L: Lanes>(askers: &[Asker<L>]) -> bool
     ensures { result ≡ list_any is_free askers.now }
 {
     askers.iter().any(|asker| asker.is_free())
+}
+
+/// Whether one of them looks something up.
+pub(crate) fn is_any_asking<L: Lanes>(askers: &[Asker<L>]) -> bool
+    ensures { result ≡ is_any_asking askers.now }
+{
+    askers.iter().any(|asker| !asker.is_free())
 }
 
 /// Whether one of them looks up what this file holds for the entry of that name.

@@ -1,7 +1,7 @@
 //! The credential that a client's change brings is looked up before it is taken, over a lane of its own, where there is one.
-ghost use Rattle.std.specs.Prelude.{IfSome};
+ghost use Rattle.std.specs.Prelude.{◌≡◌, IfSome, is_some};
 ghost use Rattle.keep_proving.specs.Lookups.{IsCandidate};
-ghost use Rattle.house_ledger.specs.Inquiries.{AsksAbout, ProvesOn};
+ghost use Rattle.house_ledger.specs.Inquiries.{AsksAbout, ProvesOn, asked_in};
 
 use crate::keeping::LookedUp;
 use house_words::second_of;
@@ -32,6 +32,16 @@ pub(crate) fn ask<L: Lanes>(
     }
     proving.ask(alloc, second_of(now.wall), now.elapsed, candidate)?;
     Ok(LookedUp::Out)
+}
+
+/// Whether a credential is looked up.
+pub(crate) fn is_asking<L: Lanes>(proving: &Option<Proving<L>>) -> bool
+    ensures { result ≡ is_some (asked_in proving.now) }
+{
+    match proving {
+        None => false,
+        Some(proving) => proving.is_asking(),
+    }
 }
 
 /// The broker's word, once it is there. It waits for nothing. The only error is lack of memory: nothing is looked up any more then.

@@ -4,7 +4,7 @@ ghost use Rattle.std.specs.declared.alloc.AllocError.{AllocError};
 ghost use Rattle.keep_change.specs.Rows.{named};
 ghost use Rattle.keep_change.specs.declared.row.Row.{Row};
 ghost use Rattle.keep_inventory.specs.Inventories.{Inventory};
-ghost use Rattle.house_ledger.specs.Keeping.{KeepCall, Look, LookUp, Prove, Rebuilt, Reload, Settle, Take};
+ghost use Rattle.house_ledger.specs.Keeping.{KeepCall, Look, LookUp, MarkServed, Prove, Reload, RestFor, Settle, Take};
 ghost use Rattle.house_words.specs.Outcomes.{Why};
 
 use house_words::Reread;
@@ -44,7 +44,7 @@ pub trait Keeping {
     /// Whether this is the row of a table, or why there is none.
     ghost reads: { List ℕ → Result Row Why → Type 0 };
 
-    /// What is to be served from a moment on, where a rebuilding is due.
+    /// What is to be served from a moment on, where that is due.
     ghost gives: { ℕ → Result (Option Inventory) AllocError → Self → Type 0 };
 
     /// Makes a change of the entry of that name. `now` is in milliseconds of the clock that never steps. At `Ok` it holds over a restart.
@@ -71,7 +71,8 @@ pub trait Keeping {
     fn settle(&mut self, alloc: Global) -> Result<(), Option<Text>>
         ensures { Self.does (Settle result) self.old self.new };
 
-    /// Reads the file anew. The error is why that is not served, a reason a line; none where memory was wanting for them.
+    /// Reads the file anew. The error is why that is not served, a reason a line; none where memory was wanting for them. A look at files
+    /// of credentials begins with the next call of [`Keeping::look`].
     fn reload(&mut self, alloc: Global, now: u64) -> Result<Reread, Vec<Text>>
         ensures { Self.does (Reload now result) self.old self.new };
 
@@ -79,7 +80,7 @@ pub trait Keeping {
     fn read_row(&self, alloc: Global, table: &[u8]) -> Result<Row, Option<Text>>
         ensures { Self.reads table.now result };
 
-    /// The inventory that is to be served from now on, where a rebuilding is due. The only error is out of memory.
+    /// The inventory that is to be served from now on, where one is due. The only error is out of memory.
     fn due(&self, alloc: Global, now: u64) -> Result<Option<Inventory>, AllocError>
         ensures { Self.gives now result self.now };
 
@@ -88,9 +89,14 @@ pub trait Keeping {
     fn look(&mut self, alloc: Global, now: Reading) -> Looked
         ensures { Self.does (Look now result) self.old self.new };
 
-    /// The rebuilding was made.
-    fn rebuilt(&mut self)
-        ensures { Self.does Rebuilt self.old self.new };
+    /// The inventory that was due is served.
+    fn mark_served(&mut self)
+        ensures { Self.does MarkServed self.old self.new };
+
+    /// For how long it may be left alone, in milliseconds; `None` where as long as may be. It is asked at `now`, the moment of the clock
+    /// that never steps at which it was asked for what is due.
+    fn rest(&self, now: u64) -> Option<u64>
+        ensures { Self.does (RestFor now result) self.now self.now };
 
     /// The entry of that name.
     fn named(&self, name: &[u8]) -> Option<&Row>

@@ -1,5 +1,5 @@
 //! The state of an agent on a disk.
-ghost use Rattle.std.specs.Prelude.{◌≡◌, ◌++◌, ℕ, List, IfErr, IfOk, IfSome, None, OnErr, OnOk, Ok, Option, Some, false, take, true};
+ghost use Rattle.std.specs.Prelude.{◌≡◌, ◌++◌, ◌||◌, ℕ, List, IfErr, IfOk, IfSome, None, OnErr, OnOk, Ok, Option, Some, false, nat_le, take, true};
 ghost use Rattle.keep_agent.specs.Waiting.{changed};
 ghost use Rattle.keep_change.specs.declared.replaying.Note.{Note};
 ghost use Rattle.keep_inventory.specs.Inventories.{Inventory};
@@ -11,7 +11,7 @@ ghost use Rattle.keep_store.specs.Books.{IsBookIf};
 ghost use Rattle.keep_store.specs.Records.{records_in};
 ghost use Rattle.keep_store.specs.Stores.{IsWhyUntaken, lines_in};
 ghost use Rattle.keep_waiting.specs.Keepers.{waiting_in};
-ghost use Rattle.house_ledger.specs.Ledgers.{AreCompacted, FilledWith, IsFilledOn, IsTakenOn, StaysOnDisk, apart_line};
+ghost use Rattle.house_ledger.specs.Ledgers.{AreCompacted, FilledWith, IsFilledOn, IsTakenOn, ReloadsOn, StaysOnDisk, apart_line, ledger_rest, rest_while};
 ghost use Rattle.house_words.specs.Noting.{left_lines, said_notes};
 ghost use Rattle.house_words.specs.Reading.{IsWellWritten, IsWide};
 ghost use Rattle.house_words.specs.Reasons.{bare_words, left_words, table_words};
@@ -19,9 +19,9 @@ ghost use Rattle.house_words.specs.Rereading.{AreAtMost, AreBytesOf, IsWhyNotRer
 ghost use Rattle.house_words.specs.Starts.{is_bare_row};
 ghost use Rattle.house_ledger.specs.Untouched.{IsAsItWas};
 
-use crate::asker::{Asker, FileWord, hear_first};
+use crate::asker::{Asker, FileWord, hear_first, is_any_asking};
 use crate::candidates::candidate_of;
-use crate::inquiry::{ask, hear};
+use crate::inquiry::{ask, hear, is_asking};
 use crate::keeping::{Keeping, LookedUp};
 use crate::secret_changes::wanting;
 use house_words::{
@@ -30,7 +30,7 @@ use house_words::{
 };
 use keep_asking::SeenLanes;
 use keep_change::{Note, Row, What};
-use keep_clock::Reading;
+use keep_clock::{Reading, TRY_AGAIN, rest_until, shorter};
 use keep_disk::{Disk, DiskFault};
 use keep_files::Inputs;
 use keep_inventory::Inventory;
@@ -161,6 +161,45 @@ impl<'a, D: Disk, I: Inputs, L: Lanes> Ledger<'a, D, I, L> {
         let notes = self.notes_said(alloc, &notes);
         let unkept = unkept_words(alloc, copy);
         Ok(Reread { notes, unkept })
+    }
+
+    // Reads the file anew, and serves it from now on, where what it writes may be served; otherwise why not, a reason a line.
+    fn reread(&mut self, alloc: Global, now: u64) -> Result<Reread, Vec<Text>>
+        ensures { ReloadsOn D.is_known D.state self.old.demands now result self.old.state self.new.state × (self.new ≡ record self.old { state = self.new.state }) }
+    {
+        let bytes = self.judged(alloc)?;
+        match self.reloaded(alloc, now, bytes.list()) {
+            Ok(reread) => Ok(reread),
+            Err(why) => Err(one_why(alloc, why)),
+        }
+    }
+
+    // For a second at most while something goes on turn by turn, and no longer than until a change is due.
+    fn rest_by(&self, now: u64) -> Option<u64>
+        ensures { result ≡ ledger_rest now self.now }
+    {
+        let is_asked = is_asking(&self.proving);
+        let goes_on = is_looking(is_any_asking(&self.askers), self.looking.from, now);
+        let while_looking = rest_while(is_asked, goes_on);
+        shorter(while_looking, rest_until(self.state.due_at(), now))
+    }
+}
+
+// Whether what files hold is looked up, or files are looked at from that moment on.
+fn is_looking(is_any_asking: bool, from: u64, now: u64) -> bool
+    ensures { result ≡ (is_any_asking || nat_le from now) }
+{
+    is_any_asking || from <= now
+}
+
+// A second while something goes on turn by turn.
+fn rest_while(is_asking: bool, is_looking: bool) -> Option<u64>
+    ensures { result ≡ rest_while (is_asking || is_looking) }
+{
+    if is_asking || is_looking {
+        Some(TRY_AGAIN)
+    } else {
+        None
     }
 }
 
@@ -381,11 +420,8 @@ impl<'a, D: Disk, I: Inputs + SecretFiles, L: Lanes> Keeping for Ledger<'a, D, I
     }
 
     fn reload(&mut self, alloc: Global, now: u64) -> Result<Reread, Vec<Text>> {
-        let bytes = self.judged(alloc)?;
-        match self.reloaded(alloc, now, bytes.list()) {
-            Ok(reread) => Ok(reread),
-            Err(why) => Err(one_why(alloc, why)),
-        }
+        self.looking.begin_anew();
+        self.reread(alloc, now)
     }
 
     fn read_row(&self, alloc: Global, table: &[u8]) -> Result<Row, Option<Text>> {
@@ -413,8 +449,12 @@ impl<'a, D: Disk, I: Inputs + SecretFiles, L: Lanes> Keeping for Ledger<'a, D, I
         }
     }
 
-    fn rebuilt(&mut self) {
-        self.state.rebuilt();
+    fn mark_served(&mut self) {
+        self.state.mark_served();
+    }
+
+    fn rest(&self, now: u64) -> Option<u64> {
+        self.rest_by(now)
     }
 
     fn named(&self, name: &[u8]) -> Option<&Row> {

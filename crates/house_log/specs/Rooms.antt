@@ -15,7 +15,7 @@ pub record Rooms : Type 0 where
 
 -- nothing waits in a room for so many bytes
 abbrev pub empty : ℕ → Waiting
-empty room = record { bytes = []; room = room; is_begun = false; untold = 0; dropped = 0 }
+empty room = record { bytes = []; room = room; is_begun = false; notice = None; untold = 0; dropped = 0 }
 
 -- one for whom nothing waits
 abbrev pub fresh_follower : ℕ → Bool → Follower

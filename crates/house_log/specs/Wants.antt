@@ -1,7 +1,8 @@
 -- Wants: a lack of memory that costs turns of the loop is said once as long as it goes on, as soon as it can be.
 -- Source: this project's own; docs/commands/serve.md, "The log".
-use Rattle.std.specs.Prelude.{◌≡◌, Bool, true, false}
+use Rattle.std.specs.Prelude.{◌≡◌, ℕ, Bool, true, false, ◌&&◌, ◌==◌, if◌then◌else◌, Option, Some, None, length}
 use Rattle.keep_agent.specs.Agent.{Agent}
+use Rattle.keep_clock.specs.declared.rest.TheConstants.{TRY_AGAIN}
 use Rattle.house_log.specs.LinesOfClocks.{memory_line}
 use Rattle.house_log.specs.LogDesk.{Desk}
 use Rattle.house_log.specs.Lines.{IsSaid}
@@ -44,3 +45,18 @@ HearsTimeBy Passing a old new = new ≡ record old { want = Over }
 
 abbrev pub HearsTime : Agent → Desk → Desk → Type 0
 HearsTime a old new = HearsTimeBy old.want a old new
+
+-- ---- for how long the log may be left alone
+
+abbrev pub is_over : Want → Bool
+is_over Over = true
+is_over Unsaid = false
+is_over Said = false
+is_over Passing = false
+
+-- as long as may be where no lack of memory goes on and no byte waits
+abbrev pub rest_if : Bool → ℕ → Option ℕ
+rest_if over waiting = if over && (waiting == 0) then None else Some TRY_AGAIN
+
+abbrev pub log_rest : Desk → Option ℕ
+log_rest d = rest_if (is_over d.want) (length d.room.log.bytes)

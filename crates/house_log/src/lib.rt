@@ -19,6 +19,7 @@ mod log_ends;
 mod log_line;
 mod log_next;
 mod log_reader;
+mod log_rest;
 mod log_secrets;
 mod log_sockets;
 mod log_wants;

@@ -5,7 +5,7 @@ use Rattle.keep_change.specs.declared.change.What.{What}
 use Rattle.keep_change.specs.declared.row.Row.{Row}
 use Rattle.keep_disk.specs.declared.fault.DiskFault.{DiskFault}
 use Rattle.keep_disk.specs.declared.fault.DiskFault.TheVariants as disks
-use Rattle.keep_disk.specs.declared.fault.Why.TheVariants.{Full, ReadOnly, Denied, Missing, Other}
+use Rattle.keep_disk.specs.declared.fault.Why.TheVariants.{Full, ReadOnly, Denied, Missing, Irregular, Other}
 use Rattle.keep_inventory.specs.Keys.{key_text}
 use Rattle.keep_notes.specs.Lines.{change_fault_text}
 use Rattle.keep_report.specs.FaultLine.{inventory_words, tree_word}
@@ -33,6 +33,7 @@ disk_words (disks.Failed Full) = codes "no space is left"
 disk_words (disks.Failed ReadOnly) = codes "the file system is read-only"
 disk_words (disks.Failed Denied) = codes "permission denied"
 disk_words (disks.Failed Missing) = codes "no such file or folder"
+disk_words (disks.Failed Irregular) = codes "it is not a regular file"
 disk_words (disks.Failed Other) = codes "the disk failed"
 disk_words disks.TooLong = codes "too long"
 disk_words disks.OutOfMemory = codes "out of memory"

@@ -68,6 +68,20 @@ IsRefusedReply None sent = sent ≡ None
 IsRefusedReply (Some why) None = Unit {0}
 IsRefusedReply (Some why) (Some text) = text ≡ control_reply_text (replies.Refused why [])
 
+-- of a need that nothing keeps: that it holds until a restart only
+abbrev pub unkept_line : List ℕ
+unkept_line = codes "this holds until a restart: the agent keeps no changes"
+
+abbrev pub need_lines : Bool → List ℕ → List (List ℕ)
+need_lines true line = line ∷ []
+need_lines false line = line ∷ unkept_line ∷ []
+
+-- `ok` and the line about a need, and a second one where nothing keeps it; None where memory was wanting for them
+abbrev pub IsNeedReply : Bool → Option (List ℕ) → Option (List ℕ) → Type 0
+IsNeedReply is_kept None sent = sent ≡ None
+IsNeedReply is_kept (Some line) None = Unit {0}
+IsNeedReply is_kept (Some line) (Some text) = text ≡ control_reply_text (replies.Done (need_lines is_kept line))
+
 -- why it was not done, a reason a line
 abbrev pub IsRefusalFor : List (List ℕ) → Option (List ℕ) → Type 0
 IsRefusalFor [] sent = sent ≡ None

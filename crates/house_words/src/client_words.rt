@@ -4,7 +4,7 @@ ghost use Rattle.keep_moment.specs.Rfc3339.{IsDateText};
 ghost use Rattle.keep_moment.specs.declared.moment.TheConstants.{LAST};
 ghost use Rattle.keep_change.specs.Rows.{is_lease_if};
 ghost use Rattle.house_words.specs.Outcomes.{nothing_kept};
-ghost use Rattle.house_words.specs.Telling.{IsAddLine, IsDated, IsDoneReply, IsDropLine, IsEndedLine, IsNeedLine, IsRefusalFor, IsRefusedReply, IsReplyTo, SaysNeeded, reload_line, replaced_text, settle_line};
+ghost use Rattle.house_words.specs.Telling.{IsAddLine, IsDated, IsDoneReply, IsDropLine, IsEndedLine, IsNeedLine, IsNeedReply, IsRefusalFor, IsRefusedReply, IsReplyTo, SaysNeeded, need_lines, reload_line, replaced_text, settle_line, unkept_line};
 
 use keep_change::Row;
 use keep_control::{Lines, Reply, write_reply};
@@ -160,14 +160,44 @@ pub fn reply_to(alloc: Global, outcome: Result<Option<Text>, Option<Text>>) -> O
     }
 }
 
-/// `ok` and the line.
-pub fn done_reply(alloc: Global, line: Option<Text>) -> Option<Text>
+// `ok` and the line.
+fn done_reply(alloc: Global, line: Option<Text>) -> Option<Text>
     ensures { IsDoneReply line result }
 {
     let line = line?;
     let mut lines = Vec::new(alloc);
     lines.push(line).ok()?;
     write_reply(alloc, &Reply::Done(Lines::of(lines))).ok()
+}
+
+/// `ok` and the line about a need, and where nothing keeps it, that it holds until a restart only; `None` where memory was wanting.
+pub fn need_reply(alloc: Global, line: Option<Text>, is_kept: bool) -> Option<Text>
+    ensures { IsNeedReply is_kept line result }
+{
+    let line = line?;
+    let lines = need_lines(alloc, line, is_kept).ok()?;
+    write_reply(alloc, &Reply::Done(Lines::of(lines))).ok()
+}
+
+// The line about a need, and one more where nothing keeps it.
+fn need_lines(alloc: Global, line: Text, is_kept: bool) -> Result<Vec<Text>, AllocError>
+    ensures { IfOk result (λ lines. lines.items ≡ need_lines is_kept line) }
+{
+    let mut lines = Vec::new(alloc);
+    lines.push(line)?;
+    if !is_kept {
+        lines.push(unkept_line(alloc)?)?;
+    }
+    Ok(lines)
+}
+
+fn unkept_line(alloc: Global) -> Result<Text, AllocError>
+    ensures { IfOk result (λ line. line ≡ unkept_line) }
+{
+    Text::of(
+        alloc,
+        b"this holds until a restart: the agent keeps no changes",
+    )
 }
 
 fn refused_reply(alloc: Global, why: Option<Text>) -> Option<Text>

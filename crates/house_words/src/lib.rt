@@ -27,7 +27,7 @@ mod verdict_words;
 
 pub use all_faults::{faults_as_written, faults_to_serve};
 pub use client_words::{
-    add_line, done_reply, drop_line, need_line, refusal_for, reload_line, replace_line, reply_to,
+    add_line, drop_line, need_line, need_reply, refusal_for, reload_line, replace_line, reply_to,
     settle_line, why_not_kept,
 };
 pub use demands::Demands;

@@ -217,6 +217,7 @@ pub fn disk_words(fault: DiskFault) -> &'static [u8]
         DiskFault::Failed(Why::ReadOnly) => b"the file system is read-only",
         DiskFault::Failed(Why::Denied) => b"permission denied",
         DiskFault::Failed(Why::Missing) => b"no such file or folder",
+        DiskFault::Failed(Why::Irregular) => b"it is not a regular file",
         DiskFault::Failed(Why::Other) => b"the disk failed",
         DiskFault::TooLong => b"too long",
         DiskFault::OutOfMemory => b"out of memory",

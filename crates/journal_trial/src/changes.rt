@@ -4,7 +4,7 @@ use crate::book::{Book, book_of, read_book};
 use crate::fault::Fault;
 use crate::records::found_in;
 use keep_change::{Change, Record, fingerprint, text_of, voids};
-use keep_disk::{FILE_MODE, SystemDisk, replace};
+use keep_disk::{Disk, FILE_MODE, SystemDisk, replace};
 use keep_journal::{Journal, is_line};
 use keep_moment::Text;
 use keep_notes::why;
@@ -61,6 +61,8 @@ fn put<R: Files<File = File> + AllocGlobal>(
     if !is_line(line.list()) {
         return Err(Fault::Lines);
     }
+    // The change is made beside what the file says, which has to be there after a crash, too.
+    disk.sync(file)?;
     journal.put(disk, line)?;
     Ok(())
 }

@@ -1,4 +1,4 @@
--- Fresh: an agent that serves from now on is one. For `new` and `rebuilt`.
+-- Fresh: an agent that serves from now on is one. For `new`.
 use Rattle.std.proofs.Common.{◌≡◌, ℕ, zero, suc, None, All, length, map, replicate, refl, sym, ap, subst, arith, inl, inr}
 use Rattle.std.proofs.lemmas.Bool.{cases_lt}
 use Rattle.std.proofs.lemmas.List.{get_or-map, get_or_past, length-map, length-replicate}

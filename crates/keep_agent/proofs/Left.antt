@@ -1,5 +1,5 @@
 -- Left: what a turn of the Watch leaves: as many entries and tracks, and what it believes of every entry of which it is told nothing.
--- For the turns of an agent and its rebuilding.
+-- For the turns of an agent.
 use Rattle.std.proofs.Common.{◌≡◌, ◌∙◌, ℕ, zero, suc, ◌<◌, Bool, true, false, ◌&&◌, ◌||◌, ◌==◌, if◌then◌else◌, List, [], ◌∷◌, Option, Some, None, Result, Ok, Err, is_none, length, min, nat_le, refl, sym, ap, subst, arith, inl, inr}
 use Rattle.std.proofs.lemmas.Bool.{cases_lt}
 use Rattle.std.proofs.lemmas.Bool.Decides.{nat_tests}

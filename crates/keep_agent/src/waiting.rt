@@ -1,6 +1,6 @@
-//! Changes that share one rebuilding.
+//! Changes that are served together.
 ghost use Rattle.std.specs.Prelude.{◌≡◌, None, is_some};
-ghost use Rattle.keep_agent.specs.Waiting.{changed, is_rebuilding_due};
+ghost use Rattle.keep_agent.specs.Waiting.{change_due_at, changed, is_change_due};
 
 use std::marker::Model;
 use watch_machine::Millis;
@@ -8,7 +8,7 @@ use watch_machine::Millis;
 /// Changes wait for others for so long, counted from the first, in milliseconds.
 pub const TOGETHER: u64 = 5000;
 
-/// Changes that wait for their rebuilding: when the first of them came, by the clock that never steps.
+/// Changes that wait to be served: when the first of them came, by the clock that never steps.
 #[derive(Clone, Copy, Debug, PartialEq, Eq)]
 pub struct Waiting {
     first: Option<Millis>,
@@ -49,13 +49,23 @@ impl Waiting {
         self.first.is_some()
     }
 
-    /// Whether the rebuilding is due: the first change came five seconds ago.
+    /// Whether they are due: the first change came five seconds ago.
     pub fn is_due(self, now: Millis) -> bool
-        ensures { result ≡ is_rebuilding_due self now }
+        ensures { result ≡ is_change_due self now }
     {
         match self.first {
             None => false,
             Some(first) => now.saturating_sub(first) >= TOGETHER,
+        }
+    }
+
+    /// From when on the changes are due, where one waits.
+    pub fn due_at(self) -> Option<Millis>
+        ensures { result ≡ change_due_at self }
+    {
+        match self.first {
+            None => None,
+            Some(first) => Some(first.saturating_add(TOGETHER)),
         }
     }
 }

@@ -45,6 +45,11 @@ without_idlest guests (Some since) = without_place guests (position (is_idle_sin
 abbrev pub with_place : {T : Type 0} → ℕ → List (Guest T) → List (Guest T)
 with_place most guests = if nat_lt (length guests) most then guests else without_idlest guests (idle_since guests)
 
+-- the moment by which the first of those has to be read or written to
+abbrev pub first_by : {T : Type 0} → List (Guest T) → Option ℕ
+first_by [] = None
+first_by (g ∷ gs) = if is_stage_busy g.stage then Some (earlier g.by (first_by gs)) else first_by gs
+
 -- one that comes is the last
 abbrev pub arrive : {T F : Type 0} → ℕ → GuestTable T F → T → GuestTable T F
 arrive now table talk = record table {

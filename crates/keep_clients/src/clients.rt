@@ -2,13 +2,13 @@
 ghost use Rattle.std.specs.Prelude.{◌≡◌, ◌<◌, ◌&&◌, [], IfSome, filter, length, not, option_map};
 ghost use Rattle.std.specs.List.{list_any, position};
 ghost use Rattle.keep_clients.specs.Guests.{can_go_on, is_stage_asked, is_stage_over};
-ghost use Rattle.keep_clients.specs.Tables.{AnswersFirst, AnswersGuest, EachGoesOn, Feeds, GuestFollows, LetsIn, LetsOneIn, TakesRequest, Turns, first_asked, follows_as, waits_as};
+ghost use Rattle.keep_clients.specs.Tables.{AnswersFirst, AnswersGuest, EachGoesOn, Feeds, GuestFollows, LetsIn, LetsOneIn, TakesRequest, Turns, first_asked, first_by, follows_as, waits_as};
 
 use crate::door::Door;
 use crate::fed::Fed;
 use crate::framing::Framing;
 use crate::guest::Guest;
-use crate::letting::{idle_since, make_place};
+use crate::letting::{first_by, idle_since, make_place};
 use crate::limits::{Limits, MOST_AT_ONCE, MOST_PIECE};
 use crate::talk::Talk;
 use keep_moment::Text;
@@ -196,6 +196,14 @@ impl<T: Talk, F: Framing + Drop> Clients<T, F> {
         ensures { result ≡ list_any can_go_on self.now.guests }
     {
         self.guests.iter().any(|guest| guest.can_go_on())
+    }
+
+    /// The moment by which the first of the guests has to have sent its request or read its answer, `None` where none has to: at the next
+    /// turn from then on it is sent away.
+    pub fn due(&self) -> Option<u64>
+        ensures { result ≡ first_by self.now.guests }
+    {
+        first_by(&self.guests)
     }
 }
 

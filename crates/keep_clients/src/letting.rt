@@ -1,8 +1,8 @@
-//! Who has been idle longest, and makes room for another.
+//! Who has been idle longest, and makes room for another; and by when the first of them is sent away.
 ghost use Rattle.std.specs.Prelude.{◌≡◌, ◌≤◌, vec_capacity, vec_len};
 ghost use Rattle.std.specs.List.{position};
 ghost use Rattle.keep_device.specs.Moments.{earlier};
-ghost use Rattle.keep_clients.specs.Tables.{idle_since, is_idle_since, with_place};
+ghost use Rattle.keep_clients.specs.Tables.{first_by, idle_since, is_idle_since, with_place};
 
 use crate::guest::Guest;
 
@@ -19,6 +19,21 @@ pub(crate) fn idle_since<T>(guests: &[Guest<T>]) -> Option<u64>
         }
     }
     since
+}
+
+/// The moment by which the first of those has to be read or written to that are, `None` where none is.
+pub(crate) fn first_by<T>(guests: &[Guest<T>]) -> Option<u64>
+    ensures { result ≡ first_by guests.now }
+{
+    let mut by = None;
+    let mut at = guests.len();
+    while at > 0 {
+        at -= 1;
+        if guests[at].stage.is_busy() {
+            by = Some(earlier(guests[at].by, by));
+        }
+    }
+    by
 }
 
 /// The earlier of two moments, of which there may be one alone.

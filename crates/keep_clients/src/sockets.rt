@@ -30,15 +30,16 @@ enum Listener {
 
 impl SocketDoor {
     /// Listens there. The door and all who come in are registered under this number, so that the wait of whoever owns the
-    /// registry ends for them. Without a registry, or where the system refuses, nobody tells of them: they go on whenever a
-    /// turn tries them.
+    /// registry ends for them; one whom the system does not register is not let in. Without a registry nobody tells of them: they go
+    /// on whenever a turn tries them.
     ///
     /// The file of a UNIX socket is for its user and its group (mode 0660), once it is made: keep it in a folder that nobody
     /// else may enter. Where a socket is there already at which nobody listens, it is removed.
     ///
     /// # Errors
     ///
-    /// Those of the system. `AddrInUse` where somebody listens there, or where the path leads to what is no socket.
+    /// Those of the system, also where it does not register the door. `AddrInUse` where somebody listens there, or where the path leads
+    /// to what is no socket.
     pub fn at<R: Files + Net>(
         rt: &R,
         entrance: Entrance<'_>,
@@ -54,7 +55,7 @@ impl SocketDoor {
             registry,
             token: Token(number as usize),
         };
-        door.register_itself();
+        door.register_itself()?;
         Ok(door)
     }
 
@@ -67,26 +68,26 @@ impl SocketDoor {
     }
 
     /// Has somebody told when a connection is there.
-    fn register_itself(&mut self) {
+    fn register_itself(&mut self) -> io::Result<()> {
         let Some(registry) = &self.registry else {
-            return;
+            return Ok(());
         };
-        let _told = match &mut self.listener {
+        match &mut self.listener {
             Listener::Tcp(listener) => registry.register(listener, self.token, Interest::READABLE),
             Listener::Unix(listener) => registry.register(listener, self.token, Interest::READABLE),
-        };
+        }
     }
 
     /// Has somebody told when this connection can go on.
-    fn register(&self, talk: &mut SocketTalk) {
+    fn register(&self, talk: &mut SocketTalk) -> io::Result<()> {
         let Some(registry) = &self.registry else {
-            return;
+            return Ok(());
         };
         let both = Interest::READABLE | Interest::WRITABLE;
-        let _told = match talk {
+        match talk {
             SocketTalk::Tcp(stream) => registry.register(stream, self.token, both),
             SocketTalk::Unix(stream) => registry.register(stream, self.token, both),
-        };
+        }
     }
 
     /// The next connection, where the system gives one.
@@ -101,7 +102,7 @@ impl SocketDoor {
 impl Door<SocketTalk> for SocketDoor {
     fn accept(&mut self) -> Option<SocketTalk> {
         let mut talk = self.next().ok()?;
-        self.register(&mut talk);
+        self.register(&mut talk).ok()?;
         Some(talk)
     }
 }

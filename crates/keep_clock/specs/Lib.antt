@@ -1,4 +1,5 @@
 pub mod Seen
 pub mod Scripts
 pub mod Times
+pub mod Rests
 pub mod Laws

@@ -2,7 +2,8 @@
 //!
 //! The contract for the layers above: [`Clock`] says what was read, and that a wait was asked for and for how long at most;
 //! what is known of a clock is the list of its calls (`specs/Seen.antt`). [`SystemClock`] reads the clocks of the system and
-//! waits for every socket that is registered with it at once; [`MemoryClock`] reads what it was given. Begin with `clock`.
+//! waits for every socket that is registered with it at once; [`MemoryClock`] reads what it was given. How long may be waited for what is
+//! due is said by [`rest_until`] and [`shorter`] (`specs/Rests.antt`). Begin with `clock`.
 #![tactic(auto)]
 
 mod call;
@@ -10,6 +11,7 @@ mod clock;
 mod laws;
 mod memory;
 mod reading;
+mod rest;
 mod system;
 mod times;
 
@@ -18,4 +20,5 @@ pub use clock::Clock;
 pub use laws::calls_are_joined;
 pub use memory::MemoryClock;
 pub use reading::Reading;
+pub use rest::{TRY_AGAIN, no_longer, rest_until, shorter};
 pub use system::{MOST_EVENTS, SystemClock};

@@ -22,11 +22,14 @@ const CLOCK_BOOTTIME: i32 = 7;
 /// How long a wait that the system refuses is slept instead, in milliseconds, so that an agent does not turn without rest.
 const REFUSED: u64 = 20;
 
+/// How long a wait is slept at most where nothing waits for sockets, in milliseconds: each of them is tried at the next turn.
+const UNTOLD: u64 = 1000;
+
 /// The clocks of the system, and the sockets that are registered with it.
 #[derive(Drop)]
 pub struct SystemClock<'a, R> {
     rt: &'a R,
-    /// Where the system gives none, a wait is a sleep.
+    /// Where the system gives none, a wait is a sleep, of a second at most.
     poll: Option<Poll>,
     events: Events,
     failures: u64,
@@ -100,7 +103,7 @@ impl<'a, R: Net + std::time::Clock> Clock for SystemClock<'a, R> {
     fn wait(&mut self, millis: u64) {
         self.events.clear();
         let Some(poll) = &mut self.poll else {
-            thread::sleep(self.rt, Duration::from_millis(millis));
+            thread::sleep(self.rt, Duration::from_millis(millis.min(UNTOLD)));
             return;
         };
         let ended = poll.poll(&mut self.events, Some(Duration::from_millis(millis)));

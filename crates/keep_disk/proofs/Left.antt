@@ -5,10 +5,11 @@ use Rattle.std.proofs.lemmas.Slice.Eq.{bytes_eq-Decides}
 use Rattle.std.proofs.lemmas.List.{take_at, drop_at, take_all, drop_all, take_more}
 use Rattle.std.specs.Str.{bytes_eq}
 use Rattle.keep_disk.specs.Image.{File, Image, image_changed, with_file_at, with_bytes, overwritten}
-use Rattle.keep_disk.specs.Torn.{Torn, Cut, Tears, MovesFile, IsTornFile}
+use Rattle.keep_disk.specs.Torn.{Torn, Tears, MovesFile, IsTornFile}
 use Rattle.keep_disk.specs.State.{DiskState}
 use Rattle.keep_disk.specs.History.{state_after_call, state_after_calls, left_after_what, file_after, sound_after}
 use Rattle.keep_disk.specs.Left.{MayStand, MayMake, PathIsFollowed}
+use Rattle.keep_disk.specs.Memory.{EitherEach}
 use Rattle.keep_disk.specs.declared.call.Call.{Call}
 use Rattle.keep_disk.specs.declared.call.What.{What}
 use Rattle.keep_disk.specs.declared.call.What.TheVariants as what
@@ -84,8 +85,6 @@ stands_made : (asked : What) (path : List ℕ) (may_leave : Image → Type 0) (s
     → (c : Image) → left_after_what asked path may_leave sound seen c → left_after_what asked path may_leave sound seen (image_changed path (λ _. new) c)
 stands_made (what.Write at bytes done) path may_leave sound seen old new made stands c left =
     (image_changed path (λ _. old) left.0, stands left.0 left.1, tears_here path (Torn at (length bytes.items)) old new left.0 c left.2 made)
-stands_made (what.Cut len done) path may_leave sound seen old new made stands c left =
-    (image_changed path (λ _. old) left.0, stands left.0 left.1, tears_here path (Cut len) old new left.0 c left.2 made)
 stands_made (what.Sync true) path may_leave true seen old new made stands c left =
     let is : new ≡ c path = made ∙ sym (left.1 refl) in
     let same : image_changed path (λ _. new) c ≡ c = (λ i. image_changed path (λ _. is i) c) ∙ put_back path c in
@@ -114,8 +113,6 @@ stands_past : (asked : What) (q p : List ℕ) (may_leave : Image → Type 0) (so
     → (c : Image) → left_after_what asked q may_leave sound seen c → left_after_what asked q may_leave sound seen (image_changed p (λ _. f) c)
 stands_past (what.Write at bytes done) q p may_leave sound seen f apart stands c left =
     (image_changed p (λ _. f) left.0, stands left.0 left.1, tears_past q p (Torn at (length bytes.items)) f left.0 c apart left.2)
-stands_past (what.Cut len done) q p may_leave sound seen f apart stands c left =
-    (image_changed p (λ _. f) left.0, stands left.0 left.1, tears_past q p (Cut len) f left.0 c apart left.2)
 stands_past (what.Sync true) q p may_leave sound seen f apart stands c left =
     (stands c left.0, λ is. past_place p f c q (back q p apart) ∙ left.1 is)
 stands_past (what.Sync false) q p may_leave sound seen f apart stands c left = stands c left
@@ -209,3 +206,12 @@ elsewhere false is = refl
 pub not_elsewhere : (b : Bool) → not b ≡ false → b ≡ true
 not_elsewhere true is = refl
 not_elsewhere false is = absurd (true≢false is)
+
+-- before the first call a crash leaves at each path either of two files, whatever it leaves at the others
+module _ (image kept : Image) (path : List ℕ) (f : Option File) (is : (f ≡ image path) ⊎ (f ≡ kept path)) (c : Image) (may : EitherEach image kept c) (other : List ℕ) where
+  either_side : (b : Bool) → (b ≡ true → path ≡ other) → ((if b then f else c other) ≡ image other) ⊎ ((if b then f else c other) ≡ kept other)
+  either_side true same = ⊎_elim (λ seen. inl (seen ∙ ap image (same refl))) (λ left. inr (left ∙ ap kept (same refl))) is
+  either_side false same = may other
+
+  pub stands_first : (image_changed path (λ _. f) c other ≡ image other) ⊎ (image_changed path (λ _. f) c other ≡ kept other)
+  stands_first = either_side (bytes_eq path other) (bytes_eq-Decides path other).0

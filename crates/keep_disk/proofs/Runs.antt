@@ -5,11 +5,11 @@ use Rattle.std.proofs.lemmas.Slice.Eq.{bytes_eq-Decides}
 use Rattle.std.specs.declared.alloc.Global.{Global}
 use Rattle.std.specs.Str.{bytes_eq}
 use Rattle.keep_disk.specs.Image.{File, Image, image_changed, with_file_at, with_bytes, overwritten}
-use Rattle.keep_disk.specs.Torn.{Torn, Cut, Tears, MovesFile}
+use Rattle.keep_disk.specs.Torn.{Torn, Tears, MovesFile}
 use Rattle.keep_disk.specs.State.{DiskState, Beside, Touches, Elapses, OutcomesFollow}
 use Rattle.keep_disk.specs.History.{state_after_call, state_after_calls, file_after, left_by_call, file_after_all}
-use Rattle.keep_disk.specs.Memory.{state_of, memory_state, at_first, image_of, beside_of, IsSame, HasEntered, EntersCall}
-use Rattle.keep_disk.proofs.Torn.{torn_not, cut_not, tears_not}
+use Rattle.keep_disk.specs.Memory.{state_of, memory_state, at_first, image_of, kept_of, beside_of, IsSame, HasEntered, EntersCall}
+use Rattle.keep_disk.proofs.Torn.{torn_not, tears_not}
 use Rattle.keep_disk.specs.declared.call.Call.{Call}
 use Rattle.keep_disk.specs.declared.call.What.{What}
 use Rattle.keep_disk.specs.declared.call.What.TheVariants as what
@@ -64,14 +64,14 @@ touches_still path s n = record { seen = λ other apart. refl; beside = refl; so
 module _ (m n : MemoryDisk) (same : IsSame m n) where
   -- no call was entered
   pub still : n.calls.items ≡ m.calls.items → memory_state n ≡ record (memory_state m) { faults = n.faults }
-  still calls = λ i. state_of (calls i) (same.files i) (same.beside i) (same.taken i) n.faults (same.fault i)
+  still calls = λ i. state_of (calls i) (same.files i) (same.kept i) (same.beside i) (same.taken i) n.faults (same.fault i)
 
   module _ (path : List ℕ) (asked : What) where
     -- one call was
     pub entered : (h : HasEntered path asked m n) → memory_state n ≡ record (state_after_call (record { path = h.name; what = asked }) (memory_state m)) { faults = n.faults }
     entered h =
-        (λ i. state_of (h.calls i) (same.files i) (same.beside i) (same.taken i) n.faults (same.fault i))
-        ∙ (λ i. record (after_all_push m.calls.items (record { path = h.name; what = asked }) (at_first (image_of m.files.items) m.fault) i) { beside = beside_of m.beside; taken = λ p. m.taken; faults = n.faults; fault = m.fault })
+        (λ i. state_of (h.calls i) (same.files i) (same.kept i) (same.beside i) (same.taken i) n.faults (same.fault i))
+        ∙ (λ i. record (after_all_push m.calls.items (record { path = h.name; what = asked }) (at_first (image_of m.files.items) (kept_of m.files.items m.kept) m.fault) i) { beside = beside_of m.beside; taken = λ p. m.taken; faults = n.faults; fault = m.fault })
 
     pub which : (r : Result Unit DiskFault) → EntersCall path asked m n r → HasEntered path asked m n ⊎ (n.calls.items ≡ m.calls.items)
     which (Ok x) h = inl h
@@ -121,12 +121,6 @@ module _ (m n : MemoryDisk) (same : IsSame m n) (path : List ℕ) where
       (λ was. (c, was, tears_not path (Torn at (length bytes.items)) (torn_not at (length bytes.items)) c))
       (leaves m n same path (what.Write at bytes done) r e c left)
 
-  pub cut_crash : (len : ℕ) (done : Bool) (r : Result Unit DiskFault) → EntersCall path (what.Cut len done) m n r → OutcomesFollow (Tears path (Cut len)) old new
-  cut_crash len done r e c left = ⊎_elim
-      (λ by. (by.2.0, by.2.1, subst (λ p. Tears p (Cut len) by.2.0 c) by.1 by.2.2))
-      (λ was. (c, was, tears_not path (Cut len) (cut_not len) c))
-      (leaves m n same path (what.Cut len done) r e c left)
-
   pub move_crash : (mode : ℕ) (bytes : Vec ℕ Global) (done : Bool) (r : Result Unit DiskFault) → EntersCall path (what.Move mode bytes done) m n r → OutcomesFollow (MovesFile path (record { mode = mode; bytes = bytes.items })) old new
   move_crash mode bytes done r e c left = ⊎_elim
       (λ by. (by.2.0, by.2.1, subst (λ p. MovesFile p (record { mode = mode; bytes = bytes.items }) by.2.0 c) by.1 by.2.2))
@@ -142,13 +136,6 @@ module _ (m n : MemoryDisk) (same : IsSame m n) (path : List ℕ) where
   wrote at bytes done well h =
       let all : memory_state n ≡ record (state_after_call (record { path = h.name; what = what.Write at bytes done }) (memory_state m)) { faults = n.faults } = entered m n same path (what.Write at bytes done) h in (
         ap (λ (s : DiskState). s.seen) all ∙ (λ i. image_changed (h.name_is i) (file_after (what.Write at bytes (well i))) old.seen),
-        ap (λ (s : DiskState). s.is_sound) all ∙ (λ i other. if bytes_eq h.name.items other then (if well i then old.is_sound other else false) else old.is_sound other) ∙ (λ i other. either (bytes_eq h.name.items other) (old.is_sound other) i),
-      )
-
-  pub was_cut : (len : ℕ) (done : Bool) → done ≡ true → HasEntered path (what.Cut len done) m n → (new.seen ≡ image_changed path (with_bytes (take len)) old.seen) × (new.is_sound ≡ old.is_sound)
-  was_cut len done well h =
-      let all : memory_state n ≡ record (state_after_call (record { path = h.name; what = what.Cut len done }) (memory_state m)) { faults = n.faults } = entered m n same path (what.Cut len done) h in (
-        ap (λ (s : DiskState). s.seen) all ∙ (λ i. image_changed (h.name_is i) (file_after (what.Cut len (well i))) old.seen),
         ap (λ (s : DiskState). s.is_sound) all ∙ (λ i other. if bytes_eq h.name.items other then (if well i then old.is_sound other else false) else old.is_sound other) ∙ (λ i other. either (bytes_eq h.name.items other) (old.is_sound other) i),
       )
 

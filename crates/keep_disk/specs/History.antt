@@ -3,7 +3,7 @@
 use Rattle.std.specs.Prelude.{◌≡◌, ◌⊎◌, ℕ, suc, ◌/◌, ◌≤◌, List, [], ◌∷◌, length, take, Option, Some, Bool, true, false, if◌then◌else◌}
 use Rattle.std.specs.Str.{bytes_eq}
 use Rattle.keep_disk.specs.Image.{File, Image, image_changed, with_bytes, overwritten}
-use Rattle.keep_disk.specs.Torn.{Torn, Cut, Tears, MovesFile}
+use Rattle.keep_disk.specs.Torn.{Torn, Tears, MovesFile}
 use Rattle.keep_disk.specs.State.{DiskState}
 use Rattle.keep_disk.specs.declared.call.Call.{Call}
 use Rattle.keep_disk.specs.declared.call.What.{What}
@@ -12,14 +12,12 @@ use Rattle.keep_disk.specs.declared.call.What.TheVariants as what
 -- the file at a path after a call on it; a write that fails takes half of the bytes
 abbrev pub file_after : What → Option File → Option File
 file_after (what.Write at bytes done) file = with_bytes (overwritten at (if done then bytes.items else take (length bytes.items / 2) bytes.items)) file
-file_after (what.Cut len done) file = if done then with_bytes (take len) file else file
 file_after (what.Sync done) file = file
 file_after (what.Move mode bytes done) file = if done then Some (record { mode = mode; bytes = bytes.items }) else file
 
 -- whether the file at a path is sound after a call on it
 abbrev pub sound_after : What → Bool → Bool
 sound_after (what.Write at bytes done) sound = if done then sound else false
-sound_after (what.Cut len done) sound = if done then sound else false
 sound_after (what.Sync done) sound = if done then sound else false
 sound_after (what.Move mode bytes done) sound = if done then true else sound
 
@@ -27,7 +25,6 @@ sound_after (what.Move mode bytes done) sound = if done then true else sound
 -- from what is read there
 abbrev pub left_after_what : What → List ℕ → (Image → Type 0) → Bool → Option File → Image → Type 0
 left_after_what (what.Write at bytes done) path may_leave sound file c = (d : Image) × may_leave d × Tears path (Torn at (length bytes.items)) d c
-left_after_what (what.Cut len done) path may_leave sound file c = (d : Image) × may_leave d × Tears path (Cut len) d c
 left_after_what (what.Sync true) path may_leave sound file c = may_leave c × (sound ≡ true → c path ≡ file)
 left_after_what (what.Sync false) path may_leave sound file c = may_leave c
 left_after_what (what.Move mode bytes done) path may_leave sound file c = (d : Image) × may_leave d × MovesFile path (record { mode = mode; bytes = bytes.items }) d c

@@ -2,7 +2,7 @@
 -- Source: this project's own.
 use Rattle.std.specs.Prelude.{◌≡◌, ◌⊎◌, List, ℕ, length, Option, Some, Bool, true, false, if◌then◌else◌}
 use Rattle.keep_disk.specs.Image.{File, Image, image_changed}
-use Rattle.keep_disk.specs.Torn.{Torn, Cut, IsTornFile}
+use Rattle.keep_disk.specs.Torn.{Torn, IsTornFile}
 use Rattle.keep_disk.specs.State.{DiskState}
 use Rattle.keep_disk.specs.declared.call.What.{What}
 use Rattle.keep_disk.specs.declared.call.What.TheVariants as what
@@ -14,7 +14,6 @@ MayStand path file s = (c : Image) → s.may_leave c → s.may_leave (image_chan
 -- what a call may make of the file that a crash leaves at its path, where this one was seen there and was sound or not
 abbrev pub MayMake : What → Bool → Option File → Option File → Option File → Type 0
 MayMake (what.Write at bytes done) sound seen old new = IsTornFile (Torn at (length bytes.items)) old new
-MayMake (what.Cut len done) sound seen old new = IsTornFile (Cut len) old new
 MayMake (what.Sync true) sound seen old new = new ≡ (if sound then seen else old)
 MayMake (what.Sync false) sound seen old new = new ≡ old
 MayMake (what.Move mode bytes done) sound seen old new = (new ≡ old) ⊎ (new ≡ Some (record { mode = mode; bytes = bytes.items }))

@@ -5,13 +5,13 @@ use Rattle.std.proofs.Math.Nat.{not-suc-le_self}
 use Rattle.keep_disk.specs.Image.{Image}
 use Rattle.keep_disk.specs.State.{DiskState}
 use Rattle.keep_disk.specs.History.{state_after_call, state_after_calls}
-use Rattle.keep_disk.specs.Memory.{at_first, image_of, memory_state, IsLawful}
+use Rattle.keep_disk.specs.Memory.{at_first, image_of, kept_of, memory_state, IsLawful}
 use Rattle.keep_disk.specs.declared.call.Call.{Call}
 use Rattle.keep_disk.specs.declared.fault.Why.{Why}
 use Rattle.keep_disk.specs.declared.memory.MemoryDisk.{MemoryDisk}
 
-lawful_first : (image : Image) (why : Why) → IsLawful (at_first image why)
-lawful_first image why = record {
+lawful_first : (image kept : Image) (why : Why) → IsLawful (at_first image kept why)
+lawful_first image kept why = record {
   counts = λ t c le now. (le, now);
   only = λ t c le left. left.1;
   none_later = λ t c left. left.0;
@@ -30,5 +30,5 @@ lawful_all (call ∷ calls) s laws = lawful_all calls (state_after_call call s) 
 
 pub memory_lawful : (m : MemoryDisk) → IsLawful (memory_state m)
 memory_lawful m =
-    let laws = lawful_all m.calls.items (at_first (image_of m.files.items) m.fault) (lawful_first (image_of m.files.items) m.fault) in
+    let laws = lawful_all m.calls.items (at_first (image_of m.files.items) (kept_of m.files.items m.kept) m.fault) (lawful_first (image_of m.files.items) (kept_of m.files.items m.kept) m.fault) in
     record { counts = laws.counts; only = laws.only; none_later = laws.none_later }

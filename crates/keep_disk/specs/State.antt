@@ -20,7 +20,7 @@ pub record DiskState : Type 1 where
   pub beside : Option Beside
   -- another process holds the lock of the file at a path
   pub taken : List ℕ → Bool
-  -- no write, cut or sync of the file at a path has failed: after one, nobody knows what a sync will keep
+  -- no write or sync of the file at a path has failed: after one, nobody knows what a sync will keep
   pub is_sound : List ℕ → Bool
   -- what a crash at this moment may leave
   pub may_leave : Image → Type 0

@@ -1,6 +1,6 @@
 -- Torn: what a crash makes of a call that was under way.
 -- Source: this project's own; POSIX, "fsync" and "rename", for what is not promised.
-use Rattle.std.specs.Prelude.{◌≡◌, ◌⊎◌, ℕ, ◌+◌, ◌≤◌, min, max, List, length, take, drop, Option, None, Some}
+use Rattle.std.specs.Prelude.{◌≡◌, ◌⊎◌, ℕ, ◌+◌, ◌≤◌, max, List, length, take, drop, Option, None, Some}
 use Rattle.keep_disk.specs.Image.{File, Image, with_file_at, SameElsewhere}
 
 -- after a write of n bytes: any bytes in the range and past the old end, the same elsewhere
@@ -9,11 +9,6 @@ pub record Torn (at n : ℕ) (old new : List ℕ) : Type 0 where
   pub after : drop (at + n) new ≡ drop (at + n) old
   pub no_shorter : length old ≤ length new
   pub no_longer : length new ≤ max (length old) (at + n)
-
--- after a cut to a length: some length between
-pub record Cut (n : ℕ) (old new : List ℕ) : Type 0 where
-  pub no_shorter : min n (length old) ≤ length new
-  pub front : take (length new) old ≡ new
 
 -- a file keeps its mode while its bytes are torn, and one that is not there stays so
 abbrev pub IsTornFile : (List ℕ → List ℕ → Type 0) → Option File → Option File → Type 0

@@ -48,13 +48,6 @@ pub enum What {
         /// Whether all were taken.
         done: bool,
     },
-    /// A length.
-    Cut {
-        /// The length.
-        len: usize,
-        /// Whether it has it.
-        done: bool,
-    },
     /// That what is read is on the disk.
     Sync {
         /// Whether it is.

@@ -46,7 +46,6 @@ pub(crate) fn after_call(
             };
             overwrite(alloc, file, *at, taken)
         }
-        What::Cut { len, done } if *done => Ok(cut(file, *len)),
         _ => Ok(file),
     }
 }
@@ -75,23 +74,6 @@ pub(crate) fn overwrite(
     held.extend_from_slice(bytes)?;
     held.extend_from_slice(&rest)?;
     Ok(Some(Held { mode, bytes: held }))
-}
-
-/// The file cut to a length.
-pub(crate) fn cut(file: Option<Held>, len: usize) -> Option<Held>
-    ensures { held_file result ≡ with_bytes (take len) (held_file file) }
-{
-    let Some(
-        Held {
-            mode,
-            bytes: mut held,
-        },
-    ) = file
-    else {
-        return None;
-    };
-    held.truncate(len);
-    Some(Held { mode, bytes: held })
 }
 
 /// The same file.

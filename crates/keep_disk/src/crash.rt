@@ -1,23 +1,24 @@
-ghost use Rattle.std.specs.Prelude.{◌≡◌, ◌≤◌, length, not, IfOk};
+ghost use Rattle.std.specs.Prelude.{◌≡◌, ◌⊎◌, ◌≤◌, length, not, IfOk};
 ghost use Rattle.std.specs.Str.{bytes_eq};
 ghost use Rattle.keep_disk.specs.Torn.{Torn, IsTornFile};
 ghost use Rattle.keep_disk.specs.History.{sound_after};
 ghost use Rattle.keep_disk.specs.Left.{MayStand, MayMake};
-ghost use Rattle.keep_disk.specs.Memory.{memory_state, held_file};
+ghost use Rattle.keep_disk.specs.Memory.{memory_state, held_file, image_of, kept_of};
 
 use crate::MemoryDisk;
 use crate::call::{Call, Held, What};
-use crate::content::{after_call, copy_of, cut, first_of, overwrite};
+use crate::content::{after_call, copy_of, first_of, overwrite};
 use std::alloc::{AllocError, Global};
 
 impl MemoryDisk {
     /// A file that a crash at this moment may leave at `path`, whatever it leaves at the others; `None` for no file. Which one of
     /// them it is, `seed` decides.
+    #[tactic(auto, using(crate::proofs::Left::stands_first))]
     pub fn left(&self, alloc: Global, path: &str, seed: u64) -> Result<Option<Held>, AllocError>
         ensures { IfOk result (λ file. MayStand path.now (held_file file) (memory_state self.now)) }
     {
         let mut seen = first_of(alloc, &self.files, path)?;
-        let mut left = first_of(alloc, &self.files, path)?;
+        let mut left = self.first_left(alloc, path, seed)?;
         let mut sound = true;
         let mut draw = seed;
         for call in &self.calls {
@@ -30,6 +31,16 @@ impl MemoryDisk {
             sound = is_sound_after(&call.what, sound);
         }
         Ok(left)
+    }
+
+    /// A file that a crash before the first call leaves at `path`: the one that is seen, or the one that is on the disk.
+    fn first_left(&self, alloc: Global, path: &str, seed: u64) -> Result<Option<Held>, AllocError>
+        ensures { IfOk result (λ file. (held_file file ≡ image_of self.now.files.items path.now) ⊎ (held_file file ≡ kept_of self.now.files.items self.now.kept path.now)) }
+    {
+        match &self.kept {
+            Some(kept) if seed % 2 == 1 => first_of(alloc, kept, path),
+            _ => first_of(alloc, &self.files, path),
+        }
     }
 }
 
@@ -51,7 +62,7 @@ fn is_sound_after(what: &What, sound: bool) -> bool
     ensures { result ≡ sound_after what.now sound }
 {
     match what {
-        What::Write { done, .. } | What::Cut { done, .. } | What::Sync { done } => *done & sound,
+        What::Write { done, .. } | What::Sync { done } => *done & sound,
         What::Move { done, .. } => *done | sound,
     }
 }
@@ -69,7 +80,6 @@ fn made_by(
 {
     match what {
         What::Write { at, bytes, .. } => torn(alloc, left, *at, bytes, choice),
-        What::Cut { len, .. } => Ok(cut(left, len.saturating_add((choice % 4) as usize))),
         What::Sync { done } if *done & sound => copy_of(alloc, seen),
         What::Move { mode, bytes, .. } if choice % 2 == 1 => Ok(Some(Held {
             mode: *mode,

@@ -1,7 +1,7 @@
 ghost use Rattle.std.specs.Prelude.{◌≡◌, ◌≤◌, ◌⊎◌, ℕ, length, take, true, false, Bool, Some, None, List, OnOk, IfOk, IfSome, MatchOption, IsTrue, is_none};
 ghost use Rattle.std.specs.Str.{bytes_eq};
 ghost use Rattle.keep_disk.specs.Image.{Image, File, image_changed, with_file_at, with_bytes, overwritten};
-ghost use Rattle.keep_disk.specs.Torn.{Torn, Cut, Tears, MovesFile};
+ghost use Rattle.keep_disk.specs.Torn.{Torn, Tears, MovesFile};
 ghost use Rattle.keep_disk.specs.State.{DiskState, OutcomesFollow, Touches, LeavesAlone, Elapses, TellsFailure, StandsBeside};
 
 use crate::{DiskFault, Lock};
@@ -62,16 +62,6 @@ pub trait Disk {
         ensures sound { OnOk result (IsTrue is_known → (state self.new).is_sound ≡ (state self.old).is_sound) }
         ensures touches { IsTrue is_known → Touches path.now (state self.old) (state self.new) }
         ensures crash { IsTrue is_known → OutcomesFollow (Tears path.now (Torn at (length bytes.now))) (state self.old) (state self.new) }
-        ensures time { IsTrue is_known → Elapses (state self.old) (state self.new) }
-        ensures cause { TellsFailure (state self.old) (state self.new) result };
-
-    /// Cuts the file at `path` to a length. Until a sync, a crash may leave any length between.
-    fn cut(&mut self, path: &str, len: usize) -> Result<(), DiskFault>
-        requires { IsTrue is_known → IfSome ((state self.old).seen path.now) (λ file. len ≤ length file.bytes) }
-        ensures cut { OnOk result (IsTrue is_known → (state self.new).seen ≡ image_changed path.now (with_bytes (take len)) (state self.old).seen) }
-        ensures sound { OnOk result (IsTrue is_known → (state self.new).is_sound ≡ (state self.old).is_sound) }
-        ensures touches { IsTrue is_known → Touches path.now (state self.old) (state self.new) }
-        ensures crash { IsTrue is_known → OutcomesFollow (Tears path.now (Cut len)) (state self.old) (state self.new) }
         ensures time { IsTrue is_known → Elapses (state self.old) (state self.new) }
         ensures cause { TellsFailure (state self.old) (state self.new) result };
 

@@ -19,6 +19,9 @@ pub enum Why {
     /// No file is there, or no folder.
     #[error("no such file or folder")]
     Missing,
+    /// What is there is a pipe, a device or a folder.
+    #[error("it is not a regular file")]
+    Irregular,
     /// Anything else, as a device that fails.
     #[error("the disk failed")]
     Other,

@@ -1,7 +1,7 @@
-//! A disk: files at paths that are read, written, cut, synced and replaced, and what a crash at any moment may leave of them.
+//! A disk: files at paths that are read, written, synced and replaced, and what a crash at any moment may leave of them.
 //!
-//! The contract for the layers above is the trait [`Disk`] over one record, `specs/State.antt`; [`write_synced`] and
-//! [`cut_synced`] change a file, and [`replace`] makes one anew.
+//! The contract for the layers above is the trait [`Disk`] over one record, `specs/State.antt`; [`write_synced`]
+//! changes a file, and [`replace`] makes one anew.
 //! Begin with `specs/Image.antt` and `specs/Torn.antt`, what a crash makes of a call that was under way.
 #![tactic(auto)]
 
@@ -25,5 +25,5 @@ pub use fault::{DiskFault, Why};
 pub use lock::Lock;
 pub use memory::MemoryDisk;
 pub use replacing::replace;
-pub use synced::{cut_synced, write_synced};
+pub use synced::write_synced;
 pub use system::{FILE_MODE, FOLDER_MODE, SystemDisk};

@@ -18,6 +18,8 @@ use std::alloc::{AllocError, Global};
 pub struct MemoryDisk {
     alloc: Global,
     pub(crate) files: Vec<Stored>,
+    // What stands on the disk of them; `None` where that is all of them.
+    pub(crate) kept: Option<Vec<Stored>>,
     pub(crate) calls: Vec<Call>,
     beside: Option<Draft>,
     // Another process holds each lock.
@@ -30,12 +32,37 @@ pub struct MemoryDisk {
 impl MemoryDisk {
     /// A disk with these files, all of them on it. Of two with one path the first is there. Calls that fail meet `fault`.
     pub fn new(alloc: Global, files: Vec<Stored>, failing: Failing, fault: Why) -> MemoryDisk
-        ensures first { IsFreshDisk (image_of files.items) fault (memory_state result) }
+        ensures first { IsFreshDisk (image_of files.items) (image_of files.items) fault (memory_state result) }
         ensures kept { (path : List ℕ) → DiskKeeps path (memory_state result) }
     {
         MemoryDisk {
             alloc,
             files,
+            kept: None,
+            calls: Vec::new(alloc),
+            beside: None,
+            taken: false,
+            failing,
+            faults: 0,
+            fault,
+        }
+    }
+
+    /// A disk as a process finds it that begins after a kill: with these files, of which those in `kept` are on it. At each path a loss
+    /// of power leaves what is seen there, or what `kept` has.
+    pub fn after_kill(
+        alloc: Global,
+        files: Vec<Stored>,
+        kept: Vec<Stored>,
+        failing: Failing,
+        fault: Why,
+    ) -> MemoryDisk
+        ensures { IsFreshDisk (image_of files.items) (image_of kept.items) fault (memory_state result) }
+    {
+        MemoryDisk {
+            alloc,
+            files,
+            kept: Some(kept),
             calls: Vec::new(alloc),
             beside: None,
             taken: false,
@@ -83,6 +110,7 @@ impl MemoryDisk {
         ensures failing { self.new.failing ≡ next_turn self.old.failing }
         ensures count { self.new.faults ≡ (if is_turn self.old.failing then one_more self.old.faults else self.old.faults) }
         ensures files { self.new.files.items ≡ self.old.files.items }
+        ensures kept { self.new.kept ≡ self.old.kept }
         ensures calls { self.new.calls.items ≡ self.old.calls.items }
         ensures beside { self.new.beside ≡ self.old.beside }
         ensures taken { self.new.taken ≡ self.old.taken }
@@ -144,11 +172,6 @@ impl Disk for MemoryDisk {
         let bytes = Vec::from_slice(self.alloc, bytes)?;
         let done = !self.failing.is_turn();
         self.enter(path, What::Write { at, bytes, done })
-    }
-
-    fn cut(&mut self, path: &str, len: usize) -> Result<(), DiskFault> {
-        let done = !self.failing.is_turn();
-        self.enter(path, What::Cut { len, done })
     }
 
     fn sync(&mut self, path: &str) -> Result<(), DiskFault> {

@@ -1,6 +1,6 @@
-ghost use Rattle.std.specs.Prelude.{◌≡◌, ◌≤◌, length, take, OnOk, IsTrue, IfSome, true};
+ghost use Rattle.std.specs.Prelude.{◌≡◌, ◌≤◌, length, OnOk, IsTrue, IfSome, true};
 ghost use Rattle.keep_disk.specs.Image.{image_changed, with_bytes, overwritten};
-ghost use Rattle.keep_disk.specs.Torn.{Torn, Cut, Tears};
+ghost use Rattle.keep_disk.specs.Torn.{Torn, Tears};
 ghost use Rattle.keep_disk.specs.State.{DiskKeeps, Touches, OutcomesFollow, LeavesOnly, IsAfter, TellsFailure};
 
 use crate::{Disk, DiskFault};
@@ -25,23 +25,5 @@ pub fn write_synced<D: Disk>(
     ensures cause { TellsFailure (D.state disk.old) (D.state disk.new) result }
 {
     disk.write_at(path, at, bytes)?;
-    disk.sync(path)
-}
-
-/// Cuts the file at `path` to a length, and syncs it.
-pub fn cut_synced<D: Disk>(disk: &mut D, path: &str, len: usize) -> Result<(), DiskFault>
-    requires { IsTrue D.is_known → IfSome ((D.state disk.old).seen path.now) (λ file. len ≤ length file.bytes) }
-    ensures cut { OnOk result (IsTrue D.is_known
-        → (D.state disk.new).seen ≡ image_changed path.now (with_bytes (take len)) (D.state disk.old).seen) }
-    ensures kept { OnOk result (IsTrue D.is_known → (D.state disk.old).is_sound path.now ≡ true → DiskKeeps path.now (D.state disk.new)) }
-
-    // A crash at any moment of the call leaves some length between; and so does a fault.
-    ensures any_moment { IsTrue D.is_known → LeavesOnly (D.state disk.old) (D.state disk.new)
-        (IsAfter (Tears path.now (Cut len)) (D.state disk.old)) }
-    ensures crash { IsTrue D.is_known → OutcomesFollow (Tears path.now (Cut len)) (D.state disk.old) (D.state disk.new) }
-    ensures touches { IsTrue D.is_known → Touches path.now (D.state disk.old) (D.state disk.new) }
-    ensures cause { TellsFailure (D.state disk.old) (D.state disk.new) result }
-{
-    disk.cut(path, len)?;
     disk.sync(path)
 }

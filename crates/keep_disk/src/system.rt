@@ -20,15 +20,15 @@ pub const FOLDER_MODE: u32 = 0o700;
 
 /// The disks of the system, of which contracts know nothing.
 ///
-/// Each call opens the file by its path and closes it. A file that is moved to its place is on the disk once the folder is
-/// synced: that is done by the next sync of the path.
+/// Each call opens the file by its path and closes it. A file is on the disk once its folder is synced, too: that is done by the first
+/// sync of its path, and by the first one after a file was moved there.
 #[derive(Drop)]
 pub struct SystemDisk<'a, R> {
     rt: &'a R,
     faults: u64,
     fault: Why,
-    // Files were moved to these paths, and the folder of each is not synced yet.
-    moved: Vec<String>,
+    // What stands at these paths has its name on the disk: the folder was synced, and no file was moved there since.
+    named: Vec<String>,
     // Those that are locked until the process ends, with their paths.
     locks: Vec<(String, File)>,
 }
@@ -40,7 +40,7 @@ impl<'a, R: Files<File = File> + AllocGlobal> SystemDisk<'a, R> {
             rt,
             faults: 0,
             fault: Why::Other,
-            moved: Vec::new(rt.alloc()),
+            named: Vec::new(rt.alloc()),
             locks: Vec::new(rt.alloc()),
         }
     }
@@ -77,8 +77,23 @@ impl<'a, R: Files<File = File> + AllocGlobal> SystemDisk<'a, R> {
         }
     }
 
+    fn open_to_read(&self, path: &str) -> io::Result<File> {
+        self.refuse_irregular(path)?;
+        File::open(self.rt, path)
+    }
+
     fn open_to_write(&self, path: &str) -> io::Result<File> {
+        self.refuse_irregular(path)?;
         OpenOptions::new().write(true).open(self.rt, path)
+    }
+
+    // To open a pipe may wait for ever, for somebody at its other end. So only regular files are opened. (Whoever may write in the folder
+    // could put a pipe there after this look; that is the agent's own user.)
+    fn refuse_irregular(&self, path: &str) -> io::Result<()> {
+        match stamp_of(self.rt, path)? {
+            Some(found) if !found.is_regular => Err(ErrorKind::InvalidInput.into()),
+            _ => Ok(()),
+        }
     }
 
     fn try_write_beside(&self, path: &str, mode: u32, bytes: &[u8]) -> io::Result<()> {
@@ -116,28 +131,28 @@ impl<'a, R: Files<File = File> + AllocGlobal> SystemDisk<'a, R> {
         ensures fault { self.new.fault ≡ self.old.fault }
     {
         let beside = beside_of(self.rt.alloc(), path)?;
-        if !self.is_moved(path) {
-            self.moved.push(String::from_str(self.rt.alloc(), path)?)?;
-        }
+        self.named.retain(|named| named.as_str() != path);
         fs::rename(self.rt, beside.as_str(), path)
     }
 
-    // A folder that cannot be synced is in the way of its own paths alone.
+    // A file that was there before may not be this process's to write, and its name may have been put there by one that was killed before
+    // its folder was synced. A folder that cannot be synced is in the way of its own paths alone.
     fn try_sync(&mut self, path: &str) -> io::Result<()>
         ensures faults { self.new.faults ≡ self.old.faults }
         ensures fault { self.new.fault ≡ self.old.fault }
     {
-        self.open_to_write(path)?.sync_all()?;
-        if self.is_moved(path) {
+        self.open_to_read(path)?.sync_all()?;
+        if !self.is_named(path) {
+            let name = String::from_str(self.rt.alloc(), path)?;
             self.sync_folder(path)?;
-            self.moved.retain(|moved| moved.as_str() != path);
+            self.named.push(name)?;
         }
         Ok(())
     }
 
-    // Whether a file was moved to this path whose folder is not synced yet.
-    fn is_moved(&self, path: &str) -> bool {
-        self.moved.iter().any(|moved| moved.as_str() == path)
+    // Whether the name at this path is on the disk.
+    fn is_named(&self, path: &str) -> bool {
+        self.named.iter().any(|named| named.as_str() == path)
     }
 
     fn try_lock(&mut self, path: &str) -> io::Result<bool>
@@ -161,6 +176,7 @@ impl<'a, R: Files<File = File> + AllocGlobal> SystemDisk<'a, R> {
 
     // Where nothing may be written, the lock of a file that is there can be had all the same.
     fn open_to_lock(&self, path: &str) -> io::Result<File> {
+        self.refuse_irregular(path)?;
         let opened = OpenOptions::new()
             .write(true)
             .create(true)
@@ -204,6 +220,7 @@ fn count(faults: &mut u64, fault: &mut Why, error: &io::Error) -> DiskFault
         ErrorKind::ReadOnlyFilesystem => Why::ReadOnly,
         ErrorKind::PermissionDenied => Why::Denied,
         ErrorKind::NotFound => Why::Missing,
+        ErrorKind::InvalidInput => Why::Irregular,
         _ => Why::Other,
     };
     *faults = faults.saturating_add(1);
@@ -235,7 +252,7 @@ impl<'a, R: Files<File = File> + AllocGlobal> Disk for SystemDisk<'a, R> {
     ghost only_now = { λ d c left. left };
 
     fn read(&mut self, alloc: Global, path: &str, max: usize) -> Result<Option<Text>, DiskFault> {
-        let file = match File::open(self.rt, path) {
+        let file = match self.open_to_read(path) {
             Ok(file) => file,
             Err(error) if error.kind() == ErrorKind::NotFound => return Ok(None),
             Err(error) => return Err(self.fail(&error)),
@@ -258,13 +275,6 @@ impl<'a, R: Files<File = File> + AllocGlobal> Disk for SystemDisk<'a, R> {
             .open_to_write(path)
             .and_then(|file| file.write_all_at(bytes, at as u64));
         self.answer(written)
-    }
-
-    fn cut(&mut self, path: &str, len: usize) -> Result<(), DiskFault> {
-        let cut = self
-            .open_to_write(path)
-            .and_then(|file| file.set_len(len as u64));
-        self.answer(cut)
     }
 
     fn sync(&mut self, path: &str) -> Result<(), DiskFault> {

@@ -1,6 +1,6 @@
 -- Attended: what each neighbour is given of a turn, step by step. For `attend`.
 use Rattle.std.proofs.Common.{◌≡◌, ◌∙◌, ℕ, ◌+◌, ◌≤◌, Bool, List, Option, ap, subst, sym}
-use Rattle.std.specs.Prelude.{◌&&◌, ◌||◌}
+use Rattle.std.specs.Prelude.{◌&&◌, ◌||◌, is_some}
 use Rattle.keep_agent.specs.Agent.{Agent}
 use Rattle.keep_answering.specs.declared.control.Control.{Control}
 use Rattle.keep_answering.specs.declared.onlookers.Onlookers.{Onlookers}
@@ -34,16 +34,17 @@ module _ {S T D K E : Type 0} (given : S → Option (List ℕ)) (failures tries 
       → mid ≡ record old { desk = record old.desk { room = record old.desk.room { log = mid.desk.room.log } }; sink = mid.sink }
       → FollowersGoOn mid.desk.form (second_of now.wall) mid.desk.room fed.desk.room mid.control fed.control
       → fed ≡ record mid { desk = record mid.desk { room = fed.desk.room }; control = fed.control }
-      → around ≡ around_of fed.next fed.file fed.desk.room.log.dropped now.wall
+      → around ≡ around_of fed.next fed.file (is_some fed.state) fed.desk.room.log.dropped now.wall
       → OnlookersGoOn remaining written calls log agent around now shown fed.onlookers onlookers
       → ClientsGoOn remaining written calls log agent around now answered fed.control control
       → enough ≡ (shown.is_enough && answered.is_enough) → HearsWant agent enough fed.desk desk → goes_on ≡ (is_more || (shown.is_busy || answered.is_busy))
       → Attends given failures tries remaining written calls log agent now goes_on old (record fed { desk = desk; control = control; onlookers = onlookers })
   attended agent now is_more goes_on enough shown answered old mid fed around onlookers control desk gives few first follow second around_is show answer both heard more =
       let sink : fed.sink ≡ mid.sink = ap (λ h. h.sink) second in
-      let there : around ≡ around_of old.next old.file fed.desk.room.log.dropped now.wall =
-      around_is ∙ ap (λ n. around_of n fed.file fed.desk.room.log.dropped now.wall) (ap (λ h. h.next) second ∙ ap (λ h. h.next) first)
-      ∙ ap (λ f. around_of old.next f fed.desk.room.log.dropped now.wall) (ap (λ h. h.file) second ∙ ap (λ h. h.file) first) in
+      let there : around ≡ around_of old.next old.file (is_some old.state) fed.desk.room.log.dropped now.wall =
+      around_is ∙ ap (λ n. around_of n fed.file (is_some fed.state) fed.desk.room.log.dropped now.wall) (ap (λ h. h.next) second ∙ ap (λ h. h.next) first)
+      ∙ ap (λ f. around_of old.next f (is_some fed.state) fed.desk.room.log.dropped now.wall) (ap (λ h. h.file) second ∙ ap (λ h. h.file) first)
+      ∙ ap (λ k. around_of old.next old.file k fed.desk.room.log.dropped now.wall) (ap (λ h. is_some h.state) second ∙ ap (λ h. is_some h.state) first) in
       let at_desk : fed.desk ≡ record old.desk { room = fed.desk.room } = ap (λ h. h.desk) second ∙ ap (λ h. record h.desk { room = fed.desk.room }) first in
       let given_there = subst (λ s. ReaderIsGiven old.desk.form (second_of now.wall) old.desk.room.log mid.desk.room.log (given old.sink) (given s) (failures old.sink) (failures s) is_more) (sym sink) gives in
       let few_there = subst (λ s. tries s ≤ tries old.sink + MOST_TRIES) (sym sink) few in
@@ -58,7 +59,7 @@ module _ {S T D K E : Type 0} (given : S → Option (List ℕ)) (failures tries 
         few = few_there;
         follow = follows_by mid.desk.form old.desk.form (second_of now.wall) mid.desk.room (record old.desk.room { log = mid.desk.room.log }) fed.desk.room mid.control old.control fed.control
             (ap (λ h. h.desk.form) first) (ap (λ h. h.desk.room) first) (ap (λ h. h.control) first) follow;
-        onlookers = subst (λ o. OnlookersGoOn remaining written calls log agent (around_of old.next old.file fed.desk.room.log.dropped now.wall) now shown o onlookers)
+        onlookers = subst (λ o. OnlookersGoOn remaining written calls log agent (around_of old.next old.file (is_some old.state) fed.desk.room.log.dropped now.wall) now shown o onlookers)
             (ap (λ h. h.onlookers) second ∙ ap (λ h. h.onlookers) first) (subst (λ a. OnlookersGoOn remaining written calls log agent a now shown fed.onlookers onlookers) there show);
         clients = subst (λ a. ClientsGoOn remaining written calls log agent a now answered fed.control control) there answer;
         desk = hears_by enough (shown.is_enough && answered.is_enough) agent (record old.desk { room = fed.desk.room }) desk both (subst (λ d. HearsWant agent enough d desk) at_desk heard);

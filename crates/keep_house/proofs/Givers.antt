@@ -23,7 +23,7 @@ use Rattle.keep_serving.specs.Changes.{AllGiven}
 use Rattle.keep_serving.specs.declared.change.Change.{Change}
 use Rattle.keep_house.specs.Admitting.{AdmitsIf, AnswerBeginsWith, FollowsLog, asking_in}
 use Rattle.keep_house.specs.Awaiting.{AddsRow, HearsFor, HearsOfAwaited, HearsVerdict, IsRefusedFor, Judges, LooksUpBy, LooksUpFirst, LooksUpIf, Makes, ProvesBy, Replaces, SetsAside, VerdictIs, addressed}
-use Rattle.keep_house.specs.Commands.{AddsEntry, AddsIf, AsksFor, AsksIf, CarriesIf, CarriesOut, ClosesClient, DropsEntry, GivesNeed, RebuildingIsDue, NeedIsKept, StateIsRebuilt, GoesOnIf, GoesOnWithClients, LacksMemory, Needs, NeedsIf, Reloads, RereadBy, ServesClients, SettlesFile, SettlesAnswer, SettlesAside, SettlesBy, SettlesGiven, SettlesNeed, SettlesServed, TellsNeed, TellsReload, end_named}
+use Rattle.keep_house.specs.Commands.{AddsEntry, AddsIf, AsksFor, AsksIf, CarriesIf, CarriesOut, ClosesClient, DropsEntry, GivesNeed, InventoryIsDue, NeedIsKept, StateIsServed, GoesOnIf, GoesOnWithClients, LacksMemory, Needs, NeedsIf, Reloads, RereadBy, ServesClients, SettlesFile, SettlesAnswer, SettlesAside, SettlesBy, SettlesGiven, SettlesNeed, SettlesServed, TellsNeed, TellsReload, end_named}
 use Rattle.house_log.specs.Feeding.{FollowersGoOn}
 use Rattle.keep_house.specs.Houses.{Attends, ClientIsAnswered, ClientIsAside, ClientIsSent, ClientsAsk, ClientsGoOn, Concludes, IsAnsweredAs, IsAnsweredAside, SendsAside, WillRefuse, WillTell, bytes_sent, changes_given, given_where}
 use Rattle.house_ledger.specs.Keeping.{KeepCall, KeeperIsAsked, Settle, Take}
@@ -82,10 +82,10 @@ reread does now (Some result) None new h = absurd h
 reread does now (Some result) (Some old) None h = absurd h
 reread does now (Some result) (Some old) (Some new) h = refl
 
-rebuilt : {K : Type 0} (does : KeepCall → K → K → Type 0) (old new : Option K) → StateIsRebuilt does old new → is_some new ≡ is_some old
-rebuilt does None new h = ap is_some h
-rebuilt does (Some old) None h = absurd h
-rebuilt does (Some old) (Some new) h = refl
+marked_served : {K : Type 0} (does : KeepCall → K → K → Type 0) (old new : Option K) → StateIsServed does old new → is_some new ≡ is_some old
+marked_served does None new h = ap is_some h
+marked_served does (Some old) None h = absurd h
+marked_served does (Some old) (Some new) h = refl
 
 begun : {T D : Type 0} (answer : List ℕ) (old new : Option (Control T D)) → AnswerBeginsWith answer old new → is_some new ≡ is_some old
 begun answer None new h = ap is_some h
@@ -294,7 +294,7 @@ module _ {S T D K E : Type 0} (does : KeepCall → K → K → Type 0) (rows : K
   none_if false change old new is none h = served_none change old new none h
 
   none_of : (due : Result (Option (Inventory × Vec Mark Global)) AllocError) (change : Option Change) (old new : House S T D K E) (control : Option (Control T D)) (state : Option K) → old.control ≡ control → old.state ≡ state →
-      (is_some control || is_some state) ≡ false → RebuildingIsDue gives now due state → AsksIf does rows path reads gives agent now due change old new → change ≡ None
+      (is_some control || is_some state) ≡ false → InventoryIsDue gives now due state → AsksIf does rows path reads gives agent now due change old new → change ≡ None
   none_of due change old new (Some control) state c s is is_due h = absurd (true≢false is)
   none_of due change old new None (Some state) c s is is_due h = absurd (true≢false is)
   none_of (Ok None) change old new None None c s is is_due h =
@@ -342,7 +342,7 @@ none_by_looking does agent now goes_on old new h =
     ap (λ x. given_where (is_some x.control || is_some new.state)) h.rest
     ∙ ap (λ b. given_where (is_some old.control || b)) (looked_at does now h.looked old.state new.state h.asks)
 
--- ---- a client gives one, or a rebuilding is given
+-- ---- a client gives one, or an inventory that is due
 
 pub one_by_asking : {S T D K E : Type 0} (does : KeepCall → K → K → Type 0) (rows : K → List Row) (path : K → List ℕ) (reads : List ℕ → Result Row Why → Type 0) (gives : ℕ → Result (Option Inventory) AllocError → K → Type 0)
     (agent : Agent) (now : Reading) (change : Option Change) (old new : House S T D K E) → AsksFor does rows path reads gives agent now change old new →
@@ -362,9 +362,9 @@ settled_by does agent false (Some (givens.Answer text at)) old new h = record { 
 settled_by does agent true (Some (givens.Aside client text at)) old new h =
     record { sink = ap (λ x. x.sink) h.rest; control = told_aside client (bytes_sent text) at old.control new.control h.answered; state = ap (λ x. is_some x.state) h.rest }
 settled_by does agent false (Some (givens.Aside client text at)) old new h = record { sink = ap (λ x. x.sink) h.1; control = told_aside client [] at old.control new.control h.0; state = ap (λ x. is_some x.state) h.1 }
-settled_by does agent true (Some (givens.Served marks)) old new h = record { sink = ap (λ x. x.sink) h.1; control = ap (λ x. is_some x.control) h.1; state = rebuilt does old.state new.state h.0 }
+settled_by does agent true (Some (givens.Served marks)) old new h = record { sink = ap (λ x. x.sink) h.1; control = ap (λ x. is_some x.control) h.1; state = marked_served does old.state new.state h.0 }
 settled_by does agent false (Some (givens.Served marks)) old new h = same old new h
-settled_by does agent true (Some givens.Unchanged) old new h = record { sink = ap (λ x. x.sink) h.1; control = ap (λ x. is_some x.control) h.1; state = rebuilt does old.state new.state h.0 }
+settled_by does agent true (Some givens.Unchanged) old new h = record { sink = ap (λ x. x.sink) h.1; control = ap (λ x. is_some x.control) h.1; state = marked_served does old.state new.state h.0 }
 settled_by does agent false (Some givens.Unchanged) old new h = same old new h
 
 pub settled_given : {S T D K E : Type 0} (does : KeepCall → K → K → Type 0) (agent : Agent) (is_made : Bool) (old new : House S T D K E) → SettlesGiven does agent is_made old new → AreSame old new

@@ -1,6 +1,6 @@
 -- Commands: what clients ask for is carried out, and what comes of it.
 -- Source: this project's own; docs/running.md, "Changes while it runs".
-use Rattle.std.specs.Prelude.{◌≡◌, ◌≢◌, ◌/◌, ℕ, Bool, true, false, List, [], ◌∷◌, Option, Some, None, IfSome, Vec, Result, Ok, Err, codes, length, replicate}
+use Rattle.std.specs.Prelude.{◌≡◌, ◌≢◌, ◌/◌, ℕ, Bool, true, false, List, [], ◌∷◌, Option, Some, None, IfSome, Vec, Result, Ok, Err, codes, is_some, length, replicate}
 use Rattle.std.specs.declared.alloc.AllocError.{AllocError}
 use Rattle.std.specs.declared.alloc.Global.{Global}
 use Rattle.keep_agent.specs.Agent.{Agent}
@@ -28,10 +28,10 @@ use Rattle.house_log.specs.LinesOfClocks.{marks_anew}
 use Rattle.house_log.specs.LogDesk.{Desk, HearsRefusal, SaysLine, SaysLines}
 use Rattle.keep_house.specs.Houses.{ClientIsAnswered, ClientIsSent, ClientsAsk, Concludes, IsAnsweredAside, SendsAside, WillRefuse, WillTell}
 use Rattle.house_words.specs.Outcomes.{IsNotKept, Outcome, Why, Whys}
-use Rattle.house_ledger.specs.Keeping.{KeepCall, KeeperIsAsked, Rebuilt, Reload, Settle, Take}
+use Rattle.house_ledger.specs.Keeping.{KeepCall, KeeperIsAsked, MarkServed, Reload, Settle, Take}
 use Rattle.house_log.specs.Marks.{fresh_mark}
 use Rattle.house_log.specs.Sockets.{need_log_line}
-use Rattle.house_words.specs.Telling.{IsDoneReply, IsDropLine, IsNeedLine, reload_line, settle_line, until_of_need}
+use Rattle.house_words.specs.Telling.{IsDropLine, IsNeedLine, IsNeedReply, reload_line, settle_line, until_of_need}
 use Rattle.keep_house.specs.declared.given.Given.{Given}
 use Rattle.keep_house.specs.declared.given.Given.TheVariants as givens
 use Rattle.keep_house.specs.declared.given.GivenNeed.{GivenNeed}
@@ -72,7 +72,7 @@ NeedIsKept does agent now name need result None new = EntryIsThere (index_named 
 NeedIsKept does agent now name need result (Some old) None = ⊥
 NeedIsKept does agent now name need result (Some old) (Some new) = does (Take now.elapsed name (what.Need need) result) old new
 
--- it is given for the entry that the agent has; one that it is to have holds with a rebuilding, and the log says so
+-- it is given for the entry that the agent has; one that it is to have holds once it is served, and the log says so
 abbrev pub GivesNeed : {S T D K E : Type 0} → Agent → Reading → List ℕ → ℕ → Option ℕ → Change → House S T D K E → House S T D K E → Type 0
 GivesNeed agent now name until (Some i) change old new =
     (change ≡ changes.Need i until) × (new ≡ record old { given = Some (givens.Need (record { entry = i; until = until; at = now.elapsed })) })
@@ -173,15 +173,15 @@ pub record Reloads {S T D K E : Type 0} (does : KeepCall → K → K → Type 0)
   pub asks : RereadBy does now result old.state state
   pub tells : TellsReload path agent now result (record old { state = state }) new
 
--- ---- each of them, and a rebuilding
+-- ---- each of them, and an inventory that is due
 
--- a rebuilding is given where it is due, with marks for its entries
-abbrev pub RebuildingIsDue : {K : Type 0} → (ℕ → Result (Option Inventory) AllocError → K → Type 0) → Reading → Result (Option (Inventory × Vec Mark Global)) AllocError → Option K → Type 0
-RebuildingIsDue gives now (Err e) state = Unit {0}
-RebuildingIsDue gives now (Ok None) None = Unit {0}
-RebuildingIsDue gives now (Ok (Some p)) None = ⊥
-RebuildingIsDue gives now (Ok None) (Some k) = gives now.elapsed (Ok None) k
-RebuildingIsDue gives now (Ok (Some p)) (Some k) = gives now.elapsed (Ok (Some p.0)) k × (p.1.items ≡ replicate (length p.0.forest.entries) fresh_mark)
+-- an inventory is given where one is due, with marks for its entries
+abbrev pub InventoryIsDue : {K : Type 0} → (ℕ → Result (Option Inventory) AllocError → K → Type 0) → Reading → Result (Option (Inventory × Vec Mark Global)) AllocError → Option K → Type 0
+InventoryIsDue gives now (Err e) state = Unit {0}
+InventoryIsDue gives now (Ok None) None = Unit {0}
+InventoryIsDue gives now (Ok (Some p)) None = ⊥
+InventoryIsDue gives now (Ok None) (Some k) = gives now.elapsed (Ok None) k
+InventoryIsDue gives now (Ok (Some p)) (Some k) = gives now.elapsed (Ok (Some p.0)) k × (p.1.items ≡ replicate (length p.0.forest.entries) fresh_mark)
 
 -- what is given with an inventory: whether it is served already, or these marks for another one
 abbrev pub IsGivenWith : Agent → Inventory → List Mark → Option Given → Type 0
@@ -238,7 +238,7 @@ module _ {S T D K E : Type 0} (does : KeepCall → K → K → Type 0) (rows : K
   AsksIf (Err e) change old new = LacksMemory change old new
 
   abbrev pub AsksFor : Option Change → House S T D K E → House S T D K E → Type 0
-  AsksFor change old new = (due : Result (Option (Inventory × Vec Mark Global)) AllocError) × (RebuildingIsDue gives now due old.state × AsksIf due change old new)
+  AsksFor change old new = (due : Result (Option (Inventory × Vec Mark Global)) AllocError) × (InventoryIsDue gives now due old.state × AsksIf due change old new)
 
 -- ---- what was given is settled
 
@@ -251,14 +251,14 @@ is_served (Some (givens.Aside client sent now)) = false
 is_served (Some (givens.Served marks)) = true
 is_served (Some givens.Unchanged) = false
 
--- the log says that the entry is needed until then, and its client is told
+-- the log says that the entry is needed until then, and its client is told; where nothing keeps changes, also that a restart ends it
 pub record TellsNeed {S T D K E : Type 0} (agent : Agent) (name : List ℕ) (until now : ℕ) (old new : House S T D K E) : Type 0 where
   pub desk : Desk
   pub heard : SaysLine agent (need_log_line name until) old.desk desk
   pub line : Option (List ℕ)
   pub says : IfSome line (IsNeedLine name until)
   pub sent : Option (List ℕ)
-  pub reply : IsDoneReply line sent
+  pub reply : IsNeedReply (is_some old.state) line sent
   pub sends : ClientIsSent agent sent now (record old { desk = desk }) new
 
 -- where it was not made, the client is told nothing, and its connection is closed
@@ -278,20 +278,20 @@ abbrev pub SettlesAside : {S T D K E : Type 0} → Agent → Bool → Option ℕ
 SettlesAside agent true client sent now old new = SendsAside agent client sent now old new
 SettlesAside agent false client sent now old new = IsAnsweredAside client [] now old.control new.control × (new ≡ record old { control = new.control })
 
-abbrev pub StateIsRebuilt : {K : Type 0} → (KeepCall → K → K → Type 0) → Option K → Option K → Type 0
-StateIsRebuilt does None new = new ≡ None
-StateIsRebuilt does (Some old) None = ⊥
-StateIsRebuilt does (Some old) (Some new) = does Rebuilt old new
+abbrev pub StateIsServed : {K : Type 0} → (KeepCall → K → K → Type 0) → Option K → Option K → Type 0
+StateIsServed does None new = new ≡ None
+StateIsServed does (Some old) None = ⊥
+StateIsServed does (Some old) (Some new) = does MarkServed old new
 
 -- the inventory is served, and what was said of its entries is carried over
 abbrev pub SettlesServed : {S T D K E : Type 0} → (KeepCall → K → K → Type 0) → Agent → Bool → List Mark → House S T D K E → House S T D K E → Type 0
 SettlesServed does agent true marks old new =
-    StateIsRebuilt does old.state new.state × (new ≡ record old { state = new.state; desk = record old.desk { marks = marks_anew agent (length marks) } })
+    StateIsServed does old.state new.state × (new ≡ record old { state = new.state; desk = record old.desk { marks = marks_anew agent (length marks) } })
 SettlesServed does agent false marks old new = new ≡ old
 
 -- it is served already: no change waits for it any more, and nothing else is another
 abbrev pub SettlesUnchanged : {S T D K E : Type 0} → (KeepCall → K → K → Type 0) → Bool → House S T D K E → House S T D K E → Type 0
-SettlesUnchanged does true old new = StateIsRebuilt does old.state new.state × (new ≡ record old { state = new.state })
+SettlesUnchanged does true old new = StateIsServed does old.state new.state × (new ≡ record old { state = new.state })
 SettlesUnchanged does false old new = new ≡ old
 
 abbrev pub SettlesBy : {S T D K E : Type 0} → (KeepCall → K → K → Type 0) → Agent → Bool → Option Given → House S T D K E → House S T D K E → Type 0

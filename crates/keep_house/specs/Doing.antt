@@ -9,7 +9,7 @@ use Rattle.keep_clients.specs.declared.talk.Call.{Call}
 use Rattle.keep_clock.specs.declared.reading.Reading.{Reading}
 use Rattle.keep_disk.specs.State.{DiskState}
 use Rattle.keep_inventory.specs.Inventories.{Inventory}
-use Rattle.keep_serving.specs.Neighbours.{Give, GoOn, Hear, NeighbourCall, Settle, thing_of}
+use Rattle.keep_serving.specs.Neighbours.{Give, GoOn, Hear, NeighbourCall, Rest, Settle, thing_of}
 use Rattle.keep_serving.specs.declared.neighbours.Happened.{Happened}
 use Rattle.keep_serving.specs.declared.neighbours.Happened.TheVariants as happened
 use Rattle.watch_machine.specs.declared.command.Request.{Request}
@@ -23,6 +23,7 @@ use Rattle.house_ledger.specs.Keeping.{KeepCall}
 use Rattle.house_words.specs.Outcomes.{Why}
 use Rattle.keep_house.specs.Nexts.{HearsNext}
 use Rattle.keep_house.specs.Looks.{LooksAround}
+use Rattle.keep_house.specs.Rests.{Rests}
 use Rattle.house_log.specs.Wants.{HearsTime, HearsUnmade, HearsWanting}
 use Rattle.keep_house.specs.declared.house.House.{House}
 
@@ -83,3 +84,4 @@ module _ {S T D K E : Type 0} (given : S → Option (List ℕ)) (failures tries 
   DoesToHouse (GoOn is_busy) old new = (agent : Agent) × ((now : Reading) × HouseGoesOn agent now is_busy old new)
   DoesToHouse (Give change) old new = (agent : Agent) × ((now : Reading) × AsksFor does rows path reads gives agent now change old new)
   DoesToHouse (Settle is_made) old new = (agent : Agent) × SettlesChange does agent is_made old new
+  DoesToHouse (Rest now rest) old new = (new ≡ old) × Rests does now rest old

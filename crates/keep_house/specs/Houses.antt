@@ -31,10 +31,11 @@ use Rattle.keep_house.specs.declared.house.House.{House}
 
 -- ---- what the agent does not know of itself
 
--- what was said last of the next time of an entry, how the inventory's file was last read, how many lines of the log were dropped, and
--- the wall's clock, in milliseconds
-abbrev pub around_of : Option (Option Next) → FileReading → ℕ → ℕ → Surroundings
-around_of next file dropped wall = record { wall = wall / 1000; next_wake = next_wake_of next; file = file; dropped_lines = dropped; dropped_alerts = 0 }
+-- what was said last of the next time of an entry, how the inventory's file was last read, whether something keeps changes, how many lines
+-- of the log were dropped, and the wall's clock, in milliseconds
+abbrev pub around_of : Option (Option Next) → FileReading → Bool → ℕ → ℕ → Surroundings
+around_of next file keeps dropped wall =
+    record { wall = wall / 1000; next_wake = next_wake_of next; file = file; keeps_changes = keeps; dropped_lines = dropped; dropped_alerts = 0 }
 
 -- ---- a turn
 
@@ -67,8 +68,8 @@ pub record Attends {S T D K E : Type 0} (given : S → Option (List ℕ)) (failu
   pub gives : ReaderIsGiven old.desk.form (second_of now.wall) old.desk.room.log room (given old.sink) (given new.sink) (failures old.sink) (failures new.sink) is_more
   pub few : tries new.sink ≤ tries old.sink + MOST_TRIES
   pub follow : FollowersGoOn old.desk.form (second_of now.wall) (record old.desk.room { log = room }) rooms old.control fed
-  pub onlookers : OnlookersGoOn remaining written calls log agent (around_of old.next old.file rooms.log.dropped now.wall) now shown old.onlookers new.onlookers
-  pub clients : ClientsGoOn remaining written calls log agent (around_of old.next old.file rooms.log.dropped now.wall) now answered fed new.control
+  pub onlookers : OnlookersGoOn remaining written calls log agent (around_of old.next old.file (is_some old.state) rooms.log.dropped now.wall) now shown old.onlookers new.onlookers
+  pub clients : ClientsGoOn remaining written calls log agent (around_of old.next old.file (is_some old.state) rooms.log.dropped now.wall) now answered fed new.control
   pub desk : HearsWant agent (shown.is_enough && answered.is_enough) (record old.desk { room = rooms }) new.desk
   pub rest : new ≡ record old { desk = new.desk; sink = new.sink; control = new.control; onlookers = new.onlookers }
   pub more : goes_on ≡ (is_more || (shown.is_busy || answered.is_busy))

@@ -6,4 +6,5 @@ pub mod Admitting
 pub mod Awaiting
 pub mod Commands
 pub mod Looks
+pub mod Rests
 pub mod Doing

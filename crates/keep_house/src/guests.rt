@@ -1,5 +1,5 @@
 //! What each neighbour is given of a turn.
-ghost use Rattle.std.specs.Prelude.{◌≡◌, ◌+◌, ◌≤◌, ◌&&◌, ◌||◌};
+ghost use Rattle.std.specs.Prelude.{◌≡◌, ◌+◌, ◌≤◌, ◌&&◌, ◌||◌, is_some};
 ghost use Rattle.keep_log.specs.declared.writing.TheConstants.{MOST_TRIES};
 ghost use Rattle.house_log.specs.Feeding.{FollowersGoOn};
 ghost use Rattle.house_words.specs.Moments.{second_of};
@@ -61,12 +61,13 @@ impl<S, T: Talk, D: Door<T>, K, E> House<S, T, D, K, E> {
 impl<S, T, D, K, E> House<S, T, D, K, E> {
     /// What is around the agent at a moment.
     fn around(&self, now: Reading) -> Surroundings
-        ensures { result ≡ around_of self.now.next self.now.file self.now.desk.room.log.dropped now.wall }
+        ensures { result ≡ around_of self.now.next self.now.file (is_some self.now.state) self.now.desk.room.log.dropped now.wall }
     {
         Surroundings {
             wall: now.wall / 1000,
             next_wake: next_wake_of(self.next),
             file: self.file,
+            keeps_changes: self.state.is_some(),
             dropped_lines: self.desk.room().dropped(),
             dropped_alerts: 0,
         }

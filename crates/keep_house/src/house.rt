@@ -117,4 +117,8 @@ impl<S: LogSink, T: Talk, D: Door<T>, K: Keeping, E: Disk> Neighbours for House<
         self.settle_given(alloc, agent, is_made);
         self.desk.hear_unmade(alloc, agent, is_made);
     }
+
+    fn rest(&self, now: u64) -> Option<u64> {
+        self.rest_for(now)
+    }
 }

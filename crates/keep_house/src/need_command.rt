@@ -38,7 +38,7 @@ impl<S, T: Talk, D: Door<T>, K: Keeping, E> House<S, T, D, K, E> {
         }
     }
 
-    // Gives it, where the agent has the entry; otherwise it holds with the rebuilding that is to come.
+    // Gives it, where the agent has the entry; otherwise it holds with the inventory that is to come.
     fn give_need(
         &mut self,
         alloc: Global,

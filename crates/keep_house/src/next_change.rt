@@ -1,6 +1,6 @@
 //! What clients ask for is carried out, and what is given of it to the loop is settled.
 ghost use Rattle.std.specs.Prelude.{Some};
-ghost use Rattle.keep_house.specs.Commands.{AsksFor, CarriesOut, GoesOnWithClients, IsGivenWith, RebuildingIsDue, ServesClients, SettlesAnswer, SettlesAside, SettlesGiven, SettlesNeed, SettlesServed, SettlesUnchanged, StateIsRebuilt, TellsNeed};
+ghost use Rattle.keep_house.specs.Commands.{AsksFor, CarriesOut, GoesOnWithClients, InventoryIsDue, IsGivenWith, ServesClients, SettlesAnswer, SettlesAside, SettlesGiven, SettlesNeed, SettlesServed, SettlesUnchanged, StateIsServed, TellsNeed};
 ghost use Rattle.keep_house.specs.Houses.{ClientsAsk};
 ghost use Rattle.keep_lines.specs.Text.{name_of};
 
@@ -9,7 +9,7 @@ use crate::given::{Given, GivenNeed};
 use crate::house::House;
 use house_ledger::Keeping;
 use house_log::{Mark, fresh_marks};
-use house_words::{done_reply, need_line};
+use house_words::{need_line, need_reply};
 use keep_agent::Agent;
 use keep_answering::{Asked, Control};
 use keep_change::What;
@@ -23,7 +23,7 @@ use std::alloc::{AllocError, Global};
 use std::mem;
 
 impl<S, T: Talk, D: Door<T>, K: Keeping, E> House<S, T, D, K, E> {
-    /// The next change that the loop is to make: the inventory of a rebuilding that is due; else the change that has waited for the
+    /// The next change that the loop is to make: the inventory that is due; else the change that has waited for the
     /// broker's word, once that is there; else what the first of the clients asks for whose line has ended is carried out. Its client
     /// is told what came of it once the change is settled. Where memory was wanting, there is no change, and that is said.
     pub fn next_change(&mut self, alloc: Global, agent: &Agent, now: Reading) -> Option<Change>
@@ -85,7 +85,7 @@ impl<S, T: Talk, D: Door<T>, K: Keeping, E> House<S, T, D, K, E> {
     }
 
     /// What was given last is settled: its client is told what came of it; where it was not made, it is told nothing, and its
-    /// connection is closed. From a rebuilding on no change waits for it.
+    /// connection is closed. Once the inventory that was due is served, no change waits for it.
     pub fn settle_given(&mut self, alloc: Global, agent: &Agent, is_made: bool)
         ensures { SettlesGiven K.does agent.now is_made self.old self.new }
     {
@@ -111,14 +111,15 @@ impl<S, T: Talk, D: Door<T>, K: Keeping, E> House<S, T, D, K, E> {
         }
     }
 
-    // The log says that the entry is needed until then, and its client is told.
+    // The log says that the entry is needed until then, and its client is told; where nothing keeps changes, also that a restart ends it.
     fn tell_need(&mut self, alloc: Global, agent: &Agent, need: GivenNeed)
         ensures { TellsNeed agent.now (name_of agent.now.inventory.forest need.entry) need.until need.at self.old self.new }
     {
         let name = name_of(agent.inventory().forest(), need.entry);
         let line = need_line(alloc, name, need.until).ok();
         self.desk.hear_need(alloc, agent, name, need.until);
-        self.send(alloc, agent, done_reply(alloc, line), need.at);
+        let reply = need_reply(alloc, line, self.state.is_some());
+        self.send(alloc, agent, reply, need.at);
     }
 
     fn settle_answer(
@@ -160,7 +161,7 @@ impl<S, T: Talk, D: Door<T>, K: Keeping, E> House<S, T, D, K, E> {
         ensures { SettlesServed K.does agent.now is_made marks.items self.old self.new }
     {
         if is_made {
-            rebuilt(&mut self.state);
+            mark_served(&mut self.state);
             self.desk.serve(agent, marks);
         }
     }
@@ -169,7 +170,7 @@ impl<S, T: Talk, D: Door<T>, K: Keeping, E> House<S, T, D, K, E> {
         ensures { SettlesUnchanged K.does is_made self.old self.new }
     {
         if is_made {
-            rebuilt(&mut self.state);
+            mark_served(&mut self.state);
         }
     }
 }
@@ -185,13 +186,13 @@ fn given_with(agent: &Agent, inventory: &Inventory, marks: Vec<Mark>) -> Given
     }
 }
 
-// The inventory of a rebuilding that is due, and fresh marks for its entries. The only error is out of memory.
+// The inventory that is due, and fresh marks for its entries. The only error is out of memory.
 fn due_with_marks<K: Keeping>(
     alloc: Global,
     state: &Option<K>,
     now: Reading,
 ) -> Result<Option<(Inventory, Vec<Mark>)>, AllocError>
-    ensures { RebuildingIsDue K.gives now result state.now }
+    ensures { InventoryIsDue K.gives now result state.now }
 {
     let Some(state) = state else {
         return Ok(None);
@@ -217,11 +218,11 @@ fn asked_of<T: Talk, D: Door<T>>(
     }
 }
 
-// The rebuilding was made, where something keeps changes.
-fn rebuilt<K: Keeping>(state: &mut Option<K>)
-    ensures { StateIsRebuilt K.does state.old state.new }
+// The inventory that was due is served, where something keeps changes.
+fn mark_served<K: Keeping>(state: &mut Option<K>)
+    ensures { StateIsServed K.does state.old state.new }
 {
     if let Some(state) = state {
-        state.rebuilt();
+        state.mark_served();
     }
 }

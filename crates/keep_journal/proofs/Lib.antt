@@ -2,3 +2,4 @@ mod Readings
 pub mod Steps
 mod Writing
 pub mod Runs
+mod Lives

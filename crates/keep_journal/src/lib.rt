@@ -11,5 +11,5 @@ mod records;
 
 pub use exchange::COMPACT_AT;
 pub use journal::{Journal, MOST_BYTES};
-pub use laws::records_are_read_back;
+pub use laws::{records_are_read_back, what_was_acknowledged_holds};
 pub use records::is_line;

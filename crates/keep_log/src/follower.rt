@@ -1,4 +1,4 @@
-ghost use Rattle.std.specs.Prelude.{◌≡◌, IfOk, [], false};
+ghost use Rattle.std.specs.Prelude.{◌≡◌, IfOk, None, [], false};
 ghost use Rattle.keep_log.specs.Following.{hears, missed_line, put_if_heard};
 ghost use Rattle.keep_log.specs.declared.room.TheConstants.{FOLLOWER_ROOM};
 
@@ -25,7 +25,7 @@ impl Follower {
         ensures { IfOk result (λ f. f ≡ record {
           id = id;
           alerts_alone = alerts_alone;
-          room = record { bytes = []; room = FOLLOWER_ROOM; is_begun = false; untold = 0; dropped = 0 };
+          room = record { bytes = []; room = FOLLOWER_ROOM; is_begun = false; notice = None; untold = 0; dropped = 0 };
           has_gone = false;
         }) }
     {

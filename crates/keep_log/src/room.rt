@@ -1,8 +1,8 @@
-ghost use Rattle.std.specs.Prelude.{◌≡◌, ◌+◌, ◌≤◌, [], IfOk, false, length, min, take};
+ghost use Rattle.std.specs.Prelude.{◌≡◌, ◌+◌, ◌≤◌, [], IfOk, None, false, length, min, take};
 ghost use Rattle.std.specs.Io.KnownBytes.{Appends};
 ghost use Rattle.keep_log.specs.declared.writing.TheConstants.{MOST_TRIES};
 ghost use Rattle.keep_log.specs.Turns.{TurnIsMade};
-ghost use Rattle.keep_log.specs.Waiting.{after_turn, closed_if, closed_waiting, dropping, giving, with_line, with_notice};
+ghost use Rattle.keep_log.specs.Waiting.{after_turn, closed_if, closed_waiting, dropping, giving, is_free, notice_after, noticed, with_line, with_notice};
 
 use crate::sink::LogSink;
 use crate::writing::{MOST_TRIES, feeds, line_length, write_out};
@@ -15,12 +15,20 @@ pub const LOG_ROOM: usize = 1_048_576;
 /// The bytes of lines that wait for one who follows the log at most: 64 KiB.
 pub const FOLLOWER_ROOM: usize = 65_536;
 
+/// The line that tells of dropped lines, where it waits: of how many it tells, and the bytes up to its end.
+#[derive(Clone, Copy, Debug)]
+pub(crate) struct Notice {
+    pub(crate) lines: u64,
+    pub(crate) end: usize,
+}
+
 /// Whole lines that wait for their reader. Its memory is taken when it is made, and no more later.
 #[derive(Debug, Drop)]
 pub struct LogRoom {
     bytes: Vec<u8>,
     room: usize,
     is_begun: bool,
+    notice: Option<Notice>,
     untold: u64,
     dropped: u64,
 }
@@ -31,7 +39,7 @@ impl Model for LogRoom {
 
     ghost Value = { Waiting };
 
-    ghost view = { λ r. record { bytes = r.bytes.items; room = r.room; is_begun = r.is_begun; untold = r.untold; dropped = r.dropped } };
+    ghost view = { λ r. record { bytes = r.bytes.items; room = r.room; is_begun = r.is_begun; notice = r.notice; untold = r.untold; dropped = r.dropped } };
 
     ghost invariant = { λ r. (vec_len r.bytes ≤ r.room) × (r.room ≤ vec_capacity r.bytes) };
 }
@@ -39,12 +47,13 @@ impl Model for LogRoom {
 impl LogRoom {
     /// A room for so many bytes, in which nothing waits. The only error is lack of memory.
     pub fn new(alloc: Global, room: usize) -> Result<LogRoom, AllocError>
-        ensures { IfOk result (λ r. r ≡ record { bytes = []; room = room; is_begun = false; untold = 0; dropped = 0 }) }
+        ensures { IfOk result (λ r. r ≡ record { bytes = []; room = room; is_begun = false; notice = None; untold = 0; dropped = 0 }) }
     {
         Ok(LogRoom {
             bytes: Vec::with_capacity(alloc, room)?,
             room,
             is_begun: false,
+            notice: None,
             untold: 0,
             dropped: 0,
         })
@@ -60,6 +69,7 @@ impl LogRoom {
             bytes,
             room: self.room,
             is_begun: self.is_begun,
+            notice: self.notice,
             untold: self.untold,
             dropped: self.dropped,
         })
@@ -72,7 +82,7 @@ impl LogRoom {
         &self.bytes
     }
 
-    /// How many lines were dropped of which no line has told yet. At 18446744073709551615 the count stays.
+    /// How many lines were dropped of which no line tells, neither one that waits nor one that was given. At 18446744073709551615 the count stays.
     pub fn untold(&self) -> u64
         ensures { result ≡ self.now.untold }
     {
@@ -87,28 +97,31 @@ impl LogRoom {
     }
 
     /// Takes a line, with its line feed, or drops it and counts it where there is no room for all of it. Where lines were dropped
-    /// before, `notice`, the line that tells of them, is put in their place: both are taken, or neither.
+    /// before, `notice`, the line that tells of them, is put in their place: both are taken, or neither. Neither is while another
+    /// notice waits.
     pub fn put(&mut self, notice: &[u8], line: &[u8])
         ensures { self.new ≡ with_line notice.now line.now self.old }
     {
         let notice = if self.untold == 0 { &[] } else { notice };
         let left = self.room - self.bytes.len();
-        if notice.len() <= left && line.len() <= left - notice.len() {
-            self.bytes.extend_from_slice(notice).unwrap();
+        if self.is_free() && notice.len() <= left && line.len() <= left - notice.len() {
+            self.push_notice(notice);
             self.bytes.extend_from_slice(line).unwrap();
-            self.untold = 0;
         } else {
             self.count(1);
         }
     }
 
-    /// Puts `notice`, the line that tells of dropped lines, in their place, if there are any and there is room for it.
+    /// Puts `notice`, the line that tells of dropped lines, in their place, if there are any, there is room for it, and no other
+    /// notice waits.
     pub fn tell(&mut self, notice: &[u8])
         ensures { self.new ≡ with_notice notice.now self.old }
     {
-        if self.untold > 0 && notice.len() <= self.room - self.bytes.len() {
-            self.bytes.extend_from_slice(notice).unwrap();
-            self.untold = 0;
+        if self.untold > 0
+            && self.notice.is_none()
+            && notice.len() <= self.room - self.bytes.len()
+        {
+            self.push_notice(notice);
         }
     }
 
@@ -148,9 +161,33 @@ impl LogRoom {
             self.is_begun = self.bytes[taken - 1] != b'\n';
             self.bytes.drain(..taken);
         }
+        self.notice = notice_after(taken, self.notice);
     }
 
-    // Drops what waits, but for the rest of a line whose front was given.
+    // Whether a notice may be put, or none is due.
+    fn is_free(&self) -> bool
+        ensures { result ≡ is_free self.now }
+    {
+        self.untold == 0 || self.notice.is_none()
+    }
+
+    // Puts the notice, where one is due.
+    fn push_notice(&mut self, notice: &[u8])
+        requires { length self.now.bytes + length notice.now ≤ self.now.room }
+        ensures { self.new ≡ noticed notice.now self.old }
+    {
+        if self.untold > 0 {
+            self.bytes.extend_from_slice(notice).unwrap();
+            self.notice = Some(Notice {
+                lines: self.untold,
+                end: self.bytes.len(),
+            });
+            self.untold = 0;
+        }
+    }
+
+    // Drops what waits, but for the rest of a line whose front was given. Of what a notice that is dropped would have told, no line
+    // tells any more.
     fn close(&mut self)
         ensures { self.new ≡ closed_waiting self.old }
     {
@@ -159,9 +196,16 @@ impl LogRoom {
         } else {
             0
         };
-        let lines = feeds(&self.bytes[kept..]);
+        let lines = feeds(&self.bytes[kept..]) as u64;
         self.bytes.truncate(kept);
-        self.count(lines as u64);
+        match self.notice {
+            Some(notice) if notice.end > kept => {
+                self.notice = None;
+                self.untold = self.untold.saturating_add(notice.lines);
+                self.count(lines.saturating_sub(1));
+            }
+            _ => self.count(lines),
+        }
     }
 
     // Counts lines that are dropped.
@@ -170,5 +214,18 @@ impl LogRoom {
     {
         self.untold = self.untold.saturating_add(lines);
         self.dropped = self.dropped.saturating_add(lines);
+    }
+}
+
+// The notice that still waits behind the bytes that were given, and where it ends then.
+fn notice_after(taken: usize, notice: Option<Notice>) -> Option<Notice>
+    ensures { result ≡ notice_after taken notice }
+{
+    match notice {
+        Some(notice) if taken < notice.end => Some(Notice {
+            lines: notice.lines,
+            end: notice.end - taken,
+        }),
+        _ => None,
     }
 }

@@ -31,6 +31,7 @@ figure_kind figures.ClockOffset = Gauge
 figure_kind figures.FileIsGood = Gauge
 figure_kind figures.FileRead = Gauge
 figure_kind figures.FileReadGood = Gauge
+figure_kind figures.ChangesAreKept = Gauge
 figure_kind figures.Beginnings = Counter
 figure_kind figures.DroppedLines = Counter
 figure_kind figures.DroppedAlerts = Counter
@@ -43,6 +44,7 @@ figure_name figures.ClockOffset = codes "clock_offset_seconds"
 figure_name figures.FileIsGood = codes "config_last_reload_successful"
 figure_name figures.FileRead = codes "config_last_reload_timestamp_seconds"
 figure_name figures.FileReadGood = codes "config_last_reload_success_timestamp_seconds"
+figure_name figures.ChangesAreKept = codes "changes_kept"
 figure_name figures.Beginnings = codes "beginnings"
 figure_name figures.DroppedLines = codes "log_dropped_lines"
 figure_name figures.DroppedAlerts = codes "alerts_dropped"
@@ -55,6 +57,7 @@ figure_help figures.ClockOffset = codes "How far the broker's clock is ahead of 
 figure_help figures.FileIsGood = codes "Whether the inventory's file was good when it was last read."
 figure_help figures.FileRead = codes "When the file was last read."
 figure_help figures.FileReadGood = codes "When the file was last read and good."
+figure_help figures.ChangesAreKept = codes "Whether changes are kept over a restart."
 figure_help figures.Beginnings = codes "Beginnings: everything is looked up."
 figure_help figures.DroppedLines = codes "Log lines that nobody took."
 figure_help figures.DroppedAlerts = codes "Warnings and alerts that no program was run with."
@@ -174,7 +177,9 @@ counts_text format b =
     ++ figure_text format figures.DroppedAlerts (Some b.surroundings.dropped_alerts)
 
 unfoldable pub agent_text : Format → Board → List ℕ
-agent_text format b = clocks_text format b ++ file_text format b.surroundings.file ++ counts_text format b
+agent_text format b =
+    clocks_text format b ++ file_text format b.surroundings.file ++ figure_text format figures.ChangesAreKept (Some (one_if b.surroundings.keeps_changes))
+    ++ counts_text format b
 
 -- ---- the entries
 

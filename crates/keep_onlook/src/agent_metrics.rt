@@ -18,8 +18,11 @@ pub(crate) fn push_agent(
 ) -> Result<(), AllocError>
     ensures { OnOk result (text.new.items ≡ text.old.items ++ agent_text format board.now) }
 {
+    let around = board.surroundings;
+    let keeps_changes = Some(one_if(around.keeps_changes));
     push_clocks(alloc, format, board, text)?;
-    push_file(alloc, format, board.surroundings.file, text)?;
+    push_file(alloc, format, around.file, text)?;
+    push_figure(alloc, format, Figure::ChangesAreKept, keeps_changes, text)?;
     push_counts(alloc, format, board, text)
 }
 

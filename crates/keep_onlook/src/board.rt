@@ -23,6 +23,8 @@ pub struct Surroundings {
     pub next_wake: Option<u64>,
     /// How the inventory's file was last read.
     pub file: FileReading,
+    /// Whether changes are kept over a restart.
+    pub keeps_changes: bool,
     /// How many lines of the log were dropped.
     pub dropped_lines: u64,
     /// How many warnings and alerts were dropped before whoever follows them took them.

@@ -23,6 +23,7 @@ pub(crate) enum Figure {
     FileIsGood,
     FileRead,
     FileReadGood,
+    ChangesAreKept,
     Beginnings,
     DroppedLines,
     DroppedAlerts,
@@ -40,7 +41,8 @@ impl Figure {
             | Figure::ClockOffset
             | Figure::FileIsGood
             | Figure::FileRead
-            | Figure::FileReadGood => FamilyKind::Gauge,
+            | Figure::FileReadGood
+            | Figure::ChangesAreKept => FamilyKind::Gauge,
             Figure::Beginnings | Figure::DroppedLines | Figure::DroppedAlerts =>
                 FamilyKind::Counter,
         }
@@ -59,6 +61,7 @@ impl Figure {
             Figure::FileIsGood => "config_last_reload_successful",
             Figure::FileRead => "config_last_reload_timestamp_seconds",
             Figure::FileReadGood => "config_last_reload_success_timestamp_seconds",
+            Figure::ChangesAreKept => "changes_kept",
             Figure::Beginnings => "beginnings",
             Figure::DroppedLines => "log_dropped_lines",
             Figure::DroppedAlerts => "alerts_dropped",
@@ -79,6 +82,7 @@ impl Figure {
             Figure::FileIsGood => "Whether the inventory's file was good when it was last read.",
             Figure::FileRead => "When the file was last read.",
             Figure::FileReadGood => "When the file was last read and good.",
+            Figure::ChangesAreKept => "Whether changes are kept over a restart.",
             Figure::Beginnings => "Beginnings: everything is looked up.",
             Figure::DroppedLines => "Log lines that nobody took.",
             Figure::DroppedAlerts => "Warnings and alerts that no program was run with.",

@@ -110,8 +110,12 @@ pub record IsBegun (looking : Looking) : Type 0 where
   pub next : looking.next ≡ 0
   pub from : looking.from ≡ 0
 
--- the next begins two seconds later. Marks of rows that went are not kept for ever
+-- the next begins in the first turn ten seconds later. Marks of rows that went are not kept for ever
 pub record IsPassed (now : ℕ) (old new : Looking) : Type 0 where
   pub marks : new.marks.items ≡ (if nat_lt MOST_MARKS (length old.marks.items) then [] else old.marks.items)
   pub next : new.next ≡ 0
   pub from : new.from ≡ min (now + LOOK_EVERY) NEVER
+
+-- a pass begins in the next turn
+abbrev pub begun_anew : Looking → Looking
+begun_anew looking = record looking { next = 0; from = 0 }

@@ -108,7 +108,7 @@ abbrev pub is_confirmed : Option FileSeen → Option FileStamp → Bool
 is_confirmed None stamp = false
 is_confirmed (Some seen) stamp = is_none seen.trouble && is_same_found seen.stamp stamp
 
--- once more after two seconds, and then never, as long as its stamp stays the same
+-- once more after ten seconds, and then never, as long as its stamp stays the same
 abbrev pub again_after : Option FileSeen → Option FileStamp → ℕ → ℕ
 again_after before stamp now = if is_confirmed before stamp then NEVER else min (now + LOOK_EVERY) NEVER
 
@@ -123,7 +123,7 @@ pause_in (Some seen) = seen.pause
 abbrev pub doubled_pause : ℕ → ℕ
 doubled_pause pause = if nat_lt pause 150000 then pause * 2 else LONGEST_PAUSE
 
--- after two seconds, and then each time after twice as long, and after five minutes at most
+-- after ten seconds, and then each time after twice as long, and after five minutes at most
 abbrev pub pause_after : Option FileSeen → Option FileStamp → ℕ
 pause_after before stamp = if is_troubled_still before stamp then doubled_pause (pause_in before) else LOOK_EVERY
 

@@ -3,7 +3,7 @@ ghost use Rattle.std.specs.Prelude.{◌≡◌, IfOk, drop, option_map};
 ghost use Rattle.std.specs.List.{position};
 ghost use Rattle.keep_store.specs.Handed.{is_of, taken_from};
 ghost use Rattle.keep_secrets.specs.Credentials.{placed};
-ghost use Rattle.keep_secrets.specs.Looking.{IsBegun, IsDueFile, IsPassed, MaySet, Passes, Steps, is_held, is_mark_of, is_to_be_read, seen_of};
+ghost use Rattle.keep_secrets.specs.Looking.{IsBegun, IsDueFile, IsPassed, MaySet, Passes, Steps, begun_anew, is_held, is_mark_of, is_to_be_read, seen_of};
 
 use crate::place::placed;
 use crate::secret_files::{FileStamp, SecretFiles, is_same_found};
@@ -15,8 +15,8 @@ use std::alloc::{AllocError, Global};
 /// The files of which the stamps are looked at in one turn at most.
 pub const MOST_LOOKS: usize = 64;
 
-/// The time from the end of one pass over the files to the next, in milliseconds.
-pub const LOOK_EVERY: u64 = 2000;
+/// The time from the end of one pass over the files to the next, in milliseconds; that comes in the first turn from then on.
+pub const LOOK_EVERY: u64 = 10_000;
 
 /// The marks that are kept at most: twice as many as an inventory has entries. Where there are more at the end of a pass, all are
 /// forgotten, and each file is read anew.
@@ -198,6 +198,14 @@ impl Looking {
         }
         self.next = 0;
         self.from = now.saturating_add(LOOK_EVERY);
+    }
+
+    /// A pass begins in the next turn.
+    pub fn begin_anew(&mut self)
+        ensures { self.new ≡ begun_anew self.old }
+    {
+        self.next = 0;
+        self.from = 0;
     }
 }
 

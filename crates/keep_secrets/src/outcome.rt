@@ -159,7 +159,7 @@ pub fn seen_after(
     }
 }
 
-// From when on a file in which nothing is wrong is read again: once more after two seconds, since two writes within one tick of the
+// From when on a file in which nothing is wrong is read again: once more in the next pass, since two writes within one tick of the
 // disk's clock may leave one stamp.
 fn again_after(before: Option<FileSeen>, stamp: Option<FileStamp>, now: u64) -> u64
     ensures { result ≡ again_after before stamp now }

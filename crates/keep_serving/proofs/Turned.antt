@@ -9,7 +9,7 @@ use Rattle.keep_serving.specs.declared.change.Change.{Change}
 
 -- no clock could be read
 abbrev pub unread : ServingTurn
-unread = record { reading = None; is_whole = false; made = None; is_busy = false; due = 0; millis = 100 }
+unread = record { reading = None; is_whole = false; made = None; is_busy = false; due = 0; rest = None; millis = 100 }
 
 pub unread_turn : (port : ℕ) (s : ServingSide) → IsServingTurn port s unread s
 unread_turn port s = record { mid = s; hears = (refl, refl); made = refl; waits = refl }
@@ -22,10 +22,10 @@ pub given_none : (a : Option (List Change)) → AllGiven [] a a
 given_none None = tt
 given_none (Some given) = (given, (refl, sym (append_none given)))
 
-abbrev pub turned : Reading → Bool → Option MadeChange → Bool → ℕ → ℕ → ServingTurn
-turned r is_whole made is_busy due millis = record { reading = Some r; is_whole = is_whole; made = made; is_busy = is_busy; due = due; millis = millis }
+abbrev pub turned : Reading → Bool → Option MadeChange → Bool → ℕ → Option ℕ → ℕ → ServingTurn
+turned r is_whole made is_busy due rest millis = record { reading = Some r; is_whole = is_whole; made = made; is_busy = is_busy; due = due; rest = rest; millis = millis }
 
 pub whole_turn :
-    (port : ℕ) (r : Reading) (is_whole is_busy : Bool) (made : Option MadeChange) (due millis : ℕ) (old mid new : ServingSide) → LeftOverGoesFirst port r old is_whole mid → OneIsMade made mid new →
-    millis ≡ turn_wait_by (is_one_made made || is_busy) is_whole new.held.until due (Some r) → IsServingTurn port old (turned r is_whole made is_busy due millis) new
-whole_turn port r is_whole is_busy made due millis old mid new goes is waits = record { mid = mid; hears = goes; made = is; waits = waits }
+    (port : ℕ) (r : Reading) (is_whole is_busy : Bool) (made : Option MadeChange) (due : ℕ) (rest : Option ℕ) (millis : ℕ) (old mid new : ServingSide) → LeftOverGoesFirst port r old is_whole mid → OneIsMade made mid new →
+    millis ≡ turn_wait_by (is_one_made made || is_busy) is_whole new.held due rest (Some r) → IsServingTurn port old (turned r is_whole made is_busy due rest millis) new
+whole_turn port r is_whole is_busy made due rest millis old mid new goes is waits = record { mid = mid; hears = goes; made = is; waits = waits }

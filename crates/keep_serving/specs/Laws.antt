@@ -1,6 +1,6 @@
 -- Laws: what holds of all turns. The contract of a public function without a body.
 -- Source: this project's own.
-use Rattle.std.specs.Prelude.{◌≡◌, ℕ, ◌+◌, ◌-◌, ◌≤◌, Bool, true, List, Some, length}
+use Rattle.std.specs.Prelude.{◌≡◌, ℕ, ◌+◌, ◌-◌, ◌≤◌, Bool, true, List, Some, IfSome, length}
 use Rattle.std.specs.List.{All}
 use Rattle.keep_clock.specs.declared.reading.Reading.{Reading}
 use Rattle.watch_machine.specs.History.{AllHappen, Happening, state_after_all}
@@ -10,7 +10,7 @@ use Rattle.keep_serving.specs.Happenings.{happenings_of}
 use Rattle.keep_serving.specs.Held.{Held, ServingSide}
 use Rattle.keep_serving.specs.Neighbours.{calls_in}
 use Rattle.keep_serving.specs.Runs.{AreTurns}
-use Rattle.keep_serving.specs.Turns.{IsServingTurn, ServingTurn}
+use Rattle.keep_serving.specs.Turns.{IsServingTurn, ServingTurn, longest_wait}
 use Rattle.keep_serving.specs.Words.{AllAreWordsOf, AllFollow, Suffices, Words}
 
 -- what happens to a Watch leads from the one state to the other
@@ -33,15 +33,17 @@ WordsLaw =
 abbrev pub OneWayLaw : Type 0
 OneWayLaw = (words : List Words) (old a b : Held) (sent out : List (List Request)) → AllFollow words old sent a → AllFollow words old out b → (out ≡ sent) × (b ≡ a)
 
--- a turn waits for a second at most, and where the time was handed in never past the Watch's moment
+-- a turn waits no longer than the longest wait by the margin that is served, and where the time was handed in never past the Watch's
+-- moment, nor longer than the neighbours may be left alone
 abbrev pub TurnWaitLaw : Type 0
 TurnWaitLaw =
     (port : ℕ) (old new : ServingSide) (t : ServingTurn) → IsServingTurn port old t new →
-    (t.millis ≤ 1000) × ((r : Reading) → t.reading ≡ Some r → t.is_whole ≡ true → t.millis ≤ new.held.until - r.elapsed)
+    (t.millis ≤ longest_wait new.held.agent.inventory.forest.margin)
+    × ((r : Reading) → t.reading ≡ Some r → t.is_whole ≡ true → (t.millis ≤ new.held.until - r.elapsed) × IfSome t.rest (λ rest. t.millis ≤ rest))
 
--- and it calls its neighbours five times at most, and once more where memory was wanting, and once more for each answer of which they
+-- and it calls its neighbours six times at most, and once more where memory was wanting, and once more for each answer of which they
 -- hear
 abbrev pub CallsLaw : Type 0
 CallsLaw =
     (answers : ℕ) (is_handed : Bool) (t : ServingTurn) →
-    (length (calls_in answers is_handed t) ≤ answers + 6) × (t.is_whole ≡ true → length (calls_in answers is_handed t) ≤ answers + 5)
+    (length (calls_in answers is_handed t) ≤ answers + 7) × (t.is_whole ≡ true → length (calls_in answers is_handed t) ≤ answers + 6)

@@ -26,12 +26,13 @@ thing_of happened.Refused = Needs
 thing_of happened.Wanting = Want
 
 -- they hear of something; they go on, and could do more at once or not; they are asked for a change, and give one or none; they are
--- told whether it was made
+-- told whether it was made; at a moment they are asked for how long they may be left alone, and say so or do not
 pub data NeighbourCall : Type 0 where
   Hear : Thing → NeighbourCall
   GoOn : Bool → NeighbourCall
   Give : Option Change → NeighbourCall
   Settle : Bool → NeighbourCall
+  Rest : ℕ → Option ℕ → NeighbourCall
 
 -- they were called for these, one after another, and nothing else was done to them
 abbrev pub AllCalled : {N : Type 0} → (NeighbourCall → N → N → Type 0) → List NeighbourCall → N → N → Type 0
@@ -58,10 +59,15 @@ abbrev pub calls_for_change : Option MadeChange → List NeighbourCall
 calls_for_change None = Give None ∷ []
 calls_for_change (Some m) = Give (Some m.change) ∷ Settle m.is_made ∷ []
 
--- at readings they hear, go on, once, and are asked for a change; where the clocks could not be read they are not called
+-- and then for how long they may be left alone
+abbrev pub calls_after : Reading → ServingTurn → List NeighbourCall
+calls_after r t = calls_for_change t.made ++ Rest r.elapsed t.rest ∷ []
+
+-- at readings they hear, go on, once, are asked for a change, and for how long they may be left alone; where the clocks could not be read
+-- they are not called
 abbrev pub calls_at : Option Reading → ℕ → Bool → ServingTurn → List NeighbourCall
 calls_at None answers is_handed t = []
-calls_at (Some r) answers is_handed t = calls_of_hearing answers is_handed ++ (heard_of_want t.is_whole ++ GoOn t.is_busy ∷ calls_for_change t.made)
+calls_at (Some r) answers is_handed t = calls_of_hearing answers is_handed ++ (heard_of_want t.is_whole ++ GoOn t.is_busy ∷ calls_after r t)
 
 abbrev pub calls_in : ℕ → Bool → ServingTurn → List NeighbourCall
 calls_in answers is_handed t = calls_at t.reading answers is_handed t

@@ -1,13 +1,13 @@
 //! Everything is looked up anew before a day is over, so that agents which began together do not do so together for ever.
 ghost use Rattle.std.specs.Prelude.{◌≡◌, ◌-◌, Bool, IfOk, None, Option, Result, false};
 ghost use Rattle.std.specs.declared.alloc.AllocError.{AllocError};
-ghost use Rattle.keep_serving.specs.Days.{AsksBy, BeginningIsDue, GivesToOthers, SettlesOthers, beginning_after, day_has_passed};
+ghost use Rattle.keep_serving.specs.Days.{AsksBy, BeginningIsDue, GivesToOthers, RestsWith, SettlesOthers, beginning_after, day_due, day_has_passed};
 
 use crate::apart::may_wait;
 use crate::change::Change;
 use crate::neighbours::{Happened, Neighbours};
 use keep_agent::Agent;
-use keep_clock::Reading;
+use keep_clock::{Reading, rest_until, shorter};
 use std::alloc::{AllocError, Global};
 use watch_machine::{Millis, Why};
 
@@ -86,6 +86,18 @@ fn has_come(earlier: Millis, begun: Option<Millis>, now: Millis) -> bool
     }
 }
 
+/// From when on it has.
+fn day_due(earlier: Millis, begun: Option<Millis>) -> Option<Millis>
+    ensures { result ≡ day_due earlier begun }
+{
+    let begun = begun?;
+    if earlier > 0 {
+        Some(begun.saturating_add(DAY.saturating_sub(earlier)))
+    } else {
+        None
+    }
+}
+
 impl<N: Neighbours> EarlyDay<N> {
     /// The others give a change, or everything is to be looked up anew.
     fn give(&mut self, alloc: Global, agent: &Agent, now: Reading) -> Option<Change>
@@ -105,6 +117,16 @@ impl<N: Neighbours> EarlyDay<N> {
         if !self.is_own {
             self.others.settle(alloc, agent, is_made);
         }
+    }
+
+    /// As long as the others may be left alone, and no longer than until it is time to ask.
+    fn rest_with(&self, now: u64) -> Option<u64>
+        ensures { RestsWith N.does now result self.now }
+    {
+        shorter(
+            self.others.rest(now),
+            rest_until(day_due(self.earlier, self.begun), now),
+        )
     }
 }
 
@@ -133,5 +155,9 @@ impl<N: Neighbours> Neighbours for EarlyDay<N> {
 
     fn settle(&mut self, alloc: Global, agent: &Agent, is_made: bool) {
         self.tell(alloc, agent, is_made);
+    }
+
+    fn rest(&self, now: u64) -> Option<u64> {
+        self.rest_with(now)
     }
 }

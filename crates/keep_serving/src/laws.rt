@@ -25,9 +25,10 @@ pub fn nothing_else_is_heard()
     ensures one_way { OneWayLaw }
 {}
 
-/// The law that a turn is bounded: it makes one wait, of at most a second and, where the time was handed in, never past the Watch's
-/// moment; and it calls its neighbours five times at most, once more where memory was wanting, and once more for each answer of which they
-/// hear. Those are no more than there are lanes.
+/// The law that a turn is bounded: it makes one wait, of a sixteenth of the margin that is served at most, but of a second, and of no more
+/// than half a minute; and, where the time was handed in, never past the Watch's moment, nor past that by which the neighbours are to be
+/// called again. It calls its neighbours six times at most, once more where memory was wanting, and once more for each answer of which
+/// they hear. Those are no more than there are lanes.
 pub fn a_turn_is_bounded()
     ensures wait { TurnWaitLaw }
     ensures calls { CallsLaw }

@@ -1,7 +1,7 @@
 //! The neighbours of the loop besides its clock and its broker: clients, onlookers, the log, and the disk.
 ghost use Rattle.std.specs.Prelude.{◌≡◌, List, Option, option_to_list};
 ghost use Rattle.keep_serving.specs.Changes.{AllGiven};
-ghost use Rattle.keep_serving.specs.Neighbours.{Give, GoOn, Hear, NeighbourCall, Settle, thing_of};
+ghost use Rattle.keep_serving.specs.Neighbours.{Give, GoOn, Hear, NeighbourCall, Rest, Settle, thing_of};
 ghost use Rattle.keep_serving.specs.Outlook.{IsToldNext};
 ghost use Rattle.keep_serving.specs.declared.change.Change.{Change};
 
@@ -71,4 +71,9 @@ pub trait Neighbours {
     fn settle(&mut self, alloc: Global, agent: &Agent, is_made: bool)
         ensures given { Self.given self.new ≡ Self.given self.old }
         ensures does { Self.does (Settle is_made) self.old self.new };
+
+    /// For how long they may be left alone, where nothing tells of one of them before, in milliseconds; `None` where as long as may be. It
+    /// is asked at `now`, the moment of the clock that never steps at which they were called.
+    fn rest(&self, now: u64) -> Option<u64>
+        ensures { Self.does (Rest now result) self.now self.now };
 }

@@ -5,17 +5,20 @@ ghost use Rattle.keep_serving.specs.Changes.{AllGiven, given_by};
 ghost use Rattle.keep_serving.specs.Held.{IsInStep, serving_side};
 ghost use Rattle.keep_serving.specs.Neighbours.{AllCalled, AnswersAreHeardOf, AreCalled, heard_of_want};
 ghost use Rattle.keep_serving.specs.Stages.{Commands, HandsInAnswers, LeftOverGoesFirst, OnHeld, TakesAnswers, TakesUp, Then};
-ghost use Rattle.keep_serving.specs.Turns.{IsServingTurn, ServingTurn, calls_of_turn, turn_wait_by, wait_at};
+ghost use Rattle.keep_serving.specs.Turns.{IsServingTurn, ServingTurn, calls_of_turn, longest_wait, turn_wait_by, wait_at};
 
 use crate::neighbours::{Happened, Neighbours};
 use crate::serving::Serving;
 use keep_asking::SeenLanes;
-use keep_clock::{Clock, Reading};
+use keep_clock::{Clock, Reading, no_longer};
 use keep_lanes::Lanes;
 use std::alloc::{AllocError, Global};
 
-/// The longest wait of a turn, in milliseconds.
-pub(crate) const MOST_WAIT: u64 = 1000;
+/// The longest wait is no shorter, in milliseconds.
+pub(crate) const A_SECOND: u64 = 1000;
+
+/// The longest wait is no longer, in milliseconds.
+const HALF_A_MINUTE: u64 = 30_000;
 
 /// The wait where memory is wanting or no clock is read.
 const SHORT_WAIT: u64 = 100;
@@ -63,7 +66,8 @@ impl Serving {
         let is_busy = neighbours.go_on(alloc, &self.agent, reading);
         let is_changed = self.make_change(alloc, reading, lanes, neighbours);
         let due = lanes.due(reading.elapsed, self.until);
-        wait_of(is_changed, is_busy, is_whole, self.until, due, reading)
+        let rest = neighbours.rest(reading.elapsed);
+        self.wait_of(is_changed, is_busy, is_whole, due, rest, reading)
     }
 
     /// Tells the neighbours that memory was wanting, where it was.
@@ -176,32 +180,43 @@ impl Serving {
         self.read(alloc, reading, neighbours)?;
         self.send_all(alloc, lanes)
     }
-}
 
-/// For how long is waited: not at all where a change was made, or a neighbour can go on. (A change that lacked memory is tried again
-/// after a wait, and not in a loop without one.)
-fn wait_of(
-    is_changed: bool,
-    is_busy: bool,
-    is_whole: bool,
-    until: u64,
-    due: u64,
-    reading: Reading,
-) -> u64
-    ensures { result ≡ turn_wait_by (is_changed || is_busy) is_whole until due (Some reading) }
-{
-    if is_changed || is_busy {
-        0
-    } else if is_whole {
-        wait_at(until, due, reading)
-    } else {
-        SHORT_WAIT
+    /// For how long is waited: not at all where a change was made, or a neighbour can go on. (A change that lacked memory is tried again
+    /// after a wait, and not in a loop without one.)
+    fn wait_of(
+        &self,
+        is_changed: bool,
+        is_busy: bool,
+        is_whole: bool,
+        due: u64,
+        rest: Option<u64>,
+        reading: Reading,
+    ) -> u64
+        ensures { result ≡ turn_wait_by (is_changed || is_busy) is_whole self.now due rest (Some reading) }
+    {
+        if is_changed || is_busy {
+            0
+        } else if is_whole {
+            self.wait_at(due, rest, reading.elapsed)
+        } else {
+            SHORT_WAIT
+        }
+    }
+
+    /// Until the Watch's moment, or until a lane has to be looked at, or for as long as the neighbours may be left alone, or the longest
+    /// wait.
+    fn wait_at(&self, due: u64, rest: Option<u64>, now: u64) -> u64
+        ensures { result ≡ wait_at self.now due rest now }
+    {
+        let longest = longest_wait(self.agent.inventory().forest().margin());
+        no_longer(longest, rest).min(self.until.min(due).saturating_sub(now))
     }
 }
 
-/// Until the Watch's moment, or until a lane has to be looked at, or a second.
-fn wait_at(until: u64, due: u64, reading: Reading) -> u64
-    ensures { result ≡ wait_at until due reading }
+/// With this margin, the longest wait of a turn in milliseconds. A longer one would see a suspension too late, since it counts none.
+fn longest_wait(margin: u32) -> u64
+    ensures { result ≡ longest_wait margin }
 {
-    MOST_WAIT.min(until.min(due).saturating_sub(reading.elapsed))
+    let part = u64::from(margin) * 1000 / 16;
+    A_SECOND.max(HALF_A_MINUTE.min(part))
 }

@@ -14,7 +14,7 @@ ghost use Rattle.watch_machine.specs.declared.fault.WatchFault.{WatchFault};
 use crate::change::Change;
 use crate::neighbours::Neighbours;
 use crate::serving::Serving;
-use crate::turn::MOST_WAIT;
+use crate::turn::A_SECOND;
 use keep_asking::SeenLanes;
 use keep_clock::{Clock, Reading};
 use keep_lanes::Lanes;
@@ -43,6 +43,8 @@ impl Serving {
         requires in_step { IsInStep (L.width lanes.old) (L.out lanes.old) self.old }
         ensures waited { (w : Waited) × (IsWaitedApart until most (serving_side self.old (⟦<L as SeenLanes>⟧.seen lanes.old)) w (serving_side self.new (⟦<L as SeenLanes>⟧.seen lanes.new)) × (AllMade (all_clocked w) (C.seen clock.old) (C.seen clock.new) × (AllGiven (all_given w) (N.given neighbours.old) (N.given neighbours.new) × AllCalled N.does (all_called w) neighbours.old neighbours.new))) }
         ensures in_step { IsInStep (L.width lanes.new) (L.out lanes.new) self.new }
+        ensures width { L.width lanes.new ≡ L.width lanes.old }
+        ensures port { L.host_port lanes.new ≡ L.host_port lanes.old }
     {
         for _ in 0..most {
             let reading = clock.read().ok();
@@ -154,6 +156,6 @@ fn pause_by(is_made: bool, is_busy: bool, until: u64, reading: Reading) -> u64
     if is_made || is_busy {
         0
     } else {
-        MOST_WAIT.min(until.saturating_sub(reading.elapsed))
+        A_SECOND.min(until.saturating_sub(reading.elapsed))
     }
 }

@@ -6,3 +6,4 @@ pub mod Placed
 pub mod Tabled
 pub mod Renewed
 pub mod Served
+pub mod Filed

@@ -19,12 +19,12 @@ use Rattle.keep_state.specs.Places.{Places, PlacesAreApart, is_inside}
 use Rattle.keep_state.specs.Settles.{HandingOver, IsHandedOver, LeftBySettling, copy_with, mode_of}
 
 -- FILE is none of the folder's files
-file_is_other : (p : Places) → PlacesAreApart p → bytes_eq p.file p.copy ≡ false
+pub file_is_other : (p : Places) → PlacesAreApart p → bytes_eq p.file p.copy ≡ false
 file_is_other p apart =
     let rest = (or_parts (bytes_eq p.file p.journal) (bytes_eq p.file p.copy || (bytes_eq p.file p.aside || bytes_eq p.file p.lock)) apart.inside).1 in
     (or_parts (bytes_eq p.file p.copy) (bytes_eq p.file p.aside || bytes_eq p.file p.lock) rest).0
 
-file_is_no_journal : (p : Places) → PlacesAreApart p → bytes_eq p.file p.journal ≡ false
+pub file_is_no_journal : (p : Places) → PlacesAreApart p → bytes_eq p.file p.journal ≡ false
 file_is_no_journal p apart = (or_parts (bytes_eq p.file p.journal) (bytes_eq p.file p.copy || (bytes_eq p.file p.aside || bytes_eq p.file p.lock)) apart.inside).0
 
 -- what a crash leaves before the copy

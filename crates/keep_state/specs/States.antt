@@ -1,11 +1,12 @@
 -- States: a keeper beside its disk and its paths.
 -- Source: this project's own.
-use Rattle.std.specs.Prelude.{◌≡◌, Bool, List}
+use Rattle.std.specs.Prelude.{◌≡◌, Bool, false, List}
+use Rattle.std.specs.Str.{bytes_eq}
 use Rattle.keep_disk.specs.State.{DiskState}
 use Rattle.keep_journal.specs.Journals.{JournalHolds}
 use Rattle.keep_store.specs.declared.store.Store.{Store}
 use Rattle.keep_store.specs.Books.{Book}
-use Rattle.keep_store.specs.Stores.{IsReplayed, book_of, journal_of, path_of_store}
+use Rattle.keep_store.specs.Stores.{FileHolds, IsReplayed, book_of, journal_of, path_of_store}
 use Rattle.keep_waiting.specs.declared.keeper.Keeper.{Keeper}
 use Rattle.keep_waiting.specs.Keepers.{store_of}
 use Rattle.keep_state.specs.Places.{Places}
@@ -22,8 +23,10 @@ abbrev pub book_in : {D : Type 0} → Kept D → Book
 book_in s = book_of (store_of s.keeper)
 
 -- what a state always keeps: the journal of its folder holds on the disk, and its rows are those that FILE and the journal give
--- together
+-- together; and once FILE was synced a crash leaves it as it is seen
 pub record IsKeeping (known : Bool) (keeper : Keeper) (places : Places) (s : DiskState) : Type 0 where
   pub held : JournalHolds known (journal_of (store_of keeper)) s
   pub replayed : IsReplayed (store_of keeper)
   pub path : path_of_store (store_of keeper) ≡ places.journal
+  pub apart : bytes_eq places.journal places.file ≡ false
+  pub file : FileHolds known (store_of keeper) places.file s

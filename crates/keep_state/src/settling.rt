@@ -23,6 +23,7 @@ impl<'a, D: Disk> State<'a, D> {
     ///
     /// The first in the order of [`SettleWhy`]. What is kept is as it was then; the journal may have a mark more, which changes
     /// nothing. Where the disk may have the new FILE, no change is taken until FILE is read anew.
+    #[tactic(auto, using(crate::proofs::Filed::keeps_alone, crate::proofs::Filed::keeps_at))]
     pub fn settle(&mut self) -> Result<Option<DiskFault>, SettleWhy>
         ensures settled { IfOk result (λ left. IsSettledState D.is_known self.old left self.new (D.state self.old.disk) (D.state self.new.disk)) }
         ensures refused { IfErr result (IsWhyUnsettledState D.is_known self.old (D.state self.old.disk)) }

@@ -44,9 +44,9 @@ pub struct Reloaded {
 }
 
 impl<'a, D: Disk> State<'a, D> {
-    ghost use Rattle.std.specs.Prelude.{◌≡◌, Err, IfErr, IfOk, IsTrue, None, Ok, OnErr, OnOk, Some, false, true, if◌then◌else◌};
-    ghost use Rattle.keep_agent.specs.Waiting.{changed, is_rebuilding_due};
-    ghost use Rattle.keep_disk.specs.State.{IsAfter, LeavesAlone, LeavesOnly};
+    ghost use Rattle.std.specs.Prelude.{◌≡◌, ◌⊎◌, Err, IfErr, IfOk, IsTrue, None, Ok, OnErr, OnOk, Some, false, true, if◌then◌else◌};
+    ghost use Rattle.keep_agent.specs.Waiting.{change_due_at, changed, is_change_due};
+    ghost use Rattle.keep_disk.specs.State.{DiskKeeps, IsAfter, LeavesAlone, LeavesOnly};
     ghost use Rattle.keep_disk.specs.Torn.{MovesFile};
     ghost use Rattle.keep_journal.specs.Journals.{CrashLeaves, JournalIsWhole, KeepsOthers};
     ghost use Rattle.keep_journal.specs.Records.{IsBeforeOrAfter, StandsFor};
@@ -56,20 +56,22 @@ impl<'a, D: Disk> State<'a, D> {
     ghost use Rattle.keep_store.specs.declared.fault.TakeFault.TheVariants.{Unread};
     ghost use Rattle.keep_store.specs.Entering.{line_for_change, may_hold};
     ghost use Rattle.keep_store.specs.Records.{records_in};
-    ghost use Rattle.keep_store.specs.Stores.{ChangeIsTaken, IsWhyUntaken, is_sure, journal_of, lines_in, path_of_store};
+    ghost use Rattle.keep_store.specs.Stores.{ChangeIsTaken, IsWhyUntaken, KeepsAllBut, is_sure, journal_of, lines_in, path_of_store};
     ghost use Rattle.keep_waiting.specs.Keepers.{InventoryIsGiven, waiting_in};
     ghost use Rattle.keep_state.specs.Noted.{note_lines};
     ghost use Rattle.keep_state.specs.Reading.{IsFileAt, IsWhyUnread};
     ghost use Rattle.keep_state.specs.Settles.{IsCopied, copy_with};
     ghost use Rattle.keep_state.specs.States.{IsKeeping, book_in, store_in};
 
-    /// Makes a change of the entry of that name. At `Ok` it is on the disk, and each crash from then on leaves a journal that has it.
-    /// `true` is a need, which is for the Watch at once; any other change waits for a rebuilding from now on. `now` is in milliseconds
+    /// Makes a change of the entry of that name. At `Ok` it is on the disk, and each crash from then on leaves a journal that has it,
+    /// and FILE as it was then: FILE is synced first, once after it was read.
+    /// `true` is a need, which is for the Watch at once; any other change waits to be served from now on. `now` is in milliseconds
     /// of the clock that never steps.
     ///
     /// # Errors
     ///
     /// The first in the order of [`TakeFault`]. All is as it was then; but that the disk may have the change, where that is said.
+    #[tactic(auto, using(crate::proofs::Filed::kept_file, crate::proofs::Filed::keeps_at))]
     pub fn take(&mut self, now: Millis, name: Name, what: What) -> Result<bool, TakeFault>
         ensures taken { IfOk result (λ need. ChangeIsTaken (store_in self.old) name what need (store_in self.new)) }
         ensures waiting { IfOk result (λ need. waiting_in self.new.keeper ≡ (if need then waiting_in self.old.keeper else changed (waiting_in self.old.keeper) now)) }
@@ -82,6 +84,10 @@ impl<'a, D: Disk> State<'a, D> {
         ensures unchanged { OnErr result (waiting_in self.new.keeper ≡ waiting_in self.old.keeper) }
         ensures places { self.new.places ≡ self.old.places }
 
+        // FILE is on the disk then, where it is there and no call on it has failed.
+        ensures durable { OnOk result (IsTrue D.is_known → (D.state self.new.disk).is_sound self.old.places.file ≡ true
+            → DiskKeeps self.old.places.file (D.state self.new.disk) ⊎ ((D.state self.old.disk).seen self.old.places.file ≡ None)) }
+
         // A crash at any moment leaves the journal with the change or without it.
         ensures any_moment { IsTrue D.is_known → LeavesOnly (D.state self.old.disk) (D.state self.new.disk)
             (CrashLeaves (path_of_store (store_in self.old)) (IsBeforeOrAfter (lines_in (store_in self.old)) (line_for_change (book_in self.old).file name what)) (D.state self.old.disk)) }
@@ -89,17 +95,19 @@ impl<'a, D: Disk> State<'a, D> {
         // And without it where it is refused, unless it is said that the disk may have it.
         ensures gone { IfErr result (λ fault. may_hold fault ≡ false → IsTrue D.is_known → LeavesOnly (D.state self.old.disk) (D.state self.new.disk)
             (CrashLeaves (path_of_store (store_in self.old)) (λ file. StandsFor file (lines_in (store_in self.old))) (D.state self.old.disk))) }
-        ensures others { IsTrue D.is_known → KeepsOthers (path_of_store (store_in self.old)) (D.state self.old.disk) (D.state self.new.disk) }
+        ensures others { IsTrue D.is_known → KeepsAllBut (path_of_store (store_in self.old)) self.old.places.file (D.state self.old.disk) (D.state self.new.disk) }
     {
-        self.keeper.take(&mut self.disk, now, name, what)
+        self.keeper
+            .take(&mut self.disk, self.paths.file(), now, name, what)
     }
 
-    /// Serves what these bytes say, which are those of FILE, with every change of the journal in order; that waits for a rebuilding from
+    /// Serves what these bytes say, which are those of FILE, with every change of the journal in order; that waits to be served from
     /// now on. They are the last good copy then, and changes are taken again.
     ///
     /// # Errors
     ///
     /// The fault of the file, or `OutOfMemory`. All is as it was then.
+    #[tactic(auto, using(crate::proofs::Filed::keeps_still, crate::proofs::Filed::keeps_unkept))]
     pub fn reload(&mut self, now: Millis, bytes: &[u8]) -> Result<Reloaded, FileFault>
         ensures reloaded { IfOk result (λ r. IsBookIf (Some bytes.now) (records_in (lines_in (store_in self.old))) (book_in self.old).secrets (book_in self.new) r.notes.items) }
         ensures waiting { OnOk result (waiting_in self.new.keeper ≡ changed (waiting_in self.old.keeper) now) }
@@ -127,8 +135,9 @@ impl<'a, D: Disk> State<'a, D> {
         })
     }
 
-    /// Has from now on what these files of secrets have given; that waits for a rebuilding from now on. Where that cannot be handed on,
+    /// Has from now on what these files of secrets have given; that waits to be served from now on. Where that cannot be handed on,
     /// as where two entries of a kind would have one credential, all is as it was.
+    #[tactic(auto, using(crate::proofs::Filed::keeps_still))]
     pub fn take_secrets(&mut self, now: Millis, secrets: Vec<Secret>) -> Result<(), SettleFault>
         ensures taken { OnOk result (HasSecrets (book_in self.old) secrets.items (book_in self.new)) }
         ensures waiting { OnOk result (waiting_in self.new.keeper ≡ changed (waiting_in self.old.keeper) now) }
@@ -143,6 +152,7 @@ impl<'a, D: Disk> State<'a, D> {
 
     /// Takes out of the journal each record that a later one makes void, where that is worth while: `true` then. What is kept stays as
     /// it is, and so does what any file gives with the journal.
+    #[tactic(auto, using(crate::proofs::Filed::keeps_past))]
     pub fn compact(&mut self) -> Result<bool, DiskFault>
         ensures worth { IfOk result (λ done. done ≡ is_worth (lines_in (store_in self.old))) }
         ensures lines { IfOk result (λ done. lines_in (store_in self.new) ≡ (if done then compacted_lines (lines_in (store_in self.old)) else lines_in (store_in self.old))) }
@@ -164,6 +174,7 @@ impl<'a, D: Disk> State<'a, D> {
     /// # Errors
     ///
     /// The first in the order of [`ReadFault`].
+    #[tactic(auto, using(crate::proofs::Filed::keeps_alone))]
     pub fn read_file(&mut self) -> Result<FileRead, ReadFault>
         ensures read { IfOk result (λ read. IsTrue D.is_known → IsFileAt self.old.places.file (D.state self.old.disk) read) }
         ensures refused { IfErr result (λ fault. IsTrue D.is_known → IsWhyUnread self.old.places.file (D.state self.old.disk) fault) }
@@ -174,23 +185,31 @@ impl<'a, D: Disk> State<'a, D> {
         read_file(self.alloc, &mut self.disk, self.paths.file())
     }
 
-    /// The inventory that is to be served from now on, where a rebuilding is due: the first of the changes that wait for it came five
+    /// The inventory that is to be served from now on, where one is due: the first of the changes that wait for it came five
     /// seconds ago. The only error is lack of memory, and only there.
     pub fn due(&self, now: Millis) -> Result<Option<Inventory>, AllocError>
         ensures given { IfOk result (InventoryIsGiven (waiting_in self.now.keeper) now (book_in self.now).text) }
-        ensures early { is_rebuilding_due (waiting_in self.now.keeper) now ≡ false → result ≡ Ok None }
+        ensures early { is_change_due (waiting_in self.now.keeper) now ≡ false → result ≡ Ok None }
     {
         self.keeper.due(now)
     }
 
-    /// The rebuilding was made: no change waits for it any more.
-    pub fn rebuilt(&mut self)
+    /// From when on the changes are due, where one waits.
+    pub fn due_at(&self) -> Option<Millis>
+        ensures { result ≡ change_due_at (waiting_in self.now.keeper) }
+    {
+        self.keeper.due_at()
+    }
+
+    /// The inventory that was due is served: no change waits for it any more.
+    #[tactic(auto, using(crate::proofs::Filed::keeps_store))]
+    pub fn mark_served(&mut self)
         ensures waiting { waiting_in self.new.keeper ≡ None }
         ensures store { store_in self.new ≡ store_in self.old }
         ensures disk { self.new.disk ≡ self.old.disk }
         ensures places { self.new.places ≡ self.old.places }
     {
-        self.keeper.rebuilt();
+        self.keeper.mark_served();
     }
 
     /// The inventory that is served now. The only error is lack of memory.

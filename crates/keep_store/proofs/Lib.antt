@@ -5,6 +5,7 @@ pub mod Entered
 pub mod Replayed
 pub mod Lawful
 pub mod Starting
+pub mod Kept
 pub mod Taken
 pub mod Copied
 pub mod Digits

@@ -18,6 +18,8 @@ use Rattle.keep_store.specs.Entering.{IsWhyNot}
 use Rattle.keep_store.specs.Records.{records_in}
 use Rattle.keep_store.specs.Stores.{IsReplayed, IsWhyUntaken, book_of, is_sure, lines_in}
 use Rattle.keep_store.specs.code.Entered.{IsEntered}
+use Rattle.keep_store.specs.code.Faults.{IsUnkept}
+use Rattle.keep_store.proofs.Entered.{made_unrefused, unkept_why}
 use Rattle.keep_store.proofs.Replayed.{taken_rows}
 
 pub others_stay : (path : List ℕ) (s : disks.DiskState) → KeepsOthers path s s
@@ -48,3 +50,18 @@ module _ (old new : Store) (name : List ℕ) (w : What) (e : Entered) (is : IsEn
       ∙ ap (λ (ls : List (List ℕ)). (replayed (book_of old).file (records_in ls)).rows) lined
       ∙ taken_rows (book_of old).file (lines_in old) e.line is.change (book_of old).rows e.rows so (ap record_of is.recorded.line_is ∙ is.recorded.read) is.recorded.as_then is.made.made
       ∙ ap (λ (b : Book). b.rows) (sym booked)
+
+-- with the same book and lines the rows are those of the same replay
+pub same_replays : (old new : Store) → IsReplayed old → book_of new ≡ book_of old → lines_in new ≡ lines_in old → IsReplayed new
+same_replays old new so booked lined =
+    ap (λ (b : Book). (replayed b.file (records_in (lines_in new))).rows) booked
+    ∙ ap (λ (ls : List (List ℕ)). (replayed (book_of old).file (records_in ls)).rows) lined
+    ∙ so ∙ ap (λ (b : Book). b.rows) (sym booked)
+
+-- the disk is the last that can refuse a change
+pub unkept_untaken : (store : Store) (name : List ℕ) (w : What) (e : Entered) (fault : TakeFault) → is_sure store ≡ true → IsEntered (book_of store) name w e → IsUnkept fault → IsWhyUntaken store name w fault
+unkept_untaken store name w e fault sure is (why, may_have, same) =
+    why_untaken store name w fault sure
+    (subst (IsWhyNot (book_of store) name w) (sym same)
+    (unkept_why (book_of store) name w is.change why may_have is.recorded.read
+    (made_unrefused (book_of store).file.margin (book_of store).rows e.rows is.change.name is.change.what is.made.made)))

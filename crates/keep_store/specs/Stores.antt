@@ -1,7 +1,8 @@
 -- Stores: a book beside the journal of its changes.
 -- Source: this project's own.
-use Rattle.std.specs.Prelude.{◌≡◌, ℕ, List, ◌++◌, ◌∷◌, [], Bool, true, false, if◌then◌else◌, Option, Some, None, option_to_list}
+use Rattle.std.specs.Prelude.{◌≡◌, ◌⊎◌, ℕ, List, ◌++◌, ◌∷◌, [], Bool, true, false, IsTrue, if◌then◌else◌, Option, Some, None, option_to_list}
 use Rattle.std.specs.List.{flat_map}
+use Rattle.std.specs.Str.{bytes_eq}
 use Rattle.keep_change.specs.declared.change.Change.{Change}
 use Rattle.keep_change.specs.declared.change.Record.{Record}
 use Rattle.keep_change.specs.declared.change.What.{What}
@@ -9,6 +10,8 @@ use Rattle.keep_change.specs.declared.replaying.Note.{Note}
 use Rattle.keep_change.specs.Compaction.{is_need}
 use Rattle.keep_change.specs.Records.{record_of}
 use Rattle.keep_change.specs.Replay.{replayed}
+use Rattle.keep_disk.specs.Image.{Image, SameElsewhere}
+use Rattle.keep_disk.specs.State.{DiskState}
 use Rattle.keep_journal.specs.declared.journal.Journal.{Journal}
 use Rattle.keep_journal.specs.Journals.{lines_of_journal, path_of_journal}
 use Rattle.keep_store.specs.declared.fault.FileFault.{FileFault}
@@ -35,6 +38,23 @@ path_of_store store = path_of_journal store.journal
 -- the file is the one that was read, as far as the store has changed it
 abbrev pub is_sure : Store → Bool
 is_sure store = store.is_sure
+
+-- the file is on the disk: it was synced since it was read, or the store has put it there
+abbrev pub is_kept : Store → Bool
+is_kept store = store.is_kept
+
+-- then a crash leaves the file at that path as a read gives it, where no call on it has failed
+abbrev pub FileHolds : Bool → Store → List ℕ → DiskState → Type 0
+FileHolds known store target s = IsTrue known → is_kept store ≡ true → s.is_sound target ≡ true → (c : Image) → s.may_leave c → c target ≡ s.seen target
+
+-- it is, or no file stands there, and a start reads the copy
+abbrev pub IsKeptOrNone : Bool → Store → List ℕ → DiskState → Type 0
+IsKeptOrNone known store target s = (is_kept store ≡ true) ⊎ (IsTrue known → s.seen target ≡ None)
+
+-- the files at all paths but the first are as they were; but of the one at the second nobody may know what a sync keeps
+pub record KeepsAllBut (path target : List ℕ) (old new : DiskState) : Type 0 where
+  pub seen : SameElsewhere path old.seen new.seen
+  pub sound : (other : List ℕ) → bytes_eq path other ≡ false → bytes_eq target other ≡ false → new.is_sound other ≡ old.is_sound other
 
 -- why a change is not taken: the file may be another one; or it is not taken beside this one
 abbrev pub IsWhyUntaken : Store → List ℕ → What → TakeFault → Type 0

@@ -20,7 +20,7 @@ impl<'a> Store<'a> {
     ghost use Rattle.keep_journal.specs.Journals.{CrashLeaves, JournalHolds, KeepsOthers};
     ghost use Rattle.keep_journal.specs.Records.{StandsFor};
     ghost use Rattle.keep_store.specs.Compacted.{compacted_lines, is_worth};
-    ghost use Rattle.keep_store.specs.Stores.{IsReplayed, book_of, is_sure, journal_of, lines_in, path_of_store};
+    ghost use Rattle.keep_store.specs.Stores.{IsReplayed, book_of, is_kept, is_sure, journal_of, lines_in, path_of_store};
 
     /// Takes out of the journal each record that a later one makes void, where that is worth while: [`COMPACT_AT`] or more are void, and
     /// each line writes a record. `true` then. What is kept stays as it is, and so does what any file gives with the journal.
@@ -36,6 +36,7 @@ impl<'a> Store<'a> {
         ensures refused { OnErr result (lines_in self.new ≡ lines_in self.old) }
         ensures book { book_of self.new ≡ book_of self.old }
         ensures sure { is_sure self.new ≡ is_sure self.old }
+        ensures kept { is_kept self.new ≡ is_kept self.old }
         ensures path { path_of_store self.new ≡ path_of_store self.old }
         ensures held { JournalHolds D.is_known (journal_of self.new) (D.state disk.new) }
         ensures replayed { IsReplayed self.new }

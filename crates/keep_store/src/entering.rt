@@ -23,7 +23,7 @@ pub(crate) struct Entered {
     pub(crate) rows: Rows,
     /// The text of what is handed to a watch after it.
     pub(crate) text: String,
-    /// Whether it is a need, which takes no rebuilding.
+    /// Whether it is a need, which does not wait to be served.
     pub(crate) is_need: bool,
 }
 

@@ -43,7 +43,7 @@ pub enum TakeFault {
     /// After it the inventory could not be written as a file.
     #[error("{0}")]
     Unwritten(SettleFault),
-    /// It could not be written to the disk, which does not have it.
+    /// The disk does not have it: it could not be written, or the file that it stands beside could not be synced.
     #[error("{0}")]
     Disk(DiskFault),
     /// It could not be written to the disk, which may have it all the same.

@@ -12,8 +12,8 @@ use keep_journal::Journal;
 use std::alloc::Global;
 
 impl<'a> Store<'a> {
-    ghost use Rattle.std.specs.Prelude.{◌≡◌, IfErr, IfOk, option_copied, true};
-    ghost use Rattle.keep_store.specs.Stores.{IsReplayed, StoreIsOpened, is_sure};
+    ghost use Rattle.std.specs.Prelude.{◌≡◌, IfErr, IfOk, option_copied, false, true};
+    ghost use Rattle.keep_store.specs.Stores.{IsReplayed, StoreIsOpened, is_kept, is_sure};
     ghost use Rattle.keep_store.specs.Books.{IsFileFaultOf};
 
     /// What is kept from a start on, over an open journal: the file with these bytes and every change of the journal in order; or, where
@@ -33,6 +33,7 @@ impl<'a> Store<'a> {
         ensures opened { IfOk result (StoreIsOpened (option_copied file.entry) (option_copied copy.entry) journal.entry) }
         ensures replayed { IfOk result (λ opened. IsReplayed opened.store) }
         ensures sure { IfOk result (λ opened. is_sure opened.store ≡ true) }
+        ensures fresh { IfOk result (λ opened. is_kept opened.store ≡ false) }
         ensures refused { IfErr result (IsFileFaultOf (option_copied file.entry)) }
     {
         let records = records_in(alloc, journal.records())?;
@@ -42,6 +43,7 @@ impl<'a> Store<'a> {
             journal,
             book,
             is_sure: true,
+            is_kept: false,
         };
         Ok(Opened {
             store,

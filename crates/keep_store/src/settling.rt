@@ -34,7 +34,7 @@ impl<'a> Store<'a> {
     ghost use Rattle.keep_journal.specs.Journals.{Exchanging, FileIsThere, JournalHolds, JournalIsWhole, bytes_of_file};
     ghost use Rattle.keep_journal.specs.Records.{StandsFor};
     ghost use Rattle.keep_store.specs.Moved.{HasMarkAtMost, IsMovedIf, IsStillThere, IsWhyUnsettled, LeftByMove, SaysByItself};
-    ghost use Rattle.keep_store.specs.Stores.{IsReplayed, book_of, is_sure, journal_of, lines_in, path_of_store};
+    ghost use Rattle.keep_store.specs.Stores.{FileHolds, IsReplayed, book_of, is_kept, is_sure, journal_of, lines_in, path_of_store};
 
     /// Makes the file at `target`, whose bytes are `present`, one that says all that is kept, with this mode. It gives the text that the
     /// file has then; `None`: the file says all that already, and nothing is written. The journal keeps its records, with a mark by which
@@ -54,6 +54,7 @@ impl<'a> Store<'a> {
         requires apart { bytes_eq (path_of_store self.old) target.now ≡ false }
         requires held { JournalHolds D.is_known (journal_of self.old) (D.state disk.old) }
         requires replayed { IsReplayed self.old }
+        requires file { FileHolds D.is_known self.old target.now (D.state disk.old) }
         ensures settled { IfOk result (λ text. IsMovedIf D.is_known self.old target.now mode (option_map string_bytes text) self.new (D.state disk.new)) }
         ensures refused { IfErr result (IsWhyUnsettled (book_of self.old) present.now) }
         ensures book { OnErr result (book_of self.new ≡ book_of self.old) }
@@ -62,6 +63,7 @@ impl<'a> Store<'a> {
         ensures path { path_of_store self.new ≡ path_of_store self.old }
         ensures held { JournalHolds D.is_known (journal_of self.new) (D.state disk.new) }
         ensures replayed { IsReplayed self.new }
+        ensures file { FileHolds D.is_known self.new target.now (D.state disk.new) }
 
         // A crash at any moment leaves what gives the same inventory: `a_crash_while_settling_changes_nothing`.
         ensures any_moment { IsTrue D.is_known → LeavesOnly (D.state disk.old) (D.state disk.new) (LeftByMove self.old target.now mode (D.state disk.old)) }
@@ -94,6 +96,7 @@ impl<'a> Store<'a> {
         ensures refused { OnErr result (lines_in self.new ≡ lines_in self.old) }
         ensures book { book_of self.new ≡ book_of self.old }
         ensures sure { is_sure self.new ≡ is_sure self.old }
+        ensures kept { is_kept self.new ≡ is_kept self.old }
         ensures path { path_of_store self.new ≡ path_of_store self.old }
         ensures held { JournalHolds D.is_known (journal_of self.new) (D.state disk.new) }
         ensures replayed { IsReplayed self.new }
@@ -121,7 +124,8 @@ impl<'a> Store<'a> {
         ensures there { OnOk result (IsTrue D.is_known → FileIsThere target.now (record { mode = mode; bytes = bytes.now }) (D.state disk.new)) }
         ensures placed { OnOk result (is_sure self.new ≡ true) }
         ensures sure { OnErr result (is_sure self.new ≡ true → (is_sure self.old ≡ true) × (IsTrue D.is_known → bytes_of_file ((D.state disk.new).seen target.now) ≡ present.now)) }
-        ensures rest { self.new ≡ record self.old { is_sure = self.new.is_sure } }
+        ensures rest { self.new ≡ record self.old { is_sure = self.new.is_sure; is_kept = self.new.is_kept } }
+        ensures file { FileHolds D.is_known self.new target.now (D.state disk.new) }
         ensures whole { IsTrue D.is_known → JournalIsWhole (journal_of self.old) (D.state disk.new) }
         ensures any_moment { IsTrue D.is_known → LeavesOnly (D.state disk.old) (D.state disk.new)
             (IsAfter (MovesFile target.now (record { mode = mode; bytes = bytes.now })) (D.state disk.old)) }
@@ -129,9 +133,11 @@ impl<'a> Store<'a> {
         match replace(disk, target, mode, bytes) {
             Ok(()) => {
                 self.is_sure = true;
+                self.is_kept = true;
                 Ok(())
             }
             Err(fault) => {
+                self.is_kept = false;
                 self.is_sure &= has_still(self.alloc, disk, target, present);
                 Err(fault)
             }

@@ -1,3 +1,8 @@
+ghost use Rattle.std.specs.Prelude.{◌≡◌, ℕ, List, IfOk, IsTrue, None, OnOk, false, true};
+ghost use Rattle.std.specs.Str.{bytes_eq};
+ghost use Rattle.keep_disk.specs.Image.{Image};
+ghost use Rattle.keep_disk.specs.State.{LeavesOnly};
+
 use crate::book::{Book, read_if};
 use crate::entering::Entered;
 use crate::fault::{FileFault, TakeFault, unkept};
@@ -19,6 +24,8 @@ pub struct Store<'a> {
     pub(crate) book: Book,
     // The book's file is the one that stands at its place, as far as this store has changed it.
     pub(crate) is_sure: bool,
+    // It is on the disk: it was synced since it was read, or this store has put it there.
+    pub(crate) is_kept: bool,
 }
 
 /// A store at a start.
@@ -33,18 +40,20 @@ pub struct Opened<'a> {
 }
 
 impl<'a> Store<'a> {
-    ghost use Rattle.std.specs.Prelude.{◌≡◌, Ok, Err, IfErr, IfOk, OnErr, OnOk, IsTrue, true, false, option_copied};
+    ghost use Rattle.std.specs.Prelude.{◌≡◌, ◌∷◌, [], ◌++◌, ℕ, List, Ok, Err, IfErr, IfOk, OnErr, OnOk, IsTrue, true, false, option_copied};
     ghost use Rattle.std.specs.Str.{bytes_eq};
+    ghost use Rattle.keep_disk.specs.Image.{Image};
     ghost use Rattle.keep_disk.specs.State.{IsAfter, LeavesOnly, OutcomesFollow, TellsFailure};
     ghost use Rattle.keep_disk.specs.Torn.{MovesFile};
     ghost use Rattle.keep_journal.specs.Journals.{CrashLeaves, FileIsThere, JournalHolds, JournalIsWhole, KeepsOthers};
-    ghost use Rattle.keep_journal.specs.Records.{IsBeforeOrAfter, StandsFor};
+    ghost use Rattle.keep_journal.specs.Records.{IsBeforeOrAfter, IsRecordLine, StandsFor};
     ghost use Rattle.keep_served.specs.ForGood.{inventory_for_good};
     ghost use Rattle.keep_store.specs.Books.{HasSecrets, IsBookIf, IsFileFaultOf};
     ghost use Rattle.keep_store.specs.declared.fault.TakeFault.TheVariants.{Unread};
     ghost use Rattle.keep_store.specs.Entering.{line_for_change, may_hold};
     ghost use Rattle.keep_store.specs.Records.{records_in};
-    ghost use Rattle.keep_store.specs.Stores.{ChangeIsTaken, IsReplayed, IsWhyUntaken, book_of, is_sure, journal_of, lines_in, path_of_store};
+    ghost use Rattle.keep_store.specs.code.Faults.{IsUnkept};
+    ghost use Rattle.keep_store.specs.Stores.{ChangeIsTaken, FileHolds, IsKeptOrNone, IsReplayed, IsWhyUntaken, KeepsAllBut, book_of, is_kept, is_sure, journal_of, lines_in, path_of_store};
 
     /// What the file says, and what is served.
     pub fn book(&self) -> &Book
@@ -75,16 +84,24 @@ impl<'a> Store<'a> {
     }
 
     /// Makes a change of the entry of that name. At `Ok` it is acknowledged: each crash from then on leaves a journal that has it.
-    /// `true` is a need, which the Watch takes by itself; any other change takes a rebuilding. No change is taken beside a file that may
-    /// not be the one that a start reads.
+    /// `true` is a need, which the Watch takes by itself; any other change waits to be served. No change is taken beside a file that may
+    /// not be the one that a start reads: the file at `target` is synced first, once after it was read.
     ///
     /// # Errors
     ///
     /// The first in the order of [`TakeFault`]. All is as it was then; but that the disk may have the change, where that is said.
-    #[tactic(auto, using(crate::proofs::Taken::why_untaken, crate::proofs::Taken::unread_why))]
-    pub fn take<D: Disk>(&mut self, disk: &mut D, name: Name, what: What) -> Result<bool, TakeFault>
+    #[tactic(auto, using(crate::proofs::Taken::why_untaken, crate::proofs::Taken::unread_why, crate::proofs::Taken::unkept_untaken))]
+    pub fn take<D: Disk>(
+        &mut self,
+        disk: &mut D,
+        target: &str,
+        name: Name,
+        what: What,
+    ) -> Result<bool, TakeFault>
+        requires apart { bytes_eq (path_of_store self.old) target.now ≡ false }
         requires held { JournalHolds D.is_known (journal_of self.old) (D.state disk.old) }
         requires replayed { IsReplayed self.old }
+        requires file { FileHolds D.is_known self.old target.now (D.state disk.old) }
         ensures taken { IfOk result (λ need. ChangeIsTaken self.old name what need self.new) }
         ensures acknowledged { OnOk result (IsTrue D.is_known → JournalIsWhole (journal_of self.new) (D.state disk.new)) }
         ensures refused { IfErr result (IsWhyUntaken self.old name what) }
@@ -92,9 +109,11 @@ impl<'a> Store<'a> {
         ensures sure { is_sure self.new ≡ is_sure self.old }
         ensures book { OnErr result (book_of self.new ≡ book_of self.old) }
         ensures lines { OnErr result (lines_in self.new ≡ lines_in self.old) }
-        ensures path { OnErr result (path_of_store self.new ≡ path_of_store self.old) }
+        ensures path { path_of_store self.new ≡ path_of_store self.old }
         ensures held { JournalHolds D.is_known (journal_of self.new) (D.state disk.new) }
         ensures replayed { IsReplayed self.new }
+        ensures kept { OnOk result (IsKeptOrNone D.is_known self.new target.now (D.state disk.old)) }
+        ensures file { FileHolds D.is_known self.new target.now (D.state disk.new) }
 
         // A crash at any moment leaves the journal with the change or without it.
         ensures any_moment { IsTrue D.is_known → LeavesOnly (D.state disk.old) (D.state disk.new)
@@ -103,7 +122,7 @@ impl<'a> Store<'a> {
         // And without it where it is refused, unless it is said that the disk may have it.
         ensures gone { IfErr result (λ fault. may_hold fault ≡ false → IsTrue D.is_known → LeavesOnly (D.state disk.old) (D.state disk.new)
             (CrashLeaves (path_of_store self.old) (λ file. StandsFor file (lines_in self.old)) (D.state disk.old))) }
-        ensures others { IsTrue D.is_known → KeepsOthers (path_of_store self.old) (D.state disk.old) (D.state disk.new) }
+        ensures others { IsTrue D.is_known → KeepsAllBut (path_of_store self.old) target.now (D.state disk.old) (D.state disk.new) }
     {
         self.refuse_unread()?;
         let entered = self.book.enter(self.alloc, name, what)?;
@@ -113,12 +132,63 @@ impl<'a> Store<'a> {
             text,
             is_need,
         } = entered;
+        self.add(disk, target, line)?;
+        self.book.turn(rows, text);
+        Ok(is_need)
+    }
+
+    // Puts a record in the journal, once the file that it stands beside is on the disk.
+    #[tactic(auto, using(crate::proofs::Kept::still_leaves_all, crate::proofs::Kept::but_synced))]
+    fn add<D: Disk>(&mut self, disk: &mut D, target: &str, line: Text) -> Result<(), TakeFault>
+        requires line { IsRecordLine line }
+        requires apart { bytes_eq (path_of_store self.old) target.now ≡ false }
+        requires held { JournalHolds D.is_known (journal_of self.old) (D.state disk.old) }
+        requires file { FileHolds D.is_known self.old target.now (D.state disk.old) }
+        ensures added { OnOk result ((lines_in self.new ≡ lines_in self.old ++ line ∷ []) × (IsTrue D.is_known → JournalIsWhole (journal_of self.new) (D.state disk.new))) }
+        ensures kept { OnOk result (IsKeptOrNone D.is_known self.new target.now (D.state disk.old)) }
+        ensures refused { IfErr result IsUnkept }
+        ensures lines { OnErr result (lines_in self.new ≡ lines_in self.old) }
+        ensures book { book_of self.new ≡ book_of self.old }
+        ensures sure { is_sure self.new ≡ is_sure self.old }
+        ensures path { path_of_store self.new ≡ path_of_store self.old }
+        ensures held { JournalHolds D.is_known (journal_of self.new) (D.state disk.new) }
+        ensures file { FileHolds D.is_known self.new target.now (D.state disk.new) }
+        ensures any_moment { IsTrue D.is_known → LeavesOnly (D.state disk.old) (D.state disk.new)
+            (CrashLeaves (path_of_store self.old) (IsBeforeOrAfter (lines_in self.old) line) (D.state disk.old)) }
+        ensures gone { IfErr result (λ fault. may_hold fault ≡ false → IsTrue D.is_known → LeavesOnly (D.state disk.old) (D.state disk.new)
+            (CrashLeaves (path_of_store self.old) (λ file. StandsFor file (lines_in self.old)) (D.state disk.old))) }
+        ensures others { IsTrue D.is_known → KeepsAllBut (path_of_store self.old) target.now (D.state disk.old) (D.state disk.new) }
+    {
+        self.keep_file(disk, target)?;
         match self.journal.put(disk, line) {
-            Ok(()) => {
-                self.book.turn(rows, text);
-                Ok(is_need)
-            }
+            Ok(()) => Ok(()),
             Err(fault) => Err(unkept(fault, self.journal.may_have())),
+        }
+    }
+
+    // Syncs the file at that path, unless that was done since it was read or put there.
+    #[tactic(auto, using(crate::proofs::Kept::not_begun))]
+    fn keep_file<D: Disk>(&mut self, disk: &mut D, target: &str) -> Result<(), TakeFault>
+        requires file { FileHolds D.is_known self.old target.now (D.state disk.old) }
+        ensures kept { OnOk result (IsKeptOrNone D.is_known self.new target.now (D.state disk.old)) }
+        ensures refused { IfErr result IsUnkept }
+        ensures rest { self.new ≡ record self.old { is_kept = self.new.is_kept } }
+        ensures file { FileHolds D.is_known self.new target.now (D.state disk.new) }
+        ensures seen { IsTrue D.is_known → (D.state disk.new).seen ≡ (D.state disk.old).seen }
+        ensures sound { IsTrue D.is_known → (other : List ℕ) → bytes_eq target.now other ≡ false
+            → (D.state disk.new).is_sound other ≡ (D.state disk.old).is_sound other }
+        ensures crash { IsTrue D.is_known → (c : Image) → (D.state disk.new).may_leave c → (D.state disk.old).may_leave c }
+        ensures any_moment { IsTrue D.is_known → LeavesOnly (D.state disk.old) (D.state disk.new) (D.state disk.old).may_leave }
+    {
+        if self.is_kept {
+            return Ok(());
+        }
+        match sync_there(disk, target) {
+            Ok(is_there) => {
+                self.is_kept = is_there;
+                Ok(())
+            }
+            Err(fault) => Err(unkept(fault, false)),
         }
     }
 
@@ -149,6 +219,8 @@ impl<'a> Store<'a> {
         ensures unchanged { OnErr result (book_of self.new ≡ book_of self.old) }
         ensures sure { OnOk result (is_sure self.new ≡ true) }
         ensures still { OnErr result (is_sure self.new ≡ is_sure self.old) }
+        ensures fresh { OnOk result (is_kept self.new ≡ false) }
+        ensures kept { OnErr result (is_kept self.new ≡ is_kept self.old) }
         ensures journal { journal_of self.new ≡ journal_of self.old }
         ensures replayed { IsReplayed self.new }
     {
@@ -156,6 +228,7 @@ impl<'a> Store<'a> {
         let (book, notes) = read_if(self.alloc, bytes, &records, &self.book.secrets)?;
         self.book = book;
         self.is_sure = true;
+        self.is_kept = false;
         Ok(notes)
     }
 
@@ -166,6 +239,7 @@ impl<'a> Store<'a> {
         ensures taken { OnOk result (HasSecrets (book_of self.old) secrets.items (book_of self.new)) }
         ensures unchanged { OnErr result (book_of self.new ≡ book_of self.old) }
         ensures sure { is_sure self.new ≡ is_sure self.old }
+        ensures kept { is_kept self.new ≡ is_kept self.old }
         ensures journal { journal_of self.new ≡ journal_of self.old }
         ensures replayed { IsReplayed self.new }
     {
@@ -200,4 +274,24 @@ impl<'a> Store<'a> {
     {
         self.book.inventory(self.alloc)
     }
+}
+
+// Syncs the file at a path; `false` where there is none.
+#[tactic(auto, using(crate::proofs::Kept::seen_once, crate::proofs::Kept::seen_twice))]
+fn sync_there<D: Disk>(disk: &mut D, path: &str) -> Result<bool, DiskFault>
+    ensures none { IfOk result (λ there. there ≡ false → IsTrue D.is_known → (D.state disk.old).seen path.now ≡ None) }
+    ensures durable { IfOk result (λ there. there ≡ true → IsTrue D.is_known → (D.state disk.old).is_sound path.now ≡ true
+        → (c : Image) → (D.state disk.new).may_leave c → c path.now ≡ (D.state disk.old).seen path.now) }
+    ensures same { OnOk result (IsTrue D.is_known → (D.state disk.new).is_sound ≡ (D.state disk.old).is_sound) }
+    ensures seen { IsTrue D.is_known → (D.state disk.new).seen ≡ (D.state disk.old).seen }
+    ensures sound { IsTrue D.is_known → (other : List ℕ) → bytes_eq path.now other ≡ false
+        → (D.state disk.new).is_sound other ≡ (D.state disk.old).is_sound other }
+    ensures crash { IsTrue D.is_known → (c : Image) → (D.state disk.new).may_leave c → (D.state disk.old).may_leave c }
+    ensures any_moment { IsTrue D.is_known → LeavesOnly (D.state disk.old) (D.state disk.new) (D.state disk.old).may_leave }
+{
+    let Some(_) = disk.stamp(path)? else {
+        return Ok(false);
+    };
+    disk.sync(path)?;
+    Ok(true)
 }

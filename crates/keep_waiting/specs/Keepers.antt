@@ -1,7 +1,7 @@
--- Keepers: a store, and the changes of it that wait for a rebuilding.
+-- Keepers: a store, and the changes of it that wait to be served.
 -- Source: this project's own.
 use Rattle.std.specs.Prelude.{◌≡◌, ℕ, true, false, List, Option, Some, None, Ok}
-use Rattle.keep_agent.specs.Waiting.{is_rebuilding_due}
+use Rattle.keep_agent.specs.Waiting.{is_change_due}
 use Rattle.keep_inventory.specs.Inventories.{Inventory}
 use Rattle.keep_served.specs.ForGood.{inventory_for_good}
 use Rattle.keep_store.specs.declared.store.Store.{Store}
@@ -10,11 +10,11 @@ use Rattle.keep_waiting.specs.declared.keeper.Keeper.{Keeper}
 abbrev pub store_of : Keeper → Store
 store_of keeper = keeper.store
 
--- when the first of the changes came that wait for a rebuilding
+-- when the first of the changes came that wait to be served
 abbrev pub waiting_in : Keeper → Option ℕ
 waiting_in keeper = keeper.waiting
 
--- an inventory is given exactly where a rebuilding is due: the one that is read of this text
+-- an inventory is given exactly where one is due: the one that is read of this text
 abbrev pub InventoryIsGiven : Option ℕ → ℕ → List ℕ → Option Inventory → Type 0
-InventoryIsGiven waiting now text None = is_rebuilding_due waiting now ≡ false
-InventoryIsGiven waiting now text (Some inventory) = (is_rebuilding_due waiting now ≡ true) × (inventory_for_good text ≡ Ok inventory)
+InventoryIsGiven waiting now text None = is_change_due waiting now ≡ false
+InventoryIsGiven waiting now text (Some inventory) = (is_change_due waiting now ≡ true) × (inventory_for_good text ≡ Ok inventory)

@@ -8,7 +8,7 @@ use keep_store::{FileFault, Secret, Store, TakeFault, Unsettled};
 use std::alloc::AllocError;
 use watch_machine::Millis;
 
-/// A store, and when the first of the changes came that wait for a rebuilding. Readings are of the clock that never steps, in
+/// A store, and when the first of the changes came that wait to be served. Readings are of the clock that never steps, in
 /// milliseconds.
 #[derive(Drop)]
 pub struct Keeper<'a> {
@@ -19,7 +19,7 @@ pub struct Keeper<'a> {
 impl<'a> Keeper<'a> {
     ghost use Rattle.std.specs.Prelude.{◌≡◌, [], ℕ, List, Err, IfErr, IfOk, IsTrue, None, Ok, OnErr, OnOk, false, true, if◌then◌else◌, option_copied, option_map, string_bytes};
     ghost use Rattle.std.specs.Str.{bytes_eq};
-    ghost use Rattle.keep_agent.specs.Waiting.{changed, is_rebuilding_due};
+    ghost use Rattle.keep_agent.specs.Waiting.{change_due_at, changed, is_change_due};
     ghost use Rattle.keep_disk.specs.State.{LeavesOnly};
     ghost use Rattle.keep_journal.specs.Journals.{CrashLeaves, Exchanging, FileIsThere, JournalHolds, JournalIsWhole, KeepsOthers};
     ghost use Rattle.keep_journal.specs.Records.{IsBeforeOrAfter, StandsFor};
@@ -30,7 +30,7 @@ impl<'a> Keeper<'a> {
     ghost use Rattle.keep_store.specs.Moved.{HasMarkAtMost, IsMovedIf, IsStillThere, IsWhyUnsettled, LeftByMove, SaysByItself};
     ghost use Rattle.keep_waiting.specs.Keepers.{InventoryIsGiven, store_of, waiting_in};
     ghost use Rattle.keep_store.specs.Records.{records_in};
-    ghost use Rattle.keep_store.specs.Stores.{ChangeIsTaken, IsReplayed, IsWhyUntaken, book_of, is_sure, journal_of, lines_in, path_of_store};
+    ghost use Rattle.keep_store.specs.Stores.{ChangeIsTaken, FileHolds, IsKeptOrNone, IsReplayed, IsWhyUntaken, KeepsAllBut, book_of, is_kept, is_sure, journal_of, lines_in, path_of_store};
 
     /// A store of which no change waits.
     pub fn new(store: Store<'a>) -> Keeper<'a>
@@ -50,17 +50,20 @@ impl<'a> Keeper<'a> {
         &self.store
     }
 
-    /// Makes a change, as [`Store::take`] does. `true` is a need, which is for the Watch at once; any other change waits for a
-    /// rebuilding from now on.
+    /// Makes a change, as [`Store::take`] does. `true` is a need, which is for the Watch at once; any other change waits to be
+    /// served from now on.
     pub fn take<D: Disk>(
         &mut self,
         disk: &mut D,
+        target: &str,
         now: Millis,
         name: Name,
         what: What,
     ) -> Result<bool, TakeFault>
+        requires apart { bytes_eq (path_of_store (store_of self.old)) target.now ≡ false }
         requires held { JournalHolds D.is_known (journal_of (store_of self.old)) (D.state disk.old) }
         requires replayed { IsReplayed (store_of self.old) }
+        requires file { FileHolds D.is_known (store_of self.old) target.now (D.state disk.old) }
         ensures taken { IfOk result (λ need. ChangeIsTaken (store_of self.old) name what need (store_of self.new)) }
         ensures waiting { IfOk result (λ need. waiting_in self.new ≡ (if need then waiting_in self.old else changed (waiting_in self.old) now)) }
         ensures acknowledged { OnOk result (IsTrue D.is_known → JournalIsWhole (journal_of (store_of self.new)) (D.state disk.new)) }
@@ -69,24 +72,26 @@ impl<'a> Keeper<'a> {
         ensures sure { is_sure (store_of self.new) ≡ is_sure (store_of self.old) }
         ensures book { OnErr result (book_of (store_of self.new) ≡ book_of (store_of self.old)) }
         ensures lines { OnErr result (lines_in (store_of self.new) ≡ lines_in (store_of self.old)) }
-        ensures path { OnErr result (path_of_store (store_of self.new) ≡ path_of_store (store_of self.old)) }
+        ensures path { path_of_store (store_of self.new) ≡ path_of_store (store_of self.old) }
         ensures unchanged { OnErr result (waiting_in self.new ≡ waiting_in self.old) }
         ensures held { JournalHolds D.is_known (journal_of (store_of self.new)) (D.state disk.new) }
         ensures replayed { IsReplayed (store_of self.new) }
+        ensures kept { OnOk result (IsKeptOrNone D.is_known (store_of self.new) target.now (D.state disk.old)) }
+        ensures file { FileHolds D.is_known (store_of self.new) target.now (D.state disk.new) }
         ensures any_moment { IsTrue D.is_known → LeavesOnly (D.state disk.old) (D.state disk.new)
             (CrashLeaves (path_of_store (store_of self.old)) (IsBeforeOrAfter (lines_in (store_of self.old)) (line_for_change (book_of (store_of self.old)).file name what)) (D.state disk.old)) }
         ensures gone { IfErr result (λ fault. may_hold fault ≡ false → IsTrue D.is_known → LeavesOnly (D.state disk.old) (D.state disk.new)
             (CrashLeaves (path_of_store (store_of self.old)) (λ file. StandsFor file (lines_in (store_of self.old))) (D.state disk.old))) }
-        ensures others { IsTrue D.is_known → KeepsOthers (path_of_store (store_of self.old)) (D.state disk.old) (D.state disk.new) }
+        ensures others { IsTrue D.is_known → KeepsAllBut (path_of_store (store_of self.old)) target.now (D.state disk.old) (D.state disk.new) }
     {
-        let is_need = self.store.take(disk, name, what)?;
+        let is_need = self.store.take(disk, target, name, what)?;
         if !is_need {
             self.waiting = self.waiting.changed(now);
         }
         Ok(is_need)
     }
 
-    /// Serves what a file says from now on, as [`Store::reload`] does; that waits for a rebuilding from now on.
+    /// Serves what a file says from now on, as [`Store::reload`] does; that waits to be served from now on.
     pub fn reload(&mut self, now: Millis, bytes: Option<&[u8]>) -> Result<Vec<Note>, FileFault>
         requires { IsReplayed (store_of self.old) }
         ensures reloaded { IfOk result (λ notes. IsBookIf (option_copied bytes.entry) (records_in (lines_in (store_of self.old))) (book_of (store_of self.old)).secrets (book_of (store_of self.new)) notes.items) }
@@ -94,6 +99,8 @@ impl<'a> Keeper<'a> {
         ensures refused { IfErr result (IsFileFaultOf (option_copied bytes.entry)) }
         ensures sure { OnOk result (is_sure (store_of self.new) ≡ true) }
         ensures still { OnErr result (is_sure (store_of self.new) ≡ is_sure (store_of self.old)) }
+        ensures fresh { OnOk result (is_kept (store_of self.new) ≡ false) }
+        ensures kept { OnErr result (is_kept (store_of self.new) ≡ is_kept (store_of self.old)) }
         ensures book { OnErr result (book_of (store_of self.new) ≡ book_of (store_of self.old)) }
         ensures unchanged { OnErr result (waiting_in self.new ≡ waiting_in self.old) }
         ensures journal { journal_of (store_of self.new) ≡ journal_of (store_of self.old) }
@@ -104,7 +111,7 @@ impl<'a> Keeper<'a> {
         Ok(notes)
     }
 
-    /// Has what files of secrets have given from now on, as [`Store::take_secrets`] does; that waits for a rebuilding from now on.
+    /// Has what files of secrets have given from now on, as [`Store::take_secrets`] does; that waits to be served from now on.
     pub fn take_secrets(&mut self, now: Millis, secrets: Vec<Secret>) -> Result<(), SettleFault>
         requires { IsReplayed (store_of self.old) }
         ensures taken { OnOk result (HasSecrets (book_of (store_of self.old)) secrets.items (book_of (store_of self.new))) }
@@ -112,6 +119,7 @@ impl<'a> Keeper<'a> {
         ensures book { OnErr result (book_of (store_of self.new) ≡ book_of (store_of self.old)) }
         ensures unchanged { OnErr result (waiting_in self.new ≡ waiting_in self.old) }
         ensures sure { is_sure (store_of self.new) ≡ is_sure (store_of self.old) }
+        ensures kept { is_kept (store_of self.new) ≡ is_kept (store_of self.old) }
         ensures journal { journal_of (store_of self.new) ≡ journal_of (store_of self.old) }
         ensures replayed { IsReplayed (store_of self.new) }
     {
@@ -131,6 +139,7 @@ impl<'a> Keeper<'a> {
         requires apart { bytes_eq (path_of_store (store_of self.old)) target.now ≡ false }
         requires held { JournalHolds D.is_known (journal_of (store_of self.old)) (D.state disk.old) }
         requires replayed { IsReplayed (store_of self.old) }
+        requires file { FileHolds D.is_known (store_of self.old) target.now (D.state disk.old) }
         ensures settled { IfOk result (λ text. IsMovedIf D.is_known (store_of self.old) target.now mode (option_map string_bytes text) (store_of self.new) (D.state disk.new)) }
         ensures waiting { waiting_in self.new ≡ waiting_in self.old }
         ensures refused { IfErr result (IsWhyUnsettled (book_of (store_of self.old)) present.now) }
@@ -140,6 +149,7 @@ impl<'a> Keeper<'a> {
         ensures path { path_of_store (store_of self.new) ≡ path_of_store (store_of self.old) }
         ensures held { JournalHolds D.is_known (journal_of (store_of self.new)) (D.state disk.new) }
         ensures replayed { IsReplayed (store_of self.new) }
+        ensures file { FileHolds D.is_known (store_of self.new) target.now (D.state disk.new) }
         ensures any_moment { IsTrue D.is_known → LeavesOnly (D.state disk.old) (D.state disk.new) (LeftByMove (store_of self.old) target.now mode (D.state disk.old)) }
     {
         self.store.settle(disk, target, mode, present)
@@ -162,6 +172,7 @@ impl<'a> Keeper<'a> {
         ensures waiting { waiting_in self.new ≡ waiting_in self.old }
         ensures book { book_of (store_of self.new) ≡ book_of (store_of self.old) }
         ensures sure { is_sure (store_of self.new) ≡ is_sure (store_of self.old) }
+        ensures kept { is_kept (store_of self.new) ≡ is_kept (store_of self.old) }
         ensures path { path_of_store (store_of self.new) ≡ path_of_store (store_of self.old) }
         ensures held { JournalHolds D.is_known (journal_of (store_of self.new)) (D.state disk.new) }
         ensures replayed { IsReplayed (store_of self.new) }
@@ -179,6 +190,7 @@ impl<'a> Keeper<'a> {
         requires replayed { IsReplayed (store_of self.old) }
         ensures worth { IfOk result (λ done. done ≡ is_worth (lines_in (store_of self.old))) }
         ensures sure { is_sure (store_of self.new) ≡ is_sure (store_of self.old) }
+        ensures kept { is_kept (store_of self.new) ≡ is_kept (store_of self.old) }
         ensures lines { IfOk result (λ done. lines_in (store_of self.new) ≡ (if done then compacted_lines (lines_in (store_of self.old)) else lines_in (store_of self.old))) }
         ensures waiting { waiting_in self.new ≡ waiting_in self.old }
         ensures refused { OnErr result (lines_in (store_of self.new) ≡ lines_in (store_of self.old)) }
@@ -193,11 +205,11 @@ impl<'a> Keeper<'a> {
         self.store.compact(disk)
     }
 
-    /// The inventory that is to be served from now on, where a rebuilding is due: the first of the changes that wait for it came five
+    /// The inventory that is to be served from now on, where one is due: the first of the changes that wait for it came five
     /// seconds ago. The only error is lack of memory, and only there.
     pub fn due(&self, now: Millis) -> Result<Option<Inventory>, AllocError>
         ensures given { IfOk result (InventoryIsGiven (waiting_in self.now) now (book_of (store_of self.now)).text) }
-        ensures early { is_rebuilding_due (waiting_in self.now) now ≡ false → result ≡ Ok None }
+        ensures early { is_change_due (waiting_in self.now) now ≡ false → result ≡ Ok None }
     {
         if !self.waiting.is_due(now) {
             return Ok(None);
@@ -205,8 +217,15 @@ impl<'a> Keeper<'a> {
         Ok(Some(self.store.inventory()?))
     }
 
-    /// The rebuilding was made: no change waits for it any more.
-    pub fn rebuilt(&mut self)
+    /// From when on the changes are due, where one waits.
+    pub fn due_at(&self) -> Option<Millis>
+        ensures { result ≡ change_due_at (waiting_in self.now) }
+    {
+        self.waiting.due_at()
+    }
+
+    /// The inventory that was due is served: no change waits for it any more.
+    pub fn mark_served(&mut self)
         ensures waiting { waiting_in self.new ≡ None }
         ensures store { store_of self.new ≡ store_of self.old }
     {

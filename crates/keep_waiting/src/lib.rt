@@ -1,4 +1,4 @@
-//! Changes that wait for their rebuilding, beside the store that keeps them.
+//! Changes that wait to be served, beside the store that keeps them.
 //!
 //! The contract for the layers above: a need is for the Watch at once, and [`Keeper::due`] gives the inventory that is to be served from
 //! then on exactly when the first of the changes that wait came five seconds ago. Begin with `specs/Keepers`.

@@ -172,7 +172,7 @@ fn keep<'a>(
     notes
 }
 
-/// What files of credentials hold is taken, which waits for no rebuilding at a start; and what is to be said then.
+/// What files of credentials hold is taken, which is served from the start on; and what is to be said then.
 fn fill(
     alloc: Global,
     ledger: &mut MemoryLedger<'_>,
@@ -181,7 +181,7 @@ fn fill(
 ) -> Result<(), Fault> {
     said.changes = ledger.note_lines(alloc, notes)?;
     said.files = ledger.fill(alloc, 0)?;
-    ledger.state.rebuilt();
+    ledger.state.mark_served();
     Ok(())
 }
 

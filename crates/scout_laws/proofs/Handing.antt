@@ -1,5 +1,5 @@
 -- Handing: what a scout hands in, and what the watch makes of it. For the laws of what is handed in, and of outages.
-use Rattle.std.proofs.Common.{◌≡◌, ◌∙◌, ℕ, ◌+◌, ◌-◌, ◌<◌, ◌≤◌, Bool, true, false, not, ◌&&◌, if◌then◌else◌, List, [], ◌∷◌, Option, Some, None, Result, Ok, Err, length, min, nat_le, nat_lt, refl, sym, ap, subst, arith}
+use Rattle.std.proofs.Common.{◌≡◌, ◌∙◌, ℕ, ◌-◌, ◌<◌, ◌≤◌, Bool, true, false, not, ◌&&◌, Option, Some, None, Result, Ok, Err, length, min, nat_le, nat_lt, refl, sym, ap, subst, arith}
 use Rattle.std.proofs.lemmas.Bool.{and_parts, cond-false, cond-true}
 use Rattle.std.proofs.lemmas.Bool.Decides.{nat_tests}
 use Rattle.std.proofs.lemmas.List.{get_or-set_same}
@@ -17,8 +17,8 @@ use Rattle.watch_machine.specs.declared.track.End.TheVariants.{Unknown, At, Neve
 use Rattle.watch_machine.specs.declared.track.Track.{Track}
 use Rattle.watch_machine.specs.Answers.{with_track}
 use Rattle.watch_machine.specs.Beginning.{is_pressed, owing_lookup, owing_past}
-use Rattle.watch_machine.specs.Clocks.{ms, sec}
-use Rattle.watch_machine.specs.History.{Turn, Turned}
+use Rattle.watch_machine.specs.Clocks.{sec}
+use Rattle.watch_machine.specs.History.{Turn}
 use Rattle.watch_machine.specs.Lines.{rested}
 use Rattle.watch_machine.specs.Margins.{asking_margin, is_in_plan, own_margin, time, time_before}
 use Rattle.watch_machine.specs.Outlook.{time_of}
@@ -26,14 +26,13 @@ use Rattle.watch_machine.specs.Refusal.{refusal}
 use Rattle.watch_machine.specs.State.{WatchState, entry_of, no_track, second, track_at}
 use Rattle.watch_machine.specs.Step.{told_earlier}
 use Rattle.watch_machine.specs.Wanted.{believed, is_alive, is_wanted}
-use Rattle.watch_machine.proofs.Cases.{if_cases, not_both, value_is}
+use Rattle.watch_machine.proofs.Cases.{if_cases, value_is}
 use Rattle.watch_laws.specs.Absence.{is_event_taken}
-use Rattle.watch_laws.specs.Outage.{IsBefore, IsIncident, IsShortOutage, Outage}
-use Rattle.watch_laws.proofs.Outliving.{outlives}
+use Rattle.watch_laws.specs.Outage.{IsBefore, IsIncident, Outage}
 use Rattle.watch_scout.specs.Hearing.{end_told, event_by, event_of, event_where, is_later, is_news}
-use Rattle.watch_scout.specs.State.{ScoutState, seen_at}
+use Rattle.watch_scout.specs.State.{seen_at}
 use Rattle.scout_laws.specs.Behind.{HandedLaw, IsKept, IsLaterEnd, KeptLaw, later_track}
-use Rattle.scout_laws.specs.Resting.{IsStillBefore, RestLaw}
+use Rattle.scout_laws.specs.Resting.{IsStillBefore}
 
 lt_from : (m n : ℕ) → nat_lt m n ≡ true → m < n
 lt_from m n h = grind (arith, nat_tests)
@@ -117,7 +116,7 @@ time_known : (m k : ℕ) (e : Entry) (x : Track) → x.end ≡ At k → time m e
 unfolding time
 time_known m k e x is = ap (λ d. time_before d (asking_margin m e x)) is
 
-track_kept : (old : WatchState) (i : ℕ) (y : Track) → i < length old.tracks → track_at (with_track old i y) i ≡ y
+pub track_kept : (old : WatchState) (i : ℕ) (y : Track) → i < length old.tracks → track_at (with_track old i y) i ≡ y
 track_kept old i y counted = get_or-set_same old.tracks i y no_track counted
 
 not_refused : (old : WatchState) (i end : ℕ) (renewable : Bool) → i < length old.forest.entries → refusal old (Known i end renewable) ≡ None
@@ -146,14 +145,14 @@ keeps old turn i end renewable h is within counted ahead few =
     kept_by old i end renewable turn.result turn.state (subst (λ e. Turn old e turn.result turn.state) is h) within counted ahead few
 
 -- ---- nothing rests on the agent in front
-another : (o : Outage) (w : WatchState) (i j due : ℕ) (event : Event) → IsLaterEnd w j event → (j ≡ i → ⊥) → IsIncident o i due w event
+pub another : (o : Outage) (w : WatchState) (i j due : ℕ) (event : Event) → IsLaterEnd w j event → (j ≡ i → ⊥) → IsIncident o i due w event
 another o w i j due event h apart = subst (IsIncident o i due w) (sym h.is) apart
 
 plan_kept : (m end : ℕ) (renewable : Bool) (e : Entry) (x : Track) → is_in_plan m e x ≡ true → is_in_plan m e (later_track end renewable x) ≡ true
 unfolding is_in_plan own_margin
 plan_kept m end renewable e x h = h
 
-still : (old : WatchState) (i k end : ℕ) (renewable : Bool) → i < length old.tracks → (track_at old i).end ≡ At k → k < end → IsBefore old i →
+pub still : (old : WatchState) (i k end : ℕ) (renewable : Bool) → i < length old.tracks → (track_at old i).end ≡ At k → k < end → IsBefore old i →
     is_wanted (with_track old i (later_track end renewable (track_at old i))) i ≡ true → IsStillBefore old (with_track old i (later_track end renewable (track_at old i))) i
 still old i k end renewable counted known later b wanted =
     let x = track_at old i in
@@ -183,18 +182,3 @@ still old i k end renewable counted known later b wanted =
       time = sooner;
       end = omega (arith, before_end, after_end, later);
     }
-
-pub rests : RestLaw
-rests = record {
-  others = λ o s w i j due reply event is apart. another o w i j due event (hands s w j reply event is) apart;
-  own = λ s old turn i end renewable reply told is h counted few b wanted.
-      let later = hands s old i reply (Known i end renewable) told in
-      let same : later.end ≡ end = ap end_in (sym later.is) in
-      let up = later.later in
-      let ahead = later.ahead in
-      let kept = (keeps old turn i end renewable h is b.within counted (omega (arith, ahead, same)) few).1 in
-      subst (λ (v : WatchState). IsStillBefore old v i) (sym kept.state)
-      (still old i later.believed end renewable counted later.known (omega (arith, up, same)) b (subst (λ (v : WatchState). is_wanted v i ≡ true) kept.state wanted));
-  outage = λ margin name o old last hs i is reached wide history clock taken' b lived few order short.
-      outlives o old last hs i reached wide history clock taken' b lived few order (subst (IsShortOutage o) (sym is) short);
-}

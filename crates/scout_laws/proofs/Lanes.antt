@@ -1,6 +1,6 @@
 -- Lanes: how many lookups are out. For the law of the lanes.
-use Rattle.std.proofs.Common.{◌≡◌, ◌≢◌, ◌⊎◌, ◌∙◌, ℕ, zero, suc, ◌+◌, ◌-◌, ◌<◌, ◌≤◌, Bool, true, false, ◌==◌, List, [], ◌∷◌, Option, Some, None, is_some, length, nat_lt, replicate, refl, sym, ap, subst, arith, inl, inr}
-use Rattle.std.proofs.lemmas.Bool.{cases_Bool, cases_eq, cases_lt}
+use Rattle.std.proofs.Common.{◌≡◌, ◌⊎◌, ◌∙◌, ℕ, zero, suc, ◌+◌, ◌-◌, ◌<◌, ◌≤◌, Bool, true, false, ◌==◌, List, [], ◌∷◌, Option, Some, None, is_some, length, nat_lt, replicate, refl, sym, ap, subst, arith, inl, inr}
+use Rattle.std.proofs.lemmas.Bool.{cases_eq, cases_lt}
 use Rattle.std.proofs.lemmas.Bool.Decides.{nat_tests}
 use Rattle.std.proofs.lemmas.List.{get_or-set_same, get_or_past, length-set}
 use Rattle.watch_machine.specs.State.{WatchState, track_at}
@@ -12,8 +12,8 @@ use Rattle.watch_scout.specs.declared.scout.Seen.{Seen}
 use Rattle.watch_scout.specs.Hearing.{freed, freed_where}
 use Rattle.watch_scout.specs.Looking.{Found, came_up, first_from, found, goes_out, had_look, is_at_hand, known_end, looked_up, passed_over, with_seen}
 use Rattle.watch_scout.specs.State.{ScoutState, opened_scout, seen_at, seen_in, unseen}
-use Rattle.watch_scout.proofs.Coming.{all_seen, none_out, same_width}
-use Rattle.scout_laws.specs.Looks.{LanesLaw, asked, is_asked}
+use Rattle.watch_scout.proofs.Coming.{none_out, same_width}
+use Rattle.scout_laws.specs.Looks.{LanesLaw, is_asked}
 use Rattle.scout_laws.specs.Steps.{AllSteps, Hears, IsStep, ScoutStep, Seeks, scout_after, scout_after_all}
 use Rattle.scout_laws.proofs.Lookups.{found_keeps, seen_elsewhere}
 

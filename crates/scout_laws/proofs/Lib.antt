@@ -3,3 +3,5 @@ pub mod Lanes
 pub mod Handing
 pub mod Leaving
 pub mod Truly
+pub mod Later
+pub mod Resting

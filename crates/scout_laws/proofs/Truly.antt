@@ -1,30 +1,18 @@
 -- Truly: an end that a true reply tells a scout comes no later than the real one. For the laws of real ends.
-use Rattle.std.proofs.Common.{◌≡◌, ◌∙◌, ℕ, ◌+◌, ◌-◌, ◌≤◌, Bool, List, [], ◌∷◌, Option, Some, None, sym, ap, subst, arith}
+use Rattle.std.proofs.Common.{◌≡◌, ℕ, ◌+◌, List, [], ◌∷◌, Option, Some, None, ap, subst}
 use Rattle.watch_machine.specs.declared.event.Event.{Event}
 use Rattle.watch_machine.specs.declared.event.Event.TheVariants.{Clock, Looked, Renewed, Need, Begin, Known}
 use Rattle.watch_machine.specs.declared.event.Reply.{Reply}
 use Rattle.watch_machine.specs.declared.event.Reply.TheVariants.{Told, Refused, Busy, Lost}
-use Rattle.watch_machine.specs.Clocks.{ms, sec}
 use Rattle.watch_machine.specs.History.{Changes, Happening, Hands, state_after, stood}
 use Rattle.watch_machine.specs.State.{WatchState, opened}
 use Rattle.watch_machine.proofs.Cases.{value_is}
-use Rattle.watch_laws.specs.Ends.{AreLivedFrom, IsHonest, IsNoLater, IsTrueAt, IsTrueEvent, IsTrueReply, Lived, Origin, TimedWorld, asked_at, happened}
-use Rattle.watch_laws.proofs.Ends.{never_past}
+use Rattle.watch_laws.specs.Ends.{AreLivedFrom, IsHonest, IsNoLater, IsTrueAt, IsTrueEvent, IsTrueReply, Lived, TimedWorld, asked_at, happened}
+use Rattle.watch_laws.proofs.Ends.{never_past, told_end}
 use Rattle.watch_scout.specs.Hearing.{end_told, event_of, event_where}
 use Rattle.watch_scout.specs.State.{seen_at}
-use Rattle.scout_laws.specs.RealEnds.{AreLivedBehind, BehindLaw, HarmlessLaw, IsHeardTruly, IsSinceBy, IsTrueBehind, IsTrueThere}
+use Rattle.scout_laws.specs.RealEnds.{AreLivedBehind, BehindLaw, HarmlessLaw, IsSinceBy, IsTrueBehind, IsTrueThere}
 use Rattle.scout_laws.proofs.Handing.{end_in, told_news}
-
--- an end that was told counts from a second that the clock had reached when the lookup went out
-told_truly :
-    (w : TimedWorld) → IsHonest w → (asked since seconds phase real : ℕ) (o : Origin) → since ≤ w.reading asked + phase → asked ≤ o.since → o.since ≤ real → o.since + ms seconds ≤ real + o.over →
-    IsNoLater w phase (end_told since seconds) real o
-unfolding sec
-told_truly w honest asked since seconds phase real o reached sent before far =
-    let rises = honest.rises asked o.since sent in
-    let all : o.since + (real - o.since) ≡ real = omega (arith, before) in
-    let counts = subst (λ m. w.reading o.since + (real - o.since) ≤ w.reading m + w.lag o.since m) all (honest.counts o.since (real - o.since)) in
-    record { before = before; no_later = omega (arith, reached, rises, before, far, counts) }
 
 pub harmless : HarmlessLaw
 unfolding event_of
@@ -35,7 +23,7 @@ harmless w honest v i end renewable real o h = by (seen_at h.scout i).since h.re
   by (Some since) (Told seconds renewable' date) shown so is =
       let news = told_news v i since seconds renewable' date (Known i end renewable) is in
       let same : end_told since seconds ≡ end = ap end_in (value_is (Known i (end_told since seconds) renewable') (Known i end renewable) news.1) in
-      subst (λ n. IsNoLater w v.clocks.phase n real o) same (told_truly w honest h.asked since seconds v.clocks.phase real o shown so.0 so.1.0 so.1.1)
+      subst (λ n. IsNoLater w v.clocks.phase n real o) same (told_end w honest h.asked since seconds v.clocks.phase real o shown so.0 so.1.0 so.1.1)
   by (Some since) (Refused status date) shown so is = absurd cc
   by (Some since) Busy shown so is = absurd cc
   by (Some since) Lost shown so is = absurd cc

@@ -210,8 +210,8 @@ fn filled<D: Disk, I: Inputs, L: Lanes>(
         About::SecretFile,
         ledger.fill(alloc, 0)?,
     )?;
-    // What files hold at the start waits for no rebuilding.
-    ledger.state.rebuilt();
+    // What files hold at the start is served from the start on.
+    ledger.state.mark_served();
     inventories_of(alloc, ledger)
 }
 
@@ -298,7 +298,9 @@ fn unused_by(alloc: Global, folder: &str, fault: DiskFault) -> Result<NotBegun, 
 
 /// That the folder cannot be used.
 fn unused(alloc: Global, folder: &str, why: &str) -> Result<NotBegun, AllocError> {
-    let text = format!(in alloc; "{folder} cannot be used ({why}): no change can be kept")?;
+    let text = format!(in alloc;
+        "{folder} cannot be used ({why}): no change is kept, and files of credentials are not read again"
+    )?;
     Ok(NotBegun::Unused(Said {
         level: Level::Alert,
         about: About::Folder,

@@ -3,9 +3,10 @@
 //!
 //! The contract for the layers above: [`make_start`] gives what is served from the start on, or the exit once it was told why nothing is
 //! (`specs/Refusals`). Of files and folders of the system, from which all the rest comes, nothing is known. Begin with `start`: `reading`
-//! has what is served of the file alone, `folder` what is served with a state folder, and `found` and `modes` what is found there.
-//! `secrets` are the files of credentials, `ends` the file that keeps the ends, `doors` the sockets of clients and onlookers, `descriptors`
-//! how many of them are let in, and `spread` the part of a spread that is the agent's own.
+//! has what is served of the file alone, `folder` what is served with a state folder, `found` and `modes` what is found there, and `unkept`
+//! what is served where that folder cannot be used. `secrets` are the files of credentials, `ends` the file that keeps the ends, `doors`
+//! the sockets of clients and onlookers, `descriptors` how many of them are let in, and `spread` the part of a spread that is the agent's
+//! own.
 #![tactic(auto)]
 
 mod descriptors;
@@ -19,6 +20,7 @@ mod said;
 mod secrets;
 mod spread;
 mod start;
+mod unkept;
 
 pub use descriptors::{Places, places_for, places_within};
 pub use doors::{CLIENTS, Guests, ONLOOKERS, open_door};

@@ -54,12 +54,27 @@ where
     E: Sink,
     ensures { RefusesIf result (⟦<E as Watched>⟧.change errors.old errors.new) }
 {
-    let bytes = match read_bytes(rt, file, errors) {
-        Ok(bytes) => bytes,
-        Err(exit) => return Some(exit),
-    };
+    match read_bytes(rt, file, errors) {
+        Ok(bytes) => refuse_bytes(rt, file, &bytes, demands, errors),
+        Err(exit) => Some(exit),
+    }
+}
+
+/// Refuses a file with these bytes that may not be served for what it writes, whatever the files hold that it names.
+pub(crate) fn refuse_bytes<R, E>(
+    rt: &R,
+    file: &str,
+    bytes: &Text,
+    demands: Demands,
+    errors: &mut E,
+) -> Option<Exit>
+where
+    R: Files<File = File> + AllocGlobal,
+    E: Sink,
+    ensures { RefusesIf result (⟦<E as Watched>⟧.change errors.old errors.new) }
+{
     match faults_as_written(rt.alloc(), bytes.list(), demands) {
-        Ok(faults) => refuse_faults(rt, file, &bytes, demands, &faults, errors),
+        Ok(faults) => refuse_faults(rt, file, bytes, demands, &faults, errors),
         Err(AllocError) => Some(Stop::Memory.report(PROGRAM, errors)),
     }
 }
@@ -92,7 +107,7 @@ where
 
 /// The bytes of the file; or the exit, once it was told why it cannot be read.
 #[tactic(auto, using(crate::proofs::Refusals::refused_input))]
-fn read_bytes<R, E>(rt: &R, file: &str, errors: &mut E) -> Result<Text, Exit>
+pub(crate) fn read_bytes<R, E>(rt: &R, file: &str, errors: &mut E) -> Result<Text, Exit>
 where
     R: Files<File = File> + AllocGlobal,
     E: Sink,
@@ -110,7 +125,7 @@ where
 
 /// What is served of these bytes of the file; or the exit, once it was told why the start is refused.
 #[tactic(auto, using(crate::proofs::Refusals::refused_inventory))]
-fn serve_bytes<R, E>(
+pub(crate) fn serve_bytes<R, E>(
     rt: &R,
     file: &str,
     bytes: &Text,

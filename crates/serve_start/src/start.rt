@@ -5,6 +5,7 @@ use crate::folder::{Folder, NotBegun, begin, refuse_changes, refuse_held};
 use crate::reading::{Inventories, read_inventory, refuse_written};
 use crate::said::Said;
 use crate::secrets::SystemSecrets;
+use crate::unkept::read_with_held;
 use house_ledger::{Asker, Ledger};
 use house_words::Demands;
 use keep_device::{Sink, Watched};
@@ -104,8 +105,8 @@ where
     ensures { GivesOrRefuses result (⟦<E as Watched>⟧.change errors.old errors.new) }
 {
     match why {
-        NotBegun::NoFolder => start_with_file(rt, file, demands, None, errors),
-        NotBegun::Unused(said) => start_with_file(rt, file, demands, Some(said), errors),
+        NotBegun::NoFolder => start_with_file(rt, file, demands, errors),
+        NotBegun::Unused(first) => start_unkept(rt, file, demands, first, errors),
         NotBegun::Held => Err(refuse_held(rt.alloc(), folder, errors)),
         NotBegun::Refused => match refuse_written(rt, file, demands, errors) {
             None => Err(refuse_changes(rt.alloc(), folder, errors)),
@@ -115,12 +116,28 @@ where
     }
 }
 
-/// What is served of the file alone; this is said before anything else.
+/// What is served of the file alone.
 fn start_with_file<R, K, E>(
     rt: &R,
     file: &str,
     demands: Demands,
-    first: Option<Said>,
+    errors: &mut E,
+) -> Result<Start<K>, Exit>
+where
+    R: Files<File = File> + AllocGlobal,
+    E: Sink,
+    ensures { GivesOrRefuses result (⟦<E as Watched>⟧.change errors.old errors.new) }
+{
+    let inventories = read_inventory(rt, file, demands, errors)?;
+    Ok(start_of(demands, inventories, Vec::new(rt.alloc())))
+}
+
+/// What is served of the file where its state folder cannot be used, which is said before anything else.
+fn start_unkept<R, K, E>(
+    rt: &R,
+    file: &str,
+    demands: Demands,
+    first: Said,
     errors: &mut E,
 ) -> Result<Start<K>, Exit>
 where
@@ -129,17 +146,20 @@ where
     ensures { GivesOrRefuses result (⟦<E as Watched>⟧.change errors.old errors.new) }
 {
     let mut said = Vec::new(rt.alloc());
-    if let Some(first) = first {
-        if said.push(first).is_err() {
-            return Err(Stop::Memory.report(PROGRAM, errors));
-        }
+    if said.push(first).is_err() {
+        return Err(Stop::Memory.report(PROGRAM, errors));
     }
-    let inventories = read_inventory(rt, file, demands, errors)?;
-    Ok(Start {
+    let inventories = read_with_held(rt, file, demands, &mut said, errors)?;
+    Ok(start_of(demands, inventories, said))
+}
+
+/// A start without a ledger.
+fn start_of<K>(demands: Demands, inventories: Inventories, said: Vec<Said>) -> Start<K> {
+    Start {
         part: demands.earlier,
         inventories,
         ledger: None,
         is_good: true,
         said,
-    })
+    }
 }

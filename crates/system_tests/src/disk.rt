@@ -21,8 +21,6 @@ enum Call {
     Stamp(u32, u64),
     // Bytes are written over others, or are refused.
     WriteAt(&'static str, usize, &'static [u8], Option<DiskFault>),
-    // The file is cut, or is refused.
-    Cut(&'static str, usize, Option<DiskFault>),
     // The file is synced, or is refused.
     Sync(&'static str, Option<DiskFault>),
     // What stands in the file.
@@ -45,7 +43,6 @@ fn is_answered(
         }
         Call::Stamp(mode, size) => Ok(is_stamped(disk, mode, size)?),
         Call::WriteAt(path, at, bytes, fault) => Ok(disk.write_at(path, at, bytes).err() == fault),
-        Call::Cut(path, len, fault) => Ok(disk.cut(path, len).err() == fault),
         Call::Sync(path, fault) => Ok(disk.sync(path).err() == fault),
         Call::Has(bytes) => Ok(fs::read(rt, PLAIN)?.as_slice() == bytes),
         Call::Lock => is_locked(rt, disk),
@@ -91,22 +88,20 @@ fn first_wrong(rt: &HostRuntime, calls: &[Call]) -> Result<Option<usize>, Fail> 
 
 const MISSING: Option<DiskFault> = Some(DiskFault::Failed(Why::Missing));
 
-const CALLS: [Call; 17] = [
+const CALLS: [Call; 15] = [
     Call::Read(9, Ok(false)),
     Call::NoStamp,
     Call::Replace(PLAIN, FILE_MODE, b"hello", None),
     Call::Stamp(FILE_MODE, 5),
     Call::WriteAt(PLAIN, 4, b"p me", None),
-    Call::Cut(PLAIN, 7, None),
     Call::Sync(PLAIN, None),
-    Call::Has(b"hellp m"),
-    Call::Read(7, Ok(true)),
-    Call::Read(6, Err(DiskFault::TooLong)),
+    Call::Has(b"hellp me"),
+    Call::Read(8, Ok(true)),
+    Call::Read(7, Err(DiskFault::TooLong)),
     Call::Replace(PLAIN, 0o640, b"new", None),
     Call::Stamp(0o640, 3),
     Call::Lock,
     Call::WriteAt(NOWHERE, 0, b"x", MISSING),
-    Call::Cut(NOWHERE, 0, MISSING),
     Call::Sync(NOWHERE, MISSING),
     Call::Replace(NOWHERE, FILE_MODE, b"x", MISSING),
 ];

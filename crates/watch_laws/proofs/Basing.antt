@@ -106,7 +106,7 @@ owed_passes now asked at x =
 
 dropped_base : (n : ℕ) (x : Track) (o : Option Try) → BaseBy n o → BaseBy n (dropped x o)
 dropped_base n x None h = tt
-dropped_base n x (Some t) h = if_both (BaseBy n) (t.pressed || not x.owes) (let_go x t) (Some t) (if_both (BaseBy n) x.owes _ None h tt) h
+dropped_base n x (Some t) h = if_both (BaseBy n) t.pressed (let_go x t) (Some t) (if_both (BaseBy n) x.owes _ None h tt) h
 
 -- who is pressed anew is not out
 fresh_free : (margin : ℕ) (e : Entry) (x : Track) (need now : ℕ) → is_fresh margin e x need now ≡ true → x.out ≡ false

@@ -308,7 +308,7 @@ answered w i now asked told after real old mid new q reply is out rest alone h e
     })
 
 -- an end that is told counts from a second that the clock had reached when the request went out
-told_end :
+pub told_end :
     (w : TimedWorld) → IsHonest w → (asked from seconds phase real : ℕ) (o : Origin) → from ≤ w.reading asked + phase → asked ≤ o.since → o.since ≤ real → o.since + ms seconds ≤ real + o.over →
     IsNoLater w phase (sec from + seconds) real o
 unfolding sec

@@ -98,9 +98,9 @@ module _ (at bound : ℕ) (S : Type 0) where
   dropped_loose x (Some v) t =
       let P : Option Try → Type 0 = λ o. o ≡ Some t → t.pressed ≡ false in
       let left : Try = record v { at = max v.at (rested x.last); operation = Look; pressed = false } in
-      if_cases P (v.pressed || not x.owes) (let_go x v) (Some v)
+      if_cases P v.pressed (let_go x v) (Some v)
       (λ gone. if_both P x.owes (Some left) None (λ is. ap (λ (u : Try). u.pressed) (sym (value_is left t is))) (λ is. absurd cc))
-      (λ kept is. ap (λ (u : Try). u.pressed) (sym (value_is v t is)) ∙ (or_parts v.pressed (not x.owes) kept).0)
+      (λ kept is. ap (λ (u : Try). u.pressed) (sym (value_is v t is)) ∙ kept)
 
   pressed_stands : (margin : ℕ) (e : Entry) (need : ℕ) (x : Track) → Stands x → Stands (pressed_track margin e need at x)
   unfolding pressed_track

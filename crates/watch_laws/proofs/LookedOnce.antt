@@ -45,7 +45,7 @@ use Rattle.watch_machine.proofs.Seeing.{SameSeen, both_seen, cut_same, each_read
 use Rattle.watch_machine.proofs.Unseen.{owing_seen, pressed_seen, sent_seen}
 use Rattle.watch_machine.proofs.Within.{out_entry}
 use Rattle.watch_machine.proofs.Written.{each_length}
-use Rattle.watch_laws.specs.Beginnings.{GoWell, GoesWell, GoesWellAt, IsForLookup, OneLookupLaw, TellsAhead, is_lookup, is_needed, looks, lookups, why_begun}
+use Rattle.watch_laws.specs.Beginnings.{GoWell, GoesWell, GoesWellAt, IsForLookup, OneLookupLaw, TellsAhead, is_lookup, is_loose_look, is_needed, looks, lookups, why_begun}
 use Rattle.watch_laws.specs.Load.{requests_asked_by, requests_at_turn}
 use Rattle.watch_laws.specs.Outage.{is_tried}
 use Rattle.watch_laws.proofs.Alone.{IsAlone, flag, turn_alone}
@@ -56,7 +56,7 @@ use Rattle.watch_laws.proofs.Clocking.{refused_stays}
 use Rattle.watch_laws.proofs.Going.{named_of, operation_of, times}
 use Rattle.watch_laws.proofs.Lanes.{Ticks, ticks}
 use Rattle.watch_laws.proofs.Lasting.{Bears, both_bear, calm_ready, clock_bears, mid_bears, same_bears, sent_bears}
-use Rattle.watch_laws.proofs.Lookups.{AsksRenewal, IsTold, back_told, few_go, found_looks, granted_owes, granted_told, look_goes, looked_told, looks_few, mid_told, other_looks, own_looks, pressed_told, renewal_looks, sent_looks, sent_told, settled_told, told_rid}
+use Rattle.watch_laws.proofs.Lookups.{AsksRenewal, IsTold, LooseAsks, asks_loose, back_told, few_go, found_looks, granted_owes, granted_told, look_goes, looked_told, loose_asks, loose_settled, looks_few, mid_told, other_looks, own_looks, pressed_told, renewal_looks, sent_looks, sent_told, settled_told, told_rid}
 use Rattle.watch_laws.proofs.Owed.{due_some}
 use Rattle.watch_laws.proofs.Spacing.{free_of, looked_other, looked_out, mid_flag, readied_out}
 use Rattle.watch_laws.proofs.Topping.{readied_count, turn_count}
@@ -238,7 +238,8 @@ module _ (old new : WatchState) (wall elapsed : ℕ) (output : Output) (i : ℕ)
             let alive = sym alive_same ∙ open_parts (is_unknown (track_at new i).end) (is_alive (second new) (track_at new i)) known (ahead tried) in
             let told =
             mid_told ready h.round i (omega (arith, many, within))
-            (pressed_told ready.forest.margin (entry_of ready i) (wanted_need ready i) ready.clocks.at (track_at ready i) there.owes there.known alive (λ e free. there.asks free)) in
+            (pressed_told ready.forest.margin (entry_of ready i) (wanted_need ready i) ready.clocks.at (track_at ready i) there.owes there.known alive (λ e free. there.asks free)
+            (λ free. asks_loose (track_at ready i).attempt (there.asks free))) in
             (subst (λ (x : WatchState). IsTold (track_at x i)) (sym h.new_is) (sent_told mid h.requests i told.0), none_told told.0)
         | inr idle ↦ (record { owes = bears.1.1.0 ∙ there.owes; known = known; asks = λ free. none_asks (attempt_at new i) idle }, none_idle idle)
       ]
@@ -294,9 +295,10 @@ module _ (old new : WatchState) (wall elapsed : ℕ) (output : Output) (i : ℕ)
       ap (λ (x : WatchState). is_called x.forest x.tracks x.clocks i) h.new_is
       ∙ called_same (sent mid h.requests).tracks ready.tracks (subst (λ (x : WatchState). SameSeen x.tracks ready.tracks) h.new_is seen) ready.forest ready.clocks i
 
-  -- where nobody needs it, its end is ahead and it owes no lookup, it is told
-  unneeded_told : i < length old.tracks → is_needed new i ≡ false → is_alive (second new) (track_at new i) ≡ true → (track_at ready i).top ≡ false → (track_at ready i).owes ≡ false → IsTold (track_at new i) × (go ≡ 0)
-  unneeded_told within unneeded alive led owes =
+  -- where nobody needs it, its end is ahead, it owes no lookup, and none that is not pressed is to be tried again, it is told
+  unneeded_told : i < length old.tracks → is_needed new i ≡ false → is_alive (second new) (track_at new i) ≡ true → (track_at ready i).top ≡ false → (track_at ready i).owes ≡ false → LooseAsks (track_at ready i).attempt →
+      IsTold (track_at new i) × (go ≡ 0)
+  unneeded_told within unneeded alive led owes loose =
       let many = readied_count old wall elapsed in
       let x = track_at ready i in
       let here : is_alive (second ready) x ≡ true = sym alive_same ∙ alive in
@@ -304,7 +306,7 @@ module _ (old new : WatchState) (wall elapsed : ℕ) (output : Output) (i : ℕ)
       let told =
       mid_told ready h.round i (omega (arith, many, within))
       (pressed_told ready.forest.margin (entry_of ready i) (wanted_need ready i) ready.clocks.at x owes (known_end (second ready) x.end here) here
-      (λ yes' free. absurd (neither (wants x (wanted_need ready i)) x.out unwanted free yes'))) in
+      (λ yes' free. absurd (neither (wants x (wanted_need ready i)) x.out unwanted free yes')) (λ free. loose)) in
       (subst (λ (y : WatchState). IsTold (track_at y i)) (sym h.new_is) (sent_told mid h.requests i told.0), none_told told.0)
 
 -- ---- a beginning
@@ -379,6 +381,15 @@ module _ (old : WatchState) (wall elapsed i : ℕ) (w : Why) (is : why old wall 
       (track_at (readied old wall elapsed) i).owes ≡ false
   ready_free within none free =
       ap (λ (z : Track). z.owes) (ready_is within ∙ owing_same t.clocks.at (is_start w) (is_called t.forest fresh t.clocks i) (track_in fresh i) (sym called_so ∙ none)) ∙ owes_fresh ∙ free
+
+  ready_loose : i < length old.tracks → is_called (readied old wall elapsed).forest (readied old wall elapsed).tracks (readied old wall elapsed).clocks i ≡ false → LooseAsks (track_at old i).attempt →
+      LooseAsks (track_at (readied old wall elapsed) i).attempt
+  ready_loose within none loose =
+      let Still : Track → Track → Type 0 = λ y x. LooseAsks x.attempt → LooseAsks y.attempt in
+      let same = ready_is within ∙ owing_same t.clocks.at (is_start w) (is_called t.forest fresh t.clocks i) (track_in fresh i) (sym called_so ∙ none) in
+      subst (λ (x : Track). LooseAsks x.attempt) (sym same)
+      (each_kept Still (λ k. k) (λ j. untopped_track) (settled t).tracks (λ j x k. k) i
+      (each_kept Still (λ k. k) (λ j. settled_track t.forest.margin t.clocks.at) t.tracks (λ j x. loose_settled t.forest.margin t.clocks.at x) i loose))
 
 -- ---- other events
 
@@ -589,7 +600,8 @@ record Started (old new : WatchState) (result : Result Output WatchFault) (i : �
   holds : Holds new i (track_at new i).owes (looks i old.out + length (filter (is_lookup i) (requests_at_turn result)))
   led : (track_at new i).top ≡ false
   owes : is_needed new i ≡ true → IsForLookup (why_begun result) new i → (track_at new i).owes ≡ true
-  free : is_needed new i ≡ false → is_alive (second new) (track_at new i) ≡ true → (track_at old i).owes ≡ false → Holds new i false 1 × (length (filter (is_lookup i) (requests_at_turn result)) ≡ 0)
+  free : is_needed new i ≡ false → is_alive (second new) (track_at new i) ≡ true → (track_at old i).owes ≡ false → is_loose_look (attempt_at old i) ≡ false →
+      Holds new i false 1 × (length (filter (is_lookup i) (requests_at_turn result)) ≡ 0)
 
 clock_started : (old new : WatchState) (wall elapsed : ℕ) (output : Output) (i : ℕ) → StepClock old wall elapsed output new → is_some output.notes.began ≡ true → IsAlone old → i < length old.tracks → Started old new (Ok output) i
 clock_started old new wall elapsed output i step begins alone within =
@@ -614,9 +626,10 @@ clock_started old new wall elapsed output i step begins alone within =
                 (sym (ap (λ e. is_unknown e || nat_lt (second new) (believed e)) bear.0 ∙ ap (λ n. is_unknown (track_at ready' i).end || nat_lt n (believed (track_at ready' i).end)) at) ∙ ahead)
           ] in
           bear.1.1.0 ∙ ready_owes old wall elapsed i w.0 w.1 within (sym same ∙ called) there;
-      free = λ none alive owes.
+      free = λ none alive owes loose.
           let free' = ready_free old wall elapsed i w.0 w.1 within (sym same ∙ none) owes in
-          let told = unneeded_told old new wall elapsed output i h within none alive (ready_led old wall elapsed i w.0 w.1 within) free' in
+          let told = unneeded_told old new wall elapsed output i h within none alive (ready_led old wall elapsed i w.0 w.1 within) free'
+          (ready_loose old wall elapsed i w.0 w.1 within (sym same ∙ none) (loose_asks (attempt_at old i) loose)) in
           let after = looks_after old new wall elapsed output i h in
           let z = told.1 in
           let once = alone.single i in
@@ -670,8 +683,8 @@ looked_once old turn after i reached history within begins well =
       wanted = λ wanted. wanted_needed turn.state i start.led wanted;
       owes = start.owes;
       once = λ called ahead free. (let is = ends.1 (start.owes called ahead) free in let e : looks i old.out + (k + lookups i after) ≡ 1 = omega (arith, is) in e);
-      never = λ called alive free.
-          let so = start.free called alive free in
+      never = λ called alive free loose.
+          let so = start.free called alive free loose in
           let none = so.1 in
           let rest = (once last i (1 + lookups i after) false (goes 1 false so.0)).0 in
           (let e : k + lookups i after ≡ 0 = omega (arith, none, rest) in e);

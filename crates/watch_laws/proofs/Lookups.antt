@@ -29,7 +29,7 @@ use Rattle.watch_machine.specs.Wanted.{is_alive, is_unknown, need_of, wanted_nee
 use Rattle.watch_machine.proofs.Cases.{if_both, if_cases}
 use Rattle.watch_machine.proofs.Seeing.{each_read}
 use Rattle.watch_machine.proofs.Written.{each_length}
-use Rattle.watch_laws.specs.Beginnings.{is_lookup, looks}
+use Rattle.watch_laws.specs.Beginnings.{is_lookup, is_loose_look, looks}
 use Rattle.watch_laws.proofs.Alone.{lanes_of}
 use Rattle.watch_laws.proofs.Going.{asks_by, counts, entry_by, operation_of, request_at, skips, times}
 use Rattle.watch_laws.proofs.Spacing.{same_is}
@@ -197,6 +197,31 @@ module _ (p : Presence) (now : ℕ) (xs : List Track) (i : ℕ) where
 abbrev pub AsksRenewal : Option Try → Type 0
 AsksRenewal o = IfSome o (λ t. t.operation ≡ Renew)
 
+-- one that is not pressed is
+abbrev pub LooseAsks : Option Try → Type 0
+LooseAsks o = IfSome o (λ t. t.pressed ≡ false → t.operation ≡ Renew)
+
+pub asks_loose : (o : Option Try) → AsksRenewal o → LooseAsks o
+asks_loose None h = tt
+asks_loose (Some t) h = λ loose. h
+
+renews : (o : Operation) → is_same o Look ≡ false → o ≡ Renew
+renews Look h = absurd cc
+renews Renew h = refl
+
+pub loose_asks : (o : Option Try) → is_loose_look o ≡ false → LooseAsks o
+loose_asks None h = tt
+loose_asks (Some t) h = λ loose. renews t.operation (ap (λ b. not b && is_same t.operation Look) (sym loose) ∙ h)
+
+settled_loose : (margin at : ℕ) (x : Track) (o : Option Try) → LooseAsks o → LooseAsks (settled_try margin at x o)
+settled_loose margin at x None h = tt
+settled_loose margin at x (Some t) h =
+    if_both LooseAsks t.failed (Some (record t { at = at + pause margin at x t; alone = t.alone && nat_le (rested x.last) at; failed = false })) (Some t) h h
+
+pub loose_settled : (margin at : ℕ) (x : Track) → LooseAsks x.attempt → LooseAsks (settled_track margin at x).attempt
+unfolding settled_track
+loose_settled margin at x h = settled_loose margin at x x.attempt h
+
 -- no lookup is owed, the end is known or there is none, and what is to be asked is a renewal
 pub record IsTold (x : Track) : Type 0 where
   pub owes : x.owes ≡ false
@@ -216,16 +241,13 @@ pub settled_told : (margin at : ℕ) (x : Track) → Still (settled_track margin
 unfolding settled_track
 settled_told margin at x h = record { owes = h.owes; known = h.known; asks = λ free. settled_asks margin at x x.attempt (h.asks free) }
 
--- of a try of an entry that is wanted no more nothing is left, since no lookup is owed
+-- of a try that is pressed of an entry that is wanted no more nothing is left, since no lookup is owed
 let_go_asks : (x : Track) (t : Try) → x.owes ≡ false → AsksRenewal (let_go x t)
 let_go_asks x t free = subst (λ b. AsksRenewal (if b then Some (record t { at = max t.at (rested x.last); operation = Look; pressed = false }) else None)) (sym free) tt
 
-pub dropped_asks : (x : Track) (o : Option Try) → x.owes ≡ false → AsksRenewal (dropped x o)
-dropped_asks x None free = tt
-dropped_asks x (Some t) free = if_cases AsksRenewal (t.pressed || not x.owes) (let_go x t) (Some t) (λ e. let_go_asks x t free) (λ e. absurd (or_not t.pressed x.owes free e)) where
-  or_not : (a b : Bool) → b ≡ false → a || not b ≡ false → ⊥
-  or_not true b h e = cc
-  or_not false b h e = cc
+pub dropped_asks : (x : Track) (o : Option Try) → x.owes ≡ false → LooseAsks o → AsksRenewal (dropped x o)
+dropped_asks x None free h = tt
+dropped_asks x (Some t) free h = if_cases AsksRenewal t.pressed (let_go x t) (Some t) (λ e. let_go_asks x t free) h
 
 -- an entry that is pressed while its end is ahead is renewed
 press_asks : (at : ℕ) (x : Track) → is_alive (sec at) x ≡ true → (press at x).operation ≡ Renew
@@ -241,13 +263,13 @@ press_told at x owes known alive = (record { owes = owes; known = known; asks = 
 
 pub pressed_told :
     (margin : ℕ) (e : Entry) (need at : ℕ) (x : Track) → x.owes ≡ false → is_unknown x.end ≡ false → is_alive (sec at) x ≡ true → (wants x need || x.out ≡ true → x.out ≡ false → AsksRenewal x.attempt) →
-    Ahead (sec at) (pressed_track margin e need at x)
+    (x.out ≡ false → LooseAsks x.attempt) → Ahead (sec at) (pressed_track margin e need at x)
 unfolding pressed_track
-pressed_told margin e need at x owes known alive h =
+pressed_told margin e need at x owes known alive h k =
     if_both (Ahead (sec at)) (is_fresh margin e x need (sec at)) (record x { attempt = Some (press at x) }) (if wants x need || x.out then x else record x { attempt = dropped x x.attempt })
     (press_told at x owes known alive)
     (if_cases (Ahead (sec at)) (wants x need || x.out) x (record x { attempt = dropped x x.attempt }) (λ yes'. (record { owes = owes; known = known; asks = h yes' }, alive))
-    (λ no'. (record { owes = owes; known = known; asks = λ free. dropped_asks x x.attempt owes }, alive)))
+    (λ no'. (record { owes = owes; known = known; asks = λ free. dropped_asks x x.attempt owes (k free) }, alive)))
 
 asked_told : (at : ℕ) (round : List ℕ) (i : ℕ) (x : Track) → Ahead (sec at) x → Ahead (sec at) (track_asked_in at round i x)
 unfolding asked_track

@@ -239,7 +239,7 @@ step_stays f due rest old new (Known j end renewable) output planned step lived 
     subst (λ n. Stays f n (After f new rest) new) (sym (taken_due f.o new due output _ step.0 refl))
     (left_stays f due rest old new old.forest (known old j end renewable).tracks old.asked step.1 (known_other old j end renewable f.i lived) base sends same h)
 
-turn_stays :
+pub turn_stays :
     (f : Facts) (due rest : ℕ) (old new : WatchState) (event : Event) (result : Result Output WatchFault) → IsPlanned f → Turn old event result new → IsLived f.o f.i due old event result → is_wanted new f.i ≡ true →
     IsBase f.width f.n new → Sends old new f.n → Same f.i old new → Stays f due (Until f old new rest) old → Stays f (outage_next_after f.o result new due) (After f new rest) new
 turn_stays f due rest old new event (Ok output) planned turn lived wanted base sends same h = step_stays f due rest old new event output planned turn.1 lived wanted base sends same h
@@ -255,7 +255,7 @@ in_time f due k s h =
     (subst (λ n. s.clocks.at < ms n) (sym end) ahead, subst (λ n. s.clocks.at ≤ granted_by f.o f.time n) (sym end) by)
 
 -- a change
-changed_stays :
+pub changed_stays :
     (f : Facts) (due rest : ℕ) (old : WatchState) (c : Changed) (h : IsChanged old c) (k : ℕ) → IsLivedChange old c f.i k → Stays f due (waiting f.o f.n old + (how_many (length c.forest.entries) (comes_over old c) + rest)) old →
     Stays (facts_over f c k) due (waiting f.o (length c.forest.entries) c.state + rest) c.state
 changed_stays f due rest old c h k lived stays = record {
@@ -265,7 +265,7 @@ changed_stays f due rest old c h k lived stays = record {
       (fewer_over f due old c h rest stays.going) stays.through;
 }
 
-planned_over : (f : Facts) (old : WatchState) (c : Changed) (k : ℕ) → k < length c.forest.entries → IsPlanned f → IsPlanned (facts_over f c k)
+pub planned_over : (f : Facts) (old : WatchState) (c : Changed) (k : ℕ) → k < length c.forest.entries → IsPlanned f → IsPlanned (facts_over f c k)
 planned_over f old c k within planned = record { wide = planned.wide; within = within; order = planned.order; short = planned.short; end_is = planned.end_is }
 
 along :
@@ -348,7 +348,7 @@ Begins f due s =
     (All (λ (q : Out). is_request_whole f.o q.since ≡ true) s.out × (due ≤ f.time + turn_of f.o))
     ⊎ (((s.clocks.at < f.o.until) × ((f.o.from < s.clocks.at + f.o.quick) × (due ≤ free_from f + f.o.late))) ⊎ ((f.o.until ≤ s.clocks.at) × (due ≤ cut f.o)))
 
-abbrev facts_of : Outage → ℕ → ℕ → ℕ → ℕ → ℕ → Facts
+abbrev pub facts_of : Outage → ℕ → ℕ → ℕ → ℕ → ℕ → Facts
 facts_of o i n width from end = record { o = o; i = i; n = n; width = width; time = from; end = end; left = ms end - from }
 
 -- where a request of it is out that is whole
@@ -535,14 +535,21 @@ known_end Unknown x need is wanted known' = absurd cc
 known_end (At k) x need is wanted known' = (k, refl)
 known_end Never x need is wanted known' = absurd cc
 
--- what follows whatever the turn is from which on it is lived
+-- an entry outlives an outage from a state on, where due is by when the next clock comes, and k how many wait or will
+pub record WillOutlive (o : Outage) (width i from due k : ℕ) (s : WatchState) : Type 0 where
+  pub end : ℕ
+  pub planned : IsPlanned (facts_of o i (length s.forest.entries) width from end)
+  pub stays : Stays (facts_of o i (length s.forest.entries) width from end) due k s
+
+-- so it does whatever the turn is from which on it is lived
 from_there :
     (o : Outage) (old : WatchState) (last : Turned) (hs : List Happening) (i from due : ℕ) → IsReached old → 0 < old.width → AllHappen old (Hands last ∷ hs) → MayBeAsked last.state i from →
-    AreLived o i due last.state hs → in_line o last.state hs ≤ old.width * o.rounds → o.from ≤ o.until → IsShortFor o (ms (believed (track_at last.state i).end) - from) →
+    in_line o last.state hs ≤ old.width * o.rounds → o.from ≤ o.until → IsShortFor o (ms (believed (track_at last.state i).end) - from) →
     (list_any is_silent last.state.answers ≡ true → last.state.presence.away ≡ true → ⊥) →
     All (λ (q : Out). due ≤ outage_settled_by o q.since + o.late) last.state.out →
-    ((f : Facts) → f.o ≡ o → f.time ≡ from → IsBase old.width (length last.state.forest.entries) last.state → is_request_served o last.state i ≡ false → Begins f due last.state) → AllInTime o i from hs
-from_there o old last hs i from due reached wide history b lived few order short quiet timely begins =
+    ((f : Facts) → f.o ≡ o → f.time ≡ from → IsBase old.width (length last.state.forest.entries) last.state → is_request_served o last.state i ≡ false → Begins f due last.state) →
+    WillOutlive o old.width i from due (in_line o last.state hs) last.state
+from_there o old last hs i from due reached wide history b few order short quiet timely begins =
     let width = old.width in
     let s = last.state in
     let n = length s.forest.entries in
@@ -553,21 +560,24 @@ from_there o old last hs i from due reached wide history b lived few order short
     let is : believed (track_at s i).end ≡ e.0 = ap believed e.1 in
     let short' : IsShortFor o (ms e.0 - from) = subst (λ k. IsShortFor o (ms k - from)) is short in
     let planned : IsPlanned f = record { wide = wide; within = low; order = order; short = short'; end_is = left_over o e.0 from short' } in
-    let stays = first_stays o width n s i from due (waiting o n s + coming_through o s hs) e.0 planned base refl b e.1 quiet timely few (begins f refl refl base) in
-    along f planned hs due s history.1 lived stays
+    record { end = e.0; planned = planned; stays = first_stays o width n s i from due (in_line o s hs) e.0 planned base refl b e.1 quiet timely few (begins f refl refl base) }
 
-pub left_from_clock :
+lived_there :
+    (o : Outage) (width i from due : ℕ) (s : WatchState) (hs : List Happening) → AllHappen s hs → AreLived o i due s hs → WillOutlive o width i from due (in_line o s hs) s → AllInTime o i from hs
+lived_there o width i from due s hs history lived h = along (facts_of o i (length s.forest.entries) width from h.end) h.planned hs due s history lived h.stays
+
+pub outlives_from_clock :
     (o : Outage) (old : WatchState) (last : Turned) (hs : List Happening) (i from : ℕ) → IsReached old → 0 < old.width → AllHappen old (Hands last ∷ hs) → is_clock last.event ≡ true →
-    is_event_taken last.result ≡ true → MayBeAsked last.state i from → AreLived o i (outage_next_after o last.result last.state 0) last.state hs →
-    in_line o last.state hs ≤ old.width * o.rounds → o.from ≤ o.until → IsShortFor o (ms (believed (track_at last.state i).end) - from) → AllInTime o i from hs
-left_from_clock o old last hs i from reached wide history clock taken' b lived few order short =
+    is_event_taken last.result ≡ true → MayBeAsked last.state i from → in_line o last.state hs ≤ old.width * o.rounds → o.from ≤ o.until → IsShortFor o (ms (believed (track_at last.state i).end) - from) →
+    WillOutlive o old.width i from (outage_next_after o last.result last.state 0) (in_line o last.state hs) last.state
+outlives_from_clock o old last hs i from reached wide history clock taken' b few order short =
     let s = last.state in
     let start = starts o old last last.event last.result refl history.0 clock taken' in
     let answers : s.answers ≡ [] = ap (λ (x : WatchState). x.answers) start.ticks'.new_is ∙ readied_answers old start.wall start.elapsed in
     let due = outage_next_by o (wait s) s.out in
     let timely = least_all (λ (q : Out). outage_settled_by o q.since + o.late) (wait s + o.late) s.out in
-    from_there o old last hs i from due reached wide history b (subst (λ d. AreLived o i d s hs) start.due lived) few order short
-    (λ any away. absurd (not_both any (ap (list_any is_silent) answers))) timely
+    subst (λ d. WillOutlive o old.width i from d (in_line o s hs) s) (sym start.due)
+    (from_there o old last hs i from due reached wide history b few order short (λ any away. absurd (not_both any (ap (list_any is_silent) answers))) timely
     (λ f same time base unserved.
     let late = ap (λ (x : Outage). x.late) same in
     let quick = ap (λ (x : Outage). x.quick) same in
@@ -606,7 +616,14 @@ left_from_clock o old last hs i from reached wide history clock taken' b lived f
                 let by' = over.1 in
                 inr (inr (omega (arith, late', until'), omega (arith, by', ends)))
           ]
-    ])
+    ]))
+
+pub left_from_clock :
+    (o : Outage) (old : WatchState) (last : Turned) (hs : List Happening) (i from : ℕ) → IsReached old → 0 < old.width → AllHappen old (Hands last ∷ hs) → is_clock last.event ≡ true →
+    is_event_taken last.result ≡ true → MayBeAsked last.state i from → AreLived o i (outage_next_after o last.result last.state 0) last.state hs →
+    in_line o last.state hs ≤ old.width * o.rounds → o.from ≤ o.until → IsShortFor o (ms (believed (track_at last.state i).end) - from) → AllInTime o i from hs
+left_from_clock o old last hs i from reached wide history clock taken' b lived few order short =
+    lived_there o old.width i from (outage_next_after o last.result last.state 0) last.state hs history.1 lived (outlives_from_clock o old last hs i from reached wide history clock taken' b few order short)
 
 -- what tells an end shows that the broker is there
 told_real : (reply : Reply) → is_told reply ≡ true → is_real reply ≡ true
@@ -637,18 +654,18 @@ asked_before : (last : Option ℕ) (at : ℕ) → rested last ≤ at + 1000 → 
 asked_before None at h = omega arith
 asked_before (Some n) at h = omega (arith, h)
 
-left_from_told :
+pub outlives_from_told :
     (o : Outage) (old : WatchState) (grant : Turned) (hs : List Happening) (i from : ℕ) → IsReached old → 0 < old.width → AllHappen old (Hands grant ∷ hs) → tells i grant.event ≡ true →
-    is_event_taken grant.result ≡ true → MayBeAsked grant.state i from → AreLived o i (granted_next o grant.state i) grant.state hs →
-    in_line o grant.state hs ≤ old.width * o.rounds → o.from ≤ o.until → IsShortFor o (ms (believed (track_at grant.state i).end) - from) → AllInTime o i from hs
-left_from_told o old grant hs i from reached wide history told taken' b lived few order short =
+    is_event_taken grant.result ≡ true → MayBeAsked grant.state i from → in_line o grant.state hs ≤ old.width * o.rounds → o.from ≤ o.until →
+    IsShortFor o (ms (believed (track_at grant.state i).end) - from) → WillOutlive o old.width i from (granted_next o grant.state i) (in_line o grant.state hs) grant.state
+outlives_from_told o old grant hs i from reached wide history told taken' b few order short =
     let s = grant.state in
     let at = s.clocks.at in
     let there = told_there old s grant.event grant.result i history.0 taken' told in
     let asked = granted_at s i in
     let due = granted_next o s i in
     let timely = least_all (λ (q : Out). outage_settled_by o q.since + o.late) (outage_settled_by o asked + o.late) s.out in
-    from_there o old grant hs i from due reached wide history b lived few order short (λ any away. absurd (not_both away there)) timely
+    from_there o old grant hs i from due reached wide history b few order short (λ any away. absurd (not_both away there)) timely
     (λ f same time base unserved.
     let least' = least_start (outage_settled_by o asked + o.late) (map (λ (q : Out). outage_settled_by o q.since + o.late) s.out) in
     let early = asked_before (track_at s i).last at (base.past.last i) in
@@ -688,6 +705,13 @@ left_from_told o old grant hs i from reached wide history told taken' b lived fe
           ]
     ])
 
+left_from_told :
+    (o : Outage) (old : WatchState) (grant : Turned) (hs : List Happening) (i from : ℕ) → IsReached old → 0 < old.width → AllHappen old (Hands grant ∷ hs) → tells i grant.event ≡ true →
+    is_event_taken grant.result ≡ true → MayBeAsked grant.state i from → AreLived o i (granted_next o grant.state i) grant.state hs →
+    in_line o grant.state hs ≤ old.width * o.rounds → o.from ≤ o.until → IsShortFor o (ms (believed (track_at grant.state i).end) - from) → AllInTime o i from hs
+left_from_told o old grant hs i from reached wide history told taken' b lived few order short =
+    lived_there o old.width i from (granted_next o grant.state i) grant.state hs history.1 lived (outlives_from_told o old grant hs i from reached wide history told taken' b few order short)
+
 pub left : LeftLaw
 left o old last hs i from due reached wide history (inl clock) b lived few order short =
     left_from_clock o old last hs i from reached wide history clock.0 clock.1.0 b (subst (λ d. AreLived o i d last.state hs) clock.1.1 lived) few order short
@@ -695,7 +719,7 @@ left o old last hs i from due reached wide history (inr told) b lived few order 
     left_from_told o old last hs i from reached wide history told.0 told.1.0 b (subst (λ d. AreLived o i d last.state hs) told.1.1 lived) few order short
 
 -- in the plan, where the time is ahead: what is left from there on is the margin
-may_at_time : (s : WatchState) (i : ℕ) → IsBefore s i → MayBeAsked s i (ms (time_of s i)) × (ms (believed (track_at s i).end) - ms (time_of s i) ≡ ms s.forest.margin)
+pub may_at_time : (s : WatchState) (i : ℕ) → IsBefore s i → MayBeAsked s i (ms (time_of s i)) × (ms (believed (track_at s i).end) - ms (time_of s i) ≡ ms s.forest.margin)
 may_at_time s i b =
     let e = first_end s i b in
     let is = ap believed e.end_is in

@@ -72,7 +72,7 @@ owing_tries at first called x h =
 dropped_some : (x : Track) (o : Option Try) → x.owes ≡ true → is_some o ≡ true → is_some (dropped x o) ≡ true
 dropped_some x None owes h = h
 dropped_some x (Some t) owes h =
-    if_both (λ (o : Option Try). is_some o ≡ true) (t.pressed || not x.owes) (let_go x t) (Some t)
+    if_both (λ (o : Option Try). is_some o ≡ true) t.pressed (let_go x t) (Some t)
     (if_cases (λ (o : Option Try). is_some o ≡ true) x.owes (Some (record t { at = max t.at (rested x.last); operation = Look; pressed = false })) None (λ e. refl)
     (λ e. absurd (not_both owes e))) refl
 

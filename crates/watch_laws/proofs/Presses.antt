@@ -168,23 +168,23 @@ module _ (at : ℕ) (round : List ℕ) (i : ℕ) where
       cond-false (wants x need && rest) (record x { attempt = Some (press at x) }) keep (ap (λ b. b && rest) unwanted)
       ∙ cond-false (wants x need || x.out) x (record x { attempt = dropped x x.attempt }) (ap (λ b. b || x.out) unwanted ∙ free)
 
-left_over : (x : Track) (o : Option Try) (u : Try) → dropped x o ≡ Some u → (u.pressed ≡ false) × (x.owes ≡ true)
+left_over : (x : Track) (o : Option Try) (u : Try) → dropped x o ≡ Some u → (u.pressed ≡ false) × ((x.owes ≡ true) ⊎ (is_pressed_try o ≡ false))
 left_over x None u is = absurd cc
 left_over x (Some t) u is = by t.pressed x.owes refl refl is where
-  by : (p w : Bool) → t.pressed ≡ p → x.owes ≡ w → (if p || not w then (if w then Some (record t { at = max t.at (rested x.last); operation = Look; pressed = false }) else None) else Some t) ≡ Some u → (u.pressed ≡ false) × (x.owes ≡ true)
-  by true true p w is' = (ap (λ (v : Try). v.pressed) (sym (value_is (record t { at = max t.at (rested x.last); operation = Look; pressed = false }) u is')), w)
+  by :
+      (p w : Bool) → t.pressed ≡ p → x.owes ≡ w → (if p then (if w then Some (record t { at = max t.at (rested x.last); operation = Look; pressed = false }) else None) else Some t) ≡ Some u →
+      (u.pressed ≡ false) × ((x.owes ≡ true) ⊎ (t.pressed ≡ false))
+  by true true p w is' = (ap (λ (v : Try). v.pressed) (sym (value_is (record t { at = max t.at (rested x.last); operation = Look; pressed = false }) u is')), inl w)
   by true false p w is' = absurd cc
-  by false true p w is' = (ap (λ (v : Try). v.pressed) (sym (value_is t u is')) ∙ p, w)
-  by false false p w is' = absurd cc
+  by false w p v is' = (ap (λ (v : Try). v.pressed) (sym (value_is t u is')) ∙ p, inr p)
 
 -- whoever was not pressed before, and is now, had to be asked, or a round names it
 left_loose : (x : Track) (o : Option Try) → is_pressed_try o ≡ false → is_pressed_try (dropped x o) ≡ false
 left_loose x None loose = refl
 left_loose x (Some t) loose = by t.pressed x.owes loose where
-  by : (p w : Bool) → p ≡ false → is_pressed_try (if p || not w then (if w then Some (record t { at = max t.at (rested x.last); operation = Look; pressed = false }) else None) else Some t) ≡ false
+  by : (p w : Bool) → p ≡ false → is_pressed_try (if p then (if w then Some (record t { at = max t.at (rested x.last); operation = Look; pressed = false }) else None) else Some t) ≡ false
   by true w p = absurd cc
-  by false true p = loose
-  by false false p = refl
+  by false w p = loose
 
 out_asked_same : (at : ℕ) (round : List ℕ) (i : ℕ) (y : Track) → y.out ≡ true → track_asked_in at round i y ≡ y
 unfolding asked_track
@@ -294,7 +294,7 @@ module _ (old : WatchState) (wall elapsed : ℕ) (round : List ℕ) (requests : 
         ),
       )
 
-  let_go_so : (u : Try) → (track_at old i).out ≡ false → is_wanted n i ≡ false → list_any (λ j. j == i) round ≡ false → attempt_at n i ≡ Some u → (u.pressed ≡ false) × ((track_at n i).owes ≡ true)
+  let_go_so : (u : Try) → (track_at old i).out ≡ false → is_wanted n i ≡ false → list_any (λ j. j == i) round ≡ false → attempt_at n i ≡ Some u → (u.pressed ≡ false) × (((track_at n i).owes ≡ true) ⊎ (is_pressed (track_at old i) ≡ false))
   let_go_so u free unwanted other is =
       let m = r.forest.margin in
       let e = entry_of r i in
@@ -304,7 +304,7 @@ module _ (old : WatchState) (wall elapsed : ℕ) (round : List ℕ) (requests : 
       let gone = gone_track at round i m e x need (sym wanted_is ∙ unwanted) (keeps.out ∙ free) in
       let there : dropped x x.attempt ≡ Some u = ap (λ (z : Track). z.attempt) (sym gone) ∙ ap (λ (z : Track). z.attempt) (sym (other_track at round i y other)) ∙ sym (try_is within) ∙ is in
       let left = left_over x x.attempt u there in
-      (left.0, owes_kept r round requests i ∙ left.1)
+      (left.0, elim left.1 [ inl owes ↦ inl (owes_kept r round requests i ∙ owes) | inr loose ↦ inr (sym keeps.pressed ∙ loose) ])
 
   -- whoever is pressed that was not
   only_so : is_pressed (track_at old i) ≡ false → is_pressed (track_at n i) ≡ true → ((track_at old i).out ≡ false) × (((is_wanted n i ≡ true) × (is_come n i ≡ true)) ⊎ (list_any (λ j. j == i) round ≡ true))
@@ -374,6 +374,6 @@ presses_so = record {
       let other = names_none r.forest r.tracks r.clocks round i real ((readied_keeps old wall elapsed i).pressed ∙ was) (sym (wanted_is old wall elapsed asked requests i) ∙ wanted) in
       at_try (attempt_at (sent (pressed r asked) requests) i) t (kept_so old wall elapsed asked requests i was wanted other ∙ ap kept_of is));
   dropped = λ old turn wall elapsed i u h clock free.
-      clock_of (λ n round. is_wanted n i ≡ false → is_named_in_round round i ≡ false → attempt_at n i ≡ Some u → (u.pressed ≡ false) × ((track_at n i).owes ≡ true)) old turn.state turn.event turn.result wall elapsed h.0 clock.0
+      clock_of (λ n round. is_wanted n i ≡ false → is_named_in_round round i ≡ false → attempt_at n i ≡ Some u → (u.pressed ≡ false) × (((track_at n i).owes ≡ true) ⊎ (is_pressed (track_at old i) ≡ false))) old turn.state turn.event turn.result wall elapsed h.0 clock.0
       clock.1 (λ round requests _ unwanted other. let_go_so old wall elapsed (asked_by_round round) requests i u free unwanted (named_is round i ∙ other));
 }

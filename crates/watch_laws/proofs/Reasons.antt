@@ -96,7 +96,7 @@ let_go_reasoned b x t =
 
 dropped_reasoned : (b : Bool) (x : Track) (o : Option Try) → Reasoned b o → Reasoned b (dropped x o)
 dropped_reasoned b x None h = h
-dropped_reasoned b x (Some t) h = if_both (Reasoned b) (t.pressed || not x.owes) (let_go x t) (Some t) (let_go_reasoned b x t) h
+dropped_reasoned b x (Some t) h = if_both (Reasoned b) t.pressed (let_go x t) (Some t) (let_go_reasoned b x t) h
 
 -- what is pressed has come to its time, or a round names it
 pressed_reasoned :

@@ -138,7 +138,7 @@ module _ (r : Sent) where
 
   dropped_follows : (x : Track) (o : Option Try) → x.last ≡ Some r.at → IfSome o (Follows r) → IfSome (dropped x o) (Follows r)
   dropped_follows x None last h = tt
-  dropped_follows x (Some t) last h = if_cases (λ o. IfSome o (Follows r)) (t.pressed || not x.owes) (let_go x t) (Some t) (λ e. let_go_follows x t last) (λ e. h)
+  dropped_follows x (Some t) last h = if_cases (λ o. IfSome o (Follows r)) t.pressed (let_go x t) (Some t) (λ e. let_go_follows x t last) (λ e. h)
 
   press_follows : (at : ℕ) (x : Track) → x.last ≡ Some r.at → Follows r (press at x)
   unfolding press

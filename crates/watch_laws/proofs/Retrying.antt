@@ -151,7 +151,7 @@ module _ (at pause' : ℕ) (t : Try) where
   dropped_comes : (x : Track) (o : Option Try) → ((u : Try) → o ≡ Some u → u.pressed ≡ true → Comes u) → (u : Try) → dropped x o ≡ Some u → u.pressed ≡ true → Comes u
   dropped_comes x None h u = h u
   dropped_comes x (Some v) h u =
-      if_both (λ (o : Option Try). o ≡ Some u → u.pressed ≡ true → Comes u) (v.pressed || not x.owes) (let_go x v) (Some v) (let_go_comes x v u) (h u)
+      if_both (λ (o : Option Try). o ≡ Some u → u.pressed ≡ true → Comes u) v.pressed (let_go x v) (Some v) (let_go_comes x v u) (h u)
 
   pressed_retried : (margin : ℕ) (e : Entry) (need : ℕ) (x : Track) → Still (pressed_track margin e need at x) x
   unfolding pressed_track

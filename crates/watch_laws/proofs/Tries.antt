@@ -46,7 +46,7 @@ module _ (P : Try → Type 0) where
   dropped_passes : (x : Track) (o : Option Try) → ((u : Try) → o ≡ Some u → u.pressed ≡ true → 0 < u.fails → P u) → (u : Try) → dropped x o ≡ Some u → u.pressed ≡ true → 0 < u.fails → P u
   dropped_passes x None h u = h u
   dropped_passes x (Some v) h u =
-      if_both (λ (o : Option Try). o ≡ Some u → u.pressed ≡ true → 0 < u.fails → P u) (v.pressed || not x.owes) (let_go x v) (Some v) (let_go_passes x v u) (h u)
+      if_both (λ (o : Option Try). o ≡ Some u → u.pressed ≡ true → 0 < u.fails → P u) v.pressed (let_go x v) (Some v) (let_go_passes x v u) (h u)
 
   pressed_passes : (margin : ℕ) (e : Entry) (need at : ℕ) (x : Track) → Passes x → Passes (pressed_track margin e need at x)
   unfolding pressed_track

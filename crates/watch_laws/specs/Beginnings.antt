@@ -1,7 +1,7 @@
 -- Beginnings: how often everything is looked up anew, and how often an entry is after that. Each law is the contract of a public function
 -- without a body.
 -- Source: this project's own.
-use Rattle.std.specs.Prelude.{◌≡◌, ◌⊎◌, ◌==◌, ℕ, ◌+◌, ◌<◌, ◌≤◌, Bool, true, false, ◌&&◌, List, [], ◌∷◌, ◌++◌, Option, Some, None, Result, Ok, Err, filter, is_some, length, min}
+use Rattle.std.specs.Prelude.{◌≡◌, ◌⊎◌, ◌==◌, ℕ, ◌+◌, ◌<◌, ◌≤◌, Bool, true, false, not, ◌&&◌, List, [], ◌∷◌, ◌++◌, Option, Some, None, Result, Ok, Err, filter, is_some, length, min}
 use Rattle.std.specs.List.{list_any}
 use Rattle.keep_tree.specs.declared.forest.TheConstants.{END_MAX}
 use Rattle.watch_machine.specs.declared.clocks.WallOffset.{WallOffset}
@@ -17,10 +17,11 @@ use Rattle.watch_machine.specs.declared.lanes.Out.{Out}
 use Rattle.watch_machine.specs.declared.notes.Why.{Why}
 use Rattle.watch_machine.specs.declared.notes.Why.TheVariants.{Start}
 use Rattle.watch_machine.specs.declared.reading.TheConstants.{READING_MAX}
+use Rattle.watch_machine.specs.declared.track.Try.{Try}
 use Rattle.watch_machine.specs.Beginning.{is_called}
 use Rattle.watch_machine.specs.History.{AllHappen, Changes, Happening, Hands, History, IsReached, Turned, after_all, state_after_all}
 use Rattle.watch_machine.specs.Refusal.{is_same}
-use Rattle.watch_machine.specs.State.{WatchState, second, track_at}
+use Rattle.watch_machine.specs.State.{WatchState, attempt_at, second, track_at}
 use Rattle.watch_machine.specs.Wanted.{is_alive, is_open, is_wanted}
 use Rattle.watch_laws.specs.Load.{requests_at_turn}
 use Rattle.watch_laws.specs.Outage.{is_tried}
@@ -75,6 +76,11 @@ abbrev pub lookups : ℕ → List Turned → ℕ
 lookups i [] = 0
 lookups i (turn ∷ turns) = length (filter (is_lookup i) (requests_at_turn turn.result)) + lookups i turns
 
+-- what is to be tried, where it is not pressed, is a lookup: one was refused, and no reply has told since
+abbrev pub is_loose_look : Option Try → Bool
+is_loose_look None = false
+is_loose_look (Some t) = not t.pressed && is_same t.operation Look
+
 -- and how many are out: one at most
 abbrev pub looks : ℕ → List Out → ℕ
 looks i out = length (filter (λ (q : Out). q.entry == i && is_same q.operation Look) out)
@@ -116,13 +122,13 @@ IsForLookup why s i = (why ≡ Some Start) ⊎ (is_open (second s) (track_at s i
 -- how often i is looked up from a beginning on, and why that is one: before and begun are the states before and after its clock, last is that after
 -- all, and n is how many lookups go out. With one that was out before it is never two. Where i is needed, as whoever is wanted is, and the
 -- beginning is for its lookup, it owes one from then on, and it is one by the time that none is owed. None goes out where it is not needed, its
--- end is ahead, and it owed none before
+-- end is ahead, it owed none before, and none that was refused is to be tried again
 pub record IsLookedUpOnce (before begun last : WatchState) (why : Option Why) (i n : ℕ) : Type 0 where
   pub at_most : looks i before.out + n ≤ 1
   pub wanted : is_wanted begun i ≡ true → is_needed begun i ≡ true
   pub owes : is_needed begun i ≡ true → IsForLookup why begun i → (track_at begun i).owes ≡ true
   pub once : is_needed begun i ≡ true → IsForLookup why begun i → (track_at last i).owes ≡ false → looks i before.out + n ≡ 1
-  pub never : is_needed begun i ≡ false → is_alive (second begun) (track_at begun i) ≡ true → (track_at before i).owes ≡ false → n ≡ 0
+  pub never : is_needed begun i ≡ false → is_alive (second begun) (track_at begun i) ≡ true → (track_at before i).owes ≡ false → is_loose_look (attempt_at before i) ≡ false → n ≡ 0
 
 -- from a beginning on, while all goes well with it, an entry that is needed is looked up once, and no other is
 abbrev pub OneLookupLaw : Type 0

@@ -45,7 +45,7 @@ KeepsTry new i t = (u : Try) × ((attempt_at new i ≡ Some u) × IsSameTry t u)
 
 -- at a clock, of the entries that are not out: each that is wanted, whose time has come, and that is not pressed, is pressed; so is each that
 -- a round names, also where its own time has not come. No other entry comes to be pressed. Whoever was pressed and is wanted keeps its try, out
--- or not; and of one that is wanted no more, and not named, no more is left than the lookup that it owes, if any
+-- or not; and of one that was pressed, is wanted no more, and not named, no more is left than the lookup that it owes, if any
 pub record PressLaw : Type 0 where
   pub come :
       (old : WatchState) (turn : Turned) (wall elapsed i : ℕ) → History old (turn ∷ []) → IsClock wall elapsed turn → i < length old.tracks → (track_at old i).out ≡ false → is_pressed (track_at old i) ≡ false →
@@ -61,4 +61,4 @@ pub record PressLaw : Type 0 where
       KeepsTry turn.state i t
   pub dropped :
       (old : WatchState) (turn : Turned) (wall elapsed i : ℕ) (u : Try) → History old (turn ∷ []) → IsClock wall elapsed turn → (track_at old i).out ≡ false → is_wanted turn.state i ≡ false →
-      is_named_in_round (round_of turn.result) i ≡ false → attempt_at turn.state i ≡ Some u → (u.pressed ≡ false) × ((track_at turn.state i).owes ≡ true)
+      is_named_in_round (round_of turn.result) i ≡ false → attempt_at turn.state i ≡ Some u → (u.pressed ≡ false) × (((track_at turn.state i).owes ≡ true) ⊎ (is_pressed (track_at old i) ≡ false))

@@ -86,9 +86,7 @@ module _ (margin : ℕ) (e : Entry) (need : ℕ) (p : Presence) (at : ℕ) (x : 
   try_kept : (o : Option Try) → is_owed_alone x.owes o ≡ true → dropped x o ≡ o
   try_kept None h = refl
   try_kept (Some t) h =
-      let two = and_parts (not t.pressed) x.owes h in
-      let loose : t.pressed || not x.owes ≡ false = ap₂ (λ b d. b || not d) (not_true t.pressed two.0) two.1 in
-      cond-false (t.pressed || not x.owes) (let_go x t) (Some t) loose
+      cond-false t.pressed (let_go x t) (Some t) (not_true t.pressed (and_parts (not t.pressed) x.owes h).0)
 
   pub is_kept : fresh ≡ false → wants x need || x.out ≡ false → is_owed_alone x.owes x.attempt ≡ true → pressed_track margin e need at x ≡ x
   unfolding pressed_track

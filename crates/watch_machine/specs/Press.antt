@@ -32,13 +32,14 @@ press at x = record {
   failed = false;
 }
 
--- what is left of a try of an entry that is wanted no more: the lookup that it owes, if any
+-- what is left of a try that is pressed of an entry that is wanted no more: the lookup that it owes, if any
 abbrev pub let_go : Track → Try → Option Try
 let_go x t = if x.owes then Some (record t { at = max t.at (rested x.last); operation = Look; pressed = false }) else None
 
+-- a try that is not pressed goes on: its entry may be an orphan that FILE puts under a token that has ended, and a reply alone tells
 abbrev pub dropped : Track → Option Try → Option Try
 dropped x None = None
-dropped x (Some t) = if t.pressed || not x.owes then let_go x t else Some t
+dropped x (Some t) = if t.pressed then let_go x t else Some t
 
 -- an entry with that need before any round: it is pressed where it has to be asked, and let go where it is wanted no more. One
 -- that is out stays as it is

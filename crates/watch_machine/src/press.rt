@@ -50,14 +50,15 @@ fn press(track: Track, at: Millis) -> Try
     }
 }
 
-/// What is left of a try of an entry that is wanted no more: the lookup that it owes, if any.
+/// What is left of a try of an entry that is wanted no more: one that is not pressed goes on until a reply tells an end, and of one
+/// that is pressed the lookup that is owed is left, if any.
 fn dropped(track: Track, attempt: Try) -> Option<Try>
     requires track { IsTrack track }
     requires attempt { IsTry attempt }
     ensures value { result ≡ dropped track (Some attempt) }
     ensures bounds { IfSome result IsTry }
 {
-    if !attempt.pressed && track.owes {
+    if !attempt.pressed {
         return Some(attempt);
     }
     if !track.owes {

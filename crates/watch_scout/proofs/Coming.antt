@@ -1,5 +1,5 @@
 -- Coming: entries that come up one after another. For `look`.
-use Rattle.std.proofs.Common.{◌≡◌, ◌∙◌, ℕ, suc, ◌+◌, ◌-◌, ◌<◌, Bool, true, false, Some, length, refl, ap, arith, inl, inr}
+use Rattle.std.proofs.Common.{◌≡◌, ◌∙◌, ℕ, suc, ◌+◌, ◌-◌, ◌<◌, true, false, Some, length, refl, ap, arith, inl, inr}
 use Rattle.std.proofs.lemmas.Bool.{and_from, cases_Bool, cond-false, cond-true}
 use Rattle.std.proofs.lemmas.List.{length-set}
 use Rattle.watch_machine.specs.State.{WatchState}

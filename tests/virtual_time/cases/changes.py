@@ -138,7 +138,7 @@ def a_secret_that_the_broker_refuses(program: Path) -> list[str]:
         stage.equal("one that never ends", endless, stage.ask("replace", "own", "s.endless"))
         for secret, count in (("s.none", 1), ("s.endless", 2)):
             stage.write("web.token", secret)
-            stage.on(stage.now + 10)
+            stage.on(stage.now + 15)
             stage.equal(f"a file with {secret}", count, len(stage.agent.said("secret-file", level="warning")))
         stage.on(2 * HOUR)
         return stage.faults()

@@ -13,21 +13,42 @@ HOUR, DAY = 3600, 86400
 
 
 def three_weeks_without_faults(program: Path) -> list[str]:
-    """Three entries of one step: each wake-up renews all, a margin before their end, and nothing else is renewed. Each beginning looks
-    each up once, and there is one a day."""
-    days = 21
+    """Three entries of one step: each wake-up renews all, a margin before their end as it was looked up last or granted since, and nothing
+    else is renewed. Each beginning looks each up once, and there is one a day: it tells their end, or a second less, which whole seconds
+    cost."""
+    days, step, margin = 21, 50_000, 120
     until = days * DAY - 20_000
-    with Stage(program, fleet(3, 50_000, 120, 40_000, need=at(until))) as stage:
+    with Stage(program, fleet(3, step, margin, 40_000, need=at(until))) as stage:
         stage.on(days * DAY)
-        moments, end = list[float](), 40_000
-        while end < until:
-            moments.append(end - 120)
-            end += 50_000 - 120
+        moments, end = list[int](), at(40_000)
+        for line in sorted(stage.agent.said("entry") + stage.agent.said("wake"), key=lambda line: line.moment):
+            if line.event == "wake":
+                moments.append(end - margin - at(0))
+                end = int(line.words[0]) + step
+            else:
+                told = int(line.words[1])
+                stage.must(end - 1 <= told <= end, f"{line}: it ends at {end}")
+                end = told
+        stage.must(len(moments) == (until - 40_000) // (step - margin) + 1, f"{len(moments)} wake-ups")
         stage.equal("renewals", [moment for moment in moments for _ in range(3)],
                     [one.moment / ns(1) for one in stage.broker.vault.asked if one.renews])
         stage.must(stage.beginnings() >= days, f"{stage.beginnings()} beginnings")
         stage.equal("lookups", 3 * stage.beginnings(), stage.broker.vault.count(renews=False))
         return stage.faults(quiet=True)
+
+
+def few_wake_ups(program: Path) -> list[str]:
+    """In an hour in which nothing is due it wakes up each sixteenth of the margin: half a minute at most, a second at least."""
+    found = []
+    for margin, rest in ((1200, 30), (600, 30), (160, 10), (20, 1.25), (10, 1)):
+        with Stage(program, fleet(3, 50_000, margin, 50_000), timeout=2) as stage:
+            stage.on(100)
+            before = stage.agent.rests
+            stage.on(100 + HOUR)
+            rests = stage.agent.rests - before
+            stage.must(abs(rests - HOUR / rest) <= 1, f"margin {margin}: it wakes up {rests} times in an hour")
+            found += stage.faults()
+    return found
 
 
 def a_start_at_any_part_of_a_second(program: Path) -> list[str]:
@@ -151,7 +172,8 @@ def one_that_is_revoked_stops_no_daily_lookups(program: Path) -> list[str]:
 
 
 KEPT: tuple[Case, ...] = (
-    three_weeks_without_faults, a_start_at_any_part_of_a_second, late_where_the_machine_wakes_up_late, suspended, suspended_past_many_ends,
+    three_weeks_without_faults, few_wake_ups, a_start_at_any_part_of_a_second, late_where_the_machine_wakes_up_late, suspended,
+    suspended_past_many_ends,
     the_wall_an_hour_off_for_a_while, the_wall_an_hour_ahead_all_the_time, a_slow_clock_for_weeks, jumps_and_days, nodes_whose_dates_differ,
     one_that_is_revoked_stops_no_daily_lookups,
 )

@@ -51,18 +51,18 @@ def a_token_and_its_lease_at_once(program: Path) -> list[str]:
 
 
 def another_one_behind_a_refused_one(program: Path) -> list[str]:
-    """A file that held what the broker refuses holds another one: that is taken within ten seconds. What was refused is said anew where
+    """A file that held what the broker refuses holds another one: that is taken within twenty seconds. What was refused is said anew where
     the file was well in between."""
     with with_files(program, Entry("web", left=800, step=900, file="web.token"), Entry("own", left=800, step=900)) as stage:
         stage.broker.vault.add(Entry("web", left=2000, step=900, credential="s.two").row(None, is_spare=True))
         stage.on(5)
         for secret, warnings in (("s.none", 1), ("s.web", 1), ("s.none", 2)):
             stage.write("web.token", secret)
-            stage.on(stage.now + 8)
+            stage.on(stage.now + 15)
             stage.equal(f"warnings behind {secret}", warnings, len(stage.agent.said("secret-file", "web", level="warning")))
         stage.write("web.token", "s.two")
         next(row for row in stage.broker.vault.rows.values() if row.is_spare).is_spare = False
-        stage.on(stage.now + 10)
+        stage.on(stage.now + 20)
         stage.equal("taken", 1, len(stage.agent.said("replace", "web")))
         stage.on(2 * HOUR)
         return stage.faults()
@@ -79,7 +79,7 @@ def one_that_is_added_with_a_file(program: Path) -> list[str]:
         stage.equal("alerts", 1, len(stage.agent.said("secret-file", "new", level="alert")))
         stage.broker.vault.add(new.row(None))
         stage.write("new.token", "s.new")
-        stage.on(50)
+        stage.on(60)
         stage.equal("shown then", {"own": "kept", "new": "kept"}, states(stage))
         stage.restart()
         stage.fleet = stage.fleet.with_entry(new)

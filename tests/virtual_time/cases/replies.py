@@ -182,7 +182,7 @@ def leases_that_went_with_a_revoked_token(program: Path) -> list[str]:
         vault.named("app").revoked = stage.world.now
         other = vault.add(Entry("app", left=2000, step=900, credential="s.two").row(None))
         stage.write("app.token", "s.two\n")
-        stage.on(35)
+        stage.on(45)
         vault.add(Entry("db", Kind.LEASE, left=2000, step=900, credential="db/2").row(other))
         stage.write("db.lease", "db/2\n")
         stage.on(745)

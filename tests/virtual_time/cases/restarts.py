@@ -261,7 +261,7 @@ def its_memory_stays(program: Path) -> list[str]:
 
 def an_orphan_whose_parent_in_the_file_has_ended(program: Path) -> list[str]:
     """FILE has it under a token that has ended; the broker says that it is an orphan. Killed while everything gets 403 for 30 seconds, the
-    agent asks it once, and then no more. (The world of seed 101.)"""
+    agent asks it until a reply tells. (The world of seed 101.)"""
     entries = (Entry("base", left=100, step=600, need=0), Entry("job", parent="base", left=600, step=600))
     with Stage(program, Fleet(entries, 60), real={"base": {"is_renewable": False}, "job": {"parent": None}}) as stage:
         stage.on(300)
@@ -276,6 +276,6 @@ KEPT: tuple[Case, ...] = (
     killed_inside_the_margin, later_ones_end_sooner, a_step_little_over_the_margin, killed_early_in_an_outage,
     killed_in_an_outage_with_no_ends_known, not_there_for_a_while, another_boot, ended_by_systemd, a_disk_that_stalls,
     ends_that_cannot_be_kept, killed_at_any_call, a_start_waits_for_its_part, suspended_in_a_start_that_waits,
-    ends_that_are_none, its_memory_stays,
+    ends_that_are_none, a_pipe_in_the_place_of_its_ends, its_memory_stays, an_orphan_whose_parent_in_the_file_has_ended,
 )
-NOT_YET: tuple[Case, ...] = (an_orphan_whose_parent_in_the_file_has_ended, a_pipe_in_the_place_of_its_ends)
+NOT_YET: tuple[Case, ...] = ()

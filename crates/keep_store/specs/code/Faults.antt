@@ -1,6 +1,6 @@
 -- Words for the faults of the crates below, as this one tells them. No public clause cites them.
 -- Source: this project's own.
-use Rattle.std.specs.Prelude.{Bool, true, false, Option, Some, None}
+use Rattle.std.specs.Prelude.{◌≡◌, Bool, true, false, Option, Some, None}
 use Rattle.keep_change.specs.declared.change.Change.{Change}
 use Rattle.keep_change.specs.declared.change.Record.{Record}
 use Rattle.keep_change.specs.declared.change.Record.TheVariants.{Made, Settling}
@@ -32,6 +32,10 @@ abbrev pub unkept : DiskFault → Bool → TakeFault
 unkept fault true = takes.Unsure fault
 unkept disks.OutOfMemory false = takes.OutOfMemory
 unkept fault false = takes.Disk fault
+
+-- a disk has not kept the record, or may have kept it
+abbrev pub IsUnkept : TakeFault → Type 0
+IsUnkept fault = (why : DiskFault) × (may_have : Bool) × (fault ≡ unkept why may_have)
 
 abbrev pub faulty : InvFault → FileFault
 faulty inventories.OutOfMemory = files.OutOfMemory

@@ -1,5 +1,5 @@
 -- Those so far have no word; then there is one on the file of the next, or memory is wanting for it, or it has none either.
-use Rattle.std.proofs.Common.{◌≡◌, ◌∙◌, ◌<◌, ◌≤◌, Ok, ap, arith, length, refl}
+use Rattle.std.proofs.Common.{◌∙◌, ◌<◌, ◌≤◌, Ok, ap, arith, length, refl}
 use Rattle.std.proofs.lemmas.List.{length-set}
 use Rattle.house_ledger.proofs.Asking.{none_heard, one_more, want_at, word_at}
 use Rattle.house_ledger.proofs.asker.hear_first.Goals as goal

@@ -1,5 +1,5 @@
--- rest_law: the law as it is proved in Handing.
-use Rattle.scout_laws.proofs.Handing.{rests}
+-- rest_law: the law as it is proved in Resting.
+use Rattle.scout_laws.proofs.Resting.{rests}
 use Rattle.scout_laws.proofs.laws_of_outages.rest_law.Goals as goal
 
 pub returns : goal.returns

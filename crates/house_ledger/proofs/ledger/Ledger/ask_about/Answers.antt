@@ -1,5 +1,5 @@
 -- The first that is free looks it up, or memory is wanting for that.
-use Rattle.std.proofs.Common.{◌≡◌, ◌∙◌, Ok, Err, ap, inr, refl, sym}
+use Rattle.std.proofs.Common.{◌∙◌, Ok, Err, ap, inr, refl, sym}
 use Rattle.std.specs.Vec.{with_items}
 use Rattle.keep_secrets.specs.declared.looking.Looking.{Looking}
 use Rattle.house_ledger.specs.Askers.{free_place}

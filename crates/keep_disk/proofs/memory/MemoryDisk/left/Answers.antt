@@ -4,7 +4,7 @@ use Rattle.std.specs.Str.{bytes_eq}
 use Rattle.keep_disk.specs.Image.{File}
 use Rattle.keep_disk.specs.State.{DiskState}
 use Rattle.keep_disk.specs.History.{file_after, sound_after, state_after_call, state_after_calls}
-use Rattle.keep_disk.specs.Memory.{at_first, image_of, held_file}
+use Rattle.keep_disk.specs.Memory.{at_first, image_of, kept_of, held_file}
 use Rattle.keep_disk.specs.Left.{PathIsFollowed}
 use Rattle.keep_disk.specs.declared.call.Call.{Call}
 use Rattle.keep_disk.proofs.Left.{state_more, followed_here, followed_past, elsewhere, not_elsewhere}
@@ -14,7 +14,7 @@ pub loop-call-preserved-then-is_elsewhere : goal.loop-call-preserved-then-is_els
 loop-call-preserved-then-is_elsewhere c =
     let m = c.args.self.now in
     let path = c.args.path.now in
-    let first = at_first (image_of m.files.items) m.fault in
+    let first = at_first (image_of m.files.items) (kept_of m.files.items m.kept) m.fault in
     let call = c.call-item.result in
     let k = c.loop-call.call-index in
     let long : length c.deref-call-items.result.now ≡ length m.calls.items = ap (λ (l : List Call). length l) c.deref-call-items.ensures.value in
@@ -28,7 +28,7 @@ pub loop-call-preserved : goal.loop-call-preserved
 loop-call-preserved c =
     let m = c.args.self.now in
     let path = c.args.path.now in
-    let first = at_first (image_of m.files.items) m.fault in
+    let first = at_first (image_of m.files.items) (kept_of m.files.items m.kept) m.fault in
     let call = c.call-item.result in
     let k = c.loop-call.call-index in
     let long : length c.deref-call-items.result.now ≡ length m.calls.items = ap (λ (l : List Call). length l) c.deref-call-items.ensures.value in

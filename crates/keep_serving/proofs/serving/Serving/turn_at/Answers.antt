@@ -1,11 +1,11 @@
 -- The time was handed in, and then a change was made.
-use Rattle.std.proofs.Common.{◌≡◌, ◌∙◌, ◌++◌, ◌∷◌, ◌||◌, Some, ap, is_ok, refl, subst, sym}
+use Rattle.std.proofs.Common.{◌≡◌, ◌∙◌, ◌++◌, ◌∷◌, ◌||◌, List, [], Some, ap, is_ok, refl, subst, sym}
 use Rattle.keep_asking.specs.Sending.{Lanes, lanes_of}
 use Rattle.keep_serving.specs.Changes.{AllGiven, given_by, is_one_made}
-use Rattle.keep_serving.specs.Held.{Held, IsInStep, serving_side}
-use Rattle.keep_serving.specs.Neighbours.{AllCalled, GoOn, calls_for_change, calls_of_hearing, heard_of_want}
+use Rattle.keep_serving.specs.Held.{IsInStep, serving_side}
+use Rattle.keep_serving.specs.Neighbours.{AllCalled, GoOn, NeighbourCall, Rest, calls_for_change, calls_of_hearing, heard_of_want}
 use Rattle.keep_serving.specs.Turns.{turn_wait_by}
-use Rattle.keep_serving.proofs.Called.{called_join}
+use Rattle.keep_serving.proofs.Called.{called_join, called_once}
 use Rattle.keep_serving.proofs.Changed.{made_keeps}
 use Rattle.keep_serving.proofs.Staged.{goes_keeps}
 use Rattle.keep_serving.proofs.Turned.{turned, whole_turn}
@@ -21,21 +21,25 @@ returns-clause-turn g c =
     let whole = is_ok c.hand_in.result in
     let busy = c.go_on-is_busy.result in
     let due = c.due-due.result in
+    let rest = c.rest-rest.result in
+    let last = c.make_change-is_changed.new.neighbours in
+    let asks : List NeighbourCall = Rest r.elapsed rest ∷ [] in
+    let after : AllCalled g.N.Neighbours.does (calls_for_change made.0 ++ asks) c.go_on-is_busy.new.self last =
+    called_join g.N.Neighbours.does (calls_for_change made.0) asks c.go_on-is_busy.new.self last last made.1.1.1.1 (called_once g.N.Neighbours.does (Rest r.elapsed rest) last last c.rest-rest.ensures) in
     let held = c.make_change-is_changed.new.self in
     let heard = c.hand_in.ensures.heard in
     let told : AllCalled g.N.Neighbours.does (heard_of_want whole) c.hand_in.new.neighbours c.tell_want.new.neighbours =
     subst (λ w. AllCalled g.N.Neighbours.does (heard_of_want w) c.hand_in.new.neighbours c.tell_want.new.neighbours) c.is_ok-is_whole.ensures.value c.tell_want.ensures.heard in
-    let waits : c.wait_of.result ≡ turn_wait_by (is_one_made made.0 || busy) whole held.until due (Some r) =
-    c.wait_of.ensures ∙ ap (λ b. turn_wait_by (b || busy) c.is_ok-is_whole.result c.self-2.inside.until due (Some r)) made.1.1.0
-    ∙ ap (λ w. turn_wait_by (is_one_made made.0 || busy) w c.self-2.inside.until due (Some r)) c.is_ok-is_whole.ensures.value
-    ∙ ap (λ (h : Held). turn_wait_by (is_one_made made.0 || busy) whole h.until due (Some r)) c.self-2.view_is in (
-      turned r whole made.0 busy due c.wait_of.result,
+    let waits : c.wait_of.result ≡ turn_wait_by (is_one_made made.0 || busy) whole held due rest (Some r) =
+    c.wait_of.ensures ∙ ap (λ b. turn_wait_by (b || busy) c.is_ok-is_whole.result held due rest (Some r)) made.1.1.0
+    ∙ ap (λ w. turn_wait_by (is_one_made made.0 || busy) w held due rest (Some r)) c.is_ok-is_whole.ensures.value in (
+      turned r whole made.0 busy due rest c.wait_of.result,
       (
         refl,
         (
           refl,
           (
-            whole_turn (g.L.Lanes.host_port c.args.lanes.now) r whole busy made.0 due c.wait_of.result (serving_side c.args.self.now old) (serving_side c.hand_in.new.self mid) (serving_side held new) c.hand_in.ensures.goes made.1.0 waits,
+            whole_turn (g.L.Lanes.host_port c.args.lanes.now) r whole busy made.0 due rest c.wait_of.result (serving_side c.args.self.now old) (serving_side c.hand_in.new.self mid) (serving_side held new) c.hand_in.ensures.goes made.1.0 waits,
             (
               subst (λ a. AllGiven (given_by made.0) a (g.N.Neighbours.given c.make_change-is_changed.new.neighbours)) (c.go_on-is_busy.ensures.given ∙ c.tell_want.ensures.given ∙ c.hand_in.ensures.given) made.1.1.1.0,
               record {
@@ -43,9 +47,8 @@ returns-clause-turn g c =
                 few = heard.few;
                 is_handed = heard.is_handed;
                 whole = heard.whole;
-                called = called_join g.N.Neighbours.does (calls_of_hearing heard.answers heard.is_handed) (heard_of_want whole ++ GoOn busy ∷ calls_for_change made.0) c.args.neighbours.now c.hand_in.new.neighbours c.make_change-is_changed.new.neighbours heard.called
-                    (called_join g.N.Neighbours.does (heard_of_want whole) (GoOn busy ∷ calls_for_change made.0) c.hand_in.new.neighbours c.tell_want.new.neighbours c.make_change-is_changed.new.neighbours told
-                    (c.go_on-is_busy.new.self, (c.go_on-is_busy.ensures.does, made.1.1.1.1)));
+                called = called_join g.N.Neighbours.does (calls_of_hearing heard.answers heard.is_handed) (heard_of_want whole ++ GoOn busy ∷ (calls_for_change made.0 ++ asks)) c.args.neighbours.now c.hand_in.new.neighbours last heard.called
+                    (called_join g.N.Neighbours.does (heard_of_want whole) (GoOn busy ∷ (calls_for_change made.0 ++ asks)) c.hand_in.new.neighbours c.tell_want.new.neighbours last told (c.go_on-is_busy.new.self, (c.go_on-is_busy.ensures.does, after)));
               },
             ),
           ),

@@ -12,6 +12,7 @@ loop-init g c = record {
   paused = none_paused g.N.Neighbours.does c.args.until (g.C.Clock.seen c.args.clock.now) (g.N.Neighbours.given c.args.neighbours.now) c.args.neighbours.now;
   same = refl;
   width = refl;
+  port = refl;
 }
 
 pub loop-preserved : goal.loop-preserved
@@ -22,6 +23,7 @@ loop-preserved g c =
       paused = one_paused g.N.Neighbours.does c.args.until c.loop.counter c.in-Some.millis c.ok-reading.result (serving_side c.loop.self mid) (serving_side c.pause.new.self new) _ _ (g.C.Clock.seen c.read.new.self) _ _ _ _ _ _ _ c.loop.invariant.paused (subst (λ (r : Option Reading). AllMade (read_call r ∷ []) (g.C.Clock.seen c.loop.clock) (g.C.Clock.seen c.read.new.self)) (sym c.ok-reading.ensures.value) c.read.ensures.made) c.in-Some.ensures.pauses c.wait.ensures.made;
       same = c.in-Some.ensures.pauses.same ∙ c.loop.invariant.same;
       width = c.pause.ensures.width ∙ c.loop.invariant.width;
+      port = c.pause.ensures.port ∙ c.loop.invariant.port;
     }
 
 pub returns-clause-waited : goal.returns-clause-waited

@@ -1,5 +1,5 @@
 -- FILE becomes what is kept; then the copy is FILE, and the journal empty.
-use Rattle.std.proofs.Common.{◌≡◌, ℕ, IsTrue, List, [], ◌∷◌, ◌++◌, true, false, Option, Some, OnOk, sym, ap, subst, ◌∙◌}
+use Rattle.std.proofs.Common.{◌≡◌, ℕ, IsTrue, List, [], ◌∷◌, ◌++◌, true, false, Option, Some, OnOk, refl, sym, ap, subst, ◌∙◌}
 use Rattle.std.specs.Prelude.{option_map, string_bytes}
 use Rattle.std.specs.Str.{bytes_eq}
 use Rattle.keep_change.specs.Replay.{replayed}
@@ -9,11 +9,12 @@ use Rattle.keep_journal.specs.Journals.{Exchanging, FileIsThere, JournalIsAtRest
 use Rattle.keep_journal.specs.Records.{StandsFor}
 use Rattle.keep_store.specs.Books.{Book}
 use Rattle.keep_store.specs.Moved.{IsMoved, IsMovedBook, IsMovedIf, LeftByMove, mark_line}
-use Rattle.keep_store.specs.Stores.{book_of, is_sure, journal_of, lines_in, path_of_store}
+use Rattle.keep_store.specs.Stores.{FileHolds, book_of, is_sure, journal_of, lines_in, path_of_store}
 use Rattle.keep_waiting.specs.Keepers.{store_of}
 use Rattle.keep_state.specs.Settles.{IsSettledState, LeftBySettling, copy_with, mode_of}
 use Rattle.keep_state.specs.States.{Kept, store_in}
 use Rattle.keep_journal.proofs.Steps.{on_refused}
+use Rattle.keep_state.proofs.Filed.{holds_alone, keeps_at, keeps_handed}
 use Rattle.keep_state.proofs.Renewed.{file_past, handed_so, not_copied, on_err, then_handed}
 use Rattle.keep_state.proofs.state.State.settle.Goals as goal
 
@@ -107,3 +108,28 @@ returns-clause-any_moment g c known =
     subst (λ (k : Kept g.row.D.Denot). LeavesOnly (s k.disk) v (LeftBySettling (store_in k) k.places (s k.disk))) c.self.view_is
     (then_handed (store_in k) k.places (s k.disk) file seen (s c.read_file.new.disk) u (c.read_file.ensures.alone known) (c.read_file.ensures.any_moment known) (subst (λ (q : List ℕ). LeavesOnly (s c.read_file.new.disk) u (LeftByMove (store_in k) q (mode_of c.in_ok-bytes.field-0.mode) (s c.read_file.new.disk))) c.file-2.ensures.value (c.settle.ensures.any_moment known))
     c.file.ensures.apart c.self.invariant.path text there.served there.says (journal_of (store_of c.settle.new.self)).size (there.there known) rest (g.met.D.Disk.counts_now c.settle.new.disk) v run)
+
+pub settle-requires-clause-file : goal.settle-requires-clause-file
+settle-requires-clause-file g c =
+    let s = g.D.Disk.state in
+    let store = store_of c.self.inside.keeper in
+    subst (λ (p : List ℕ). FileHolds g.D.Disk.is_known store p (s c.read_file.new.disk)) (sym c.file-2.ensures.value)
+    (holds_alone g.D.Disk.is_known store store c.self.inside.paths.now.file (s c.self.inside.disk) (s c.read_file.new.disk) c.read_file.ensures.alone refl c.self.invariant.file)
+
+pub invariant_of-self-2 : goal.invariant_of-self-2
+invariant_of-self-2 g c =
+    let s = g.D.Disk.state in
+    let known = g.D.Disk.is_known in
+    let places = c.self.inside.paths.now in
+    let mid = c.settle.new.self in
+    let u = s c.settle.new.disk in
+    let v = s c.hand_over-left.new.disk in
+    let at = c.settle.ensures.path ∙ c.self.invariant.path in
+    let p = path_of_store (store_of mid) in
+    let bytes = c.as_bytes.result.now in
+    let was = keeps_at known c.self.inside.keeper mid places (s c.self.inside.disk) u c.self.invariant c.settle.ensures.held c.settle.ensures.replayed c.settle.ensures.path c.file-2.result.now c.file-2.ensures.value c.settle.ensures.file in
+    keeps_handed known mid c.hand_over-left.new.self places (copy_with bytes) (λ f. StandsFor f []) u v c.file.ensures.apart was c.hand_over-left.ensures.held c.hand_over-left.ensures.replayed c.hand_over-left.ensures.path
+    (λ is other a b. c.hand_over-left.ensures.others is other (ap (λ (q : List ℕ). bytes_eq q other) at ∙ a) (ap (λ (q : List ℕ). bytes_eq q other) c.copy.ensures.value ∙ b))
+    (λ is. subst (λ (q : List ℕ). LeavesOnly u v (Exchanging q places.copy (copy_with bytes) (λ f. StandsFor f []) u)) at
+    (subst (λ (q : List ℕ). LeavesOnly u v (Exchanging p q (copy_with bytes) (λ f. StandsFor f []) u)) c.copy.ensures.value (c.hand_over-left.ensures.any_moment is)))
+    (g.met.D.Disk.counts_now c.hand_over-left.new.disk) c.hand_over-left.ensures.kept

@@ -15,7 +15,7 @@ pub returns-clause-replayed : goal.returns-clause-replayed
 returns-clause-replayed g c =
     let old = c.args.self.now in
     let lines = lines_in old in
-    let new : Store = record { alloc = old.alloc; journal = c.compact.new.self; book = old.book; is_sure = old.is_sure } in
+    let new : Store = record { alloc = old.alloc; journal = c.compact.new.self; book = old.book; is_sure = old.is_sure; is_kept = old.is_kept } in
     let read = c.records.result.now in
     let same : read ≡ lines = c.records.ensures in
     let is = MatchOption-at_some (is_worth read ≡ false) (λ (outs : Vec Bool Global). (outs.items ≡ voids (records_in read)) × (is_worth read ≡ true)) c.in-Some.voids c.in-Some.is c.in_ok-voids.ensures in

@@ -1,6 +1,6 @@
 -- The file is in its place; or it is looked at which one is there. The journal is left alone.
-use Rattle.std.proofs.Common.{ap, ◌∙◌}
-use Rattle.std.proofs.lemmas.Bool.{and_parts}
+use Rattle.std.proofs.Common.{sym, ap, ◌∙◌}
+use Rattle.std.proofs.lemmas.Bool.{and_parts, true≢false}
 use Rattle.keep_disk.specs.Image.{File, Image}
 use Rattle.keep_disk.specs.State.{IsAfter}
 use Rattle.keep_disk.specs.Torn.{MovesFile}
@@ -49,3 +49,9 @@ returns-in-Err-clause-any_moment g c known =
     let P = IsAfter (MovesFile c.args.target.now file) (s c.args.disk.now) in
     goes_on (s c.args.disk.now) (s c.replace.new.disk) (s c.has_still.new.disk) P (c.replace.ensures.any_moment known) (c.has_still.ensures.time known)
     (λ d left. at_end (s c.args.disk.now) (s c.replace.new.disk) P (c.replace.ensures.any_moment known) (g.met.D.Disk.counts_now c.replace.new.disk) d ((c.has_still.ensures.alone known).crash d left))
+
+pub returns-in-Ok-clause-file : goal.returns-in-Ok-clause-file
+returns-in-Ok-clause-file g c known kept sound left now = (c.in-Ok.ensures.replaced known).1.durable left now
+
+pub returns-in-Err-clause-file : goal.returns-in-Err-clause-file
+returns-in-Err-clause-file g c known kept = absurd (true≢false (sym kept))

@@ -13,6 +13,7 @@ use Rattle.keep_store.specs.Moved.{LeftByMove, SaysAlready, mark_line}
 use Rattle.keep_store.specs.Stores.{IsReplayed, journal_of, lines_in, path_of_store}
 use Rattle.keep_store.specs.code.Moving.{IsMoving}
 use Rattle.keep_journal.proofs.Steps.{on_refused}
+use Rattle.keep_store.proofs.Kept.{holds_past}
 use Rattle.keep_store.proofs.Marking.{first_marked}
 use Rattle.keep_store.proofs.MovedOn.{marked_replays, marked_then, moved_replays, says_by_itself}
 use Rattle.keep_store.proofs.store.Store.settle.Goals as goal
@@ -21,7 +22,7 @@ pub returns-in_err-put-clause-replayed : goal.returns-in_err-put-clause-replayed
 returns-in_err-put-clause-replayed g c =
     let b = c.args.self.now.book in
     let is = MatchOption-at_some (SaysAlready b) (IsMoving b) c.in-Some.moving c.in-Some.is c.in_ok-moving.ensures in
-    let new : Store = record { alloc = c.args.self.now.alloc; journal = c.put.new.self; book = b; is_sure = c.args.self.now.is_sure } in
+    let new : Store = record { alloc = c.args.self.now.alloc; journal = c.put.new.self; book = b; is_sure = c.args.self.now.is_sure; is_kept = c.args.self.now.is_kept } in
     marked_replays c.args.self.now c.in-Some.moving is new c.requires.replayed refl (inl c.in_err-put.ensures.refused)
 
 pub returns-in_err-put-clause-sure : goal.returns-in_err-put-clause-sure
@@ -45,7 +46,7 @@ pub returns-in_err-put_in_place-clause-replayed : goal.returns-in_err-put_in_pla
 returns-in_err-put_in_place-clause-replayed g c =
     let b = c.args.self.now.book in
     let is = MatchOption-at_some (SaysAlready b) (IsMoving b) c.in-Some.moving c.in-Some.is c.in_ok-moving.ensures in
-    let new : Store = record { alloc = c.args.self.now.alloc; journal = c.put.new.self; book = b; is_sure = c.put_in_place.new.self.is_sure } in
+    let new : Store = record { alloc = c.args.self.now.alloc; journal = c.put.new.self; book = b; is_sure = c.put_in_place.new.self.is_sure; is_kept = c.put_in_place.new.self.is_kept } in
     subst IsReplayed (sym c.put_in_place.ensures.rest) (marked_replays c.args.self.now c.in-Some.moving is new c.requires.replayed refl (inr c.in_ok-put.ensures.acknowledged.0))
 
 pub returns-in_err-put_in_place-clause-sure : goal.returns-in_err-put_in_place-clause-sure
@@ -75,7 +76,7 @@ returns-clause-replayed g c =
     let old = c.args.self.now in
     let is = MatchOption-at_some (SaysAlready old.book) (IsMoving old.book) c.in-Some.moving c.in-Some.is c.in_ok-moving.ensures in
     let put = c.put_in_place.new.self in
-    let new : Store = record { alloc = put.alloc; journal = put.journal; book = c.in-Some.moving.book; is_sure = put.is_sure } in
+    let new : Store = record { alloc = put.alloc; journal = put.journal; book = c.in-Some.moving.book; is_sure = put.is_sure; is_kept = put.is_kept } in
     moved_replays old c.in-Some.moving is new c.requires.replayed refl (ap lines_in c.put_in_place.ensures.rest ∙ c.in_ok-put.ensures.acknowledged.0)
 
 pub returns-clause-settled : goal.returns-clause-settled
@@ -84,7 +85,7 @@ returns-clause-settled g c =
     let old = c.args.self.now in
     let is = MatchOption-at_some (SaysAlready old.book) (IsMoving old.book) c.in-Some.moving c.in-Some.is c.in_ok-moving.ensures in
     let put = c.put_in_place.new.self in
-    let new : Store = record { alloc = put.alloc; journal = put.journal; book = c.in-Some.moving.book; is_sure = put.is_sure } in
+    let new : Store = record { alloc = put.alloc; journal = put.journal; book = c.in-Some.moving.book; is_sure = put.is_sure; is_kept = put.is_kept } in
     record {
       served = is.served;
       says = is.says;
@@ -107,3 +108,11 @@ returns-in_err-put_in_place-clause-held g c =
     let s = g.D.Disk.state in
     subst (λ (j : Journal). JournalHolds g.D.Disk.is_known j (s c.put_in_place.new.disk)) (ap journal_of (sym c.put_in_place.ensures.rest))
     (record { are_lines = c.put.ensures.held.are_lines; whole = λ known yes. c.put_in_place.ensures.whole known })
+
+pub returns-in_err-put-clause-file : goal.returns-in_err-put-clause-file
+returns-in_err-put-clause-file g c =
+    let s = g.D.Disk.state in
+    let old = c.args.self.now in
+    let new : Store = record { alloc = old.alloc; journal = c.put.new.self; book = old.book; is_sure = old.is_sure; is_kept = old.is_kept } in
+    holds_past g.D.Disk.is_known old new (path_of_store old) c.args.target.now (IsBeforeOrAfter (lines_in old) c.in-Some.moving.line) (s c.args.disk.now) (s c.put.new.disk) c.requires.apart c.put.ensures.others
+    c.put.ensures.any_moment (g.met.D.Disk.counts_now c.put.new.disk) refl c.requires.file

@@ -1,5 +1,5 @@
 -- One entry more comes up: its lookup goes out, or all goes on from the next one.
-use Rattle.std.proofs.Common.{◌≡◌, ◌∙◌, ◌+◌, ◌-◌, ◌<◌, true, false, Some, ap, arith, length, refl, sym}
+use Rattle.std.proofs.Common.{◌≡◌, ◌∙◌, ◌+◌, ◌-◌, ◌<◌, true, false, ap, arith, length, refl, sym}
 use Rattle.keep_tree.specs.Forest.{Forest}
 use Rattle.watch_machine.specs.State.{WatchState}
 use Rattle.watch_scout.specs.Looking.{Found, came_up, first_from, goes_out}

@@ -3,7 +3,7 @@ use Rattle.std.proofs.Common.{ℕ, List, subst, sym}
 use Rattle.house_words.specs.Reading.{IsWellWritten}
 use Rattle.house_words.specs.Rereading.{AreBytesOf}
 use Rattle.house_ledger.proofs.WhyUnserved.{none_as, reread_as, touched}
-use Rattle.house_ledger.proofs.ledger.LedgerKeeping.reload.Goals as goal
+use Rattle.house_ledger.proofs.ledger.Ledger.reread.Goals as goal
 
 pub returns-in-Ok : goal.returns-in-Ok
 returns-in-Ok g c =
