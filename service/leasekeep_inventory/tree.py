@@ -126,7 +126,7 @@ class _Judge:
         if other is not row and (row.is_written or other.is_written):
             key = "secret" if row.kind is Kind.TOKEN else "lease_id"
             where = self._on(other, key if other.is_written else "name")
-            yield key, f"occurs twice: {where} has it too", "write each entry once"
+            yield key if row.file is None else f"{key}_file", f"occurs twice: {where} has it too", "write each entry once"
 
     def _above(self, at: int, row: Row) -> Iterator[tuple[str, str, str]]:
         depth = 1

@@ -31,8 +31,11 @@ def _why(entry: EntryStatus) -> str | None:
             return "gone: the broker does not know it, or refuses to look it up"
         case State.ENDED:
             return f"ended: at {date_text(entry.end or 0)}"
+        case State.WAITING:
+            return "waiting: its credential is not in use yet"
         case State.SHORT:
             return f"short: it can be kept until {date_text(entry.in_force)}"
-        case State.TRYING if entry.end is None:
+        case State.UNKNOWN:
             return "unknown: the broker has not answered for it yet"
-    return None
+        case State.TRYING | State.KEPT:
+            return None

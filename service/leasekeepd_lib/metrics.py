@@ -17,8 +17,8 @@ _MOMENTS: tuple[tuple[str, str, Callable[[EntryStatus], float | None]], ...] = (
     ("need_wanted_timestamp_seconds", "Until when the entry is needed, 0 where it is not.", lambda entry: entry.wanted),
     ("need_carried_timestamp_seconds", "Until when the entry is needed, by itself or by one under it.",
      lambda entry: entry.carried),
-    ("need_in_force_timestamp_seconds", "Until when the entry can be kept, as far as is known, 0 where it is gone or has"
-     " ended.", lambda entry: entry.in_force),
+    ("need_in_force_timestamp_seconds", "Until when the entry can be kept, as far as is known, 0 where it is gone,"
+     " has ended or waits.", lambda entry: entry.in_force),
     ("last_success_timestamp_seconds", "When the entry was last renewed.", lambda entry: entry.last_success),
 )
 

@@ -11,12 +11,14 @@ from leasekeep_inventory.rfc3339 import date_text
 
 class State(Enum):
     """What an operator has to know of an entry, the gravest first: the broker knows it no more; its end is past; it
-    cannot be kept as long as it is needed; the last request about it, or about what is over it, failed and is tried
-    again; nothing is wrong."""
+    waits for its credential, or for that of a token over it; it cannot be kept as long as it is needed; nothing is
+    known of it yet; the last request about it, or about what is over it, failed and is tried again; nothing is wrong."""
 
     GONE = "gone"
     ENDED = "ended"
+    WAITING = "waiting"
     SHORT = "short"
+    UNKNOWN = "unknown"
     TRYING = "trying"
     KEPT = "kept"
 

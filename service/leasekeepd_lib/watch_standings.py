@@ -5,6 +5,7 @@ from __future__ import annotations
 from dataclasses import dataclass
 
 from leasekeep_inventory.inventory import Entry, Inventory
+from leasekeep_inventory.secret_files import ready
 
 from .clock import PARTED, Clock
 from .events import Level
@@ -159,10 +160,11 @@ class Standings:
         return int(self.moment() + standing.end - own - self._clock.elapsed())
 
     def entries(self, inventory: Inventory) -> list[EntryStatus]:
-        """How each entry stands."""
-        return [self._status(entry, inventory.carried[entry.name]) for entry in inventory.entries]
+        """How each entry stands. Those wait whose file has held nothing yet, and all under them."""
+        served = ready(inventory)
+        return [self._status(entry, inventory.carried[entry.name], served.find(entry.name) is None) for entry in inventory.entries]
 
-    def _status(self, entry: Entry, carried: int) -> EntryStatus:
+    def _status(self, entry: Entry, carried: int, is_waiting: bool) -> EntryStatus:
         standing, now = self._kept(entry), self.moment()
         has_end = standing.end is not None and not standing.never_ends
         end = now + standing.end - self._clock.elapsed() if standing.end is not None and has_end else None
@@ -173,9 +175,13 @@ class Standings:
             state, in_force = State.GONE, 0
         elif end is not None and end <= now:
             state, in_force = State.ENDED, 0
+        elif is_waiting:
+            state, in_force = State.WAITING, 0
         elif is_short and standing.short is not None:
             state, in_force = State.SHORT, standing.short
-        elif standing.trouble or (end is None and not standing.never_ends):
+        elif end is None and not standing.never_ends:
+            state = State.UNKNOWN
+        elif standing.trouble:
             state = State.TRYING
         return EntryStatus(entry.name, state, end, entry.need, carried, in_force, standing.last_success, standing.granted,
                            standing.refused, standing.lost, standing.trouble)

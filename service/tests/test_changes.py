@@ -499,7 +499,7 @@ class Refused(InRoom):
             await service.reload()
             await room.world.until(BEGAN + 2)
             self.assertEqual(room.launcher.children[1].events[0], "known app 600000 yes")
-            self.assertEqual([entry.state for entry in service.standings.entries(service.inventory)], [State.GONE, State.TRYING])
+            self.assertEqual([entry.state for entry in service.standings.entries(service.inventory)], [State.GONE, State.UNKNOWN])
             self.assertIn(" file was read anew\n", room.output.getvalue())
             await self.ended(task)
         self.in_room(work)

@@ -118,8 +118,12 @@ class Rules(unittest.TestCase):
             *(case({**up, NEED: "60x100", state(name): "1x100"}, (alert, "45", 1), (alert, "75", 0))
               for name, alert in (("gone", "LeasekeepdEntryGone"), ("ended", "LeasekeepdEntryEnded"),
                                   ("short", "LeasekeepdEntryShort"))),
-            case({**needed, state("trying"): "1x100"}, ("LeasekeepdEntryTried", "285", 0), ("LeasekeepdEntryTried", "315", 1)),
+            case({**needed, state("waiting"): "1x100"}, ("LeasekeepdEntryWaiting", "45", 0), ("LeasekeepdEntryWaiting", "75", 1)),
+            case({**up, NEED: "60x100", state("waiting"): "1x100"}, ("LeasekeepdEntryWaiting", "90", 0)),
+            *(case({**needed, state(name): "1x100"}, ("LeasekeepdEntryTried", "285", 0), ("LeasekeepdEntryTried", "315", 1))
+              for name in ("trying", "unknown")),
             case({**up, NEED: "60x100", state("trying"): "1x100"}, ("LeasekeepdEntryTried", "330", 0)),
+            case({**needed, state("unknown"): "1x10 0x100", state("trying"): "0x10 1x100"}, ("LeasekeepdEntryTried", "315", 1)),
             case({**needed, 'leasekeepd_end_timestamp_seconds{entry="web"}': "500x100", "leasekeepd_margin_seconds":
                   "120x100"}, ("LeasekeepdEndNear", "435", 0), ("LeasekeepdEndNear", "450", 1)),
             case({**up, NEED: "500x100", 'leasekeepd_end_timestamp_seconds{entry="web"}': "500x100",

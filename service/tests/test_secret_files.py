@@ -205,6 +205,8 @@ class InTheInventory(InFolder):
             (LIST.replace('"app.token"', f'"{"é" * 2049}"'), "f:6: fault: app secret_file: is not the path of a file; it has 4098 bytes:"
              " write 4096 or less"),
             (LIST.replace("hvs.job", "app"), "f:11: fault: job secret: occurs twice: line 3 (app) has it too"),
+            (LIST.replace("hvs.job", "web") + '\n[[token]]\nname = "web"\nincrement = "15m"\nsecret_file = "web.token"\n',
+             "f:23: fault: web secret_file: occurs twice: line 11 (job) has it too"),
         ):
             with self.subTest(expected):
                 found = [finding.text("f") for finding in lint(text.encode(), 0o600, 5, 1000.0)]

@@ -187,7 +187,7 @@ class Served(unittest.TestCase):
                 await room.after(16)
                 status = await service.command(["status"], WHO)
                 self.assertEqual(len(room.launcher.inventories) - begun, 1 if is_due else 0)
-                self.assertEqual([line.split(" ")[1] for line in status[1:]], ["trying" if is_due else "kept"] * 3)
+                self.assertEqual([line.split(" ")[1] for line in status[1:]], ["unknown" if is_due else "kept"] * 3)
                 await room.after(2)
                 self.assertEqual(len(room.launcher.inventories) - begun, 1)
                 serving.cancel()
@@ -282,7 +282,9 @@ class Served(unittest.TestCase):
             self.assertEqual(list(room.handed()), ["web"])
             self.assertEqual(room.said("secret-file"), [
                 "alert: secret-file app cannot be read: No such file or directory: it is not kept until the file holds its secret"])
-            self.assertIn("app unknown: ", "\n".join(await room.service.command(["health"], WHO)))
+            for name in ("app", "db"):
+                self.assertIn(f"{name} waiting: its credential is not in use yet, and is needed ",
+                              "\n".join(await room.service.command(["health"], WHO)))
             await room.service.command(["need", "db", "+6h"], WHO)
             await room.after(20)
             self.assertNotIn("need db", "\n".join(room.launcher.children[-1].written))

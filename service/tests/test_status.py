@@ -53,12 +53,16 @@ leasekeepd_alerts_dropped_total 4
 # TYPE leasekeepd_state gauge
 leasekeepd_state{entry="web",state="gone"} 0
 leasekeepd_state{entry="web",state="ended"} 0
+leasekeepd_state{entry="web",state="waiting"} 0
 leasekeepd_state{entry="web",state="short"} 0
+leasekeepd_state{entry="web",state="unknown"} 0
 leasekeepd_state{entry="web",state="trying"} 0
 leasekeepd_state{entry="web",state="kept"} 1
 leasekeepd_state{entry="db",state="gone"} 1
 leasekeepd_state{entry="db",state="ended"} 0
+leasekeepd_state{entry="db",state="waiting"} 0
 leasekeepd_state{entry="db",state="short"} 0
+leasekeepd_state{entry="db",state="unknown"} 0
 leasekeepd_state{entry="db",state="trying"} 0
 leasekeepd_state{entry="db",state="kept"} 0
 # HELP leasekeepd_end_timestamp_seconds The end of the entry, as far as it is known.
@@ -73,7 +77,7 @@ leasekeepd_need_wanted_timestamp_seconds{entry="db"} 2100
 leasekeepd_need_carried_timestamp_seconds{entry="web"} 2050
 leasekeepd_need_carried_timestamp_seconds{entry="db"} 2100
 # HELP leasekeepd_need_in_force_timestamp_seconds Until when the entry can be kept, as far as is known, 0 where it is \
-gone or has ended.
+gone, has ended or waits.
 # TYPE leasekeepd_need_in_force_timestamp_seconds gauge
 leasekeepd_need_in_force_timestamp_seconds{entry="web"} 1990
 leasekeepd_need_in_force_timestamp_seconds{entry="db"} 0
@@ -149,7 +153,7 @@ class States(Scenario):
         async def scene(stage: Stage) -> None:
             stage.vault.faults.append(fault(0, 20, Act.HANG))
             await stage.until(2)
-            self.assertEqual(self.seen(stage), {"e0": ("trying", 86_400)})
+            self.assertEqual(self.seen(stage), {"e0": ("unknown", 86_400)})
             await stage.until(60)
             self.assertEqual(self.seen(stage), {"e0": ("kept", 86_400)})
             await stage.stop()
@@ -240,7 +244,7 @@ class Readings(InRoom):
                 self.assertEqual(self.value(text, name), value)
             await service.command(["add", TABLE], WHO)
             text = service.metrics()
-            self.assertIn('leasekeepd_state{entry="fresh",state="trying"} 1\n', text)
+            self.assertIn('leasekeepd_state{entry="fresh",state="unknown"} 1\n', text)
             for name, app, fresh in (("wanted", BEGAN + 70_000, 1_080_000), ("carried", 1_080_000, 1_080_000)):
                 self.assertEqual((self.value(text, f'need_{name}_timestamp_seconds{{entry="app"}}'),
                                   self.value(text, f'need_{name}_timestamp_seconds{{entry="fresh"}}')), (str(app), str(fresh)))

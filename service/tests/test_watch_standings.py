@@ -54,7 +54,7 @@ class Lines(unittest.TestCase):
         return tuple(entry.state.value for entry in self.standings.entries(BOTH))
 
     def test_from_the_first_lookup_to_a_grant(self) -> None:
-        self.assertEqual(self.states(), ("trying", "trying"))
+        self.assertEqual(self.states(), ("unknown", "unknown"))
         self.looked_up()
         self.assertEqual(self.of("web"), EntryStatus("web", State.KEPT, 1060.0, 1200, 1500, 1200, None, 0, 0, 0, ""))
         self.clock.now = 109.0
@@ -151,7 +151,7 @@ class Lines(unittest.TestCase):
         self.hear("gone web 403", "gone db 404")
         new = Inventory((replace(WEB, credential="s.new"), DB), 20)
         self.standings.take(new)
-        self.assertEqual((self.of("web", new).state, self.of("db", new).state), (State.TRYING, State.GONE))
+        self.assertEqual((self.of("web", new).state, self.of("db", new).state), (State.UNKNOWN, State.GONE))
         self.hear("gone nobody 403", "lost nobody closed")
         self.assertEqual(len(self.standings.entries(new)), 2)
 

@@ -6,7 +6,7 @@ import re
 
 from leasekeep_inventory.rfc3339 import read_rfc3339
 
-_LINE = re.compile(r"^(\S+) (?:(told) (\S+) (\d+)|(entry) (\S+) (\S+)|(replace) (\S+) by its file)$", re.MULTILINE)
+_LINE = re.compile(r"^(\S+) (?:(told) (\S+) (\d+)|(entry) (\S+) (\S+)|(replace) (\S+) by its file(?: \(.*\))?)$", re.MULTILINE)
 
 
 def nearest(log: str) -> str:

@@ -204,7 +204,7 @@ module _ {S T D K E : Type 0} (does : KeepCall → K → K → Type 0) where
     add_if (Ok row) old new h = looked_up row.name (what.Add row) old new h
     add_if (Err why) old new h = spares_more 0 1 old new (omega arith) (spares old new (will_tell (Err why) now.elapsed old new h))
 
-module _ {S T D K E : Type 0} (does : KeepCall → K → K → Type 0) (rows : K → List Row) (path : K → List ℕ) (reads : List ℕ → Result Row Why → Type 0)
+module _ {S T D K E : Type 0} (does : KeepCall → K → K → Type 0) (rows : K → List Row) (path : K → List ℕ) (reads : K → List ℕ → Result Row Why → Type 0)
     (gives : ℕ → Result (Option Inventory) AllocError → K → Type 0) (agent : Agent) (now : Reading) where
   carried_out : (a : Asked) (change : Change) (old new : House S T D K E) → CarriesOut does rows path reads gives agent now a change old new → Spares does 1 old new
   carried_out (asked.Need name need) change old new h =

@@ -12,7 +12,6 @@ use Rattle.keep_disk.specs.declared.fault.DiskFault.{DiskFault}
 use Rattle.keep_ends.specs.Files.{EndsFileGoesOn}
 use Rattle.keep_ends.specs.declared.file.EndsFile.{EndsFile}
 use Rattle.keep_inventory.specs.Inventories.{Inventory}
-use Rattle.keep_secrets.specs.declared.news.Looked.{Looked}
 use Rattle.keep_serving.specs.Changes.{given_by}
 use Rattle.keep_serving.specs.Days.{PassesToOthers, SettlesOthers}
 use Rattle.keep_serving.specs.Neighbours.{AllCalled, Give, GoOn, Hear, NeighbourCall, Rest, Settle, calls_at}
@@ -25,6 +24,7 @@ use Rattle.house_laws.specs.Disks.{AreEndsLeft, AsksLittle, EndsAreTriedOnce, Is
 use Rattle.keep_house.specs.Doing.{HearsOf, HearsServedIf}
 use Rattle.keep_house.specs.Ends.{EndsGoOn, after_answer, to_be_kept}
 use Rattle.house_ledger.specs.Keeping.{KeepCall, Look}
+use Rattle.house_ledger.specs.declared.keeping.FileLook.{FileLook}
 use Rattle.house_words.specs.Outcomes.{Why}
 use Rattle.keep_house.specs.Nexts.{HearsNext}
 use Rattle.keep_house.specs.Looks.{AsksToLook}
@@ -137,13 +137,13 @@ module _ {S T D K E : Type 0} where
   served_heard true old new h = (ap (λ x. x.state) h, marked to_be_kept (λ x. refl) old.ends new.ends (ap (λ x. x.ends) h))
   served_heard false old new h = (ap (λ x. x.state) h, left_same old.ends new.ends (ap (λ x. x.ends) h))
 
-looked_at : {K : Type 0} (asks : KeepCall → K → K → Type 0) (now : Reading) (looked : Looked) (old new : Option K) → AsksToLook asks now looked old new → IsAskedWithin asks 1 0 old new
-looked_at asks now looked None new h = within_more asks 0 0 1 0 None new (omega arith) (omega arith) (within_none asks None new h.1)
-looked_at asks now looked (Some old) None h = absurd h
-looked_at asks now looked (Some old) (Some new) h = within_one asks (Look now looked) (Some old) (Some new) (new, (h, refl))
+looked_at : {K : Type 0} (asks : KeepCall → K → K → Type 0) (now : Reading) (look : FileLook) (old new : Option K) → AsksToLook asks now look old new → IsAskedWithin asks 1 0 old new
+looked_at asks now look None new h = within_more asks 0 0 1 0 None new (omega arith) (omega arith) (within_none asks None new h.1)
+looked_at asks now look (Some old) None h = absurd h
+looked_at asks now look (Some old) (Some new) h = within_one asks (Look now look) (Some old) (Some new) (new, (h, refl))
 
 module _ {S T D K E : Type 0} (given : S → Option (List ℕ)) (failures tries : S → ℕ) (remaining written : T → Option (List ℕ)) (calls : T → Option (List Call)) (log : D → Option (DoorLog T))
-    (asks : KeepCall → K → K → Type 0) (rows : K → List Row) (path : K → List ℕ) (reads : List ℕ → Result Row Why → Type 0) (gives_served : ℕ → Result (Option Inventory) AllocError → K → Type 0)
+    (asks : KeepCall → K → K → Type 0) (rows : K → List Row) (path : K → List ℕ) (reads : K → List ℕ → Result Row Why → Type 0) (gives_served : ℕ → Result (Option Inventory) AllocError → K → Type 0)
     (known : Bool) (state : E → DiskState) where
   abbrev Does : NeighbourCall → House S T D K E → House S T D K E → Type 0
   Does = ToHouse given failures tries remaining written calls log asks rows path reads gives_served known state
@@ -157,7 +157,7 @@ module _ {S T D K E : Type 0} (given : S → Option (List ℕ)) (failures tries 
   asked_at (GoOn is_busy) old new h =
       let went = h.1.1 in
       subst (λ (s : Option K). IsAskedWithin asks 1 0 s new.state) (ap (λ x. x.state) went.ends.rest)
-      (subst (λ (s : Option K). IsAskedWithin asks 1 0 went.kept.state s) (sym (ap (λ x. x.state) went.attend.rest)) (looked_at asks h.1.0 went.look.looked went.kept.state went.looked.state went.look.asks))
+      (subst (λ (s : Option K). IsAskedWithin asks 1 0 went.kept.state s) (sym (ap (λ x. x.state) went.attend.rest)) (looked_at asks h.1.0 went.look.look went.kept.state went.looked.state went.look.asks))
   asked_at (Give None) old new h = (given_of None old new h).asked
   asked_at (Give (Some change)) old new h = (given_of (Some change) old new h).asked
   asked_at (Settle is_made) old new h =

@@ -31,6 +31,7 @@ use Rattle.house_ledger.specs.Takings.{AwaitsIf, IsEarly, IsFileReadAs, IsPass, 
 use Rattle.house_ledger.specs.declared.asked_file.AskedFile.{AskedFile}
 use Rattle.house_ledger.specs.declared.asker.FileWord.{FileWord}
 use Rattle.house_ledger.specs.declared.ledger.Ledger.{Ledger}
+use Rattle.house_ledger.specs.declared.keeping.FileLook.{FileLook}
 
 -- ---- calls of files, one after another
 
@@ -216,11 +217,12 @@ module _ {D I L : Type 0} (calls : I → Option (List FileCall)) (lanes_seen : L
   looks_by (Ok (Some word)) old new h = spared 64 1 old new (judged word.asked word.verdict old new h)
   looks_by (Err e) old new h = spared 64 1 old new (beside old new h.1)
 
-  -- hearing of what was asked before calls no file
-  looks_few : (old new : Ledger D I L) → LooksOrHears calls lanes_seen port now looked old new → LedgerIsSpared calls 64 1 old new
-  looks_few old new h =
-      let all = looks_by h.word h.heard new h.looks in
-      record { files = subst (λ (i : I). FewAreMade 64 1 (calls i) (calls new.inputs)) (ap (λ l. l.inputs) h.beside) all.files; disk = all.disk ∙ ap (λ l. l.state.disk) h.beside }
+-- hearing of what was asked before calls no file
+looks_few : {D I L : Type 0} (calls : I → Option (List FileCall)) (lanes_seen : L → Lanes) (port : L → ℕ) (now : Reading) (look : FileLook) (old new : Ledger D I L) →
+    LooksOrHears calls lanes_seen port now look old new → LedgerIsSpared calls 64 1 old new
+looks_few calls lanes_seen port now look old new h =
+    let all = looks_by calls lanes_seen port now look.looked h.word h.heard new h.looks in
+    record { files = subst (λ i. FewAreMade 64 1 (calls i) (calls new.inputs)) (ap (λ l. l.inputs) h.beside) all.files; disk = all.disk ∙ ap (λ l. l.state.disk) h.beside }
 
 -- ---- each call of a ledger
 
@@ -237,7 +239,7 @@ module _ {D I L : Type 0} (known : Bool) (seen : D → DiskState) (calls : I →
   by_call (Prove now result) old new none h = untouched old new (ap (λ l. l.inputs) h.1) (ap (λ l. l.state.disk) h.1)
   by_call (Settle result) old new none h = absurd (omega (arith, none))
   by_call (Reload now result) old new none h = absurd (omega (arith, none))
-  by_call (Look now looked) old new none h = looks_few calls lanes_seen port now looked old new h
+  by_call (Look now look) old new none h = looks_few calls lanes_seen port now look old new h
   by_call MarkServed old new none h = untouched old new (ap (λ l. l.inputs) h.1.1.1) h.1.1.0
   by_call (RestFor now rest) old new none h = untouched old new (ap (λ l. l.inputs) h.0) (ap (λ l. l.state.disk) h.0)
 

@@ -137,7 +137,7 @@ SparesLedger {D} {I} {L} {N} does calls ledger = (width : ℕ) (t : ServingTurn)
 -- ---- these may be a house, or an early day before one
 
 module _ {S T D K E : Type 0} (given : S → Option (List ℕ)) (failures tries : S → ℕ) (remaining written : T → Option (List ℕ)) (calls : T → Option (List Call)) (log : D → Option (DoorLog T))
-    (asks : KeepCall → K → K → Type 0) (rows : K → List Row) (path : K → List ℕ) (reads : List ℕ → Result Row Why → Type 0) (gives : ℕ → Result (Option Inventory) AllocError → K → Type 0)
+    (asks : KeepCall → K → K → Type 0) (rows : K → List Row) (path : K → List ℕ) (reads : K → List ℕ → Result Row Why → Type 0) (gives : ℕ → Result (Option Inventory) AllocError → K → Type 0)
     (known : Bool) (state : E → DiskState) where
   abbrev pub ToHouse : NeighbourCall → House S T D K E → House S T D K E → Type 0
   ToHouse call old new = DoesToHouse given failures tries remaining written calls log asks rows path reads gives known state call old new
@@ -159,7 +159,7 @@ module _ {S T O D I L E : Type 0} (given : S → Option (List ℕ)) (failures tr
 
   abbrev pub ToLedger : NeighbourCall → HasLedger → HasLedger → Type 0
   ToLedger =
-      ToHouse given failures tries remaining written calls log (DoesLedger disk_known seen file_calls lanes_seen port) (λ (l : Ledger D I L). (book_in l.state).rows) (λ (l : Ledger D I L). l.state.places.file) ReadsTable GivesLedger known state
+      ToHouse given failures tries remaining written calls log (DoesLedger disk_known seen file_calls lanes_seen port) (λ (l : Ledger D I L). (book_in l.state).rows) (λ (l : Ledger D I L). l.state.places.file) (λ (l : Ledger D I L). ReadsTable (book_in l.state).file.system_max) GivesLedger known state
 
   abbrev pub SparesLaw : Type 0
   SparesLaw =

@@ -23,7 +23,7 @@ IsTriedLittle {S} {N} does tries reader = (width : ℕ) (t : ServingTurn) (old n
 
 -- these may be a house; or a house, and one more, who asks that everything is looked up anew
 module _ {S T D K E : Type 0} (given : S → Option (List ℕ)) (failures tries : S → ℕ) (remaining written : T → Option (List ℕ)) (calls : T → Option (List Call)) (log : D → Option (DoorLog T))
-    (does : KeepCall → K → K → Type 0) (rows : K → List Row) (path : K → List ℕ) (reads : List ℕ → Result Row Why → Type 0) (gives : ℕ → Result (Option Inventory) AllocError → K → Type 0)
+    (does : KeepCall → K → K → Type 0) (rows : K → List Row) (path : K → List ℕ) (reads : K → List ℕ → Result Row Why → Type 0) (gives : ℕ → Result (Option Inventory) AllocError → K → Type 0)
     (known : Bool) (state : E → DiskState) where
   abbrev pub TriesLaw : Type 0
   TriesLaw = IsTriedLittle (λ (call : NeighbourCall) (old new : House S T D K E). DoesToHouse given failures tries remaining written calls log does rows path reads gives known state call old new) tries (λ (h : House S T D K E). h.sink)

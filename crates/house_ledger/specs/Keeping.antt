@@ -5,7 +5,7 @@ use Rattle.std.specs.declared.alloc.AllocError.{AllocError}
 use Rattle.keep_change.specs.declared.change.What.{What}
 use Rattle.keep_clock.specs.declared.reading.Reading.{Reading}
 use Rattle.keep_proving.specs.declared.verdict.Verdict.{Verdict}
-use Rattle.keep_secrets.specs.declared.news.Looked.{Looked}
+use Rattle.house_ledger.specs.declared.keeping.FileLook.{FileLook}
 use Rattle.house_ledger.specs.declared.keeping.LookedUp.{LookedUp}
 use Rattle.house_words.specs.Outcomes.{IsNotKept, Outcome, SaysSo, Why, Whys, done_of}
 use Rattle.house_words.specs.declared.reread.Reread.{Reread}
@@ -20,7 +20,7 @@ pub data KeepCall : Type 0 where
   Prove : ℕ → Result (Option Verdict) AllocError → KeepCall
   Settle : Result (Unit {0}) Why → KeepCall
   Reload : ℕ → Result Reread Whys → KeepCall
-  Look : Reading → Looked → KeepCall
+  Look : Reading → FileLook → KeepCall
   MarkServed : KeepCall
   RestFor : ℕ → Option ℕ → KeepCall
 

@@ -1,6 +1,6 @@
 -- Ledgers: the state of an agent on a disk, and what the calls of its house do to it.
 -- Source: this project's own; what is on the disk is keep_state's.
-use Rattle.std.specs.Prelude.{◌≡◌, ◌≢◌, ◌⊎◌, ℕ, Bool, true, false, ◌||◌, IsTrue, List, [], ◌∷◌, ◌++◌, Option, Some, None, IfSome, Result, Ok, Err, codes, if◌then◌else◌, is_some, length, nat_le}
+use Rattle.std.specs.Prelude.{◌≡◌, ◌≢◌, ◌⊎◌, ℕ, Bool, true, false, ◌||◌, IsTrue, List, Option, Some, None, IfSome, Result, Ok, Err, codes, if◌then◌else◌, is_some, length, nat_le}
 use Rattle.std.specs.declared.alloc.AllocError.{AllocError}
 use Rattle.keep_agent.specs.Waiting.{change_due_at, changed, is_change_due}
 use Rattle.keep_asking.specs.Sending.{Lanes}
@@ -89,10 +89,10 @@ FilledWith is_taken now secrets old new = ((length secrets ≡ 0) × ((is_taken 
 abbrev pub apart_line : List ℕ
 apart_line = codes "what the files of credentials hold does not go together: the old ones stay"
 
--- that is said, after what is said of files that hold none
-abbrev pub said_if : Bool → List (List ℕ) → List (List ℕ)
-said_if true said = said
-said_if false said = said ++ apart_line ∷ []
+-- that is said
+abbrev pub said_if : Bool → Option (List ℕ)
+said_if true = None
+said_if false = Some apart_line
 
 -- no file of the state is touched: its disk, its paths and its journal are the same
 pub record StaysOnDisk {D : Type 0} (old new : Kept D) : Type 0 where
@@ -100,14 +100,14 @@ pub record StaysOnDisk {D : Type 0} (old new : Kept D) : Type 0 where
   pub places : new.places ≡ old.places
   pub journal : journal_of (store_in new) ≡ journal_of (store_in old)
 
--- it is what the files of credentials hold that rows name
-pub record IsFilledOn {D : Type 0} (files : Files) (folder : List ℕ) (now : ℕ) (lines : List (List ℕ)) (old new : Kept D) : Type 0 where
+-- it is what the files of credentials hold that rows name. Of files that hold none nothing is said: the first look at them says it
+pub record IsFilledOn {D : Type 0} (files : Files) (folder : List ℕ) (now : ℕ) (said : Option (List ℕ)) (old new : Kept D) : Type 0 where
   pub secrets : List Secret
-  pub said : List (List ℕ)
+  pub unheld : List (List ℕ)
   pub is_taken : Bool
-  pub gathered : AreGathered files folder (book_in old).rows secrets said
+  pub gathered : AreGathered files folder (book_in old).rows secrets unheld
   pub taken : FilledWith is_taken now secrets old new
-  pub lines_are : lines ≡ said_if is_taken said
+  pub said_is : said ≡ said_if is_taken
 
 -- a file that may be served is, with every change; and what is said of it. What was taken of files of credentials stays, and none is read
 pub record IsReloadedOn {D : Type 0} (known : Bool) (seen : D → DiskState) (demands : Demands) (now : ℕ) (reread : Reread) (old new : Kept D) : Type 0 where
@@ -150,17 +150,18 @@ module _ {D I L : Type 0} (known : Bool) (seen : D → DiskState) (calls : I →
   DoesLedger (Take now name w result) old new = TakesOn known seen now name w result old.state new.state × (new ≡ record old { state = new.state })
   DoesLedger (Settle result) old new = SettlesOn known seen result old.state new.state × (new ≡ record old { state = new.state })
   DoesLedger (Reload now result) old new = ReloadsOn known seen old.demands now result old.state new.state × (new ≡ record old { state = new.state; looking = begun_anew old.looking })
-  DoesLedger (Look now looked) old new = LooksOrHears calls lanes_seen port now looked old new
+  DoesLedger (Look now look) old new = LooksOrHears calls lanes_seen port now look old new
   DoesLedger MarkServed old new =
       (waiting_in new.state.keeper ≡ None) × ((store_in new.state ≡ store_in old.state) × ((new.state.disk ≡ old.state.disk) × (new ≡ record old { state = new.state })))
   DoesLedger (RestFor now rest) old new = (new ≡ old) × (rest ≡ ledger_rest now old)
 
--- the row of a table, unless its entry has no credential; or why there is none
-abbrev pub ReadsTable : List ℕ → Result Row Why → Type 0
-ReadsTable table (Ok row) = row_of_table table ≡ Ok row
-ReadsTable table (Err None) = Unit {0}
-ReadsTable table (Err (Some why)) =
-    ((fault : TableFault) × ((row_of_table table ≡ Err fault) × (why ≡ table_words fault))) ⊎ ((row : Row) × ((row_of_table table ≡ Ok row) × ((is_bare_row row ≡ true) × (why ≡ bare_words row))))
+-- the row of a table, in an inventory with that maximum TTL of the system, unless its entry has no credential; or why there is none
+abbrev pub ReadsTable : Option ℕ → List ℕ → Result Row Why → Type 0
+ReadsTable most table (Ok row) = row_of_table most table ≡ Ok row
+ReadsTable most table (Err None) = Unit {0}
+ReadsTable most table (Err (Some why)) =
+    ((fault : TableFault) × ((row_of_table most table ≡ Err fault) × (why ≡ table_words fault)))
+    ⊎ ((row : Row) × ((row_of_table most table ≡ Ok row) × ((is_bare_row row ≡ true) × (why ≡ bare_words row))))
 
 -- what is served from a moment on, where that is due
 abbrev pub GivesLedger : {D I L : Type 0} → ℕ → Result (Option Inventory) AllocError → Ledger D I L → Type 0

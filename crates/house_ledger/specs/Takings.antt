@@ -6,6 +6,7 @@ use Rattle.keep_agent.specs.Waiting.{changed}
 use Rattle.keep_asking.specs.Sending.{Lanes}
 use Rattle.keep_change.specs.Rows.{named}
 use Rattle.keep_clock.specs.declared.reading.Reading.{Reading}
+use Rattle.keep_lanes.specs.declared.loss.Loss.{Loss}
 use Rattle.keep_proving.specs.declared.candidate.Candidate.{Candidate}
 use Rattle.keep_proving.specs.declared.verdict.Verdict.{Verdict}
 use Rattle.keep_proving.specs.declared.verdict.Verdict.TheVariants.{Good, Refused, Endless, Missing}
@@ -32,6 +33,7 @@ use Rattle.house_ledger.specs.Askers.{AskerAsks, HearsFirst, free_place, is_aske
 use Rattle.house_ledger.specs.Untouched.{IsAsItWas}
 use Rattle.house_ledger.specs.declared.asked_file.AskedFile.{AskedFile}
 use Rattle.house_ledger.specs.declared.asker.FileWord.{FileWord}
+use Rattle.house_ledger.specs.declared.keeping.FileLook.{FileLook}
 use Rattle.house_ledger.specs.declared.ledger.Ledger.{Ledger}
 
 -- ---- a credential
@@ -216,9 +218,23 @@ module _ {D I L : Type 0} (calls : I → Option (List FileCall)) (lanes_seen : L
   LooksByWord (Ok (Some word)) old new = JudgesFile word.asked word.verdict old new
   LooksByWord (Err e) old new = (looked ≡ wanting) × (new ≡ old)
 
-  pub record LooksOrHears (old new : Ledger D I L) : Type 0 where
-    pub word : Result (Option FileWord) AllocError
-    pub heard : Ledger D I L
-    pub hears : HearsFirst lanes_seen now.elapsed old.askers.items word heard.askers.items
-    pub beside : heard ≡ record old { askers = heard.askers }
-    pub looks : LooksByWord word heard new
+-- why the broker has said nothing, where it was asked and has not
+abbrev pub unproved_by : Verdict → Option Loss
+unproved_by Good = None
+unproved_by (Refused status) = None
+unproved_by Endless = None
+unproved_by (Missing why) = Some why
+
+abbrev pub unproved_in : Result (Option FileWord) AllocError → Option Loss
+unproved_in (Ok None) = None
+unproved_in (Ok (Some word)) = unproved_by word.verdict
+unproved_in (Err e) = None
+
+-- a look of a ledger: the broker's word on a file is heard, where there is one, or files are looked at
+pub record LooksOrHears {D I L : Type 0} (calls : I → Option (List FileCall)) (lanes_seen : L → Lanes) (port : L → ℕ) (now : Reading) (look : FileLook) (old new : Ledger D I L) : Type 0 where
+  pub word : Result (Option FileWord) AllocError
+  pub heard : Ledger D I L
+  pub hears : HearsFirst lanes_seen now.elapsed old.askers.items word heard.askers.items
+  pub beside : heard ≡ record old { askers = heard.askers }
+  pub looks : LooksByWord calls lanes_seen port now look.looked word heard new
+  pub unproved : look.unproved ≡ unproved_in word

@@ -1,7 +1,7 @@
 //! A file of a credential is looked at and read, and what it holds is looked up before it is taken.
 ghost use Rattle.std.specs.Prelude.{◌≡◌, ◌⊎◌, Ok, Some};
 ghost use Rattle.keep_proving.specs.Lookups.{IsCandidate};
-ghost use Rattle.house_ledger.specs.Takings.{IsEarly, IsPass, JudgesFile, LooksOn, LooksUpBy, LooksUpNew, ReadsNew, ReadsUp, TakesBeside, TakesHeldUp, TakesRead, judged, past};
+ghost use Rattle.house_ledger.specs.Takings.{IsEarly, IsPass, JudgesFile, LooksOn, LooksUpBy, LooksUpNew, ReadsNew, ReadsUp, TakesBeside, TakesHeldUp, TakesRead, judged, past, unproved_by};
 
 use crate::asker::{ask_at, free_place, is_asked_for, may_look};
 use crate::candidates::candidate_of_file;
@@ -11,7 +11,7 @@ use keep_asking::SeenLanes;
 use keep_clock::Reading;
 use keep_disk::Disk;
 use keep_files::Inputs;
-use keep_lanes::Lanes;
+use keep_lanes::{Lanes, Loss};
 use keep_moment::Text;
 use keep_proving::{Candidate, Verdict};
 use keep_secrets::{
@@ -220,5 +220,15 @@ fn judged(credential: Text, verdict: Verdict) -> Result<Text, SecretTrouble>
         Verdict::Good | Verdict::Missing(_) => Ok(credential),
         Verdict::Refused(status) => Err(SecretTrouble::Refused(status)),
         Verdict::Endless => Err(SecretTrouble::Endless),
+    }
+}
+
+/// Why the broker has said nothing of a credential, where it has not.
+pub(crate) fn unproved_by(verdict: Verdict) -> Option<Loss>
+    ensures { result ≡ unproved_by verdict }
+{
+    match verdict {
+        Verdict::Missing(why) => Some(why),
+        Verdict::Good | Verdict::Refused(_) | Verdict::Endless => None,
     }
 }

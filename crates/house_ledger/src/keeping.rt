@@ -11,6 +11,7 @@ use house_words::Reread;
 use keep_change::{Row, What};
 use keep_clock::Reading;
 use keep_inventory::Inventory;
+use keep_lanes::Loss;
 use keep_moment::Text;
 use keep_proving::Verdict;
 use keep_secrets::Looked;
@@ -25,6 +26,15 @@ pub enum LookedUp {
     Later,
     /// There is nothing to be looked up.
     Nothing,
+}
+
+/// What came of a look at files of credentials.
+#[derive(Debug, Drop)]
+pub struct FileLook {
+    /// What is said of one of them, and whether the look can go on.
+    pub looked: Looked,
+    /// Why the broker has said nothing of what that one holds, where it was asked and has not.
+    pub unproved: Option<Loss>,
 }
 
 /// Keeps the changes that clients give, over a restart too. A reason why something was not done is in words for the one who asked,
@@ -42,7 +52,7 @@ pub trait Keeping {
     ghost path: { Self → List ℕ };
 
     /// Whether this is the row of a table, or why there is none.
-    ghost reads: { List ℕ → Result Row Why → Type 0 };
+    ghost reads: { Self → List ℕ → Result Row Why → Type 0 };
 
     /// What is to be served from a moment on, where that is due.
     ghost gives: { ℕ → Result (Option Inventory) AllocError → Self → Type 0 };
@@ -78,7 +88,7 @@ pub trait Keeping {
 
     /// The row that a table `[[token]]` or `[[lease]]` in TOML writes.
     fn read_row(&self, alloc: Global, table: &[u8]) -> Result<Row, Option<Text>>
-        ensures { Self.reads table.now result };
+        ensures { Self.reads self.now table.now result };
 
     /// The inventory that is to be served from now on, where one is due. The only error is out of memory.
     fn due(&self, alloc: Global, now: u64) -> Result<Option<Inventory>, AllocError>
@@ -86,7 +96,7 @@ pub trait Keeping {
 
     /// Takes what a file of a credential holds, once that was looked up. Where nothing was, looks at files, where it is time for that and
     /// one more can be looked up, until one is to be read. It waits for nothing but the files.
-    fn look(&mut self, alloc: Global, now: Reading) -> Looked
+    fn look(&mut self, alloc: Global, now: Reading) -> FileLook
         ensures { Self.does (Look now result) self.old self.new };
 
     /// The inventory that was due is served.
@@ -97,6 +107,10 @@ pub trait Keeping {
     /// that never steps at which it was asked for what is due.
     fn rest(&self, now: u64) -> Option<u64>
         ensures { Self.does (RestFor now result) self.now self.now };
+
+    /// The entries after every change.
+    fn rows(&self) -> &[Row]
+        ensures { result.now ≡ Self.rows self.now };
 
     /// The entry of that name.
     fn named(&self, name: &[u8]) -> Option<&Row>

@@ -19,10 +19,11 @@ ghost use Rattle.house_words.specs.Rereading.{AreAtMost, AreBytesOf, IsWhyNotRer
 ghost use Rattle.house_words.specs.Starts.{is_bare_row};
 ghost use Rattle.house_ledger.specs.Untouched.{IsAsItWas};
 
+use crate::asked_file::unproved_by;
 use crate::asker::{Asker, FileWord, hear_first, is_any_asking};
 use crate::candidates::candidate_of;
 use crate::inquiry::{ask, hear, is_asking};
-use crate::keeping::{Keeping, LookedUp};
+use crate::keeping::{FileLook, Keeping, LookedUp};
 use crate::secret_changes::wanting;
 use house_words::{
     Demands, Gathered, Reread, after, bare_words, book_words, disk_words, gather, is_bare_row,
@@ -37,7 +38,7 @@ use keep_inventory::Inventory;
 use keep_lanes::Lanes;
 use keep_moment::{Name, Text};
 use keep_proving::{Proving, Verdict};
-use keep_secrets::{Looked, Looking, SecretFiles};
+use keep_secrets::{Looking, SecretFiles};
 use keep_settle::SettleFault;
 use keep_state::{Reloaded, State, TableFault, read_table};
 use keep_store::{Secret, TakeFault};
@@ -75,10 +76,10 @@ impl<'a, D: Disk, I: Inputs, L: Lanes> Ledger<'a, D, I, L> {
         wide(alloc, self.demands.earlier, self.state.text(), inventory)
     }
 
-    /// Has from now on what the files of credentials hold; and what is said of each entry whose file holds none: it is left out. Where
-    /// what they hold cannot be handed on, that is said too, and the old ones stay. The only error is out of memory: all is as it was then.
-    pub fn fill(&mut self, alloc: Global, now: u64) -> Result<Vec<Text>, AllocError>
-        ensures filled { IfOk result (λ said. IsFilledOn (I.bytes_at self.old.inputs) self.old.folder.now now said.items self.old.state self.new.state) }
+    /// Has from now on what the files of credentials hold; where that cannot be handed on, that is said, and the old ones stay. An entry
+    /// whose file holds none is left out, which the first look at files says. The only error is out of memory: all is as it was then.
+    pub fn fill(&mut self, alloc: Global, now: u64) -> Result<Option<Text>, AllocError>
+        ensures filled { IfOk result (λ said. IsFilledOn (I.bytes_at self.old.inputs) self.old.folder.now now said self.old.state self.new.state) }
         ensures unchanged { OnErr result (IsAsItWas self.old.state self.new.state) }
         ensures stays { StaysOnDisk self.old.state self.new.state }
         ensures same { (path : List ℕ) → I.bytes_at self.new.inputs path ≡ I.bytes_at self.old.inputs path }
@@ -224,30 +225,29 @@ fn unkept_words(alloc: Global, copy: Option<DiskFault>) -> Option<Text>
     }
 }
 
-// Has from now on what the files of credentials hold, and what is said of that.
+// Has from now on what the files of credentials hold, and what is said where that cannot be handed on.
 fn fill_state<D: Disk, I: Inputs>(
     alloc: Global,
     state: &mut State<'_, D>,
     folder: &str,
     inputs: &mut I,
     now: u64,
-) -> Result<Vec<Text>, AllocError>
-    ensures filled { IfOk result (λ said. IsFilledOn (I.bytes_at inputs.old) folder.now now said.items state.old state.new) }
+) -> Result<Option<Text>, AllocError>
+    ensures filled { IfOk result (λ said. IsFilledOn (I.bytes_at inputs.old) folder.now now said state.old state.new) }
     ensures unchanged { OnErr result (IsAsItWas state.old state.new) }
     ensures stays { StaysOnDisk state.old state.new }
     ensures same { (path : List ℕ) → I.bytes_at inputs.new path ≡ I.bytes_at inputs.old path }
 {
-    let Gathered { secrets, mut said } = gather(
+    let Gathered { secrets, said: _ } = gather(
         alloc,
         state.rows().list(),
         folder.as_bytes(),
         inputs,
     )?;
     if fill_with(state, now, secrets)? {
-        return Ok(said);
+        return Ok(None);
     }
-    said.push(apart_line(alloc)?)?;
-    Ok(said)
+    Ok(Some(apart_line(alloc)?))
 }
 
 // Has from now on what files have given, where they have given anything. Whether that can be handed on; the only error is out of memory.
@@ -372,7 +372,7 @@ impl<'a, D: Disk, I: Inputs + SecretFiles, L: Lanes> Keeping for Ledger<'a, D, I
 
     ghost path = { λ l. l.state.places.file };
 
-    ghost reads = { ReadsTable };
+    ghost reads = { λ l. ReadsTable (book_in l.state).file.system_max };
 
     ghost gives = { GivesLedger };
 
@@ -425,7 +425,7 @@ impl<'a, D: Disk, I: Inputs + SecretFiles, L: Lanes> Keeping for Ledger<'a, D, I
     }
 
     fn read_row(&self, alloc: Global, table: &[u8]) -> Result<Row, Option<Text>> {
-        match read_table(alloc, table) {
+        match read_table(alloc, self.state.file().system_max, table) {
             Ok(row) => not_bare(alloc, row, self.demands.names_are_secrets),
             Err(fault) => Err(why_no_row(alloc, fault)),
         }
@@ -438,14 +438,23 @@ impl<'a, D: Disk, I: Inputs + SecretFiles, L: Lanes> Keeping for Ledger<'a, D, I
         Ok(Some(wide(alloc, self.demands.earlier, self.state.text(), inventory)?))
     }
 
-    fn look(&mut self, alloc: Global, now: Reading) -> Looked {
+    fn look(&mut self, alloc: Global, now: Reading) -> FileLook {
         match hear_first(alloc, &mut self.askers, now.elapsed) {
-            Ok(None) => self.look_on(alloc, now),
+            Ok(None) => FileLook {
+                looked: self.look_on(alloc, now),
+                unproved: None,
+            },
             Ok(Some(word)) => {
                 let FileWord { asked, verdict } = word;
-                self.judge_file(alloc, now, asked, verdict)
+                FileLook {
+                    looked: self.judge_file(alloc, now, asked, verdict),
+                    unproved: unproved_by(verdict),
+                }
             }
-            Err(AllocError) => wanting(),
+            Err(AllocError) => FileLook {
+                looked: wanting(),
+                unproved: None,
+            },
         }
     }
 
@@ -455,6 +464,10 @@ impl<'a, D: Disk, I: Inputs + SecretFiles, L: Lanes> Keeping for Ledger<'a, D, I
 
     fn rest(&self, now: u64) -> Option<u64> {
         self.rest_by(now)
+    }
+
+    fn rows(&self) -> &[Row] {
+        self.state.rows().list()
     }
 
     fn named(&self, name: &[u8]) -> Option<&Row> {

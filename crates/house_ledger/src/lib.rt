@@ -17,5 +17,5 @@ mod secret_changes;
 
 pub use asked_file::AskedFile;
 pub use asker::{Asker, FileWord};
-pub use keeping::{Keeping, LookedUp};
+pub use keeping::{FileLook, Keeping, LookedUp};
 pub use ledger::Ledger;

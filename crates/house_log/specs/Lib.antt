@@ -10,4 +10,5 @@ pub mod LinesOfNexts
 pub mod LinesOfEnds
 pub mod Wants
 pub mod Feeding
+pub mod LookupLosses
 pub mod SecretLines

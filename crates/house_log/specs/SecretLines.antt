@@ -1,11 +1,13 @@
 -- SecretLines: what is said of files of credentials.
 -- Source: docs/running.md, "Secrets by file".
 use Rattle.std.specs.Prelude.{ℕ, Bool, if◌then◌else◌, List, [], ◌∷◌, ◌++◌, Option, Some, None, codes}
+use Rattle.keep_lanes.specs.declared.loss.Loss.{Loss}
 use Rattle.keep_log.specs.declared.level.Level.{Level}
 use Rattle.keep_log.specs.declared.level.Level.TheVariants.{Info, Warning, Alert}
 use Rattle.keep_log.specs.declared.line.Word.TheVariants as words
 use Rattle.house_log.specs.LinesOfClocks.{memory_line}
 use Rattle.house_log.specs.Lines.{Line, said_line}
+use Rattle.house_log.specs.LookupLosses.{line_with_loss}
 use Rattle.house_words.specs.VerdictWords.{endless_words, status_words}
 use Rattle.keep_secrets.specs.declared.looking.SecretTrouble.{SecretTrouble}
 use Rattle.keep_secrets.specs.declared.looking.SecretTrouble.TheVariants.{Unread, NotRegular, NoSecret, Another, TooLong, Endless, Refused}
@@ -33,21 +35,22 @@ event_of_secret Taken = codes "replace"
 event_of_secret (Kept trouble) = codes "secret-file"
 event_of_secret (Without trouble) = codes "secret-file"
 
-abbrev pub text_of : SecretWord → List ℕ
-text_of Taken = codes "by its file"
-text_of (Kept trouble) = trouble_text trouble ++ codes ": it keeps the old one"
-text_of (Without trouble) = trouble_text trouble ++ codes ": it is not kept until the file holds its secret"
+-- of a credential that is taken, also why the broker has said nothing of it, where it was asked and has not
+abbrev pub text_of : SecretWord → Option Loss → List ℕ
+text_of Taken unproved = line_with_loss unproved (codes "by its file")
+text_of (Kept trouble) unproved = trouble_text trouble ++ codes ": it keeps the old one"
+text_of (Without trouble) unproved = trouble_text trouble ++ codes ": it is not kept until the file holds its secret"
 
-abbrev pub secret_news_line : List ℕ → SecretWord → Line
-secret_news_line name what = said_line (level_of what) (event_of_secret what) (words.Text name ∷ words.Text (text_of what) ∷ [])
+abbrev pub secret_news_line : List ℕ → SecretWord → Option Loss → Line
+secret_news_line name what unproved = said_line (level_of what) (event_of_secret what) (words.Text name ∷ words.Text (text_of what unproved) ∷ [])
 
-abbrev pub news_lines : Option SecretNews → List Line
-news_lines None = []
-news_lines (Some news) = secret_news_line news.name news.what ∷ []
+abbrev pub news_lines : Option SecretNews → Option Loss → List Line
+news_lines None unproved = []
+news_lines (Some news) unproved = secret_news_line news.name news.what unproved ∷ []
 
 abbrev pub want_lines : Bool → List Line
 want_lines is_enough = if is_enough then [] else memory_line ∷ []
 
 -- all that is said of a look
-unfoldable pub look_lines : Looked → List Line
-look_lines looked = news_lines looked.news ++ want_lines looked.is_enough
+unfoldable pub look_lines : Looked → Option Loss → List Line
+look_lines looked unproved = news_lines looked.news unproved ++ want_lines looked.is_enough

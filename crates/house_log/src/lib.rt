@@ -24,10 +24,12 @@ mod log_secrets;
 mod log_sockets;
 mod log_wants;
 mod log_words;
+mod lookup_loss;
 mod mark;
 mod rooms;
 
 pub use desk::Desk;
 pub use log_reader::MOST_GIVEN;
+pub use lookup_loss::line_with_loss;
 pub use mark::{Mark, Want, fresh_marks};
 pub use rooms::Rooms;

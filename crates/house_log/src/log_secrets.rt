@@ -1,46 +1,60 @@
 //! What is said of files of credentials.
-ghost use Rattle.std.specs.Prelude.{◌≡◌, ◌++◌, IfOk};
+ghost use Rattle.std.specs.Prelude.{◌≡◌, ◌++◌, IfOk, codes};
 ghost use Rattle.keep_log.specs.declared.line.Word.TheVariants as kinds;
 ghost use Rattle.house_log.specs.LogDesk.{SaysLines};
 ghost use Rattle.house_log.specs.Lines.{AreSaid, LineIsSaid};
+ghost use Rattle.house_log.specs.LookupLosses.{line_with_loss};
 ghost use Rattle.house_log.specs.SecretLines.{event_of_secret, level_of, look_lines, news_lines, secret_news_line, text_of, trouble_text, want_lines};
 
 use crate::desk::Desk;
 use crate::log_clock::say_memory;
 use crate::log_line::{Stamp, say_of};
-use crate::log_words::text_word;
+use crate::lookup_loss::line_with_loss;
 use crate::rooms::Rooms;
 use house_words::{endless_text, status_text};
 use keep_agent::Agent;
+use keep_lanes::Loss;
 use keep_log::{Level, Word};
 use keep_moment::Text;
 use keep_secrets::{Looked, SecretNews, SecretTrouble, SecretWord};
 use std::alloc::{AllocError, Global};
 
 impl Desk {
-    /// Says what came of a look at files of credentials.
-    pub fn hear_look(&mut self, alloc: Global, agent: &Agent, looked: &Looked)
-        ensures { SaysLines agent.now (look_lines looked.now) self.old.marks self.old self.new }
+    /// Says what came of a look at files of credentials; `unproved` is why the broker has said nothing of what is taken, where it has not.
+    pub fn hear_look(
+        &mut self,
+        alloc: Global,
+        agent: &Agent,
+        looked: &Looked,
+        unproved: Option<Loss>,
+    )
+        ensures { SaysLines agent.now (look_lines looked.now unproved) self.old.marks self.old self.new }
     {
         let stamp = self.stamp(agent);
-        say_look(alloc, &stamp, looked, &mut self.room);
+        say_look(alloc, &stamp, looked, unproved, &mut self.room);
     }
 }
 
 #[tactic(auto, using(crate::proofs::Said::both_said), unfolding(crate::specs::SecretLines::look_lines))]
-fn say_look(alloc: Global, stamp: &Stamp, looked: &Looked, room: &mut Rooms)
-    ensures { AreSaid stamp.now.form stamp.now.moment (look_lines looked.now) room.old room.new }
+fn say_look(alloc: Global, stamp: &Stamp, looked: &Looked, unproved: Option<Loss>, room: &mut Rooms)
+    ensures { AreSaid stamp.now.form stamp.now.moment (look_lines looked.now unproved) room.old room.new }
 {
-    say_news(alloc, stamp, &looked.news, room);
+    say_news(alloc, stamp, &looked.news, unproved, room);
     say_want(alloc, stamp, looked.is_enough, room);
 }
 
 #[tactic(auto, using(crate::proofs::Said::one_said))]
-fn say_news(alloc: Global, stamp: &Stamp, news: &Option<SecretNews>, room: &mut Rooms)
-    ensures { AreSaid stamp.now.form stamp.now.moment (news_lines news.now) room.old room.new }
+fn say_news(
+    alloc: Global,
+    stamp: &Stamp,
+    news: &Option<SecretNews>,
+    unproved: Option<Loss>,
+    room: &mut Rooms,
+)
+    ensures { AreSaid stamp.now.form stamp.now.moment (news_lines news.now unproved) room.old room.new }
 {
     if let Some(news) = news {
-        say_word(alloc, stamp, news.name.list(), news.what, room);
+        say_word(alloc, stamp, news.name.list(), news.what, unproved, room);
     }
 }
 
@@ -54,11 +68,18 @@ fn say_want(alloc: Global, stamp: &Stamp, is_enough: bool, room: &mut Rooms)
 
 // Says what became of the file of an entry.
 #[tactic(auto, using(crate::proofs::Said::missed))]
-fn say_word(alloc: Global, stamp: &Stamp, name: &[u8], what: SecretWord, room: &mut Rooms)
-    ensures { LineIsSaid stamp.now.form stamp.now.moment (secret_news_line name.now what) room.old room.new }
+fn say_word(
+    alloc: Global,
+    stamp: &Stamp,
+    name: &[u8],
+    what: SecretWord,
+    unproved: Option<Loss>,
+    room: &mut Rooms,
+)
+    ensures { LineIsSaid stamp.now.form stamp.now.moment (secret_news_line name.now what unproved) room.old room.new }
 {
     let level = level_of(what);
-    match word_of(alloc, what) {
+    match word_of(alloc, what, unproved) {
         Ok(word) => say_of(alloc, stamp, level, event_of(what), name, word, room),
         Err(_) => room.miss(level),
     }
@@ -83,11 +104,11 @@ fn event_of(what: SecretWord) -> &'static str
     }
 }
 
-fn word_of(alloc: Global, what: SecretWord) -> Result<Word, AllocError>
-    ensures { IfOk result (λ w. w ≡ kinds.Text (text_of what)) }
+fn word_of(alloc: Global, what: SecretWord, unproved: Option<Loss>) -> Result<Word, AllocError>
+    ensures { IfOk result (λ w. w ≡ kinds.Text (text_of what unproved)) }
 {
     match what {
-        SecretWord::Taken => text_word(alloc, b"by its file"),
+        SecretWord::Taken => taken_word(alloc, unproved),
         SecretWord::Kept(trouble) => trouble_word(alloc, trouble, b": it keeps the old one"),
         SecretWord::Without(trouble) => trouble_word(
             alloc,
@@ -95,6 +116,14 @@ fn word_of(alloc: Global, what: SecretWord) -> Result<Word, AllocError>
             b": it is not kept until the file holds its secret",
         ),
     }
+}
+
+// That it is taken, and why the broker has said nothing of it, where it has not.
+fn taken_word(alloc: Global, unproved: Option<Loss>) -> Result<Word, AllocError>
+    ensures { IfOk result (λ w. w ≡ kinds.Text (line_with_loss unproved (codes "by its file"))) }
+{
+    let text = Text::of(alloc, b"by its file")?;
+    Ok(Word::Text(line_with_loss(alloc, text, unproved)?))
 }
 
 // What is wrong, and what that means.

@@ -33,6 +33,7 @@ pub fn book_of(alloc: Global, bytes: &[u8], served: &Served) -> Result<Book, All
     let file = File {
         rows: rows.copy(alloc)?,
         margin: served.inventory().forest().margin(),
+        system_max: served.system_max(),
         mark: fingerprint(alloc, bytes)?,
     };
     Ok(Book {

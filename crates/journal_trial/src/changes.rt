@@ -94,7 +94,7 @@ pub fn settle_all<R: Files<File = File> + AllocGlobal>(
     requires { TrialJournalIsSound journal.old file.now }
     ensures { TrialJournalIsSound journal.new file.now }
 {
-    let settled = settle(alloc, book.margin(), None, book.rows.list())?;
+    let settled = settle(alloc, book.margin(), book.file.system_max, book.rows.list())?;
     let bytes = settled.text.as_bytes();
     let line = text_of(alloc, &Record::Settling(fingerprint(alloc, bytes)?))?;
     if !is_line(line.list()) {

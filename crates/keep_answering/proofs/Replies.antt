@@ -4,7 +4,7 @@ use Rattle.keep_agent.specs.Agent.{Agent}
 use Rattle.keep_clients.specs.declared.guest.Guest.{Guest}
 use Rattle.keep_clients.specs.Tables.{AnswersFirst, BecomesAt, GuestTable, first_asked, request_asked_at}
 use Rattle.keep_clock.specs.declared.reading.Reading.{Reading}
-use Rattle.keep_onlook.specs.declared.board.Surroundings.{Surroundings}
+use Rattle.keep_onlook.specs.Naming.{Around}
 use Rattle.keep_answering.specs.Controlling.{FirstIsReplied, OneIsReplied, RepliesTo}
 use Rattle.keep_answering.specs.Wanting.{ClientWants}
 use Rattle.keep_answering.specs.declared.lines.RequestLines.{RequestLines}
@@ -17,7 +17,7 @@ given_at :
 given_at None bytes change given old new asked becomes = absurd (let e : None ≡ Some bytes = asked in cc)
 given_at (Some i) bytes change given old new asked becomes = subst (λ (b : Bool). BecomesAt (Some i) change b old new) becomes.0 becomes
 
-module _ {T : Type 0} (agent : Agent) (around : Surroundings) (now : Reading) (bytes : List ℕ) (old : GuestTable T RequestLines) (asked : first_asked old ≡ Some bytes) where
+module _ {T : Type 0} (agent : Agent) (around : Around) (now : Reading) (bytes : List ℕ) (old : GuestTable T RequestLines) (asked : first_asked old ≡ Some bytes) where
   pub given : (new : GuestTable T RequestLines) (sent : List ℕ) (there : Bool) → AnswersFirst now.elapsed sent there old new → AnswersFirst now.elapsed sent true old new
   given new sent there answers = given_at _ bytes _ there old new asked answers
 

@@ -13,7 +13,7 @@ use Rattle.keep_control.specs.declared.limits.TheConstants.{LINE_MAX}
 use Rattle.keep_onlook.specs.Answers.{IsTold}
 use Rattle.keep_onlook.specs.Board.{board_of}
 use Rattle.keep_onlook.specs.declared.asked.Page.{Page}
-use Rattle.keep_onlook.specs.declared.board.Surroundings.{Surroundings}
+use Rattle.keep_onlook.specs.Naming.{Around}
 use Rattle.keep_answering.specs.Wanting.{ClientWants, TellsRequestLine, refusal_text}
 use Rattle.keep_answering.specs.declared.asked.Asked.{Asked}
 use Rattle.keep_answering.specs.declared.control.Control.{Control}
@@ -26,7 +26,7 @@ use Rattle.keep_answering.specs.declared.went.Went.{Went}
 -- ---- what is answered
 
 -- `ok`, and what a client is told
-abbrev pub IsShownText : Agent → Surroundings → Page → List ℕ → Type 0
+abbrev pub IsShownText : Agent → Around → Page → List ℕ → Type 0
 IsShownText agent around page text = (told : List ℕ) × IsTold (board_of agent around) page told × (text ≡ codes "ok\n" ++ told)
 
 unfoldable pub refused_text : Why → List ℕ
@@ -37,12 +37,12 @@ abbrev pub TextIf : Bool → List ℕ → List ℕ → Type 0
 TextIf true text sent = sent ≡ text
 TextIf false text sent = sent ≡ []
 
-abbrev pub ShownIf : Bool → Agent → Surroundings → Page → List ℕ → Type 0
+abbrev pub ShownIf : Bool → Agent → Around → Page → List ℕ → Type 0
 ShownIf true agent around page sent = IsShownText agent around page sent
 ShownIf false agent around page sent = sent ≡ []
 
 -- the first of those whose line has ended is answered; one that asks for something to be done is left there
-abbrev pub RepliesTo : {T : Type 0} → Agent → Surroundings → Reading → Wanted → Bool → GuestTable T RequestLines → GuestTable T RequestLines → Type 0
+abbrev pub RepliesTo : {T : Type 0} → Agent → Around → Reading → Wanted → Bool → GuestTable T RequestLines → GuestTable T RequestLines → Type 0
 RepliesTo agent around now (wanted.Do asked) enough old new = (enough ≡ true) × (new ≡ old)
 RepliesTo agent around now (wanted.Show page) enough old new = (sent : List ℕ) × (ShownIf enough agent around page sent × AnswersFirst now.elapsed sent true old new)
 RepliesTo agent around now (wanted.Refused why) enough old new = (sent : List ℕ) × (TextIf enough (refused_text why) sent × AnswersFirst now.elapsed sent true old new)
@@ -51,12 +51,12 @@ RepliesTo agent around now (wanted.Refused why) enough old new = (sent : List �
 abbrev pub IsUnheard : {T : Type 0} → Reading → Bool → GuestTable T RequestLines → GuestTable T RequestLines → Type 0
 IsUnheard now enough old new = (enough ≡ false) × AnswersFirst now.elapsed [] true old new
 
-abbrev pub FirstIsReplied : {T : Type 0} → Agent → Surroundings → Reading → Option (List ℕ) → Bool → GuestTable T RequestLines → GuestTable T RequestLines → Type 0
+abbrev pub FirstIsReplied : {T : Type 0} → Agent → Around → Reading → Option (List ℕ) → Bool → GuestTable T RequestLines → GuestTable T RequestLines → Type 0
 FirstIsReplied agent around now None enough old new = (enough ≡ true) × (new ≡ old)
 FirstIsReplied agent around now (Some bytes) enough old new =
     ((it : Wanted) × (ClientWants (now.wall / 1000) bytes it × RepliesTo agent around now it enough old new)) ⊎ IsUnheard now enough old new
 
-abbrev pub OneIsReplied : {T : Type 0} → Agent → Surroundings → Reading → Bool → GuestTable T RequestLines → GuestTable T RequestLines → Type 0
+abbrev pub OneIsReplied : {T : Type 0} → Agent → Around → Reading → Bool → GuestTable T RequestLines → GuestTable T RequestLines → Type 0
 OneIsReplied agent around now enough old new = FirstIsReplied agent around now (first_asked old) enough old new
 
 -- ---- a call
@@ -70,7 +70,7 @@ abbrev pub can_be_asked : {T D : Type 0} → Control T D → Bool
 can_be_asked control = is_none control.asking && is_some (first_asked control.clients)
 
 -- each goes on by one call of its connection at most, some are let in, and then one of those who have asked is answered
-pub record ControlGoesOn {T D : Type 0} (remaining written : T → Option (List ℕ)) (calls : T → Option (List Call)) (log : D → Option (DoorLog T)) (agent : Agent) (around : Surroundings)
+pub record ControlGoesOn {T D : Type 0} (remaining written : T → Option (List ℕ)) (calls : T → Option (List Call)) (log : D → Option (DoorLog T)) (agent : Agent) (around : Around)
     (now : Reading) (went : Went) (old new : Control T D) : Type 0 where
   pub turned : GuestTable T RequestLines
   pub turned_enough : Bool

@@ -16,7 +16,7 @@ use Rattle.keep_onlook.specs.declared.asked.Asked.TheVariants.{Open, Whole}
 use Rattle.keep_onlook.specs.declared.asked.Question.{Question}
 use Rattle.keep_onlook.specs.declared.asked.Question.TheVariants.{Unread}
 use Rattle.keep_onlook.specs.declared.asked.TheConstants.{HEAD_MAX}
-use Rattle.keep_onlook.specs.declared.board.Surroundings.{Surroundings}
+use Rattle.keep_onlook.specs.Naming.{Around}
 use Rattle.keep_answering.specs.Resting.{rest_before}
 use Rattle.keep_answering.specs.declared.heads.Heads.{Heads}
 use Rattle.keep_answering.specs.declared.onlookers.Onlookers.{Onlookers}
@@ -44,22 +44,22 @@ abbrev pub bytes_of : Answer → List ℕ
 bytes_of answer = answer.head ++ answer.body
 
 -- to an onlooker that has sent these bytes: what answers them, from the agent as it is, and what is around it
-abbrev pub OnlookerIsSent : Agent → Surroundings → List ℕ → List ℕ → Type 0
+abbrev pub OnlookerIsSent : Agent → Around → List ℕ → List ℕ → Type 0
 OnlookerIsSent agent around bytes sent =
     (asked : Asked) × (answer : Answer) × BytesAsk bytes asked × IsAnswer (board_of agent around) (question_of asked) answer × (sent ≡ bytes_of answer)
 
 -- or nothing, where memory was wanting
-abbrev pub IsSentIf : Bool → Agent → Surroundings → List ℕ → List ℕ → Type 0
+abbrev pub IsSentIf : Bool → Agent → Around → List ℕ → List ℕ → Type 0
 IsSentIf true agent around bytes sent = OnlookerIsSent agent around bytes sent
 IsSentIf false agent around bytes sent = sent ≡ []
 
 -- the first of those who have asked is sent its answer, and nobody else is sent anything; where nobody has asked nothing is done
-abbrev pub FirstIsSent : {T : Type 0} → Agent → Surroundings → ℕ → Option (List ℕ) → Bool → GuestTable T Heads → GuestTable T Heads → Type 0
+abbrev pub FirstIsSent : {T : Type 0} → Agent → Around → ℕ → Option (List ℕ) → Bool → GuestTable T Heads → GuestTable T Heads → Type 0
 FirstIsSent agent around now None enough old new = (enough ≡ true) × (new ≡ old)
 FirstIsSent agent around now (Some bytes) enough old new = (sent : List ℕ) × (IsSentIf enough agent around bytes sent × AnswersFirst now sent true old new)
 
 -- unless the rest after the last answer goes on
-abbrev pub OneIsSent : {T : Type 0} → Bool → Agent → Surroundings → ℕ → Bool → GuestTable T Heads → GuestTable T Heads → Type 0
+abbrev pub OneIsSent : {T : Type 0} → Bool → Agent → Around → ℕ → Bool → GuestTable T Heads → GuestTable T Heads → Type 0
 OneIsSent true agent around now enough old new = FirstIsSent agent around now (first_asked old) enough old new
 OneIsSent false agent around now enough old new = (enough ≡ true) × (new ≡ old)
 
@@ -78,7 +78,7 @@ abbrev pub nobody : {T D : Type 0} → ℕ → D → Onlookers T D
 nobody room door = record { clients = record { guests = []; next = 0; limits = record { guests = room; bytes = HEAD_MAX }; framing = record {} }; door = door; rest = record { until = 0; begun = None } }
 
 -- each goes on by one call of its connection at most, some are let in, and then one of those who have asked is sent its answer
-pub record OnlookingGoesOn {T D : Type 0} (remaining written : T → Option (List ℕ)) (calls : T → Option (List Call)) (log : D → Option (DoorLog T)) (agent : Agent) (around : Surroundings) (now : ℕ)
+pub record OnlookingGoesOn {T D : Type 0} (remaining written : T → Option (List ℕ)) (calls : T → Option (List Call)) (log : D → Option (DoorLog T)) (agent : Agent) (around : Around) (now : ℕ)
     (went : Went) (old new : Onlookers T D) : Type 0 where
   pub turned : GuestTable T Heads
   pub turned_enough : Bool

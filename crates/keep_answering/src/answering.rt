@@ -1,9 +1,11 @@
 //! What an onlooker is sent.
 ghost use Rattle.std.specs.Prelude.{◌≡◌, IfOk};
 ghost use Rattle.keep_answering.specs.Onlooking.{OnlookerIsSent, bytes_of};
+ghost use Rattle.keep_onlook.specs.Naming.{beside};
 
 use crate::heads::question_of;
 use keep_agent::Agent;
+use keep_change::Row;
 use keep_onlook::{Answer, Surroundings, answer_to, board_of, read_question};
 use std::alloc::{AllocError, Global};
 
@@ -12,12 +14,13 @@ pub(crate) fn sent_to(
     alloc: Global,
     agent: &Agent,
     around: Surroundings,
+    named: &[Row],
     bytes: &[u8],
 ) -> Result<Vec<u8>, AllocError>
-    ensures { IfOk result (λ sent. OnlookerIsSent agent.now around bytes.now sent.items) }
+    ensures { IfOk result (λ sent. OnlookerIsSent agent.now (beside around named.now) bytes.now sent.items) }
 {
     let question = question_of(read_question(bytes));
-    let board = board_of(alloc, agent, around)?;
+    let board = board_of(alloc, agent, around, named)?;
     bytes_of(answer_to(alloc, &board, question)?)
 }
 

@@ -1,5 +1,6 @@
 //! The clients of an agent's control socket.
 ghost use Rattle.std.specs.Prelude.{◌≡◌, ◌&&◌, IfOk, None};
+ghost use Rattle.keep_onlook.specs.Naming.{beside};
 ghost use Rattle.keep_answering.specs.Controlling.{AnswersAside, AnswersAsked, ControlGoesOn, FollowsAsked, GivesAsked, IsShownText, OneIsReplied, can_be_asked, nobody_asks, refused_text};
 
 use crate::asked::Asked;
@@ -7,6 +8,7 @@ use crate::lines::RequestLines;
 use crate::wanted::{Wanted, Why, wanted_of};
 use crate::went::Went;
 use keep_agent::Agent;
+use keep_change::Row;
 use keep_clients::{Clients, Door, Limits, Talk};
 use keep_clock::Reading;
 use keep_control::LINE_MAX;
@@ -43,7 +45,8 @@ impl<T: Talk, D: Door<T>> Control<T, D> {
     }
 
     /// Goes on with each client by one call of its connection at most, and answers the first of those whose line has ended,
-    /// where it asks for nothing to be done. `around` is what the agent does not know of itself.
+    /// where it asks for nothing to be done. `around` is what the agent does not know of itself, and `named` are the entries that its
+    /// inventory names.
     ///
     /// Where memory is wanting for an answer, that client is sent nothing and its connection is closed.
     pub fn go_on(
@@ -51,12 +54,13 @@ impl<T: Talk, D: Door<T>> Control<T, D> {
         alloc: Global,
         agent: &Agent,
         around: Surroundings,
+        named: &[Row],
         now: Reading,
     ) -> Went
-        ensures { ControlGoesOn T.remaining T.written T.calls D.log agent.now around now result self.old self.new }
+        ensures { ControlGoesOn T.remaining T.written T.calls D.log agent.now (beside around named.now) now result self.old self.new }
     {
         let is_turned = self.clients.turn(alloc, &mut self.door, now.elapsed);
-        let is_answered = reply_to_one(alloc, &mut self.clients, agent, around, now);
+        let is_answered = reply_to_one(alloc, &mut self.clients, agent, around, named, now);
         Went {
             is_busy: self.clients.is_busy() || self.can_be_asked(),
             is_enough: both(is_turned, is_answered),
@@ -141,9 +145,10 @@ fn reply_to_one<T: Talk>(
     clients: &mut Clients<T, RequestLines>,
     agent: &Agent,
     around: Surroundings,
+    named: &[Row],
     now: Reading,
 ) -> bool
-    ensures { OneIsReplied agent.now around now result clients.old clients.new }
+    ensures { OneIsReplied agent.now (beside around named.now) now result clients.old clients.new }
 {
     let Some(bytes) = clients.first_request() else {
         return true;
@@ -154,7 +159,7 @@ fn reply_to_one<T: Talk>(
     };
     match wanted {
         Wanted::Do(_) => true,
-        Wanted::Show(page) => match shown(alloc, agent, around, page) {
+        Wanted::Show(page) => match shown(alloc, agent, around, named, page) {
             Ok(reply) => {
                 let _is_there = clients.answer_first(reply, now.elapsed);
                 true
@@ -182,11 +187,12 @@ fn shown(
     alloc: Global,
     agent: &Agent,
     around: Surroundings,
+    named: &[Row],
     page: Page,
 ) -> Result<Vec<u8>, AllocError>
-    ensures { IfOk result (λ text. IsShownText agent.now around page text.items) }
+    ensures { IfOk result (λ text. IsShownText agent.now (beside around named.now) page text.items) }
 {
-    let board = board_of(alloc, agent, around)?;
+    let board = board_of(alloc, agent, around, named)?;
     let told = told_of(alloc, &board, page)?;
     let mut text = Vec::from_slice(alloc, b"ok\n")?;
     text.extend_from_slice(&told)?;

@@ -1,12 +1,14 @@
 //! The onlookers of an agent.
 ghost use Rattle.std.specs.Prelude.{◌≡◌, ◌&&◌, ◌||◌, is_some, nat_le};
 ghost use Rattle.keep_answering.specs.Onlooking.{OneIsSent, OnlookingGoesOn, is_asked, nobody, rest_with};
+ghost use Rattle.keep_onlook.specs.Naming.{beside};
 
 use crate::answering::sent_to;
 use crate::heads::Heads;
 use crate::rest::Rest;
 use crate::went::Went;
 use keep_agent::Agent;
+use keep_change::Row;
 use keep_clients::{Clients, Door, Limits, Talk};
 use keep_onlook::{HEAD_MAX, Surroundings};
 use std::alloc::{AllocError, Global};
@@ -40,16 +42,32 @@ impl<T: Talk, D: Door<T>> Onlookers<T, D> {
     }
 
     /// Goes on with each onlooker by one call of its connection at most, and answers the first of those whose question is whole,
-    /// from the agent as it is now. `around` is what the agent does not know of itself, `now` a moment in milliseconds of a
-    /// clock that never steps. After an answer the others wait for nine times as long as it took, and for half a second at most.
+    /// from the agent as it is now. `around` is what the agent does not know of itself, `named` are the entries that its inventory names,
+    /// and `now` is a moment in milliseconds of a clock that never steps. After an answer the others wait for nine times as long as it
+    /// took, and for half a second at most.
     ///
     /// Where memory is wanting for an answer, that onlooker is sent nothing and its connection is closed.
-    pub fn go_on(&mut self, alloc: Global, agent: &Agent, around: Surroundings, now: u64) -> Went
-        ensures { OnlookingGoesOn T.remaining T.written T.calls D.log agent.now around now result self.old self.new }
+    pub fn go_on(
+        &mut self,
+        alloc: Global,
+        agent: &Agent,
+        around: Surroundings,
+        named: &[Row],
+        now: u64,
+    ) -> Went
+        ensures { OnlookingGoesOn T.remaining T.written T.calls D.log agent.now (beside around named.now) now result self.old self.new }
     {
         let is_turned = self.clients.turn(alloc, &mut self.door, now);
         self.rest.go_on(now);
-        let is_answered = answer_one(alloc, &mut self.clients, &mut self.rest, agent, around, now);
+        let is_answered = answer_one(
+            alloc,
+            &mut self.clients,
+            &mut self.rest,
+            agent,
+            around,
+            named,
+            now,
+        );
         Went {
             is_busy: self.clients.is_busy() || self.is_asked(),
             is_enough: both(is_turned, is_answered),
@@ -72,9 +90,10 @@ fn answer_one<T: Talk>(
     rest: &mut Rest,
     agent: &Agent,
     around: Surroundings,
+    named: &[Row],
     now: u64,
 ) -> bool
-    ensures one { OneIsSent (nat_le rest.old.until now) agent.now around now result clients.old clients.new }
+    ensures one { OneIsSent (nat_le rest.old.until now) agent.now (beside around named.now) now result clients.old clients.new }
     ensures rest { rest.new ≡ rest_with (nat_le rest.old.until now && is_asked clients.old) now rest.old }
 {
     if !rest.is_over(now) {
@@ -84,7 +103,7 @@ fn answer_one<T: Talk>(
         return true;
     };
     rest.page_begins(now);
-    match sent_to(alloc, agent, around, bytes) {
+    match sent_to(alloc, agent, around, named, bytes) {
         Ok(sent) => {
             let _is_there = clients.answer_first(sent, now);
             true

@@ -9,7 +9,7 @@ use crate::row::Row;
 use crate::rows::Rows;
 use crate::saying::said;
 use keep_inventory::Need;
-use keep_moment::Text;
+use keep_moment::{Span, Text};
 use std::alloc::{AllocError, Global};
 use std::marker::Model;
 
@@ -20,6 +20,8 @@ pub struct File {
     pub rows: Rows,
     /// The margin, in seconds.
     pub margin: u32,
+    /// The maximum TTL of the system, in seconds, where it is written.
+    pub system_max: Option<Span>,
     /// The fingerprint of its bytes.
     pub mark: Text,
 }

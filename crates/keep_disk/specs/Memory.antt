@@ -106,6 +106,7 @@ pub record IsFreshDisk (image kept : Image) (why : Why) (s : DiskState) : Type 0
   pub beside : s.beside ≡ None
   pub sound : (path : List ℕ) → s.is_sound path ≡ true
   pub left : (c : Image) → s.may_leave c → EitherEach image kept c
+  pub each : (c : Image) → EitherEach image kept c → s.may_leave c
   pub faults : s.faults ≡ 0
   pub fault : s.fault ≡ why
 

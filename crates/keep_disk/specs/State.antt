@@ -37,10 +37,6 @@ pub record DiskKeeps (path : List ℕ) (s : DiskState) : Type 0 where
   pub sound : s.is_sound path ≡ true
   pub durable : (c : Image) → s.may_leave c → c path ≡ s.seen path
 
--- what is read at each path is on the disk
-abbrev pub AllKept : DiskState → Type 0
-AllKept s = (path : List ℕ) → DiskKeeps path s
-
 -- what a crash might have left before, after a step
 abbrev pub IsAfter : (Image → Image → Type 0) → DiskState → Image → Type 0
 IsAfter step old c = (d : Image) × old.may_leave d × step d c

@@ -84,7 +84,7 @@ impl MemoryDisk {
         self.taken = true;
     }
 
-    /// The calls that were made on its files, in their order: writes, cuts, syncs and moves, also those that failed.
+    /// The calls that were made on its files, in their order: writes, syncs and moves, also those that failed.
     pub fn calls(&self) -> &[Call]
         ensures { result.now ≡ calls_of_disk self.now }
     {

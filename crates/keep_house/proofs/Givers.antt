@@ -17,19 +17,18 @@ use Rattle.keep_clients.specs.declared.talk.Call.{Call}
 use Rattle.keep_clock.specs.declared.reading.Reading.{Reading}
 use Rattle.keep_inventory.specs.Inventories.{Inventory}
 use Rattle.keep_inventory.specs.declared.need.Need.{Need}
-use Rattle.keep_onlook.specs.declared.board.Surroundings.{Surroundings}
-use Rattle.keep_secrets.specs.declared.news.Looked.{Looked}
+use Rattle.keep_onlook.specs.Naming.{Around}
 use Rattle.keep_serving.specs.Changes.{AllGiven}
 use Rattle.keep_serving.specs.declared.change.Change.{Change}
 use Rattle.keep_house.specs.Admitting.{AdmitsIf, AnswerBeginsWith, FollowsLog, asking_in}
-use Rattle.keep_house.specs.Awaiting.{AddsRow, HearsFor, HearsOfAwaited, HearsVerdict, IsRefusedFor, Judges, LooksUpBy, LooksUpFirst, LooksUpIf, Makes, ProvesBy, Replaces, SetsAside, VerdictIs, addressed}
+use Rattle.keep_house.specs.Awaiting.{AddsRow, HearsFor, HearsOfAwaited, HearsVerdict, IsAddedLine, IsRefusedFor, Judges, LooksUpBy, LooksUpFirst, LooksUpIf, Makes, ProvesBy, Replaces, SetsAside, VerdictIs, addressed}
 use Rattle.keep_house.specs.Commands.{AddsEntry, AddsIf, AsksFor, AsksIf, CarriesIf, CarriesOut, ClosesClient, DropsEntry, GivesNeed, InventoryIsDue, NeedIsKept, StateIsServed, GoesOnIf, GoesOnWithClients, LacksMemory, Needs, NeedsIf, Reloads, RereadBy, ServesClients, SettlesFile, SettlesAnswer, SettlesAside, SettlesBy, SettlesGiven, SettlesNeed, SettlesServed, TellsNeed, TellsReload, end_named}
 use Rattle.house_log.specs.Feeding.{FollowersGoOn}
 use Rattle.keep_house.specs.Houses.{Attends, ClientIsAnswered, ClientIsAside, ClientIsSent, ClientsAsk, ClientsGoOn, Concludes, IsAnsweredAs, IsAnsweredAside, SendsAside, WillRefuse, WillTell, bytes_sent, changes_given, given_where}
 use Rattle.house_ledger.specs.Keeping.{KeepCall, KeeperIsAsked, Settle, Take}
 use Rattle.house_words.specs.Outcomes.{Outcome, Why, Whys}
 use Rattle.house_words.specs.Telling.{IsDropLine, replaced_text, settle_line, until_of_need}
-use Rattle.keep_house.specs.LookupLosses.{IsAddedLine, line_with_loss}
+use Rattle.house_log.specs.LookupLosses.{line_with_loss}
 use Rattle.house_log.specs.Lines.{Line}
 use Rattle.house_log.specs.Rooms.{Rooms}
 use Rattle.keep_log.specs.declared.form.Form.{Form}
@@ -43,6 +42,7 @@ use Rattle.keep_house.specs.declared.given.Given.{Given}
 use Rattle.keep_house.specs.declared.given.Given.TheVariants as givens
 use Rattle.keep_house.specs.declared.given.GivenNeed.{GivenNeed}
 use Rattle.keep_house.specs.declared.house.House.{House}
+use Rattle.house_ledger.specs.declared.keeping.FileLook.{FileLook}
 use Rattle.house_ledger.specs.declared.keeping.LookedUp.{LookedUp}
 use Rattle.house_ledger.specs.declared.keeping.LookedUp.TheVariants as lookups
 use Rattle.house_words.specs.declared.reread.Reread.{Reread}
@@ -238,7 +238,7 @@ module _ {S T D K E : Type 0} where
   log_followed now alerts old new (inl h) = will_tell (Err h.why) now.elapsed old new h.will
   log_followed now alerts old new (inr h) = admits now alerts old new h.admits
 
-module _ {S T D K E : Type 0} (does : KeepCall → K → K → Type 0) (rows : K → List Row) (path : K → List ℕ) (reads : List ℕ → Result Row Why → Type 0)
+module _ {S T D K E : Type 0} (does : KeepCall → K → K → Type 0) (rows : K → List Row) (path : K → List ℕ) (reads : K → List ℕ → Result Row Why → Type 0)
     (gives : ℕ → Result (Option Inventory) AllocError → K → Type 0) (agent : Agent) (now : Reading) where
   carried_out : (a : Asked) (change : Change) (old new : House S T D K E) → CarriesOut does rows path reads gives agent now a change old new → AreSame old new
   carried_out (asked.Need name need) change old new h =
@@ -314,7 +314,7 @@ by_case false change none = subst (λ (c : Option Change). AllGiven (option_to_l
 
 -- ---- a turn gives none
 
-same_goers : {T D : Type 0} (remaining written : T → Option (List ℕ)) (calls : T → Option (List Call)) (log : D → Option (DoorLog T)) (agent : Agent) (around : Surroundings) (now : Reading) (went : Went)
+same_goers : {T D : Type 0} (remaining written : T → Option (List ℕ)) (calls : T → Option (List Call)) (log : D → Option (DoorLog T)) (agent : Agent) (around : Around) (now : Reading) (went : Went)
     (old new : Option (Control T D)) → ClientsGoOn remaining written calls log agent around now went old new → is_some new ≡ is_some old
 same_goers remaining written calls log agent around now went None new h = ap is_some h.1
 same_goers remaining written calls log agent around now went (Some old) None h = absurd h
@@ -326,25 +326,25 @@ same_fed form moment old new (Some before) None h = absurd h
 same_fed form moment old new (Some before) (Some after) h = refl
 
 pub none_by_attending : {S T D K E : Type 0} (given : S → Option (List ℕ)) (failures tries : S → ℕ) (remaining written : T → Option (List ℕ)) (calls : T → Option (List Call)) (log : D → Option (DoorLog T))
-    (agent : Agent) (now : Reading) (goes_on : Bool) (old new : House S T D K E) → Attends given failures tries remaining written calls log agent now goes_on old new → changes_given new.control new.state ≡ changes_given old.control old.state
-none_by_attending given failures tries remaining written calls log agent now goes_on old new h =
+    (rows : K → List Row) (agent : Agent) (now : Reading) (goes_on : Bool) (old new : House S T D K E) → Attends given failures tries remaining written calls log rows agent now goes_on old new → changes_given new.control new.state ≡ changes_given old.control old.state
+none_by_attending given failures tries remaining written calls log rows agent now goes_on old new h =
     ap (λ b. given_where (b || is_some new.state)) (same_goers remaining written calls log agent _ now h.answered h.fed new.control h.clients ∙ same_fed _ _ _ h.rooms old.control h.fed h.follow)
     ∙ ap (λ x. given_where (is_some old.control || is_some x.state)) h.rest
 
 -- nor does a look at files of credentials
-looked_at : {K : Type 0} (does : KeepCall → K → K → Type 0) (now : Reading) (looked : Looked) (old new : Option K) → AsksToLook does now looked old new → is_some new ≡ is_some old
-looked_at does now looked None new h = ap is_some h.1
-looked_at does now looked (Some old) None h = absurd h
-looked_at does now looked (Some old) (Some new) h = refl
+looked_at : {K : Type 0} (does : KeepCall → K → K → Type 0) (now : Reading) (look : FileLook) (old new : Option K) → AsksToLook does now look old new → is_some new ≡ is_some old
+looked_at does now look None new h = ap is_some h.1
+looked_at does now look (Some old) None h = absurd h
+looked_at does now look (Some old) (Some new) h = refl
 
 pub none_by_looking : {S T D K E : Type 0} (does : KeepCall → K → K → Type 0) (agent : Agent) (now : Reading) (goes_on : Bool) (old new : House S T D K E) → LooksAround does agent now goes_on old new → changes_given new.control new.state ≡ changes_given old.control old.state
 none_by_looking does agent now goes_on old new h =
     ap (λ x. given_where (is_some x.control || is_some new.state)) h.rest
-    ∙ ap (λ b. given_where (is_some old.control || b)) (looked_at does now h.looked old.state new.state h.asks)
+    ∙ ap (λ b. given_where (is_some old.control || b)) (looked_at does now h.look old.state new.state h.asks)
 
 -- ---- a client gives one, or an inventory that is due
 
-pub one_by_asking : {S T D K E : Type 0} (does : KeepCall → K → K → Type 0) (rows : K → List Row) (path : K → List ℕ) (reads : List ℕ → Result Row Why → Type 0) (gives : ℕ → Result (Option Inventory) AllocError → K → Type 0)
+pub one_by_asking : {S T D K E : Type 0} (does : KeepCall → K → K → Type 0) (rows : K → List Row) (path : K → List ℕ) (reads : K → List ℕ → Result Row Why → Type 0) (gives : ℕ → Result (Option Inventory) AllocError → K → Type 0)
     (agent : Agent) (now : Reading) (change : Option Change) (old new : House S T D K E) → AsksFor does rows path reads gives agent now change old new →
     AllGiven (option_to_list change) (changes_given old.control old.state) (changes_given new.control new.state)
 one_by_asking does rows path reads gives agent now change old new h =

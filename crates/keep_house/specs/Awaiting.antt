@@ -13,11 +13,11 @@ use Rattle.keep_lanes.specs.declared.loss.Loss.{Loss}
 use Rattle.keep_proving.specs.declared.verdict.Verdict.{Verdict}
 use Rattle.keep_proving.specs.declared.verdict.Verdict.TheVariants as verdicts
 use Rattle.house_log.specs.Changed.{entry_log_line}
+use Rattle.house_log.specs.LookupLosses.{line_with_loss}
 use Rattle.keep_house.specs.Houses.{ClientIsAside, Concludes, WillTell}
 use Rattle.house_ledger.specs.Keeping.{KeepCall, KeeperIsAsked, LookUp, Prove, Take}
 use Rattle.house_words.specs.Outcomes.{Outcome, Why}
-use Rattle.house_words.specs.Telling.{replaced_text, until_of_need}
-use Rattle.keep_house.specs.LookupLosses.{IsAddedLine, line_with_loss}
+use Rattle.house_words.specs.Telling.{IsAddLine, replaced_text, until_of_need}
 use Rattle.house_words.specs.VerdictWords.{endless_words, kept_words, later_words, status_words}
 use Rattle.keep_house.specs.declared.given.Awaited.{Awaited}
 use Rattle.keep_house.specs.declared.given.Given.{Given}
@@ -27,6 +27,10 @@ use Rattle.house_ledger.specs.declared.keeping.LookedUp.{LookedUp}
 use Rattle.house_ledger.specs.declared.keeping.LookedUp.TheVariants as looked
 
 -- ---- a change that brings a credential is made; why says why the broker has said nothing of it, where it was asked and has not
+
+-- that an entry is kept from now on, and that the broker has said nothing of its credential, where it has not
+abbrev pub IsAddedLine : List ℕ → ℕ → Option Loss → List ℕ → Type 0
+IsAddedLine name until why text = (line : List ℕ) × (IsAddLine name until line × (text ≡ line_with_loss why line))
 
 pub record Replaces {S T D K E : Type 0} (does : KeepCall → K → K → Type 0) (rows : K → List Row) (agent : Agent) (now : Reading) (name credential : List ℕ) (why : Option Loss) (old new : House S T D K E) : Type 0 where
   pub outcome : Outcome

@@ -105,12 +105,12 @@ pub record SettlesFile {S T D K E : Type 0} (does : KeepCall → K → K → Typ
 
 -- ---- add
 
-abbrev pub ReadsIf : {K : Type 0} → (List ℕ → Result Row Why → Type 0) → List ℕ → Result Row Why → Option K → Type 0
+abbrev pub ReadsIf : {K : Type 0} → (K → List ℕ → Result Row Why → Type 0) → List ℕ → Result Row Why → Option K → Type 0
 ReadsIf reads table result None = IsNotKept result
-ReadsIf reads table result (Some k) = reads table result
+ReadsIf reads table result (Some k) = reads k table result
 
 -- what the table writes; or why it is not taken, as that nobody keeps changes, or that memory was wanting
-abbrev pub ReadsRow : {K : Type 0} → (List ℕ → Result Row Why → Type 0) → List ℕ → Result Row Why → Option K → Type 0
+abbrev pub ReadsRow : {K : Type 0} → (K → List ℕ → Result Row Why → Type 0) → List ℕ → Result Row Why → Option K → Type 0
 ReadsRow reads table (Err None) state = Unit {0}
 ReadsRow reads table (Err (Some why)) state = ReadsIf reads table (Err (Some why)) state
 ReadsRow reads table (Ok row) state = ReadsIf reads table (Ok row) state
@@ -125,7 +125,7 @@ abbrev pub AddsIf : {S T D K E : Type 0} → (KeepCall → K → K → Type 0) �
 AddsIf does rows agent now (Ok row) old new = LooksUpFirst does rows agent now row.name (what.Add row) old new
 AddsIf does rows agent now (Err why) old new = WillTell (Err why) now.elapsed old new
 
-pub record AddsEntry {S T D K E : Type 0} (does : KeepCall → K → K → Type 0) (rows : K → List Row) (reads : List ℕ → Result Row Why → Type 0) (agent : Agent) (now : Reading) (table : List ℕ) (old new : House S T D K E) : Type 0 where
+pub record AddsEntry {S T D K E : Type 0} (does : KeepCall → K → K → Type 0) (rows : K → List Row) (reads : K → List ℕ → Result Row Why → Type 0) (agent : Agent) (now : Reading) (table : List ℕ) (old new : House S T D K E) : Type 0 where
   pub read : Result Row Why
   pub reads_row : ReadsRow reads table read old.state
   pub then : AddsIf does rows agent now read old new
@@ -192,7 +192,7 @@ IsGivenWith agent s marks (Some (givens.Aside client sent at)) = ⊥
 IsGivenWith agent s marks (Some (givens.Served given)) = (s ≢ agent.inventory) × (given.items ≡ marks)
 IsGivenWith agent s marks (Some givens.Unchanged) = s ≡ agent.inventory
 
-module _ {S T D K E : Type 0} (does : KeepCall → K → K → Type 0) (rows : K → List Row) (path : K → List ℕ) (reads : List ℕ → Result Row Why → Type 0)
+module _ {S T D K E : Type 0} (does : KeepCall → K → K → Type 0) (rows : K → List Row) (path : K → List ℕ) (reads : K → List ℕ → Result Row Why → Type 0)
     (gives : ℕ → Result (Option Inventory) AllocError → K → Type 0) (agent : Agent) (now : Reading) where
   abbrev pub CarriesOut : Asked → Change → House S T D K E → House S T D K E → Type 0
   CarriesOut (asked.Need name need) change old new = Needs does agent now name need change old new

@@ -65,7 +65,7 @@ pub record SettlesChange {S T D K E : Type 0} (does : KeepCall → K → K → T
 -- ---- each call
 
 module _ {S T D K E : Type 0} (given : S → Option (List ℕ)) (failures tries : S → ℕ) (remaining written : T → Option (List ℕ)) (calls : T → Option (List Call)) (log : D → Option (DoorLog T))
-    (does : KeepCall → K → K → Type 0) (rows : K → List Row) (path : K → List ℕ) (reads : List ℕ → Result Row Why → Type 0) (gives : ℕ → Result (Option Inventory) AllocError → K → Type 0)
+    (does : KeepCall → K → K → Type 0) (rows : K → List Row) (path : K → List ℕ) (reads : K → List ℕ → Result Row Why → Type 0) (gives : ℕ → Result (Option Inventory) AllocError → K → Type 0)
     (known : Bool) (state : E → DiskState) where
   -- the ends are kept, then files of credentials are looked at, and then the log's reader, the onlookers and the clients are attended to
   pub record HouseGoesOn (agent : Agent) (now : Reading) (is_busy : Bool) (old new : House S T D K E) : Type 0 where
@@ -75,7 +75,7 @@ module _ {S T D K E : Type 0} (given : S → Option (List ℕ)) (failures tries 
     pub is_more : Bool
     pub ends : KeepsEnds known state agent now.elapsed old kept
     pub look : LooksAround does agent now goes_on kept looked
-    pub attend : Attends given failures tries remaining written calls log agent now is_more looked new
+    pub attend : Attends given failures tries remaining written calls log rows agent now is_more looked new
     pub busy : is_busy ≡ (goes_on || is_more)
 
   -- for some agent, at some reading; what is heard of is such a thing

@@ -9,6 +9,7 @@ use Rattle.keep_answering.specs.declared.asked.Asked.{Asked}
 use Rattle.keep_answering.specs.declared.control.Control.{Control}
 use Rattle.keep_answering.specs.declared.onlookers.Onlookers.{Onlookers}
 use Rattle.keep_answering.specs.declared.went.Went.{Went}
+use Rattle.keep_change.specs.declared.row.Row.{Row}
 use Rattle.keep_clients.specs.Doors.{DoorLog}
 use Rattle.keep_clients.specs.declared.talk.Call.{Call}
 use Rattle.keep_clock.specs.declared.reading.Reading.{Reading}
@@ -16,6 +17,7 @@ use Rattle.keep_log.specs.Waiting.{Waiting}
 use Rattle.keep_log.specs.declared.writing.TheConstants.{MOST_TRIES}
 use Rattle.keep_onlook.specs.declared.board.FileReading.{FileReading}
 use Rattle.keep_onlook.specs.declared.board.Surroundings.{Surroundings}
+use Rattle.keep_onlook.specs.Naming.{Around, beside}
 use Rattle.keep_serving.specs.declared.change.Change.{Change}
 use Rattle.watch_machine.specs.declared.outlook.Next.{Next}
 use Rattle.house_log.specs.LogDesk.{Desk, HearsIf, HearsWant, ReaderIsGiven}
@@ -37,13 +39,19 @@ abbrev pub around_of : Option (Option Next) → FileReading → Bool → ℕ →
 around_of next file keeps dropped wall =
     record { wall = wall / 1000; next_wake = next_wake_of next; file = file; keeps_changes = keeps; dropped_lines = dropped; dropped_alerts = 0 }
 
+-- the entries that the inventory names: those after every change, and where nothing keeps changes those that the start has read
+abbrev pub named_in : {K : Type 0} → (K → List Row) → Option K → Option (List Row) → List Row
+named_in rows (Some state) read = rows state
+named_in rows None (Some read) = read
+named_in rows None None = []
+
 -- ---- a turn
 
 -- where there is no socket nothing is done
 abbrev pub idle : Went
 idle = record { is_busy = false; is_enough = true }
 
-module _ {T D : Type 0} (remaining written : T → Option (List ℕ)) (calls : T → Option (List Call)) (log : D → Option (DoorLog T)) (agent : Agent) (around : Surroundings) (now : Reading) (went : Went) where
+module _ {T D : Type 0} (remaining written : T → Option (List ℕ)) (calls : T → Option (List Call)) (log : D → Option (DoorLog T)) (agent : Agent) (around : Around) (now : Reading) (went : Went) where
   abbrev pub OnlookersGoOn : Option (Onlookers T D) → Option (Onlookers T D) → Type 0
   OnlookersGoOn None new = (went ≡ idle) × (new ≡ None)
   OnlookersGoOn (Some old) None = ⊥
@@ -58,7 +66,7 @@ module _ {T D : Type 0} (remaining written : T → Option (List ℕ)) (calls : T
 -- itself, with the agent as it is and what is around it then; and where memory was wanting for one of them, that is said. Nothing else
 -- changes
 pub record Attends {S T D K E : Type 0} (given : S → Option (List ℕ)) (failures tries : S → ℕ) (remaining written : T → Option (List ℕ)) (calls : T → Option (List Call)) (log : D → Option (DoorLog T))
-    (agent : Agent) (now : Reading) (goes_on : Bool) (old new : House S T D K E) : Type 0 where
+    (rows : K → List Row) (agent : Agent) (now : Reading) (goes_on : Bool) (old new : House S T D K E) : Type 0 where
   pub room : Waiting
   pub rooms : Rooms
   pub fed : Option (Control T D)
@@ -68,8 +76,10 @@ pub record Attends {S T D K E : Type 0} (given : S → Option (List ℕ)) (failu
   pub gives : ReaderIsGiven old.desk.form (second_of now.wall) old.desk.room.log room (given old.sink) (given new.sink) (failures old.sink) (failures new.sink) is_more
   pub few : tries new.sink ≤ tries old.sink + MOST_TRIES
   pub follow : FollowersGoOn old.desk.form (second_of now.wall) (record old.desk.room { log = room }) rooms old.control fed
-  pub onlookers : OnlookersGoOn remaining written calls log agent (around_of old.next old.file (is_some old.state) rooms.log.dropped now.wall) now shown old.onlookers new.onlookers
-  pub clients : ClientsGoOn remaining written calls log agent (around_of old.next old.file (is_some old.state) rooms.log.dropped now.wall) now answered fed new.control
+  pub around : Around
+  pub around_is : around ≡ beside (around_of old.next old.file (is_some old.state) rooms.log.dropped now.wall) (named_in rows old.state old.read)
+  pub onlookers : OnlookersGoOn remaining written calls log agent around now shown old.onlookers new.onlookers
+  pub clients : ClientsGoOn remaining written calls log agent around now answered fed new.control
   pub desk : HearsWant agent (shown.is_enough && answered.is_enough) (record old.desk { room = rooms }) new.desk
   pub rest : new ≡ record old { desk = new.desk; sink = new.sink; control = new.control; onlookers = new.onlookers }
   pub more : goes_on ≡ (is_more || (shown.is_busy || answered.is_busy))

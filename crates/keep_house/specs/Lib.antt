@@ -1,4 +1,3 @@
-pub mod LookupLosses
 pub mod Nexts
 pub mod Ends
 pub mod Houses

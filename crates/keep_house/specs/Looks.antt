@@ -7,18 +7,18 @@ use Rattle.house_ledger.specs.Keeping.{KeepCall, Look}
 use Rattle.house_log.specs.LogDesk.{SaysLines}
 use Rattle.house_log.specs.SecretLines.{look_lines}
 use Rattle.house_ledger.specs.Takings.{quiet}
+use Rattle.house_ledger.specs.declared.keeping.FileLook.{FileLook}
 use Rattle.keep_house.specs.declared.house.House.{House}
-use Rattle.keep_secrets.specs.declared.news.Looked.{Looked}
 
-abbrev pub AsksToLook : {K : Type 0} → (KeepCall → K → K → Type 0) → Reading → Looked → Option K → Option K → Type 0
-AsksToLook does now looked None new = (looked ≡ quiet false) × (new ≡ None)
-AsksToLook does now looked (Some old) None = ⊥
-AsksToLook does now looked (Some old) (Some new) = does (Look now looked) old new
+abbrev pub AsksToLook : {K : Type 0} → (KeepCall → K → K → Type 0) → Reading → FileLook → Option K → Option K → Type 0
+AsksToLook does now look None new = (look ≡ record { looked = quiet false; unproved = None }) × (new ≡ None)
+AsksToLook does now look (Some old) None = ⊥
+AsksToLook does now look (Some old) (Some new) = does (Look now look) old new
 
 -- whoever keeps changes looks at files of credentials, and what came of it is said. Nothing else changes
 pub record LooksAround {S T D K E : Type 0} (does : KeepCall → K → K → Type 0) (agent : Agent) (now : Reading) (goes_on : Bool) (old new : House S T D K E) : Type 0 where
-  pub looked : Looked
-  pub asks : AsksToLook does now looked old.state new.state
-  pub desk : SaysLines agent (look_lines looked) old.desk.marks old.desk new.desk
+  pub look : FileLook
+  pub asks : AsksToLook does now look old.state new.state
+  pub desk : SaysLines agent (look_lines look.looked look.unproved) old.desk.marks old.desk new.desk
   pub rest : new ≡ record old { desk = new.desk; state = new.state }
-  pub more : goes_on ≡ looked.goes_on
+  pub more : goes_on ≡ look.looked.goes_on

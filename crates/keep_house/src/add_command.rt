@@ -2,15 +2,14 @@
 ghost use Rattle.std.specs.Prelude.{◌≡◌, IfErr, IfOk, IfSome, None};
 ghost use Rattle.keep_change.specs.declared.change.What.TheVariants as kinds;
 ghost use Rattle.keep_house.specs.Commands.{AddsEntry, ReadsRow, row_in};
-ghost use Rattle.keep_house.specs.Awaiting.{AddsRow};
+ghost use Rattle.keep_house.specs.Awaiting.{AddsRow, IsAddedLine};
 ghost use Rattle.house_ledger.specs.Keeping.{KeeperIsAsked, Take};
 ghost use Rattle.house_words.specs.Telling.{until_of_need};
-ghost use Rattle.keep_house.specs.LookupLosses.{IsAddedLine};
 
 use crate::house::House;
-use crate::lookup_loss::noted;
 use crate::need_command::until_of;
 use house_ledger::Keeping;
+use house_log::line_with_loss;
 use house_words::{add_line, why_not_kept};
 use keep_agent::Agent;
 use keep_change::{Row, What};
@@ -102,5 +101,5 @@ fn added(alloc: Global, name: &[u8], until: u64, why: Option<Loss>) -> Option<Te
     ensures { IfSome result (λ line. IsAddedLine name.now until why line) }
 {
     let line = add_line(alloc, name, until).ok()?;
-    noted(alloc, line, why).ok()
+    line_with_loss(alloc, line, why).ok()
 }

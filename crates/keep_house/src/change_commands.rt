@@ -8,11 +8,11 @@ ghost use Rattle.keep_house.specs.Commands.{DropsEntry, SettlesFile, end_known_a
 ghost use Rattle.keep_house.specs.Houses.{Concludes};
 ghost use Rattle.house_ledger.specs.Keeping.{KeeperIsAsked, Settle, Take};
 ghost use Rattle.house_words.specs.Telling.{IsDropLine, replaced_text, settle_line};
-ghost use Rattle.keep_house.specs.LookupLosses.{line_with_loss};
+ghost use Rattle.house_log.specs.LookupLosses.{line_with_loss};
 
 use crate::house::House;
-use crate::lookup_loss::noted;
 use house_ledger::Keeping;
+use house_log::line_with_loss;
 use house_words::{drop_line, replace_line, settle_line, why_not_kept};
 use keep_agent::Agent;
 use keep_change::What;
@@ -86,7 +86,7 @@ fn replaced<K: Keeping>(alloc: Global, name: &[u8], state: &K, why: Option<Loss>
     ensures { IfSome result (λ line. line ≡ line_with_loss why (replaced_text name.now (named (K.rows state.now) name.now))) }
 {
     let line = replace_line(alloc, name, state.named(name)).ok()?;
-    noted(alloc, line, why).ok()
+    line_with_loss(alloc, line, why).ok()
 }
 
 // That the file holds every change; `None` where memory was wanting.

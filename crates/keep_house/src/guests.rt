@@ -1,33 +1,37 @@
 //! What each neighbour is given of a turn.
 ghost use Rattle.std.specs.Prelude.{◌≡◌, ◌+◌, ◌≤◌, ◌&&◌, ◌||◌, is_some};
+ghost use Rattle.keep_onlook.specs.Naming.{beside};
 ghost use Rattle.keep_log.specs.declared.writing.TheConstants.{MOST_TRIES};
 ghost use Rattle.house_log.specs.Feeding.{FollowersGoOn};
 ghost use Rattle.house_words.specs.Moments.{second_of};
 ghost use Rattle.house_log.specs.LogDesk.{ReaderIsGiven};
-ghost use Rattle.keep_house.specs.Houses.{Attends, ClientsGoOn, OnlookersGoOn, around_of, idle};
+ghost use Rattle.keep_house.specs.Houses.{Attends, ClientsGoOn, OnlookersGoOn, around_of, idle, named_in};
 
 use crate::house::House;
 use crate::next_time::next_wake_of;
+use house_ledger::Keeping;
 use keep_agent::Agent;
 use keep_answering::{Control, Onlookers, Went};
+use keep_change::{Row, Rows};
 use keep_clients::{Door, Talk};
 use keep_clock::Reading;
 use keep_log::LogSink;
 use keep_onlook::Surroundings;
 use std::alloc::Global;
 
-impl<S: LogSink, T: Talk, D: Door<T>, K, E> House<S, T, D, K, E> {
+impl<S: LogSink, T: Talk, D: Door<T>, K: Keeping, E> House<S, T, D, K, E> {
     /// Gives the log's reader what it takes, and those who follow the log what waits for them; then goes on with each onlooker and each
     /// client by one call of its connection at most, and answers one of each. The agent is read alone. Where memory was wanting for an
     /// onlooker or a client, that is said. Whether more could be done at once.
     pub fn attend(&mut self, alloc: Global, agent: &Agent, now: Reading) -> bool
-        ensures { Attends S.written S.failures S.tries T.remaining T.written T.calls D.log agent.now now result self.old self.new }
+        ensures { Attends S.written S.failures S.tries T.remaining T.written T.calls D.log K.rows agent.now now result self.old self.new }
     {
         let is_more = self.give(alloc, now);
         self.feed(alloc, now);
         let around = self.around(now);
-        let shown = show(alloc, &mut self.onlookers, agent, around, now);
-        let answered = answer(alloc, &mut self.control, agent, around, now);
+        let named = named_in(&self.state, &self.read);
+        let shown = show(alloc, &mut self.onlookers, agent, around, named, now);
+        let answered = answer(alloc, &mut self.control, agent, around, named, now);
         self.desk
             .hear_want(alloc, agent, both(shown.is_enough, answered.is_enough));
         any_of(is_more, shown.is_busy, answered.is_busy)
@@ -74,19 +78,33 @@ impl<S, T, D, K, E> House<S, T, D, K, E> {
     }
 }
 
+// The entries that the inventory names: those after every change, and where nothing keeps changes those that the start has read.
+fn named_in<'a, K: Keeping>(state: &'a Option<K>, read: &'a Option<Rows>) -> &'a [Row]
+    ensures { result.now ≡ named_in K.rows state.now read.now }
+{
+    if let Some(state) = state {
+        return state.rows();
+    }
+    match read {
+        None => &[],
+        Some(read) => read.list(),
+    }
+}
+
 // Goes on with the onlookers, where there is a socket for them.
 fn show<T: Talk, D: Door<T>>(
     alloc: Global,
     onlookers: &mut Option<Onlookers<T, D>>,
     agent: &Agent,
     around: Surroundings,
+    named: &[Row],
     now: Reading,
 ) -> Went
-    ensures { OnlookersGoOn T.remaining T.written T.calls D.log agent.now around now result onlookers.old onlookers.new }
+    ensures { OnlookersGoOn T.remaining T.written T.calls D.log agent.now (beside around named.now) now result onlookers.old onlookers.new }
 {
     match onlookers {
         None => idle(),
-        Some(onlookers) => onlookers.go_on(alloc, agent, around, now.elapsed),
+        Some(onlookers) => onlookers.go_on(alloc, agent, around, named, now.elapsed),
     }
 }
 
@@ -96,13 +114,14 @@ fn answer<T: Talk, D: Door<T>>(
     control: &mut Option<Control<T, D>>,
     agent: &Agent,
     around: Surroundings,
+    named: &[Row],
     now: Reading,
 ) -> Went
-    ensures { ClientsGoOn T.remaining T.written T.calls D.log agent.now around now result control.old control.new }
+    ensures { ClientsGoOn T.remaining T.written T.calls D.log agent.now (beside around named.now) now result control.old control.new }
 {
     match control {
         None => idle(),
-        Some(control) => control.go_on(alloc, agent, around, now),
+        Some(control) => control.go_on(alloc, agent, around, named, now),
     }
 }
 

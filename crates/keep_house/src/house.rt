@@ -6,6 +6,7 @@ use house_ledger::Keeping;
 use house_log::Desk;
 use keep_agent::Agent;
 use keep_answering::{Control, Onlookers};
+use keep_change::Rows;
 use keep_clients::{Door, Talk};
 use keep_clock::Reading;
 use keep_disk::Disk;
@@ -32,6 +33,8 @@ pub struct House<S, T, D, K, E> {
     pub file: FileReading,
     /// What keeps changes over a restart, where something does.
     pub state: Option<K>,
+    /// The entries that the file named at the start, where nothing keeps changes and some of them are not served.
+    pub read: Option<Rows>,
     /// What was given to the loop last, as long as it is not settled.
     pub given: Option<Given>,
     /// The change that waits for the broker's word on its credential, where one does.
@@ -45,7 +48,7 @@ pub struct House<S, T, D, K, E> {
 impl<S, T, D, K, E> House<S, T, D, K, E> {
     /// The log alone: with no control socket, none for onlookers, and nothing that is kept.
     pub fn new(desk: Desk, sink: S, file: FileReading) -> House<S, T, D, K, E>
-        ensures { result ≡ record { desk = desk; sink = sink; control = None; onlookers = None; file = file; state = None; given = None; awaited = None; next = None; ends = None } }
+        ensures { result ≡ record { desk = desk; sink = sink; control = None; onlookers = None; file = file; state = None; read = None; given = None; awaited = None; next = None; ends = None } }
     {
         House {
             desk,
@@ -54,6 +57,7 @@ impl<S, T, D, K, E> House<S, T, D, K, E> {
             onlookers: None,
             file,
             state: None,
+            read: None,
             given: None,
             awaited: None,
             next: None,

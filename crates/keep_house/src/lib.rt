@@ -21,7 +21,6 @@ mod follow_command;
 mod given;
 mod guests;
 mod house;
-mod lookup_loss;
 mod need_command;
 mod next_change;
 mod next_time;

@@ -2,7 +2,7 @@
 ghost use Rattle.keep_house.specs.Looks.{AsksToLook, LooksAround};
 
 use crate::house::House;
-use house_ledger::Keeping;
+use house_ledger::{FileLook, Keeping};
 use keep_agent::Agent;
 use keep_clock::Reading;
 use keep_secrets::Looked;
@@ -13,21 +13,25 @@ impl<S, T, D, K: Keeping, E> House<S, T, D, K, E> {
     pub fn look(&mut self, alloc: Global, agent: &Agent, now: Reading) -> bool
         ensures { LooksAround K.does agent.now now result self.old self.new }
     {
-        let looked = look_at(alloc, &mut self.state, now);
-        self.desk.hear_look(alloc, agent, &looked);
-        looked.goes_on
+        let look = look_at(alloc, &mut self.state, now);
+        self.desk
+            .hear_look(alloc, agent, &look.looked, look.unproved);
+        look.looked.goes_on
     }
 }
 
 // Looks at them, where something keeps changes.
-fn look_at<K: Keeping>(alloc: Global, state: &mut Option<K>, now: Reading) -> Looked
+fn look_at<K: Keeping>(alloc: Global, state: &mut Option<K>, now: Reading) -> FileLook
     ensures { AsksToLook K.does now result state.old state.new }
 {
     match state {
-        None => Looked {
-            news: None,
-            goes_on: false,
-            is_enough: true,
+        None => FileLook {
+            looked: Looked {
+                news: None,
+                goes_on: false,
+                is_enough: true,
+            },
+            unproved: None,
         },
         Some(state) => state.look(alloc, now),
     }

@@ -23,7 +23,7 @@ use Rattle.keep_inventory.specs.Terms.{max_ttl_of}
 use Rattle.keep_inventory.specs.Inventories.{Inventory}
 use Rattle.keep_inventory.specs.Intake.{Intake, empty_intake, inventory_of_intake}
 use Rattle.keep_inventory.specs.Rows.{file_at, life_of_table, lease_terms, step_or, token_terms}
-use Rattle.keep_inventory.specs.Inventory.{token_entered, lease_entered, entered_by, intake_of, read_served, served_of, document_tree}
+use Rattle.keep_inventory.specs.Inventory.{token_entered, lease_entered, entered_by, intake_of, read_served, served_of, system_max_in, document_tree}
 use Rattle.keep_inventory.specs.Languages.{full}
 use Rattle.keep_inventory.specs.Served.{Served}
 use Rattle.keep_inventory.specs.Bare.{bare_items, bare_members, bare_value, is_secret_key}
@@ -393,7 +393,7 @@ served_is_read bytes ms v reads e =
     bind_ok (document_tree bytes) _ v e (λ ns read e1.
     bind_ok (intake_of full ns) _ v e1 (λ t is e2.
     let tree : ns ≡ ms = cc in
-    let same : ◌≡◌ {A = Served} (record { inventory = inventory_of_intake t; notes = t.notes; has_margin = is_key_there Margin ns }) v = cc in
+    let same : ◌≡◌ {A = Served} (record { inventory = inventory_of_intake t; notes = t.notes; has_margin = is_key_there Margin ns; system_max = system_max_in ns }) v = cc in
     ap (λ (i : Members). plain_intake (bare_members i)) (sym tree) ∙ bare_intake ns t is
     ∙ ap (λ (x : Served). Ok (record { forest = x.inventory.forest; secrets = []; lease_ids = []; terms = x.inventory.terms; notes = x.notes })) same))
 

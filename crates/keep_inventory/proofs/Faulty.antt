@@ -21,7 +21,7 @@ use Rattle.keep_inventory.specs.declared.row.Row.{Row}
 use Rattle.keep_inventory.specs.declared.terms.Terms.{Terms}
 use Rattle.keep_inventory.specs.Answers.{◌>>=◌}
 use Rattle.keep_inventory.specs.FirstFault.{FirstFaultLaw, IsFirstFault, IsFirstIn, IsInTables, LeaseFails, TokenFails, bad, bad_if, excluded_beside, fault_if, first_fault_of, front, lease_faults, missing_key, row_faults, token_faults, top_faults, unknown}
-use Rattle.keep_inventory.specs.Intake.{Intake, appended, distinct, empty_intake, has_text, pushed, with_lease, with_token}
+use Rattle.keep_inventory.specs.Intake.{Intake, appended, distinct, empty_intake, has_text, key_written, pushed, with_lease, with_token}
 use Rattle.keep_inventory.specs.Inventory.{document_tree, entered_by, intake_of, lease_entered, or_not_toml, read_served, served_of, token_entered}
 use Rattle.keep_inventory.specs.Keys.{all_keys, is_one_of, key_text, lease_keys, token_keys, top_keys}
 use Rattle.keep_inventory.specs.Languages.{full}
@@ -194,17 +194,17 @@ distinct_fault : (key : Key) (i : ℕ) (texts : List (List ℕ)) (text : List �
 unfolding distinct
 distinct_fault key i texts text = cond_fault (has_text texts text) (BadValue (Some i) key) (texts ++ text ∷ [])
 
-token_row_fault : (s : Intake) (row : Row) → fault_of (with_token s row) ≡ first_fault_of (row_faults Secret s.forest s.secrets row)
+token_row_fault : (s : Intake) (row : Row) → fault_of (with_token s row) ≡ first_fault_of (row_faults (key_written Secret SecretFile row.note.file) s.forest s.secrets row)
 unfolding with_token
 token_row_fault s row =
     chain (pushed s.forest row.entry) _ _ _ (pushed_fault s.forest row.entry) (λ forest a.
-    last (distinct Secret (length s.forest.entries) s.secrets row.credential) _ _ (distinct_fault Secret (length s.forest.entries) s.secrets row.credential) (λ secrets b. refl))
+    last (distinct (key_written Secret SecretFile row.note.file) (length s.forest.entries) s.secrets row.credential) _ _ (distinct_fault (key_written Secret SecretFile row.note.file) (length s.forest.entries) s.secrets row.credential) (λ secrets b. refl))
 
-lease_row_fault : (s : Intake) (row : Row) → fault_of (with_lease s row) ≡ first_fault_of (row_faults LeaseId s.forest s.lease_ids row)
+lease_row_fault : (s : Intake) (row : Row) → fault_of (with_lease s row) ≡ first_fault_of (row_faults (key_written LeaseId LeaseIdFile row.note.file) s.forest s.lease_ids row)
 unfolding with_lease
 lease_row_fault s row =
     chain (pushed s.forest row.entry) _ _ _ (pushed_fault s.forest row.entry) (λ forest a.
-    last (distinct LeaseId (length s.forest.entries) s.lease_ids row.credential) _ _ (distinct_fault LeaseId (length s.forest.entries) s.lease_ids row.credential) (λ lease_ids b. refl))
+    last (distinct (key_written LeaseId LeaseIdFile row.note.file) (length s.forest.entries) s.lease_ids row.credential) _ _ (distinct_fault (key_written LeaseId LeaseIdFile row.note.file) (length s.forest.entries) s.lease_ids row.credential) (λ lease_ids b. refl))
 
 -- a chain that fails: its first step does, or the rest
 bind_err : {A B P : Type 0} (r : Result A InvFault) (k : A → Result B InvFault) (e : InvFault) → (r >>= k) ≡ Err e → (r ≡ Err e → P) → ((x : A) → r ≡ Ok x → k x ≡ Err e → P) → P

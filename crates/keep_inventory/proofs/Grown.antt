@@ -22,7 +22,7 @@ use Rattle.keep_inventory.proofs.Taken.{KeepsIt}
 
 -- what is served by the tables that were taken, whether or not a margin is written
 abbrev pub read_so_far : Intake → Served
-read_so_far s = record { inventory = inventory_of_intake s; notes = s.notes; has_margin = false }
+read_so_far s = record { inventory = inventory_of_intake s; notes = s.notes; has_margin = false; system_max = None }
 
 -- ---- more entries, and the others as they were
 

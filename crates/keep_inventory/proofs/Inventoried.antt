@@ -24,7 +24,7 @@ use Rattle.keep_inventory.specs.Intake.{Intake, empty_intake, inventory_of_intak
 use Rattle.keep_inventory.specs.Languages.{Language, full}
 use Rattle.keep_inventory.specs.Served.{IsServedInventory, Served, first_open, inventory_if_whole, unless}
 use Rattle.keep_inventory.specs.Values.{is_key_there}
-use Rattle.keep_inventory.specs.Inventory.{token_entered, lease_entered, intake_of, read_inventory, read_served, served_of, document_tree}
+use Rattle.keep_inventory.specs.Inventory.{token_entered, lease_entered, intake_of, read_inventory, read_served, served_of, system_max_in, document_tree}
 use Rattle.keep_inventory.specs.Laws.{InventoryLaw, SendableLaw, ServedLaw}
 use Rattle.keep_inventory.proofs.Chains.{bind_ok}
 use Rattle.keep_inventory.proofs.Apart.{Unlike, last_or_before, unlike_more}
@@ -212,8 +212,8 @@ sorted_is_inventory s sorted = record {
   ceiling_is = λ i h. (sorted.good i h).2;
 }
 
-pub intake_is_served : (l : Language) (ms : Members) (t : Intake) (has_margin : Bool) → intake_of l ms ≡ Ok t → IsServedInventory (record { inventory = inventory_of_intake t; notes = t.notes; has_margin = has_margin })
-intake_is_served l ms t has_margin e =
+pub intake_is_served : (l : Language) (ms : Members) (t : Intake) (has_margin : Bool) (most : Option ℕ) → intake_of l ms ≡ Ok t → IsServedInventory (record { inventory = inventory_of_intake t; notes = t.notes; has_margin = has_margin; system_max = most })
+intake_is_served l ms t has_margin most e =
     let sorted = intake_keeps TokensAlone Sorted none_sorted (λ s alone. alone.0) l (token_step l) (lease_step l) ms t e in
     record { inventory = sorted_is_inventory t sorted; notes = sorted.noted }
 
@@ -221,8 +221,8 @@ served_of_is : (l : Language) (ms : Members) (v : Served) → served_of l ms ≡
 unfolding served_of
 served_of_is l ms v e =
     bind_ok (intake_of l ms) _ v e (λ t is e1.
-    let same : ◌≡◌ {A = Served} (record { inventory = inventory_of_intake t; notes = t.notes; has_margin = is_key_there Margin ms }) v = cc in
-    subst IsServedInventory same (intake_is_served l ms t (is_key_there Margin ms) is))
+    let same : ◌≡◌ {A = Served} (record { inventory = inventory_of_intake t; notes = t.notes; has_margin = is_key_there Margin ms; system_max = system_max_in ms }) v = cc in
+    subst IsServedInventory same (intake_is_served l ms t (is_key_there Margin ms) (system_max_in ms) is))
 
 pub served_law : ServedLaw
 unfolding read_served

@@ -31,7 +31,7 @@ use Rattle.keep_inventory.specs.Values.{alone_if, end_value, flag_value, has_if,
 use Rattle.keep_inventory.specs.Intake.{Intake, empty_intake, inventory_of_intake}
 use Rattle.keep_inventory.specs.Needs.{is_for_good}
 use Rattle.keep_inventory.specs.Rows.{file_at, lease_row, lease_terms, life_of_table, token_row, token_terms}
-use Rattle.keep_inventory.specs.Inventory.{document_tree, entered_by, intake_of, lease_entered, read_inventory, read_served, read_strict, served_of, token_entered}
+use Rattle.keep_inventory.specs.Inventory.{document_tree, entered_by, intake_of, lease_entered, read_inventory, read_served, read_strict, served_of, system_max_in, token_entered}
 use Rattle.keep_inventory.specs.Served.{Served, first_open, inventory_if_whole, open_fault, unless}
 use Rattle.keep_inventory.specs.Laws.{IsClosed, StrictLaw}
 use Rattle.keep_inventory.proofs.Chains.{bind_ok, follow}
@@ -340,7 +340,7 @@ unfolding read_strict read_served read_inventory inventory_if_whole served_of
 strict_law bytes v e =
     bind_ok (document_tree bytes) _ v e (λ ms read e1.
     bind_ok (intake_of strict ms) _ v e1 (λ t a e2.
-    let same : ◌≡◌ {A = Served} (record { inventory = inventory_of_intake t; notes = t.notes; has_margin = is_key_there Margin ms }) v = cc in
+    let same : ◌≡◌ {A = Served} (record { inventory = inventory_of_intake t; notes = t.notes; has_margin = is_key_there Margin ms; system_max = system_max_in ms }) v = cc in
     let served : read_served bytes ≡ Ok v = follow _ ms _ _ read (follow _ t _ _ (intake_strict ms t a) e2) in
     let closed : All IsClosed v.notes = subst (λ (x : Served). All IsClosed x.notes) same (intake_closed ms t a) in
     (served, follow _ v _ _ served (ap (unless v.inventory) (never_open 0 v.notes closed)), closed)))

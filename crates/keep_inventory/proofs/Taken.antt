@@ -8,10 +8,10 @@ use Rattle.toml.specs.Data.{string, integer, float, boolean, datetime, array, ta
 use Rattle.keep_inventory.specs.declared.fault.InvFault.{InvFault}
 use Rattle.keep_inventory.specs.declared.fault.InvFault.TheVariants.{BadValue}
 use Rattle.keep_inventory.specs.declared.key.Key.{Key}
-use Rattle.keep_inventory.specs.declared.key.Key.TheVariants.{Secret, LeaseId}
+use Rattle.keep_inventory.specs.declared.key.Key.TheVariants.{Secret, SecretFile, LeaseId, LeaseIdFile}
 use Rattle.keep_inventory.specs.declared.row.Row.{Row}
 use Rattle.keep_inventory.specs.Languages.{Language}
-use Rattle.keep_inventory.specs.Intake.{Intake, appended, pushed, has_text, distinct, with_token, with_lease}
+use Rattle.keep_inventory.specs.Intake.{Intake, appended, pushed, has_text, distinct, key_written, with_token, with_lease}
 use Rattle.keep_inventory.specs.Rows.{token_row, lease_row}
 use Rattle.keep_inventory.specs.Inventory.{token_entered, lease_entered, entered_by}
 use Rattle.keep_inventory.proofs.Chains.{bind_ok}
@@ -53,9 +53,9 @@ pub token_taken : (s t : Intake) (row : Row) → with_token s row ≡ Ok t → F
 unfolding with_token
 token_taken s t row e =
     bind_ok (pushed s.forest row.entry) _ t e (λ g p e1.
-    bind_ok (distinct Secret (length s.forest.entries) s.secrets row.credential) _ t e1 (λ secrets d e2.
+    bind_ok (distinct (key_written Secret SecretFile row.note.file) (length s.forest.entries) s.secrets row.credential) _ t e1 (λ secrets d e2.
     let grows = pushed_ok s.forest g row.entry p in
-    let adds = distinct_ok Secret (length s.forest.entries) s.secrets secrets row.credential d in
+    let adds = distinct_ok (key_written Secret SecretFile row.note.file) (length s.forest.entries) s.secrets secrets row.credential d in
     let made : record { forest = g; secrets = secrets; lease_ids = s.lease_ids; terms = s.terms ++ row.terms ∷ []; notes = s.notes ++ row.note ∷ [] } ≡ t = cc in
     let one : took_token s row ≡ record { forest = g; secrets = s.secrets ++ row.credential ∷ []; lease_ids = s.lease_ids; terms = s.terms ++ row.terms ∷ []; notes = s.notes ++ row.note ∷ [] } =
     ap (λ (h : Forest). record { forest = h; secrets = s.secrets ++ row.credential ∷ []; lease_ids = s.lease_ids; terms = s.terms ++ row.terms ∷ []; notes = s.notes ++ row.note ∷ [] }) grows.1 in
@@ -67,9 +67,9 @@ pub lease_taken : (s t : Intake) (row : Row) → with_lease s row ≡ Ok t → F
 unfolding with_lease
 lease_taken s t row e =
     bind_ok (pushed s.forest row.entry) _ t e (λ g p e1.
-    bind_ok (distinct LeaseId (length s.forest.entries) s.lease_ids row.credential) _ t e1 (λ lease_ids d e2.
+    bind_ok (distinct (key_written LeaseId LeaseIdFile row.note.file) (length s.forest.entries) s.lease_ids row.credential) _ t e1 (λ lease_ids d e2.
     let grows = pushed_ok s.forest g row.entry p in
-    let adds = distinct_ok LeaseId (length s.forest.entries) s.lease_ids lease_ids row.credential d in
+    let adds = distinct_ok (key_written LeaseId LeaseIdFile row.note.file) (length s.forest.entries) s.lease_ids lease_ids row.credential d in
     let made : record { forest = g; secrets = s.secrets; lease_ids = lease_ids; terms = s.terms ++ row.terms ∷ []; notes = s.notes ++ row.note ∷ [] } ≡ t = cc in
     let one : took_lease s row ≡ record { forest = g; secrets = s.secrets; lease_ids = s.lease_ids ++ row.credential ∷ []; terms = s.terms ++ row.terms ∷ []; notes = s.notes ++ row.note ∷ [] } =
     ap (λ (h : Forest). record { forest = h; secrets = s.secrets; lease_ids = s.lease_ids ++ row.credential ∷ []; terms = s.terms ++ row.terms ∷ []; notes = s.notes ++ row.note ∷ [] }) grows.1 in

@@ -1,14 +1,15 @@
 -- Written: the inventory of a text is what its document writes.
-use Rattle.std.proofs.Common.{◌≡◌, ℕ, ◌+◌, List, [], ◌∷◌, ◌++◌, None, Ok, length, refl, sym, ap, ◌∙◌, subst, arith, unwrap_or}
+use Rattle.std.proofs.Common.{◌≡◌, ℕ, ◌+◌, List, [], ◌∷◌, ◌++◌, None, Ok, Option, Result, length, refl, sym, ap, ◌∙◌, subst, arith, unwrap_or}
 use Rattle.std.proofs.lemmas.List.{append-nil, append_assoc, length_push}
 use Rattle.std.proofs.Math.ListN.{length-append}
 use Rattle.toml.specs.Data.{Members, no_items}
 use Rattle.keep_tree.specs.declared.forest.TheConstants.{MARGIN_MAX}
+use Rattle.keep_inventory.specs.declared.fault.InvFault.{InvFault}
 use Rattle.keep_inventory.specs.declared.key.Key.TheVariants.{SystemMax, Margin, Token, Lease}
 use Rattle.keep_inventory.specs.declared.limits.TheConstants.{SPAN_MAX, SYSTEM_MAX}
 use Rattle.keep_inventory.specs.declared.row.Row.{Row}
 use Rattle.keep_inventory.specs.Intake.{Intake, empty_intake}
-use Rattle.keep_inventory.specs.Inventory.{document_tree, entered_by, intake_of, lease_entered, read_served, served_of, token_entered}
+use Rattle.keep_inventory.specs.Inventory.{document_tree, entered_by, if_read, intake_of, lease_entered, read_served, served_of, system_max_in, token_entered}
 use Rattle.keep_inventory.specs.Languages.{full}
 use Rattle.keep_inventory.specs.Keys.{top_keys}
 use Rattle.keep_inventory.specs.Laws.{WrittenLaw}
@@ -101,7 +102,14 @@ leases_taken system_max s t ms matched e =
 none_matched : (margin : ℕ) → TokensAlone (empty_intake margin)
 none_matched margin = (record { credited = refl; termed = refl; noted = refl }, refl)
 
-intake_written : (ms : Members) (t : Intake) → intake_of full ms ≡ Ok t → DocumentWrites ms (record (read_so_far t) { has_margin = is_key_there Margin ms })
+read_is : (ms : Members) (o : Option ℕ) → value_at (span full 1 SPAN_MAX) None SystemMax ms ≡ Ok o → system_max_in ms ≡ o
+unfolding system_max_in
+read_is ms o e = ap (λ (r : Result (Option ℕ) InvFault). if_read r) e
+
+abbrev WritesAll : Members → Intake → Option ℕ → Type 0
+WritesAll ms t o = DocumentWrites ms (record (read_so_far t) { has_margin = is_key_there Margin ms; system_max = o })
+
+intake_written : (ms : Members) (t : Intake) → intake_of full ms ≡ Ok t → WritesAll ms t (system_max_in ms)
 unfolding intake_of
 intake_written ms t e =
     bind_ok (only top_keys None ms) _ t e (λ known k e1.
@@ -115,10 +123,9 @@ intake_written ms t e =
     let first = all_taken (IsToken most) (token_over most) TokensAlone (token_entered full most) (token_step most) (tokens_taken most) Token start u (unwrap_or tokens no_items) (none_matched (unwrap_or margin 1)) f in
     let alone = all_keep TokensAlone (token_entered full most) (token_step most) Token start u (unwrap_or tokens no_items) (none_matched (unwrap_or margin 1)) f in
     let rest = all_taken (IsLease most) (lease_over most) Matched (lease_entered full most) (lease_step most) (leases_taken most) Lease u t (unwrap_or leases no_items) alone.0 e6 in
-    record {
+    let written : WritesAll ms t system_max = record {
       keys = only_is top_keys None ms known k;
-      system_max = most;
-      system_max_written = (system_max, writes_is (span full 1 SPAN_MAX) None SystemMax ms system_max a, refl);
+      system_max = writes_is (span full 1 SPAN_MAX) None SystemMax ms system_max a;
       margin = (margin, writes_is (span full 1 MARGIN_MAX) None Margin ms margin b, rest.grown.margin ∙ first.grown.margin);
       has_margin = refl;
       tokens = unwrap_or tokens no_items;
@@ -130,12 +137,13 @@ intake_written ms t e =
       each_lease = λ i ns there.
           let place : length u.forest.entries ≡ count_of (unwrap_or tokens no_items) = let m = first.count in omega (arith, m) in
           subst (λ k. IsLeaseAt most (read_so_far t) (k + i) ns) place (rest.each i ns there);
-    }))))))
+    } in
+    subst (WritesAll ms t) (sym (read_is ms system_max a)) written))))))
 
 pub written_law : WrittenLaw
 unfolding read_served served_of
 written_law bytes v e =
     bind_ok (document_tree bytes) _ v e (λ ms read e1.
     bind_ok (intake_of full ms) _ v e1 (λ t is e2.
-    let same : record (read_so_far t) { has_margin = is_key_there Margin ms } ≡ v = cc in
+    let same : record (read_so_far t) { has_margin = is_key_there Margin ms; system_max = system_max_in ms } ≡ v = cc in
     (ms, read, subst (DocumentWrites ms) same (intake_written ms t is))))

@@ -11,7 +11,7 @@ use Rattle.keep_inventory.specs.declared.key.Key.{Key}
 use Rattle.keep_inventory.specs.declared.key.Key.TheVariants.{SystemMax, Margin, Token, Lease, Name, Parent, Issued, End, Renewable, Increment, Period, MaxTtl, ExplicitMaxTtl, Need, Secret, SecretFile, LeaseId, LeaseIdFile}
 use Rattle.keep_inventory.specs.declared.limits.TheConstants.{SPAN_MAX, SYSTEM_MAX}
 use Rattle.keep_inventory.specs.declared.row.Row.{Row}
-use Rattle.keep_inventory.specs.Intake.{Intake, empty_intake, has_text}
+use Rattle.keep_inventory.specs.Intake.{Intake, empty_intake, has_text, key_written}
 use Rattle.keep_inventory.specs.Inventory.{document_tree, entered_by, lease_entered, read_served, token_entered}
 use Rattle.keep_inventory.specs.Keys.{all_keys, is_one_of, key_text, lease_keys, token_keys, top_keys}
 use Rattle.keep_inventory.specs.Languages.{full}
@@ -118,12 +118,12 @@ row_faults key g texts row =
 abbrev pub TokenFails : ℕ → Intake → Members → InvFault → Type 0
 TokenFails system_max s ms fault =
     (first_fault_of (token_faults (length s.forest.entries) ms) ≡ Some fault)
-    ⊎ ((row : Row) × (token_row full system_max s.forest ms ≡ Ok row) × (first_fault_of (row_faults Secret s.forest s.secrets row) ≡ Some fault))
+    ⊎ ((row : Row) × (token_row full system_max s.forest ms ≡ Ok row) × (first_fault_of (row_faults (key_written Secret SecretFile row.note.file) s.forest s.secrets row) ≡ Some fault))
 
 abbrev pub LeaseFails : ℕ → Intake → Members → InvFault → Type 0
 LeaseFails system_max s ms fault =
     (first_fault_of (lease_faults (length s.forest.entries) ms) ≡ Some fault)
-    ⊎ ((row : Row) × (lease_row full system_max s.forest ms ≡ Ok row) × (first_fault_of (row_faults LeaseId s.forest s.lease_ids row) ≡ Some fault))
+    ⊎ ((row : Row) × (lease_row full system_max s.forest ms ≡ Ok row) × (first_fault_of (row_faults (key_written LeaseId LeaseIdFile row.note.file) s.forest s.lease_ids row) ≡ Some fault))
 
 -- the first n tables
 abbrev pub front : ℕ → Items → Items

@@ -9,7 +9,7 @@ use Rattle.keep_tree.specs.Push.{entry_refusal}
 use Rattle.keep_inventory.specs.declared.fault.InvFault.{InvFault}
 use Rattle.keep_inventory.specs.declared.fault.InvFault.TheVariants.{Tree, BadValue, OutOfMemory}
 use Rattle.keep_inventory.specs.declared.key.Key.{Key}
-use Rattle.keep_inventory.specs.declared.key.Key.TheVariants.{Secret, LeaseId}
+use Rattle.keep_inventory.specs.declared.key.Key.TheVariants.{Secret, SecretFile, LeaseId, LeaseIdFile}
 use Rattle.keep_inventory.specs.declared.note.Note.{Note}
 use Rattle.keep_inventory.specs.declared.row.Row.{Row}
 use Rattle.keep_inventory.specs.declared.terms.Terms.{Terms}
@@ -52,18 +52,23 @@ has_text texts text = list_any (λ t. bytes_eq t text) texts
 unfoldable pub distinct : Key → ℕ → List (List ℕ) → List ℕ → Result (List (List ℕ)) InvFault
 distinct key index texts text = if has_text texts text then Err (BadValue (Some index) key) else Ok (texts ++ text ∷ [])
 
+-- the key that writes the credential of an entry, or the name of its file
+abbrev pub key_written : Key → Key → Option (List ℕ) → Key
+key_written key file_key None = key
+key_written key file_key (Some file) = file_key
+
 -- one token more
 unfoldable pub with_token : Intake → Row → Result Intake InvFault
 with_token s row = do
   forest ← pushed s.forest row.entry
-  secrets ← distinct Secret (length s.forest.entries) s.secrets row.credential
+  secrets ← distinct (key_written Secret SecretFile row.note.file) (length s.forest.entries) s.secrets row.credential
   Ok (record { forest = forest; secrets = secrets; lease_ids = s.lease_ids; terms = s.terms ++ row.terms ∷ []; notes = s.notes ++ row.note ∷ [] })
 
 -- one lease more
 unfoldable pub with_lease : Intake → Row → Result Intake InvFault
 with_lease s row = do
   forest ← pushed s.forest row.entry
-  lease_ids ← distinct LeaseId (length s.forest.entries) s.lease_ids row.credential
+  lease_ids ← distinct (key_written LeaseId LeaseIdFile row.note.file) (length s.forest.entries) s.lease_ids row.credential
   Ok (record { forest = forest; secrets = s.secrets; lease_ids = lease_ids; terms = s.terms ++ row.terms ∷ []; notes = s.notes ++ row.note ∷ [] })
 
 -- a step that changes a value, against the definition of the step

@@ -43,9 +43,17 @@ intake_of l ms = do
   with_tokens ← entered_by (token_entered l (unwrap_or system_max SYSTEM_MAX)) Token (empty_intake (unwrap_or margin 1)) (unwrap_or tokens no_items)
   entered_by (lease_entered l (unwrap_or system_max SYSTEM_MAX)) Lease with_tokens (unwrap_or leases no_items)
 
+abbrev pub if_read : Result (Option ℕ) InvFault → Option ℕ
+if_read (Ok n) = n
+if_read (Err fault) = None
+
+-- the maximum TTL of the system that a document's tree writes
+unfoldable pub system_max_in : Members → Option ℕ
+system_max_in ms = if_read (value_at (span full 1 SPAN_MAX) None SystemMax ms)
+
 -- what is served by a document's tree
 unfoldable pub served_of : Language → Members → Result Served InvFault
-served_of l ms = intake_of l ms >>= λ s. Ok (record { inventory = inventory_of_intake s; notes = s.notes; has_margin = is_key_there Margin ms })
+served_of l ms = intake_of l ms >>= λ s. Ok (record { inventory = inventory_of_intake s; notes = s.notes; has_margin = is_key_there Margin ms; system_max = system_max_in ms })
 
 abbrev pub or_not_toml : Option Members → Result Members InvFault
 or_not_toml None = Err NotToml

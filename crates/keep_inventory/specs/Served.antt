@@ -9,11 +9,12 @@ use Rattle.keep_inventory.specs.declared.note.Note.{Note}
 use Rattle.keep_inventory.specs.Inventories.{Inventory, IsInventory}
 
 -- the inventory, in which an end that is left open is 0, as is its issue, a need that is `always` is none, and the name stands
--- for a credential in a file; a note for each entry; and whether the margin is written
+-- for a credential in a file; a note for each entry; whether the margin is written; and the maximum TTL of the system, where that is
 pub record Served : Type 0 where
   pub inventory : Inventory
   pub notes : List Note
   pub has_margin : Bool
+  pub system_max : Option ℕ
 
 -- what is read past the last entry
 abbrev pub no_note : Note

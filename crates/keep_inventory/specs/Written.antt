@@ -111,12 +111,11 @@ abbrev pub count_of : Items → ℕ
 count_of no_items = 0
 count_of (item d ds) = suc (count_of ds)
 
--- what is served has the margin that a document writes, and one entry for each of its tables and no other: the tokens in their
--- order, then the leases in theirs
+-- what is served has the margin and the maximum TTL of the system that a document writes, and one entry for each of its tables and no
+-- other: the tokens in their order, then the leases in theirs
 pub record DocumentWrites (ms : Members) (v : Served) : Type 0 where
   pub keys : all_keys (is_one_of top_keys) ms ≡ true
-  pub system_max : ℕ
-  pub system_max_written : WritesOr (span full 1 SPAN_MAX) SystemMax ms SYSTEM_MAX system_max
+  pub system_max : WritesKey (span full 1 SPAN_MAX) SystemMax ms v.system_max
   pub margin : WritesOr (span full 1 MARGIN_MAX) Margin ms 1 v.inventory.forest.margin
   pub has_margin : v.has_margin ≡ is_key_there Margin ms
   pub tokens : Items
@@ -124,5 +123,5 @@ pub record DocumentWrites (ms : Members) (v : Served) : Type 0 where
   pub leases : Items
   pub leases_written : WritesOr tables Lease ms no_items leases
   pub count : length v.inventory.forest.entries ≡ count_of tokens + count_of leases
-  pub each_token : (i : ℕ) (ns : Members) → get_item i tokens ≡ Some (table ns) → IsTokenAt system_max v i ns
-  pub each_lease : (i : ℕ) (ns : Members) → get_item i leases ≡ Some (table ns) → IsLeaseAt system_max v (count_of tokens + i) ns
+  pub each_token : (i : ℕ) (ns : Members) → get_item i tokens ≡ Some (table ns) → IsTokenAt (unwrap_or v.system_max SYSTEM_MAX) v i ns
+  pub each_lease : (i : ℕ) (ns : Members) → get_item i leases ≡ Some (table ns) → IsLeaseAt (unwrap_or v.system_max SYSTEM_MAX) v (count_of tokens + i) ns

@@ -3,7 +3,7 @@ ghost use Rattle.toml.specs.Errors.{IsMemory};
 ghost use Rattle.toml.specs.View.{table_view};
 ghost use Rattle.keep_inventory.specs.Answers.{GivesOrInvFault};
 ghost use Rattle.keep_inventory.specs.declared.fault.InvFault.TheVariants.{NotToml, OutOfMemory};
-ghost use Rattle.keep_inventory.specs.Inventory.{intake_of, served_of, document_tree, read_inventory, read_known, read_served};
+ghost use Rattle.keep_inventory.specs.Inventory.{intake_of, served_of, document_tree, read_inventory, read_known, read_served, system_max_in};
 ghost use Rattle.keep_inventory.specs.Languages.{full};
 
 use crate::draft::Draft;
@@ -14,6 +14,7 @@ use crate::known::only_top_keys;
 use crate::limits::{SPAN_MAX, SYSTEM_MAX};
 use crate::served::Served;
 use crate::value::{is_there, span_at, tables_at};
+use keep_moment::Span;
 use keep_tree::MARGIN_MAX;
 use std::alloc::Global;
 use toml::Table;
@@ -83,18 +84,25 @@ fn judged(read: Result<Table, toml::de::Error>) -> Result<Table, InvFault>
     }
 }
 
-/// What a document's tree writes, with the tables `[[token]]` and `[[lease]]`, in the full language: [`read_served`] without its
-/// first step.
-///
-/// # Errors
-///
-/// The first fault in the order of [`InvFault`], of which there is no `NotToml`; or out of memory.
+// What a document's tree writes: the first fault is never `NotToml`.
 #[tactic(auto, unfolding(crate::specs::Inventory::served_of))]
-pub fn served_in(alloc: Global, table: &Table) -> Result<Served, InvFault>
+fn served_in(alloc: Global, table: &Table) -> Result<Served, InvFault>
     ensures { GivesOrInvFault (λ served. served) result (served_of full (table_view table.now)) }
 {
     let draft = read_draft(alloc, table)?;
-    Ok(Served::of(draft, is_there(table, Key::Margin)))
+    let has_margin = is_there(table, Key::Margin);
+    Ok(Served::of(draft, has_margin, system_max_in(table)))
+}
+
+// The maximum TTL of the system that a document's tree writes.
+#[tactic(auto, unfolding(crate::specs::Inventory::system_max_in))]
+fn system_max_in(table: &Table) -> Option<Span>
+    ensures { result ≡ system_max_in (table_view table.now) }
+{
+    match span_at(table, None, Key::SystemMax, 1, SPAN_MAX) {
+        Ok(most) => most,
+        Err(_) => None,
+    }
 }
 
 // The entries of a document's tree.

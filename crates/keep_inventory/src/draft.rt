@@ -2,7 +2,7 @@ ghost use Rattle.std.specs.Prelude.{◌≡◌, ◌<◌, Err, IfSome, length};
 ghost use Rattle.toml.specs.View.{items_view, table_view};
 ghost use Rattle.keep_tree.specs.Push.{entry_refusal};
 ghost use Rattle.keep_inventory.specs.declared.fault.InvFault.TheVariants.{Tree};
-ghost use Rattle.keep_inventory.specs.Intake.{Changes, empty_intake, tree_fault_told, pushed, distinct, with_token, with_lease};
+ghost use Rattle.keep_inventory.specs.Intake.{Changes, empty_intake, tree_fault_told, pushed, distinct, key_written, with_token, with_lease};
 ghost use Rattle.keep_inventory.specs.Languages.{full};
 ghost use Rattle.keep_inventory.specs.Inventory.{token_entered, lease_entered, entered_by};
 
@@ -123,7 +123,8 @@ impl Draft {
     {
         let index = self.forest.len();
         push(&mut self.forest, row.entry)?;
-        keep(alloc, &mut self.secrets, Key::Secret, index, row.credential)?;
+        let key = key_written(Key::Secret, Key::SecretFile, &row.note);
+        keep(alloc, &mut self.secrets, key, index, row.credential)?;
         self.terms.push(row.terms)?;
         self.notes.push(row.note)?;
         Ok(())
@@ -136,13 +137,8 @@ impl Draft {
     {
         let index = self.forest.len();
         push(&mut self.forest, row.entry)?;
-        keep(
-            alloc,
-            &mut self.lease_ids,
-            Key::LeaseId,
-            index,
-            row.credential,
-        )?;
+        let key = key_written(Key::LeaseId, Key::LeaseIdFile, &row.note);
+        keep(alloc, &mut self.lease_ids, key, index, row.credential)?;
         self.terms.push(row.terms)?;
         self.notes.push(row.note)?;
         Ok(())
@@ -169,6 +165,16 @@ fn told(index: u32, fault: TreeFault) -> InvFault
     match fault {
         TreeFault::OutOfMemory => InvFault::OutOfMemory,
         fault => InvFault::Tree(index, fault),
+    }
+}
+
+// The key that writes the credential of an entry, or the name of its file.
+fn key_written(key: Key, file_key: Key, note: &Note) -> Key
+    ensures { result ≡ key_written key file_key note.now.file }
+{
+    match &note.file {
+        None => key,
+        Some(_) => file_key,
     }
 }
 

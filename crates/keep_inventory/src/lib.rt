@@ -24,7 +24,7 @@ mod served;
 mod terms;
 mod value;
 
-pub use document::{read, read_document, read_known, read_served, served_in};
+pub use document::{read, read_document, read_known, read_served};
 pub use fault::InvFault;
 pub use inventory::{Credentials, Inventory};
 pub use key::Key;

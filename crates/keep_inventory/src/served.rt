@@ -7,6 +7,7 @@ use crate::fault::InvFault;
 use crate::inventory::Inventory;
 use crate::key::Key;
 use crate::note::Note;
+use keep_moment::Span;
 use std::marker::Model;
 
 /// An inventory as it is written, with what its tables leave open: ends that a lookup tells, needs that are `always`, and
@@ -16,6 +17,7 @@ pub struct Served {
     inventory: Inventory,
     notes: Vec<Note>,
     has_margin: bool,
+    system_max: Option<Span>,
 }
 
 impl Model for Served {
@@ -23,9 +25,9 @@ impl Model for Served {
 
     ghost Value = { Served };
 
-    ghost view = { λ v. record { inventory = v.inventory; notes = v.notes.items; has_margin = v.has_margin } };
+    ghost view = { λ v. record { inventory = v.inventory; notes = v.notes.items; has_margin = v.has_margin; system_max = v.system_max } };
 
-    ghost invariant = { λ v. IsServedInventory (record { inventory = v.inventory; notes = v.notes.items; has_margin = v.has_margin }) };
+    ghost invariant = { λ v. IsServedInventory (record { inventory = v.inventory; notes = v.notes.items; has_margin = v.has_margin; system_max = v.system_max }) };
 }
 
 impl Served {
@@ -51,6 +53,13 @@ impl Served {
         ensures { result ≡ self.now.has_margin }
     {
         self.has_margin
+    }
+
+    /// The maximum TTL of the system, in seconds, where it is written.
+    pub fn system_max(&self) -> Option<Span>
+        ensures { result ≡ self.now.system_max }
+    {
+        self.system_max
     }
 
     /// The inventory, where nothing is left open; else why the first table that leaves something open cannot be planned. It takes
@@ -87,15 +96,16 @@ impl Served {
     }
 
     /// What is served by a draft whose tables are all read.
-    pub(crate) fn of(draft: Draft, has_margin: bool) -> Served
-        requires { IsServedInventory (record { inventory = inventory_of_intake draft; notes = draft.notes; has_margin = has_margin }) }
-        ensures { result ≡ record { inventory = inventory_of_intake draft; notes = draft.notes; has_margin = has_margin } }
+    pub(crate) fn of(draft: Draft, has_margin: bool, system_max: Option<Span>) -> Served
+        requires { IsServedInventory (record { inventory = inventory_of_intake draft; notes = draft.notes; has_margin = has_margin; system_max = system_max }) }
+        ensures { result ≡ record { inventory = inventory_of_intake draft; notes = draft.notes; has_margin = has_margin; system_max = system_max } }
     {
         let (inventory, notes) = Inventory::of(draft);
         Served {
             inventory,
             notes,
             has_margin,
+            system_max,
         }
     }
 }

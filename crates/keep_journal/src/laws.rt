@@ -10,10 +10,10 @@ pub fn records_are_read_back()
     ensures back { ReadBack }
 {}
 
-/// The law that every record that was acknowledged is there, in the order of these, after any number of calls of
-/// [`Journal::put`](crate::Journal::put), of kills and of losses of power, at any moment and in any order, whichever processes have taken
-/// the records: each process that opens the journal holds them, and so does each file that a loss of power may leave. A record that was
-/// not acknowledged may be among them.
+/// The law that every call that was acknowledged holds, in the order of these, after any number of calls of [`Journal`](crate::Journal),
+/// of kills and of losses of power, at any moment and in any order, whichever processes have made the calls: the records that the
+/// process at the end holds are what these calls have made of those that were there at first, and so are the records of each file that
+/// a loss of power may leave. A call that was not acknowledged, refused or cut off, has been made or has not.
 pub fn what_was_acknowledged_holds<D: Disk>()
     ensures { OverStarts D.state }
 {}

@@ -1,7 +1,5 @@
 -- OneText: what is told of a board is one text, since each moment has one date.
 use Rattle.std.proofs.Common.{◌≡◌, ◌∙◌, ℕ, List, [], ◌∷◌, ◌++◌, Bool, true, false, ap, sym}
-use Rattle.keep_agent.specs.declared.status.Condition.{Condition}
-use Rattle.keep_agent.specs.declared.status.Condition.TheVariants.{Gone, Ended, Short, Trying, Kept}
 use Rattle.keep_moment.proofs.Moments.{one_date_text}
 use Rattle.keep_onlook.specs.Answers.{IsAnswer, IsBody, IsPage, IsShown, IsTold, OneAnswer, OneTold, health_code, sent_to}
 use Rattle.keep_onlook.specs.Health.{IsMissingLine, IsMissingLineIf, SaysWhyMoment, is_healthy, is_missing, missing_line}
@@ -21,6 +19,8 @@ use Rattle.keep_onlook.specs.declared.lines.Lines.TheVariants.{Standing, Missing
 use Rattle.keep_onlook.specs.declared.point.Point.{Point}
 use Rattle.keep_onlook.specs.declared.point.Point.TheVariants.{Unknown, At, Always}
 use Rattle.keep_onlook.specs.declared.shown.Content.TheVariants as contents
+use Rattle.keep_onlook.specs.declared.state.State.{State}
+use Rattle.keep_onlook.specs.declared.state.State.TheVariants as states
 use Rattle.keep_onlook.specs.declared.shown.Shown.{Shown}
 
 one_point : (p : Point) (a b : List ℕ) → SaysPoint p a → SaysPoint p b → a ≡ b
@@ -35,16 +35,18 @@ one_standing row line other (u, n, r, s, pu, pn, pr, ps, is) (v, m, q, t, pv, pm
     is ∙ ap (λ x. standing_line row x n r s) (one_point (point_of row.end) u v pu pv) ∙ ap (λ x. standing_line row v x r s) (one_point (point_at row.need) n m pn pm)
     ∙ ap (λ x. standing_line row v m x s) (one_point (point_at row.in_force) r q pr pq) ∙ ap (λ x. standing_line row v m q x) (one_point (point_of row.last_success) s t ps pt) ∙ sym js
 
-one_why : (condition : Condition) (row : Row) (a b : List ℕ) → SaysWhyMoment condition row a → SaysWhyMoment condition row b → a ≡ b
-one_why Gone row a b x y = x ∙ sym y
-one_why Ended row a b x y = one_point (point_of row.end) a b x y
-one_why Short row a b x y = one_point (point_at row.in_force) a b x y
-one_why Trying row a b x y = x ∙ sym y
-one_why Kept row a b x y = x ∙ sym y
+one_why : (state : State) (row : Row) (a b : List ℕ) → SaysWhyMoment state row a → SaysWhyMoment state row b → a ≡ b
+one_why states.Gone row a b x y = x ∙ sym y
+one_why states.Ended row a b x y = one_point (point_of row.end) a b x y
+one_why states.Waiting row a b x y = x ∙ sym y
+one_why states.Short row a b x y = one_point (point_at row.in_force) a b x y
+one_why states.Unknown row a b x y = x ∙ sym y
+one_why states.Trying row a b x y = x ∙ sym y
+one_why states.Kept row a b x y = x ∙ sym y
 
 one_missing : (row : Row) (line other : List ℕ) → IsMissingLine row line → IsMissingLine row other → line ≡ other
 one_missing row line other (w, n, pw, pn, is) (v, m, pv, pm, js) =
-    is ∙ ap (λ x. missing_line row x n) (one_why row.condition row w v pw pv) ∙ ap (λ x. missing_line row v x) (one_point (point_at row.carried) n m pn pm) ∙ sym js
+    is ∙ ap (λ x. missing_line row x n) (one_why row.state row w v pw pv) ∙ ap (λ x. missing_line row v x) (one_point (point_at row.carried) n m pn pm) ∙ sym js
 
 one_missing_if : (is_missing : Bool) (row : Row) (line other : List ℕ) → IsMissingLineIf is_missing row line → IsMissingLineIf is_missing row other → line ≡ other
 one_missing_if true row line other x y = one_missing row line other x y

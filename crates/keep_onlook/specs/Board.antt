@@ -1,6 +1,6 @@
 -- Board: what onlookers are shown, and what an agent puts on it.
 -- Source: this project's own.
-use Rattle.std.specs.Prelude.{◌≡◌, ℕ, ◌+◌, List, Option, Some, None, length, map, min}
+use Rattle.std.specs.Prelude.{◌≡◌, ℕ, ◌+◌, List, ◌++◌, Option, Some, None, length, map, min}
 use Rattle.std.specs.List.{range_with_len}
 use Rattle.keep_tree.specs.Carried.{carried}
 use Rattle.keep_tree.specs.Forest.{entry_at}
@@ -11,7 +11,9 @@ use Rattle.keep_agent.specs.Agent.{Agent, standing_at}
 use Rattle.keep_agent.specs.Status.{status_of_entry}
 use Rattle.keep_onlook.specs.declared.board.Board.{Board}
 use Rattle.keep_onlook.specs.declared.board.Row.{Row}
-use Rattle.keep_onlook.specs.declared.board.Surroundings.{Surroundings}
+use Rattle.keep_onlook.specs.Naming.{Around, Named, named_by}
+use Rattle.keep_onlook.specs.States.{state_of}
+use Rattle.keep_onlook.specs.Waiting.{waiting_rows}
 
 -- the moment by the broker's clock of a reading of the clock that never steps, as that is handed in
 abbrev pub moment_of_reading : WatchState → ℕ → ℕ
@@ -27,7 +29,7 @@ row_of a i =
     record {
       name = (entry_at a.inventory.forest.entries i).name;
       kind = (entry_at a.inventory.forest.entries i).kind;
-      condition = (status_of_entry a i).condition;
+      state = state_of (status_of_entry a i).condition (status_of_entry a i).end;
       end = (status_of_entry a i).end;
       need = (entry_of a.machine i).need;
       carried = carried a.machine.forest.entries 0 i;
@@ -40,17 +42,22 @@ row_of a i =
     }
 
 -- a row for each entry that is served, in the order of the indices
-unfoldable pub rows_of : Agent → List Row
-rows_of a = map (row_of a) (range_with_len 0 (length a.inventory.forest.entries))
+unfoldable pub served_rows : Agent → List Row
+served_rows a = map (row_of a) (range_with_len 0 (length a.inventory.forest.entries))
+
+-- and then one for each that waits
+unfoldable pub rows_of : Agent → List Named → List Row
+rows_of a named = served_rows a ++ waiting_rows a.inventory.forest.entries named
 
 -- what an agent shows, beside what is around it
-abbrev pub board_of : Agent → Surroundings → Board
-board_of a s = record { surroundings = s; broker_now = broker_now a.machine; beginnings = a.beginnings; margin = a.inventory.forest.margin; rows = rows_of a }
+abbrev pub board_of : Agent → Around → Board
+board_of a s =
+    record { surroundings = s.surroundings; broker_now = broker_now a.machine; beginnings = a.beginnings; margin = a.inventory.forest.margin; rows = rows_of a (map named_by s.named) }
 
 -- ---- a law: the contract of a public function without a body
 
--- two agents that differ in credentials and terms alone show the same
+-- two agents that differ in credentials and terms alone show the same, where that is so too of the entries that their inventories name
 abbrev pub NoCredentialShows : Type 0
 NoCredentialShows =
-    (a b : Agent) (s : Surroundings) → a.machine ≡ b.machine → a.inventory.forest ≡ b.inventory.forest → a.standings ≡ b.standings → a.beginnings ≡ b.beginnings
-    → board_of a s ≡ board_of b s
+    (a b : Agent) (s t : Around) → a.machine ≡ b.machine → a.inventory.forest ≡ b.inventory.forest → a.standings ≡ b.standings → a.beginnings ≡ b.beginnings
+    → s.surroundings ≡ t.surroundings → map named_by s.named ≡ map named_by t.named → board_of a s ≡ board_of b t

@@ -1,3 +1,6 @@
+pub mod States
+pub mod Naming
+pub mod Waiting
 pub mod Board
 pub mod Escapes
 pub mod Metrics

@@ -10,7 +10,7 @@ use Rattle.keep_onlook.specs.declared.board.Surroundings.{Surroundings}
 use Rattle.keep_onlook.specs.declared.listing.Member.{Member}
 use Rattle.keep_onlook.specs.declared.listing.Member.TheVariants as members
 use Rattle.keep_onlook.specs.Escapes.{json_value}
-use Rattle.keep_onlook.specs.Metrics.{condition_word}
+use Rattle.keep_onlook.specs.States.{state_word}
 
 abbrev pub number_or_null : Option ℕ → List ℕ
 number_or_null None = codes "null"
@@ -25,7 +25,7 @@ trouble_word (Some troubles.Gone) = codes "\"gone\""
 -- name, kind, state and what is wrong
 unfoldable pub words_text : Row → List ℕ
 words_text row =
-    codes "{\"name\":\"" ++ json_value row.name ++ codes "\",\"kind\":\"" ++ kind_word row.kind ++ codes "\",\"state\":\"" ++ condition_word row.condition
+    codes "{\"name\":\"" ++ json_value row.name ++ codes "\",\"kind\":\"" ++ kind_word row.kind ++ codes "\",\"state\":\"" ++ state_word row.state
     ++ codes "\",\"wrong\":" ++ trouble_word row.trouble
 
 -- a member with a number, its name first

@@ -2,8 +2,6 @@
 -- Source: Prometheus, "Exposition formats", text format 0.0.4; OpenMetrics 1.0, "Text Format" and "Counter". Names, help and figures are
 -- this project's own.
 use Rattle.std.specs.Prelude.{ℕ, ◌-◌, Bool, true, false, if◌then◌else◌, List, [], ◌∷◌, ◌++◌, Option, Some, None, codes, decimal, nat_lt}
-use Rattle.keep_agent.specs.declared.status.Condition.{Condition}
-use Rattle.keep_agent.specs.declared.status.Condition.TheVariants.{Gone, Ended, Short, Trying, Kept}
 use Rattle.keep_onlook.specs.declared.board.Board.{Board}
 use Rattle.keep_onlook.specs.declared.board.FileReading.{FileReading}
 use Rattle.keep_onlook.specs.declared.board.Row.{Row}
@@ -18,7 +16,10 @@ use Rattle.keep_onlook.specs.declared.family.Format.{Format}
 use Rattle.keep_onlook.specs.declared.family.Format.TheVariants.{Prometheus, OpenMetrics}
 use Rattle.keep_onlook.specs.declared.figure.Figure.{Figure}
 use Rattle.keep_onlook.specs.declared.figure.Figure.TheVariants as figures
+use Rattle.keep_onlook.specs.declared.state.State.{State}
+use Rattle.keep_onlook.specs.declared.state.State.TheVariants.{Gone, Ended, Waiting, Short, Unknown, Trying, Kept}
 use Rattle.keep_onlook.specs.Escapes.{label_value}
+use Rattle.keep_onlook.specs.States.{is_same_state, state_word}
 
 -- ---- a family: lines that tell of it, and samples
 
@@ -86,7 +87,7 @@ column_help columns.State = codes "1 for the state that the entry is in, 0 for t
 column_help columns.End = codes "The end of the entry, as far as it is known."
 column_help columns.NeedWanted = codes "Until when the entry is needed, 0 where it is not."
 column_help columns.NeedCarried = codes "Until when the entry is needed, by itself or by one under it."
-column_help columns.NeedInForce = codes "Until when the entry can be kept, as far as is known, 0 where it is gone or has ended."
+column_help columns.NeedInForce = codes "Until when the entry can be kept, as far as is known, 0 where it is gone, has ended or waits."
 column_help columns.LastSuccess = codes "When the entry was last renewed."
 column_help columns.Renewals = codes "Renewals, by what came of them."
 
@@ -183,21 +184,6 @@ agent_text format b =
 
 -- ---- the entries
 
-abbrev pub condition_word : Condition → List ℕ
-condition_word Gone = codes "gone"
-condition_word Ended = codes "ended"
-condition_word Short = codes "short"
-condition_word Trying = codes "trying"
-condition_word Kept = codes "kept"
-
-abbrev pub is_same_condition : Condition → Condition → Bool
-is_same_condition Gone Gone = true
-is_same_condition Ended Ended = true
-is_same_condition Short Short = true
-is_same_condition Trying Trying = true
-is_same_condition Kept Kept = true
-is_same_condition a b = false
-
 -- the labels of an entry: its name, and one label more where there is one
 unfoldable pub labels_of : List ℕ → List ℕ → List ℕ
 labels_of name more = codes "{entry=\"" ++ label_value name ++ codes "\"" ++ more ++ codes "}"
@@ -205,11 +191,13 @@ labels_of name more = codes "{entry=\"" ++ label_value name ++ codes "\"" ++ mor
 unfoldable pub label : List ℕ → List ℕ → List ℕ
 label key value = codes "," ++ key ++ codes "=\"" ++ value ++ codes "\""
 
-unfoldable pub state_sample : Row → Condition → List ℕ
-state_sample row c = sample (Entry columns.State) (labels_of row.name (label (codes "state") (condition_word c))) (one_if (is_same_condition c row.condition))
+unfoldable pub state_sample : Row → State → List ℕ
+state_sample row s = sample (Entry columns.State) (labels_of row.name (label (codes "state") (state_word s))) (one_if (is_same_state s row.state))
 
 unfoldable pub state_samples : Row → List ℕ
-state_samples row = state_sample row Gone ++ state_sample row Ended ++ state_sample row Short ++ state_sample row Trying ++ state_sample row Kept
+state_samples row =
+    state_sample row Gone ++ state_sample row Ended ++ state_sample row Waiting ++ state_sample row Short ++ state_sample row Unknown ++ state_sample row Trying
+    ++ state_sample row Kept
 
 unfoldable pub result_sample : Row → List ℕ → ℕ → List ℕ
 result_sample row result count = sample (Entry columns.Renewals) (labels_of row.name (label (codes "result") result)) count

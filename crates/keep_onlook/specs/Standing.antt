@@ -3,8 +3,8 @@
 use Rattle.std.specs.Prelude.{◌≡◌, ℕ, List, ◌++◌, Option, Some, None, codes, decimal}
 use Rattle.keep_agent.specs.declared.standing.Trouble.{Trouble}
 use Rattle.keep_agent.specs.declared.standing.Trouble.TheVariants.{Lost, Refused, Gone}
-use Rattle.keep_onlook.specs.Metrics.{condition_word}
 use Rattle.keep_onlook.specs.Points.{SaysPoint, point_at, point_of}
+use Rattle.keep_onlook.specs.States.{state_word}
 use Rattle.keep_onlook.specs.declared.board.Board.{Board}
 use Rattle.keep_onlook.specs.declared.board.Row.{Row}
 
@@ -16,7 +16,7 @@ wrong_word (Some Gone) = codes "gone"
 
 -- its name and its state
 unfoldable pub name_and_state_text : Row → List ℕ
-name_and_state_text row = row.name ++ codes " " ++ condition_word row.condition
+name_and_state_text row = row.name ++ codes " " ++ state_word row.state
 
 -- these texts of its moments, a word before each
 unfoldable pub labelled_moments_text : List ℕ → List ℕ → List ℕ → List ℕ → List ℕ

@@ -1,5 +1,6 @@
 //! What onlookers are shown. There is no credential in it.
-use keep_agent::{Condition, Trouble};
+use crate::state::State;
+use keep_agent::Trouble;
 use keep_moment::Name;
 use keep_tree::{Kind, Listed};
 
@@ -36,14 +37,14 @@ pub struct Surroundings {
 pub struct Row {
     pub name: Name,
     pub kind: Kind,
-    pub condition: Condition,
+    pub state: State,
     /// Its end; `None` where it is not known, or there is none.
     pub end: Option<u64>,
     /// Until when it is needed for its own sake, 0 where it is not.
     pub need: u64,
     /// Until when it is needed, by itself or by an entry under it, 0 where it is not.
     pub carried: u64,
-    /// Until when its need can be kept, 0 where it is gone or has ended.
+    /// Until when its need can be kept, 0 where it is gone, has ended or waits.
     pub in_force: u64,
     /// When it was last renewed; `None` where it was not yet.
     pub last_success: Option<u64>,
@@ -67,6 +68,6 @@ pub struct Board {
     pub beginnings: u64,
     /// The inventory's margin, in seconds.
     pub margin: u32,
-    /// A row for each entry, in the order of the inventory.
+    /// A row for each entry that is served, in the order of the inventory, and then one for each that waits.
     pub rows: Listed<Row>,
 }

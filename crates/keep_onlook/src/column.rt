@@ -59,7 +59,7 @@ impl Column {
             Column::NeedWanted => "Until when the entry is needed, 0 where it is not.",
             Column::NeedCarried => "Until when the entry is needed, by itself or by one under it.",
             Column::NeedInForce => {
-                "Until when the entry can be kept, as far as is known, 0 where it is gone or has ended."
+                "Until when the entry can be kept, as far as is known, 0 where it is gone, has ended or waits."
             }
             Column::LastSuccess => "When the entry was last renewed.",
             Column::Renewals => "Renewals, by what came of them.",

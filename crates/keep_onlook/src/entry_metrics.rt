@@ -1,13 +1,13 @@
 //! The figures of each entry, and all figures.
 ghost use Rattle.std.specs.Prelude.{◌≡◌, ◌++◌, IfOk, OnOk};
-ghost use Rattle.keep_onlook.specs.Metrics.{column_text, condition_word, entries_text, is_same_condition, label, labels_of, last_line, metrics_text, moment_sample, result_sample, result_samples, samples_in, samples_of, state_sample, state_samples};
+ghost use Rattle.keep_onlook.specs.Metrics.{column_text, entries_text, label, labels_of, last_line, metrics_text, moment_sample, result_sample, result_samples, samples_in, samples_of, state_sample, state_samples};
 
 use crate::agent_metrics::{one_if, push_agent};
 use crate::board::{Board, Row};
 use crate::column::Column;
 use crate::escapes::push_label_value;
 use crate::family::{Family, Format, push_head, push_sample, push_sample_of};
-use keep_agent::Condition;
+use crate::state::State;
 use std::alloc::{AllocError, Global};
 
 /// All figures as a text. The only error is out of memory.
@@ -128,25 +128,22 @@ fn push_moment(
 fn push_states(alloc: Global, row: &Row, text: &mut Vec<u8>) -> Result<(), AllocError>
     ensures { OnOk result (text.new.items ≡ text.old.items ++ state_samples row.now) }
 {
-    push_state(alloc, row, Condition::Gone, text)?;
-    push_state(alloc, row, Condition::Ended, text)?;
-    push_state(alloc, row, Condition::Short, text)?;
-    push_state(alloc, row, Condition::Trying, text)?;
-    push_state(alloc, row, Condition::Kept, text)
+    push_state(alloc, row, State::Gone, text)?;
+    push_state(alloc, row, State::Ended, text)?;
+    push_state(alloc, row, State::Waiting, text)?;
+    push_state(alloc, row, State::Short, text)?;
+    push_state(alloc, row, State::Unknown, text)?;
+    push_state(alloc, row, State::Trying, text)?;
+    push_state(alloc, row, State::Kept, text)
 }
 
 #[tactic(auto, unfolding(crate::specs::Metrics::state_sample))]
-fn push_state(
-    alloc: Global,
-    row: &Row,
-    state: Condition,
-    text: &mut Vec<u8>,
-) -> Result<(), AllocError>
+fn push_state(alloc: Global, row: &Row, state: State, text: &mut Vec<u8>) -> Result<(), AllocError>
     ensures { OnOk result (text.new.items ≡ text.old.items ++ state_sample row.now state) }
 {
-    let state_label = label(alloc, "state", condition_word(state))?;
+    let state_label = label(alloc, "state", state.word())?;
     let labels = labels_of(alloc, row.name.list(), &state_label)?;
-    let value = one_if(is_same(state, row.condition));
+    let value = one_if(state.is_same(row.state));
     push_sample(alloc, Family::Entry(Column::State), &labels, value, text)
 }
 
@@ -201,29 +198,4 @@ fn label(alloc: Global, key: &str, value: &str) -> Result<Vec<u8>, AllocError>
     text.extend_from_slice(value.as_bytes())?;
     text.extend_from_slice(b"\"")?;
     Ok(text)
-}
-
-/// A state as it is told.
-pub(crate) fn condition_word(condition: Condition) -> &'static str
-    ensures { result.now ≡ condition_word condition }
-{
-    match condition {
-        Condition::Gone => "gone",
-        Condition::Ended => "ended",
-        Condition::Short => "short",
-        Condition::Trying => "trying",
-        Condition::Kept => "kept",
-    }
-}
-
-fn is_same(a: Condition, b: Condition) -> bool
-    ensures { result ≡ is_same_condition a b }
-{
-    match a {
-        Condition::Gone => matches!(b, Condition::Gone),
-        Condition::Ended => matches!(b, Condition::Ended),
-        Condition::Short => matches!(b, Condition::Short),
-        Condition::Trying => matches!(b, Condition::Trying),
-        Condition::Kept => matches!(b, Condition::Kept),
-    }
 }

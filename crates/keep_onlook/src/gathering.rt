@@ -1,28 +1,33 @@
-//! A board is written from an agent.
+//! A board is written from an agent, and from the entries that its inventory names.
 ghost use Rattle.std.specs.Prelude.{◌≡◌, ◌<◌, IfOk, length, map};
-ghost use Rattle.std.specs.List.{range_with_len};
 ghost use Rattle.keep_needs.specs.Carried.{load_at};
 ghost use Rattle.keep_tree.specs.Carried.{carried};
-ghost use Rattle.keep_onlook.specs.Board.{board_of, moment_of_reading, row_of, rows_of, success_of};
+ghost use Rattle.keep_onlook.specs.Board.{board_of, moment_of_reading, row_of, rows_of, served_rows, success_of};
+ghost use Rattle.keep_onlook.specs.Naming.{beside, named_by};
 
 use crate::board::{Board, Row, Surroundings};
+use crate::state::state_of;
+use crate::waiting::push_waiting;
 use keep_agent::Agent;
+use keep_change::Row as Named;
 use keep_moment::Moment;
 use keep_needs::{Carried, carry};
 use keep_tree::Listed;
 use std::alloc::{AllocError, Global};
 use watch_machine::Watch;
 
-/// What an agent shows, beside what is around it. The only error is out of memory.
+/// What an agent shows, beside what is around it: `named` are the entries that its inventory names, after every change, of which those wait
+/// that are not served. The only error is out of memory.
 #[tactic(auto, unfolding(watch_machine::specs::Clocks::sec))]
 pub fn board_of(
     alloc: Global,
     agent: &Agent,
     surroundings: Surroundings,
+    named: &[Named],
 ) -> Result<Board, AllocError>
-    ensures { IfOk result (λ board. board ≡ board_of agent.now surroundings) }
+    ensures { IfOk result (λ board. board ≡ board_of agent.now (beside surroundings named.now)) }
 {
-    let rows = rows_of(alloc, agent)?;
+    let rows = rows_of(alloc, agent, named)?;
     let watch = agent.watch();
     Ok(Board {
         surroundings,
@@ -33,10 +38,20 @@ pub fn board_of(
     })
 }
 
-/// A row for each entry.
+/// A row for each entry that is served, and then one for each that waits.
 #[tactic(auto, unfolding(crate::specs::Board::rows_of))]
-fn rows_of(alloc: Global, agent: &Agent) -> Result<Vec<Row>, AllocError>
-    ensures { IfOk result (λ rows. rows.items ≡ rows_of agent.now) }
+fn rows_of(alloc: Global, agent: &Agent, named: &[Named]) -> Result<Vec<Row>, AllocError>
+    ensures { IfOk result (λ rows. rows.items ≡ rows_of agent.now (map named_by named.now)) }
+{
+    let mut rows = served_rows(alloc, agent)?;
+    push_waiting(alloc, agent.inventory().forest(), named, &mut rows)?;
+    Ok(rows)
+}
+
+/// A row for each entry that is served.
+#[tactic(auto, unfolding(crate::specs::Board::served_rows))]
+fn served_rows(alloc: Global, agent: &Agent) -> Result<Vec<Row>, AllocError>
+    ensures { IfOk result (λ rows. rows.items ≡ served_rows agent.now) }
 {
     let Ok(carried) = carry(alloc, agent.watch().forest(), Moment::new(0).unwrap()) else {
         return Err(AllocError);
@@ -63,7 +78,7 @@ fn row_of(agent: &Agent, needs: &Carried, index: u32) -> Result<Row, AllocError>
     Ok(Row {
         name: entry.name.clone()?,
         kind: entry.kind,
-        condition: status.condition,
+        state: state_of(status.condition, status.end),
         end: status.end,
         need: agent.watch().forest().get(index).need,
         carried: needs.need(index),

@@ -1,11 +1,11 @@
 //! Whether all that is needed is kept, and the line of an entry that is not.
 ghost use Rattle.std.specs.Prelude.{◌≡◌, ◌++◌, List, ℕ, IfOk, OnOk};
 ghost use Rattle.std.specs.List.{list_any};
-ghost use Rattle.keep_onlook.specs.Health.{IsMissingLine, IsMissingLineIf, SaysWhyMoment, condition_text, is_healthy, is_kept, is_missing, missing_line, needed_text, needed_words, why_words};
+ghost use Rattle.keep_onlook.specs.Health.{IsMissingLine, IsMissingLineIf, SaysWhyMoment, is_healthy, is_missing, missing_line, needed_text, needed_words, state_text, why_words};
 
 use crate::board::{Board, Row};
 use crate::point::{point_at, point_of, point_text};
-use keep_agent::Condition;
+use crate::state::State;
 use keep_moment::{LAST, Text};
 use std::alloc::{AllocError, Global};
 
@@ -28,17 +28,7 @@ fn is_some_missing(now: u64, rows: &[Row]) -> bool
 fn is_missing(now: u64, row: &Row) -> bool
     ensures { result ≡ is_missing now row.now }
 {
-    row.carried > now && !is_kept(row.condition, row.end)
-}
-
-fn is_kept(condition: Condition, end: Option<u64>) -> bool
-    ensures { result ≡ is_kept condition end }
-{
-    match condition {
-        Condition::Gone | Condition::Ended | Condition::Short => false,
-        Condition::Trying => end.is_some(),
-        Condition::Kept => true,
-    }
+    row.carried > now && !row.state.is_kept()
 }
 
 /// Appends the line of an entry that is missing at that moment of the broker's clock, and nothing where it is not. The only error is out
@@ -61,19 +51,21 @@ pub(crate) fn push_missing(
 fn push_missing_line(alloc: Global, row: &Row, text: &mut Vec<u8>) -> Result<(), AllocError>
     ensures { OnOk result ((line : List ℕ) × IsMissingLine row.now line × (text.new.items ≡ text.old.items ++ line)) }
 {
-    let why = why_moment(alloc, row.condition, row)?;
+    let why = why_moment(alloc, row.state, row)?;
     let need = point_text(alloc, point_at(row.carried))?;
     push_line(row, why.list(), need.list(), text)
 }
 
 /// The moment that follows why an entry in that state is not kept.
-fn why_moment(alloc: Global, condition: Condition, row: &Row) -> Result<Text, AllocError>
-    ensures { IfOk result (λ why. SaysWhyMoment condition row.now why) }
+fn why_moment(alloc: Global, state: State, row: &Row) -> Result<Text, AllocError>
+    ensures { IfOk result (λ why. SaysWhyMoment state row.now why) }
 {
-    match condition {
-        Condition::Gone | Condition::Trying | Condition::Kept => Text::of(alloc, b""),
-        Condition::Ended => point_text(alloc, point_of(row.end)),
-        Condition::Short => point_text(alloc, point_at(row.in_force)),
+    match state {
+        State::Gone | State::Waiting | State::Unknown | State::Trying | State::Kept => {
+            Text::of(alloc, b"")
+        }
+        State::Ended => point_text(alloc, point_of(row.end)),
+        State::Short => point_text(alloc, point_at(row.in_force)),
     }
 }
 
@@ -90,11 +82,11 @@ fn push_line(row: &Row, why: &[u8], need: &[u8], text: &mut Vec<u8>) -> Result<(
 }
 
 /// Appends why an entry is not kept, with the text of the moment that follows.
-#[tactic(auto, unfolding(crate::specs::Health::condition_text))]
+#[tactic(auto, unfolding(crate::specs::Health::state_text))]
 fn push_why(row: &Row, moment: &[u8], text: &mut Vec<u8>) -> Result<(), AllocError>
-    ensures { OnOk result (text.new.items ≡ text.old.items ++ condition_text row.now moment.now) }
+    ensures { OnOk result (text.new.items ≡ text.old.items ++ state_text row.now moment.now) }
 {
-    text.extend_from_slice(why_words(row.condition).as_bytes())?;
+    text.extend_from_slice(why_words(row.state).as_bytes())?;
     text.extend_from_slice(moment)
 }
 
@@ -109,15 +101,17 @@ fn push_needed(need: u64, moment: &[u8], text: &mut Vec<u8>) -> Result<(), Alloc
 
 /// Why an entry is not kept, without the moment that may follow.
 #[tactic(auto, unfolding(crate::specs::Health::why_words))]
-fn why_words(condition: Condition) -> &'static str
-    ensures { result.now ≡ why_words condition }
+fn why_words(state: State) -> &'static str
+    ensures { result.now ≡ why_words state }
 {
-    match condition {
-        Condition::Gone => "gone: the broker does not know it, or refuses to look it up",
-        Condition::Ended => "ended: at ",
-        Condition::Short => "short: it can be kept until ",
-        Condition::Trying => "unknown: the broker has not answered for it yet",
-        Condition::Kept => "kept",
+    match state {
+        State::Gone => "gone: the broker does not know it, or refuses to look it up",
+        State::Ended => "ended: at ",
+        State::Waiting => "waiting: its credential is not in use yet",
+        State::Short => "short: it can be kept until ",
+        State::Unknown => "unknown: the broker has not answered for it yet",
+        State::Trying => "trying",
+        State::Kept => "kept",
     }
 }
 

@@ -9,7 +9,7 @@ pub fn limits_of_onlookers()
     ensures fields { FIELDS_MAX ≡ 64 }
 {}
 
-/// The law of secrecy: two agents that differ in credentials and terms alone show the same.
+/// The law of secrecy: two agents that differ in credentials and terms alone show the same, also of what their inventories name.
 pub fn no_credential_shows()
     ensures { NoCredentialShows }
 {}

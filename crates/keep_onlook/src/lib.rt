@@ -1,6 +1,7 @@
 //! What onlookers are told of a running agent: metrics, health and status, over HTTP/1.1. It answers from what is known and asks nobody.
 //!
-//! The contract for the layer above: [`board_of`] writes down what an agent shows, without a credential; [`read_question`] says what the first
+//! The contract for the layer above: [`board_of`] writes down what an agent shows, without a credential, and which entries wait that its
+//! inventory names (`specs/Waiting`); [`read_question`] says what the first
 //! bytes of an onlooker ask for; [`answer_to`] gives exactly the bytes that answer it, and [`told_of`] what a client of the control socket is
 //! told (`specs/Answers`). The metrics are in Prometheus' text format or in that of OpenMetrics (`specs/Metrics`), the status is JSON for
 //! onlookers (`specs/Listing`) and lines for clients (`specs/Lines`), and health is lines for both. Begin with `board`, then `answer`.
@@ -24,7 +25,9 @@ mod listing;
 mod point;
 mod shown;
 mod standing;
+mod state;
 mod told;
+mod waiting;
 
 pub use answer::{Answer, answer_to};
 pub use asked::{Asked, FIELDS_MAX, HEAD_MAX, Method, Page, Question, read_question};
@@ -32,4 +35,5 @@ pub use board::{Board, FileReading, Row, Surroundings};
 pub use family::Format;
 pub use gathering::board_of;
 pub use laws::{limits_of_onlookers, no_credential_shows, nothing_else_is_told};
+pub use state::State;
 pub use told::told_of;

@@ -4,7 +4,6 @@ ghost use Rattle.keep_inventory.specs.Kinds.{kind_word};
 ghost use Rattle.keep_onlook.specs.Listing.{board_row_text, entries_name, front_text, listing_text, member_name, member_text, moments_text, more_rows, number_or_null, renewals_text, rows_text, trouble_word, words_text};
 
 use crate::board::{Board, Row};
-use crate::entry_metrics::condition_word;
 use crate::escapes::push_json_value;
 use keep_agent::Trouble;
 use keep_tree::Kind;
@@ -126,7 +125,7 @@ fn push_words(row: &Row, text: &mut Vec<u8>) -> Result<(), AllocError>
     text.extend_from_slice(b"\",\"kind\":\"")?;
     text.extend_from_slice(kind_word(row.kind).as_bytes())?;
     text.extend_from_slice(b"\",\"state\":\"")?;
-    text.extend_from_slice(condition_word(row.condition).as_bytes())?;
+    text.extend_from_slice(row.state.word().as_bytes())?;
     text.extend_from_slice(b"\",\"wrong\":")?;
     text.extend_from_slice(trouble_word(row.trouble).as_bytes())
 }

@@ -3,7 +3,6 @@ ghost use Rattle.std.specs.Prelude.{◌≡◌, ◌++◌, List, ℕ, IfOk, OnOk, 
 ghost use Rattle.keep_onlook.specs.Standing.{IsStandingLine, beginnings_and_margin_text, first_line, labelled_moments_text, name_and_state_text, standing_line, wrong_text, wrong_word};
 
 use crate::board::{Board, Row};
-use crate::entry_metrics::condition_word;
 use crate::point::{point_at, point_of, point_text};
 use keep_agent::Trouble;
 use keep_words::push_number;
@@ -87,7 +86,7 @@ fn push_front(row: &Row, text: &mut Vec<u8>) -> Result<(), AllocError>
 {
     text.extend_from_slice(row.name.list())?;
     text.extend_from_slice(b" ")?;
-    text.extend_from_slice(condition_word(row.condition).as_bytes())
+    text.extend_from_slice(row.state.word().as_bytes())
 }
 
 /// Appends the texts of its moments, a word before each.

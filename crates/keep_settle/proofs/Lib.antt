@@ -1,4 +1,3 @@
 pub mod Ordered
 pub mod Fields
 pub mod Staying
-pub mod Read

@@ -73,7 +73,8 @@ fn is_same_terms(terms: &Terms, other: &Terms) -> bool
         && terms.explicit_max == other.explicit_max
 }
 
-fn is_same_span(span: Option<Span>, other: Option<Span>) -> bool
+/// Whether two durations that may be absent are the same.
+pub(crate) fn is_same_span(span: Option<Span>, other: Option<Span>) -> bool
     ensures { result ≡ true → span ≡ other }
 {
     match (span, other) {

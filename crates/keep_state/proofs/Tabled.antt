@@ -31,17 +31,17 @@ fails_with f (inventories.BadValue i k) answer is fails = sym (ap f fails ∙ is
 fails_with f (inventories.Tree i t) answer is fails = sym (ap f fails ∙ is (inventories.Tree i t))
 fails_with f inventories.OutOfMemory answer is fails = tt
 
-pub no_tree : (bytes : List ℕ) (fault : InvFault) → FailsWithInvFault fault (document_tree bytes) → GivesOr (Err (table_fault fault)) (row_of_table bytes)
+pub no_tree : (most : Option ℕ) (bytes : List ℕ) (fault : InvFault) → FailsWithInvFault fault (document_tree bytes) → GivesOr (Err (table_fault fault)) (row_of_table most bytes)
 unfolding row_of_table
-no_tree bytes fault fails = fails_with (entry_in bytes) fault (document_tree bytes) (λ other. refl) fails
+no_tree most bytes fault fails = fails_with (entry_in most bytes) fault (document_tree bytes) (λ other. refl) fails
 
-pub no_over : (bytes : List ℕ) (ms : Members) (fault : TableFault) → document_tree bytes ≡ Ok ms → over_entry ms ≡ Err fault → GivesOr (Err fault) (row_of_table bytes)
+pub no_over : (most : Option ℕ) (bytes : List ℕ) (ms : Members) (fault : TableFault) → document_tree bytes ≡ Ok ms → over_entry ms ≡ Err fault → GivesOr (Err fault) (row_of_table most bytes)
 unfolding row_of_table
-no_over bytes ms fault tree is = gives_err fault (entry_in bytes (document_tree bytes)) (sym (ap (entry_in bytes) tree ∙ ap (entry_under bytes) is))
+no_over most bytes ms fault tree is = gives_err fault (entry_in most bytes (document_tree bytes)) (sym (ap (entry_in most bytes) tree ∙ ap (entry_under most bytes) is))
 
-pub by_steps : (bytes : List ℕ) (ms : Members) (over : Option (List ℕ)) (r : Result Row TableFault) → document_tree bytes ≡ Ok ms → over_entry ms ≡ Ok over → GivesOr r (row_at_place (place_after_parent over) (read_served (beside over bytes))) → GivesOr r (row_of_table bytes)
+pub by_steps : (most : Option ℕ) (bytes : List ℕ) (ms : Members) (over : Option (List ℕ)) (r : Result Row TableFault) → document_tree bytes ≡ Ok ms → over_entry ms ≡ Ok over → GivesOr r (row_at_place (place_after_parent over) (read_served (beside most over bytes))) → GivesOr r (row_of_table most bytes)
 unfolding row_of_table
-by_steps bytes ms over r tree is gives = subst (GivesOr r) (sym (ap (entry_in bytes) tree ∙ ap (entry_under bytes) is)) gives
+by_steps most bytes ms over r tree is gives = subst (GivesOr r) (sym (ap (entry_in most bytes) tree ∙ ap (entry_under most bytes) is)) gives
 
 -- ---- an array of one table
 

@@ -1,6 +1,6 @@
 -- Tables: the entry of one table `[[token]]` or `[[lease]]` that stands alone, as an inventory would read it.
 -- Source: this project's own.
-use Rattle.std.specs.Prelude.{◌≡◌, ℕ, Bool, List, [], ◌∷◌, ◌++◌, Option, Some, None, Result, Ok, Err, codes, if◌then◌else◌, is_some, slice_get}
+use Rattle.std.specs.Prelude.{◌≡◌, ℕ, Bool, List, [], ◌∷◌, ◌++◌, Option, Some, None, Result, Ok, Err, codes, if◌then◌else◌, is_some, slice_get, decimal}
 use Rattle.toml.specs.Data.{Data, string, table, array, item, no_items, Items, Members, get_member}
 use Rattle.keep_tree.specs.Push.{is_name}
 use Rattle.keep_inventory.specs.declared.fault.InvFault.{InvFault}
@@ -62,10 +62,18 @@ over_entry ms = if all_keys (is_one_of (Token ∷ Lease ∷ [])) ms then over_of
 abbrev pub token_text : List ℕ → List ℕ
 token_text name = codes "[[token]]" ++ 10 ∷ (codes "name = '" ++ (name ++ 39 ∷ 10 ∷ (codes "secret = '-'" ++ 10 ∷ [])))
 
--- the table, with the token over it before it
-unfoldable pub beside : Option (List ℕ) → List ℕ → List ℕ
-beside None bytes = bytes
-beside (Some name) bytes = token_text name ++ bytes
+-- the maximum TTL of the system, where one is written
+abbrev pub most_text : Option ℕ → List ℕ
+most_text None = []
+most_text (Some n) = codes "system_max = " ++ (decimal n ++ 10 ∷ [])
+
+abbrev pub over_text : Option (List ℕ) → List ℕ
+over_text None = []
+over_text (Some name) = token_text name
+
+-- the table in an inventory: after the maximum TTL of the system and the token over it
+unfoldable pub beside : Option ℕ → Option (List ℕ) → List ℕ → List ℕ
+beside most over bytes = most_text most ++ (over_text over ++ bytes)
 
 abbrev pub place_after_parent : Option (List ℕ) → ℕ
 place_after_parent None = 0
@@ -79,17 +87,17 @@ abbrev pub row_at_place : ℕ → Result Served InvFault → Result Row TableFau
 row_at_place place (Err fault) = Err (table_fault fault)
 row_at_place place (Ok v) = or_not_one (slice_get (rows_of_served v) place)
 
-abbrev pub entry_under : List ℕ → Result (Option (List ℕ)) TableFault → Result Row TableFault
-entry_under bytes (Err fault) = Err fault
-entry_under bytes (Ok over) = row_at_place (place_after_parent over) (read_served (beside over bytes))
+abbrev pub entry_under : Option ℕ → List ℕ → Result (Option (List ℕ)) TableFault → Result Row TableFault
+entry_under most bytes (Err fault) = Err fault
+entry_under most bytes (Ok over) = row_at_place (place_after_parent over) (read_served (beside most over bytes))
 
-abbrev pub entry_in : List ℕ → Result Members InvFault → Result Row TableFault
-entry_in bytes (Err fault) = Err (table_fault fault)
-entry_in bytes (Ok ms) = entry_under bytes (over_entry ms)
+abbrev pub entry_in : Option ℕ → List ℕ → Result Members InvFault → Result Row TableFault
+entry_in most bytes (Err fault) = Err (table_fault fault)
+entry_in most bytes (Ok ms) = entry_under most bytes (over_entry ms)
 
--- the row of the one table of a text, or why it has none
-unfoldable pub row_of_table : List ℕ → Result Row TableFault
-row_of_table bytes = entry_in bytes (document_tree bytes)
+-- the row of the one table of a text, in an inventory with that maximum TTL of the system; or why it has none
+unfoldable pub row_of_table : Option ℕ → List ℕ → Result Row TableFault
+row_of_table most bytes = entry_in most bytes (document_tree bytes)
 
 -- the call gives that, unless memory was refused
 abbrev pub GivesOr : {X : Type 0} → Result X TableFault → Result X TableFault → Type 0

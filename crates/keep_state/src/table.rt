@@ -1,32 +1,34 @@
-ghost use Rattle.std.specs.Prelude.{◌≡◌, Err, IfOk, MatchResult, Ok, option_copied, option_map, string_bytes};
+ghost use Rattle.std.specs.Prelude.{◌≡◌, ◌++◌, Err, IfOk, MatchResult, Ok, OnOk, option_copied, option_map, string_bytes};
 ghost use Rattle.std.specs.List.{list_all};
 ghost use Rattle.std.specs.BTreeMap.{keys as map_keys};
 ghost use Rattle.toml.specs.Data.{get_member};
 ghost use Rattle.toml.specs.View.{items_view, table_view, view};
 ghost use Rattle.keep_tree.specs.Push.{is_name, is_name_byte};
 ghost use Rattle.keep_inventory.specs.Keys.{all_keys, is_one_of, key_text};
-ghost use Rattle.keep_state.specs.Tables.{GivesOr, beside, if_name, name_in, over_entry, over_in, over_item, over_items, over_of, place_after_parent, row_at_place, row_of_table};
+ghost use Rattle.keep_state.specs.Tables.{GivesOr, beside, if_name, most_text, name_in, over_entry, over_in, over_item, over_items, over_of, over_text, place_after_parent, row_at_place, row_of_table};
 
 use crate::fault::TableFault;
 use keep_change::{Row, rows_of};
 use keep_inventory::{Key, Served, read_document, read_served};
-use keep_moment::Text;
+use keep_moment::{Span, Text};
 use keep_tree::NAME_MAX;
+use keep_words::push_number;
 use std::alloc::{AllocError, Global};
 use toml::{Table, Value};
 
-/// The entry that a text writes: one table `[[token]]` or `[[lease]]` of an inventory, whatever it stands under.
+/// The entry that a text writes: one table `[[token]]` or `[[lease]]` of an inventory with that maximum TTL of the system, where one is
+/// written, whatever it stands under.
 ///
 /// # Errors
 ///
 /// The first in the order of [`TableFault`].
 #[tactic(auto, unfolding(crate::specs::Tables::row_of_table))]
-pub fn read_table(alloc: Global, table: &[u8]) -> Result<Row, TableFault>
-    ensures { GivesOr result (row_of_table table.now) }
+pub fn read_table(alloc: Global, system_max: Option<Span>, table: &[u8]) -> Result<Row, TableFault>
+    ensures { GivesOr result (row_of_table system_max table.now) }
 {
     let tree = read_document(alloc, table)?;
     let over = over_entry(&tree)?;
-    let text = beside(alloc, over, table)?;
+    let text = beside(alloc, system_max, over, table)?;
     match read_served(alloc, text.list()) {
         Ok(served) => entry_at(alloc, &served, place_of(over)),
         Err(fault) => Err(TableFault::from(fault)),
@@ -137,24 +139,50 @@ fn is_one_of(keys: &[Key], text: &str) -> bool
     keys.iter().any(|key| key.text() == text)
 }
 
-// The table, with a token of that name before it.
+// The table in an inventory: after the maximum TTL of the system and the token over it.
 #[tactic(auto, unfolding(crate::specs::Tables::beside))]
-fn beside(alloc: Global, over: Option<&[u8]>, table: &[u8]) -> Result<Text, AllocError>
-    ensures { IfOk result (λ text. text ≡ beside (option_copied over.entry) table.now) }
+fn beside(
+    alloc: Global,
+    system_max: Option<Span>,
+    over: Option<&[u8]>,
+    table: &[u8],
+) -> Result<Text, AllocError>
+    ensures { IfOk result (λ text. text ≡ beside system_max (option_copied over.entry) table.now) }
 {
     let mut text = Vec::new(alloc);
-    if let Some(name) = over {
-        text.extend_from_slice(b"[[token]]")?;
-        text.push(b'\n')?;
-        text.extend_from_slice(b"name = '")?;
-        text.extend_from_slice(name)?;
-        text.push(b'\'')?;
-        text.push(b'\n')?;
-        text.extend_from_slice(b"secret = '-'")?;
-        text.push(b'\n')?;
-    }
+    push_most(alloc, system_max, &mut text)?;
+    push_over(over, &mut text)?;
     text.extend_from_slice(table)?;
     Ok(Text::from_vec(text))
+}
+
+// Appends the maximum TTL of the system, where one is written.
+fn push_most(alloc: Global, system_max: Option<Span>, text: &mut Vec<u8>) -> Result<(), AllocError>
+    ensures { OnOk result (text.new.items ≡ text.old.items ++ most_text system_max) }
+{
+    let Some(most) = system_max else {
+        return Ok(());
+    };
+    text.extend_from_slice(b"system_max = ")?;
+    push_number(alloc, u64::from(most), text)?;
+    text.push(b'\n')
+}
+
+// Appends a token of that name, where there is one.
+fn push_over(over: Option<&[u8]>, text: &mut Vec<u8>) -> Result<(), AllocError>
+    ensures { OnOk result (text.new.items ≡ text.old.items ++ over_text (option_copied over.entry)) }
+{
+    let Some(name) = over else {
+        return Ok(());
+    };
+    text.extend_from_slice(b"[[token]]")?;
+    text.push(b'\n')?;
+    text.extend_from_slice(b"name = '")?;
+    text.extend_from_slice(name)?;
+    text.push(b'\'')?;
+    text.push(b'\n')?;
+    text.extend_from_slice(b"secret = '-'")?;
+    text.push(b'\n')
 }
 
 // The place of the entry, after the token over it.

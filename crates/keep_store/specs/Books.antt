@@ -33,7 +33,7 @@ IsBook b = IsTextOf b.file.margin b.secrets b.rows b.text
 
 -- what a file with these bytes says
 abbrev pub file_of : List ℕ → Served → File
-file_of bytes v = record { rows = rows_of_served v; margin = v.inventory.forest.margin; mark = fingerprint bytes }
+file_of bytes v = record { rows = rows_of_served v; margin = v.inventory.forest.margin; system_max = v.system_max; mark = fingerprint bytes }
 
 abbrev pub IsFileOf : List ℕ → File → Type 0
 IsFileOf bytes f = (v : Served) × ((read_served bytes ≡ Ok v) × (f ≡ file_of bytes v))

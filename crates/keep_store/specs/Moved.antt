@@ -19,9 +19,10 @@ use Rattle.keep_store.specs.Books.{Book, IsBook, file_of}
 use Rattle.keep_change.specs.Replay.{replayed}
 use Rattle.keep_store.specs.Stores.{book_of, is_sure, journal_of, lines_in, path_of_store}
 
--- the text of a file that says all that is kept, with the margin of the one that was read, and what is read of it
+-- the text of a file that says all that is kept, with the margin and the maximum TTL of the system of the one that was read, and what is
+-- read of it
 abbrev pub SaysAllKept : Book → List ℕ → Served → Type 0
-SaysAllKept b text v = TextIsSettled (Some b.file.margin) None b.rows text v
+SaysAllKept b text v = TextIsSettled (Some b.file.margin) b.file.system_max b.rows text v
 
 -- the line that says that the file with this text holds every change before
 abbrev pub mark_line : List ℕ → List ℕ

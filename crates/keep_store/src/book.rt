@@ -181,6 +181,7 @@ fn file_with(alloc: Global, bytes: &[u8], served: &Served) -> Result<File, Alloc
     Ok(File {
         rows: rows_of(alloc, served)?,
         margin: served.inventory().forest().margin(),
+        system_max: served.system_max(),
         mark: fingerprint(alloc, bytes)?,
     })
 }

@@ -186,7 +186,7 @@ fn next_file(alloc: Global, book: &Book) -> Result<Option<Moving>, SettleFault>
     let Settled { text, served } = settle(
         alloc,
         Some(book.file().margin),
-        None,
+        book.file().system_max,
         book.rows().list(),
     )?;
     let moved = book.moved(alloc, text.as_str(), &served)?;

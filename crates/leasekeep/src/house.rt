@@ -81,6 +81,7 @@ where
         onlookers,
         file: read_at(now, is_good),
         state: ledger,
+        read: None,
         given: None,
         awaited: None,
         next: None,
@@ -109,7 +110,12 @@ where
     L: Lanes,
     requires free { L.out lanes.old ≡ [] }
 {
-    let Inventories { served, again } = inventories;
+    let Inventories {
+        served,
+        again,
+        named,
+    } = inventories;
+    neighbours.others.read = named;
     let Ok(serving) = Serving::resume(alloc, served, lanes, &first.known) else {
         return Err(AllocError);
     };

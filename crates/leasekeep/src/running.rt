@@ -16,8 +16,8 @@ use keep_log::StandardOutput;
 use keep_proving::Proving;
 use leasekeep_commands::{Room, Served, Socket};
 use serve_start::{
-    CLIENTS, Folder, Guests, ONLOOKERS, Start, SystemLedger, desk_of, folder_of, make_start,
-    open_door, places_for, take_over,
+    CLIENTS, Folder, Guests, ONLOOKERS, Start, SystemLedger, SystemSecrets, desk_of, folder_of,
+    make_start, open_door, places_for, take_over, warn_of_disks,
 };
 use std::alloc::{AllocError, Global};
 use std::fs::File;
@@ -155,9 +155,11 @@ where
 {
     let alloc = rt.alloc();
     prove_over_lanes(rt, served, clock, start)?;
+    let path = ends_path(alloc, served.room)?;
+    let mut files = SystemSecrets::new(rt);
+    warn_of_disks(alloc, &mut files, ends_folder(&path), &mut start.said)?;
     let count = start.inventories.served.forest().len();
     let mut desk = desk_of(alloc, served.form, count, now, &start.said)?;
-    let path = ends_path(alloc, served.room)?;
     let inventory = &start.inventories.served;
     let (ends, known) = take_over(rt, path, inventory, now, &mut desk)?;
     let width = width_of(served);
@@ -195,6 +197,14 @@ fn ends_path(alloc: Global, room: Option<Room<'_>>) -> Result<Option<String>, Al
             let folder = folder_of(path);
             Ok(Some(format!(in alloc; "{folder}ends")?))
         }
+    }
+}
+
+/// The folder of the file of the ends, where there is one.
+fn ends_folder(path: &Option<String>) -> Option<&str> {
+    match path {
+        None => None,
+        Some(path) => Some(folder_of(path)),
     }
 }
 

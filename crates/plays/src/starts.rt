@@ -39,7 +39,7 @@ pub type MemoryHouse<'a> = House<MemorySink, Peer<'a>, PeerDoor<'a>, MemoryLedge
 #[derive(Drop)]
 pub struct Said {
     pub changes: Vec<Text>,
-    pub files: Vec<Text>,
+    pub files: Option<Text>,
 }
 
 impl Said {
@@ -47,7 +47,7 @@ impl Said {
     pub fn new(alloc: Global) -> Said {
         Said {
             changes: Vec::new(alloc),
-            files: Vec::new(alloc),
+            files: None,
         }
     }
 }
@@ -268,7 +268,7 @@ fn say(alloc: Global, now: Reading, said: &Said, desk: &mut Desk) {
     for line in &said.changes {
         desk.hear_at_start(alloc, now, Level::Note, "journal", line.list());
     }
-    for line in &said.files {
+    if let Some(line) = &said.files {
         desk.hear_at_start(alloc, now, Level::Alert, "secret-file", line.list());
     }
 }

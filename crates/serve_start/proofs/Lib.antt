@@ -1,1 +1,2 @@
+mod Mounted
 mod Refusals

@@ -1,2 +1,4 @@
 pub mod Descriptors
+pub mod Mounts
 pub mod Refusals
+pub mod Stalls

@@ -204,12 +204,9 @@ fn filled<D: Disk, I: Inputs, L: Lanes>(
         About::Journal,
         ledger.note_lines(alloc, notes)?,
     )?;
-    push_each(
-        said,
-        Level::Alert,
-        About::SecretFile,
-        ledger.fill(alloc, 0)?,
-    )?;
+    if let Some(line) = ledger.fill(alloc, 0)? {
+        push(said, Level::Alert, About::SecretFile, line)?;
+    }
     // What files hold at the start is served from the start on.
     ledger.state.mark_served();
     inventories_of(alloc, ledger)
@@ -226,7 +223,11 @@ fn inventories_of<D: Disk, I: Inputs, L: Lanes>(
     } else {
         ledger.inventory(alloc).ok()
     };
-    Ok(Inventories { served, again })
+    Ok(Inventories {
+        served,
+        again,
+        named: None,
+    })
 }
 
 /// Says what is to be said of a state that was opened.

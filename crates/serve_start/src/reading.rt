@@ -6,6 +6,7 @@ use crate::secrets::SystemSecrets;
 use house_words::{
     Demands, StartFault, faults_as_written, faults_to_serve, line_of_fault, read_to_serve,
 };
+use keep_change::Rows;
 use keep_command::SystemFiles;
 use keep_device::{Sink, Watched};
 use keep_files::Inputs;
@@ -24,6 +25,8 @@ pub struct Inventories {
     pub served: Inventory,
     /// The same once more, where the start may wait for its part of a spread: it is shown meanwhile.
     pub again: Option<Inventory>,
+    /// The entries that the file names, where nothing keeps changes and some of them may wait for their files.
+    pub named: Option<Rows>,
 }
 
 /// What is served of the file, with what the files hold that it names; or the exit, once it was told why the start is refused.
@@ -144,6 +147,7 @@ where
         Ok(served) => Ok(Inventories {
             served,
             again: read_again(alloc, bytes, demands, folder, &mut secrets),
+            named: None,
         }),
         Err(StartFault::Inventory(fault)) => {
             let files = SystemFiles::new(rt);

@@ -1,4 +1,6 @@
 //! What is said in the log before anything else.
+ghost use Rattle.std.specs.Prelude.{◌≡◌, ◌∷◌, ◌++◌, [], OnOk};
+
 use house_log::Desk;
 use keep_clock::Reading;
 use keep_log::{Form, Level};
@@ -13,6 +15,8 @@ pub enum About {
     Copy,
     Journal,
     SecretFile,
+    Log,
+    Ends,
 }
 
 impl About {
@@ -24,11 +28,13 @@ impl About {
             About::Copy => "copy",
             About::Journal => "journal",
             About::SecretFile => "secret-file",
+            About::Log => "log",
+            About::Ends => "ends",
         }
     }
 }
 
-/// What is said of the state folder or the file at the start.
+/// What is said at the start: of the state folder or the file, or of a file for which the loop waits.
 #[derive(Debug, Drop)]
 pub struct Said {
     pub level: Level,
@@ -42,7 +48,9 @@ pub(crate) fn push(
     level: Level,
     about: About,
     text: Text,
-) -> Result<(), AllocError> {
+) -> Result<(), AllocError>
+    ensures { OnOk result (said.new.items ≡ said.old.items ++ record { level = level; about = about; text = text } ∷ []) }
+{
     Ok(said.push(Said { level, about, text })?)
 }
 

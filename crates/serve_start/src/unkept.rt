@@ -19,7 +19,7 @@ use std::fs::File;
 use std::rt::Files;
 
 /// What is served of the file, with what the files hold that it names; or the exit, once it was told why the start is refused. As with
-/// a folder, an entry whose file holds no credential is left out with all under it, and that is said.
+/// a folder, an entry whose file holds no credential waits with all under it, and that is said.
 pub(crate) fn read_with_held<R, E>(
     rt: &R,
     file: &str,
@@ -113,7 +113,11 @@ fn inventories_of(alloc: Global, demands: Demands, book: &Book) -> Result<Invent
     } else {
         inventory_of(alloc, demands, book).ok()
     };
-    Ok(Inventories { served, again })
+    Ok(Inventories {
+        served,
+        again,
+        named: Some(book.rows().copy(alloc)?),
+    })
 }
 
 fn inventory_of(alloc: Global, demands: Demands, book: &Book) -> Result<Inventory, AllocError> {

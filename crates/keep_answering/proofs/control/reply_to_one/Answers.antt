@@ -1,5 +1,6 @@
 -- Each variant of what is wanted, with its reply or without one.
 use Rattle.std.proofs.Common.{refl, sym}
+use Rattle.keep_onlook.specs.Naming.{beside}
 use Rattle.keep_answering.proofs.Replies.{given, replied}
 use Rattle.keep_answering.proofs.control.reply_to_one.Goals as goal
 use Rattle.keep_answering.proofs.control.reply_to_one.Goals.{in-Do, in-Show+in-Ok-shown, in-Show+in-Err, in-Refused+in-Ok-refused, in-Refused+in-Err-refused}
@@ -7,8 +8,9 @@ use Rattle.keep_answering.proofs.control.reply_to_one.Goals.{in-Do, in-Show+in-O
 pub returns : goal.returns
 returns g c =
     let asked = sym c.in-Some.ensures in
-    let given = given c.args.agent.now c.args.around c.args.now c.in-Some.bytes.now c.args.clients.now asked in
-    let replied = replied c.args.agent.now c.args.around c.args.now c.in-Some.bytes.now c.args.clients.now asked c.in-Ok.wanted in
+    let around = beside c.args.around c.args.named.now in
+    let given = given c.args.agent.now around c.args.now c.in-Some.bytes.now c.args.clients.now asked in
+    let replied = replied c.args.agent.now around c.args.now c.in-Some.bytes.now c.args.clients.now asked c.in-Ok.wanted in
     elim c.match-wanted.branch [
       | in-Do w ↦ replied _ c.match-wanted.result _ c.match-wanted.clients _ w.in-Do.is w.result-is w.clients-is c.in-Ok.ensures (refl, refl)
       | in-Show+in-Ok-shown w ↦ replied _ c.match-wanted.result _ c.match-wanted.clients _ w.in-Show.is w.result-is w.clients-is c.in-Ok.ensures

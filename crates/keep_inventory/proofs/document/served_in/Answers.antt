@@ -5,4 +5,4 @@ use Rattle.keep_inventory.specs.Languages.{full}
 use Rattle.keep_inventory.proofs.document.served_in.Goals as goal
 
 pub of-requires : goal.of-requires
-of-requires c = intake_is_served full (table_view c.args.table.now) c.in_ok-draft.draft _ c.in_ok-draft.ensures
+of-requires c = intake_is_served full (table_view c.args.table.now) c.in_ok-draft.draft _ _ c.in_ok-draft.ensures

@@ -13,6 +13,7 @@ returns-in-Ok-None g c =
       hears = heard_whole v c.deref_mut.result.now new c.deref_mut.ensures.value c.hear_first.ensures.many _ c.args.now.elapsed c.hear_first.result _ (c.in-Ok-None.is ∙ ap Ok c.in-Ok-None.field-0-is) c.hear_first.ensures.heard;
       beside = refl;
       looks = c.look_on.ensures;
+      unproved = refl;
     }
 
 pub returns-in-Ok-Some : goal.returns-in-Ok-Some
@@ -24,6 +25,7 @@ returns-in-Ok-Some g c =
       hears = heard_whole v c.deref_mut.result.now new c.deref_mut.ensures.value c.hear_first.ensures.many _ c.args.now.elapsed c.hear_first.result _ (c.in-Ok-Some.is ∙ ap Ok c.in-Ok-Some.field-0-is) c.hear_first.ensures.heard;
       beside = refl;
       looks = c.judge_file.ensures;
+      unproved = c.unproved_by.ensures;
     }
 
 pub returns-in-Err : goal.returns-in-Err
@@ -35,4 +37,5 @@ returns-in-Err g c =
       hears = heard_whole v c.deref_mut.result.now new c.deref_mut.ensures.value c.hear_first.ensures.many _ c.args.now.elapsed c.hear_first.result _ c.in-Err.is c.hear_first.ensures.heard;
       beside = refl;
       looks = (c.wanting.ensures, refl);
+      unproved = refl;
     }

@@ -4,7 +4,7 @@ use Rattle.std.proofs.lemmas.List.FromFn.{map-range_with_len_more}
 use Rattle.std.specs.List.{range_with_len}
 use Rattle.keep_onlook.specs.Board.{row_of}
 use Rattle.keep_onlook.specs.declared.board.Row.{Row}
-use Rattle.keep_onlook.proofs.gathering.rows_of.Goals as goal
+use Rattle.keep_onlook.proofs.gathering.served_rows.Goals as goal
 
 pub loop-index-preserved : goal.loop-index-preserved
 loop-index-preserved c =

@@ -1,14 +1,14 @@
-//! What a client is told where the broker has said nothing of the credential that it has brought.
+//! What is said where the broker has said nothing of a credential that was looked up.
 ghost use Rattle.std.specs.Prelude.{◌≡◌, ◌++◌, IfOk, OnOk};
-ghost use Rattle.keep_house.specs.LookupLosses.{line_with_loss, loss_text};
+ghost use Rattle.house_log.specs.LookupLosses.{line_with_loss, loss_text};
 
 use keep_lanes::Loss;
 use keep_moment::Text;
 use keep_words::push_number;
 use std::alloc::{AllocError, Global};
 
-/// The line, and that the broker has said nothing of the credential, where it has not.
-pub(crate) fn noted(alloc: Global, line: Text, why: Option<Loss>) -> Result<Text, AllocError>
+/// The line, and that the broker has said nothing of the credential, where it was asked and has not. The only error is lack of memory.
+pub fn line_with_loss(alloc: Global, line: Text, why: Option<Loss>) -> Result<Text, AllocError>
     ensures { IfOk result (λ text. text ≡ line_with_loss why line) }
 {
     let Some(why) = why else {
