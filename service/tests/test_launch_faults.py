@@ -20,6 +20,14 @@ from .test_scenarios import HOUR, Scenario
 NO_THREAD = RuntimeError("can't start new thread")
 
 
+def is_running(stat: Path) -> bool:
+    """Whether the process that this tells of (proc_pid_stat(5)) has not ended."""
+    try:
+        return stat.read_text(encoding="ascii").rpartition(")")[2].split()[0] != "Z"
+    except (FileNotFoundError, ProcessLookupError):
+        return False
+
+
 class Faults(unittest.TestCase):
     def fault(self, target: str, error: Exception) -> str:
         async def go() -> None:
@@ -57,7 +65,10 @@ class Faults(unittest.TestCase):
                 await asyncio.sleep(0.2)
             asyncio.run(go())
             state = Path(f"/proc/{told.read_text().strip()}/stat")
-            self.assertTrue(not state.exists() or state.read_text().rpartition(")")[2].split()[0] == "Z")
+            end = time.monotonic() + 20
+            while is_running(state) and time.monotonic() < end:
+                time.sleep(0.01)
+            self.assertFalse(is_running(state))
 
 
 class Kept(Scenario):

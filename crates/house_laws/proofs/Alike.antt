@@ -36,7 +36,7 @@ use Rattle.house_laws.specs.Alike.{AgentsAreAlike, FilesAreAlike, IsRecordBut, J
 use Rattle.keep_house.specs.Commands.{end_known_at, end_named}
 use Rattle.house_words.specs.Filling.{AreUnfilled, CannotFill, FillsFrom, FillsRow, IsFaultOfRow}
 use Rattle.house_words.specs.Noting.{AreWhysNotServed, left_lines, said_faults, said_notes}
-use Rattle.house_words.specs.Starts.{bare_at, bare_faults, fault_list, margin_fault, written_faults}
+use Rattle.house_words.specs.Starts.{bare_at, bare_faults, fault_list, least_margin, margin_fault, written_faults}
 use Rattle.house_words.specs.Telling.{replaced_text}
 use Rattle.house_words.specs.VerdictWords.{kept_words}
 use Rattle.house_words.specs.declared.demands.Demands.{Demands}
@@ -146,8 +146,8 @@ pub written_alike : (d : Demands) (v w : Served) → ServedAreAlike v w → writ
 unfolding written_faults
 written_alike d v w h =
     let later : Served → List StartFault = λ x. if d.names_are_secrets then [] else bare_faults x 0 x.notes in
-    ap (λ b. fault_list (if not b then Some NoMargin else (if nat_lt w.inventory.forest.margin (4 * d.timeout) then Some SmallMargin else None)) ++ later w) h.margin
-    ∙ ap (λ (g : Forest). fault_list (if not v.has_margin then Some NoMargin else (if nat_lt g.margin (4 * d.timeout) then Some SmallMargin else None)) ++ later w) (sym h.differ.0)
+    ap (λ b. fault_list (if not b then Some NoMargin else (if nat_lt w.inventory.forest.margin (least_margin d) then Some SmallMargin else None)) ++ later w) h.margin
+    ∙ ap (λ (g : Forest). fault_list (if not v.has_margin then Some NoMargin else (if nat_lt g.margin (least_margin d) then Some SmallMargin else None)) ++ later w) (sym h.differ.0)
     ∙ ap (λ (ns : List entries.Note). fault_list (margin_fault d v) ++ (if d.names_are_secrets then [] else bare_faults w 0 ns)) h.notes
     ∙ ap (λ l. fault_list (margin_fault d v) ++ (if d.names_are_secrets then [] else l)) (bare_alike v w h 0 v.notes)
 

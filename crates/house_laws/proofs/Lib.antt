@@ -1,4 +1,5 @@
 pub mod Weighed
+pub mod Passed
 pub mod Reached
 pub mod Tries
 pub mod Called

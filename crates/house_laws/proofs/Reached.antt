@@ -1,14 +1,16 @@
 -- Reached: what each call of the loop does to the log's reader. For `a_turn_tries_the_reader_little`.
-use Rattle.std.proofs.Common.{◌≡◌, ◌∙◌, ℕ, ◌+◌, ◌≤◌, Bool, true, false, inl, inr, List, Option, Some, None, Result, ap, subst}
+use Rattle.std.proofs.Common.{◌≡◌, ◌∙◌, ℕ, ◌+◌, ◌≤◌, Bool, true, false, List, Option, Some, None, Result, ap, subst}
 use Rattle.std.specs.declared.alloc.AllocError.{AllocError}
 use Rattle.keep_agent.specs.Agent.{Agent}
+use Rattle.keep_behind.specs.Behinds.{PassesBehind}
+use Rattle.keep_behind.specs.declared.behind.Behind.{Behind}
 use Rattle.keep_change.specs.declared.row.Row.{Row}
 use Rattle.keep_clients.specs.Doors.{DoorLog}
 use Rattle.keep_clients.specs.declared.talk.Call.{Call}
 use Rattle.keep_disk.specs.State.{DiskState}
 use Rattle.keep_inventory.specs.Inventories.{Inventory}
 use Rattle.keep_log.specs.declared.writing.TheConstants.{MOST_TRIES}
-use Rattle.keep_serving.specs.Days.{PassesToOthers, SettlesOthers}
+use Rattle.keep_serving.specs.Days.{PassesToOthers}
 use Rattle.keep_serving.specs.Neighbours.{Give, GoOn, Hear, NeighbourCall, Rest, Settle}
 use Rattle.keep_serving.specs.declared.day.EarlyDay.{EarlyDay}
 use Rattle.keep_serving.specs.declared.neighbours.Happened.{Happened}
@@ -20,6 +22,7 @@ use Rattle.house_words.specs.Outcomes.{Why}
 use Rattle.keep_house.specs.Nexts.{HearsNext}
 use Rattle.keep_house.specs.declared.house.House.{House}
 use Rattle.keep_house.proofs.Givers.{asked_for, settled_given}
+use Rattle.house_laws.proofs.Passed.{Passes, by_day, by_day_behind}
 
 -- where the house goes on it is tried 16 times at most, and else left alone
 abbrev pub DoesToReader : {S : Type 0} → (S → ℕ) → NeighbourCall → S → S → Type 0
@@ -38,6 +41,8 @@ module _ {S T D K E : Type 0} where
   heard_of agent (happened.Clocked notes requests next) old new h = next_heard agent next (record old { desk = h.desk }) new h.then
   heard_of agent (happened.Shorts shorts) old new h = ap (λ x. x.sink) h.1
   heard_of agent (happened.Answered entry operation said notes) old new h = ap (λ x. x.sink) h.1
+  heard_of agent (happened.Ahead entry end) old new h = ap (λ x. x.sink) h.1
+  heard_of agent (happened.StepsIn requests) old new h = ap (λ x. x.sink) h.1
   heard_of agent happened.Refused old new h = ap (λ x. x.sink) h.1
   heard_of agent happened.Wanting old new h = ap (λ x. x.sink) h.1
 
@@ -60,17 +65,25 @@ module _ {S T D K E : Type 0} (given : S → Option (List ℕ)) (failures tries 
       ap (λ x. x.sink) h.1.rest ∙ (settled_given does h.0 is_made h.1.heard h.1.settled h.1.settles).sink ∙ served_heard _ old h.1.heard h.1.served
   reader_of (Rest now rest) old new h = ap (λ x. x.sink) h.0
 
-  -- ---- the same after one more neighbour, that asks for a beginning
+  -- ---- the same after one more neighbour
 
-  settled_on : (is_own is_made : Bool) (old new : House S T D K E) → SettlesOthers Does is_own is_made old new → new.sink ≡ old.sink
-  settled_on true is_made old new h = ap (λ x. x.sink) h
-  settled_on false is_made old new h = reader_of (Settle is_made) old new h
+  abbrev ToReader : NeighbourCall → House S T D K E → House S T D K E → Type 0
+  ToReader call old new = DoesToReader tries call old.sink new.sink
+
+  reads_on : Passes ToReader
+  reads_on = record {
+    heard = λ a b x y z h k. k ∙ h;
+    settled = λ thing is_made x y h. h;
+    unsettled = λ is_made x y same. ap (λ (v : House S T D K E). v.sink) same;
+    goes = λ b c x y h. h;
+    gives = λ change x y h. h;
+    rests = λ now rest x y same. ap (λ (v : House S T D K E). v.sink) same;
+  }
 
   pub reader_of_day : (call : NeighbourCall) (old new : EarlyDay (House S T D K E)) → PassesToOthers Does call old new → DoesToReader tries call old.others.sink new.others.sink
-  reader_of_day (Hear thing) old new h = reader_of (Hear thing) old.others new.others h
-  reader_of_day (GoOn is_busy) old new h = reader_of (GoOn is_busy) old.others new.others h
-  reader_of_day (Give None) old new h = reader_of (Give None) old.others new.others h
-  reader_of_day (Give (Some change)) old new (inl h) = reader_of (Give (Some change)) old.others new.others h.1
-  reader_of_day (Give (Some change)) old new (inr h) = reader_of (Give None) old.others new.others h.1.1
-  reader_of_day (Settle is_made) old new h = settled_on old.is_own is_made old.others new.others h
-  reader_of_day (Rest now rest) old new h = ap (λ x. x.others.sink) h.0
+  reader_of_day = by_day Does ToReader reads_on reader_of
+
+  pub reader_of_behind :
+      {L : Type 0} (due_by : ℕ → ℕ → L → ℕ) (call : NeighbourCall) (old new : EarlyDay (Behind (House S T D K E) L)) → PassesToOthers (λ (c : NeighbourCall) (a b : Behind (House S T D K E) L). PassesBehind due_by Does c a b) call old new →
+      DoesToReader tries call old.others.others.sink new.others.others.sink
+  reader_of_behind due_by = by_day_behind due_by Does ToReader reads_on reader_of

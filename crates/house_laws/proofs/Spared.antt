@@ -3,6 +3,8 @@ use Rattle.std.proofs.Common.{◌≡◌, ◌∙◌, ◌⊎◌, ℕ, ◌≤◌, B
 use Rattle.std.specs.Prelude.{option_map}
 use Rattle.std.specs.declared.alloc.AllocError.{AllocError}
 use Rattle.keep_agent.specs.Agent.{Agent}
+use Rattle.keep_behind.specs.Behinds.{PassesBehind}
+use Rattle.keep_behind.specs.declared.behind.Behind.{Behind}
 use Rattle.keep_change.specs.declared.row.Row.{Row}
 use Rattle.keep_clients.specs.Doors.{DoorLog}
 use Rattle.keep_clients.specs.declared.talk.Call.{Call}
@@ -13,7 +15,7 @@ use Rattle.keep_ends.specs.Files.{EndsFileGoesOn}
 use Rattle.keep_ends.specs.declared.file.EndsFile.{EndsFile}
 use Rattle.keep_inventory.specs.Inventories.{Inventory}
 use Rattle.keep_serving.specs.Changes.{given_by}
-use Rattle.keep_serving.specs.Days.{PassesToOthers, SettlesOthers}
+use Rattle.keep_serving.specs.Days.{PassesToOthers}
 use Rattle.keep_serving.specs.Neighbours.{AllCalled, Give, GoOn, Hear, NeighbourCall, Rest, Settle, calls_at}
 use Rattle.keep_serving.specs.declared.change.Change.{Change}
 use Rattle.keep_serving.specs.declared.day.EarlyDay.{EarlyDay}
@@ -31,6 +33,7 @@ use Rattle.keep_house.specs.Looks.{AsksToLook}
 use Rattle.keep_house.specs.declared.house.House.{House}
 use Rattle.house_laws.proofs.Asks.{Spares, asked_for, settled_given}
 use Rattle.house_laws.proofs.Called.{within_join, within_more, within_none, within_one}
+use Rattle.house_laws.proofs.Passed.{Passes, by_day, by_day_behind}
 use Rattle.house_laws.proofs.Weighed.{gives, gives_few, goes, goes_once, weight}
 
 -- ---- the ends
@@ -130,6 +133,8 @@ module _ {S T D K E : Type 0} where
       (next_left.0, left_same old.ends new.ends next_left.1)
   heard_of agent (happened.Shorts shorts) old new h = (ap (λ x. x.state) h.1, left_same old.ends new.ends (ap (λ x. x.ends) h.1))
   heard_of agent (happened.Answered entry operation said notes) old new h = (ap (λ x. x.state) h.1, marked (after_answer said.reply) (λ x. refl) old.ends new.ends (ap (λ x. x.ends) h.1))
+  heard_of agent (happened.Ahead entry end) old new h = (ap (λ x. x.state) h.1, left_same old.ends new.ends (ap (λ x. x.ends) h.1))
+  heard_of agent (happened.StepsIn requests) old new h = (ap (λ x. x.state) h.1, left_same old.ends new.ends (ap (λ x. x.ends) h.1))
   heard_of agent happened.Refused old new h = (ap (λ x. x.state) h.1, left_same old.ends new.ends (ap (λ x. x.ends) h.1))
   heard_of agent happened.Wanting old new h = (ap (λ x. x.state) h.1, left_same old.ends new.ends (ap (λ x. x.ends) h.1))
 
@@ -181,33 +186,52 @@ module _ {S T D K E : Type 0} (given : S → Option (List ℕ)) (failures tries 
       left_join old.ends h.1.heard.ends new.ends heard.1 (left_same h.1.heard.ends new.ends (ap (λ x. x.ends) h.1.rest ∙ settled.ends))
   ends_at (Rest now rest) old new h = left_same old.ends new.ends (ap (λ x. x.ends) h.0)
 
-  -- ---- the same after one more neighbour, that asks for a beginning
+  -- ---- the same after one more neighbour
+
+  abbrev ToKeeper : NeighbourCall → House S T D K E → House S T D K E → Type 0
+  ToKeeper call old new = IsAskedWithin asks (goes call) (gives call) old.state new.state
+
+  given_more : (change : Option Change) (x y : House S T D K E) → ToKeeper (Give None) x y → ToKeeper (Give change) x y
+  given_more None x y h = h
+  given_more (Some change) x y h = within_more asks 0 0 0 1 x.state y.state (omega arith) (omega arith) h
+
+  asks_on : Passes ToKeeper
+  asks_on = record {
+    heard = λ a b x y z h k. within_join asks 0 0 0 0 x.state y.state z.state h k;
+    settled = λ thing is_made x y h. h;
+    unsettled = λ is_made x y same. within_none asks x.state y.state (ap (λ (v : House S T D K E). v.state) same);
+    goes = λ b c x y h. h;
+    gives = given_more;
+    rests = λ now rest x y same. within_none asks x.state y.state (ap (λ (v : House S T D K E). v.state) same);
+  }
+
+  abbrev ToEnds : NeighbourCall → House S T D K E → House S T D K E → Type 0
+  ToEnds call old new = DoesToEnds known state call old.ends new.ends
+
+  ends_on : Passes ToEnds
+  ends_on = record {
+    heard = λ a b x y z h k. left_join x.ends y.ends z.ends h k;
+    settled = λ thing is_made x y h. h;
+    unsettled = λ is_made x y same. left_same x.ends y.ends (ap (λ (v : House S T D K E). v.ends) same);
+    goes = λ b c x y h. h;
+    gives = λ change x y h. h;
+    rests = λ now rest x y same. left_same x.ends y.ends (ap (λ (v : House S T D K E). v.ends) same);
+  }
 
   abbrev DoesOn : NeighbourCall → EarlyDay (House S T D K E) → EarlyDay (House S T D K E) → Type 0
   DoesOn call old new = PassesToOthers Does call old new
 
-  settled_asked : (is_own is_made : Bool) (old new : House S T D K E) → SettlesOthers Does is_own is_made old new → IsAskedWithin asks 0 0 old.state new.state
-  settled_asked true is_made old new h = within_none asks old.state new.state (ap (λ x. x.state) h)
-  settled_asked false is_made old new h = asked_at (Settle is_made) old new h
-
   pub asked_day : (call : NeighbourCall) (old new : EarlyDay (House S T D K E)) → DoesOn call old new → IsAskedWithin asks (goes call) (gives call) old.others.state new.others.state
-  asked_day (Hear thing) old new h = asked_at (Hear thing) old.others new.others h
-  asked_day (GoOn is_busy) old new h = asked_at (GoOn is_busy) old.others new.others h
-  asked_day (Give None) old new h = asked_at (Give None) old.others new.others h
-  asked_day (Give (Some change)) old new (inl h) = asked_at (Give (Some change)) old.others new.others h.1
-  asked_day (Give (Some change)) old new (inr h) = within_more asks 0 0 0 1 old.others.state new.others.state (omega arith) (omega arith) (asked_at (Give None) old.others new.others h.1.1)
-  asked_day (Settle is_made) old new h = settled_asked old.is_own is_made old.others new.others h
-  asked_day (Rest now rest) old new h = within_none asks old.others.state new.others.state (ap (λ x. x.others.state) h.0)
-
-  settled_left : (is_own is_made : Bool) (old new : House S T D K E) → SettlesOthers Does is_own is_made old new → AreEndsLeft old.ends new.ends
-  settled_left true is_made old new h = left_same old.ends new.ends (ap (λ x. x.ends) h)
-  settled_left false is_made old new h = ends_at (Settle is_made) old new h
+  asked_day = by_day Does ToKeeper asks_on asked_at
 
   pub ends_day : (call : NeighbourCall) (old new : EarlyDay (House S T D K E)) → DoesOn call old new → DoesToEnds known state call old.others.ends new.others.ends
-  ends_day (Hear thing) old new h = ends_at (Hear thing) old.others new.others h
-  ends_day (GoOn is_busy) old new h = ends_at (GoOn is_busy) old.others new.others h
-  ends_day (Give None) old new h = ends_at (Give None) old.others new.others h
-  ends_day (Give (Some change)) old new (inl h) = ends_at (Give (Some change)) old.others new.others h.1
-  ends_day (Give (Some change)) old new (inr h) = ends_at (Give None) old.others new.others h.1.1
-  ends_day (Settle is_made) old new h = settled_left old.is_own is_made old.others new.others h
-  ends_day (Rest now rest) old new h = left_same old.others.ends new.others.ends (ap (λ x. x.others.ends) h.0)
+  ends_day = by_day Does ToEnds ends_on ends_at
+
+  abbrev DoesBehind : {L : Type 0} → (ℕ → ℕ → L → ℕ) → NeighbourCall → EarlyDay (Behind (House S T D K E) L) → EarlyDay (Behind (House S T D K E) L) → Type 0
+  DoesBehind {L} due_by call old new = PassesToOthers (λ (c : NeighbourCall) (a b : Behind (House S T D K E) L). PassesBehind due_by Does c a b) call old new
+
+  pub asked_behind : {L : Type 0} (due_by : ℕ → ℕ → L → ℕ) (call : NeighbourCall) (old new : EarlyDay (Behind (House S T D K E) L)) → DoesBehind due_by call old new → IsAskedWithin asks (goes call) (gives call) old.others.others.state new.others.others.state
+  asked_behind due_by = by_day_behind due_by Does ToKeeper asks_on asked_at
+
+  pub ends_behind : {L : Type 0} (due_by : ℕ → ℕ → L → ℕ) (call : NeighbourCall) (old new : EarlyDay (Behind (House S T D K E) L)) → DoesBehind due_by call old new → DoesToEnds known state call old.others.others.ends new.others.others.ends
+  ends_behind due_by = by_day_behind due_by Does ToEnds ends_on ends_at

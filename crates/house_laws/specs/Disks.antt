@@ -5,6 +5,8 @@ use Rattle.std.specs.List.{sum_by}
 use Rattle.std.specs.declared.alloc.AllocError.{AllocError}
 use Rattle.keep_agent.specs.Agent.{Agent}
 use Rattle.keep_asking.specs.Sending.{Lanes}
+use Rattle.keep_behind.specs.Behinds.{PassesBehind}
+use Rattle.keep_behind.specs.declared.behind.Behind.{Behind}
 use Rattle.keep_change.specs.declared.row.Row.{Row}
 use Rattle.keep_clients.specs.Doors.{DoorLog}
 use Rattle.keep_clients.specs.declared.talk.Call.{Call}
@@ -134,7 +136,7 @@ SparesIf calls (Some old) (Some new) = LedgerIsSpared calls MOST_LOOKS 1 old new
 abbrev pub SparesLedger : {D I L N : Type 0} → (NeighbourCall → N → N → Type 0) → (I → Option (List FileCall)) → (N → Option (Ledger D I L)) → Type 0
 SparesLedger {D} {I} {L} {N} does calls ledger = (width : ℕ) (t : ServingTurn) (old new : N) → AreCalled does width t old new → t.made ≡ None → SparesIf calls (ledger old) (ledger new)
 
--- ---- these may be a house, or an early day before one
+-- ---- these may be a house, an early day before one, or one with a lookout between them
 
 module _ {S T D K E : Type 0} (given : S → Option (List ℕ)) (failures tries : S → ℕ) (remaining written : T → Option (List ℕ)) (calls : T → Option (List Call)) (log : D → Option (DoorLog T))
     (asks : KeepCall → K → K → Type 0) (rows : K → List Row) (path : K → List ℕ) (reads : K → List ℕ → Result Row Why → Type 0) (gives : ℕ → Result (Option Inventory) AllocError → K → Type 0)
@@ -145,11 +147,18 @@ module _ {S T D K E : Type 0} (given : S → Option (List ℕ)) (failures tries 
   abbrev pub ToDay : NeighbourCall → EarlyDay (House S T D K E) → EarlyDay (House S T D K E) → Type 0
   ToDay call old new = PassesToOthers ToHouse call old new
 
-  abbrev pub AsksLittleLaw : Type 0
-  AsksLittleLaw = AsksLittle ToHouse asks (λ (h : House S T D K E). h.state) × AsksLittle ToDay asks (λ (d : EarlyDay (House S T D K E)). d.others.state)
+  abbrev pub ToBehind : {L : Type 0} → (ℕ → ℕ → L → ℕ) → NeighbourCall → EarlyDay (Behind (House S T D K E) L) → EarlyDay (Behind (House S T D K E) L) → Type 0
+  ToBehind {L} due_by call old new = PassesToOthers (λ (c : NeighbourCall) (a b : Behind (House S T D K E) L). PassesBehind due_by ToHouse c a b) call old new
 
-  abbrev pub EndsLaw : Type 0
-  EndsLaw = TriesEnds ToHouse known state (λ (h : House S T D K E). h.ends) × TriesEnds ToDay known state (λ (d : EarlyDay (House S T D K E)). d.others.ends)
+  abbrev pub AsksLittleLaw : {L : Type 0} → (ℕ → ℕ → L → ℕ) → Type 0
+  AsksLittleLaw {L} due_by =
+      AsksLittle ToHouse asks (λ (h : House S T D K E). h.state)
+      × (AsksLittle ToDay asks (λ (d : EarlyDay (House S T D K E)). d.others.state) × AsksLittle (ToBehind due_by) asks (λ (d : EarlyDay (Behind (House S T D K E) L)). d.others.others.state))
+
+  abbrev pub EndsLaw : {L : Type 0} → (ℕ → ℕ → L → ℕ) → Type 0
+  EndsLaw {L} due_by =
+      TriesEnds ToHouse known state (λ (h : House S T D K E). h.ends)
+      × (TriesEnds ToDay known state (λ (d : EarlyDay (House S T D K E)). d.others.ends) × TriesEnds (ToBehind due_by) known state (λ (d : EarlyDay (Behind (House S T D K E) L)). d.others.others.ends))
 
 -- a house whose changes are kept by a ledger
 module _ {S T O D I L E : Type 0} (given : S → Option (List ℕ)) (failures tries : S → ℕ) (remaining written : T → Option (List ℕ)) (calls : T → Option (List Call)) (log : O → Option (DoorLog T))
@@ -161,6 +170,9 @@ module _ {S T O D I L E : Type 0} (given : S → Option (List ℕ)) (failures tr
   ToLedger =
       ToHouse given failures tries remaining written calls log (DoesLedger disk_known seen file_calls lanes_seen port) (λ (l : Ledger D I L). (book_in l.state).rows) (λ (l : Ledger D I L). l.state.places.file) (λ (l : Ledger D I L). ReadsTable (book_in l.state).file.system_max) GivesLedger known state
 
-  abbrev pub SparesLaw : Type 0
-  SparesLaw =
-      SparesLedger ToLedger file_calls (λ (h : HasLedger). h.state) × SparesLedger (λ (call : NeighbourCall) (old new : EarlyDay HasLedger). PassesToOthers ToLedger call old new) file_calls (λ (d : EarlyDay HasLedger). d.others.state)
+  abbrev pub SparesLaw : {M : Type 0} → (ℕ → ℕ → M → ℕ) → Type 0
+  SparesLaw {M} due_by =
+      SparesLedger ToLedger file_calls (λ (h : HasLedger). h.state)
+      × (SparesLedger (λ (call : NeighbourCall) (old new : EarlyDay HasLedger). PassesToOthers ToLedger call old new) file_calls (λ (d : EarlyDay HasLedger). d.others.state)
+      × SparesLedger (λ (call : NeighbourCall) (old new : EarlyDay (Behind HasLedger M)). PassesToOthers (λ (c : NeighbourCall) (a b : Behind HasLedger M). PassesBehind due_by ToLedger c a b) call old new) file_calls
+      (λ (d : EarlyDay (Behind HasLedger M)). d.others.others.state))

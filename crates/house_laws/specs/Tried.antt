@@ -2,6 +2,8 @@
 -- Source: this project's own.
 use Rattle.std.specs.Prelude.{◌+◌, ◌≤◌, ℕ, Bool, List, Option, Result}
 use Rattle.std.specs.declared.alloc.AllocError.{AllocError}
+use Rattle.keep_behind.specs.Behinds.{PassesBehind}
+use Rattle.keep_behind.specs.declared.behind.Behind.{Behind}
 use Rattle.keep_change.specs.declared.row.Row.{Row}
 use Rattle.keep_clients.specs.Doors.{DoorLog}
 use Rattle.keep_clients.specs.declared.talk.Call.{Call}
@@ -21,7 +23,7 @@ use Rattle.keep_house.specs.declared.house.House.{House}
 abbrev pub IsTriedLittle : {S N : Type 0} → (NeighbourCall → N → N → Type 0) → (S → ℕ) → (N → S) → Type 0
 IsTriedLittle {S} {N} does tries reader = (width : ℕ) (t : ServingTurn) (old new : N) → AreCalled does width t old new → tries (reader new) ≤ tries (reader old) + MOST_TRIES
 
--- these may be a house; or a house, and one more, who asks that everything is looked up anew
+-- these may be a house; a house, and one more, who asks that everything is looked up anew; or both of them, and one who looks ahead
 module _ {S T D K E : Type 0} (given : S → Option (List ℕ)) (failures tries : S → ℕ) (remaining written : T → Option (List ℕ)) (calls : T → Option (List Call)) (log : D → Option (DoorLog T))
     (does : KeepCall → K → K → Type 0) (rows : K → List Row) (path : K → List ℕ) (reads : K → List ℕ → Result Row Why → Type 0) (gives : ℕ → Result (Option Inventory) AllocError → K → Type 0)
     (known : Bool) (state : E → DiskState) where
@@ -30,3 +32,8 @@ module _ {S T D K E : Type 0} (given : S → Option (List ℕ)) (failures tries 
 
   abbrev pub DayTriesLaw : Type 0
   DayTriesLaw = IsTriedLittle (λ (call : NeighbourCall) (old new : EarlyDay (House S T D K E)). PassesToOthers (DoesToHouse given failures tries remaining written calls log does rows path reads gives known state) call old new) tries (λ (d : EarlyDay (House S T D K E)). d.others.sink)
+
+  abbrev pub BehindTriesLaw : {L : Type 0} → (ℕ → ℕ → L → ℕ) → Type 0
+  BehindTriesLaw {L} due_by =
+      IsTriedLittle (λ (call : NeighbourCall) (old new : EarlyDay (Behind (House S T D K E) L)). PassesToOthers (λ (c : NeighbourCall) (a b : Behind (House S T D K E) L). PassesBehind due_by (DoesToHouse given failures tries remaining written calls log does rows path reads gives known state) c a b) call old new) tries
+      (λ (d : EarlyDay (Behind (House S T D K E) L)). d.others.others.sink)

@@ -3,7 +3,7 @@ ghost use Rattle.house_laws.specs.Alike.{AnsweredAlike, CarriedAlike, ClockedAli
 ghost use Rattle.house_laws.specs.Alike.{EndAlike, KeepsAlike, RefusedAlike, ReplacedAlike, ReplacedOfAlike};
 ghost use Rattle.house_laws.specs.Alike.{JudgedAlike, NewsAlike, NotesAlike, StartAlike, UnfilledAlike, WhysAlike, WrittenAlike};
 ghost use Rattle.house_laws.specs.Disks.{AsksLittleLaw, EndsLaw, LedgerLaw, SparesLaw};
-ghost use Rattle.house_laws.specs.Tried.{DayTriesLaw, TriesLaw};
+ghost use Rattle.house_laws.specs.Tried.{BehindTriesLaw, DayTriesLaw, TriesLaw};
 
 use house_ledger::Keeping;
 use keep_asking::SeenLanes;
@@ -47,19 +47,27 @@ pub fn no_credential_of_a_file_is_said()
     ensures judged { JudgedAlike }
 {}
 
-/// The law that in a turn of the loop the log's reader is tried 16 times at most, whether the loop calls a house or an
-/// [`EarlyDay`](keep_serving::EarlyDay) before it.
-pub fn a_turn_tries_the_reader_little<S: LogSink, T: Talk, D: Door<T>, K: Keeping, E: Disk>()
+/// The law that in a turn of the loop the log's reader is tried 16 times at most, whether the loop calls a house, an
+/// [`EarlyDay`](keep_serving::EarlyDay) before it, or one with a lookout between them ([`Behind`](keep_behind::Behind)).
+pub fn a_turn_tries_the_reader_little<
+    S: LogSink,
+    T: Talk,
+    D: Door<T>,
+    K: Keeping,
+    E: Disk,
+    M: Lanes,
+>()
     ensures house { TriesLaw S.written S.failures S.tries T.remaining T.written T.calls D.log K.does K.rows K.path K.reads K.gives E.is_known E.state }
     ensures day { DayTriesLaw S.written S.failures S.tries T.remaining T.written T.calls D.log K.does K.rows K.path K.reads K.gives E.is_known E.state }
+    ensures behind { BehindTriesLaw S.written S.failures S.tries T.remaining T.written T.calls D.log K.does K.rows K.path K.reads K.gives E.is_known E.state M.due_by }
 {}
 
 /// The law that a turn of the loop spares disks. What keeps the changes is asked to look at files of credentials once at most, and to make
 /// no more changes than the turn took; and the file of the ends is left alone, or was due, which it is once a second at most, and is tried
 /// once.
-pub fn a_turn_spares_disks<S: LogSink, T: Talk, D: Door<T>, K: Keeping, E: Disk>()
-    ensures asks { AsksLittleLaw S.written S.failures S.tries T.remaining T.written T.calls D.log K.does K.rows K.path K.reads K.gives E.is_known E.state }
-    ensures ends { EndsLaw S.written S.failures S.tries T.remaining T.written T.calls D.log K.does K.rows K.path K.reads K.gives E.is_known E.state }
+pub fn a_turn_spares_disks<S: LogSink, T: Talk, D: Door<T>, K: Keeping, E: Disk, M: Lanes>()
+    ensures asks { AsksLittleLaw S.written S.failures S.tries T.remaining T.written T.calls D.log K.does K.rows K.path K.reads K.gives E.is_known E.state M.due_by }
+    ensures ends { EndsLaw S.written S.failures S.tries T.remaining T.written T.calls D.log K.does K.rows K.path K.reads K.gives E.is_known E.state M.due_by }
 {}
 
 /// The law that a look at files of credentials looks at 64 stamps and reads one file at most, and that no call but one that makes a change
@@ -78,6 +86,7 @@ pub fn a_turn_without_a_change_spares_disks<
     I: Inputs + SecretFiles,
     L: Lanes,
     E: Disk,
+    M: Lanes,
 >()
-    ensures { SparesLaw S.written S.failures S.tries T.remaining T.written T.calls O.log D.is_known D.state I.calls ⟦<L as SeenLanes>⟧.seen L.host_port E.is_known E.state }
+    ensures { SparesLaw S.written S.failures S.tries T.remaining T.written T.calls O.log D.is_known D.state I.calls ⟦<L as SeenLanes>⟧.seen L.host_port E.is_known E.state M.due_by }
 {}

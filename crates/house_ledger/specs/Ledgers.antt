@@ -167,5 +167,5 @@ ReadsTable most table (Err (Some why)) =
 abbrev pub GivesLedger : {D I L : Type 0} → ℕ → Result (Option Inventory) AllocError → Ledger D I L → Type 0
 GivesLedger now (Ok None) l = is_change_due (waiting_in l.state.keeper) now ≡ false
 GivesLedger now (Ok (Some inventory)) l =
-    (narrow : Inventory) × (InventoryIsGiven (waiting_in l.state.keeper) now (book_in l.state).text (Some narrow) × IsWide l.demands.earlier (book_in l.state).text narrow inventory)
+    (narrow : Inventory) × (InventoryIsGiven (waiting_in l.state.keeper) now (book_in l.state).text (Some narrow) × IsWide l.demands (book_in l.state).text narrow inventory)
 GivesLedger now (Err e) l = Unit {0}

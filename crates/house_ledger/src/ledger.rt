@@ -68,12 +68,12 @@ pub struct Ledger<'a, D: Disk, I, L: Lanes> {
 }
 
 impl<'a, D: Disk, I: Inputs, L: Lanes> Ledger<'a, D, I, L> {
-    /// What is served now. The margin is as much wider as it is demanded that the agent wakes up earlier. The only error is out of memory.
+    /// What is served now, with the margin that is demanded. The only error is out of memory.
     pub fn inventory(&self, alloc: Global) -> Result<Inventory, AllocError>
-        ensures { IfOk result (λ inventory. (narrow : Inventory) × ((inventory_for_good (book_in self.now.state).text ≡ Ok narrow) × IsWide self.now.demands.earlier (book_in self.now.state).text narrow inventory)) }
+        ensures { IfOk result (λ inventory. (narrow : Inventory) × ((inventory_for_good (book_in self.now.state).text ≡ Ok narrow) × IsWide self.now.demands (book_in self.now.state).text narrow inventory)) }
     {
         let inventory = self.state.inventory()?;
-        wide(alloc, self.demands.earlier, self.state.text(), inventory)
+        wide(alloc, self.demands, self.state.text(), inventory)
     }
 
     /// Has from now on what the files of credentials hold; where that cannot be handed on, that is said, and the old ones stay. An entry
@@ -435,7 +435,7 @@ impl<'a, D: Disk, I: Inputs + SecretFiles, L: Lanes> Keeping for Ledger<'a, D, I
         let Some(inventory) = self.state.due(now)? else {
             return Ok(None);
         };
-        Ok(Some(wide(alloc, self.demands.earlier, self.state.text(), inventory)?))
+        Ok(Some(wide(alloc, self.demands, self.state.text(), inventory)?))
     }
 
     fn look(&mut self, alloc: Global, now: Reading) -> FileLook {

@@ -3,6 +3,7 @@ pub mod Lines
 pub mod Marks
 pub mod LinesOfClocks
 pub mod LinesOfAnswers
+pub mod LinesBehind
 pub mod Sockets
 pub mod Changed
 pub mod LogDesk

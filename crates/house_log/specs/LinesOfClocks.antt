@@ -103,7 +103,7 @@ trouble_at a i = if nat_lt i (length a.inventory.forest.entries) then (standing_
 
 -- what was said of an entry is carried over with it
 abbrev pub carried_mark : Agent → ℕ → Mark
-carried_mark a i = record { trouble = trouble_at a i; is_ended = has_entry_ended a i }
+carried_mark a i = record { trouble = trouble_at a i; is_ended = has_entry_ended a i; steps_in = false }
 
 unfoldable pub marks_anew : Agent → ℕ → List Mark
 marks_anew a count = map (carried_mark a) (range_with_len 0 count)

@@ -13,6 +13,7 @@ use Rattle.keep_log.specs.declared.line.Word.TheVariants as words
 use Rattle.watch_machine.specs.declared.command.Request.{Request}
 use Rattle.watch_machine.specs.declared.event.Operation.{Operation}
 use Rattle.watch_machine.specs.declared.notes.Notes.{Notes}
+use Rattle.house_log.specs.LinesBehind.{ahead_line, steps_in_lines, with_renewals, with_step}
 use Rattle.house_log.specs.LinesOfAnswers.{answered_lines, trouble_after}
 use Rattle.house_log.specs.LinesOfClocks.{clocked_lines, marks_clocked, memory_line, short_log_lines}
 use Rattle.house_log.specs.Lines.{AreSaid, Line, LineIsSaid, TellsDropped, said_line}
@@ -51,6 +52,13 @@ HearsShorts a shorts old new = SaysLines a (short_log_lines a shorts) old.marks 
 abbrev pub HearsAnswer : Agent → ℕ → Operation → Said → Notes → Desk → Desk → Type 0
 HearsAnswer a i operation said notes old new =
     SaysLines a (answered_lines a i operation said notes (mark_at old.marks i).trouble) (with_trouble i (trouble_after (mark_at old.marks i).trouble operation said.reply) old.marks) old new
+
+-- an end that was looked up; after it an entry may be stepped in for anew
+abbrev pub HearsAhead : Agent → ℕ → ℕ → Desk → Desk → Type 0
+HearsAhead a i end old new = SaysLines a (ahead_line a i end ∷ []) (with_step i false old.marks) old new
+
+abbrev pub HearsSteps : Agent → List Request → Desk → Desk → Type 0
+HearsSteps a requests old new = SaysLines a (steps_in_lines a.inventory.forest old.marks requests) (with_renewals requests old.marks) old new
 
 abbrev pub HearsRefusal : Agent → Desk → Desk → Type 0
 HearsRefusal a old new = SaysLines a (memory_line ∷ []) old.marks old new

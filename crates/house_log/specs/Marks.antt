@@ -6,7 +6,7 @@ use Rattle.house_log.specs.declared.mark.Mark.{Mark}
 
 -- nothing was said yet
 abbrev pub fresh_mark : Mark
-fresh_mark = record { trouble = None; is_ended = false }
+fresh_mark = record { trouble = None; is_ended = false; steps_in = false }
 
 -- the mark of an entry, a fresh one where there is none
 abbrev pub mark_at : List Mark → ℕ → Mark

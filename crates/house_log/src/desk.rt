@@ -2,11 +2,12 @@
 ghost use Rattle.std.specs.Prelude.{◌≡◌, IfOk, length};
 ghost use Rattle.house_log.specs.Changed.{entry_log_line, fault_lines, reread_lines, settled_line};
 ghost use Rattle.house_log.specs.LinesOfClocks.{marks_anew};
-ghost use Rattle.house_log.specs.LogDesk.{HearsAnswer, HearsAtStart, HearsClock, HearsNoSocket, HearsRefusal, HearsShorts, HearsWant, SaysLine, SaysLines, begun_desk};
+ghost use Rattle.house_log.specs.LogDesk.{HearsAhead, HearsAnswer, HearsAtStart, HearsClock, HearsNoSocket, HearsRefusal, HearsShorts, HearsSteps, HearsWant, SaysLine, SaysLines, begun_desk};
 ghost use Rattle.house_words.specs.Moments.{now_of};
 ghost use Rattle.house_log.specs.Sockets.{need_log_line};
 
 use crate::log_answers::{say_answered, trouble_after};
+use crate::log_behind::{mark_steps, say_ahead, say_steps, set_step};
 use crate::log_changes::{say_entry, say_faults, say_reread, say_settled};
 use crate::log_clock::{say_clocked, say_memory, say_shorts};
 use crate::log_ended::{mark_anew, mark_ended};
@@ -115,6 +116,26 @@ impl Desk {
         );
         let trouble = trouble_after(before, operation, said.reply);
         set_trouble(&mut self.marks, entry, trouble);
+    }
+
+    /// Says that an end of an entry was looked up and handed in, for an agent that stands behind another.
+    #[tactic(auto, using(crate::proofs::Said::one_said))]
+    pub fn hear_ahead(&mut self, alloc: Global, agent: &Agent, entry: u32, end: u64)
+        ensures { HearsAhead agent.now entry end self.old self.new }
+    {
+        let stamp = self.stamp(agent);
+        say_ahead(alloc, &stamp, agent, entry, end, &mut self.room);
+        set_step(&mut self.marks, entry, false);
+    }
+
+    /// Says for which entries an agent steps in that stands behind another, by what it asks.
+    pub fn hear_steps(&mut self, alloc: Global, agent: &Agent, requests: &[Request])
+        ensures { HearsSteps agent.now requests.now self.old self.new }
+    {
+        let stamp = self.stamp(agent);
+        let names = agent.inventory().forest();
+        say_steps(alloc, &stamp, names, requests, &self.marks, &mut self.room);
+        mark_steps(requests, &mut self.marks);
     }
 
     /// Says that memory was refused.

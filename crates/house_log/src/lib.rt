@@ -12,6 +12,7 @@
 mod desk;
 mod followers;
 mod log_answers;
+mod log_behind;
 mod log_changes;
 mod log_clock;
 mod log_ended;

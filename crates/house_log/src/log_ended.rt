@@ -106,6 +106,7 @@ fn carried_mark(agent: &Agent, entry: usize) -> Mark
     Mark {
         trouble: trouble_at(agent, entry),
         is_ended: has_ended(agent, entry),
+        steps_in: false,
     }
 }
 

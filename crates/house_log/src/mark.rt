@@ -11,6 +11,8 @@ pub struct Mark {
     pub trouble: Option<Trouble>,
     /// Whether it has ended while it is needed.
     pub is_ended: bool,
+    /// Whether the agent steps in for the one in front, by the last renewal or look of it.
+    pub steps_in: bool,
 }
 
 /// What was said of a lack of memory that costs turns of the loop, so that it is said once as long as it goes on.
@@ -33,6 +35,7 @@ pub(crate) fn fresh_mark() -> Mark
     Mark {
         trouble: None,
         is_ended: false,
+        steps_in: false,
     }
 }
 

@@ -58,7 +58,7 @@ pub not_served : (d : Demands) (known : Files) (folder bytes : List ℕ) (v : Se
 not_served d known folder bytes v fault reads is = inr (inr (v, (reads, inl is)))
 
 -- it is served as it is written
-pub served_plain : (d : Demands) (known : Files) (folder bytes : List ℕ) (v : Served) (inventory : Inventory) → read_served bytes ≡ Ok v → first_start_fault d v ≡ None → is_as_written d.earlier v.notes ≡ true → inventory ≡ served_for_good v →
+pub served_plain : (d : Demands) (known : Files) (folder bytes : List ℕ) (v : Served) (inventory : Inventory) → read_served bytes ≡ Ok v → first_start_fault d v ≡ None → is_as_written d v.notes ≡ true → inventory ≡ served_for_good v →
     IsToServe d known folder bytes (Ok inventory)
 served_plain d known folder bytes v inventory reads none plain is = (v, (reads, (none, (bytes, (inl (plain, refl), written_so bytes v inventory reads is)))))
 
@@ -67,8 +67,8 @@ pub lacks_memory : (d : Demands) (known : Files) (folder bytes : List ℕ) (faul
 lacks_memory d known folder bytes fault is = inl is
 
 -- its files give credentials, and its margin has room
-pub served_filled : (d : Demands) (known : Files) (folder bytes text : List ℕ) (v : Served) (result : Result Inventory StartFault) → read_served bytes ≡ Ok v → first_start_fault d v ≡ None → is_as_written d.earlier v.notes ≡ false →
-    IsFilledText known folder d.earlier v text → IfOk result (λ inventory. inventory_for_good text ≡ Ok inventory) → IfErr result (λ fault. fault ≡ OutOfMemory) → IsToServe d known folder bytes result
+pub served_filled : (d : Demands) (known : Files) (folder bytes text : List ℕ) (v : Served) (result : Result Inventory StartFault) → read_served bytes ≡ Ok v → first_start_fault d v ≡ None → is_as_written d v.notes ≡ false →
+    IsFilledText known folder d v text → IfOk result (λ inventory. inventory_for_good text ≡ Ok inventory) → IfErr result (λ fault. fault ≡ OutOfMemory) → IsToServe d known folder bytes result
 served_filled d known folder bytes text v (Ok inventory) reads none named filled is memory = (v, (reads, (none, (text, (inr (named, filled), is)))))
 served_filled d known folder bytes text v (Err fault) reads none named filled is memory = inl memory
 

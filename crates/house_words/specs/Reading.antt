@@ -1,6 +1,6 @@
 -- Reading: what is served by the text of an inventory, or the fault of the start.
 -- Source: this project's own; docs/commands/serve.md.
-use Rattle.std.specs.Prelude.{◌≡◌, ◌⊎◌, ◌&&◌, ℕ, ◌∷◌, ◌++◌, Bool, true, false, nat_eq, List, [], Option, Some, None, Result, Ok, Err, codes}
+use Rattle.std.specs.Prelude.{◌≡◌, ◌⊎◌, ◌&&◌, ℕ, ◌∷◌, ◌++◌, Bool, true, false, is_none, nat_eq, List, [], Option, Some, None, Result, Ok, Err, codes}
 use Rattle.keep_change.specs.Listed.{rows_of_served}
 use Rattle.keep_change.specs.declared.row.Row.{Row}
 use Rattle.keep_files.specs.Files.{Files}
@@ -12,30 +12,40 @@ use Rattle.keep_inventory.specs.declared.fault.InvFault.{InvFault}
 use Rattle.keep_served.specs.ForGood.{inventory_for_good}
 use Rattle.keep_settle.specs.Settled.{TextIsSettled}
 use Rattle.keep_settle.specs.declared.fault.SettleFault.{SettleFault}
+use Rattle.keep_spread.specs.Behind.{margin_by}
 use Rattle.keep_spread.specs.Margins.{room_of, wider}
+use Rattle.keep_tree.specs.Forest.{Forest}
 use Rattle.house_words.specs.Filling.{AreFilled, AreUnfilled, FirstUnfilled, names_no_file}
 use Rattle.house_words.specs.Starts.{first_start_fault, written_faults}
 use Rattle.house_words.specs.declared.demands.Demands.{Demands}
 use Rattle.house_words.specs.declared.fault.StartFault.{StartFault}
 use Rattle.house_words.specs.declared.fault.StartFault.TheVariants as faults
 
--- the inventory is served just as it is written: the agent wakes up no earlier, and no entry names a file
-abbrev pub is_as_written : ℕ → List Note → Bool
-is_as_written earlier notes = nat_eq earlier 0 && names_no_file notes
+-- the agent wakes up by the margin that is written
+abbrev pub keeps_margin : Demands → Bool
+keeps_margin d = is_none d.behind && nat_eq d.earlier 0
 
--- the margin with which the agent wakes up so much earlier
-abbrev pub margin_for : ℕ → Served → ℕ
-margin_for earlier v = wider v.inventory.forest.margin earlier (room_of v.inventory.forest.entries)
+-- the inventory is served just as it is written: with that margin, and no entry names a file
+abbrev pub is_as_written : Demands → List Note → Bool
+is_as_written d notes = keeps_margin d && names_no_file notes
+
+-- the margin with which the agent wakes up so much earlier; behind another, the one that its number gives it
+abbrev pub margin_where : Option ℕ → ℕ → Forest → ℕ
+margin_where None earlier g = wider g.margin earlier (room_of g.entries)
+margin_where (Some number) earlier g = margin_by g.margin number
+
+abbrev pub margin_for : Demands → Served → ℕ
+margin_for d v = margin_where d.behind d.earlier v.inventory.forest
 
 -- a text that says that margin, and what the entries say with what their files hold
-pub record IsFilledText (known : Files) (folder : List ℕ) (earlier : ℕ) (v : Served) (text : List ℕ) : Type 0 where
+pub record IsFilledText (known : Files) (folder : List ℕ) (d : Demands) (v : Served) (text : List ℕ) : Type 0 where
   pub filled : List Row
   pub are_filled : AreFilled known folder (rows_of_served v) filled
   pub settled : Served
-  pub is_settled : TextIsSettled (Some (margin_for earlier v)) None filled text settled
+  pub is_settled : TextIsSettled (Some (margin_for d v)) None filled text settled
 
-abbrev pub IsServedText : ℕ → Files → List ℕ → List ℕ → Served → List ℕ → Type 0
-IsServedText earlier known folder bytes v text = ((is_as_written earlier v.notes ≡ true) × (text ≡ bytes)) ⊎ ((is_as_written earlier v.notes ≡ false) × IsFilledText known folder earlier v text)
+abbrev pub IsServedText : Demands → Files → List ℕ → List ℕ → Served → List ℕ → Type 0
+IsServedText d known folder bytes v text = ((is_as_written d v.notes ≡ true) × (text ≡ bytes)) ⊎ ((is_as_written d v.notes ≡ false) × IsFilledText known folder d v text)
 
 -- the first entry whose file gives nothing
 abbrev pub IsUnfilled : Files → List ℕ → Served → StartFault → Type 0
@@ -59,10 +69,10 @@ IsNotServed d known folder bytes fault = (v : Served) × ((read_served bytes ≡
 
 -- ---- what is served
 
--- the inventory of a text in which files are filled and the margin is as wide as demanded, where a need that is `always` lasts to the last moment; or why there is none
+-- the inventory of a text in which files are filled and the margin is as demanded, where a need that is `always` lasts to the last moment; or why there is none
 abbrev pub IsToServe : Demands → Files → List ℕ → List ℕ → Result Inventory StartFault → Type 0
 IsToServe d known folder bytes (Ok inventory) =
-    (v : Served) × ((read_served bytes ≡ Ok v) × ((first_start_fault d v ≡ None) × ((text : List ℕ) × (IsServedText d.earlier known folder bytes v text × (inventory_for_good text ≡ Ok inventory)))))
+    (v : Served) × ((read_served bytes ≡ Ok v) × ((first_start_fault d v ≡ None) × ((text : List ℕ) × (IsServedText d known folder bytes v text × (inventory_for_good text ≡ Ok inventory)))))
 IsToServe d known folder bytes (Err fault) = (fault ≡ faults.OutOfMemory) ⊎ (IsNoInventory bytes fault ⊎ IsNotServed d known folder bytes fault)
 
 -- ---- all faults of a start
@@ -105,15 +115,15 @@ AreWrittenFaults d bytes faults = AreOfNoInventory bytes faults ⊎ ((v : Served
 abbrev pub IsWellWritten : Demands → List ℕ → Type 0
 IsWellWritten d bytes = AreWrittenFaults d bytes []
 
--- ---- an inventory that is served already, with a wider margin
+-- ---- an inventory that is served already, with the margin that is demanded
 
 -- a text that says what that one says, but for the margin
-pub record IsWideText (earlier : ℕ) (text wide : List ℕ) : Type 0 where
+pub record IsWideText (d : Demands) (text wide : List ℕ) : Type 0 where
   pub v : Served
   pub reads : read_served text ≡ Ok v
   pub settled : Served
-  pub is_settled : TextIsSettled (Some (margin_for earlier v)) None (rows_of_served v) wide settled
+  pub is_settled : TextIsSettled (Some (margin_for d v)) None (rows_of_served v) wide settled
 
 -- the inventory of such a text; or as it was, where nothing is demanded, or no text says that
-abbrev pub IsWide : ℕ → List ℕ → Inventory → Inventory → Type 0
-IsWide earlier text narrow inventory = (inventory ≡ narrow) ⊎ ((wide : List ℕ) × (IsWideText earlier text wide × (inventory_for_good wide ≡ Ok inventory)))
+abbrev pub IsWide : Demands → List ℕ → Inventory → Inventory → Type 0
+IsWide d text narrow inventory = (inventory ≡ narrow) ⊎ ((wide : List ℕ) × (IsWideText d text wide × (inventory_for_good wide ≡ Ok inventory)))

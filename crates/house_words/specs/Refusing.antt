@@ -1,6 +1,6 @@
 -- Refusing: what is said of a start that is refused.
 -- Source: this project's own; docs/commands/serve.md.
-use Rattle.std.specs.Prelude.{ℕ, ◌*◌, Bool, if◌then◌else◌, List, [], ◌∷◌, ◌++◌, Option, Some, None, codes, decimal}
+use Rattle.std.specs.Prelude.{ℕ, Bool, if◌then◌else◌, List, [], ◌∷◌, ◌++◌, Option, Some, None, codes, decimal}
 use Rattle.keep_inventory.specs.declared.fault.InvFault.{InvFault}
 use Rattle.keep_inventory.specs.declared.fault.InvFault.TheVariants as inventories
 use Rattle.keep_lines.specs.Text.{name_of}
@@ -8,6 +8,7 @@ use Rattle.keep_settle.specs.declared.fault.SettleFault.{SettleFault}
 use Rattle.keep_settle.specs.declared.fault.SettleFault.TheVariants as settling
 use Rattle.keep_tree.specs.Forest.{Forest, entry_at}
 use Rattle.keep_tree.specs.Push.{is_lease}
+use Rattle.house_words.specs.Starts.{least_margin}
 use Rattle.house_words.specs.declared.demands.Demands.{Demands}
 use Rattle.house_words.specs.declared.fault.StartFault.{StartFault}
 use Rattle.house_words.specs.declared.fault.StartFault.TheVariants.{Inventory, NoMargin, SmallMargin, NoCredential, NoFile, NoSecret, Together, OutOfMemory}
@@ -23,8 +24,13 @@ file_key g i = if is_lease (entry_at g.entries i).kind then codes "lease_id_file
 abbrev pub of_key : Forest → ℕ → List ℕ → List ℕ → List ℕ
 of_key g i key said = name_of g i ++ (codes ": " ++ (key ++ (codes ": " ++ said)))
 
-abbrev pub small_words : ℕ → ℕ → List ℕ
-small_words margin least = codes "margin: is " ++ (decimal margin ++ (codes " seconds; write one of at least 4 times the time-out, " ++ (decimal least ++ codes " seconds")))
+-- how long a margin is to be written
+abbrev pub remedy_where : Option ℕ → List ℕ
+remedy_where None = codes "write one of at least 4 times the time-out"
+remedy_where (Some number) = codes "with --behind write one of at least 8 times the time-out"
+
+abbrev pub small_words : Demands → ℕ → List ℕ
+small_words d margin = codes "margin: is " ++ (decimal margin ++ (codes " seconds; " ++ (remedy_where d.behind ++ (codes ", " ++ (decimal (least_margin d) ++ codes " seconds")))))
 
 abbrev pub taken_words : Forest → Option ℕ → List ℕ
 taken_words g (Some i) = of_key g i (file_key g i) (codes "the file holds what another entry has; write each its own")
@@ -42,8 +48,8 @@ together_words g settling.OutOfMemory = codes "memory"
 
 unfoldable pub start_words : Demands → Forest → StartFault → List ℕ
 start_words d g (Inventory fault) = codes "the inventory is faulty"
-start_words d g NoMargin = codes "margin: is not written; write one of at least 4 times the time-out"
-start_words d g SmallMargin = small_words g.margin (4 * d.timeout)
+start_words d g NoMargin = codes "margin: is not written; " ++ remedy_where d.behind
+start_words d g SmallMargin = small_words d g.margin
 start_words d g (NoCredential i) = of_key g i (own_key g i) (codes "is not written; write it (with --names-are-secrets the name is sent in its place, for trials)")
 start_words d g (NoFile i) = of_key g i (file_key g i) (codes "the file cannot be read; put the credential there before the start")
 start_words d g (NoSecret i) = of_key g i (file_key g i) (codes "the file holds no credential of 1 to 256 printable ASCII characters; write it there")

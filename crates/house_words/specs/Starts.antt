@@ -18,9 +18,17 @@ is_bare v i note = is_none note.file && bytes_eq (credential_at v.inventory.cred
 abbrev pub is_bare_row : Row → Bool
 is_bare_row row = is_none row.file && bytes_eq row.credential row.name
 
--- the fault of the margin: it is not written, or is under four time-outs
+-- how long the margin is at least: four time-outs, and eight where the agent stands behind another
+abbrev pub timeouts_where : Option ℕ → ℕ
+timeouts_where None = 4
+timeouts_where (Some number) = 8
+
+abbrev pub least_margin : Demands → ℕ
+least_margin d = timeouts_where d.behind * d.timeout
+
+-- the fault of the margin: it is not written, or is under that
 abbrev pub margin_fault : Demands → Served → Option StartFault
-margin_fault d v = if not v.has_margin then Some NoMargin else (if nat_lt v.inventory.forest.margin (4 * d.timeout) then Some SmallMargin else None)
+margin_fault d v = if not v.has_margin then Some NoMargin else (if nat_lt v.inventory.forest.margin (least_margin d) then Some SmallMargin else None)
 
 -- the fault of each of these entries, which are those from this index on, that is bare
 abbrev pub bare_at : Served → ℕ → Note → List StartFault

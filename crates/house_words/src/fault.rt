@@ -13,7 +13,7 @@ pub enum StartFault {
     Inventory(InvFault),
     /// The margin is not written.
     NoMargin,
-    /// The margin is under four time-outs.
+    /// The margin is under four time-outs, or eight where the agent stands behind another.
     SmallMargin,
     /// The entry has neither a credential of its own nor a file with one.
     NoCredential(usize),

@@ -1,9 +1,9 @@
 //! What is said of a start that is refused.
-ghost use Rattle.std.specs.Prelude.{◌≡◌, ◌*◌, ◌∷◌, ◌++◌, [], IfOk, OnOk, codes, decimal};
+ghost use Rattle.std.specs.Prelude.{◌≡◌, ◌∷◌, ◌++◌, [], IfOk, OnOk, codes, decimal};
 ghost use Rattle.keep_lines.specs.Text.{name_of};
 ghost use Rattle.keep_tree.specs.Forest.{entry_at};
 ghost use Rattle.keep_tree.specs.Push.{is_lease};
-ghost use Rattle.house_words.specs.Refusing.{file_key, of_key, own_key, refused_words, small_words, start_refusal_line, start_words, taken_words, together_words};
+ghost use Rattle.house_words.specs.Refusing.{file_key, of_key, own_key, refused_words, remedy_where, small_words, start_refusal_line, start_words, taken_words, together_words};
 
 use crate::demands::Demands;
 use crate::fault::StartFault;
@@ -45,15 +45,8 @@ pub(crate) fn push_start(
 {
     match fault {
         StartFault::Inventory(_) => text.extend_from_slice(b"the inventory is faulty"),
-        StartFault::NoMargin => text.extend_from_slice(
-            b"margin: is not written; write one of at least 4 times the time-out",
-        ),
-        StartFault::SmallMargin => push_small(
-            alloc,
-            u64::from(forest.margin()),
-            4 * u64::from(demands.timeout),
-            text,
-        ),
+        StartFault::NoMargin => push_unwritten(demands, text),
+        StartFault::SmallMargin => { push_small(alloc, demands, u64::from(forest.margin()), text) }
         StartFault::NoCredential(entry) => push_of_key(
             forest,
             entry,
@@ -116,14 +109,39 @@ fn push_taken(forest: &Forest, entry: Option<u32>, text: &mut Vec<u8>) -> Result
     }
 }
 
-// Appends how wide the margin is, and how wide it has to be at least.
-fn push_small(alloc: Global, margin: u64, least: u64, text: &mut Vec<u8>) -> Result<(), AllocError>
-    ensures { OnOk result (text.new.items ≡ text.old.items ++ small_words margin least) }
+// How long a margin is to be written.
+fn remedy(behind: Option<u64>) -> &'static [u8]
+    ensures { result.now ≡ remedy_where behind }
+{
+    match behind {
+        None => b"write one of at least 4 times the time-out",
+        Some(_) => b"with --behind write one of at least 8 times the time-out",
+    }
+}
+
+// Appends that no margin is written, and how long it is to be.
+fn push_unwritten(demands: Demands, text: &mut Vec<u8>) -> Result<(), AllocError>
+    ensures { OnOk result (text.new.items ≡ text.old.items ++ (codes "margin: is not written; " ++ remedy_where demands.behind)) }
+{
+    text.extend_from_slice(b"margin: is not written; ")?;
+    text.extend_from_slice(remedy(demands.behind))
+}
+
+// Appends how long the margin is, and how long it has to be at least.
+fn push_small(
+    alloc: Global,
+    demands: Demands,
+    margin: u64,
+    text: &mut Vec<u8>,
+) -> Result<(), AllocError>
+    ensures { OnOk result (text.new.items ≡ text.old.items ++ small_words demands margin) }
 {
     text.extend_from_slice(b"margin: is ")?;
     push_number(alloc, margin, text)?;
-    text.extend_from_slice(b" seconds; write one of at least 4 times the time-out, ")?;
-    push_number(alloc, least, text)?;
+    text.extend_from_slice(b" seconds; ")?;
+    text.extend_from_slice(remedy(demands.behind))?;
+    text.extend_from_slice(b", ")?;
+    push_number(alloc, demands.least_margin(), text)?;
     text.extend_from_slice(b" seconds")?;
     Ok(())
 }

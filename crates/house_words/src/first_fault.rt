@@ -63,7 +63,7 @@ fn margin_fault(demands: Demands, served: &Served) -> Option<StartFault>
         return Some(StartFault::NoMargin);
     }
     let margin = u64::from(served.inventory().forest().margin());
-    if margin < 4 * u64::from(demands.timeout) {
+    if margin < demands.least_margin() {
         return Some(StartFault::SmallMargin);
     }
     None

@@ -5,7 +5,7 @@ ghost use Rattle.keep_inventory.specs.Inventory.{read_served};
 ghost use Rattle.keep_inventory.specs.Served.{Served};
 ghost use Rattle.keep_served.specs.ForGood.{inventory_for_good};
 ghost use Rattle.house_words.specs.Filling.{names_no_file};
-ghost use Rattle.house_words.specs.Reading.{IsFilledText, IsToServe, IsUnfilled, IsWide, IsWideText, NotTogether, is_as_written};
+ghost use Rattle.house_words.specs.Reading.{IsFilledText, IsToServe, IsUnfilled, IsWide, IsWideText, NotTogether, is_as_written, keeps_margin, margin_for};
 ghost use Rattle.house_words.specs.declared.fault.StartFault.TheVariants.{OutOfMemory};
 
 use crate::demands::Demands;
@@ -17,13 +17,13 @@ use keep_files::Inputs;
 use keep_inventory::{Inventory, Note, Served, read_served};
 use keep_served::{read_for_good, served_for_good};
 use keep_settle::settle;
-use keep_spread::margin_with;
+use keep_spread::{margin_by, margin_with};
 use std::alloc::{AllocError, Global};
 
 /// What is served by the text of an inventory: its entries, with what the files of their credentials hold, where a need that is
 /// `always` lasts to the last moment. A path of a file that does not begin with `/` starts at `folder`, which ends in one, or is
 /// empty. The margin is as much wider as it is demanded that the agent wakes up earlier, by no more than itself, and as far as three
-/// quarters of each step have room for it.
+/// quarters of each step have room for it; behind another it is that of an agent there.
 ///
 /// # Errors
 ///
@@ -39,23 +39,40 @@ pub fn read_to_serve<I: Inputs>(
     ensures served { IsToServe demands (I.bytes_at inputs.old) folder.now bytes.now result }
     ensures same { (path : List ℕ) → I.bytes_at inputs.new path ≡ I.bytes_at inputs.old path }
 {
-    let earlier = demands.earlier;
     let served = read_served(alloc, bytes)?;
     if let Some(fault) = first_fault(demands, &served) {
         return Err(fault);
     }
-    if is_as_written(earlier, served.notes()) {
+    if is_as_written(demands, served.notes()) {
         return Ok(served_for_good(alloc, served)?);
     }
-    let text = filled_text(alloc, &served, earlier, folder, inputs)?;
+    let text = filled_text(alloc, &served, demands, folder, inputs)?;
     serve_text(alloc, text.as_bytes())
 }
 
 // Whether the inventory is served just as it is written.
-fn is_as_written(earlier: u32, notes: &[Note]) -> bool
-    ensures { result ≡ is_as_written earlier notes.now }
+fn is_as_written(demands: Demands, notes: &[Note]) -> bool
+    ensures { result ≡ is_as_written demands notes.now }
 {
-    earlier == 0 && names_no_file(notes)
+    keeps_margin(demands) && names_no_file(notes)
+}
+
+// Whether the agent wakes up by the margin that is written.
+fn keeps_margin(demands: Demands) -> bool
+    ensures { result ≡ keeps_margin demands }
+{
+    demands.behind.is_none() && demands.earlier == 0
+}
+
+// The margin with which the agent wakes up.
+fn margin_for(demands: Demands, served: &Served) -> u32
+    ensures { result ≡ margin_for demands served.now }
+{
+    let forest = served.inventory().forest();
+    match demands.behind {
+        None => margin_with(forest, demands.earlier),
+        Some(number) => margin_by(forest.margin(), number),
+    }
 }
 
 // Whether no entry names a file.
@@ -75,40 +92,40 @@ fn serve_text(alloc: Global, text: &[u8]) -> Result<Inventory, StartFault>
     Ok(read_for_good(alloc, text)?)
 }
 
-// A text that says what the entries say with what their files hold, and that margin with the seconds besides.
+// A text that says what the entries say with what their files hold, and the margin that is demanded.
 #[tactic(auto, using(crate::proofs::Read::not_together))]
 fn filled_text<I: Inputs>(
     alloc: Global,
     served: &Served,
-    earlier: u32,
+    demands: Demands,
     folder: &str,
     inputs: &mut I,
 ) -> Result<String, StartFault>
-    ensures filled { IfOk result (λ text. IsFilledText (I.bytes_at inputs.old) folder.now earlier served.now (string_bytes text)) }
+    ensures filled { IfOk result (λ text. IsFilledText (I.bytes_at inputs.old) folder.now demands served.now (string_bytes text)) }
     ensures unfilled { IfErr result (λ fault. (fault ≡ OutOfMemory) ⊎ (IsUnfilled (I.bytes_at inputs.old) folder.now served.now fault ⊎ NotTogether (I.bytes_at inputs.old) folder.now served.now fault)) }
     ensures same { (path : List ℕ) → I.bytes_at inputs.new path ≡ I.bytes_at inputs.old path }
 {
     let rows = listed_rows(alloc, served)?;
     let filled = fill_all(alloc, &rows, folder.as_bytes(), inputs)?;
-    let margin = margin_with(served.inventory().forest(), earlier);
+    let margin = margin_for(demands, served);
     let settled = settle(alloc, Some(margin), None, &filled)?;
     Ok(settled.text)
 }
 
-/// The inventory of a text, with a margin as much wider as it is demanded that the agent wakes up earlier; where no text says that, as
-/// it is. The only error is out of memory.
+/// The inventory of a text, with a margin as much wider as it is demanded that the agent wakes up earlier, or that of an agent behind
+/// another; where no text says that, as it is. The only error is out of memory.
 pub fn wide(
     alloc: Global,
-    earlier: u32,
+    demands: Demands,
     text: &str,
     inventory: Inventory,
 ) -> Result<Inventory, AllocError>
-    ensures { IfOk result (IsWide earlier text.now inventory) }
+    ensures { IfOk result (IsWide demands text.now inventory) }
 {
-    if earlier == 0 {
+    if keeps_margin(demands) {
         return Ok(inventory);
     }
-    match wide_text(alloc, earlier, text.as_bytes()) {
+    match wide_text(alloc, demands, text.as_bytes()) {
         Ok(text) => match read_for_good(alloc, text.as_bytes()) {
             Ok(wide) => Ok(wide),
             Err(_) => Err(AllocError),
@@ -119,12 +136,12 @@ pub fn wide(
 }
 
 // A text that says the same, but for the margin.
-fn wide_text(alloc: Global, earlier: u32, text: &[u8]) -> Result<String, StartFault>
-    ensures { IfOk result (λ wide. IsWideText earlier text.now (string_bytes wide)) }
+fn wide_text(alloc: Global, demands: Demands, text: &[u8]) -> Result<String, StartFault>
+    ensures { IfOk result (λ wide. IsWideText demands text.now (string_bytes wide)) }
 {
     let served = read_served(alloc, text)?;
     let rows = listed_rows(alloc, &served)?;
-    let margin = margin_with(served.inventory().forest(), earlier);
+    let margin = margin_for(demands, &served);
     let settled = settle(alloc, Some(margin), None, &rows)?;
     Ok(settled.text)
 }

@@ -1,12 +1,13 @@
 -- Onlooking: what the onlookers of a running agent are sent.
 -- Source: this project's own; what answers a question is keep_onlook's.
-use Rattle.std.specs.Prelude.{◌≡◌, ℕ, List, [], ◌++◌, Bool, true, false, ◌&&◌, ◌||◌, Option, Some, None, is_some, nat_le}
+use Rattle.std.specs.Prelude.{◌≡◌, ℕ, List, [], ◌++◌, Bool, true, false, ◌&&◌, ◌||◌, if◌then◌else◌, Option, Some, None, is_some, nat_le}
 use Rattle.std.specs.List.{list_any}
 use Rattle.keep_agent.specs.Agent.{Agent}
 use Rattle.keep_clients.specs.Doors.{DoorLog}
 use Rattle.keep_clients.specs.Guests.{can_go_on}
-use Rattle.keep_clients.specs.Tables.{AnswersFirst, GuestTable, Turns, first_asked}
+use Rattle.keep_clients.specs.Tables.{AnswersFirst, GuestTable, Turns, first_asked, first_by}
 use Rattle.keep_clients.specs.declared.talk.Call.{Call}
+use Rattle.keep_clock.specs.Rests.{shorter}
 use Rattle.keep_onlook.specs.Answers.{IsAnswer}
 use Rattle.keep_onlook.specs.Board.{board_of}
 use Rattle.keep_onlook.specs.Questions.{BytesAsk}
@@ -66,6 +67,14 @@ OneIsSent false agent around now enough old new = (enough ≡ true) × (new ≡ 
 abbrev pub is_asked : {T : Type 0} → GuestTable T Heads → Bool
 is_asked table = is_some (first_asked table)
 
+-- one has asked, and the rest after the last answer is over
+abbrev pub is_answered_next : {T D : Type 0} → ℕ → Onlookers T D → Bool
+is_answered_next now o = nat_le o.rest.until now && is_asked o.clients
+
+-- when something is due of itself: the first is sent away, or the rest is over after which one is answered
+abbrev pub onlookers_due : {T D : Type 0} → Onlookers T D → Option ℕ
+onlookers_due o = shorter (if is_asked o.clients then Some o.rest.until else None) (first_by o.clients.guests)
+
 -- an answer that is made now is noted, for the rest after it
 abbrev pub rest_with : Bool → ℕ → Rest → Rest
 rest_with true now rest = record rest { begun = Some now }
@@ -86,5 +95,5 @@ pub record OnlookingGoesOn {T D : Type 0} (remaining written : T → Option (Lis
   pub turn : Turns remaining written calls (λ heads. TellsHead) now turned_enough old.clients turned (log old.door) (log new.door)
   pub one : OneIsSent (nat_le (rest_before now old.rest).until now) agent around now sent_enough turned new.clients
   pub rest : new.rest ≡ rest_with (nat_le (rest_before now old.rest).until now && is_asked turned) now (rest_before now old.rest)
-  pub busy : went.is_busy ≡ (list_any (λ g. can_go_on g) new.clients.guests || is_asked new.clients)
+  pub busy : went.is_busy ≡ (list_any (λ g. can_go_on g) new.clients.guests || is_answered_next now new)
   pub enough : went.is_enough ≡ (turned_enough && sent_enough)

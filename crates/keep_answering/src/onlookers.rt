@@ -1,6 +1,6 @@
 //! The onlookers of an agent.
 ghost use Rattle.std.specs.Prelude.{◌≡◌, ◌&&◌, ◌||◌, is_some, nat_le};
-ghost use Rattle.keep_answering.specs.Onlooking.{OneIsSent, OnlookingGoesOn, is_asked, nobody, rest_with};
+ghost use Rattle.keep_answering.specs.Onlooking.{OneIsSent, OnlookingGoesOn, is_answered_next, is_asked, nobody, onlookers_due, rest_with};
 ghost use Rattle.keep_onlook.specs.Naming.{beside};
 
 use crate::answering::sent_to;
@@ -10,6 +10,7 @@ use crate::went::Went;
 use keep_agent::Agent;
 use keep_change::Row;
 use keep_clients::{Clients, Door, Limits, Talk};
+use keep_clock::shorter;
 use keep_onlook::{HEAD_MAX, Surroundings};
 use std::alloc::{AllocError, Global};
 
@@ -69,9 +70,29 @@ impl<T: Talk, D: Door<T>> Onlookers<T, D> {
             now,
         );
         Went {
-            is_busy: self.clients.is_busy() || self.is_asked(),
+            is_busy: self.clients.is_busy() || self.is_answered_next(now),
             is_enough: both(is_turned, is_answered),
         }
+    }
+
+    /// When something is due of itself: the first of the onlookers is sent away, or the rest is over after which one is answered that has
+    /// asked. `None` where nothing is.
+    pub fn due(&self) -> Option<u64>
+        ensures { result ≡ onlookers_due self.now }
+    {
+        let answered = if self.is_asked() {
+            Some(self.rest.until)
+        } else {
+            None
+        };
+        shorter(answered, self.clients.due())
+    }
+
+    /// Whether one has asked and is answered by the next call.
+    fn is_answered_next(&self, now: u64) -> bool
+        ensures { result ≡ is_answered_next now self.now }
+    {
+        self.rest.is_over(now) && self.is_asked()
     }
 
     /// Whether one has asked and is not answered yet.

@@ -16,7 +16,7 @@ use Rattle.watch_machine.specs.declared.command.Request.{Request}
 use Rattle.watch_machine.specs.declared.notes.Notes.{Notes}
 use Rattle.watch_machine.specs.declared.outlook.Next.{Next}
 use Rattle.keep_house.specs.Commands.{AsksFor, SettlesGiven, is_served}
-use Rattle.house_log.specs.LogDesk.{Desk, HearsAnswer, HearsClock, HearsShorts}
+use Rattle.house_log.specs.LogDesk.{Desk, HearsAhead, HearsAnswer, HearsClock, HearsShorts, HearsSteps}
 use Rattle.keep_house.specs.Ends.{HearsServed, KeepsEnds, after_answer}
 use Rattle.keep_house.specs.Houses.{Attends}
 use Rattle.house_ledger.specs.Keeping.{KeepCall}
@@ -44,6 +44,8 @@ HearsOf agent (happened.Clocked notes requests next) old new = HearsOfTime agent
 HearsOf agent (happened.Shorts shorts) old new = HearsShorts agent shorts.now old.desk new.desk × (new ≡ record old { desk = new.desk })
 HearsOf agent (happened.Answered entry operation said notes) old new =
     HearsAnswer agent entry operation said notes.now old.desk new.desk × (new ≡ record old { desk = new.desk; ends = option_map (after_answer said.reply) old.ends })
+HearsOf agent (happened.Ahead entry end) old new = HearsAhead agent entry end old.desk new.desk × (new ≡ record old { desk = new.desk })
+HearsOf agent (happened.StepsIn requests) old new = HearsSteps agent requests.now old.desk new.desk × (new ≡ record old { desk = new.desk })
 HearsOf agent happened.Refused old new = HearsWanting agent old.desk new.desk × (new ≡ record old { desk = new.desk })
 HearsOf agent happened.Wanting old new = HearsWanting agent old.desk new.desk × (new ≡ record old { desk = new.desk })
 

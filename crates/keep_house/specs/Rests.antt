@@ -3,6 +3,7 @@
 use Rattle.std.specs.Prelude.{◌≡◌, ℕ, if◌then◌else◌, Option, Some, None}
 use Rattle.keep_answering.specs.declared.control.Control.{Control}
 use Rattle.keep_answering.specs.declared.onlookers.Onlookers.{Onlookers}
+use Rattle.keep_answering.specs.Onlooking.{onlookers_due}
 use Rattle.keep_clients.specs.Tables.{first_by}
 use Rattle.keep_clock.specs.Rests.{rest_until, shorter}
 use Rattle.keep_ends.specs.declared.file.EndsFile.{EndsFile}
@@ -10,14 +11,15 @@ use Rattle.house_ledger.specs.Keeping.{KeepCall, RestFor}
 use Rattle.house_log.specs.Wants.{log_rest}
 use Rattle.keep_house.specs.declared.house.House.{House}
 
--- until the first of the guests is sent away, who has not sent its request or read its answer
+-- until the first of the clients is sent away, which has not sent its request or read its answer
 abbrev pub clients_rest : {T D : Type 0} → ℕ → Option (Control T D) → Option ℕ
 clients_rest now None = None
 clients_rest now (Some control) = rest_until (first_by control.clients.guests) now
 
+-- until the first of the onlookers is sent away, or the rest is over after which one of them is answered
 abbrev pub onlookers_rest : {T D : Type 0} → ℕ → Option (Onlookers T D) → Option ℕ
 onlookers_rest now None = None
-onlookers_rest now (Some onlookers) = rest_until (first_by onlookers.clients.guests) now
+onlookers_rest now (Some onlookers) = rest_until (onlookers_due onlookers) now
 
 -- until the file of the ends is written that is stale
 abbrev pub ends_rest : {E : Type 0} → ℕ → Option (EndsFile E) → Option ℕ

@@ -96,6 +96,8 @@ impl<S: LogSink, T: Talk, D: Door<T>, K: Keeping, E: Disk> Neighbours for House<
                 self.desk
                     .hear_answer(alloc, agent, *entry, *operation, *said, notes);
             }
+            Happened::Ahead { entry, end } => self.desk.hear_ahead(alloc, agent, *entry, *end),
+            Happened::StepsIn(requests) => self.desk.hear_steps(alloc, agent, requests),
             Happened::Refused | Happened::Wanting => self.desk.hear_wanting(alloc, agent),
         }
     }

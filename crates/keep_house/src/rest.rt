@@ -11,8 +11,9 @@ use keep_ends::EndsFile;
 
 impl<S, T: Talk, D: Door<T>, K: Keeping, E> House<S, T, D, K, E> {
     /// For how long the house may be left alone, where nothing tells of one of its neighbours before, in milliseconds: until the first of
-    /// its guests is sent away, a change is due, or the ends are to be kept, and for a second at most while something goes on turn by turn.
-    /// `None` where as long as may be. `now` is the moment of the clock that never steps at which it was called.
+    /// its guests is sent away, an onlooker is answered, a change is due, or the ends are to be kept, and for a second at most while
+    /// something goes on turn by turn. `None` where as long as may be. `now` is the moment of the clock that never steps at which it was
+    /// called.
     pub fn rest_for(&self, now: u64) -> Option<u64>
         ensures { Rests K.does now result self.now }
     {
@@ -39,7 +40,7 @@ fn onlookers_rest<T: Talk, D: Door<T>>(now: u64, onlookers: &Option<Onlookers<T,
 {
     match onlookers {
         None => None,
-        Some(onlookers) => rest_until(onlookers.clients.due(), now),
+        Some(onlookers) => rest_until(onlookers.due(), now),
     }
 }
 

@@ -1,8 +1,7 @@
 //! One request over one connection.
-ghost use Rattle.std.specs.Prelude.{◌≡◌, ◌<◌, ◌≤◌, [], IfOk, OnErr, length, take};
+ghost use Rattle.std.specs.Prelude.{◌≡◌, ◌<◌, ◌≤◌, [], IfOk, length, take};
 ghost use Rattle.std.specs.Io.KnownBytes.{Appends, Keeps};
 ghost use Rattle.keep_lanes.specs.Allowed.{deadline};
-ghost use Rattle.keep_device.specs.Front.{AppendsFront};
 ghost use Rattle.keep_lanes.specs.Lanes.{AnswerIsTold, FrontIsWritten, IsCounted, IsPatient, ReplyIsHeard, ReplyIsRead, RequestIsSettled};
 ghost use Rattle.keep_lanes.specs.declared.stage.Stage.TheVariants.{Connecting};
 
@@ -70,6 +69,8 @@ impl<L: Line> Lane<L> {
 
     /// Goes as far as it can at this moment: writes what is left of the request, and reads what has come of the reply. It gives
     /// what came of the request, or `None` where it waits on. `room` is what each read is offered.
+    ///
+    /// The only error is out of memory: what was written by then is not written again.
     pub(crate) fn go_on(
         &mut self,
         alloc: Global,
@@ -79,13 +80,12 @@ impl<L: Line> Lane<L> {
         requires room { 0 < length room.old }
         ensures room { length room.new ≡ length room.old }
         ensures allowance { self.new.course.allowance ≡ self.old.course.allowance }
-        ensures written { IfOk result (λ _. FrontIsWritten self.old.unsent.items self.new.unsent.items (L.written self.old.line) (L.written self.new.line)) }
-        ensures front { OnErr result (AppendsFront (L.written self.old.line) (L.written self.new.line) self.old.unsent.items) }
+        ensures written { FrontIsWritten self.old.unsent.items self.new.unsent.items (L.written self.old.line) (L.written self.new.line) }
         ensures heard { IfOk result (λ answer. ReplyIsHeard self.old.course.arriving answer self.new.course.arriving (L.remaining self.old.line) (L.remaining self.new.line)) }
         ensures settled { IfOk result (λ answer. RequestIsSettled self.new.course.allowance now self.new.course.stage self.new.unsent.items answer) }
     {
         if !self.unsent.is_empty() {
-            if let Err(loss) = self.write_on(alloc, now)? {
+            if let Err(loss) = self.write_on(now) {
                 return Ok(Some(Err(loss)));
             }
             if !self.unsent.is_empty() {
@@ -95,26 +95,25 @@ impl<L: Line> Lane<L> {
         read_on(alloc, &mut self.line, &mut self.course, room, now)
     }
 
-    /// Writes what is left of the request, as far as it is taken.
-    fn write_on(&mut self, alloc: Global, now: u64) -> Result<Result<(), Loss>, AllocError>
+    /// Writes what is left of the request, as far as it is taken. It takes no memory: what was written is never written again.
+    fn write_on(&mut self, now: u64) -> Result<(), Loss>
         requires unsent { 0 < length self.old.unsent.items }
         ensures allowance { self.new.course.allowance ≡ self.old.course.allowance }
         ensures arriving { self.new.course.arriving ≡ self.old.course.arriving }
-        ensures written { IfOk result (λ _. FrontIsWritten self.old.unsent.items self.new.unsent.items (L.written self.old.line) (L.written self.new.line)) }
-        ensures front { OnErr result (AppendsFront (L.written self.old.line) (L.written self.new.line) self.old.unsent.items) }
+        ensures written { FrontIsWritten self.old.unsent.items self.new.unsent.items (L.written self.old.line) (L.written self.new.line) }
         ensures remaining { Keeps (L.remaining self.old.line) (L.remaining self.new.line) }
-        ensures patient { IfOk result (λ sent. IsPatient self.new.course.allowance now self.new.course.stage self.new.unsent.items sent) }
+        ensures patient { IsPatient self.new.course.allowance now self.new.course.stage self.new.unsent.items result }
     {
         let written = write(&mut self.line, &self.unsent);
-        self.unsent = Vec::from_slice(alloc, &self.unsent[written.taken..])?;
+        self.unsent.drain(..written.taken);
         self.course.stage = self.course.stage.wrote(written.taken, self.unsent.len());
         if self.unsent.is_empty() {
-            return Ok(Ok(()));
+            return Ok(());
         }
         if written.has_failed {
-            return Ok(Err(self.course.stage.failed()));
+            return Err(self.course.stage.failed());
         }
-        Ok(self.course.stage.waits(&self.course.allowance, now))
+        self.course.stage.waits(&self.course.allowance, now)
     }
 }
 

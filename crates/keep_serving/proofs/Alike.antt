@@ -38,7 +38,7 @@ use Rattle.keep_serving.specs.Held.{Held, ServingSide, serving_side}
 use Rattle.keep_serving.specs.Stages.{AnswerIsTaken, AnswersAreTaken}
 use Rattle.keep_serving.specs.Words.{HandsBy, SaysBy, TurnFollowsWords, Words, WordsHandIn}
 use Rattle.keep_serving.specs.declared.change.Change.{Change}
-use Rattle.keep_serving.specs.declared.change.Change.TheVariants.{Need, Begin, Serve, Kept}
+use Rattle.keep_serving.specs.declared.change.Change.TheVariants.{Need, Begin, Known, Serve, Kept}
 use Rattle.keep_serving.proofs.OneWay.{not_both}
 
 -- ---- the agent
@@ -173,6 +173,7 @@ change_alike : (c : Change) (is_made : Bool) (h k : Held) (l m : Lanes) (a b : S
 change_alike c false h k l m a b keep alike one two = same_held h k a.held b.held (ap (λ (x : ServingSide). x.held) one.1) (ap (λ (x : ServingSide). x.held) two.1) alike
 change_alike (Need i until) true h k l m a b keep alike one two = event_alike (events.Need i until) h k l m a b (λ wants. wants) alike one two
 change_alike Begin true h k l m a b keep alike one two = event_alike events.Begin h k l m a b (λ wants. wants) alike one two
+change_alike (Known i end renewable) true h k l m a b keep alike one two = event_alike (events.Known i end renewable) h k l m a b (λ wants. wants) alike one two
 change_alike (Serve s) true h k l m a b keep alike one two = absurd keep
 change_alike Kept true h k l m a b keep alike one two = same_held h k a.held b.held (ap (λ (x : ServingSide). x.held) one) (ap (λ (x : ServingSide). x.held) two) alike
 

@@ -9,7 +9,7 @@ use Rattle.keep_agent.proofs.Left.{turn_entries}
 use Rattle.keep_asking.specs.InStep.{IsAbreast, entries_answered, entries_out, times}
 use Rattle.keep_asking.specs.Sending.{Lanes}
 use Rattle.keep_asking.proofs.Changed.{change_law}
-use Rattle.keep_asking.proofs.Sound.{IsQuiet, turn_begin, turn_need}
+use Rattle.keep_asking.proofs.Sound.{IsQuiet, turn_begin, turn_known, turn_need}
 use Rattle.keep_inventory.specs.Inventories.{Inventory}
 use Rattle.keep_lanes.specs.Out as lanes
 use Rattle.keep_lanes.specs.Out.{renamed}
@@ -25,7 +25,7 @@ use Rattle.watch_machine.proofs.Changing.{out_length}
 use Rattle.keep_serving.specs.Changes.{AllGiven, ChangeIsMade, InventoryIsServed, MadeChange, OneIsMade, ServesInventory}
 use Rattle.keep_serving.specs.Held.{Held, IsInStep, ServingSide, entries_unsent, serving_side}
 use Rattle.keep_serving.specs.declared.change.Change.{Change}
-use Rattle.keep_serving.specs.declared.change.Change.TheVariants.{Need, Begin, Serve, Kept}
+use Rattle.keep_serving.specs.declared.change.Change.TheVariants.{Need, Begin, Known, Serve, Kept}
 use Rattle.keep_serving.proofs.InStep.{still_named}
 
 -- ---- an inventory
@@ -151,6 +151,10 @@ made_one width (Need i until) true old new h step =
 made_one width Begin true old new h step =
     subst (λ (s : ServingSide). IsInStep width s.lanes.out s.held) (sym h.rest)
     (turned_in_step width old.lanes.out events.Begin old.held new.held.agent (λ output turn. turn_begin old.held.agent.machine new.held.agent.machine output turn.machine step.sound) h.result h.turn step)
+made_one width (Known i end renewable) true old new h step =
+    subst (λ (s : ServingSide). IsInStep width s.lanes.out s.held) (sym h.rest)
+    (turned_in_step width old.lanes.out (events.Known i end renewable) old.held new.held.agent
+    (λ output turn. turn_known old.held.agent.machine new.held.agent.machine i end renewable output turn.machine step.sound) h.result h.turn step)
 made_one width (Serve s) true old new h step = serves_in_step width s old new h step
 made_one width Kept true old new h step = subst (λ (s : ServingSide). IsInStep width s.lanes.out s.held) (sym h) step
 

@@ -32,7 +32,7 @@ use Rattle.keep_serving.specs.Laws.{OneWayLaw}
 use Rattle.keep_serving.specs.Stages.{AnswerIsTaken, AnswersAreTaken}
 use Rattle.keep_serving.specs.Words.{AllFollow, HandsBy, SaysBy, TurnFollowsWords, Words, WordsHandIn}
 use Rattle.keep_serving.specs.declared.change.Change.{Change}
-use Rattle.keep_serving.specs.declared.change.Change.TheVariants.{Need, Begin, Serve, Kept}
+use Rattle.keep_serving.specs.declared.change.Change.TheVariants.{Need, Begin, Known, Serve, Kept}
 
 -- ---- the agent
 
@@ -137,6 +137,7 @@ change_same : (c : Change) (is_made : Bool) (h : Held) (l k : Lanes) (a b : Serv
 change_same c false h l k a b one two = ap (λ (x : ServingSide). x.held) two.1 ∙ sym (ap (λ (x : ServingSide). x.held) one.1)
 change_same (Need i until) true h l k a b one two = event_same (events.Need i until) h l k a b (λ wants. wants) one two
 change_same Begin true h l k a b one two = event_same events.Begin h l k a b (λ wants. wants) one two
+change_same (Known i end renewable) true h l k a b one two = event_same (events.Known i end renewable) h l k a b (λ wants. wants) one two
 change_same (Serve s) true h l k a b one two = serving_same s h l k a b one two
 change_same Kept true h l k a b one two = ap (λ (x : ServingSide). x.held) two ∙ sym (ap (λ (x : ServingSide). x.held) one)
 

@@ -22,7 +22,7 @@ use Rattle.keep_serving.specs.Turns as turns
 use Rattle.keep_serving.specs.Turns.{IsServingTurn, TurnHears}
 use Rattle.keep_serving.specs.Happenings.{HappeningsOf, nothing, one_and_then, happening_of_answer, handed, happenings_in, happenings_of, happenings_of_answers, happenings_of_change, happenings_of_hearing, happenings_of_one, happenings_of_readings, happenings_of_serving, happenings_of_stages, happenings_of_taking}
 use Rattle.keep_serving.specs.declared.change.Change.{Change}
-use Rattle.keep_serving.specs.declared.change.Change.TheVariants.{Need, Begin, Serve, Kept}
+use Rattle.keep_serving.specs.declared.change.Change.TheVariants.{Need, Begin, Known, Serve, Kept}
 use Rattle.keep_serving.proofs.InStep.{said_machine}
 
 pub nowhere : (old new : WatchState) → new ≡ old → Lead old [] new
@@ -112,6 +112,7 @@ pub by_change : (c : Change) (is_made : Bool) (old new : ServingSide) (h : Chang
 by_change c false old new h = nowhere old.held.agent.machine new.held.agent.machine (ap (λ (s : ServingSide). s.held.agent.machine) h.1)
 by_change (Need i until) true old new h = by_event (events.Need i until) old.held.agent new.held.agent h.result h.turn
 by_change Begin true old new h = by_event events.Begin old.held.agent new.held.agent h.result h.turn
+by_change (Known i end renewable) true old new h = by_event (events.Known i end renewable) old.held.agent new.held.agent h.result h.turn
 by_change (Serve s) true old new h = by_serving s old new h
 by_change Kept true old new h = nowhere old.held.agent.machine new.held.agent.machine (ap (λ (s : ServingSide). s.held.agent.machine) h)
 

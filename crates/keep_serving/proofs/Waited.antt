@@ -14,7 +14,7 @@ use Rattle.keep_serving.specs.Held.{IsInStep, ServingSide}
 use Rattle.keep_serving.specs.Neighbours.{AllCalled, Give, GoOn, NeighbourCall, Settle}
 use Rattle.keep_serving.specs.code.Pauses.{IsEnded, IsPausedApart}
 use Rattle.keep_serving.specs.declared.change.Change.{Change}
-use Rattle.keep_serving.specs.declared.change.Change.TheVariants.{Need, Begin, Serve, Kept}
+use Rattle.keep_serving.specs.declared.change.Change.TheVariants.{Need, Begin, Known, Serve, Kept}
 use Rattle.keep_serving.proofs.Called.{called_join, called_twice}
 use Rattle.keep_serving.proofs.Changed.{given_join, made_keeps}
 use Rattle.keep_serving.proofs.Turned.{given_none}
@@ -47,6 +47,7 @@ still : (change : Change) (is_made : Bool) (old new : ServingSide) → ChangeIsM
 still change false old new made on = made.1
 still (Need i until) true old new made on = absurd (let e : false ≡ true = on in cc)
 still Begin true old new made on = absurd (let e : false ≡ true = on in cc)
+still (Known i end renewable) true old new made on = absurd (let e : false ≡ true = on in cc)
 still (Serve s) true old new made on = absurd (let e : false ≡ true = on in cc)
 still Kept true old new made on = made
 
@@ -84,11 +85,20 @@ ended_changed does until is_busy r (Need i end) true old new g h a b c d before 
     record { ending = Changed r is_busy (Need i end); read = refl; is = (before, (refl, made)); gives = given; calls = called_for_one does is_busy (Need i end) true a b c d went gave settled }
 ended_changed does until is_busy r Begin true old new g h a b c d before made on went gave settled given =
     record { ending = Changed r is_busy Begin; read = refl; is = (before, (refl, made)); gives = given; calls = called_for_one does is_busy Begin true a b c d went gave settled }
+ended_changed does until is_busy r (Known i end renewable) true old new g h a b c d before made on went gave settled given =
+    record {
+      ending = Changed r is_busy (Known i end renewable);
+      read = refl;
+      is = (before, (refl, made));
+      gives = given;
+      calls = called_for_one does is_busy (Known i end renewable) true a b c d went gave settled;
+    }
 ended_changed does until is_busy r (Serve s) true old new g h a b c d before made on went gave settled given =
     record { ending = Changed r is_busy (Serve s); read = refl; is = (before, (refl, made)); gives = given; calls = called_for_one does is_busy (Serve s) true a b c d went gave settled }
 ended_changed does until is_busy r Kept true old new g h a b c d before made on went gave settled given = absurd (let e : false ≡ true = on in cc)
 ended_changed does until is_busy r (Need i end) false old new g h a b c d before made on went gave settled given = absurd (let e : false ≡ true = on in cc)
 ended_changed does until is_busy r Begin false old new g h a b c d before made on went gave settled given = absurd (let e : false ≡ true = on in cc)
+ended_changed does until is_busy r (Known i end renewable) false old new g h a b c d before made on went gave settled given = absurd (let e : false ≡ true = on in cc)
 ended_changed does until is_busy r (Serve s) false old new g h a b c d before made on went gave settled given = absurd (let e : false ≡ true = on in cc)
 ended_changed does until is_busy r Kept false old new g h a b c d before made on went gave settled given = absurd (let e : false ≡ true = on in cc)
 

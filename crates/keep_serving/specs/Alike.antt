@@ -14,7 +14,7 @@ use Rattle.keep_serving.specs.Held.{Held, ServingSide, serving_side}
 use Rattle.keep_serving.specs.Stages.{AnswersAreTaken}
 use Rattle.keep_serving.specs.Words.{AllFollow, HandsBy, TurnFollowsWords, Words}
 use Rattle.keep_serving.specs.declared.change.Change.{Change}
-use Rattle.keep_serving.specs.declared.change.Change.TheVariants.{Need, Begin, Serve, Kept}
+use Rattle.keep_serving.specs.declared.change.Change.TheVariants.{Need, Begin, Known, Serve, Kept}
 
 -- ---- what is alike
 
@@ -38,6 +38,7 @@ pub record AreHeldAlike (h k : Held) : Type 0 where
 abbrev pub KeepsInventory : Change → Type 0
 KeepsInventory (Need i until) = Unit {0}
 KeepsInventory Begin = Unit {0}
+KeepsInventory (Known i end renewable) = Unit {0}
 KeepsInventory (Serve s) = ⊥
 KeepsInventory Kept = Unit {0}
 

@@ -14,7 +14,7 @@ use Rattle.keep_serving.specs.Changes.{MadeChange, MakesChange, given_by, is_one
 use Rattle.keep_serving.specs.Held.{ServingSide}
 use Rattle.keep_serving.specs.Neighbours.{GoOn, NeighbourCall, calls_for_change}
 use Rattle.keep_serving.specs.declared.change.Change.{Change}
-use Rattle.keep_serving.specs.declared.change.Change.TheVariants.{Need, Begin, Serve, Kept}
+use Rattle.keep_serving.specs.declared.change.Change.TheVariants.{Need, Begin, Known, Serve, Kept}
 
 -- ---- whether it may
 
@@ -49,6 +49,7 @@ pub record Pause : Type 0 where
 abbrev pub is_change_kept : Change → Bool
 is_change_kept (Need i until) = false
 is_change_kept Begin = false
+is_change_kept (Known i end renewable) = false
 is_change_kept (Serve s) = false
 is_change_kept Kept = true
 

@@ -12,7 +12,7 @@ use Rattle.watch_machine.specs.declared.event.Event.TheVariants as events
 use Rattle.watch_machine.specs.declared.fault.WatchFault.{WatchFault}
 use Rattle.keep_serving.specs.Held.{ServingSide}
 use Rattle.keep_serving.specs.declared.change.Change.{Change}
-use Rattle.keep_serving.specs.declared.change.Change.TheVariants.{Need, Begin, Serve, Kept}
+use Rattle.keep_serving.specs.declared.change.Change.TheVariants.{Need, Begin, Known, Serve, Kept}
 
 -- the agent takes an event of its own; one of no entry leaves it as it was
 pub record AgentIsTurned (event : Event) (old new : ServingSide) : Type 0 where
@@ -37,6 +37,7 @@ ServesInventory s old new = ((s ≡ old.held.agent.inventory) × (new ≡ old)) 
 abbrev pub MakesChange : Change → ServingSide → ServingSide → Type 0
 MakesChange (Need i until) old new = AgentIsTurned (events.Need i until) old new
 MakesChange Begin old new = AgentIsTurned events.Begin old new
+MakesChange (Known i end renewable) old new = AgentIsTurned (events.Known i end renewable) old new
 MakesChange (Serve s) old new = ServesInventory s old new
 MakesChange Kept old new = new ≡ old
 
@@ -49,6 +50,7 @@ pub record MadeChange : Type 0 where
 abbrev pub WantsMemory : Change → ServingSide → Type 0
 WantsMemory (Need i until) old = ⊥
 WantsMemory Begin old = ⊥
+WantsMemory (Known i end renewable) old = ⊥
 WantsMemory (Serve s) old = s ≢ old.held.agent.inventory
 WantsMemory Kept old = ⊥
 

@@ -1,6 +1,6 @@
--- Happenings: what happens to the Watch in turns of the loop. The readings, each answer that is handed in, and each need and beginning
--- that is taken, are handed in as the event that they say; where another inventory is served, its forest is watched from then on. Nothing
--- else happens to it.
+-- Happenings: what happens to the Watch in turns of the loop. The readings, each answer that is handed in, and each need, beginning and
+-- known end that is taken, are handed in as the event that they say; where another inventory is served, its forest is watched from then
+-- on. Nothing else happens to it.
 -- Source: this project's own.
 use Rattle.std.proofs.Common.{inl, inr}
 use Rattle.std.specs.Prelude.{ℕ, Bool, true, false, List, [], ◌∷◌, ◌++◌, Option, Some, None, Result, Ok}
@@ -22,7 +22,7 @@ use Rattle.keep_serving.specs.Runs.{AreTurns}
 use Rattle.keep_serving.specs.Stages.{AnswerIsTaken, AnswersAreTaken, AnswersCome, Commands, HandsInAnswers, LeftOverGoesFirst, OnHeld, SendsRequests, TakesAnswers, TakesReadings, TakesUp, Then}
 use Rattle.keep_serving.specs.Turns.{IsServingTurn, ServingTurn, TurnHears}
 use Rattle.keep_serving.specs.declared.change.Change.{Change}
-use Rattle.keep_serving.specs.declared.change.Change.TheVariants.{Need, Begin, Serve, Kept}
+use Rattle.keep_serving.specs.declared.change.Change.TheVariants.{Need, Begin, Known, Serve, Kept}
 
 -- the event was handed in, and this came of it
 abbrev pub handed : Event → Result Output WatchFault → Agent → Happening
@@ -86,6 +86,7 @@ abbrev pub happenings_of_change : (c : Change) (is_made : Bool) (old new : Servi
 happenings_of_change c false old new h = []
 happenings_of_change (Need i until) true old new h = handed (events.Need i until) h.result new.held.agent ∷ []
 happenings_of_change Begin true old new h = handed events.Begin h.result new.held.agent ∷ []
+happenings_of_change (Known i end renewable) true old new h = handed (events.Known i end renewable) h.result new.held.agent ∷ []
 happenings_of_change (Serve s) true old new h = happenings_of_serving s old new h
 happenings_of_change Kept true old new h = []
 

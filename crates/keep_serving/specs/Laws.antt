@@ -17,9 +17,9 @@ use Rattle.keep_serving.specs.Words.{AllAreWordsOf, AllFollow, Suffices, Words}
 abbrev pub Lead : WatchState → List Happening → WatchState → Type 0
 Lead old happenings new = AllHappen old happenings × (state_after_all old happenings ≡ new)
 
--- in turns the Watch was handed what the readings, the answers, the needs and the beginnings say, and watched the forest of each other
--- inventory that was served, in their order, and nothing else was done to it: so each law of all that may happen holds of what happened in
--- these very turns, whatever the neighbours do
+-- in turns the Watch was handed what the readings, the answers, the needs, the beginnings and the known ends say, and watched the forest of
+-- each other inventory that was served, in their order, and nothing else was done to it: so each law of all that may happen holds of what
+-- happened in these very turns, whatever the neighbours do
 abbrev pub StretchLaw : Type 0
 StretchLaw = (port : ℕ) (old new : ServingSide) (turns : List ServingTurn) (are : AreTurns port old turns new) → Lead old.held.agent.machine (happenings_of port old turns new are) new.held.agent.machine
 

@@ -10,11 +10,14 @@ use Rattle.keep_serving.specs.declared.neighbours.Happened.TheVariants as happen
 
 -- ---- one call
 
--- what they may hear of: an answer that was handed in, the time that was, which needs are short then, and that memory was wanting
+-- what they may hear of: an answer that was handed in, the time that was, which needs are short then, an end that was looked up and handed
+-- in, that the agent steps in for another, and that memory was wanting
 pub data Thing : Type 0 where
   Answer : Thing
   Time : Thing
   Needs : Thing
+  End : Thing
+  Step : Thing
   Want : Thing
 
 -- where memory is wanting to say which needs are short, that is heard
@@ -22,6 +25,8 @@ abbrev pub thing_of : Happened → Thing
 thing_of (happened.Clocked notes requests next) = Time
 thing_of (happened.Shorts shorts) = Needs
 thing_of (happened.Answered entry operation said notes) = Answer
+thing_of (happened.Ahead entry end) = End
+thing_of (happened.StepsIn requests) = Step
 thing_of happened.Refused = Needs
 thing_of happened.Wanting = Want
 

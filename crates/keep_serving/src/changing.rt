@@ -56,6 +56,21 @@ impl Serving {
                 self.take(alloc, Event::Begin);
                 true
             }
+            Change::Known {
+                entry,
+                end,
+                renewable,
+            } => {
+                self.take(
+                    alloc,
+                    Event::Known {
+                        entry,
+                        end,
+                        renewable,
+                    },
+                );
+                true
+            }
             Change::Serve(inventory) => self.serve(alloc, lanes, inventory),
             Change::Kept => true,
         }

@@ -4,8 +4,8 @@ ghost use Rattle.keep_serving.specs.Laws.{CallsLaw, OneWayLaw, StretchLaw, TurnW
 ghost use Rattle.keep_serving.specs.RunOfWatch.{ResumedLaw, ServingLaw};
 
 /// The law that any turns lead the Watch from the one state to the other: whatever the neighbours do, it was handed what the readings, the
-/// answers, the needs and the beginnings say, and watched each other inventory that was served, in their order, and nothing else was done
-/// to it. `happenings_of` has each of these, with what it gave.
+/// answers, the needs, the beginnings and the known ends say, and watched each other inventory that was served, in their order, and nothing
+/// else was done to it. `happenings_of` has each of these, with what it gave.
 pub fn a_stretch_is_a_run()
     ensures { StretchLaw }
 {}

@@ -36,4 +36,5 @@ pub use laws::{
     secrets_change_no_turn,
 };
 pub use neighbours::{Happened, Neighbours};
+pub use sending::moment_of;
 pub use serving::Serving;

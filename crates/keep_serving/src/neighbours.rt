@@ -32,6 +32,14 @@ pub enum Happened<'a> {
         said: Said,
         notes: &'a Notes,
     },
+    /// An end of an entry was handed in that was looked up before its time, for an agent that stands behind another: it is this, in seconds
+    /// of the clock that never steps.
+    Ahead {
+        entry: u32,
+        end: u64,
+    },
+    /// An agent that stands behind another asks this: it renews what the one in front has left undone.
+    StepsIn(&'a [Request]),
     /// Memory was refused for a look at which needs are past what their entries reach.
     Refused,
     /// Memory was wanting to send a request, or to take or hand in an answer, or to hand in the time. The next turn goes on with what

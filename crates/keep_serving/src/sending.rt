@@ -51,7 +51,7 @@ impl Serving {
 }
 
 /// The moment that a wall clock shows at so many milliseconds; after the last one, that.
-pub(crate) fn moment_of(wall: u64) -> Moment
+pub fn moment_of(wall: u64) -> Moment
     ensures { result ≡ second_of_wall wall }
 {
     Moment::new((wall / 1000).min(LAST)).unwrap()

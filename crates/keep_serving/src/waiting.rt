@@ -128,7 +128,7 @@ fn is_kept(change: &Change) -> bool
     ensures { result ≡ is_change_kept change.now }
 {
     match change {
-        Change::Need { .. } | Change::Begin | Change::Serve(_) => false,
+        Change::Need { .. } | Change::Begin | Change::Known { .. } | Change::Serve(_) => false,
         Change::Kept => true,
     }
 }
@@ -136,7 +136,7 @@ fn is_kept(change: &Change) -> bool
 /// Whether another inventory is to be served.
 fn is_served(change: &Change) -> bool {
     match change {
-        Change::Need { .. } | Change::Begin | Change::Kept => false,
+        Change::Need { .. } | Change::Begin | Change::Known { .. } | Change::Kept => false,
         Change::Serve(_) => true,
     }
 }

@@ -8,6 +8,10 @@ use Rattle.sha2.specs.Sha256.{sha256}
 abbrev pub number_of : List ℕ → ℕ
 number_of name = from_be_bytes w64 (take 8 (sha256 name))
 
--- that number, of all such numbers, as a part of the seconds from 0 to the spread
+-- a number, of all such numbers, as a part of the seconds from 0 to the spread
+abbrev pub part_by : ℕ → ℕ → ℕ
+part_by number spread = (number * suc spread) / 2 ^ 64
+
+-- that of a name's number
 abbrev pub part_of_spread : List ℕ → ℕ → ℕ
-part_of_spread name spread = (number_of name * suc spread) / 2 ^ 64
+part_of_spread name spread = part_by (number_of name) spread

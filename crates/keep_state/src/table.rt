@@ -1,4 +1,4 @@
-ghost use Rattle.std.specs.Prelude.{◌≡◌, ◌++◌, Err, IfOk, MatchResult, Ok, OnOk, option_copied, option_map, string_bytes};
+ghost use Rattle.std.specs.Prelude.{◌≡◌, ◌++◌, ◌∷◌, [], Err, IfOk, MatchResult, Ok, OnOk, codes, decimal, option_copied, option_map, string_bytes};
 ghost use Rattle.std.specs.List.{list_all};
 ghost use Rattle.std.specs.BTreeMap.{keys as map_keys};
 ghost use Rattle.toml.specs.Data.{get_member};
@@ -160,12 +160,19 @@ fn beside(
 fn push_most(alloc: Global, system_max: Option<Span>, text: &mut Vec<u8>) -> Result<(), AllocError>
     ensures { OnOk result (text.new.items ≡ text.old.items ++ most_text system_max) }
 {
-    let Some(most) = system_max else {
-        return Ok(());
-    };
+    match system_max {
+        None => Ok(()),
+        Some(most) => push_system_max(alloc, u64::from(most), text),
+    }
+}
+
+fn push_system_max(alloc: Global, most: u64, text: &mut Vec<u8>) -> Result<(), AllocError>
+    ensures { OnOk result (text.new.items ≡ text.old.items ++ (codes "system_max = " ++ (decimal most ++ 10 ∷ []))) }
+{
     text.extend_from_slice(b"system_max = ")?;
-    push_number(alloc, u64::from(most), text)?;
-    text.push(b'\n')
+    push_number(alloc, most, text)?;
+    text.push(b'\n')?;
+    Ok(())
 }
 
 // Appends a token of that name, where there is one.
@@ -182,7 +189,8 @@ fn push_over(over: Option<&[u8]>, text: &mut Vec<u8>) -> Result<(), AllocError>
     text.push(b'\'')?;
     text.push(b'\n')?;
     text.extend_from_slice(b"secret = '-'")?;
-    text.push(b'\n')
+    text.push(b'\n')?;
+    Ok(())
 }
 
 // The place of the entry, after the token over it.

@@ -4,6 +4,7 @@ ghost use Rattle.std.specs.Prelude.{◌≡◌, []};
 
 use crate::apart::{millis_of, serve_by, shown_of, wait_of};
 use keep_answering::{Control, Onlookers};
+use keep_behind::{Behind, Lookout};
 use keep_clients::{Door, Talk};
 use keep_clock::{Clock, Reading};
 use keep_disk::Disk;
@@ -39,12 +40,14 @@ struct First {
     known: Vec<Event>,
 }
 
-/// Serves what is served from the start on, with these neighbours, unless memory was wanting for them. The only error is lack of memory.
+/// Serves what is served from the start on, with these neighbours, unless memory was wanting for them, and with who looks ahead where the
+/// agent stands behind another. The only error is lack of memory.
 pub fn serve_with<K, T, D, E, S, C, L>(
     alloc: Global,
     now: Reading,
     start: Start<K>,
     ready: Result<Ready<T, D, E>, AllocError>,
+    lookout: Option<Lookout<L>>,
     log: S,
     clock: &mut C,
     lanes: &mut L,
@@ -56,7 +59,7 @@ where
     E: Disk + Drop,
     S: LogSink + Drop,
     C: Clock,
-    L: Lanes,
+    L: Lanes + Drop,
     requires free { L.out lanes.old ≡ [] }
 {
     let Ready {
@@ -87,7 +90,7 @@ where
         next: None,
         ends,
     };
-    let mut neighbours = EarlyDay::new(house, millis_of(part));
+    let mut neighbours = EarlyDay::new(Behind::new(house, lookout), millis_of(part));
     serve_on(alloc, inventories, &first, clock, lanes, &mut neighbours)
 }
 
@@ -98,7 +101,7 @@ fn serve_on<K, T, D, E, S, C, L>(
     first: &First,
     clock: &mut C,
     lanes: &mut L,
-    neighbours: &mut EarlyDay<House<S, T, D, K, E>>,
+    neighbours: &mut EarlyDay<Behind<House<S, T, D, K, E>, L>>,
 ) -> Result<(), AllocError>
 where
     K: Keeping,
@@ -115,12 +118,12 @@ where
         again,
         named,
     } = inventories;
-    neighbours.others.read = named;
+    neighbours.others.others.read = named;
     let Ok(serving) = Serving::resume(alloc, served, lanes, &first.known) else {
         return Err(AllocError);
     };
     let shown = shown_of(alloc, again, lanes, &first.known);
-    let desk = &mut neighbours.others.desk;
+    let desk = &mut neighbours.others.others.desk;
     let wait = wait_of(alloc, &serving, shown, first.now, first.part, desk);
     serve_by(alloc, wait, serving, clock, lanes, neighbours);
     Ok(())

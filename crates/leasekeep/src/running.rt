@@ -4,6 +4,7 @@ ghost use Rattle.leasekeep.specs.Ends.{EndsServe};
 
 use crate::house::{Ready, serve_with};
 use keep_answering::{Control, Onlookers};
+use keep_behind::Lookout;
 use keep_clients::{SocketDoor, SocketTalk};
 use keep_clock::{Clock as _, Reading, SystemClock};
 use keep_command::SystemFiles;
@@ -17,7 +18,7 @@ use keep_proving::Proving;
 use leasekeep_commands::{Room, Served, Socket};
 use serve_start::{
     CLIENTS, Folder, Guests, ONLOOKERS, Start, SystemLedger, SystemSecrets, desk_of, folder_of,
-    make_start, open_door, places_for, take_over, warn_of_disks,
+    make_start, open_door, places_for, say_behind, take_over, warn_of_disks,
 };
 use std::alloc::{AllocError, Global};
 use std::fs::File;
@@ -29,6 +30,9 @@ type SystemStart<'a, R> = Start<SystemLedger<'a, R, SocketLanes<'a, R>>>;
 
 /// What a house of the system is made of.
 type SystemReady<'a, R> = Ready<SocketTalk, SocketDoor, SystemDisk<'a, R>>;
+
+/// Who looks ahead for an agent of the system.
+type SystemLookout<'a, R> = Lookout<SocketLanes<'a, R>>;
 
 /// Serves what the words ask, as it is demanded: the exit of the agent, once it was told why it does not start. Its clock and its lanes
 /// are made before it reads what it serves, which is so large that few steps hold it.
@@ -87,9 +91,15 @@ where
     requires free { ⟦<SocketLanes<'a, R> as Lanes>⟧.out lanes.old ≡ [] }
     ensures { EndsServe result (⟦<E as Watched>⟧.change errors.old errors.new) }
 {
+    let Ok(lookout) = lookout_of(rt, served, clock, demands.behind) else {
+        return Stop::Memory.report(PROGRAM, errors);
+    };
     let folder = state_folder(rt.alloc(), served);
     match make_start(rt, served.file, folder.as_ref(), demands, errors) {
-        Ok(start) => ended(run_from(rt, served, start, log, clock, lanes), errors),
+        Ok(start) => ended(
+            run_from(rt, served, start, lookout, log, clock, lanes),
+            errors,
+        ),
         Err(exit) => exit,
     }
 }
@@ -124,6 +134,7 @@ fn run_from<'a, 'b, R>(
     rt: &'a R,
     served: &Served<'a>,
     start: SystemStart<'a, R>,
+    lookout: Option<SystemLookout<'b, R>>,
     log: StandardOutput,
     clock: &mut SystemClock<'b, R>,
     lanes: &mut SocketLanes<'b, R>,
@@ -138,7 +149,27 @@ where
         elapsed: 0,
     });
     let ready = make_ready(rt, served, clock, now, &mut start);
-    serve_with(rt.alloc(), now, start, ready, log, clock, lanes)
+    serve_from(rt, now, start, ready, lookout, log, clock, lanes)
+}
+
+/// The same of what the system has, by any clock and over any lanes.
+fn serve_from<'a, R, C, L>(
+    rt: &'a R,
+    now: Reading,
+    start: SystemStart<'a, R>,
+    ready: Result<SystemReady<'a, R>, AllocError>,
+    lookout: Option<Lookout<L>>,
+    log: StandardOutput,
+    clock: &mut C,
+    lanes: &mut L,
+) -> Result<(), AllocError>
+where
+    R: Files<File = File> + AllocGlobal + Net + Clock,
+    C: keep_clock::Clock,
+    L: Lanes + Drop,
+    requires free { L.out lanes.old ≡ [] }
+{
+    serve_with(rt.alloc(), now, start, ready, lookout, log, clock, lanes)
 }
 
 /// Gives the ledger of a start lanes of its own, opens the log and the doors, and takes over the ends that a file keeps. The only error is lack of
@@ -162,8 +193,13 @@ where
     let mut desk = desk_of(alloc, served.form, count, now, &start.said)?;
     let inventory = &start.inventories.served;
     let (ends, known) = take_over(rt, path, inventory, now, &mut desk)?;
+    let is_behind = start.behind.is_some();
+    if is_behind {
+        say_behind(alloc, &mut desk, now, inventory.forest().margin());
+    }
     let width = width_of(served);
-    let places = places_for(alloc, &mut SystemFiles::new(rt), width, now, &mut desk);
+    let mut files = SystemFiles::new(rt);
+    let places = places_for(alloc, &mut files, width, is_behind, now, &mut desk);
     let clients = door_of(rt, clock, now, served.control, CLIENTS, &mut desk);
     let onlookers = door_of(rt, clock, now, served.listen, ONLOOKERS, &mut desk);
     Ok(Ready {
@@ -173,6 +209,24 @@ where
         control: clients.map(|door| Control::new(alloc, door, places.clients)),
         onlookers: onlookers.map(|door| Onlookers::new(alloc, door, places.onlookers)),
     })
+}
+
+/// Who looks ahead, over as many lanes as requests may be out at once, for an agent behind another whose name has that number. The only error
+/// is lack of memory.
+fn lookout_of<'a, R>(
+    rt: &'a R,
+    served: &Served<'a>,
+    clock: &SystemClock<'_, R>,
+    behind: Option<u64>,
+) -> Result<Option<SystemLookout<'a, R>>, AllocError>
+where
+    R: Files<File = File> + AllocGlobal + Net + Clock,
+{
+    let Some(number) = behind else {
+        return Ok(None);
+    };
+    let lanes = lanes_of(rt, served, clock, width_of(served))?;
+    Ok(Some(Lookout::new(rt.alloc(), number, lanes)))
 }
 
 /// The door of these guests, where a socket is asked for.

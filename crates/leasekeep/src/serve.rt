@@ -7,9 +7,10 @@ use keep_device::{Sink, Watched};
 use keep_engine::{Exit, PROGRAM, Stop};
 use keep_house::Demands;
 use keep_log::StandardOutput;
+use keep_spread::part_by;
 use keep_tree::MARGIN_MAX;
 use leasekeep_commands::Served;
-use serve_start::earlier_by;
+use serve_start::own_number;
 use std::alloc::AllocError;
 use std::fs::File;
 use std::io::Stdout;
@@ -26,27 +27,28 @@ where
 {
     // Before any file is opened, which would else take the number of a standard output that is closed.
     let log = StandardOutput::new(rt, output);
-    let Ok(earlier) = earlier_of(rt, served) else {
+    let Ok(number) = number_of(rt, served) else {
         return Stop::Memory.report(PROGRAM, errors);
     };
-    run(rt, served, demands_of(served, earlier), log, errors)
+    run(rt, served, demands_of(served, number), log, errors)
 }
 
-/// What is demanded of an inventory that is served.
-fn demands_of(served: &Served<'_>, earlier: u32) -> Demands {
+/// What is demanded of an inventory that is served by an agent whose name has that number.
+fn demands_of(served: &Served<'_>, number: u64) -> Demands {
+    let spread = served.spread.min(u64::from(MARGIN_MAX)) as u32;
     Demands {
         timeout: served.patience.min(60) as u32,
         names_are_secrets: served.names_are_secrets,
-        earlier,
+        earlier: part_by(number, spread),
+        behind: if served.behind { Some(number) } else { None },
     }
 }
 
-/// The seconds by which this agent wakes up earlier. The only error is lack of memory.
-fn earlier_of<R: Files<File = File> + AllocGlobal>(
+/// The number of this agent's name. The only error is lack of memory.
+fn number_of<R: Files<File = File> + AllocGlobal>(
     rt: &R,
     served: &Served<'_>,
-) -> Result<u32, AllocError> {
-    let spread = served.spread.min(u64::from(MARGIN_MAX)) as u32;
+) -> Result<u64, AllocError> {
     let mut files = SystemFiles::new(rt);
-    earlier_by(rt.alloc(), &mut files, served.name, served.file, spread)
+    own_number(rt.alloc(), &mut files, served.name, served.file)
 }

@@ -82,6 +82,8 @@ pub struct Served<'a> {
     pub state: Option<&'a str>,
     /// The seconds over which agents are spread that would wake up together.
     pub spread: u64,
+    /// Whether it stands behind another agent.
+    pub behind: bool,
 }
 
 /// Where guests come in, and the word of the command line that says so.

@@ -259,20 +259,21 @@ Exit status: 0 the lines have ended, 1 inventory, 2 command line, 6 read, write 
 };
 
 /// `serve FILE PORT|SOCKET [--timeout SECONDS] [--width K] [--names-are-secrets] [--log text|json] [--state FOLDER]
-/// [--control SOCKET] [--listen PLACE] [--runtime FOLDER] [--spread SECONDS] [--name NAME]`
+/// [--control SOCKET] [--listen PLACE] [--runtime FOLDER] [--spread SECONDS] [--behind] [--name NAME]`
 const SERVE: Described = Described {
     name: "serve",
     about: "Keeps the entries alive against a broker, by itself: the agent, with its log on standard output",
     after: "\
 It reads the clocks, sleeps, looks the entries up and renews them until it is ended; SIGTERM, SIGINT
 and SIGHUP end it, and the entries then live until their ends. The inventory needs a margin of at
-least four times the time-out, and a `secret` for each token and a `lease_id` for each lease, or a
-file that holds it (`secret_file`, `lease_id_file`), which is read at the start, and with --state
-again whenever it changes. With --state an entry whose file holds none waits for it, and all others
-are kept; without it such a file is refused at the start.
+least four times the time-out (with --behind eight times), and a `secret` for each token and a
+`lease_id` for each lease, or a file that holds it (`secret_file`, `lease_id_file`), which is read
+at the start, and with --state again whenever it changes. With --state an entry whose file holds
+none waits for it, and all others are kept; without it such a file is refused at the start.
 
-Each event is one line on standard output, with its moment. The log never delays a renewal: up to
-1 MiB of lines wait for their reader, and whole lines after that are dropped and counted.
+Each event is one line on standard output, with its moment. The log delays no renewal unless it is a
+file: up to 1 MiB of lines wait for their reader, and whole lines after that are dropped and
+counted.
 
 With --control it takes commands (`leasekeep status`, `need` and so on), and with --listen it shows
 how it stands to onlookers. Neither can stop the agent or keep it waiting, but for the disk that a
@@ -339,7 +340,7 @@ Keeps the ends in this folder for a restart in the same boot, in the file
             name: "name",
             takes: Takes::Option("NAME", Value::Text),
             help: "\
-This agent's name, for --spread
+This agent's name, for --spread and --behind
 [default: the machine's name and the path FILE]",
         },
         Word {
@@ -348,6 +349,13 @@ This agent's name, for --spread
             help: "\
 Wakes up earlier by this agent's own part of so many seconds, 0 to 3600,
 so that agents are apart [default: 0]",
+        },
+        Word {
+            name: "behind",
+            takes: Takes::Flag,
+            help: "\
+Stands behind another agent that serves the same inventory: looks before
+it renews, and renews what the one in front has left undone",
         },
     ],
 };

@@ -201,6 +201,7 @@ fn served<'a>(matches: &ArgMatches<'a>) -> Result<Job<'a>, Unread> {
         name: matches.get_str("name"),
         state: matches.get_str("state"),
         spread: number_or(matches, "spread", 0).ok_or(Unread::Value)?,
+        behind: matches.get_flag("behind"),
     }))
 }
 

@@ -198,6 +198,7 @@ fn ledger_of<'a>(
             timeout,
             names_are_secrets: false,
             earlier: 0,
+            behind: None,
         },
         folder: "",
         inputs: drawer,

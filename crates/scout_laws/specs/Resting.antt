@@ -14,7 +14,7 @@ use Rattle.watch_machine.specs.State.{WatchState, track_at}
 use Rattle.watch_machine.specs.Wanted.{believed, is_wanted}
 use Rattle.watch_laws.specs.Absence.{is_clock, is_event_taken}
 use Rattle.watch_laws.specs.Outage.{IsBefore, IsGrant, IsIncident, IsLived, IsLivedChange, IsShortFor, IsShortOutage, Outage, granted_next, in_line, outage_next_after}
-use Rattle.watch_scout.specs.Behind.{margin_behind}
+use Rattle.keep_spread.specs.Behind.{margin_behind}
 use Rattle.watch_scout.specs.Hearing.{event_of}
 use Rattle.watch_scout.specs.State.{ScoutState}
 

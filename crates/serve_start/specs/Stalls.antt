@@ -44,4 +44,4 @@ module _ {I : Type 0} (calls : I → Option (List FileCall)) where
     pub mounts : Result (List ℕ) InputFault
     pub mid : I
     pub opened : Made (Opened (codes "/proc/self/mountinfo") MOST_MOUNTS mounts) (calls before) (calls mid)
-    pub then : WarnsBy mounts ends mid after old new
+    pub warns : WarnsBy mounts ends mid after old new

@@ -1,7 +1,7 @@
 //! The descriptors that the process may have open at once, and how many guests of the agent they leave room for. A client must not take
 //! the descriptor that a request needs: a renewal that cannot open its socket is a renewal that is not sent.
 ghost use Rattle.std.specs.Prelude.{◌≡◌, ℕ, ◌≤◌, ◌+◌};
-ghost use Rattle.serve_start.specs.Descriptors.{needed, places_within};
+ghost use Rattle.serve_start.specs.Descriptors.{needed, needed_ahead, places_within};
 
 use house_log::Desk;
 use keep_answering::{MOST_CLIENTS, MOST_ONLOOKERS};
@@ -26,21 +26,30 @@ pub struct Places {
 /// The descriptors that an agent with so many lanes needs, if one client and one onlooker are to be let in beside its requests: three for
 /// each lane, one for a request of the Watch, and two for the lookup of what a file holds, its own and one by which the wait is told of
 /// it; and 26 for all else, which are 13 that stay open, eight for the files of a change, some to spare, and those of the two guests.
-fn needed(width: u32) -> u64
+/// Behind another agent it looks ahead, over as many lanes besides.
+fn needed(width: u32, is_behind: bool) -> u64
     requires { width ≤ 32 }
-    ensures { result ≡ needed width }
+    ensures { result ≡ needed width is_behind }
 {
-    26 + 3 * u64::from(width)
+    26 + (3 * u64::from(width) + needed_ahead(width, is_behind))
+}
+
+/// What looking ahead needs: a descriptor for each lane, and one by which the wait is told of them.
+fn needed_ahead(width: u32, is_behind: bool) -> u64
+    ensures value { result ≡ needed_ahead width is_behind }
+    ensures most { result ≤ width + 1 }
+{
+    if is_behind { u64::from(width) + 1 } else { 0 }
 }
 
 /// How many guests an agent with so many lanes lets in where so many descriptors may be open at once: what it does not need itself goes to
 /// onlookers, a third of it, and to clients; one of each is always let in.
-pub fn places_within(limit: u64, width: u32) -> Places
+pub fn places_within(limit: u64, width: u32, is_behind: bool) -> Places
     requires { width ≤ 32 }
-    ensures places { result ≡ places_within limit width }
-    ensures fits { needed width ≤ limit → needed width + result.clients + result.onlookers ≤ limit + 2 }
+    ensures places { result ≡ places_within limit width is_behind }
+    ensures fits { needed width is_behind ≤ limit → needed width is_behind + result.clients + result.onlookers ≤ limit + 2 }
 {
-    let free = limit.saturating_sub(needed(width));
+    let free = limit.saturating_sub(needed(width, is_behind));
     let third = free / 3;
     Places {
         clients: 1 + (free - third).min(MOST_CLIENTS as u64 - 1) as usize,
@@ -54,17 +63,19 @@ pub fn places_for<I: Inputs>(
     alloc: Global,
     inputs: &mut I,
     width: u32,
+    is_behind: bool,
     now: Reading,
     desk: &mut Desk,
 ) -> Places
     requires { width ≤ 32 }
-    ensures { (limit : ℕ) × (result ≡ places_within limit width) }
+    ensures { (limit : ℕ) × (result ≡ places_within limit width is_behind) }
 {
     let limit = descriptor_limit(alloc, inputs).unwrap_or(u64::MAX);
-    if limit < needed(width) {
-        warn(alloc, now, limit, needed(width), desk);
+    let needed = needed(width, is_behind);
+    if limit < needed {
+        warn(alloc, now, limit, needed, desk);
     }
-    places_within(limit, width)
+    places_within(limit, width, is_behind)
 }
 
 /// Warns of too few descriptors, unless memory is wanting for the words.

@@ -183,6 +183,7 @@ fn begin_with<'a, D: Disk + Drop, I: Inputs + Drop, L: Lanes + Drop>(
     let inventories = filled(alloc, &mut ledger, &notes, &mut said)?;
     Ok(Start {
         part: demands.earlier,
+        behind: demands.behind,
         inventories,
         ledger: Some(ledger),
         is_good: fault.is_none(),

@@ -5,8 +5,8 @@
 //! (`specs/Refusals`). Of files and folders of the system, from which all the rest comes, nothing is known. Begin with `start`: `reading`
 //! has what is served of the file alone, `folder` what is served with a state folder, `found` and `modes` what is found there, and `unkept`
 //! what is served where that folder cannot be used. `secrets` are the files of credentials, `ends` the file that keeps the ends, `doors`
-//! the sockets of clients and onlookers, `descriptors` how many of them are let in, `spread` the part of a spread that is the agent's own,
-//! and `stalls` what is said of files for which the loop waits.
+//! the sockets of clients and onlookers, `descriptors` how many of them are let in, `spread` the number of the agent's own name, and
+//! `stalls` what is said of files for which the loop waits.
 #![tactic(auto)]
 
 mod descriptors;
@@ -29,8 +29,8 @@ pub use doors::{CLIENTS, Guests, ONLOOKERS, open_door};
 pub use ends::take_over;
 pub use folder::{Folder, folder_of};
 pub use reading::Inventories;
-pub use said::{About, Said, desk_of};
+pub use said::{About, Said, desk_of, say_behind};
 pub use secrets::SystemSecrets;
-pub use spread::earlier_by;
+pub use spread::own_number;
 pub use stalls::{MOST_MOUNTS, warn_of_disks};
 pub use start::{Start, SystemLedger, make_start};

@@ -42,6 +42,14 @@ pub struct Said {
     pub text: Text,
 }
 
+/// Says that the agent stands behind another, and with which margin, in seconds. Where memory is wanting it is not said.
+pub fn say_behind(alloc: Global, desk: &mut Desk, now: Reading, margin: u32) {
+    let Ok(text) = format!(in alloc; "{margin}") else {
+        return;
+    };
+    desk.hear_at_start(alloc, now, Level::Info, "behind", text.as_bytes());
+}
+
 /// Appends what is said.
 pub(crate) fn push(
     said: &mut Vec<Said>,

@@ -1,7 +1,7 @@
-//! The part of a spread that is the agent's own.
+//! The number of the agent's own name.
 use keep_device::InputFault;
 use keep_files::Inputs;
-use keep_spread::part_of;
+use keep_spread::number_of;
 use std::alloc::{AllocError, Global};
 
 /// Where Linux tells the machine's name.
@@ -10,18 +10,17 @@ const HOST_NAME: &str = "/proc/sys/kernel/hostname";
 /// The bytes of a machine's name at most, with its line feed.
 const MOST_HOST_NAME: usize = 256;
 
-/// The seconds by which this agent wakes up earlier: the part of a spread that falls to its name. Without one, that is the machine's
-/// name and the path of its inventory, with a colon between them. The only error is out of memory.
-pub fn earlier_by<I: Inputs>(
+/// The number of this agent's name, by which it has its part of a spread, and its margin behind another. Without a name, that is the
+/// machine's name and the path of its inventory, with a colon between them. The only error is out of memory.
+pub fn own_number<I: Inputs>(
     alloc: Global,
     inputs: &mut I,
     name: Option<&str>,
     file: &str,
-    spread: u32,
-) -> Result<u32, AllocError> {
+) -> Result<u64, AllocError> {
     match name {
-        Some(name) => Ok(part_of(name.as_bytes(), spread)),
-        None => Ok(part_of(&own_name(alloc, inputs, file)?, spread)),
+        Some(name) => Ok(number_of(name.as_bytes())),
+        None => Ok(number_of(&own_name(alloc, inputs, file)?)),
     }
 }
 

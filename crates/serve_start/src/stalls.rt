@@ -26,7 +26,7 @@ pub fn warn_of_disks<I: SecretFiles>(
     ends: Option<&str>,
     said: &mut Vec<Said>,
 ) -> Result<(), AllocError>
-    ensures { OnOk result (WarnsOfDisks I.calls (option_map (λ folder. folder.now) ends) files.old files.new said.old.items said.new.items) }
+    ensures { OnOk result (WarnsOfDisks I.calls (option_map (λ folder. folder.now) ends.entry) files.old files.new said.old.items said.new.items) }
 {
     match files.open(alloc, MOUNTS, MOST_MOUNTS) {
         Ok(mounts) => warn_by(alloc, mounts.list(), files, ends, said),
@@ -42,7 +42,7 @@ fn warn_by<I: SecretFiles>(
     ends: Option<&str>,
     said: &mut Vec<Said>,
 ) -> Result<(), AllocError>
-    ensures { OnOk result (WarnsBy I.calls (Ok mounts.now) (option_map (λ folder. folder.now) ends) files.old files.new said.old.items said.new.items) }
+    ensures { OnOk result (WarnsBy I.calls (Ok mounts.now) (option_map (λ folder. folder.now) ends.entry) files.old files.new said.old.items said.new.items) }
 {
     let output = files.stamp(OUTPUT);
     warn_of_log(alloc, mounts, output, said)?;
@@ -57,7 +57,7 @@ fn warn_of_ends<I: SecretFiles>(
     ends: Option<&str>,
     said: &mut Vec<Said>,
 ) -> Result<(), AllocError>
-    ensures { OnOk result (WarnsOfEnds I.calls mounts.now (option_map (λ folder. folder.now) ends) files.old files.new said.old.items said.new.items) }
+    ensures { OnOk result (WarnsOfEnds I.calls mounts.now (option_map (λ folder. folder.now) ends.entry) files.old files.new said.old.items said.new.items) }
 {
     let Some(folder) = ends else {
         return Ok(());

@@ -21,6 +21,8 @@ use std::rt::Files;
 pub struct Start<K> {
     /// This agent's part of a spread, in seconds.
     pub part: u32,
+    /// Where the agent stands behind another, the number of its name.
+    pub behind: Option<u64>,
     pub inventories: Inventories,
     /// What keeps the changes that clients give, where there is a state folder.
     pub ledger: Option<K>,
@@ -157,6 +159,7 @@ where
 fn start_of<K>(demands: Demands, inventories: Inventories, said: Vec<Said>) -> Start<K> {
     Start {
         part: demands.earlier,
+        behind: demands.behind,
         inventories,
         ledger: None,
         is_good: true,

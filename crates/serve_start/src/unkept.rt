@@ -121,5 +121,5 @@ fn inventories_of(alloc: Global, demands: Demands, book: &Book) -> Result<Invent
 }
 
 fn inventory_of(alloc: Global, demands: Demands, book: &Book) -> Result<Inventory, AllocError> {
-    wide(alloc, demands.earlier, book.text(), book.inventory(alloc)?)
+    wide(alloc, demands, book.text(), book.inventory(alloc)?)
 }

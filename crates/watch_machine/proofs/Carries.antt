@@ -99,22 +99,23 @@ module _ (es : List Entry) (xs : List Track) (new old : Clocks) (i : ℕ) (on : 
 abbrev next_over : ℕ → (ℕ → List ℕ) → Option ℕ → List ℕ
 next_over i f o = i ∷ elim o [ None ↦ [] | Some p ↦ f p ]
 
-module _ (es fs : List Entry) (count : length fs ≡ length es) (parents : (i : ℕ) → (entry_at fs i).parent ≡ (entry_at es i).parent) (needs : (i : ℕ) → (entry_at fs i).need ≡ (entry_at es i).need) where
+module _ (es fs : List Entry) (parents : (i : ℕ) → (entry_at fs i).parent ≡ (entry_at es i).parent) where
   chain_alike : (n i : ℕ) → chain_of n fs i ≡ chain_of n es i
   unfolding chain_of
   chain_alike zero i = refl
   chain_alike (suc n) i = ap₂ (next_over i) (fun_ext (chain_alike n)) (parents i)
 
-  over_alike : (a f : ℕ) → is_over fs a f ≡ is_over es a f
+  pub over_alike : (a f : ℕ) → is_over fs a f ≡ is_over es a f
   unfolding is_over chain
   over_alike a f = ap (list_any (λ b. b == a)) (chain_alike (suc f) f)
 
+module _ (es fs : List Entry) (count : length fs ≡ length es) (parents : (i : ℕ) → (entry_at fs i).parent ≡ (entry_at es i).parent) (needs : (i : ℕ) → (entry_at fs i).need ≡ (entry_at es i).need) where
   carried_alike : (s i n : ℕ) → carried_of fs s i n ≡ carried_of es s i n
   unfolding carried_of
   carried_alike s i zero = refl
   carried_alike s i (suc n) =
       ap (λ m. if is_over fs i n && nat_lt s (entry_at fs n).need then max m (entry_at fs n).need else m) (carried_alike s i n)
-      ∙ ap (λ b. if b && nat_lt s (entry_at fs n).need then max (carried_of es s i n) (entry_at fs n).need else carried_of es s i n) (over_alike i n)
+      ∙ ap (λ b. if b && nat_lt s (entry_at fs n).need then max (carried_of es s i n) (entry_at fs n).need else carried_of es s i n) (over_alike es fs parents i n)
       ∙ ap (λ need. if is_over es i n && nat_lt s need then max (carried_of es s i n) need else carried_of es s i n) (needs n)
 
   pub carries_alike : (s i : ℕ) → carried fs s i ≡ carried es s i

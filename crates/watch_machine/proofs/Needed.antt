@@ -1,6 +1,6 @@
 -- Needed: what entries would carry with no limit at all is what a view carries in which their needs are written so; and what counts for each is
 -- found. For `Needs` and `need_of`.
-use Rattle.std.proofs.Common.{◌≡◌, ◌∙◌, ℕ, ◌+◌, ◌<◌, ◌≤◌, Bool, true, false, if◌then◌else◌, List, Option, Some, None, length, map, set, refl, sym, ap, ap₂, subst, arith, inl, inr}
+use Rattle.std.proofs.Common.{◌≡◌, ◌∙◌, ℕ, ◌+◌, ◌<◌, ◌≤◌, ◌&&◌, Bool, true, false, if◌then◌else◌, List, Option, Some, None, length, map, max, nat_lt, set, refl, sym, ap, ap₂, subst, arith, inl, inr}
 use Rattle.std.proofs.lemmas.Bool.{cases_eq, cases_lt, cond-false}
 use Rattle.std.proofs.lemmas.List.{get_or_past}
 use Rattle.std.proofs.lemmas.List.Folds.{list_any_at}
@@ -8,19 +8,20 @@ use Rattle.std.proofs.lemmas.List.FromFn.{get_or-map-range_with_len, length-map-
 use Rattle.std.specs.List.{list_any, range_with_len}
 use Rattle.keep_needs.specs.Carried.{CarriedNeed, IsCarried, load_at}
 use Rattle.keep_tree.specs.declared.entry.Entry.{Entry}
-use Rattle.keep_tree.specs.Carried.{carried}
+use Rattle.keep_tree.specs.Carried.{carried, carried_of}
 use Rattle.keep_tree.specs.Forest.{Forest, entry_at, no_entry}
+use Rattle.keep_tree.specs.Over.{is_over}
 use Rattle.keep_tree.proofs.Entries.{entry_at_past, entry_at_set_other, entry_at_set_same}
 use Rattle.watch_machine.specs.declared.clocks.Clocks.{Clocks}
 use Rattle.watch_machine.specs.declared.track.Track.{Track}
 use Rattle.watch_machine.specs.Clocks.{sec}
 use Rattle.watch_machine.specs.State.{has_last_try, no_track, track_in}
-use Rattle.watch_machine.specs.Wanted.{cut_need, free_entry, free_need, need_here, need_of, view}
+use Rattle.watch_machine.specs.Wanted.{cut_need, free_entry, free_need, need_here, need_of, seen_entry, view}
 use Rattle.watch_machine.specs.code.View.{HasNeeds, IsFree, IsView, Loads, Sees, last_by, need_by}
-use Rattle.watch_machine.proofs.Carries.{carries_alike}
+use Rattle.watch_machine.proofs.Carries.{carries_alike, over_alike}
 use Rattle.watch_machine.proofs.Cases.{not_both}
 use Rattle.watch_machine.proofs.Seeing.{has_cut}
-use Rattle.watch_machine.proofs.View.{at_shape}
+use Rattle.watch_machine.proofs.View.{at_shape, carried_more}
 
 -- one need more that is written
 pub need_written :
@@ -101,3 +102,53 @@ sees_all v g xs c cut free loads beside seen carries is_free made = subst (Sees 
   cut = carries;
   needs = counts g.entries xs c cut free beside is_free (has_cut v g xs c cut seen carries);
 })
+
+-- the entries by what counts of each: its need cut to no limit, or to its own
+abbrev pub counted_entry : List Entry → List Track → Clocks → Bool → ℕ → Entry
+counted_entry es xs c free i = if free then free_entry es c i else seen_entry es xs c i
+
+abbrev pub counted : List Entry → List Track → Clocks → Bool → List Entry
+counted es xs c free = map (counted_entry es xs c free) (range_with_len 0 (length es))
+
+pub counted_need : (es : List Entry) (xs : List Track) (c : Clocks) (free : Bool) (i : ℕ) → (counted_entry es xs c free i).need ≡ (if free then (free_entry es c i).need else (seen_entry es xs c i).need)
+counted_need es xs c true i = refl
+counted_need es xs c false i = refl
+
+module _ (es : List Entry) (xs : List Track) (c : Clocks) (free : Bool) where
+  same_parent : (b : Bool) (k : ℕ) → (counted_entry es xs c b k).parent ≡ (entry_at es k).parent
+  unfolding seen_entry
+  same_parent true k = refl
+  same_parent false k = refl
+
+  counted_count : length (counted es xs c free) ≡ length es
+  counted_count = length-map-range_with_len (counted_entry es xs c free) 0 (length es)
+
+  counted_at : (k : ℕ) → k < length es → entry_at (counted es xs c free) k ≡ counted_entry es xs c free k
+  unfolding entry_at
+  counted_at k within = get_or-map-range_with_len (counted_entry es xs c free) 0 (length es) k k no_entry within (omega arith)
+
+  counted_parent : (k : ℕ) → (entry_at (counted es xs c free) k).parent ≡ (entry_at es k).parent
+  counted_parent k = elim (cases_lt k (length es)) [
+    | inl within ↦ ap (λ (e : Entry). e.parent) (counted_at k within) ∙ same_parent free k
+    | inr past ↦
+        let many = counted_count in
+        ap (λ (e : Entry). e.parent) (entry_at_past (counted es xs c free) k (omega (arith, past, many)) ∙ sym (entry_at_past es k past))
+  ]
+
+  -- one entry more that one may be over
+  pub counted_more :
+      (s i n most need : ℕ) (over : Bool) → n < length es → most ≡ carried_of (counted es xs c free) s i n → over ≡ is_over es i n → need ≡ (counted_entry es xs c free n).need →
+      (if over && nat_lt s need then max most need else most) ≡ carried_of (counted es xs c free) s i (n + 1)
+  counted_more s i n most need over within so_far is needs =
+      carried_more (counted es xs c free) s i n most need over so_far (is ∙ sym (over_alike es (counted es xs c free) counted_parent i n))
+      (needs ∙ sym (ap (λ (e : Entry). e.need) (counted_at n within)))
+
+  counted_by : (b : Bool) (i : ℕ) → carried (counted es xs c b) (sec c.at) i ≡ (if b then free_need es c i else cut_need es xs c i)
+  unfolding free_need cut_need
+  counted_by true i = refl
+  counted_by false i = refl
+
+  -- what is carried of all of them is what counts
+  pub counted_all : (i : ℕ) → free ≡ has_last_try (track_in xs i) → carried_of (counted es xs c free) (sec c.at) i (length es) ≡ need_of es xs c i
+  unfolding need_of carried
+  counted_all i last = ap (carried_of (counted es xs c free) (sec c.at) i) (sym counted_count) ∙ counted_by free i ∙ ap (λ b. if b then free_need es c i else cut_need es xs c i) last

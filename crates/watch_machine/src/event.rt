@@ -77,8 +77,8 @@ pub enum Event {
     },
     /// Everything is to be looked up anew.
     Begin,
-    /// An end in whole seconds of the clock that never steps, as an earlier watch of the same boot told it. Where it is past a lookup is
-    /// owed.
+    /// An end in whole seconds of the clock that never steps, as an earlier watch of the same boot or a lookup beside this one told it.
+    /// Where it is past a lookup is owed.
     Known {
         entry: u32,
         end: u64,

@@ -247,23 +247,16 @@ impl Watch {
     }
 
     /// Whether an entry is wanted and its time has come. Where it has not, no other entry is looked at.
-    fn is_called_for(&mut self, entry: u32) -> bool
-        requires { entry < length self.old.forest.entries }
-        ensures unchanged { self.new ≡ self.old }
-        ensures value { result ≡ is_called_for self.old entry }
+    fn is_called_for(&self, entry: u32) -> bool
+        requires { entry < length self.now.forest.entries }
+        ensures { result ≡ is_called_for self.now entry }
     {
         let now = second(self.clocks.at);
         let track = self.track(entry);
         if !has_come(self.forest.margin(), self.forest.get(entry), track, now) {
             return false;
         }
-        let need = need_of(
-            &mut self.view,
-            &self.forest,
-            &self.tracks,
-            self.clocks,
-            entry,
-        );
+        let need = need_of(&self.forest, &self.tracks, self.clocks, entry);
         wants(track, need)
     }
 }

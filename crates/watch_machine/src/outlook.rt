@@ -1,7 +1,7 @@
 //! What a watch says of itself between two events.
-ghost use Rattle.std.specs.Prelude.{◌≡◌, ◌<◌, IfErr, IfOk, is_some, length};
+ghost use Rattle.std.specs.Prelude.{◌≡◌, ◌<◌, ◌≤◌, IfErr, IfOk, is_some, length};
 ghost use Rattle.keep_tree.specs.declared.forest.TheConstants.{END_MAX};
-ghost use Rattle.watch_machine.specs.Outlook.{IsNextTime, broker_moment, is_timed, is_timed_at};
+ghost use Rattle.watch_machine.specs.Outlook.{IsNextTime, broker_moment, is_timed, is_timed_at, time_of};
 ghost use Rattle.watch_machine.specs.State.{track_at};
 ghost use Rattle.watch_machine.specs.Wanted.{is_wanted};
 ghost use Rattle.watch_machine.specs.code.Lull.{shown_by};
@@ -13,7 +13,7 @@ use crate::clocks::Clocks;
 use crate::fault::WatchFault;
 use crate::margins::time;
 use crate::needs::{Needs, needs_of};
-use crate::reading::second;
+use crate::reading::{Seconds, second};
 use crate::track::{End, Track};
 use crate::wanted::{is_alive, need_of, wants};
 use crate::watch::Watch;
@@ -102,19 +102,25 @@ impl Watch {
         self.track(index).end
     }
 
-    /// Whether an entry is to be led further.
-    pub fn is_wanted(&mut self, index: u32) -> bool
-        requires { index < length self.old.forest.entries }
-        ensures value { result ≡ is_wanted self.old index }
-        ensures unchanged { self.new ≡ self.old }
+    /// The second from which on an entry is asked, by its own margin, for its last try by half of that; 0 where its end is unknown.
+    pub fn time_of(&self, index: u32) -> Seconds
+        requires { index < length self.now.forest.entries }
+        ensures value { result ≡ time_of self.now index }
+        ensures within { result ≤ END_MAX }
     {
-        let need = need_of(
-            &mut self.view,
-            &self.forest,
-            &self.tracks,
-            self.clocks,
-            index,
-        );
+        time(
+            self.forest.margin(),
+            self.forest.get(index),
+            self.track(index),
+        )
+    }
+
+    /// Whether an entry is to be led further. One pass over the entries.
+    pub fn is_wanted(&self, index: u32) -> bool
+        requires { index < length self.now.forest.entries }
+        ensures { result ≡ is_wanted self.now index }
+    {
+        let need = need_of(&self.forest, &self.tracks, self.clocks, index);
         wants(self.track(index), need)
     }
 

@@ -2,9 +2,8 @@ ghost use Rattle.std.specs.Prelude.{◌≡◌, ℕ, ◌<◌, ◌≤◌, ◌&&◌
 ghost use Rattle.watch_machine.specs.code.Bounds.{IsClocks, IsEnd, IsTrack};
 ghost use Rattle.std.specs.List.{All};
 ghost use Rattle.keep_tree.specs.declared.forest.TheConstants.{END_MAX};
-ghost use Rattle.keep_tree.specs.Carried.{carried};
 ghost use Rattle.keep_tree.specs.Forest.{entry_at};
-ghost use Rattle.watch_machine.specs.Wanted.{believed, is_alive, is_fixed, is_open, is_unknown, least_over, need_here, need_of, seen_entry, wants};
+ghost use Rattle.watch_machine.specs.Wanted.{believed, free_entry, is_alive, is_fixed, is_open, is_unknown, least_over, need_here, need_of, seen_entry, wants};
 ghost use Rattle.watch_machine.specs.Wanted as wanted;
 ghost use Rattle.watch_machine.specs.code.View.{IsView};
 
@@ -148,20 +147,6 @@ fn carry_more(most: u64, now: Moment, need: u64, is_over: bool) -> u64
     }
 }
 
-/// The greatest need after `now` of an entry that this one is over, 0 where there is none.
-#[tactic(auto, unfolding(keep_tree::specs::Carried::carried))]
-fn carried_need(view: &Forest, now: Moment, index: u32) -> u64
-    requires { index < length view.now.entries }
-    ensures { result ≡ carried view.now.entries now index }
-{
-    let mut most = 0;
-    for below in 0..view.len() {
-        let is_over = view.is_over(index, below);
-        most = carry_more(most, now, view.get(below).need, is_over);
-    }
-    most
-}
-
 /// Writes the need of every entry as it is on this clock, cut to no limit.
 pub(crate) fn write_free(view: &mut Forest, forest: &Forest, clocks: Clocks)
     requires view { IsView view.old forest.now }
@@ -175,29 +160,38 @@ pub(crate) fn write_free(view: &mut Forest, forest: &Forest, clocks: Clocks)
     }
 }
 
-/// The need that counts for an entry; for its last try no limit does. The view is written anew.
-pub(crate) fn need_of(
-    view: &mut Forest,
-    forest: &Forest,
-    tracks: &[Track],
-    clocks: Clocks,
-    index: u32,
-) -> u64
+/// The need of an entry on this clock, cut to no limit, or to its own.
+#[tactic(auto, unfolding(crate::specs::Wanted::seen_entry))]
+fn need_seen(forest: &Forest, tracks: &[Track], clocks: Clocks, is_free: bool, index: u32) -> u64
     requires within { index < length forest.now.entries }
     requires count { length tracks.now ≡ length forest.now.entries }
-    requires view { IsView view.old forest.now }
-    requires bounds { All IsTrack tracks.now }
     requires clocks { IsClocks clocks }
-    ensures value { result ≡ need_of forest.now.entries tracks.now clocks index }
-    ensures view { IsView view.new forest.now }
+    ensures { result ≡ (if is_free then (free_entry forest.now.entries clocks index).need else (seen_entry forest.now.entries tracks.now clocks index).need) }
+{
+    let need = clocks.need_here(forest.get(index).need);
+    if is_free {
+        need
+    } else {
+        need.min(limit(forest, tracks, index, END_MAX))
+    }
+}
+
+/// The need that counts for an entry; for its last try no limit does.
+pub(crate) fn need_of(forest: &Forest, tracks: &[Track], clocks: Clocks, index: u32) -> u64
+    requires within { index < length forest.now.entries }
+    requires count { length tracks.now ≡ length forest.now.entries }
+    requires clocks { IsClocks clocks }
+    ensures { result ≡ need_of forest.now.entries tracks.now clocks index }
 {
     let now = moment_at(second(clocks.at));
-    if has_last_try(tracks[index as usize]) {
-        write_free(view, forest, clocks);
-        return carried_need(view, now, index);
+    let is_free = has_last_try(tracks[index as usize]);
+    let mut most = 0;
+    for below in 0..forest.len() {
+        let is_over = forest.is_over(index, below);
+        let need = need_seen(forest, tracks, clocks, is_free, below);
+        most = carry_more(most, now, need, is_over);
     }
-    write_view(view, forest, tracks, clocks);
-    carried_need(view, now, index)
+    most
 }
 
 /// Whether an entry may be led further, and has to be, where that need counts for it.

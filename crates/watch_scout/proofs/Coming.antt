@@ -1,12 +1,13 @@
--- Coming: entries that come up one after another. For `look`.
-use Rattle.std.proofs.Common.{◌≡◌, ◌∙◌, ℕ, suc, ◌+◌, ◌-◌, ◌<◌, true, false, Some, length, refl, ap, arith, inl, inr}
+-- Coming: entries that come up one after another. For `look`, and for whoever holds a scout.
+use Rattle.std.proofs.Common.{◌≡◌, ◌∙◌, ℕ, zero, suc, ◌+◌, ◌-◌, ◌<◌, true, false, Option, Some, None, length, nat_lt, refl, ap, arith, inl, inr}
 use Rattle.std.proofs.lemmas.Bool.{and_from, cases_Bool, cond-false, cond-true}
 use Rattle.std.proofs.lemmas.List.{length-set}
 use Rattle.watch_machine.specs.State.{WatchState}
 use Rattle.watch_machine.specs.Wanted.{is_wanted}
 use Rattle.watch_machine.proofs.Cases.{if_both, not_both}
-use Rattle.watch_scout.specs.Looking.{Found, came_up, first_from, goes_out, had_look, is_at_hand, looked_up, passed_over}
-use Rattle.watch_scout.specs.State.{ScoutState}
+use Rattle.watch_scout.specs.Hearing.{freed, freed_where}
+use Rattle.watch_scout.specs.Looking.{Found, came_up, first_from, found, goes_out, had_look, is_at_hand, looked_up, passed_over}
+use Rattle.watch_scout.specs.State.{ScoutState, seen_at}
 
 -- there is one more to come
 one_left : (i n : ℕ) → i < n → n - i ≡ suc (n - suc i)
@@ -47,3 +48,23 @@ pub same_width : (s : ScoutState) (w : WatchState) (i : ℕ) → (came_up s w i)
 same_width s w i =
     if_both (λ (t : ScoutState). t.width ≡ s.width) (is_at_hand s w i) (had_look s w i) s
     (if_both (λ (t : ScoutState). t.width ≡ s.width) (is_wanted w i) (looked_up s w i) (passed_over s w i) refl refl) refl
+
+first_seen : (w : WatchState) (i n : ℕ) (s : ScoutState) → length (first_from w i n s).state.seen ≡ length s.seen
+first_seen w i zero s = refl
+first_seen w i (suc n) s =
+    let here : Found = record { entry = Some i; state = came_up s w i } in
+    if_both (λ (f : Found). length f.state.seen ≡ length s.seen) (goes_out s w i) here (first_from w (suc i) n (came_up s w i)) (all_seen s w i) (first_seen w (suc i) n (came_up s w i) ∙ all_seen s w i)
+
+pub found_seen : (s : ScoutState) (w : WatchState) (from : ℕ) → length (found s w from).state.seen ≡ length s.seen
+unfolding found
+found_seen s w from =
+    let none : Found = record { entry = None; state = s } in
+    if_both (λ (f : Found). length f.state.seen ≡ length s.seen) (nat_lt s.out s.width) (first_from w from (length w.forest.entries - from) s) none (first_seen w from (length w.forest.entries - from) s) refl
+
+freed_seen_where : (s : ScoutState) (i : ℕ) (since : Option ℕ) → length (freed_where s i since).seen ≡ length s.seen
+freed_seen_where s i None = refl
+freed_seen_where s i (Some since) = length-set s.seen i _
+
+pub freed_seen : (s : ScoutState) (i : ℕ) → length (freed s i).seen ≡ length s.seen
+unfolding freed
+freed_seen s i = freed_seen_where s i (seen_at s i).since

@@ -1,4 +1,3 @@
-pub mod Behind
 pub mod State
 pub mod Looking
 pub mod Hearing

@@ -3,7 +3,7 @@ ghost use Rattle.std.specs.Prelude.{◌≡◌, ◌<◌, length};
 ghost use Rattle.watch_scout.specs.Hearing.{end_told, event_by, event_of, freed, is_later, is_news};
 
 use crate::scout::{Scout, Seen};
-use crate::times::second;
+use crate::second::second;
 use keep_moment::Span;
 use watch_machine::{End, Event, Millis, Reply, Seconds, Watch};
 

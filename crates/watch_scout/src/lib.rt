@@ -2,17 +2,15 @@
 //! what it hears to the Watch; so it leaves to the agent in front what that one does. One pure value; it reads no clock and sends
 //! nothing.
 //!
-//! [`margin_behind`] is the margin of such an agent. [`Scout::look`] gives the lookups that are to go out at a clock, [`Scout::next`] the
-//! moment at which one is next due, and [`Scout::answer`] what the Watch is to be told of an answer.
+//! [`Scout::look`] gives the lookups that are to go out at a clock, [`Scout::next`] the moment at which one is next due, and
+//! [`Scout::answer`] what the Watch is to be told of an answer. The margin of such an agent is `keep_spread`'s `margin_behind`.
 //!
-//! Begin with `specs/Behind` and `specs/Looking`.
+//! Begin with `specs/Looking`.
 #![tactic(auto)]
 
-mod behind;
 mod hearing;
 mod looking;
 mod scout;
-mod times;
+mod second;
 
-pub use behind::margin_behind;
 pub use scout::{Scout, Seen};

@@ -1,10 +1,10 @@
 //! Which entries are looked up at a clock, and when the next look is due.
-ghost use Rattle.std.specs.Prelude.{◌≡◌, ◌<◌, ◌≤◌, ◌+◌, ◌-◌, length};
+ghost use Rattle.std.specs.Prelude.{◌≡◌, ◌<◌, ◌≤◌, ◌+◌, ◌-◌, IfSome, length};
 ghost use Rattle.watch_machine.specs.Wanted.{is_wanted};
 ghost use Rattle.watch_scout.specs.Looking.{awaits, came_up, first_from, found, goes_out, had_look, is_at_hand, is_for, is_new, known_end, lead, look_moment, next_look, next_moment};
 
 use crate::scout::{Scout, Seen};
-use crate::times::{second, time_of};
+use crate::second::second;
 use watch_machine::{End, Millis, Seconds, Watch};
 
 /// Whether an entry has had its look for that end.
@@ -61,7 +61,7 @@ impl Scout {
         requires { index < length watch.now.forest.entries }
         ensures { result ≡ look_moment self.now watch.now index }
     {
-        (time_of(watch, index) * 1000).saturating_sub(self.lead(watch))
+        (watch.time_of(index) * 1000).saturating_sub(self.lead(watch))
     }
 
     /// Whether an entry awaits its look: it has had none for its believed end, which is ahead, and nothing of it is out.
@@ -87,17 +87,16 @@ impl Scout {
         let at = watch.clocks().at;
         self.awaits(watch, index)
             && self.look_moment(watch, index) <= at
-            && second(at) < time_of(watch, index)
+            && second(at) < watch.time_of(index)
     }
 
     /// An entry has its look for the end that it has: its lookup goes out if it is wanted.
-    fn has_look(&mut self, watch: &mut Watch, index: u32) -> bool
-        requires within { index < length watch.old.forest.entries }
-        requires count { length self.old.seen ≡ length watch.old.forest.entries }
+    fn has_look(&mut self, watch: &Watch, index: u32) -> bool
+        requires within { index < length watch.now.forest.entries }
+        requires count { length self.old.seen ≡ length watch.now.forest.entries }
         requires free { self.old.out < self.old.width }
-        ensures wanted { result ≡ is_wanted watch.old index }
-        ensures state { self.new ≡ had_look self.old watch.old index }
-        ensures same { watch.new ≡ watch.old }
+        ensures wanted { result ≡ is_wanted watch.now index }
+        ensures state { self.new ≡ had_look self.old watch.now index }
     {
         let looked = known_end(watch.end_of(index));
         let is_wanted = watch.is_wanted(index);
@@ -114,13 +113,12 @@ impl Scout {
     }
 
     /// An entry comes up: its lookup goes out where it is at hand and wanted.
-    fn comes_up(&mut self, watch: &mut Watch, index: u32) -> bool
-        requires within { index < length watch.old.forest.entries }
-        requires count { length self.old.seen ≡ length watch.old.forest.entries }
+    fn comes_up(&mut self, watch: &Watch, index: u32) -> bool
+        requires within { index < length watch.now.forest.entries }
+        requires count { length self.old.seen ≡ length watch.now.forest.entries }
         requires free { self.old.out < self.old.width }
-        ensures goes { result ≡ goes_out self.old watch.old index }
-        ensures state { self.new ≡ came_up self.old watch.old index }
-        ensures same { watch.new ≡ watch.old }
+        ensures goes { result ≡ goes_out self.old watch.now index }
+        ensures state { self.new ≡ came_up self.old watch.now index }
     {
         if !self.is_at_hand(watch, index) {
             return false;
@@ -129,12 +127,12 @@ impl Scout {
     }
 
     /// Entries come up from the index `from` on, one after another, until a lookup goes out.
-    fn first_from(&mut self, watch: &mut Watch, from: u32) -> Option<u32>
-        requires count { length self.old.seen ≡ length watch.old.forest.entries }
+    fn first_from(&mut self, watch: &Watch, from: u32) -> Option<u32>
+        requires count { length self.old.seen ≡ length watch.now.forest.entries }
         requires free { self.old.out < self.old.width }
-        ensures entry { result ≡ (first_from watch.old from (length watch.old.forest.entries - from) self.old).entry }
-        ensures state { self.new ≡ (first_from watch.old from (length watch.old.forest.entries - from) self.old).state }
-        ensures same { watch.new ≡ watch.old }
+        ensures entry { result ≡ (first_from watch.now from (length watch.now.forest.entries - from) self.old).entry }
+        ensures state { self.new ≡ (first_from watch.now from (length watch.now.forest.entries - from) self.old).state }
+        ensures within { IfSome result (λ i. i < length watch.now.forest.entries) }
     {
         for index in from..watch.forest().len() {
             if self.comes_up(watch, index) {
@@ -150,11 +148,11 @@ impl Scout {
     /// To be asked behind each clock that the watch has taken: from 0 on, and again from behind each entry that is found. A lookup goes out
     /// in a lane of the scout's own.
     #[tactic(auto, unfolding(crate::specs::Looking::found))]
-    pub fn look(&mut self, watch: &mut Watch, from: u32) -> Option<u32>
-        requires count { length self.old.seen ≡ length watch.old.forest.entries }
-        ensures entry { result ≡ (found self.old watch.old from).entry }
-        ensures state { self.new ≡ (found self.old watch.old from).state }
-        ensures same { watch.new ≡ watch.old }
+    pub fn look(&mut self, watch: &Watch, from: u32) -> Option<u32>
+        requires count { length self.old.seen ≡ length watch.now.forest.entries }
+        ensures entry { result ≡ (found self.old watch.now from).entry }
+        ensures state { self.new ≡ (found self.old watch.now from).state }
+        ensures within { IfSome result (λ i. i < length watch.now.forest.entries) }
     {
         if self.out >= self.width {
             return None;

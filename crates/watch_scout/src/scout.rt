@@ -1,4 +1,4 @@
-ghost use Rattle.std.specs.Prelude.{◌≡◌, ◌<◌, IfOk, length};
+ghost use Rattle.std.specs.Prelude.{◌≡◌, ◌<◌, ◌==◌, IfOk, length};
 ghost use Rattle.watch_scout.specs.Looking.{with_seen};
 ghost use Rattle.watch_scout.specs.State.{opened_scout, seen_at, unseen};
 
@@ -58,6 +58,13 @@ impl Scout {
             seen,
             out: 0,
         })
+    }
+
+    /// Whether it was made beside a watch over as many entries.
+    pub fn is_beside(&self, forest: &Forest) -> bool
+        ensures { result ≡ (length self.now.seen == length forest.now.entries) }
+    {
+        self.seen.len() == forest.len() as usize
     }
 
     /// How many lookups are out.

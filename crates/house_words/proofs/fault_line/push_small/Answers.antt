@@ -1,10 +1,15 @@
--- The five pieces are appended one after another.
-use Rattle.std.proofs.Common.{codes, decimal}
-use Rattle.house_words.proofs.Pieces.{five_pieces}
+-- The seven pieces are appended one after another.
+use Rattle.std.proofs.Common.{◌∙◌, ap, codes, decimal, ◌++◌}
+use Rattle.house_words.specs.Refusing.{remedy_where}
+use Rattle.house_words.specs.Starts.{least_margin}
+use Rattle.house_words.proofs.Pieces.{seven_pieces}
 use Rattle.house_words.proofs.fault_line.push_small.Goals as goal
 
 pub returns : goal.returns
 returns c =
-    five_pieces c.extend_from_slice-3.new.self.items c.push_number-2.new.text.items c.extend_from_slice-2.new.self.items c.push_number.new.text.items c.extend_from_slice.new.self.items c.args.text.now.items
-    (codes "margin: is ") (decimal c.args.margin) (codes " seconds; write one of at least 4 times the time-out, ") (decimal c.args.least) (codes " seconds")
-    c.in_ok-extend_from_slice.ensures.items c.in_ok-push_number.ensures.appended c.in_ok-extend_from_slice-2.ensures.items c.in_ok-push_number-2.ensures.appended c.in_ok-extend_from_slice-3.ensures.items
+    seven_pieces c.extend_from_slice-5.new.self.items c.push_number-2.new.text.items c.extend_from_slice-4.new.self.items c.extend_from_slice-3.new.self.items c.extend_from_slice-2.new.self.items c.push_number.new.text.items
+    c.extend_from_slice.new.self.items c.args.text.now.items
+    (codes "margin: is ") (decimal c.args.margin) (codes " seconds; ") (remedy_where c.args.demands.behind) (codes ", ") (decimal (least_margin c.args.demands)) (codes " seconds")
+    c.in_ok-extend_from_slice.ensures.items c.in_ok-push_number.ensures.appended c.in_ok-extend_from_slice-2.ensures.items
+    (c.in_ok-extend_from_slice-3.ensures.items ∙ ap (λ l. c.extend_from_slice-2.new.self.items ++ l) c.remedy.ensures)
+    c.in_ok-extend_from_slice-4.ensures.items (c.in_ok-push_number-2.ensures.appended ∙ ap (λ n. c.extend_from_slice-4.new.self.items ++ decimal n) c.least_margin.ensures) c.in_ok-extend_from_slice-5.ensures.items

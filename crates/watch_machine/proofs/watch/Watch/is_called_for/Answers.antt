@@ -12,14 +12,14 @@ use Rattle.watch_machine.proofs.watch.Watch.is_called_for.Goals as goal
 come_same : (margin m now n : ℕ) (e d : Entry) (x y : Track) → margin ≡ m → e ≡ d → x ≡ y → now ≡ n → has_come margin e x now ≡ has_come m d y n
 come_same margin m now n e d x y margins entries tracks nows = cc
 
-pub returns-clause-value : goal.returns-clause-value
-returns-clause-value c =
+pub returns : goal.returns
+returns c =
     let w = c.self.inside in
     let n = c.args.self.now in
     let i = c.args.entry in
     let need = c.need_of-need.result in
     let needs : need ≡ wanted_need n i =
-    c.need_of-need.ensures.value ∙ ap (λ xs. need_of w.forest.entries xs w.clocks i) c.deref.ensures.value ∙ ap (λ (s : WatchState). wanted_need s i) c.self.view_is in
+    c.need_of-need.ensures ∙ ap (λ xs. need_of w.forest.entries xs w.clocks i) c.deref.ensures.value ∙ ap (λ (s : WatchState). wanted_need s i) c.self.view_is in
     let come : c.has_come.result ≡ has_come n.forest.margin (entry_of n i) (track_at n i) (second n) =
     c.has_come.ensures
     ∙ come_same _ _ _ _ _ _ _ _ (c.margin.ensures ∙ ap (λ (s : WatchState). s.forest.margin) c.self.view_is) (c.get.ensures.value ∙ ap (λ (s : WatchState). entry_of s i) c.self.view_is)

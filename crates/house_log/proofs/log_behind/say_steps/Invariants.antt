@@ -1,0 +1,10 @@
+-- Once the renewals to come are said, all of them are.
+use Rattle.std.proofs.Common.{drop}
+use Rattle.house_log.specs.LinesBehind.{steps_in_lines}
+use Rattle.house_log.specs.Lines.{AreSaid}
+use Rattle.house_log.specs.Rooms.{Rooms}
+use Rattle.house_log.proofs.log_behind.say_steps.Given as goal
+
+abbrev pub invariant-loop-request : goal.invariant-loop-request
+invariant-loop-request l = (last : Rooms) → AreSaid l.stamp.form l.stamp.moment (steps_in_lines l.names l.marks (drop l.request-index l.requests)) l.room last
+    → AreSaid l.stamp.form l.stamp.moment (steps_in_lines l.names l.marks l.requests) l.initial.room last

@@ -1,0 +1,110 @@
+//! What an agent says that stands behind another.
+ghost use Rattle.std.specs.Prelude.{◌≡◌};
+ghost use Rattle.house_log.specs.Lines.{AreSaid, LineIsSaid};
+ghost use Rattle.house_log.specs.LinesBehind.{ahead_line, is_renewal, steps_in_line, steps_in_lines, with_renewal, with_renewals, with_step};
+
+use crate::log_line::{Stamp, say_of, say_text};
+use crate::log_words::is_same;
+use crate::mark::{Mark, mark_at};
+use crate::rooms::Rooms;
+use keep_agent::Agent;
+use keep_lines::name_of;
+use keep_log::{Level, Word};
+use keep_tree::Forest;
+use std::alloc::Global;
+use watch_machine::{Operation, Request};
+
+/// Says that an entry was looked up, and how many seconds it has left.
+#[tactic(auto, unfolding(watch_machine::specs::Clocks::sec))]
+pub(crate) fn say_ahead(
+    alloc: Global,
+    stamp: &Stamp,
+    agent: &Agent,
+    entry: u32,
+    end: u64,
+    room: &mut Rooms,
+)
+    ensures { LineIsSaid stamp.now.form stamp.now.moment (ahead_line agent.now entry end) room.old room.new }
+{
+    let left = end.saturating_sub(agent.watch().clocks().at / 1000);
+    let name = name_of(agent.inventory().forest(), entry);
+    say_of(
+        alloc,
+        stamp,
+        Level::Info,
+        "ahead",
+        name,
+        Word::Number(left),
+        room,
+    );
+}
+
+/// Says for which entries the agent steps in, where that was not said.
+pub(crate) fn say_steps(
+    alloc: Global,
+    stamp: &Stamp,
+    names: &Forest,
+    requests: &[Request],
+    marks: &[Mark],
+    room: &mut Rooms,
+)
+    ensures { AreSaid stamp.now.form stamp.now.moment (steps_in_lines names.now marks.now requests.now) room.old room.new }
+{
+    for request in requests {
+        say_step(alloc, stamp, names, *request, marks, room);
+    }
+}
+
+// Says so of the entry of a request, where that is a renewal.
+#[tactic(auto, using(crate::proofs::Said::one_said))]
+fn say_step(
+    alloc: Global,
+    stamp: &Stamp,
+    names: &Forest,
+    request: Request,
+    marks: &[Mark],
+    room: &mut Rooms,
+)
+    ensures { AreSaid stamp.now.form stamp.now.moment (steps_in_line names.now marks.now request) room.old room.new }
+{
+    if is_renewal(request) && !mark_at(marks, request.entry).steps_in {
+        let name = name_of(names, request.entry);
+        say_text(alloc, stamp, Level::Warning, "steps-in", name, room);
+    }
+}
+
+fn is_renewal(request: Request) -> bool
+    ensures { result ≡ is_renewal request }
+{
+    is_same(request.operation, Operation::Renew)
+}
+
+/// Marks the entries of which that was said.
+pub(crate) fn mark_steps(requests: &[Request], marks: &mut [Mark])
+    ensures { marks.new ≡ with_renewals requests.now marks.old }
+{
+    for request in requests {
+        mark_step(*request, marks);
+    }
+}
+
+fn mark_step(request: Request, marks: &mut [Mark])
+    ensures { marks.new ≡ with_renewal request marks.old }
+{
+    if is_renewal(request) {
+        set_step(marks, request.entry, true);
+    }
+}
+
+/// Sets whether it was said of an entry, where there is a mark of it.
+pub(crate) fn set_step(marks: &mut [Mark], entry: u32, steps_in: bool)
+    ensures { marks.new ≡ with_step entry steps_in marks.old }
+{
+    let index = entry as usize;
+    if index < marks.len() {
+        marks[index] = Mark {
+            steps_in,
+            ..marks[index]
+        };
+    }
+}

@@ -1,0 +1,113 @@
+-- Behinds: neighbours, and one more, who looks entries up before their times for an agent that stands behind another.
+-- Source: this project's own.
+use Rattle.std.specs.Prelude.{◌≡◌, ◌⊎◌, ℕ, Bool, true, false, ◌&&◌, ◌||◌, if◌then◌else◌, List, Option, Some, None, is_some, option_map}
+use Rattle.std.specs.List.{list_any}
+use Rattle.keep_agent.specs.Agent.{Agent}
+use Rattle.keep_clock.specs.Rests.{rest_until, shorter}
+use Rattle.keep_clock.specs.declared.reading.Reading.{Reading}
+use Rattle.keep_serving.specs.Neighbours.{End, Give, GoOn, Hear, NeighbourCall, Rest, Settle, Step, thing_of}
+use Rattle.keep_serving.specs.declared.change.Change.{Change}
+use Rattle.keep_serving.specs.declared.change.Change.TheVariants as changes
+use Rattle.keep_serving.specs.declared.neighbours.Happened.{Happened}
+use Rattle.keep_serving.specs.declared.neighbours.Happened.TheVariants as happened
+use Rattle.watch_machine.specs.Refusal.{is_same}
+use Rattle.watch_machine.specs.declared.command.Request.{Request}
+use Rattle.watch_machine.specs.declared.event.Operation.TheVariants.{Renew}
+use Rattle.keep_behind.specs.Lookouts.{Ahead, GivesAhead, GoesAhead}
+use Rattle.keep_behind.specs.declared.behind.Behind.{Behind}
+use Rattle.keep_behind.specs.declared.behind.Giver.{Giver}
+use Rattle.keep_behind.specs.declared.behind.Giver.TheVariants.{Others, OthersServe, Lookout}
+
+-- ---- the lookout, where there is one
+
+abbrev pub OneGoesAhead : {L : Type 0} → Option (Ahead L) → Bool → Option (Ahead L) → Type 0
+OneGoesAhead None waits new = (waits ≡ false) × (new ≡ None)
+OneGoesAhead {L} (Some l) waits new = (m : Ahead L) × ((new ≡ Some m) × ((a : Agent) × ((r : Reading) × GoesAhead a r l waits m)))
+
+abbrev pub OneGives : {L : Type 0} → Option (Ahead L) → Option Change → Option (Ahead L) → Type 0
+OneGives None change new = (change ≡ None) × (new ≡ None)
+OneGives {L} (Some l) change new = (m : Ahead L) × ((new ≡ Some m) × ((a : Agent) × GivesAhead a l change m))
+
+-- until its lanes have to be looked at, or its next look is due
+abbrev pub rest_ahead : {L : Type 0} → (ℕ → ℕ → L → ℕ) → ℕ → Option (Ahead L) → Option ℕ
+rest_ahead due_by now None = None
+rest_ahead due_by now (Some l) = rest_until (Some (due_by now l.due l.own)) now
+
+-- beside another inventory it has no scout yet
+abbrev pub left_alone : {L : Type 0} → Ahead L → Ahead L
+left_alone l = record l { scout = None }
+
+abbrev pub beside_another : {L : Type 0} → Bool → Option (Ahead L) → Option (Ahead L)
+beside_another is_made l = if is_made then option_map left_alone l else l
+
+-- ---- what a call does
+
+-- whose a change is that the others give
+abbrev pub giver_of : Change → Giver
+giver_of (changes.Need i until) = Others
+giver_of changes.Begin = Others
+giver_of (changes.Known i end renewable) = Others
+giver_of (changes.Serve s) = OthersServe
+giver_of changes.Kept = Others
+
+-- and that the lookout gives
+abbrev pub giver_of_known : Change → Giver
+giver_of_known (changes.Need i until) = Others
+giver_of_known changes.Begin = Others
+giver_of_known (changes.Known i end renewable) = Lookout i end
+giver_of_known (changes.Serve s) = Others
+giver_of_known changes.Kept = Others
+
+abbrev pub giver_ahead : Option Change → Giver
+giver_ahead None = Others
+giver_ahead (Some change) = giver_of_known change
+
+-- the others give a change, or else the lookout may
+abbrev pub OthersGive : {N L : Type 0} → (NeighbourCall → N → N → Type 0) → Option Change → Behind N L → Behind N L → Type 0
+OthersGive does None old new = ⊥
+OthersGive does (Some change) old new = does (Give (Some change)) old.others new.others × ((new.lookout ≡ old.lookout) × (new.giver ≡ giver_of change))
+
+abbrev pub LookoutGives : {N L : Type 0} → (NeighbourCall → N → N → Type 0) → Option Change → Behind N L → Behind N L → Type 0
+LookoutGives does change old new = does (Give None) old.others new.others × (OneGives old.lookout change new.lookout × (new.giver ≡ giver_ahead change))
+
+-- the others hear only of their own changes whether they were made; an end that the lookout gave is one that they hear of
+abbrev pub SettlesBy : {N L : Type 0} → (NeighbourCall → N → N → Type 0) → Giver → Bool → Behind N L → Behind N L → Type 0
+SettlesBy does Others is_made old new = does (Settle is_made) old.others new.others × (new.lookout ≡ old.lookout)
+SettlesBy does OthersServe is_made old new = does (Settle is_made) old.others new.others × (new.lookout ≡ beside_another is_made old.lookout)
+SettlesBy does (Lookout i end) is_made old new = does (Hear End) old.others new.others × (new.lookout ≡ old.lookout)
+
+-- they hear that the agent steps in, where it does
+abbrev pub renews : List Request → Bool
+renews requests = list_any (λ (r : Request). is_same r.operation Renew) requests
+
+abbrev pub StepsBy : {N : Type 0} → (NeighbourCall → N → N → Type 0) → Bool → N → N → Type 0
+StepsBy does true old new = does (Hear Step) old new
+StepsBy does false old new = new ≡ old
+
+-- the requests that go out, where the time was handed in
+abbrev pub requests_at : Happened → Option (List Request)
+requests_at (happened.Clocked notes requests next) = Some requests.now
+requests_at (happened.Shorts shorts) = None
+requests_at (happened.Answered entry operation said notes) = None
+requests_at (happened.Ahead entry end) = None
+requests_at (happened.StepsIn requests) = None
+requests_at happened.Refused = None
+requests_at happened.Wanting = None
+
+abbrev pub renews_by : Option (List Request) → Bool
+renews_by None = false
+renews_by (Some requests) = renews requests
+
+pub record HearsBy {N L : Type 0} (does : NeighbourCall → N → N → Type 0) (is_behind : Bool) (h : Happened) (old new : Behind N L) : Type 0 where
+  pub others : N
+  pub hears : does (Hear (thing_of h)) old.others others
+  pub steps : StepsBy does (renews_by (requests_at h) && is_behind) others new.others
+  pub rest : new ≡ record old { others = new.others }
+
+abbrev pub PassesBehind : {N L : Type 0} → (ℕ → ℕ → L → ℕ) → (NeighbourCall → N → N → Type 0) → NeighbourCall → Behind N L → Behind N L → Type 0
+PassesBehind due_by does (Hear thing) old new = (h : Happened) × ((thing ≡ thing_of h) × HearsBy does (is_some old.lookout) h old new)
+PassesBehind due_by does (GoOn is_busy) old new =
+    (theirs : Bool) × (does (GoOn theirs) old.others new.others × ((waits : Bool) × (OneGoesAhead old.lookout waits new.lookout × (is_busy ≡ theirs || waits))))
+PassesBehind due_by does (Give change) old new = OthersGive does change old new ⊎ LookoutGives does change old new
+PassesBehind due_by does (Settle is_made) old new = SettlesBy does old.giver is_made old new
+PassesBehind due_by does (Rest now rest) old new = (new ≡ old) × ((theirs : Option ℕ) × (does (Rest now theirs) old.others old.others × (rest ≡ shorter theirs (rest_ahead due_by now old.lookout))))

@@ -1,0 +1,4 @@
+pub mod Lookups
+pub mod Lookouts
+pub mod Behinds
+pub mod Laws
