@@ -212,12 +212,12 @@ def changes_while_the_disk_stalls(program: Path) -> list[str]:
 
 
 def leases_under_a_token_of_a_file(program: Path) -> list[str]:
-    """A token whose file comes later than the agent, and a lease under it: both are kept from then on, and others all the time."""
+    """A token whose file comes later than the agent, and a lease under it: both wait, and are kept from then on, and others all the time."""
     entries = (Entry("web", left=600, step=900, file="web.token"), Entry("own", left=600, step=900),
                Entry("db", Kind.LEASE, "web", left=600, step=900))
     with Stage(program, Fleet(entries, 60)) as stage:
         stage.on(100)
-        stage.equal("shown", ["own"], list(stage.shown()))
+        stage.equal("shown", {"own": "kept", "web": "waiting", "db": "waiting"}, {name: row["state"] for name, row in stage.shown().items()})
         stage.write("web.token", "s.web")
         stage.on(2 * HOUR)
         stage.equal("kept", ["db", "own", "web"], sorted(name for name, row in stage.shown().items() if row["state"] == "kept"))

@@ -75,7 +75,7 @@ def one_that_is_added_with_a_file(program: Path) -> list[str]:
         stage.on(5)
         stage.equal("add", "ok", stage.ask("add", new.table())[0])
         stage.on(30)
-        stage.equal("shown", {"own": "kept"}, states(stage))
+        stage.equal("shown", {"own": "kept", "new": "waiting"}, states(stage))
         stage.equal("alerts", 1, len(stage.agent.said("secret-file", "new", level="alert")))
         stage.broker.vault.add(new.row(None))
         stage.write("new.token", "s.new")

@@ -28,7 +28,7 @@ def nothing_is_known_yet(program: Path) -> list[str]:
     with Stage(program, fleet(1, 600, 60, 400)) as stage:
         stage.broker.faults = [fault(0, 20, Act.SILENT)]
         stage.on(2)
-        stage.equal("before an answer", ("trying", ["e0 unknown"]), told(stage, "e0"))
+        stage.equal("before an answer", ("unknown", ["e0 unknown"]), told(stage, "e0"))
         stage.on(60)
         stage.equal("behind it", ("kept", ALL), told(stage, "e0"))
         return stage.faults()
