@@ -161,7 +161,7 @@ class Image(unittest.TestCase):
         self.mount(0o440)
         outer, first = self.begun()
         assert outer.stdout is not None
-        self.assertIn(" begin start", outer.stdout.readline())
+        self.assertTrue(any(" begin start" in line for line in iter(outer.stdout.readline, "")))
         for number in (signal.SIGTERM, signal.SIGINT, signal.SIGHUP):
             os.kill(first, number)
         time.sleep(0.5)

@@ -20,10 +20,10 @@ PIECE = 50
 
 
 def is_begun(text: str) -> bool:
-    """Whether these are the first lines of a log, whole, once and in order."""
+    """Whether these are the first lines of a log, whole, once and in order, after the warnings of what lies on a disk."""
     lines = text.splitlines(keepends=True)
-    words = [DATED.sub("", line, count=1) for line in lines]
-    return len(lines) >= len(BEGUN) and all(DATED.match(line) and line.endswith("\n") for line in lines) and [
+    words = [word for line in lines if not (word := DATED.sub("", line, count=1)).startswith("warning: ")]
+    return len(words) >= len(BEGUN) and all(DATED.match(line) and line.endswith("\n") for line in lines) and [
         True] * len(BEGUN) == [word.startswith(wanted) for word, wanted in zip(words, BEGUN)]
 
 
