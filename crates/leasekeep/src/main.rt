@@ -5,13 +5,12 @@
 
 use std::process::ExitCode;
 
-mod apart;
 mod calling;
 mod commands;
-mod house;
 mod live;
 mod running;
 mod serve;
+mod system_doors;
 mod watch;
 
 fn main(rt: HostRuntime) -> ExitCode {

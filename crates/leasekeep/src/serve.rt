@@ -1,12 +1,22 @@
 //! `serve`: an agent from its start on.
+ghost use Rattle.std.specs.Prelude.{◌≡◌, IfOk, option_copied};
 ghost use Rattle.leasekeep.specs.Ends.{EndsServe};
+ghost use Rattle.serve_run.specs.Run.{HasRunSo, demands_of};
+ghost use Rattle.serve_start.specs.Numbers.{IsNumber};
 
-use crate::running::run;
+use crate::running::{SystemDay, run};
+use crate::system_doors::SystemDoors;
+use keep_asking::SeenLanes;
+use keep_clock::SystemClock;
 use keep_command::SystemFiles;
 use keep_device::{Sink, Watched};
+use keep_disk::{Disk, SystemDisk};
 use keep_engine::{Exit, PROGRAM, Stop};
 use keep_house::Demands;
+use keep_lanes::{Lanes, SocketLanes};
 use keep_log::StandardOutput;
+use keep_secrets::SecretFiles;
+use keep_serving::Neighbours;
 use keep_spread::part_by;
 use keep_tree::MARGIN_MAX;
 use leasekeep_commands::Served;
@@ -19,11 +29,13 @@ use std::rt::{Clock, Files};
 
 /// Serves an inventory, with the log on standard output. It ends where the start is refused, which it tells; else after 2^64 - 1
 /// turns.
-pub fn serve<R, E>(rt: &R, served: &Served<'_>, output: Stdout, errors: &mut E) -> Exit
+#[tactic(auto, using(serve_run::proofs::Having::is_demanded, serve_run::proofs::Having::has_run_so))]
+pub fn serve<'a, R, E>(rt: &'a R, served: &Served<'a>, output: Stdout, errors: &mut E) -> Exit
 where
     R: Files<File = File> + AllocGlobal + Net + Clock,
     E: Sink,
-    ensures { EndsServe result (⟦<E as Watched>⟧.change errors.old errors.new) }
+    ensures told { EndsServe result (⟦<E as Watched>⟧.change errors.old errors.new) }
+    ensures runs { result ≡ Exit.Done → HasRunSo (⟦<SystemDay<'a, R> as Neighbours>⟧.does) (⟦<SystemDay<'a, R> as Neighbours>⟧.given) ⟦<SystemDoors<'a, R> as SecretFiles>⟧.calls ⟦<SystemDisk<'a, R> as Disk>⟧.is_known ⟦<SystemDisk<'a, R> as Disk>⟧.state ⟦<SystemClock<'a, R> as keep_clock::Clock>⟧.seen ⟦<SocketLanes<'a, R> as SeenLanes>⟧.seen ⟦<SocketLanes<'a, R> as Lanes>⟧.host_port ⟦<SocketLanes<'a, R> as Lanes>⟧.width served.now }
 {
     // Before any file is opened, which would else take the number of a standard output that is closed.
     let log = StandardOutput::new(rt, output);
@@ -34,7 +46,9 @@ where
 }
 
 /// What is demanded of an inventory that is served by an agent whose name has that number.
-fn demands_of(served: &Served<'_>, number: u64) -> Demands {
+fn demands_of(served: &Served<'_>, number: u64) -> Demands
+    ensures { result ≡ demands_of served.now number }
+{
     let spread = served.spread.min(u64::from(MARGIN_MAX)) as u32;
     Demands {
         timeout: served.patience.min(60) as u32,
@@ -48,7 +62,9 @@ fn demands_of(served: &Served<'_>, number: u64) -> Demands {
 fn number_of<R: Files<File = File> + AllocGlobal>(
     rt: &R,
     served: &Served<'_>,
-) -> Result<u64, AllocError> {
+) -> Result<u64, AllocError>
+    ensures { IfOk result (IsNumber (option_copied served.now.name) served.now.file.now) }
+{
     let mut files = SystemFiles::new(rt);
     own_number(rt.alloc(), &mut files, served.name, served.file)
 }

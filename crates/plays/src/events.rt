@@ -62,7 +62,7 @@ impl<'a> Play<'a> {
     }
 
     fn put(&mut self, step: &Step<'_>, path: &str, words: &[&str]) -> Result<(), Fault> {
-        match &mut self.house.others.state {
+        match &mut self.house.others.others.state {
             None => Err(step.refused()),
             Some(ledger) => put_file(self.alloc, step, path, words, &mut ledger.inputs),
         }
@@ -70,7 +70,7 @@ impl<'a> Play<'a> {
 
     fn client_comes(&mut self, step: &Step<'_>, name: &str, words: &[&str]) -> Result<(), Fault> {
         let peer = self.peer(step, name, words)?;
-        match &mut self.house.others.control {
+        match &mut self.house.others.others.control {
             None => Err(step.refused()),
             Some(control) => control.door.bring(peer),
         }
@@ -78,7 +78,7 @@ impl<'a> Play<'a> {
 
     fn onlooker_comes(&mut self, step: &Step<'_>, name: &str, words: &[&str]) -> Result<(), Fault> {
         let peer = self.peer(step, name, words)?;
-        match &mut self.house.others.onlookers {
+        match &mut self.house.others.others.onlookers {
             None => Err(step.refused()),
             Some(onlookers) => onlookers.door.bring(peer),
         }

@@ -4,8 +4,12 @@ ghost use Rattle.std.specs.Prelude.{◌≤◌, ◌≡◌, length};
 use crate::fault::Fault;
 use crate::steps::Step;
 use crate::words::number;
-use keep_clients::{Door, Talk};
-use keep_device::Tried;
+use keep_clients::{Door, Entrance, Talk};
+use keep_device::{InputFault, Tried};
+use keep_files::Inputs;
+use keep_moment::Text;
+use keep_secrets::{FileStamp, SecretFiles};
+use serve_run::Doors;
 use std::alloc::{AllocError, Global};
 use std::cell::Cell;
 use std::collections::VecDeque;
@@ -186,5 +190,44 @@ impl<'a> PeerDoor<'a> {
 impl<'a> Door<Peer<'a>> for PeerDoor<'a> {
     fn accept(&mut self) -> Option<Peer<'a>> {
         self.peers.pop_front()
+    }
+}
+
+/// What opens the doors of a play: nobody is before them yet. How many descriptors may be open at once is not known, nor what is mounted.
+#[derive(Debug, Drop)]
+pub struct PeerDoors;
+
+impl<'a> Doors<Peer<'a>, PeerDoor<'a>> for PeerDoors {
+    fn open(
+        &mut self,
+        alloc: Global,
+        _entrance: Entrance<'_>,
+        _number: u32,
+    ) -> Result<PeerDoor<'a>, Option<Text>> {
+        Ok(PeerDoor::new(alloc))
+    }
+}
+
+impl Inputs for PeerDoors {
+    ghost use Rattle.std.specs.Prelude.{None};
+
+    ghost bytes_at = { λ _ _. None };
+
+    fn read(&mut self, _alloc: Global, _path: &str, _max: usize) -> Result<Text, InputFault> {
+        Err(InputFault::ReadFailed)
+    }
+}
+
+impl SecretFiles for PeerDoors {
+    ghost use Rattle.std.specs.Prelude.{None};
+
+    ghost calls = { λ _. None };
+
+    fn stamp(&mut self, _path: &[u8]) -> Option<FileStamp> {
+        None
+    }
+
+    fn open(&mut self, _alloc: Global, _path: &[u8], _max: usize) -> Result<Text, InputFault> {
+        Err(InputFault::ReadFailed)
     }
 }

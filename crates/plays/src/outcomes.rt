@@ -47,7 +47,7 @@ impl<'a> Play<'a> {
                 let asked = read_asked(word, unread)?;
                 self.told_of(asked)
             }
-            ["disk", path] => file_of(self.alloc, &self.house.others, path),
+            ["disk", path] => file_of(self.alloc, &self.house.others.others, path),
             ["sent", name] => {
                 let guest = guest_named(self.guests, name, unread)?;
                 Ok(guest.take_sent())
@@ -62,7 +62,7 @@ impl<'a> Play<'a> {
 
     fn told_of(&mut self, asked: Asked) -> Result<Vec<u8>, Fault> {
         let alloc = self.alloc;
-        let house = &self.house.others;
+        let house = &self.house.others.others;
         match asked {
             Asked::Log => part_after(alloc, house.sink.written(), &mut self.told.log),
             Asked::Waiting => copy_of(alloc, house.desk.room().waiting()),

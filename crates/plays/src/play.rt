@@ -3,9 +3,10 @@ use crate::fault::Fault;
 use crate::guests::{Guest, guests_of};
 use crate::running::{MemoryLanes, Running};
 use crate::settings::{FILE, Setting};
-use crate::starts::{MemoryHouse, Said, lanes_of};
+use crate::starts::{MemoryDay, lanes_of};
 use crate::steps::Step;
 use crate::sweeps::Disturbance;
+use keep_behind::Behind;
 use keep_clock::MemoryClock;
 use keep_house::{Desk, House};
 use keep_log::MemorySink;
@@ -36,8 +37,7 @@ pub struct Play<'a> {
     pub guests: &'a [Guest<'a>],
     pub clock: MemoryClock,
     pub running: Running,
-    pub house: EarlyDay<MemoryHouse<'a>>,
-    pub said: Said,
+    pub house: MemoryDay<'a>,
     pub told: Told,
 }
 
@@ -104,10 +104,13 @@ fn played_among(
 }
 
 /// A house in which there is the log alone.
-fn house_of<'a>(alloc: Global, setting: &mut Setting, desk: Desk) -> EarlyDay<MemoryHouse<'a>> {
+fn house_of<'a>(alloc: Global, setting: &mut Setting, desk: Desk) -> MemoryDay<'a> {
     let answers = mem::replace(&mut setting.answers, Vec::new(alloc));
     let house = House::new(desk, MemorySink::new(alloc, answers), UNREAD);
-    EarlyDay::new(house, u64::from(setting.part).saturating_mul(1000))
+    EarlyDay::new(
+        Behind::new(house, None),
+        u64::from(setting.part).saturating_mul(1000),
+    )
 }
 
 impl Told {
@@ -130,7 +133,7 @@ impl<'a> Play<'a> {
         guests: &'a [Guest<'a>],
         clock: MemoryClock,
         lanes: MemoryLanes,
-        house: EarlyDay<MemoryHouse<'a>>,
+        house: MemoryDay<'a>,
     ) -> Play<'a> {
         Play {
             alloc,
@@ -139,7 +142,6 @@ impl<'a> Play<'a> {
             clock,
             running: Running::new(lanes),
             house,
-            said: Said::new(alloc),
             told: Told::new(alloc),
         }
     }

@@ -1,15 +1,20 @@
 //! An agent beside its lanes to the broker, in step with them between two turns.
+ghost use Rattle.std.specs.Prelude.{◌≡◌, []};
+
 use crate::fault::Fault;
+use crate::guests::PeerDoors;
 use crate::places::put;
+use crate::starts::{MemoryDay, MemoryLedger, MemoryParts};
 pub use broker_lanes::MemoryLanes;
 use keep_agent::Agent;
-use keep_clock::Clock;
-use keep_inventory::Inventory;
+use keep_clock::{Clock, Reading};
 use keep_lanes::{LaneFault, Lanes};
 use keep_serving::{Neighbours, Serving};
+use leasekeep_commands::Served;
+use serve_run::{Begun, begin};
+use serve_start::Start;
 use std::alloc::{AllocError, Global};
 use std::marker::Model;
-use watch_machine::Event;
 
 /// Lanes to the broker, and the agent that has them, once it is started.
 #[derive(Drop)]
@@ -38,20 +43,33 @@ impl Running {
         }
     }
 
-    /// An agent is started that serves this inventory, where these ends were told before; the one before it is gone, and nothing is out any
-    /// more. The only error is out of memory.
-    pub fn start(
+    /// An agent is started, of what is served from the start on; the one before it is gone, and nothing is out any more. Its neighbours are
+    /// given back. The only error is out of memory.
+    pub fn start<'a>(
         &mut self,
         alloc: Global,
-        inventory: Inventory,
-        known: &[Event],
-    ) -> Result<(), Fault> {
+        now: Reading,
+        served: &Served<'_>,
+        start: Start<MemoryLedger<'a>>,
+        parts: MemoryParts,
+    ) -> Result<MemoryDay<'a>, Fault>
+        requires free { parts.lane.out ≡ [] }
+        requires one { parts.lane.width ≡ 1 }
+    {
         put(&mut self.serving, None);
         self.lanes.forget();
-        match Serving::resume(alloc, inventory, &self.lanes, known) {
-            Ok(serving) => {
+        let mut doors = PeerDoors;
+        let lanes = &self.lanes;
+        match begin(alloc, now, served, start, parts, &mut doors, lanes) {
+            Ok(
+                Begun {
+                    serving,
+                    neighbours,
+                    wait: _,
+                },
+            ) => {
                 put(&mut self.serving, Some(serving));
-                Ok(())
+                Ok(neighbours)
             }
             Err(_) => Err(Fault::Memory),
         }

@@ -15,6 +15,11 @@ pub const FILE: &str = "web.toml";
 /// Where the ends are kept.
 pub const ENDS: &str = "run/ends";
 
+/// Where the id of the boot stands, and that of the boot in which all plays are.
+pub const BOOT: &str = "/proc/sys/kernel/random/boot_id";
+
+const BOOT_ID: &[u8] = b"boot-1\n";
+
 /// What a play begins with.
 #[derive(Drop)]
 pub struct Setting {
@@ -148,6 +153,7 @@ impl Setting {
                 if !step.written.is_empty() {
                     self.ends.hold(alloc, ENDS, step)?;
                 }
+                self.ends.push(alloc, BOOT, boot(alloc)?)?;
             }
             ["file", path, words @ ..] => {
                 put_file(alloc, step, path, words, &mut self.drawer)?;
@@ -212,6 +218,14 @@ impl Setting {
         self.readings = readings;
         Ok(())
     }
+}
+
+/// The file with the id of the boot.
+fn boot(alloc: Global) -> Result<Held, AllocError> {
+    Ok(Held {
+        mode: 0o444,
+        bytes: Vec::from_slice(alloc, BOOT_ID)?,
+    })
 }
 
 /// Puts the file of a step into a drawer, as its words have it.

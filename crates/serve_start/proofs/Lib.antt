@@ -1,2 +1,6 @@
+mod Begun
 mod Mounted
+mod Numbers
 mod Refusals
+mod Saying
+mod Taking

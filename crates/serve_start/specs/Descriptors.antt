@@ -1,8 +1,12 @@
 -- Descriptors: how many guests an agent lets in, by the descriptors that its process may have open at once.
 -- Source: this project's own; docs/commands/serve.md, "Open files".
-use Rattle.std.specs.Prelude.{ℕ, ◌+◌, ◌-◌, ◌*◌, ◌/◌, Bool, if◌then◌else◌, min}
+use Rattle.std.specs.Prelude.{◌≡◌, ℕ, ◌+◌, ◌-◌, ◌*◌, ◌/◌, Bool, true, false, if◌then◌else◌, List, ◌++◌, codes, decimal, min, nat_lt}
+use Rattle.house_log.specs.LogDesk.{Desk}
 use Rattle.keep_answering.specs.declared.control.TheConstants.{MOST_CLIENTS}
 use Rattle.keep_answering.specs.declared.onlookers.TheConstants.{MOST_ONLOOKERS}
+use Rattle.keep_clock.specs.declared.reading.Reading.{Reading}
+use Rattle.keep_log.specs.declared.level.Level.TheVariants.{Warning}
+use Rattle.serve_start.specs.Saying.{SaysOrWants}
 use Rattle.serve_start.specs.declared.descriptors.Places.{Places}
 
 -- an agent behind another looks ahead over lanes of its own
@@ -23,3 +27,21 @@ places_within limit width is_behind = record {
   clients = 1 + min (free_within limit width is_behind - free_within limit width is_behind / 3) (MOST_CLIENTS - 1);
   onlookers = 1 + min (free_within limit width is_behind / 3) (MOST_ONLOOKERS - 1);
 }
+
+-- ---- what is said of too few
+
+abbrev pub few_text : ℕ → ℕ → List ℕ
+few_text limit least = decimal limit ++ codes " may be open at once, and " ++ decimal least ++ codes " are needed"
+
+abbrev pub Warns : Reading → List ℕ → Desk → Desk → Type 0
+Warns now text old new = SaysOrWants now Warning (codes "descriptors") text old new
+
+abbrev pub WarnsIf : Bool → Reading → List ℕ → Desk → Desk → Type 0
+WarnsIf true now text old new = Warns now text old new
+WarnsIf false now text old new = new ≡ old
+
+-- how many guests are let in by the descriptors that may be open at once; where these are too few, that is said
+pub record ArePlaces (now : Reading) (width : ℕ) (is_behind : Bool) (places : Places) (old new : Desk) : Type 0 where
+  pub limit : ℕ
+  pub are : places ≡ places_within limit width is_behind
+  pub warns : WarnsIf (nat_lt limit (needed width is_behind)) now (few_text limit (needed width is_behind)) old new

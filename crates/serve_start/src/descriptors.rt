@@ -1,14 +1,15 @@
 //! The descriptors that the process may have open at once, and how many guests of the agent they leave room for. A client must not take
 //! the descriptor that a request needs: a renewal that cannot open its socket is a renewal that is not sent.
-ghost use Rattle.std.specs.Prelude.{◌≡◌, ℕ, ◌≤◌, ◌+◌};
-ghost use Rattle.serve_start.specs.Descriptors.{needed, needed_ahead, places_within};
+ghost use Rattle.std.specs.Prelude.{◌≡◌, ◌≤◌, ◌+◌, IfOk, nat_lt, true};
+ghost use Rattle.serve_start.specs.Descriptors.{ArePlaces, WarnsIf, few_text, needed, needed_ahead, places_within};
 
 use house_log::Desk;
 use keep_answering::{MOST_CLIENTS, MOST_ONLOOKERS};
 use keep_clock::Reading;
 use keep_files::Inputs;
 use keep_log::Level;
-use std::alloc::Global;
+use keep_words::push_number;
+use std::alloc::{AllocError, Global};
 
 /// Where Linux tells the limits of a process (proc(5)).
 const LIMITS: &str = "/proc/self/limits";
@@ -59,6 +60,7 @@ pub fn places_within(limit: u64, width: u32, is_behind: bool) -> Places
 
 /// How many guests an agent with so many lanes lets in. Where the system does not tell how many descriptors may be open at once, as many
 /// as there can be; where it allows fewer than are needed, that is a warning.
+#[tactic(auto, using(crate::proofs::Taking::are_places))]
 pub fn places_for<I: Inputs>(
     alloc: Global,
     inputs: &mut I,
@@ -68,21 +70,41 @@ pub fn places_for<I: Inputs>(
     desk: &mut Desk,
 ) -> Places
     requires { width ≤ 32 }
-    ensures { (limit : ℕ) × (result ≡ places_within limit width is_behind) }
+    ensures { ArePlaces now width is_behind result desk.old desk.new }
 {
     let limit = descriptor_limit(alloc, inputs).unwrap_or(u64::MAX);
-    let needed = needed(width, is_behind);
-    if limit < needed {
-        warn(alloc, now, limit, needed, desk);
-    }
+    warn_if(alloc, now, limit, needed(width, is_behind), desk);
     places_within(limit, width, is_behind)
 }
 
-/// Warns of too few descriptors, unless memory is wanting for the words.
-fn warn(alloc: Global, now: Reading, limit: u64, needed: u64, desk: &mut Desk) {
-    if let Ok(text) = format!(in alloc; "{limit} may be open at once, and {needed} are needed") {
-        desk.hear_at_start(alloc, now, Level::Warning, "descriptors", text.as_bytes());
+/// Warns where fewer descriptors may be open than are needed, unless memory is wanting for the words.
+fn warn_if(alloc: Global, now: Reading, limit: u64, needed: u64, desk: &mut Desk)
+    ensures { WarnsIf (nat_lt limit needed) now (few_text limit needed) desk.old desk.new }
+{
+    if limit < needed {
+        warn(alloc, now, limit, needed, desk);
     }
+}
+
+/// Warns of too few descriptors, unless memory is wanting for the words.
+#[tactic(auto, using(crate::proofs::Saying::wants_words))]
+fn warn(alloc: Global, now: Reading, limit: u64, needed: u64, desk: &mut Desk)
+    ensures { WarnsIf true now (few_text limit needed) desk.old desk.new }
+{
+    if let Ok(text) = few_text(alloc, limit, needed) {
+        desk.hear_at_start(alloc, now, Level::Warning, "descriptors", &text);
+    }
+}
+
+fn few_text(alloc: Global, limit: u64, needed: u64) -> Result<Vec<u8>, AllocError>
+    ensures { IfOk result (λ text. text.items ≡ few_text limit needed) }
+{
+    let mut text = Vec::new(alloc);
+    push_number(alloc, limit, &mut text)?;
+    text.extend_from_slice(b" may be open at once, and ")?;
+    push_number(alloc, needed, &mut text)?;
+    text.extend_from_slice(b" are needed")?;
+    Ok(text)
 }
 
 /// How many descriptors the process may have open at once. `None` where the system does not tell.

@@ -1,5 +1,8 @@
 //! The state folder of `serve`: what is served by it, and what is said of it.
+ghost use Rattle.std.specs.Prelude.{◌≡◌, IfErr, IfOk, None, OnOk, is_some, true};
 ghost use Rattle.serve_start.specs.Refusals.{RefusesStart};
+ghost use Rattle.serve_start.specs.Starts.{Begins, IsFreshLedger, IsLedgerAtStart, IsOfFolder, IsStart};
+ghost use Rattle.serve_start.specs.declared.folder.NotBegun.TheVariants as nots;
 
 use crate::found::{Found, find};
 use crate::reading::Inventories;
@@ -39,7 +42,9 @@ impl<'a> Folder<'a> {
     }
 
     /// The paths of the files in it.
-    fn paths(&self, alloc: Global) -> Result<&Paths, NotBegun> {
+    fn paths(&self, alloc: Global) -> Result<&Paths, NotBegun>
+        ensures { IfErr result IsOfFolder }
+    {
         match &self.paths {
             Ok(paths) => Ok(paths),
             Err(PathsFault::InFolder) => {
@@ -74,6 +79,8 @@ pub(crate) enum NotBegun {
 }
 
 impl From<AllocError> for NotBegun {
+    ghost from_gives = { λ _ e. e ≡ nots.Memory };
+
     fn from(_e: AllocError) -> NotBegun {
         NotBegun::Memory
     }
@@ -85,10 +92,23 @@ pub(crate) fn begin<'a, R: Files<File = File> + AllocGlobal, L: Lanes + Drop>(
     rt: &'a R,
     folder: Option<&'a Folder<'_>>,
     demands: Demands,
-) -> Result<Start<SystemLedger<'a, R, L>>, NotBegun> {
+) -> Result<Start<SystemLedger<'a, R, L>>, NotBegun>
+    ensures { Begins demands (is_some folder.entry) result }
+{
     let Some(folder) = folder else {
         return Err(NotBegun::NoFolder);
     };
+    begin_in(rt, folder, demands)
+}
+
+/// The same with this folder.
+fn begin_in<'a, R: Files<File = File> + AllocGlobal, L: Lanes + Drop>(
+    rt: &'a R,
+    folder: &'a Folder<'_>,
+    demands: Demands,
+) -> Result<Start<SystemLedger<'a, R, L>>, NotBegun>
+    ensures { Begins demands true result }
+{
     let alloc = rt.alloc();
     let paths = folder.paths(alloc)?;
     let mut disk = SystemDisk::new(rt);
@@ -97,7 +117,7 @@ pub(crate) fn begin<'a, R: Files<File = File> + AllocGlobal, L: Lanes + Drop>(
     let found = find(alloc, &mut disk, paths, folder.name, demands)?;
     let opened = open(alloc, disk, paths, folder.name, &found)?;
     let files = SystemSecrets::new(rt);
-    Ok(begin_with(alloc, paths, demands, files, opened, found.said)?)
+    Ok(start_with(alloc, paths, demands, files, opened, found.said)?)
 }
 
 /// Makes the folder, where there is none.
@@ -105,7 +125,9 @@ fn make_folder<R: Files<File = File> + AllocGlobal>(
     alloc: Global,
     disk: &mut SystemDisk<'_, R>,
     folder: &str,
-) -> Result<(), NotBegun> {
+) -> Result<(), NotBegun>
+    ensures { IfErr result IsOfFolder }
+{
     match disk.make_folder(folder) {
         Ok(_) => Ok(()),
         Err(fault) => Err(unused_by(alloc, folder, fault)?),
@@ -113,7 +135,9 @@ fn make_folder<R: Files<File = File> + AllocGlobal>(
 }
 
 /// Holds the folder until the process ends, before any file in it is read: what another agent writes there would be missed.
-fn hold<D: Disk>(alloc: Global, disk: &mut D, paths: &Paths, folder: &str) -> Result<(), NotBegun> {
+fn hold<D: Disk>(alloc: Global, disk: &mut D, paths: &Paths, folder: &str) -> Result<(), NotBegun>
+    ensures { IfErr result IsOfFolder }
+{
     match disk.lock(paths.lock()) {
         Ok(Some(_)) => Ok(()),
         Ok(None) => Err(NotBegun::Held),
@@ -128,7 +152,9 @@ fn open<'a, R: Files<File = File> + AllocGlobal>(
     paths: &'a Paths,
     folder: &str,
     found: &Found,
-) -> Result<Opened<'a, SystemDisk<'a, R>>, NotBegun> {
+) -> Result<Opened<'a, SystemDisk<'a, R>>, NotBegun>
+    ensures { IfErr result IsOfFolder }
+{
     match State::open(
         alloc,
         disk,
@@ -154,14 +180,17 @@ fn bytes_of(text: &Option<Text>) -> Option<&[u8]> {
 }
 
 /// What is served by a state that was opened, after what was said before. The only error is lack of memory.
-fn begin_with<'a, D: Disk + Drop, I: Inputs + Drop, L: Lanes + Drop>(
+#[tactic(auto, using(crate::proofs::Begun::with_ledger))]
+pub fn start_with<'a, D: Disk + Drop, I: Inputs + Drop, L: Lanes + Drop>(
     alloc: Global,
     paths: &'a Paths,
     demands: Demands,
     files: I,
     opened: Opened<'a, D>,
     said: Vec<Said>,
-) -> Result<Start<Ledger<'a, D, I, L>>, AllocError> {
+) -> Result<Start<Ledger<'a, D, I, L>>, AllocError>
+    ensures { IfOk result (IsStart demands true) }
+{
     let mut said = said;
     say_opened(alloc, paths, &opened, &mut said)?;
     let Opened {
@@ -193,12 +222,17 @@ fn begin_with<'a, D: Disk + Drop, I: Inputs + Drop, L: Lanes + Drop>(
 
 /// What is served by a ledger, once it has what the files of credentials hold; what is to be said of that and of its changes is said. The
 /// only error is lack of memory.
+#[tactic(auto, using(crate::proofs::Begun::at_start))]
 fn filled<D: Disk, I: Inputs, L: Lanes>(
     alloc: Global,
     ledger: &mut Ledger<'_, D, I, L>,
     notes: &[Note],
     said: &mut Vec<Said>,
-) -> Result<Inventories, AllocError> {
+) -> Result<Inventories, AllocError>
+    requires fresh { IsFreshLedger ledger.old }
+    ensures at_start { OnOk result (IsLedgerAtStart ledger.old.demands ledger.new) }
+    ensures alone { IfOk result (λ i. ledger.old.demands.earlier ≡ 0 → i.again ≡ None) }
+{
     push_each(
         said,
         Level::Note,
@@ -217,7 +251,9 @@ fn filled<D: Disk, I: Inputs, L: Lanes>(
 fn inventories_of<D: Disk, I: Inputs, L: Lanes>(
     alloc: Global,
     ledger: &Ledger<'_, D, I, L>,
-) -> Result<Inventories, AllocError> {
+) -> Result<Inventories, AllocError>
+    ensures { IfOk result (λ i. ledger.now.demands.earlier ≡ 0 → i.again ≡ None) }
+{
     let served = ledger.inventory(alloc)?;
     let again = if ledger.demands.earlier == 0 {
         None
@@ -289,7 +325,9 @@ fn say_damaged(
     )
 }
 
-fn unused_by(alloc: Global, folder: &str, fault: DiskFault) -> Result<NotBegun, AllocError> {
+fn unused_by(alloc: Global, folder: &str, fault: DiskFault) -> Result<NotBegun, AllocError>
+    ensures { IfOk result IsOfFolder }
+{
     let why = match fault {
         DiskFault::OutOfMemory => return Ok(NotBegun::Memory),
         _ => disk_words(fault),
@@ -299,7 +337,9 @@ fn unused_by(alloc: Global, folder: &str, fault: DiskFault) -> Result<NotBegun, 
 }
 
 /// That the folder cannot be used.
-fn unused(alloc: Global, folder: &str, why: &str) -> Result<NotBegun, AllocError> {
+fn unused(alloc: Global, folder: &str, why: &str) -> Result<NotBegun, AllocError>
+    ensures { IfOk result IsOfFolder }
+{
     let text = format!(in alloc;
         "{folder} cannot be used ({why}): no change is kept, and files of credentials are not read again"
     )?;

@@ -4,13 +4,13 @@
 //! The contract for the layers above: [`make_start`] gives what is served from the start on, or the exit once it was told why nothing is
 //! (`specs/Refusals`). Of files and folders of the system, from which all the rest comes, nothing is known. Begin with `start`: `reading`
 //! has what is served of the file alone, `folder` what is served with a state folder, `found` and `modes` what is found there, and `unkept`
-//! what is served where that folder cannot be used. `secrets` are the files of credentials, `ends` the file that keeps the ends, `doors`
-//! the sockets of clients and onlookers, `descriptors` how many of them are let in, `spread` the number of the agent's own name, and
-//! `stalls` what is said of files for which the loop waits.
+//! what is served where that folder cannot be used. `secrets` are the files of credentials, `descriptors` how many guests are let in,
+//! `spread` the number of the agent's own name, and `stalls` what is said of files for which the loop waits. [`desk_of`] is the
+//! log with what is said at a start (`specs/Saying`), and [`take_over`] gives the file that keeps the ends, and what it kept
+//! (`specs/TakingOver`).
 #![tactic(auto)]
 
 mod descriptors;
-mod doors;
 mod ends;
 mod folder;
 mod found;
@@ -25,9 +25,8 @@ mod start;
 mod unkept;
 
 pub use descriptors::{Places, places_for, places_within};
-pub use doors::{CLIENTS, Guests, ONLOOKERS, open_door};
-pub use ends::take_over;
-pub use folder::{Folder, folder_of};
+pub use ends::{TakenOver, take_over};
+pub use folder::{Folder, folder_of, start_with};
 pub use reading::Inventories;
 pub use said::{About, Said, desk_of, say_behind};
 pub use secrets::SystemSecrets;

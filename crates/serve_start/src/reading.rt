@@ -1,4 +1,5 @@
 //! What is served of the file alone, and why a start is refused.
+ghost use Rattle.std.specs.Prelude.{◌≡◌, IfOk, None};
 ghost use Rattle.serve_start.specs.Refusals.{GivesOrRefuses, IsToldOf, RefusesIf, RefusesStart};
 
 use crate::folder::folder_of;
@@ -39,7 +40,8 @@ pub(crate) fn read_inventory<R, E>(
 where
     R: Files<File = File> + AllocGlobal,
     E: Sink,
-    ensures { GivesOrRefuses result (⟦<E as Watched>⟧.change errors.old errors.new) }
+    ensures told { GivesOrRefuses result (⟦<E as Watched>⟧.change errors.old errors.new) }
+    ensures alone { IfOk result (λ i. demands.earlier ≡ 0 → i.again ≡ None) }
 {
     let bytes = read_bytes(rt, file, errors)?;
     serve_bytes(rt, file, &bytes, demands, errors)
@@ -138,7 +140,8 @@ pub(crate) fn serve_bytes<R, E>(
 where
     R: Files<File = File> + AllocGlobal,
     E: Sink,
-    ensures { GivesOrRefuses result (⟦<E as Watched>⟧.change errors.old errors.new) }
+    ensures told { GivesOrRefuses result (⟦<E as Watched>⟧.change errors.old errors.new) }
+    ensures alone { IfOk result (λ i. demands.earlier ≡ 0 → i.again ≡ None) }
 {
     let alloc = rt.alloc();
     let folder = folder_of(file);
@@ -183,7 +186,9 @@ fn read_again<I: Inputs>(
     demands: Demands,
     folder: &str,
     files: &mut I,
-) -> Option<Inventory> {
+) -> Option<Inventory>
+    ensures { demands.earlier ≡ 0 → result ≡ None }
+{
     if demands.earlier == 0 {
         return None;
     }

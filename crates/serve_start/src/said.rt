@@ -1,10 +1,12 @@
 //! What is said in the log before anything else.
-ghost use Rattle.std.specs.Prelude.{◌≡◌, ◌∷◌, ◌++◌, [], OnOk};
+ghost use Rattle.std.specs.Prelude.{◌≡◌, ◌∷◌, ◌++◌, [], IfOk, OnOk, decimal};
+ghost use Rattle.serve_start.specs.Saying.{AddsSaid, AreSaidAtStart, BeginsDesk, IsSaid, SaysBehind, about_word};
 
 use house_log::Desk;
 use keep_clock::Reading;
 use keep_log::{Form, Level};
 use keep_moment::Text;
+use keep_words::push_number;
 use std::alloc::{AllocError, Global};
 
 /// What a line of a start is about.
@@ -21,7 +23,9 @@ pub enum About {
 
 impl About {
     /// Its word in the log.
-    fn word(self) -> &'static str {
+    fn word(self) -> &'static str
+        ensures { result.now ≡ about_word self }
+    {
         match self {
             About::Folder => "folder",
             About::File => "file",
@@ -43,11 +47,21 @@ pub struct Said {
 }
 
 /// Says that the agent stands behind another, and with which margin, in seconds. Where memory is wanting it is not said.
-pub fn say_behind(alloc: Global, desk: &mut Desk, now: Reading, margin: u32) {
-    let Ok(text) = format!(in alloc; "{margin}") else {
-        return;
-    };
-    desk.hear_at_start(alloc, now, Level::Info, "behind", text.as_bytes());
+#[tactic(auto, using(crate::proofs::Saying::wants_words))]
+pub fn say_behind(alloc: Global, desk: &mut Desk, now: Reading, margin: u32)
+    ensures { SaysBehind now margin desk.old desk.new }
+{
+    if let Ok(text) = margin_text(alloc, margin) {
+        desk.hear_at_start(alloc, now, Level::Info, "behind", &text);
+    }
+}
+
+fn margin_text(alloc: Global, margin: u32) -> Result<Vec<u8>, AllocError>
+    ensures { IfOk result (λ text. text.items ≡ decimal margin) }
+{
+    let mut text = Vec::new(alloc);
+    push_number(alloc, u64::from(margin), &mut text)?;
+    Ok(text)
 }
 
 /// Appends what is said.
@@ -68,7 +82,9 @@ pub(crate) fn push_each(
     level: Level,
     about: About,
     texts: Vec<Text>,
-) -> Result<(), AllocError> {
+) -> Result<(), AllocError>
+    ensures { OnOk result (AddsSaid level about said.old.items said.new.items) }
+{
     for text in texts {
         push(said, level, about, text)?;
     }
@@ -82,10 +98,24 @@ pub fn desk_of(
     count: u32,
     now: Reading,
     said: &[Said],
-) -> Result<Desk, AllocError> {
+) -> Result<Desk, AllocError>
+    ensures { IfOk result (BeginsDesk form count now said.now) }
+{
     let mut desk = Desk::new(alloc, form, count)?;
-    for line in said {
-        desk.hear_at_start(alloc, now, line.level, line.about.word(), line.text.list());
-    }
+    say_each(alloc, now, said, &mut desk);
     Ok(desk)
+}
+
+fn say_each(alloc: Global, now: Reading, said: &[Said], desk: &mut Desk)
+    ensures { AreSaidAtStart now said.now desk.old desk.new }
+{
+    for line in said {
+        say(alloc, now, line, desk);
+    }
+}
+
+fn say(alloc: Global, now: Reading, line: &Said, desk: &mut Desk)
+    ensures { IsSaid now line.now desk.old desk.new }
+{
+    desk.hear_at_start(alloc, now, line.level, line.about.word(), line.text.list());
 }

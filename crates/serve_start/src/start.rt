@@ -1,18 +1,20 @@
 //! What is served from the start on, or why nothing is.
+ghost use Rattle.std.specs.Prelude.{◌≡◌, ◌∷◌, [], IfErr, IfOk, None, false, is_some, true};
 ghost use Rattle.serve_start.specs.Refusals.{GivesOrRefuses};
+ghost use Rattle.serve_start.specs.Starts.{IsReason, IsStart, IsStartAlone, SaysUnused, StartsBy, is_unused};
 
 use crate::folder::{Folder, NotBegun, begin, refuse_changes, refuse_held};
 use crate::reading::{Inventories, read_inventory, refuse_written};
 use crate::said::Said;
 use crate::secrets::SystemSecrets;
 use crate::unkept::read_with_held;
-use house_ledger::{Asker, Ledger};
+use house_ledger::Ledger;
 use house_words::Demands;
 use keep_device::{Sink, Watched};
-use keep_disk::{Disk, SystemDisk};
+use keep_disk::SystemDisk;
 use keep_lanes::Lanes;
-use keep_proving::Proving;
 use keep_report::{Exit, PROGRAM, Stop};
+use std::alloc::{AllocError, Global};
 use std::fs::File;
 use std::rt::Files;
 
@@ -31,22 +33,12 @@ pub struct Start<K> {
     pub said: Vec<Said>,
 }
 
-impl<'a, D: Disk, I, L: Lanes + Drop> Start<Ledger<'a, D, I, L>> {
-    /// Has a credential looked up before a ledger takes it, where there is one: that of a client's change over these lanes, and those of
-    /// files by these askers.
-    pub fn prove_by(&mut self, proving: Proving<L>, askers: Vec<Asker<L>>) {
-        if let Some(ledger) = &mut self.ledger {
-            ledger.proving = Some(proving);
-            ledger.askers = askers;
-        }
-    }
-}
-
 /// The state of an agent on the disks of the system.
 pub type SystemLedger<'a, R, L> = Ledger<'a, SystemDisk<'a, R>, SystemSecrets<'a, R>, L>;
 
 /// What is served of the inventory at `file`, with the changes of a state folder, where there is one; without it, where that cannot be
 /// used. Or the exit, once it was told why nothing is served.
+#[tactic(auto, using(crate::proofs::Begun::starts_if, crate::proofs::Begun::reason_if))]
 pub fn make_start<'a, R, L, E>(
     rt: &'a R,
     file: &str,
@@ -58,18 +50,11 @@ where
     R: Files<File = File> + AllocGlobal,
     L: Lanes + Drop,
     E: Sink,
-    ensures { GivesOrRefuses result (⟦<E as Watched>⟧.change errors.old errors.new) }
+    ensures told { GivesOrRefuses result (⟦<E as Watched>⟧.change errors.old errors.new) }
+    ensures start { IfOk result (IsStart demands (is_some folder.entry)) }
 {
     let begun = begin(rt, folder, demands);
     started(rt, file, name_of(folder), demands, begun, errors)
-}
-
-/// The name of a state folder, or nothing where there is none.
-fn name_of<'a>(folder: Option<&'a Folder<'_>>) -> &'a str {
-    match folder {
-        None => "",
-        Some(folder) => folder.name,
-    }
 }
 
 /// What is served by what was begun; or the exit, once it was told why nothing is served.
@@ -84,11 +69,21 @@ fn started<R, K, E>(
 where
     R: Files<File = File> + AllocGlobal,
     E: Sink,
-    ensures { GivesOrRefuses result (⟦<E as Watched>⟧.change errors.old errors.new) }
+    requires { IfErr begun IsReason }
+    ensures told { GivesOrRefuses result (⟦<E as Watched>⟧.change errors.old errors.new) }
+    ensures start { IfOk result (StartsBy demands begun) }
 {
     match begun {
         Ok(start) => Ok(start),
         Err(why) => start_without(rt, file, folder, demands, why, errors),
+    }
+}
+
+/// The name of a state folder, or nothing where there is none.
+fn name_of<'a>(folder: Option<&'a Folder<'_>>) -> &'a str {
+    match folder {
+        None => "",
+        Some(folder) => folder.name,
     }
 }
 
@@ -104,7 +99,9 @@ fn start_without<R, K, E>(
 where
     R: Files<File = File> + AllocGlobal,
     E: Sink,
-    ensures { GivesOrRefuses result (⟦<E as Watched>⟧.change errors.old errors.new) }
+    requires { IsReason why }
+    ensures told { GivesOrRefuses result (⟦<E as Watched>⟧.change errors.old errors.new) }
+    ensures start { IfOk result (IsStartAlone demands (is_unused why)) }
 {
     match why {
         NotBegun::NoFolder => start_with_file(rt, file, demands, errors),
@@ -119,6 +116,7 @@ where
 }
 
 /// What is served of the file alone.
+#[tactic(auto, using(crate::proofs::Begun::alone_silent))]
 fn start_with_file<R, K, E>(
     rt: &R,
     file: &str,
@@ -128,13 +126,15 @@ fn start_with_file<R, K, E>(
 where
     R: Files<File = File> + AllocGlobal,
     E: Sink,
-    ensures { GivesOrRefuses result (⟦<E as Watched>⟧.change errors.old errors.new) }
+    ensures told { GivesOrRefuses result (⟦<E as Watched>⟧.change errors.old errors.new) }
+    ensures start { IfOk result (IsStartAlone demands false) }
 {
     let inventories = read_inventory(rt, file, demands, errors)?;
     Ok(start_of(demands, inventories, Vec::new(rt.alloc())))
 }
 
 /// What is served of the file where its state folder cannot be used, which is said before anything else.
+#[tactic(auto, using(crate::proofs::Begun::alone_unused))]
 fn start_unkept<R, K, E>(
     rt: &R,
     file: &str,
@@ -145,18 +145,21 @@ fn start_unkept<R, K, E>(
 where
     R: Files<File = File> + AllocGlobal,
     E: Sink,
-    ensures { GivesOrRefuses result (⟦<E as Watched>⟧.change errors.old errors.new) }
+    requires { SaysUnused first }
+    ensures told { GivesOrRefuses result (⟦<E as Watched>⟧.change errors.old errors.new) }
+    ensures start { IfOk result (IsStartAlone demands true) }
 {
-    let mut said = Vec::new(rt.alloc());
-    if said.push(first).is_err() {
+    let Ok(mut said) = alone(rt.alloc(), first) else {
         return Err(Stop::Memory.report(PROGRAM, errors));
-    }
+    };
     let inventories = read_with_held(rt, file, demands, &mut said, errors)?;
     Ok(start_of(demands, inventories, said))
 }
 
 /// A start without a ledger.
-fn start_of<K>(demands: Demands, inventories: Inventories, said: Vec<Said>) -> Start<K> {
+fn start_of<K>(demands: Demands, inventories: Inventories, said: Vec<Said>) -> Start<K>
+    ensures { result ≡ record { part = demands.earlier; behind = demands.behind; inventories = inventories; ledger = None; is_good = true; said = said } }
+{
     Start {
         part: demands.earlier,
         behind: demands.behind,
@@ -165,4 +168,13 @@ fn start_of<K>(demands: Demands, inventories: Inventories, said: Vec<Said>) -> S
         is_good: true,
         said,
     }
+}
+
+/// What is said first. The only error is lack of memory.
+fn alone(alloc: Global, first: Said) -> Result<Vec<Said>, AllocError>
+    ensures { IfOk result (λ said. said.items ≡ first ∷ []) }
+{
+    let mut said = Vec::new(alloc);
+    said.push(first)?;
+    Ok(said)
 }

@@ -1,5 +1,7 @@
 //! What is served of the file alone where its state folder cannot be used.
+ghost use Rattle.std.specs.Prelude.{◌≡◌, IfOk, IfSome, None, OnOk};
 ghost use Rattle.serve_start.specs.Refusals.{GivesOrRefuses};
+ghost use Rattle.serve_start.specs.Starts.{AddsUnheld};
 
 use crate::folder::folder_of;
 use crate::reading::{Inventories, read_bytes, refuse_bytes, serve_bytes};
@@ -30,7 +32,9 @@ pub(crate) fn read_with_held<R, E>(
 where
     R: Files<File = File> + AllocGlobal,
     E: Sink,
-    ensures { GivesOrRefuses result (⟦<E as Watched>⟧.change errors.old errors.new) }
+    ensures told { GivesOrRefuses result (⟦<E as Watched>⟧.change errors.old errors.new) }
+    ensures alone { IfOk result (λ i. demands.earlier ≡ 0 → i.again ≡ None) }
+    ensures said { OnOk result (AddsUnheld said.old.items said.new.items) }
 {
     let bytes = read_bytes(rt, file, errors)?;
     match refuse_bytes(rt, file, &bytes, demands, errors) {
@@ -51,7 +55,9 @@ fn serve_held<R, E>(
 where
     R: Files<File = File> + AllocGlobal,
     E: Sink,
-    ensures { GivesOrRefuses result (⟦<E as Watched>⟧.change errors.old errors.new) }
+    ensures told { GivesOrRefuses result (⟦<E as Watched>⟧.change errors.old errors.new) }
+    ensures alone { IfOk result (λ i. demands.earlier ≡ 0 → i.again ≡ None) }
+    ensures said { OnOk result (AddsUnheld said.old.items said.new.items) }
 {
     let mut files = SystemSecrets::new(rt);
     let folder = folder_of(file);
@@ -64,6 +70,7 @@ where
 
 /// What is served of these bytes with what the files hold that they name, and then it is said which hold none; `None` where that does
 /// not go together. The only error is lack of memory.
+#[tactic(auto, using(crate::proofs::Saying::adds_none))]
 fn held<I: Inputs>(
     alloc: Global,
     bytes: &[u8],
@@ -71,7 +78,10 @@ fn held<I: Inputs>(
     folder: &str,
     files: &mut I,
     said: &mut Vec<Said>,
-) -> Result<Option<Inventories>, AllocError> {
+) -> Result<Option<Inventories>, AllocError>
+    ensures alone { IfOk result (λ found. IfSome found (λ i. demands.earlier ≡ 0 → i.again ≡ None)) }
+    ensures said { OnOk result (AddsUnheld said.old.items said.new.items) }
+{
     let Some(mut book) = book_of(alloc, bytes)? else {
         return Ok(None);
     };
@@ -106,7 +116,9 @@ fn takes(alloc: Global, book: &mut Book, secrets: Vec<Secret>) -> Result<bool, A
 }
 
 /// What is served by a book. The only error is lack of memory.
-fn inventories_of(alloc: Global, demands: Demands, book: &Book) -> Result<Inventories, AllocError> {
+fn inventories_of(alloc: Global, demands: Demands, book: &Book) -> Result<Inventories, AllocError>
+    ensures { IfOk result (λ i. demands.earlier ≡ 0 → i.again ≡ None) }
+{
     let served = inventory_of(alloc, demands, book)?;
     let again = if demands.earlier == 0 {
         None

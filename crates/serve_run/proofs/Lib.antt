@@ -1,0 +1,5 @@
+pub mod Having
+mod Asking
+mod Putting
+mod Runs
+mod Waiting

@@ -1,0 +1,52 @@
+-- Running: an agent from its start on: it waits where it has a wait, and then makes 2^64 - 1 turns.
+-- Source: this project's own.
+use Rattle.std.specs.Prelude.{◌≡◌, ℕ, List, Option, Some, None, length}
+use Rattle.keep_asking.specs.Sending.{Lanes}
+use Rattle.keep_clock.specs.Seen.{AllMade, ClockSeen}
+use Rattle.keep_serving.specs.Apart.{IsWaitedApart, Waited, all_called, all_clocked, all_given}
+use Rattle.keep_serving.specs.Changes.{AllGiven}
+use Rattle.keep_serving.specs.Held.{Held, ServingSide, serving_side}
+use Rattle.keep_serving.specs.Neighbours.{AllCalled, AreCalledFor, NeighbourCall}
+use Rattle.keep_serving.specs.Runs.{AreTurns, all_calls, all_changes}
+use Rattle.keep_serving.specs.Turns.{ServingTurn}
+use Rattle.keep_serving.specs.declared.change.Change.{Change}
+use Rattle.serve_run.specs.declared.wait.Wait.{Wait}
+
+-- the greatest u64: of pauses at most, and of turns
+abbrev pub MOST : ℕ
+MOST = 18446744073709551615
+
+-- until when is waited, and by how many pauses at most; a start that does not wait is one of no pauses
+abbrev pub until_in : Option Wait → ℕ
+until_in None = 0
+until_in (Some w) = w.until
+
+abbrev pub most_pauses : Option Wait → ℕ
+most_pauses None = 0
+most_pauses (Some w) = MOST
+
+module _ {N : Type 0} (does : NeighbourCall → N → N → Type 0) (given : N → Option (List Change)) where
+  pub record WaitsFirst (wait : Option Wait) (old new : ServingSide) (clock later : ClockSeen) (before after : N) : Type 0 where
+    pub waited : Waited
+    pub is : IsWaitedApart (until_in wait) (most_pauses wait) old waited new
+    pub clocked : AllMade (all_clocked waited) clock later
+    pub gives : AllGiven (all_given waited) (given before) (given after)
+    pub called : AllCalled does (all_called waited) before after
+
+  -- turns, and all that is called for in them
+  pub record MakesTurns (port width : ℕ) (old new : ServingSide) (clock later : ClockSeen) (before after : N) : Type 0 where
+    pub turns : List ServingTurn
+    pub count : length turns ≡ MOST
+    pub are : AreTurns port old turns new
+    pub clocked : AllMade (all_calls turns) clock later
+    pub gives : AllGiven (all_changes turns) (given before) (given after)
+    pub called : AreCalledFor does width turns before after
+
+  -- first the one, and then the others, over the same lanes
+  pub record RunsFrom {C L : Type 0} (clock_seen : C → ClockSeen) (seen : L → Lanes) (port width : L → ℕ) (wait : Option Wait) (serving : Held) (lanes : L) (clock : C) (before : N) (lanes_after : L) (clock_after : C) (after : N) : Type 0 where
+    pub begun : ServingSide
+    pub last : Held
+    pub clock_begun : ClockSeen
+    pub mid : N
+    pub waits : WaitsFirst wait (serving_side serving (seen lanes)) begun (clock_seen clock) clock_begun before mid
+    pub turns : MakesTurns (port lanes) (width lanes) begun (serving_side last (seen lanes_after)) clock_begun (clock_seen clock_after) mid after
