@@ -63,7 +63,7 @@ def standing_by(arguments: argparse.Namespace, around: Surroundings, clock: Cloc
 
     def report() -> None:
         if metrics is not None:
-            metrics.give(f"leasekeepd_metrics_written_timestamp_seconds {clock.wall():.3f}\n")
+            metrics.give(f"leasekeep_metrics_written_timestamp_seconds {clock.wall():.3f}\n")
     _tell_of_old_changes(arguments.state / "journal", around, log)
     name = arguments.name or own_name(arguments.state)
     leadership = Leadership(etcd, prefix, name, clock)

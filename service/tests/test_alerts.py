@@ -125,7 +125,7 @@ class Counted(InRoom):
         async def work(room: Room) -> None:
             service = room.service()
             service._around.dropped_alerts = lambda: 7
-            self.assertIn("\nleasekeepd_alerts_dropped_total 7\n", service.metrics())
+            self.assertIn("\nleasekeep_alerts_dropped_total 7\n", service.metrics())
         self.in_room(work)
 
 

@@ -387,7 +387,7 @@ class Journals(InRoom):
             self.assertEqual(room.output.getvalue().count("metrics could not be written"), 1)
             storage.is_full = False
             await told(service)
-            self.assertIn("leasekeepd_margin_seconds 30\n", (room.folder / "metrics").read_text())
+            self.assertIn("leasekeep_margin_seconds 30\n", (room.folder / "metrics").read_text())
             storage.is_full = True
             await told(service)
             self.assertEqual(room.output.getvalue().count("metrics could not be written"), 2)
@@ -557,7 +557,7 @@ class Reports(InRoom):
             self.assertFalse(task.done())
             self.assertEqual(room.output.getvalue().count("alert: fault ValueError in what reports"), 3)
             self.assertNotIn("s.app", room.output.getvalue())
-            self.assertIn("leasekeepd_margin_seconds 30\n", (room.folder / "metrics").read_text())
+            self.assertIn("leasekeep_margin_seconds 30\n", (room.folder / "metrics").read_text())
             task.cancel()
             await asyncio.gather(task, return_exceptions=True)
         self.in_room(work)

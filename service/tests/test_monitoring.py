@@ -26,12 +26,12 @@ from .test_status import EXPECTED
 MONITORING = SERVICE / "monitoring"
 RULES, DASHBOARD = MONITORING / "leasekeepd.rules.yml", MONITORING / "dashboard.json"
 PORT_WORDS = re.compile(r"Listening on.*address=127\.0\.0\.1:(\d+)")
-NEED = 'leasekeepd_need_carried_timestamp_seconds{entry="web"}'
-WRITTEN = "leasekeepd_metrics_written_timestamp_seconds"
+NEED = 'leasekeep_need_carried_timestamp_seconds{entry="web"}'
+WRITTEN = "leasekeep_metrics_written_timestamp_seconds"
 
-END, SUCCESS = 'leasekeepd_end_timestamp_seconds{entry="web"}', 'leasekeepd_last_success_timestamp_seconds{entry="web"}'
-WAKE, KEPT, TRYING = "leasekeepd_next_wake_timestamp_seconds", *(
-    f'leasekeepd_state{{entry="web",state="{name}"}}' for name in ("kept", "trying"))
+END, SUCCESS = 'leasekeep_end_timestamp_seconds{entry="web"}', 'leasekeep_last_success_timestamp_seconds{entry="web"}'
+WAKE, KEPT, TRYING = "leasekeep_next_wake_timestamp_seconds", *(
+    f'leasekeep_state{{entry="web",state="{name}"}}' for name in ("kept", "trying"))
 END_NEAR: tuple[tuple[dict[str, str], range], ...] = (
     # A step of 40 s, so a margin of 30 s: renewed each 10 to 15 s, and 25 s or more are left when the figures are written.
     ({END: "40+15x100", SUCCESS: "0+15x100", KEPT: "1x100"}, range(0)),
@@ -59,7 +59,7 @@ def expressions() -> list[str]:
 
 
 def state(name: str) -> str:
-    return f'leasekeepd_state{{entry="web",state="{name}"}}'
+    return f'leasekeep_state{{entry="web",state="{name}"}}'
 
 
 class Shipped(unittest.TestCase):
@@ -107,38 +107,38 @@ class Rules(unittest.TestCase):
         up = {WRITTEN: "0+15x100"}
         needed = {**up, NEED: "10000x100"}
         tests = [
-            case({WRITTEN: "0+15x4 60x40"}, ("LeasekeepdDown", "105", 0), ("LeasekeepdDown", "135", 1)),
-            case({}, ("LeasekeepdDown", "15", 1)),
+            case({WRITTEN: "0+15x4 60x40"}, ("LeasekeepDown", "105", 0), ("LeasekeepDown", "135", 1)),
+            case({}, ("LeasekeepDown", "15", 1)),
             case({WRITTEN + '{job="a",instance="1"}': "0+15x4 stale", WRITTEN + '{job="a",instance="2"}': "0+15x100",
                   'up{job="a",instance="1"}': "1x4 0x40", 'up{job="a",instance="2"}': "1x4 0x2 1x100", 'up{job="b",instance="1"}': "0x100"},
-                 ("LeasekeepdDown", "165", 0), ("LeasekeepdDown", "195", 1), ("LeasekeepdDown", "600", 1)),
+                 ("LeasekeepDown", "165", 0), ("LeasekeepDown", "195", 1), ("LeasekeepDown", "600", 1)),
             *(case({**needed, state(name): "0x4 1x10 0x20"}, (alert, "45", 0), (alert, "75", 1), (alert, "300", 0))
-              for name, alert in (("gone", "LeasekeepdEntryGone"), ("ended", "LeasekeepdEntryEnded"),
-                                  ("short", "LeasekeepdEntryShort"))),
+              for name, alert in (("gone", "LeasekeepEntryGone"), ("ended", "LeasekeepEntryEnded"),
+                                  ("short", "LeasekeepEntryShort"))),
             *(case({**up, NEED: "60x100", state(name): "1x100"}, (alert, "45", 1), (alert, "75", 0))
-              for name, alert in (("gone", "LeasekeepdEntryGone"), ("ended", "LeasekeepdEntryEnded"),
-                                  ("short", "LeasekeepdEntryShort"))),
-            case({**needed, state("waiting"): "1x100"}, ("LeasekeepdEntryWaiting", "45", 0), ("LeasekeepdEntryWaiting", "75", 1)),
-            case({**up, NEED: "60x100", state("waiting"): "1x100"}, ("LeasekeepdEntryWaiting", "90", 0)),
-            *(case({**needed, state(name): "1x100"}, ("LeasekeepdEntryTried", "285", 0), ("LeasekeepdEntryTried", "315", 1))
+              for name, alert in (("gone", "LeasekeepEntryGone"), ("ended", "LeasekeepEntryEnded"),
+                                  ("short", "LeasekeepEntryShort"))),
+            case({**needed, state("waiting"): "1x100"}, ("LeasekeepEntryWaiting", "45", 0), ("LeasekeepEntryWaiting", "75", 1)),
+            case({**up, NEED: "60x100", state("waiting"): "1x100"}, ("LeasekeepEntryWaiting", "90", 0)),
+            *(case({**needed, state(name): "1x100"}, ("LeasekeepEntryTried", "285", 0), ("LeasekeepEntryTried", "315", 1))
               for name in ("trying", "unknown")),
-            case({**up, NEED: "60x100", state("trying"): "1x100"}, ("LeasekeepdEntryTried", "330", 0)),
-            case({**needed, state("unknown"): "1x10 0x100", state("trying"): "0x10 1x100"}, ("LeasekeepdEntryTried", "315", 1)),
-            case({**needed, 'leasekeepd_end_timestamp_seconds{entry="web"}': "500x100", "leasekeepd_margin_seconds":
-                  "120x100"}, ("LeasekeepdEndNear", "435", 0), ("LeasekeepdEndNear", "450", 1)),
-            case({**up, NEED: "500x100", 'leasekeepd_end_timestamp_seconds{entry="web"}': "500x100",
-                  "leasekeepd_margin_seconds": "120x100"}, ("LeasekeepdEndNear", "450", 0)),
-            *(case({**needed, **near, "leasekeepd_margin_seconds": "120x100"}, *(
-                ("LeasekeepdEndNear", str(seconds), int(seconds in fires)) for seconds in range(0, 600, 15)))
+            case({**up, NEED: "60x100", state("trying"): "1x100"}, ("LeasekeepEntryTried", "330", 0)),
+            case({**needed, state("unknown"): "1x10 0x100", state("trying"): "0x10 1x100"}, ("LeasekeepEntryTried", "315", 1)),
+            case({**needed, 'leasekeep_end_timestamp_seconds{entry="web"}': "500x100", "leasekeep_margin_seconds":
+                  "120x100"}, ("LeasekeepEndNear", "435", 0), ("LeasekeepEndNear", "450", 1)),
+            case({**up, NEED: "500x100", 'leasekeep_end_timestamp_seconds{entry="web"}': "500x100",
+                  "leasekeep_margin_seconds": "120x100"}, ("LeasekeepEndNear", "450", 0)),
+            *(case({**needed, **near, "leasekeep_margin_seconds": "120x100"}, *(
+                ("LeasekeepEndNear", str(seconds), int(seconds in fires)) for seconds in range(0, 600, 15)))
               for near, fires in END_NEAR),
-            case({**up, "leasekeepd_config_last_reload_successful": "1x4 0x10"}, ("LeasekeepdFileFaulty", "45", 0),
-                 ("LeasekeepdFileFaulty", "75", 1)),
-            *(case({**up, "leasekeepd_clock_offset_seconds": f"{offset}x100"}, ("LeasekeepdClockOff", "330", fires))
+            case({**up, "leasekeep_config_last_reload_successful": "1x4 0x10"}, ("LeasekeepFileFaulty", "45", 0),
+                 ("LeasekeepFileFaulty", "75", 1)),
+            *(case({**up, "leasekeep_clock_offset_seconds": f"{offset}x100"}, ("LeasekeepClockOff", "330", fires))
               for offset, fires in ((2, 0), (3, 1), (-3, 1), (0, 0))),
-            case({**up, "leasekeepd_log_dropped_lines_total": "5x10 7x100"}, ("LeasekeepdLogDropped", "135", 0),
-                 ("LeasekeepdLogDropped", "180", 1), ("LeasekeepdLogDropped", "1200", 0)),
-            case({**up, "leasekeepd_alerts_dropped_total": "5x10 7x100"}, ("LeasekeepdAlertsDropped", "135", 0),
-                 ("LeasekeepdAlertsDropped", "180", 1), ("LeasekeepdAlertsDropped", "1200", 0)),
+            case({**up, "leasekeep_log_dropped_lines_total": "5x10 7x100"}, ("LeasekeepLogDropped", "135", 0),
+                 ("LeasekeepLogDropped", "180", 1), ("LeasekeepLogDropped", "1200", 0)),
+            case({**up, "leasekeep_alerts_dropped_total": "5x10 7x100"}, ("LeasekeepAlertsDropped", "135", 0),
+                 ("LeasekeepAlertsDropped", "180", 1), ("LeasekeepAlertsDropped", "1200", 0)),
         ]
         with tempfile.TemporaryDirectory() as folder:
             file = Path(folder) / "tests.yml"
@@ -208,10 +208,10 @@ class InPrometheus(WithBroker):
         end = time.monotonic() + 40 * SLOWER
         while not (fired := {(alert["labels"]["alertname"], alert["labels"].get("entry")) for alert in
                              self.asked("alerts")["alerts"] if alert["state"] == "firing"
-                             if alert["labels"]["alertname"] != "LeasekeepdDown"}):
+                             if alert["labels"]["alertname"] != "LeasekeepDown"}):
             self.assertLess(time.monotonic(), end, "no rule fires")
             time.sleep(0.2)
-        self.assertEqual(fired, {("LeasekeepdEntryGone", "nobody")})
+        self.assertEqual(fired, {("LeasekeepEntryGone", "nobody")})
         for expression in expressions():
             while not (found := self.asked("query?" + urllib.parse.urlencode({"query": expression}))["result"]):
                 self.assertLess(time.monotonic(), end, f"no answer to {expression}")

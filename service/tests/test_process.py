@@ -133,7 +133,7 @@ class Process(WithBroker):
         wrong = daemon.command("need", "nobody", "+6h")
         self.assertEqual((wrong.returncode, wrong.stderr), (1, "leasekeepd: need: no entry is named nobody\n"))
         time.sleep(2)
-        self.assertIn('leasekeepd_state{entry="db",state="kept"} 1', metrics.read_text())
+        self.assertIn('leasekeep_state{entry="db",state="kept"} 1', metrics.read_text())
         self.assert_alive()
         self.assertEqual(daemon.terminate(), 0)
         for secret in ("s.app-secret", "db/creds/1"):

@@ -99,13 +99,13 @@ class Output(Started):
         self.wait_for_renewals(1)
         self.file.write_text("[[token]]\n" * 30_000)
         process.send_signal(signal.SIGHUP)
-        self.wait_for_file(metrics, "leasekeepd_config_last_reload_successful 0\n")
+        self.wait_for_file(metrics, "leasekeep_config_last_reload_successful 0\n")
         dropped, end = 0, time.monotonic() + 20 * SLOWER
         while dropped <= 1000:  # (They may have been written before the faults were.)
             self.assertLess(time.monotonic(), end, f"{dropped} lines dropped")
             time.sleep(0.05)
             (dropped,) = [int(line.split(" ")[1]) for line in metrics.read_text().splitlines()
-                          if line.startswith("leasekeepd_log_dropped_lines_total ")]
+                          if line.startswith("leasekeep_log_dropped_lines_total ")]
         self.wait_for_renewals(1)
         began = time.monotonic()
         process.terminate()
@@ -123,7 +123,7 @@ class Output(Started):
         self.wait_for_renewals(1)
         self.file.write_text("[[token]]\n" * 30_000)
         process.send_signal(signal.SIGHUP)
-        self.wait_for_file(metrics, "leasekeepd_config_last_reload_successful 0\n")
+        self.wait_for_file(metrics, "leasekeep_config_last_reload_successful 0\n")
         enough = threading.Timer(20, process.kill)
         enough.start()
         self.addCleanup(enough.cancel)
@@ -144,7 +144,7 @@ class Output(Started):
         self.assertIn("app kept end ", status.stdout)
         for name in ("state/lock", "run/lock"):
             self.assertEqual((self.folder / name).read_bytes(), b"")
-        self.assertIn("leasekeepd_log_dropped_lines_total 0\n", metrics.read_text())
+        self.assertIn("leasekeep_log_dropped_lines_total 0\n", metrics.read_text())
 
 
 class Missing(Started):

@@ -19,79 +19,79 @@ from .test_scenarios import HOUR, Scenario, fault
 UNTIL = BEGAN + 86_400
 
 EXPECTED = """\
-# HELP leasekeepd_metrics_written_timestamp_seconds When these figures were written.
-# TYPE leasekeepd_metrics_written_timestamp_seconds gauge
-leasekeepd_metrics_written_timestamp_seconds 1000
-# HELP leasekeepd_next_wake_timestamp_seconds The next wake-up.
-# TYPE leasekeepd_next_wake_timestamp_seconds gauge
-leasekeepd_next_wake_timestamp_seconds 1060
-# HELP leasekeepd_margin_seconds How long before its end an entry is renewed.
-# TYPE leasekeepd_margin_seconds gauge
-leasekeepd_margin_seconds 30
-# HELP leasekeepd_clock_offset_seconds How far the broker's clock is ahead of this machine's, where they differ.
-# TYPE leasekeepd_clock_offset_seconds gauge
-leasekeepd_clock_offset_seconds -41
-# HELP leasekeepd_config_last_reload_successful Whether the inventory's file was good when it was last read.
-# TYPE leasekeepd_config_last_reload_successful gauge
-leasekeepd_config_last_reload_successful 0
-# HELP leasekeepd_config_last_reload_timestamp_seconds When the file was last read.
-# TYPE leasekeepd_config_last_reload_timestamp_seconds gauge
-leasekeepd_config_last_reload_timestamp_seconds 990
-# HELP leasekeepd_config_last_reload_success_timestamp_seconds When the file was last read and good.
-# TYPE leasekeepd_config_last_reload_success_timestamp_seconds gauge
-leasekeepd_config_last_reload_success_timestamp_seconds 900
-# HELP leasekeepd_beginnings_total Beginnings: everything is looked up.
-# TYPE leasekeepd_beginnings_total counter
-leasekeepd_beginnings_total 3
-# HELP leasekeepd_log_dropped_lines_total Log lines that nobody took.
-# TYPE leasekeepd_log_dropped_lines_total counter
-leasekeepd_log_dropped_lines_total 17
-# HELP leasekeepd_alerts_dropped_total Warnings and alerts that no program was run with.
-# TYPE leasekeepd_alerts_dropped_total counter
-leasekeepd_alerts_dropped_total 4
-# HELP leasekeepd_state 1 for the state that the entry is in, 0 for the others.
-# TYPE leasekeepd_state gauge
-leasekeepd_state{entry="web",state="gone"} 0
-leasekeepd_state{entry="web",state="ended"} 0
-leasekeepd_state{entry="web",state="waiting"} 0
-leasekeepd_state{entry="web",state="short"} 0
-leasekeepd_state{entry="web",state="unknown"} 0
-leasekeepd_state{entry="web",state="trying"} 0
-leasekeepd_state{entry="web",state="kept"} 1
-leasekeepd_state{entry="db",state="gone"} 1
-leasekeepd_state{entry="db",state="ended"} 0
-leasekeepd_state{entry="db",state="waiting"} 0
-leasekeepd_state{entry="db",state="short"} 0
-leasekeepd_state{entry="db",state="unknown"} 0
-leasekeepd_state{entry="db",state="trying"} 0
-leasekeepd_state{entry="db",state="kept"} 0
-# HELP leasekeepd_end_timestamp_seconds The end of the entry, as far as it is known.
-# TYPE leasekeepd_end_timestamp_seconds gauge
-leasekeepd_end_timestamp_seconds{entry="web"} 1089
-# HELP leasekeepd_need_wanted_timestamp_seconds Until when the entry is needed, 0 where it is not.
-# TYPE leasekeepd_need_wanted_timestamp_seconds gauge
-leasekeepd_need_wanted_timestamp_seconds{entry="web"} 2000
-leasekeepd_need_wanted_timestamp_seconds{entry="db"} 2100
-# HELP leasekeepd_need_carried_timestamp_seconds Until when the entry is needed, by itself or by one under it.
-# TYPE leasekeepd_need_carried_timestamp_seconds gauge
-leasekeepd_need_carried_timestamp_seconds{entry="web"} 2050
-leasekeepd_need_carried_timestamp_seconds{entry="db"} 2100
-# HELP leasekeepd_need_in_force_timestamp_seconds Until when the entry can be kept, as far as is known, 0 where it is \
+# HELP leasekeep_metrics_written_timestamp_seconds When these figures were written.
+# TYPE leasekeep_metrics_written_timestamp_seconds gauge
+leasekeep_metrics_written_timestamp_seconds 1000
+# HELP leasekeep_next_wake_timestamp_seconds The next wake-up.
+# TYPE leasekeep_next_wake_timestamp_seconds gauge
+leasekeep_next_wake_timestamp_seconds 1060
+# HELP leasekeep_margin_seconds How long before its end an entry is renewed.
+# TYPE leasekeep_margin_seconds gauge
+leasekeep_margin_seconds 30
+# HELP leasekeep_clock_offset_seconds How far the broker's clock is ahead of this machine's, where they differ.
+# TYPE leasekeep_clock_offset_seconds gauge
+leasekeep_clock_offset_seconds -41
+# HELP leasekeep_config_last_reload_successful Whether the inventory's file was good when it was last read.
+# TYPE leasekeep_config_last_reload_successful gauge
+leasekeep_config_last_reload_successful 0
+# HELP leasekeep_config_last_reload_timestamp_seconds When the file was last read.
+# TYPE leasekeep_config_last_reload_timestamp_seconds gauge
+leasekeep_config_last_reload_timestamp_seconds 990
+# HELP leasekeep_config_last_reload_success_timestamp_seconds When the file was last read and good.
+# TYPE leasekeep_config_last_reload_success_timestamp_seconds gauge
+leasekeep_config_last_reload_success_timestamp_seconds 900
+# HELP leasekeep_beginnings_total Beginnings: everything is looked up.
+# TYPE leasekeep_beginnings_total counter
+leasekeep_beginnings_total 3
+# HELP leasekeep_log_dropped_lines_total Log lines that nobody took.
+# TYPE leasekeep_log_dropped_lines_total counter
+leasekeep_log_dropped_lines_total 17
+# HELP leasekeep_alerts_dropped_total Warnings and alerts that no program was run with.
+# TYPE leasekeep_alerts_dropped_total counter
+leasekeep_alerts_dropped_total 4
+# HELP leasekeep_state 1 for the state that the entry is in, 0 for the others.
+# TYPE leasekeep_state gauge
+leasekeep_state{entry="web",state="gone"} 0
+leasekeep_state{entry="web",state="ended"} 0
+leasekeep_state{entry="web",state="waiting"} 0
+leasekeep_state{entry="web",state="short"} 0
+leasekeep_state{entry="web",state="unknown"} 0
+leasekeep_state{entry="web",state="trying"} 0
+leasekeep_state{entry="web",state="kept"} 1
+leasekeep_state{entry="db",state="gone"} 1
+leasekeep_state{entry="db",state="ended"} 0
+leasekeep_state{entry="db",state="waiting"} 0
+leasekeep_state{entry="db",state="short"} 0
+leasekeep_state{entry="db",state="unknown"} 0
+leasekeep_state{entry="db",state="trying"} 0
+leasekeep_state{entry="db",state="kept"} 0
+# HELP leasekeep_end_timestamp_seconds The end of the entry, as far as it is known.
+# TYPE leasekeep_end_timestamp_seconds gauge
+leasekeep_end_timestamp_seconds{entry="web"} 1089
+# HELP leasekeep_need_wanted_timestamp_seconds Until when the entry is needed, 0 where it is not.
+# TYPE leasekeep_need_wanted_timestamp_seconds gauge
+leasekeep_need_wanted_timestamp_seconds{entry="web"} 2000
+leasekeep_need_wanted_timestamp_seconds{entry="db"} 2100
+# HELP leasekeep_need_carried_timestamp_seconds Until when the entry is needed, by itself or by one under it.
+# TYPE leasekeep_need_carried_timestamp_seconds gauge
+leasekeep_need_carried_timestamp_seconds{entry="web"} 2050
+leasekeep_need_carried_timestamp_seconds{entry="db"} 2100
+# HELP leasekeep_need_in_force_timestamp_seconds Until when the entry can be kept, as far as is known, 0 where it is \
 gone, has ended or waits.
-# TYPE leasekeepd_need_in_force_timestamp_seconds gauge
-leasekeepd_need_in_force_timestamp_seconds{entry="web"} 1990
-leasekeepd_need_in_force_timestamp_seconds{entry="db"} 0
-# HELP leasekeepd_last_success_timestamp_seconds When the entry was last renewed.
-# TYPE leasekeepd_last_success_timestamp_seconds gauge
-leasekeepd_last_success_timestamp_seconds{entry="web"} 980
-# HELP leasekeepd_renewals_total Renewals, by what came of them.
-# TYPE leasekeepd_renewals_total counter
-leasekeepd_renewals_total{entry="web",result="granted"} 5
-leasekeepd_renewals_total{entry="web",result="refused"} 6
-leasekeepd_renewals_total{entry="web",result="lost"} 7
-leasekeepd_renewals_total{entry="db",result="granted"} 0
-leasekeepd_renewals_total{entry="db",result="refused"} 1
-leasekeepd_renewals_total{entry="db",result="lost"} 2
+# TYPE leasekeep_need_in_force_timestamp_seconds gauge
+leasekeep_need_in_force_timestamp_seconds{entry="web"} 1990
+leasekeep_need_in_force_timestamp_seconds{entry="db"} 0
+# HELP leasekeep_last_success_timestamp_seconds When the entry was last renewed.
+# TYPE leasekeep_last_success_timestamp_seconds gauge
+leasekeep_last_success_timestamp_seconds{entry="web"} 980
+# HELP leasekeep_renewals_total Renewals, by what came of them.
+# TYPE leasekeep_renewals_total counter
+leasekeep_renewals_total{entry="web",result="granted"} 5
+leasekeep_renewals_total{entry="web",result="refused"} 6
+leasekeep_renewals_total{entry="web",result="lost"} 7
+leasekeep_renewals_total{entry="db",result="granted"} 0
+leasekeep_renewals_total{entry="db",result="refused"} 1
+leasekeep_renewals_total{entry="db",result="lost"} 2
 """
 
 
@@ -103,10 +103,10 @@ class Texts(unittest.TestCase):
             EntryStatus("db", State.GONE, None, 2100, 2100, 0, None, 0, 1, 2, "gone")])
         self.assertEqual(text, EXPECTED)
         nothing = metrics_text(Figures(1.0, 0, None, 1, 0.0, 0, 0, FileReading()), [])
-        self.assertNotIn("leasekeepd_next_wake_timestamp_seconds ", nothing.replace("# TYPE leasekeepd_next_wake_"
-                         "timestamp_seconds gauge", "").replace("# HELP leasekeepd_next_wake_timestamp_seconds", ""))
-        self.assertIn("leasekeepd_config_last_reload_successful 0\n", nothing)
-        self.assertIn("leasekeepd_clock_offset_seconds 0\n", nothing)
+        self.assertNotIn("leasekeep_next_wake_timestamp_seconds ", nothing.replace("# TYPE leasekeep_next_wake_"
+                         "timestamp_seconds gauge", "").replace("# HELP leasekeep_next_wake_timestamp_seconds", ""))
+        self.assertIn("leasekeep_config_last_reload_successful 0\n", nothing)
+        self.assertIn("leasekeep_clock_offset_seconds 0\n", nothing)
 
     @unittest.skipIf(which("promtool") is None, "promtool is not installed")
     def test_promtool_finds_no_fault(self) -> None:
@@ -244,7 +244,7 @@ class Readings(InRoom):
                 self.assertEqual(self.value(text, name), value)
             await service.command(["add", TABLE], WHO)
             text = service.metrics()
-            self.assertIn('leasekeepd_state{entry="fresh",state="unknown"} 1\n', text)
+            self.assertIn('leasekeep_state{entry="fresh",state="unknown"} 1\n', text)
             for name, app, fresh in (("wanted", BEGAN + 70_000, 1_080_000), ("carried", 1_080_000, 1_080_000)):
                 self.assertEqual((self.value(text, f'need_{name}_timestamp_seconds{{entry="app"}}'),
                                   self.value(text, f'need_{name}_timestamp_seconds{{entry="fresh"}}')), (str(app), str(fresh)))

@@ -112,7 +112,7 @@ def to_nobody(stage: Stage) -> None:
     pages = stage.room / "pages.sock"
 
     def dropped() -> bool:
-        found = re.search(rb"\nleasekeepd_log_dropped_lines_total (\d+)\n", talk(pages, b"GET /metrics HTTP/1.1\r\n\r\n"))
+        found = re.search(rb"\nleasekeep_log_dropped_lines_total (\d+)\n", talk(pages, b"GET /metrics HTTP/1.1\r\n\r\n"))
         return found is not None and int(found[1]) > 0
 
     served(stage, writer, lambda _agent: stage.check("its lines are dropped", True, until(dropped)), "--listen", "./pages.sock")

@@ -106,7 +106,7 @@ help_of (Entry column) = column_help column
 
 -- what every name begins with
 unfoldable pub prefix : List ℕ
-prefix = codes "leasekeepd_"
+prefix = codes "leasekeep_"
 
 abbrev pub family_kind_word : FamilyKind → List ℕ
 family_kind_word Gauge = codes "gauge"

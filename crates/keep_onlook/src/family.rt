@@ -125,7 +125,7 @@ pub(crate) fn push_sample_name(family: Family, text: &mut Vec<u8>) -> Result<(),
 fn prefix() -> &'static str
     ensures { result.now ≡ prefix }
 {
-    "leasekeepd_"
+    "leasekeep_"
 }
 
 fn total_of(kind: FamilyKind) -> &'static str
