@@ -9,7 +9,9 @@ use Rattle.keep_onlook.specs.declared.board.Row.{Row}
 use Rattle.keep_onlook.specs.declared.board.Surroundings.{Surroundings}
 use Rattle.keep_onlook.specs.declared.listing.Member.{Member}
 use Rattle.keep_onlook.specs.declared.listing.Member.TheVariants as members
+use Rattle.keep_onlook.specs.declared.standby.Standby.{Standby}
 use Rattle.keep_onlook.specs.Escapes.{json_value}
+use Rattle.keep_onlook.specs.Standby.{standby_word}
 use Rattle.keep_onlook.specs.States.{state_word}
 
 abbrev pub number_or_null : Option ℕ → List ℕ
@@ -30,7 +32,7 @@ words_text row =
 
 -- a member with a number, its name first
 unfoldable pub member_name : Member → List ℕ
-member_name members.Now = codes "{\"now\":"
+member_name members.Now = codes ",\"now\":"
 member_name members.NextWake = codes ",\"next_wake\":"
 member_name members.Beginnings = codes ",\"beginnings\":"
 member_name members.Margin = codes ",\"margin\":"
@@ -69,10 +71,14 @@ rows_text (row ∷ rows) = board_row_text row ++ more_rows rows
 unfoldable pub entries_name : List ℕ
 entries_name = codes ",\"entries\":["
 
+-- whether the agent is the first, or stands behind another: the first member
+unfoldable pub standby_text : Standby → List ℕ
+standby_text s = codes "{\"standby\":\"" ++ standby_word s.is_behind ++ codes "\""
+
 unfoldable pub front_text : Board → List ℕ
 front_text b =
-    member_text members.Now (Some b.broker_now) ++ member_text members.NextWake b.surroundings.next_wake ++ member_text members.Beginnings (Some b.beginnings)
-    ++ member_text members.Margin (Some b.margin) ++ entries_name
+    standby_text b.surroundings.standby ++ member_text members.Now (Some b.broker_now) ++ member_text members.NextWake b.surroundings.next_wake
+    ++ member_text members.Beginnings (Some b.beginnings) ++ member_text members.Margin (Some b.margin) ++ entries_name
 
 unfoldable pub listing_text : Board → List ℕ
 listing_text b = front_text b ++ rows_text b.rows ++ codes "]}\n"
