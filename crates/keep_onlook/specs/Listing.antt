@@ -73,7 +73,7 @@ entries_name = codes ",\"entries\":["
 
 -- whether the agent is the first, or stands behind another: the first member
 unfoldable pub standby_text : Standby → List ℕ
-standby_text s = codes "{\"standby\":\"" ++ standby_word s.is_behind ++ codes "\""
+standby_text s = (codes "{\"standby\":\"" ++ standby_word s.is_behind) ++ codes "\""
 
 unfoldable pub front_text : Board → List ℕ
 front_text b =
