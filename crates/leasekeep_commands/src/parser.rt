@@ -324,7 +324,7 @@ const FILE: Word = Word {
     name: "FILE",
     takes: Takes::Text,
     help: "\
-The inventory, at most 1 MiB; read first. `leasekeepd lint FILE` shows every fault,
+The inventory, at most 1 MiB; read first. `leasekeep-inventory lint FILE` shows every fault,
 its line and its fix",
 };
 
