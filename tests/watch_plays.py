@@ -8,18 +8,14 @@ import os
 import selectors
 import socket
 import subprocess
-import sys
 import time
 from collections.abc import Callable
 from dataclasses import dataclass, field
 from pathlib import Path
 
 from bad_hours import SECOND, START, TOGETHER
-from trying import SECONDS, TOP, framed, whole_request
-
-sys.path.insert(0, str(TOP / "service"))
-from tests.model.program_time import ProgramTime  # noqa: E402
-
+from program_time import ProgramTime
+from trying import SECONDS, framed, whole_request
 
 
 # ---- the broker

@@ -11,7 +11,7 @@ from pathlib import Path
 from leasekeep_draw import entries, history, picture, table, terminal
 from leasekeep_draw.chart import LOOKS, MANY, Chart, chart_of, start_of
 from leasekeep_inventory.rfc3339 import LAST
-from leasekeepd_lib.version import version
+from leasekeep_inventory.version import version
 
 _EXAMPLE = """
 example:
@@ -44,7 +44,7 @@ def _parser() -> argparse.ArgumentParser:
     parser = argparse.ArgumentParser(
         prog="leasekeep-draw",
         description="Draws the lives and renewals of an inventory's entries, from the lines that `leasekeep rehearse`, "
-        "`leasekeep run` or `leasekeepd serve` printed.",
+        "`leasekeep run` or `leasekeep serve` printed.",
         epilog=_EXAMPLE,
         formatter_class=argparse.RawDescriptionHelpFormatter,
     )

@@ -50,7 +50,7 @@ def read(text: str, path: str = "FILE") -> Inventory:
     reading = read_inventory(text.encode(), SERVED)
     if reading.inventory is None:
         first = min(reading.faults, key=lambda fault: fault.line)
-        raise InventoryFault(f"{first.text(path)} (`leasekeepd lint {path}` shows every fault)")
+        raise InventoryFault(f"{first.text(path)} (`leasekeep-inventory lint {path}` shows every fault)")
     written = reading.inventory
     places = {entry.name: place for place, entry in enumerate(written.entries)}
     entries = tuple(_entry(written, entry, places) for entry in written.entries)

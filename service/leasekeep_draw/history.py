@@ -1,7 +1,7 @@
-"""The lines that `leasekeep rehearse`, `leasekeep run` and `leasekeepd` print, as what happened to which entry, and when.
+"""The lines that `leasekeep rehearse`, `leasekeep run` and `leasekeep serve` print, as what happened to which entry, and when.
 
 One line an event: `entry NAME END`, `wake T NAME..`, `told NAME SECS`, `refused NAME STATUS`, `lost NAME`,
-`short NAME NEED`; `next`, `sleep`, `idle`, `planned`, `fault` and `done` change no life. A line of leasekeepd's log has its
+`short NAME NEED`; `next`, `sleep`, `idle`, `planned`, `fault` and `done` change no life. A line of serve's log has its
 moment in front, and its moments are dates; a loss has its reason there. What is told of an entry there is told of the `renew NAME..`
 before it that names the entry, and what else the log says is passed over.
 """
@@ -63,13 +63,13 @@ class LineFault(Exception):
     """A line that none of them prints."""
 
     def __init__(self, number: int) -> None:
-        super().__init__(f"line {number} is not one that rehearse, run or leasekeepd prints for this inventory")
+        super().__init__(f"line {number} is not one that rehearse, run or serve prints for this inventory")
         self.number = number
 
 
 _QUIET = {"next", "sleep", "idle", "planned", "fault", "done"}
 _LOGGED = re.compile(r"(\d{4}-\d\d-\d\dT\d\d:\d\d:\d\dZ) (?:(?:note|warning|alert): )?")
-"""The front of a line of leasekeepd's log."""
+"""The front of a line of serve's log."""
 
 
 def read(lines: Iterable[str], indices: Mapping[str, int], start: int) -> History:

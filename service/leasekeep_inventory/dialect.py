@@ -1,4 +1,4 @@
-"""The two ways to write an inventory: with each end told, so that `leasekeep` can plan, and as `leasekeepd` serves it."""
+"""The two ways to write an inventory: with each end told, so that `leasekeep` can plan, and as `leasekeep serve` takes it."""
 
 from __future__ import annotations
 

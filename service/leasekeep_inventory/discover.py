@@ -1,4 +1,4 @@
-"""`leasekeepd inventory`: fills what lookups at the broker tell into a list of entries, and keeps everything else of its text.
+"""`leasekeep-inventory draft`: fills what lookups at the broker tell into a list of entries, and keeps everything else of its text.
 
 The list is an inventory as it is served. A lookup tells `issued`, `end` and `renewable`, of a token also `period` and
 `explicit_max_ttl` and whether it is an orphan; and an `increment` that is not written is what the entry was issued for.

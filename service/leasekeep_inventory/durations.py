@@ -90,7 +90,7 @@ def _in_words(form: Form) -> Form:
 
 def _need() -> Form:
     form = moment(LAST)
-    written = f' or "{_ALWAYS_WORD}" (`leasekeepd need NAME +6h` counts from now)'
+    written = f' or "{_ALWAYS_WORD}" (`leasekeep need NAME +6h` counts from now)'
 
     def read(value: Any) -> Any:
         return ALWAYS if value == _ALWAYS_WORD else form.read(value)

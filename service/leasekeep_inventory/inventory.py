@@ -148,7 +148,7 @@ def toml_string(text: str) -> str:
 
 @lru_cache(2 * MAX_ENTRIES)
 def entry_text(entry: Entry, is_served: bool = False) -> str:
-    """The entry's table, as `leasekeep` reads it or as `leasekeepd` alone does."""
+    """The entry's table, with every end, or as `leasekeep serve` alone takes it."""
     lines = [f"[[{entry.kind.value}]]", f"name = {toml_string(entry.name)}"]
     if entry.parent is not None:
         lines.append(f"{'token' if entry.kind is Kind.LEASE else 'parent'} = {toml_string(entry.parent)}")
@@ -175,6 +175,6 @@ def entry_text(entry: Entry, is_served: bool = False) -> str:
 
 
 def inventory_text(inventory: Inventory, is_served: bool = False) -> str:
-    """The whole inventory as `leasekeep` reads it, or as `leasekeepd` alone does."""
+    """The whole inventory with every end, or as `leasekeep serve` alone takes it."""
     head = f"system_max = {inventory.system_max}\nmargin = {inventory.margin}\n"
     return "\n".join([head, *(entry_text(entry, is_served) for entry in inventory.entries)])

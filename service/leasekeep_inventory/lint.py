@@ -1,4 +1,4 @@
-"""`leasekeepd lint`: every fault and doubt of an inventory, with its line, what is expected and how to mend it."""
+"""`leasekeep-inventory lint`: every fault and doubt of an inventory, with its line, what is expected and how to mend it."""
 
 from __future__ import annotations
 
@@ -34,12 +34,11 @@ class _Doubts:
         self.found.append(Finding(Severity.DOUBT, line, shown(name), key, problem, mend))
 
 
-def lint(data: bytes, mode: int, timeout: int, now: float, names_are_secrets: bool = False,
-         dialect: Dialect = SERVED, folder: Path | None = None) -> list[Finding]:
+def lint(data: bytes, mode: int, timeout: int, now: float, dialect: Dialect = SERVED, folder: Path | None = None) -> list[Finding]:
     """Everything that is wrong or doubtful: faults first to last line, doubts among them. What is said of the whole
     inventory is said where no entry is at fault. The files of secrets are looked at where their folder is given."""
     reading = read_inventory(data, dialect, timeout)
-    found = reading.findings + refusals(reading, timeout, names_are_secrets, mode)
+    found = reading.findings + refusals(reading, timeout, mode)
     doubts = _Doubts(reading)
     is_past = False
     if reading.inventory is not None:

@@ -5,25 +5,23 @@ from __future__ import annotations
 import stat
 
 from .findings import Finding, Severity
-from .inventory import Kind, inventory_text
-from .inventory_file import LIMIT, Reading
+from .inventory import Kind
+from .inventory_file import Reading
 from .room import TIMEOUTS_IN_MARGIN, Room
 
 NO_MARGIN = "is not written", f"write one of at least {TIMEOUTS_IN_MARGIN} times the time-out"
 
 
-def refusals(reading: Reading, timeout: int, names_are_secrets: bool, mode: int) -> list[Finding]:
+def refusals(reading: Reading, timeout: int, mode: int) -> list[Finding]:
     """Why an inventory may not be served, besides what its reading found."""
     found = open_to_others(mode)
-    if reading.inventory is not None and len(inventory_text(reading.inventory)) > LIMIT:
-        found.append(_fault(0, "", "", f"this file is over {LIMIT} bytes as `leasekeep` is handed it", "split the inventory"))
     margin = reading.margin
     if lacks_margin(reading):
         found.append(_fault(0, "", "margin", *NO_MARGIN))
     elif margin is not None and margin < TIMEOUTS_IN_MARGIN * timeout:
         found.append(_fault(reading.line_of("", "margin"), "", "margin", f"is {margin} s, under four times the time-out of {timeout} s",
                             room_of(reading).for_timeout(timeout, margin)))
-    return found if names_are_secrets else found + without_credential(reading, " (--names-are-secrets allows this, for trials)")
+    return found + without_credential(reading)
 
 
 def lacks_margin(reading: Reading) -> bool:
@@ -38,14 +36,14 @@ def open_to_others(mode: int) -> list[Finding]:
     return []
 
 
-def without_credential(reading: Reading, unless: str = "") -> list[Finding]:
-    """The faults of tables without a credential; `unless` is said after what to do."""
+def without_credential(reading: Reading) -> list[Finding]:
+    """The faults of tables without a credential."""
     found = []
     for row in reading.rows:
         if not row.has_credential:
             key = "secret" if row.kind is Kind.TOKEN else "lease_id"
             found.append(_fault(reading.lines.of_key(row.head, row.place, key), row.label, key,
-                                "is missing; the entry's name would be sent to Vault as the credential", f"add {key}{unless}"))
+                                "is missing; the entry's name would be sent to Vault as the credential", f"add {key}"))
     return found
 
 

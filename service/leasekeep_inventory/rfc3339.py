@@ -5,7 +5,6 @@ from __future__ import annotations
 import calendar
 import math
 import re
-from dataclasses import dataclass
 from datetime import datetime, timedelta, timezone
 
 LAST = 253402300799
@@ -53,16 +52,6 @@ def date_mend(text: str) -> str:
         if int(match[group]) > most:
             return f"{words} are 00 to {most}, and this one is {match[group]}"
     return "write a moment from 1970-01-01T00:00:00Z to 9999-12-31T23:59:59Z"
-
-
-@dataclass(frozen=True)
-class At:
-    """A moment that is shown as a date, or past the last date as its seconds."""
-
-    seconds: int
-
-    def __str__(self) -> str:
-        return date_text(self.seconds) if self.seconds <= LAST else str(self.seconds)
 
 
 def date_text(moment: float) -> str:

@@ -61,7 +61,7 @@ class BesideVaultAgent(unittest.IsolatedAsyncioTestCase):
             (self.folder / "answers" / f"hvs.app-{login}").write_text(json.dumps({"lease_id": f"database/creds/app/{login}", "data": {}}))
         self.script("vault", VAULT)
         self.read_app_db = self.script("read-app-db", self.here(written("beside-vault-agent.md", "#!/bin/sh\n# Reads the database")))
-        self.trial = Trial(self.folder, program("leasekeep"), program("minibroker"), rows(int(time.time())), by_itself=True)
+        self.trial = Trial(self.folder, program("leasekeep"), program("minibroker"), rows(int(time.time())))
         self.trial.file.touch(mode=0o600)
         self.trial.file.write_text(self.here((TOP / "examples" / "beside-vault-agent.toml").read_text()))
         self.log = self.folder / "log"
@@ -103,10 +103,10 @@ class BesideVaultAgent(unittest.IsolatedAsyncioTestCase):
     async def test_what_others_write_is_kept(self) -> None:
         await self.trial.start_broker(self.trial.inventory)
         try:
-            await self.trial.start_daemon(self.log)
+            await self.trial.start_agent(self.log)
             await self.played()
         finally:
-            await self.trial.stop_daemon(kill=True)
+            await self.trial.stop_agent(kill=True)
             await self.trial.stop_broker()
 
     async def played(self) -> None:

@@ -1,7 +1,8 @@
-"""`leasekeepd inventory`: what lookups tell is filled into a list, and everything else of it stays."""
+"""`leasekeep-inventory draft`: what lookups tell is filled into a list, and everything else of it stays."""
 
 from __future__ import annotations
 
+import asyncio
 import os
 import shutil
 import subprocess
@@ -10,7 +11,7 @@ import time
 import unittest
 from collections.abc import Callable
 from pathlib import Path
-from typing import Any, cast
+from typing import Any
 
 from leasekeep_inventory.broker import Broker, read_lease_lookup, read_token_lookup
 from leasekeep_inventory.dialect import SERVED
@@ -20,12 +21,10 @@ from leasekeep_inventory.inventory_file import read_inventory
 from leasekeep_inventory.rfc3339 import date_text
 from trial.programs import SLOWER
 
-from .model.server import RealWorld, VaultServer
-from .model.vault import Act, Fault, Vault, VaultTransport
-from .model.world import World, simulate
+from .broker import Vault, VaultServer, VaultTransport
 
 BEGAN = 1_000_000
-LEASEKEEPD = Path(__file__).resolve().parents[1] / "leasekeepd"
+PROGRAM = Path(__file__).resolve().parents[1] / "leasekeep-inventory"
 LIST = """# What app needs.
 margin = "30s"   # as long as a restart takes
 
@@ -86,18 +85,14 @@ class Discovered(unittest.TestCase):
         self.addCleanup(shutil.rmtree, self.folder, True)
         (self.folder / "app.token").write_text("hvs.app-secret\n")
 
-    def fill(self, data: bytes, mode: int = 0o600, faults: tuple[Fault, ...] = (), **real: Any) -> Filled:
+    def fill(self, data: bytes, mode: int = 0o600, status: int | None = None, **real: Any) -> Filled:
         """The list filled in by a broker that issued everything 1,800 seconds ago for an hour, but for what `real` changes."""
         row = Entry("app", Kind.TOKEN, None, BEGAN - 1800, BEGAN + 1800, increment=3600, max_ttl=90_000, credential="hvs.app-secret")
         rows = (row, Entry("job", Kind.TOKEN, "app", BEGAN - 1800, BEGAN + 1800, increment=3600, credential="s.job"),
                 Entry("db", Kind.LEASE, "app", BEGAN - 1800, BEGAN + 1800, increment=3600, credential="db/creds/1"))
-
-        async def go() -> Filled:
-            world = World()
-            vault = Vault(world, faults=list(faults))
-            vault.load(Inventory(rows, 30), **{name: {"lasts": 3600, **real.get(name, {})} for name in ("app", "job", "db")})
-            return await discover(Broker(VaultTransport(vault), 5.0), world.wall, read_list(data, mode, self.folder))
-        return simulate(go())
+        vault = Vault(lambda: BEGAN, status)
+        vault.load(Inventory(rows, 30), **{name: {"lasts": 3600, **real.get(name, {})} for name in ("app", "job", "db")})
+        return asyncio.run(discover(Broker(VaultTransport(vault), 5.0), vault.now, read_list(data, mode, self.folder)))
 
     def text(self, text: str, **real: Any) -> str:
         return self.fill(text.encode(), **real).data.decode()
@@ -218,7 +213,7 @@ class Faults(Discovered):
     def test_all_of_them(self) -> None:
         text = LIST.replace("always", "forever").replace('name = "db"', 'name = "db"\nincremnt = 5')
         self.assertEqual([said.partition(" fault: ")[0] for said in self.faults(text)], ["f:8:", "f:12:"])
-        self.assertEqual([said.partition(": its")[0] for said in self.faults(LIST, faults=(Fault(0, 2e9, Act.STATUS, 500),))], [
+        self.assertEqual([said.partition(": its")[0] for said in self.faults(LIST, status=500)], [
             "f:4: fault: app secret", "f:13: fault: db lease_id", "f:21: fault: job secret"])
 
     def test_a_list_that_others_may_read(self) -> None:
@@ -250,20 +245,20 @@ class Command(Discovered):
         file = self.folder / "list.toml"
         file.write_text(text)
         file.chmod(mode)
-        return subprocess.run([str(LEASEKEEPD), "inventory", str(file), str(self.folder / "nobody.sock")], capture_output=True, text=True,
+        return subprocess.run([str(PROGRAM), "draft", str(file), str(self.folder / "nobody.sock")], capture_output=True, text=True,
                               timeout=60 * SLOWER)
 
     def test_over_a_socket(self) -> None:
         """The text comes as it was told, in UTF-8 whatever the terminal has, and what is doubtful to standard error."""
         began = int(time.time())
-        vault = Vault(cast(World, RealWorld()))
+        vault = Vault(time.time)
         vault.load(Inventory((Entry("app", Kind.TOKEN, None, began, began + 900, renewable=False, credential="s.app"),)), app={"lasts": 900})
         server = VaultServer(vault).start()
         self.addCleanup(server.stop)
         file = self.folder / "list.toml"
         file.write_text('# für immer\r\n[[token]]\r\nname = "app" # €\r\nmax_ttl = "1d"\r\nsecret = "s.app"', "utf-8", newline="")
         file.chmod(0o600)
-        ran = subprocess.run([str(LEASEKEEPD), "inventory", str(file), server.word], capture_output=True, timeout=60 * SLOWER,
+        ran = subprocess.run([str(PROGRAM), "draft", str(file), server.word], capture_output=True, timeout=60 * SLOWER,
                              env={**os.environ, "PYTHONIOENCODING": "latin-1"})
         self.assertEqual((ran.returncode, ran.stderr.decode()), (
             0, f"{file}: doubt: margin: is not written; write one of at least 4 times the time-out\n"

@@ -17,7 +17,7 @@ import unittest
 from pathlib import Path
 
 from leasekeep_draw.command import _parser as draw_parser
-from leasekeepd_lib.cli import _parser as daemon_parser
+from leasekeep_inventory.command import _parser as inventory_parser
 from trial.programs import SLOWER, find_program
 
 TOP = Path(__file__).resolve().parents[2]
@@ -68,7 +68,7 @@ class Help(unittest.TestCase):
         self.addCleanup(shutil.rmtree, self.folder, True)
 
     def test_every_option_is_in_the_page_and_in_each_shell(self) -> None:
-        for name, parser in (("leasekeepd", daemon_parser()), ("leasekeep-draw", draw_parser())):
+        for name, parser in (("leasekeep-inventory", inventory_parser()), ("leasekeep-draw", draw_parser())):
             made = written(name)
             page = made[""].replace("\\-", "-")
             for command, options in options_of(parser).items():
@@ -88,18 +88,18 @@ class Help(unittest.TestCase):
 
     @unittest.skipIf(shutil.which("man") is None, "man is not installed")
     def test_the_pages_are_set_without_a_warning(self) -> None:
-        for name in ("leasekeepd", "leasekeep-draw", "leasekeep", "minibroker"):
+        for name in ("leasekeep-inventory", "leasekeep-draw", "leasekeep", "minibroker"):
             with self.subTest(name=name):
                 heads = re.findall(r"^[A-Z][A-Z ]+$", shown(written(name)[""]), re.M)
                 self.assertEqual(heads[:3], ["NAME", "SYNOPSIS", "DESCRIPTION"])
                 self.assertEqual(heads[-1], "SEE ALSO")
 
     @unittest.skipIf(shutil.which("man") is None, "man is not installed")
-    def test_files_and_signals_of_the_service(self) -> None:
-        page = shown(written("leasekeepd")[""])
+    def test_files_and_signals_of_the_agent(self) -> None:
+        page = shown(written("leasekeep")[""])
         heads = re.findall(r"^[A-Z][A-Z ]+$", page, re.M)
-        self.assertEqual(heads[-4:], ["FILES", "SIGNALS", "ENVIRONMENT", "SEE ALSO"])
-        for words in ("/var/lib/leasekeepd/journal", "/run/leasekeepd/control.sock", "SIGHUP", "leasekeep-inventory(5)"):
+        self.assertEqual(heads[-4:], ["FILES", "ENVIRONMENT", "SIGNALS", "SEE ALSO"])
+        for words in ("/var/lib/leasekeep/journal", "/run/leasekeep/control.sock", "SIGHUP", "leasekeep-inventory(5)"):
             self.assertIn(words, page)
 
     @unittest.skipIf(shutil.which("man") is None, "man is not installed")
@@ -111,7 +111,7 @@ class Help(unittest.TestCase):
         self.assertNotRegex(page, r"\*\*|\]\(|`")
 
     def test_the_page_names_the_version_of_the_file(self) -> None:
-        self.assertIn(f'"leasekeep {(TOP / "VERSION").read_text().strip()}"', written("leasekeepd")[""])
+        self.assertIn(f'"leasekeep {(TOP / "VERSION").read_text().strip()}"', written("leasekeep-draw")[""])
 
     def test_commands_of_clap(self) -> None:
         made = written("leasekeep")
@@ -128,9 +128,9 @@ class Help(unittest.TestCase):
     def completed(self, shell: str, *words: str) -> list[str]:
         """What the shell offers for the last word."""
         file = self.folder / f"{shell}.completions"
-        file.write_text(written("leasekeepd")[shell])
+        file.write_text(written("leasekeep-inventory")[shell])
         if shell == "bash":
-            script = (f"source {file}; COMP_WORDS=(\"$@\"); COMP_CWORD=$(($# - 1)); _leasekeepd 2>/dev/null;"
+            script = (f"source {file}; COMP_WORDS=(\"$@\"); COMP_CWORD=$(($# - 1)); _leasekeep_inventory 2>/dev/null;"
                       " printf '%s\\n' \"${COMPREPLY[@]}\"")
             ran = subprocess.run(["bash", "-c", script, "_", *words], capture_output=True, text=True, timeout=60 * SLOWER, cwd=self.folder)
         else:
@@ -145,19 +145,14 @@ class Help(unittest.TestCase):
             if shutil.which(shell) is None:
                 continue
             with self.subTest(shell=shell):
-                self.assertEqual(self.completed(shell, "leasekeepd", "s"), ["serve", "settle", "status"])
-                self.assertEqual(self.completed(shell, "leasekeepd", "serve", "--log", ""), ["json", "text"])
-                self.assertEqual(self.completed(shell, "leasekeepd", "lint", "--names"), ["--names-are-secrets"])
-                self.assertEqual(self.completed(shell, "leasekeepd", "lint", "w"), ["web.toml"])
-                self.assertEqual(self.completed(shell, "leasekeepd", "status", "w"), [""] if shell == "bash" else [])
+                self.assertEqual(self.completed(shell, "leasekeep-inventory", "d"), ["draft"])
+                self.assertEqual(self.completed(shell, "leasekeep-inventory", "lint", "--st"), ["--strict"])
+                self.assertEqual(self.completed(shell, "leasekeep-inventory", "lint", "w"), ["web.toml"])
 
     @unittest.skipIf(shutil.which("zsh") is None, "zsh is not installed")
     def test_zsh(self) -> None:
-        (self.folder / "_leasekeepd").write_text(written("leasekeepd")["zsh"])
-        shown = self.typed_in_zsh("leasekeepd serve --log \t\t")
-        self.assertIn("json", shown)
-        self.assertIn("text", shown)
-        self.assertIn("lint --names-are-secrets", self.typed_in_zsh("leasekeepd lint --names\t\t"))
+        (self.folder / "_leasekeep-inventory").write_text(written("leasekeep-inventory")["zsh"])
+        self.assertIn("lint --strict", self.typed_in_zsh("leasekeep-inventory lint --st\t\t"))
 
     def typed_in_zsh(self, line: str) -> str:
         """What a zsh shows that has these completions, while that is typed."""

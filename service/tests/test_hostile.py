@@ -15,7 +15,6 @@ from leasekeep_inventory.discover import DiscoverFault, read_list
 from leasekeep_inventory.http_client import MOST, Response, read_response
 from leasekeep_inventory.inventory_file import read_inventory
 from leasekeep_inventory.lint import lint
-from leasekeepd_lib.watch_lines import WatchLineFault, read_watch_line
 from trial.programs import SLOWER
 
 CASES = 1500
@@ -145,13 +144,6 @@ class Hostile(unittest.TestCase):
                     read_list(text, 0o600, Path(folder))
                 except DiscoverFault as fault:
                     self.assertNotIn("s.app", str(fault))
-
-    def test_lines_of_the_watch(self) -> None:
-        for text in cases((b"told app 60", b"wake 1059 app db", b"next none", b"short db 1150"), 5):
-            try:
-                read_watch_line(text.decode("ascii", "replace"))
-            except WatchLineFault:
-                pass
 
 
 if __name__ == "__main__":

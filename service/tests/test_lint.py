@@ -2,7 +2,6 @@
 
 from __future__ import annotations
 
-import os
 import re
 import shutil
 import subprocess
@@ -16,15 +15,6 @@ from leasekeep_inventory.dialect import SERVED, STRICT, Dialect
 from leasekeep_inventory.discover import read_list
 from leasekeep_inventory.inventory import Entry, Inventory, Kind, inventory_text
 from leasekeep_inventory.lint import lint
-from leasekeepd_journal.changes import only_entry
-from leasekeepd_journal.storage import Storage
-from leasekeepd_lib.source import Source
-from leasekeepd_lib.widest import widest_margin
-from trial.programs import SLOWER, find_program
-
-from .model.stage import fleet
-
-LEASEKEEPD = Path(__file__).resolve().parents[1] / "leasekeepd"
 NOW = 1_000_000.0
 GOOD = """margin = 20
 [[token]]
@@ -44,6 +34,14 @@ increment = 900
 need = 1050000
 lease_id = "db/creds/1"
 """
+
+
+def fleet(count: int) -> str:
+    """So many tokens of ten minutes, with a margin of 60."""
+    now = int(NOW)
+    entries = (Entry(f"e{place}", Kind.TOKEN, None, now - 1000, now + 300, increment=600, max_ttl=30_000_000, need=now + 86400, credential=f"s.e{place}")
+               for place in range(count))
+    return inventory_text(Inventory(tuple(entries), 60))
 
 
 def linted(text: str, mode: int = 0o600, timeout: int = 5, dialect: Dialect = STRICT) -> list[str]:
@@ -104,10 +102,9 @@ class Lint(unittest.TestCase):
             self.assertEqual(sum(": fault: " in line for line in lines), faults, lines)
 
     def test_a_round_that_a_slow_broker_makes_longer_than_the_margin(self) -> None:
-        text = inventory_text(fleet(320, 600, 60, 300))
         self.assertIn("f:2: doubt: margin: the fullest round, 8 at a time, may take longer than the margin (320 entries, 5 s",
-                      "\n".join(linted(text)))
-        self.assertEqual(linted(inventory_text(fleet(96, 600, 60, 300))), [])
+                      "\n".join(linted(fleet(320))))
+        self.assertEqual(linted(fleet(96)), [])
 
 
 def table(kind: str, name: str, *more: str) -> str:
@@ -121,7 +118,7 @@ class WrittenMargin(unittest.TestCase):
     def test_one_that_is_not_written_is_a_fault(self) -> None:
         """Whatever the commands that plan take then: nobody has said which outages to survive."""
         def found(text: str, dialect: Dialect = SERVED) -> list[str]:
-            findings = lint(text.encode(), 0o600, 5, 1000.0, True, dialect)
+            findings = lint(text.encode(), 0o600, 5, 1000.0, dialect)
             return [finding.text("f") for finding in findings if finding.key == "margin"]
         entry = '[[token]]\nname = "web"\nissued = 900\nend = 2000\nincrement = 600\nneed = 9000\n'
         said = "f: fault: margin: is not written; write one of at least 4 times the time-out"
@@ -334,16 +331,6 @@ class ByteOrderMark(unittest.TestCase):
         self.assertEqual(linted("\ufeff" + GOOD), [])
         self.assertEqual(len(linted("\ufeff\ufeff" + GOOD)), 1)
 
-    def test_serve(self) -> None:
-        file = self.folder / "inventory.toml"
-        file.touch(0o600)
-        file.write_text("\ufeff" + GOOD, "utf-8")
-        source = Source(file, self.folder / "copy", 5, False, Storage())
-        self.assertEqual([entry.name for entry in source.load().inventory.entries], ["app", "db"])
-
-    def test_a_table_that_is_added(self) -> None:
-        self.assertEqual(only_entry("\ufeff" + table("token", "a")).name, "a")
-
     def test_a_short_list(self) -> None:
         data = ("\ufeff" + '[[token]]\nname = "a"\nsecret = "s.a"\n').encode()
         self.assertEqual([entry.name for entry in read_list(data, 0o600, self.folder).inventory.entries], ["a"])
@@ -354,55 +341,6 @@ class ByteOrderMark(unittest.TestCase):
         draw = Path(__file__).resolve().parents[1] / "leasekeep-draw"
         drawn = subprocess.run([sys.executable, draw, file, "--table"], input="done 0 0\n", capture_output=True, text=True, timeout=60)
         self.assertEqual((drawn.returncode, drawn.stderr), (0, ""))
-
-
-class Words(unittest.TestCase):
-    def test_names_are_secrets_is_a_word_of_lint_as_of_serve(self) -> None:
-        with tempfile.TemporaryDirectory() as folder:
-            file = Path(folder) / "f.toml"
-            file.touch(0o600)
-            now = int(time.time())
-            file.write_text("margin = 20\n" + GOOD.replace("margin = 20", "").replace('secret = "hvs.app-secret"\n', "")
-                            .replace("999000", str(now)).replace("1000900", str(now + 900)).replace("1050000", str(now + 5000)))
-            program = Path(__file__).resolve().parents[1] / "leasekeepd"
-            for words, status, said in (((), 1, "1 fault, 0 doubts"), (("--names-are-secrets",), 0, "0 faults, 0 doubts")):
-                ran = subprocess.run([sys.executable, program, "lint", file, *words], capture_output=True, text=True, timeout=60)
-                self.assertEqual((ran.returncode, ran.stderr), (status, f"{file}: {said}\n"), ran.stdout)
-
-
-class Widest(unittest.TestCase):
-    def told(self, margin: int, program: str) -> str:
-        now = int(time.time())
-        entries = (Entry(f"e{place}", Kind.TOKEN, None, now - 9, now + 600, increment=600 + 100 * place, max_ttl=90_000,
-                         need=now + 3000, credential=f"s.e{place}") for place in range(2))
-        with tempfile.TemporaryDirectory() as folder:
-            file = Path(folder) / "inventory.toml"
-            file.touch(0o600)
-            file.write_text(inventory_text(Inventory(tuple(entries), margin)))
-            ran = subprocess.run([str(LEASEKEEPD), "lint", str(file)], capture_output=True, text=True, timeout=60 * SLOWER,
-                                 env={**os.environ, "PATH": f"{Path(program).parent}:{os.environ['PATH']}"})
-            self.assertEqual((ran.returncode, ran.stderr), (0, f"{file}: 0 faults, 0 doubts\n"))
-            return ran.stdout.replace(str(file), "f")
-
-    def test_it_is_named_where_it_is_wider(self) -> None:
-        """A wake-up every 600 less the margin: five up to 3000 with a margin of 20, and with each up to the widest."""
-        program = find_program("leasekeep")
-        if program is None or Path(program).name != "leasekeep":
-            self.skipTest("no built leasekeep")
-        widest = self.named(self.told(20, program))
-        self.assertGreater(widest, 20)
-        said = self.told(widest, program)
-        # (lint reads the clock some time after the ends were written, and on a busy machine not both times as long after it.)
-        self.assertTrue(said == "" or 0 < self.named(said) - widest <= 3 * SLOWER, said)
-
-    def named(self, said: str) -> int:
-        found = re.fullmatch(r"f: note: margin: (\d+) takes no more wake-ups and survives longer outages; write it if you like\n", said)
-        assert found is not None, said
-        return int(found[1])
-
-    def test_without_the_program_nothing_is_said(self) -> None:
-        self.assertIsNone(widest_margin("/nowhere/leasekeep", Path("/nowhere/file"), 1e9))
-        self.assertIsNone(widest_margin("true", Path("/nowhere/file"), 1e9))
 
 
 if __name__ == "__main__":

@@ -1,14 +1,13 @@
-"""The alert rules and the dashboard that are shipped: by promtool, and in a real Prometheus beside each of the real agents."""
+"""The alert rules and the dashboard that are shipped: by promtool, and in a real Prometheus beside a real agent."""
 
 from __future__ import annotations
 
-import http.server
 import json
 import re
+import shutil
 import socket
 import subprocess
 import tempfile
-import threading
 import time
 import unittest
 import urllib.parse
@@ -17,14 +16,17 @@ from pathlib import Path
 from shutil import which
 from typing import Any
 
-from leasekeep_inventory.inventory import Entry, Kind
-from trial.programs import SLOWER
+from leasekeep_inventory.inventory import Entry, Inventory, Kind, inventory_text
+from trial.programs import SLOWER, TOP, find_program
 
-from .test_process import SERVICE, Daemon, WithBroker, write_inventory
-from .test_status import EXPECTED
+from .broker import Vault, VaultServer
 
-MONITORING = SERVICE / "monitoring"
-RULES, DASHBOARD = MONITORING / "leasekeepd.rules.yml", MONITORING / "dashboard.json"
+MONITORING = TOP / "service" / "monitoring"
+RULES, DASHBOARD = MONITORING / "leasekeep.rules.yml", MONITORING / "dashboard.json"
+SHOWN = set(re.findall(r"# TYPE (\w+)", (TOP / "tests/plays/onlookers/metrics").read_text()))
+"""The metrics of an agent."""
+UNASKED = {"leasekeep_changes_kept"}
+"""What neither a rule nor a panel asks for: it stays as it is as long as an agent runs."""
 PORT_WORDS = re.compile(r"Listening on.*address=127\.0\.0\.1:(\d+)")
 NEED = 'leasekeep_need_carried_timestamp_seconds{entry="web"}'
 WRITTEN = "leasekeep_metrics_written_timestamp_seconds"
@@ -64,11 +66,10 @@ def state(name: str) -> str:
 
 class Shipped(unittest.TestCase):
     def test_they_ask_for_what_is_there_and_for_all_of_it(self) -> None:
-        there = set(re.findall(r"# TYPE (\w+)", EXPECTED))
-        rules = set(re.findall(r"leasekeepd_\w+", RULES.read_text()))
-        dashboard = set(re.findall(r"leasekeepd_\w+", " ".join(expressions())))
-        self.assertEqual(rules - there, set())
-        self.assertEqual(dashboard | rules, there)
+        rules = set(re.findall(r"leasekeep_\w+", RULES.read_text()))
+        dashboard = set(re.findall(r"leasekeep_\w+", " ".join(expressions())))
+        self.assertEqual(rules - SHOWN, set())
+        self.assertEqual(dashboard | rules, SHOWN - UNASKED)
 
     def test_panels_stand_beside_each_other(self) -> None:
         taken: set[tuple[int, int]] = set()
@@ -107,11 +108,11 @@ class Rules(unittest.TestCase):
         up = {WRITTEN: "0+15x100"}
         needed = {**up, NEED: "10000x100"}
         tests = [
-            case({WRITTEN: "0+15x4 60x40"}, ("LeasekeepDown", "105", 0), ("LeasekeepDown", "135", 1)),
-            case({}, ("LeasekeepDown", "15", 1)),
+            case({WRITTEN: "0+15x4 60x40"}, ("LeasekeepAgentDown", "105", 0), ("LeasekeepAgentDown", "135", 1)),
+            case({}, ("LeasekeepAgentDown", "15", 1)),
             case({WRITTEN + '{job="a",instance="1"}': "0+15x4 stale", WRITTEN + '{job="a",instance="2"}': "0+15x100",
                   'up{job="a",instance="1"}': "1x4 0x40", 'up{job="a",instance="2"}': "1x4 0x2 1x100", 'up{job="b",instance="1"}': "0x100"},
-                 ("LeasekeepDown", "165", 0), ("LeasekeepDown", "195", 1), ("LeasekeepDown", "600", 1)),
+                 ("LeasekeepAgentDown", "165", 0), ("LeasekeepAgentDown", "195", 1), ("LeasekeepAgentDown", "600", 1)),
             *(case({**needed, state(name): "0x4 1x10 0x20"}, (alert, "45", 0), (alert, "75", 1), (alert, "300", 0))
               for name, alert in (("gone", "LeasekeepEntryGone"), ("ended", "LeasekeepEntryEnded"),
                                   ("short", "LeasekeepEntryShort"))),
@@ -146,24 +147,8 @@ class Rules(unittest.TestCase):
             self.promtool("test", "rules", str(file))
 
 
-class _Metrics(http.server.BaseHTTPRequestHandler):
-    """The metrics file, as a node exporter hands it on."""
-
-    file: Path
-
-    def do_GET(self) -> None:
-        body = self.file.read_bytes() if self.file.exists() else b""
-        self.send_response(200)
-        self.send_header("Content-Type", "text/plain; version=0.0.4")
-        self.end_headers()
-        self.wfile.write(body)
-
-    def log_message(self, format: str, *words: object) -> None:
-        pass
-
-
 @unittest.skipIf(which("promtool") is None or which("prometheus") is None, "Prometheus is not installed")
-class InPrometheus(WithBroker):
+class InPrometheus(unittest.TestCase):
     def asked(self, path: str) -> Any:
         with urllib.request.urlopen(f"http://127.0.0.1:{self.port}/api/v1/{path}", timeout=5) as reply:
             return json.load(reply)["data"]
@@ -173,7 +158,7 @@ class InPrometheus(WithBroker):
         config.write_text(json.dumps({
             "global": {"scrape_interval": "1s", "scrape_timeout": "1s", "evaluation_interval": "1s"},
             "rule_files": [str(RULES)],
-            "scrape_configs": [{"job_name": "leasekeepd", "static_configs": [{"targets": [f"127.0.0.1:{exporter}"]}]}]}))
+            "scrape_configs": [{"job_name": "leasekeep", "static_configs": [{"targets": [f"127.0.0.1:{exporter}"]}]}]}))
         log = self.folder / "prometheus.log"
         with open(log, "wb") as output:
             process = subprocess.Popen(
@@ -199,16 +184,29 @@ class InPrometheus(WithBroker):
             return False
 
     def setUp(self) -> None:
-        super().setUp()
-        gone = Entry("nobody", Kind.LEASE, "app", 1000, 1060, increment=16, need=self.inventory.entries[0].need,
-                     credential="db/creds/nobody")
-        self.inventory = type(self.inventory)((*self.inventory.entries, gone), 12)
+        """An inventory of two entries and of one that nobody knows, and a broker for them."""
+        program = find_program("leasekeep")
+        if program is None:
+            self.skipTest("no built leasekeep")
+        self.program = program
+        self.folder = Path(tempfile.mkdtemp())
+        self.addCleanup(shutil.rmtree, self.folder, True)
+        now = int(time.time())
+        entries = (
+            Entry("app", Kind.TOKEN, None, now, now + 17, increment=17, max_ttl=9000, need=now + 600, credential="s.app-secret"),
+            Entry("db", Kind.LEASE, "app", now, now + 16, increment=16, max_ttl=9000, need=now + 600, credential="db/creds/1"),
+            Entry("nobody", Kind.LEASE, "app", 1000, 1060, increment=16, need=now + 600, credential="db/creds/nobody"))
+        self.inventory = Inventory(entries, 12)
+        vault = Vault(time.time)
+        vault.load(Inventory(entries[:2], 12))
+        self.server = VaultServer(vault).start()
+        self.addCleanup(self.server.stop)
 
     def one_rule_fires_and_every_panel_has_an_answer(self) -> None:
         end = time.monotonic() + 40 * SLOWER
         while not (fired := {(alert["labels"]["alertname"], alert["labels"].get("entry")) for alert in
                              self.asked("alerts")["alerts"] if alert["state"] == "firing"
-                             if alert["labels"]["alertname"] != "LeasekeepDown"}):
+                             if alert["labels"]["alertname"] != "LeasekeepAgentDown"}):
             self.assertLess(time.monotonic(), end, "no rule fires")
             time.sleep(0.2)
         self.assertEqual(fired, {("LeasekeepEntryGone", "nobody")})
@@ -219,25 +217,13 @@ class InPrometheus(WithBroker):
             if "state=\"gone\"" in expression and " or vector(0)" in expression:
                 self.assertEqual(found[0]["value"][1], "1")
 
-    def test_over_the_file_of_leasekeepd(self) -> None:
-        metrics = self.folder / "leasekeepd.prom"
-        handler = type("Handler", (_Metrics,), {"file": metrics})
-        exporter = http.server.ThreadingHTTPServer(("127.0.0.1", 0), handler)
-        threading.Thread(target=exporter.serve_forever, daemon=True).start()
-        self.addCleanup(exporter.server_close)
-        self.addCleanup(exporter.shutdown)
-        self.start_prometheus(exporter.server_address[1])
-        daemon: Daemon = self.daemon("--metrics", str(metrics), environment={"WATCHDOG_USEC": "1500000"})
-        daemon.wait_for("alert: gone nobody")
-        self.one_rule_fires_and_every_panel_has_an_answer()
-
     def test_over_the_page_of_leasekeep_serve(self) -> None:
         port = self.serve()
         self.start_prometheus(port)
         self.one_rule_fires_and_every_panel_has_an_answer()
         with urllib.request.urlopen(f"http://127.0.0.1:{port}/metrics", timeout=5) as reply:
             page = reply.read()
-        self.assertEqual(set(re.findall(r"# TYPE (\w+)", page.decode())), set(re.findall(r"# TYPE (\w+)", EXPECTED)))
+        self.assertEqual(set(re.findall(r"# TYPE (\w+)", page.decode())), SHOWN)
         checked = subprocess.run(["promtool", "check", "metrics"], input=page, capture_output=True, timeout=60)
         self.assertEqual((checked.returncode, checked.stdout + checked.stderr), (0, b""))
         for word in (b"s.app-secret", b"db/creds"):
@@ -248,7 +234,8 @@ class InPrometheus(WithBroker):
         with socket.create_server(("127.0.0.1", 0)) as free:
             port = int(free.getsockname()[1])
         file = self.folder / "served.toml"
-        write_inventory(file, self.inventory)
+        file.touch(0o600)
+        file.write_text(inventory_text(self.inventory))
         with open(self.folder / "log", "wb") as log:
             process = subprocess.Popen([self.program, "serve", str(file), self.server.word, "--timeout", "1", "--listen", str(port)],
                                        stdout=log, stderr=log)

@@ -63,7 +63,6 @@ need = {ISSUED + 75600}
 lease_id = "db/creds/1"
 """
 """The same, where `always` from the start on is until the token's ceiling."""
-CLOCKS = f"clock {ISSUED + 60}000 1000\nclock {ISSUED + 61}000 2000\n"
 
 
 class OneFile(unittest.TestCase):
@@ -98,9 +97,6 @@ class OneFile(unittest.TestCase):
         self.both("margin", START)
         wakes = [line for line in self.both("rehearse", START).splitlines() if line.startswith("wake ")]
         self.assertEqual(len(wakes), int(plan.splitlines()[-1].removeprefix("end ")))
-
-    def test_the_watch(self) -> None:
-        self.assertTrue(self.both("watch", "./none", given=CLOCKS).startswith("begin start\nlook app db\n"))
 
     def test_the_tools(self) -> None:
         for dialect in (SERVED, STRICT):

@@ -1,4 +1,4 @@
-"""What judges a standby trial: a change that was acknowledged and is not there is found, and nothing else is."""
+"""What judges a long trial: a change that was acknowledged and is not there is found, and nothing else is."""
 
 from __future__ import annotations
 
@@ -9,23 +9,23 @@ from pathlib import Path
 from unittest import mock
 
 from leasekeep_inventory.inventory import Entry, Kind
-from leasekeepd_lib.control import ControlFault
+from trial.control import ControlFault
 from trial.orders import Orders
 
 KEPT = Entry("db", Kind.LEASE, "app", 1000, 2000, increment=60, need=9000, credential="db/1")
-SPARE = Entry("spare", Kind.LEASE, "app", 1000, 2000, increment=60, need=9000, credential="db/2", credential_file="spare.lease")
+SPARE = Entry("spare", Kind.LEASE, "app", 1000, 2000, increment=60, need=9000, credential="db/2")
 
 
-class Leader:
-    """A leader that keeps needs as a trial's changes make them, or forgets them."""
+class Agent:
+    """An agent that keeps needs as a trial's changes make them, or forgets them."""
 
     def __init__(self) -> None:
         self.needs = {"db": "1970-01-01T02:30:00Z"}
         self.answers = self.keeps = True
-        self.terms = iter(["one"] * 1000)
+        self.processes = iter([1] * 1000)
 
-    async def led(self) -> tuple[Path, str] | None:
-        return Path("control.sock"), next(self.terms)
+    def served(self) -> tuple[Path, int] | None:
+        return Path("control.sock"), next(self.processes)
 
     def command(self, _socket: Path, words: list[str]) -> list[str]:
         if words == ["status"]:
@@ -48,44 +48,44 @@ class Leader:
 
 
 class Judged(unittest.TestCase):
-    def orders(self, leader: Leader) -> Orders:
-        return Orders(leader.led, [Path("control.sock")], [KEPT], [SPARE], random.Random(1))
+    def orders(self, agent: Agent) -> Orders:
+        return Orders(agent.served, [KEPT], [SPARE], random.Random(1), late=0.0)
 
-    def play(self, leader: Leader, changes: int) -> Orders:
-        orders = self.orders(leader)
+    def play(self, agent: Agent, changes: int) -> Orders:
+        orders = self.orders(agent)
 
         async def go() -> None:
             for _ in range(changes):
                 await orders.give()
                 await orders.look()
-        with mock.patch("trial.orders.send_command", leader.command):
+        with mock.patch("trial.orders.send_command", agent.command):
             asyncio.run(go())
         return orders
 
     def test_all_is_there(self) -> None:
-        orders = self.play(Leader(), 60)
+        orders = self.play(Agent(), 60)
         self.assertEqual((orders.acknowledged, orders.refused, orders.looks, orders.lost), (60, 0, 60, []))
 
     def test_what_was_acknowledged_and_is_not_there(self) -> None:
-        leader = Leader()
-        leader.keeps = False
-        orders = self.play(leader, 1)
+        agent = Agent()
+        agent.keeps = False
+        orders = self.play(agent, 1)
         (lost,) = orders.lost
         self.assertIn(lost, ("db: 1970-01-01T02:30:00Z, and 1970-01-01T02:30:01Z was acknowledged",
                              "spare: absent, and 1970-01-01T02:30:01Z was acknowledged"))
 
     def test_what_was_not_acknowledged_may_be_there_or_not(self) -> None:
         for keeps in (True, False):
-            leader = Leader()
-            leader.answers, leader.keeps = False, keeps
-            orders = self.play(leader, 10)
+            agent = Agent()
+            agent.answers, agent.keeps = False, keeps
+            orders = self.play(agent, 10)
             self.assertEqual((orders.acknowledged, orders.refused, orders.lost), (0, 10, []))
 
-    def test_where_another_leads_behind_the_look_nothing_is_compared(self) -> None:
-        leader = Leader()
-        leader.terms = iter(["one", "one", "two"])
-        leader.keeps = False
-        orders = self.play(leader, 1)
+    def test_where_it_was_killed_amid_the_look_nothing_is_compared(self) -> None:
+        agent = Agent()
+        agent.processes = iter([1, 1, 2])
+        agent.keeps = False
+        orders = self.play(agent, 1)
         self.assertEqual((orders.looks, orders.lost), (0, []))
 
 

@@ -43,9 +43,9 @@ FILES = {
         ("usr/share/doc/leasekeep/docs/commands/watch.md", 0o644), ("usr/share/doc/leasekeep/README.md", 0o644),
     ),
     TOOLS: (
-        ("usr/bin/minibroker", 0o755), ("usr/lib/leasekeep/leasekeepd", 0o755), ("usr/lib/leasekeep/leasekeep-draw", 0o755),
-        ("lib/systemd/system/leasekeepd.service", 0o644), ("usr/share/man/man1/leasekeepd.1.gz", 0o644),
-        ("usr/share/bash-completion/completions/leasekeepd", 0o644), ("usr/share/fish/vendor_completions.d/minibroker.fish", 0o644),
+        ("usr/bin/minibroker", 0o755), ("usr/lib/leasekeep/leasekeep-inventory", 0o755), ("usr/lib/leasekeep/leasekeep-draw", 0o755),
+        ("usr/share/man/man1/leasekeep-inventory.1.gz", 0o644), ("usr/share/bash-completion/completions/leasekeep-inventory", 0o644),
+        ("usr/share/fish/vendor_completions.d/minibroker.fish", 0o644),
     ),
 }
 """Some files of each package."""
@@ -78,10 +78,11 @@ class Package(unittest.TestCase):
 
     def test_what_is_in_each(self) -> None:
         for name, files in FILES.items():
-            for file, mode in (*files, ("DEBIAN/postinst", 0o755), ("DEBIAN/prerm", 0o755), ("DEBIAN/postrm", 0o755)):
+            for file, mode in (*files, ("DEBIAN/postinst", 0o755), ("DEBIAN/prerm", 0o755)):
                 with self.subTest(package=name, file=file):
                     self.assertEqual(stat.S_IMODE((self.roots[name] / file).stat().st_mode), mode)
             self.assertFalse((self.roots[name] / "usr/local").exists())
+        self.assertEqual([*self.roots[TOOLS].rglob("*.service")], [])
 
     def test_no_file_is_in_both(self) -> None:
         files = [{path.relative_to(root) for path in root.rglob("*") if not path.is_dir() and "DEBIAN" not in path.parts}
@@ -101,9 +102,9 @@ class Package(unittest.TestCase):
         self.assertNotRegex((self.roots[AGENT] / "DEBIAN/md5sums").read_text(), "(?m)  etc/")
 
     def test_nothing_in_it_speaks_of_usr_local_or_of_the_clone(self) -> None:
-        for unit, program in (("leasekeep", "leasekeep"), ("leasekeep@", "leasekeep"), ("leasekeepd", "leasekeepd")):
+        for unit in ("leasekeep", "leasekeep@"):
             text = (self.root / f"lib/systemd/system/{unit}.service").read_text()
-            self.assertIn(f"ExecStart=/usr/bin/{program} serve ", text)
+            self.assertIn("ExecStart=/usr/bin/leasekeep serve ", text)
             self.assertNotIn("/usr/local/", re.sub(r"(?m)^#.*$", "", text))
         for file in self.root.rglob("*"):
             if file.is_file() and not file.is_symlink() and file.suffix not in (".gz", ".md5sums"):
@@ -141,7 +142,7 @@ class Package(unittest.TestCase):
         environment = {"PATH": os.environ["PATH"], "HOME": str(self.folder)}
         subprocess.run(["tar", "-xzf", str(self.tar), "-C", str(self.folder)], check=True, timeout=60 * SLOWER)
         for folder in (self.root / "usr/bin", self.folder / f"leasekeep-{VERSION}" / "bin"):
-            for program in ("leasekeep", "minibroker", "leasekeepd", "leasekeep-draw"):
+            for program in ("leasekeep", "minibroker", "leasekeep-inventory", "leasekeep-draw"):
                 ran = subprocess.run([str(folder / program), "--version"], capture_output=True, text=True, timeout=60 * SLOWER, env=environment)
                 self.assertEqual((ran.returncode, ran.stdout), (0, f"{program} {VERSION}\n"), ran.stderr)
 
@@ -153,7 +154,7 @@ class Package(unittest.TestCase):
             assert unit is not None
             self.assertIn(b"ExecStart=/usr/local/bin/leasekeep serve ", unit.read())
         self.assertEqual(owners, {(0, 0)})
-        for file in ("bin/leasekeep", "bin/leasekeepd", "lib/sysusers.d/leasekeep.conf", "lib/systemd/system/leasekeep@.service", "share/man/man1/leasekeep-draw.1",
+        for file in ("bin/leasekeep", "bin/leasekeep-inventory", "lib/sysusers.d/leasekeep.conf", "lib/systemd/system/leasekeep@.service", "share/man/man1/leasekeep-draw.1",
                      "share/leasekeep/installed"):
             self.assertIn(f"leasekeep-{VERSION}/{file}", names)
 
@@ -165,8 +166,8 @@ class Package(unittest.TestCase):
 
     def test_their_scripts_are_taken_by_the_shell(self) -> None:
         for root in self.roots.values():
-            for script in ("postinst", "prerm", "postrm"):
-                checked = subprocess.run(["sh", "-n", str(root / "DEBIAN" / script)], capture_output=True, text=True, timeout=60 * SLOWER)
+            for script in (*root.glob("DEBIAN/post*"), *root.glob("DEBIAN/pre*")):
+                checked = subprocess.run(["sh", "-n", str(script)], capture_output=True, text=True, timeout=60 * SLOWER)
                 self.assertEqual((checked.returncode, checked.stderr), (0, ""))
 
 

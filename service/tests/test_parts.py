@@ -1,15 +1,13 @@
-"""The parts by themselves: events and alerts, HTTP replies however they are framed, dates, the inventory's text."""
+"""The parts by themselves: HTTP replies however they are framed, what a lookup tells, dates, the inventory's text."""
 
 from __future__ import annotations
 
 import asyncio
-import io
 import json
 import os
 import tempfile
 import time
 import unittest
-from pathlib import Path
 from typing import Any
 from unittest import mock
 
@@ -19,140 +17,11 @@ from leasekeep_inventory.http_client import (
 )
 from leasekeep_inventory.inventory import Entry, Inventory, Kind, inventory_text
 from leasekeep_inventory.inventory_file import read_inventory
-from leasekeep_inventory.rfc3339 import At, read_rfc3339
-from leasekeepd_lib import events
-from leasekeepd_lib.child import ChildExit, LaunchFault, start_child
-from leasekeepd_lib.events import Alerts, Level, LineForm, Log
-
-from .model.world import simulate
+from leasekeep_inventory.rfc3339 import read_rfc3339
 
 BODY = b'{"auth":{"lease_duration":60,"renewable":true}}'
 TOKEN = Entry("web", Kind.TOKEN, None, 1000, 1060, increment=60, credential="hvs.secret")
 LEASE = Entry("db", Kind.LEASE, "web", 1000, 1060, increment=60, credential="db/creds/app/1")
-
-
-class FixedClock:
-    def __init__(self) -> None:
-        self.now = 1000.0
-
-    def wall(self) -> float:
-        return self.now
-
-    def elapsed(self) -> float:
-        return self.now
-
-
-class Events(unittest.TestCase):
-    def test_forms(self) -> None:
-        for as_json, expected in (
-            (False, "1970-01-01T00:16:40Z told web 60\n1970-01-01T00:16:40Z warning: short web 1970-01-01T00:17:40Z\n"),
-            (True, '{"moment": "1970-01-01T00:16:40Z", "level": "info", "event": "told", "words": ["web", "60"]}\n'
-                   '{"moment": "1970-01-01T00:16:40Z", "level": "warning", "event": "short", "words": ["web", "1060"]}'
-                   "\n"),
-        ):
-            stream = io.StringIO()
-            log = Log(LineForm(FixedClock(), as_json), stream)
-            log.info("told", "web", 60)
-            log.warn("short", "web", At(1060))
-            self.assertEqual(stream.getvalue(), expected)
-            stream.truncate(0)
-            stream.seek(0)
-            log.note("a")
-            log.alert("b", "c")
-            levels = [json.loads(line)["level"] for line in stream.getvalue().splitlines()] if as_json else [
-                line.split(" ")[1] for line in stream.getvalue().splitlines()]
-            self.assertEqual(levels, [f"{level}{'' if as_json else ':'}" for level in ("note", "alert")])
-
-    def test_alerts_run_one_at_a_time_and_are_bounded(self) -> None:
-        with tempfile.TemporaryDirectory() as name:
-            folder = Path(name)
-            program = folder / "alert"
-            program.write_text('#!/bin/sh\necho "begin $*" >>"$0.log"\n'
-                               'if [ "$1" = slow ]; then exec sleep 60; fi\necho end >>"$0.log"\n')
-            program.chmod(0o755)
-            clock = FixedClock()
-
-            async def go() -> None:
-                alerts = Alerts(str(program), clock)
-                task = asyncio.create_task(alerts.serve())
-                for level, text in ((Level.ALERT, "slow"), (Level.WARNING, "short web 1060"), (Level.NOTE, "note"),
-                                    (Level.WARNING, "short web 1060"), (Level.INFO, "told web"),
-                                    (Level.ALERT, "gone db")):
-                    alerts.hear(level, text)
-                await written(5)
-                clock.now += 601
-                alerts.hear(Level.WARNING, "short web 1060")
-                await written(7)
-                task.cancel()
-                await asyncio.gather(task, return_exceptions=True)
-
-            async def written(lines: int) -> None:
-                async with asyncio.timeout(20):
-                    while not log.exists() or len(log.read_text().splitlines()) < lines:
-                        await asyncio.sleep(0.02)
-            log = folder / "alert.log"
-            with mock.patch.object(events, "ALERT_SECONDS", 1.5):
-                asyncio.run(go())
-            self.assertEqual((folder / "alert.log").read_text().splitlines(), [
-                "begin slow", "begin gone db", "end", "begin short web 1060", "end", "begin short web 1060", "end"])
-
-    def heard(self, *said: tuple[float, str]) -> list[str]:
-        """What the program would be run with, of warnings at these moments."""
-        clock, run = FixedClock(), list[str]()
-
-        async def go() -> None:
-            alerts = Alerts("/nowhere/alert", clock)
-
-            async def note(words: list[str]) -> None:
-                run.append(" ".join(words))
-            setattr(alerts, "_run", note)
-            for moment, words in said:
-                clock.now = moment
-                alerts.hear(Level.WARNING, words)
-            await alerts.run_waiting()
-        asyncio.run(go())
-        return run
-
-    def test_the_same_words_once_in_ten_minutes(self) -> None:
-        self.assertEqual(self.heard((1000, "a"), (1599, "a"), (1599, "b"), (1600, "a"), (2199, "a"), (2199, "b")),
-                         ["a", "b", "a", "b"])
-
-    def test_so_many_wait_and_the_oldest_go(self) -> None:
-        run = self.heard(*((1000.0, f"short e{number} 5") for number in range(1500)))
-        self.assertEqual(run, ["alerts dropped 500", *(f"short e{number} 5" for number in range(500, 1500))])
-
-    def test_an_alert_has_half_a_minute(self) -> None:
-        async def go() -> None:
-            alerts = Alerts("sleep", FixedClock())
-            alerts.hear(Level.ALERT, "1000")
-            await alerts.run_waiting()
-            self.assertAlmostEqual(asyncio.get_running_loop().time(), 30.0, delta=0.1)
-        simulate(go())
-
-    def test_one_that_takes_longer_is_killed(self) -> None:
-        with tempfile.TemporaryDirectory() as folder:
-            program, told = Path(folder) / "alert", Path(folder) / "pid"
-            program.write_text(f'#!/bin/sh\necho "$$" >"{told}.new"\nmv "{told}.new" "{told}"\nexec sleep 60\n')
-            program.chmod(0o755)
-
-            async def go() -> None:
-                alerts = Alerts(str(program), FixedClock())
-                alerts.hear(Level.ALERT, "gone db")
-                await alerts.run_waiting()
-            with mock.patch.object(events, "ALERT_SECONDS", 1.5):
-                asyncio.run(go())
-            with self.assertRaises(ProcessLookupError):
-                os.kill(int(told.read_text()), 0)
-
-    def test_a_program_that_is_not_there(self) -> None:
-        async def go() -> None:
-            alerts = Alerts("/nowhere/alert", FixedClock())
-            task = asyncio.create_task(alerts.serve())
-            alerts.hear(Level.ALERT, "gone web")
-            await asyncio.sleep(0.05)
-            self.assertFalse(task.done())
-            task.cancel()
-        asyncio.run(go())
 
 
 class Http(unittest.TestCase):
@@ -268,34 +137,6 @@ class Verdicts(unittest.TestCase):
             with self.subTest(status=status):
                 self.assertIs(self.heard(status, TOKEN), of_token)
                 self.assertIs(self.heard(status, LEASE), of_lease)
-
-
-class Starts(unittest.TestCase):
-    def test_a_program_that_cannot_be_started(self) -> None:
-        async def go() -> None:
-            await start_child("/nowhere/leasekeep", "watch", "secret")
-        before = os.listdir("/proc/self/fd")
-        with self.assertRaises(LaunchFault) as caught:
-            asyncio.run(go())
-        self.assertEqual(str(caught.exception), "cannot start /nowhere/leasekeep: No such file or directory")
-        self.assertEqual(len(os.listdir("/proc/self/fd")), len(before))
-
-    def test_the_inventory_is_handed_over_in_memory(self) -> None:
-        async def go() -> list[str | None]:
-            process = await start_child("cat", "--", "one\ntwo\n")
-            lines = [await process.read_line() for _ in range(3)]
-            self.assertEqual(await process.end(), ChildExit(0))
-            return lines
-        self.assertEqual(asyncio.run(go()), ["one", "two", None])
-
-
-    def test_what_it_says_at_its_end(self) -> None:
-        """Its first line alone, of which each byte that cannot be printed is a question mark."""
-        async def go(script: str) -> ChildExit:
-            return await (await start_child("sh", "--", script)).end()
-        self.assertEqual(asyncio.run(go(r'printf "ab\303\274\033c\nmore\n" >&2; exit 3')), ChildExit(3, "ab???c"))
-        self.assertEqual(asyncio.run(go('printf "%0900d" 5 >&2; exit 6')), ChildExit(6, "0" * 200))
-        self.assertEqual(asyncio.run(go("exit 0")), ChildExit(0, ""))
 
 
 class Texts(unittest.TestCase):

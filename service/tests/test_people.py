@@ -2,19 +2,13 @@
 
 from __future__ import annotations
 
-import shutil
-import tempfile
 import unittest
-from pathlib import Path
 
 from leasekeep_inventory.dialect import SERVED, STRICT, Dialect
 from leasekeep_inventory.durations import duration_text, meant_duration, read_duration
 from leasekeep_inventory.inventory import ALWAYS, Inventory, inventory_text
 from leasekeep_inventory.inventory_file import read_inventory
 from leasekeep_inventory.lint import lint
-from leasekeepd_journal.changes import only_entry
-from leasekeepd_journal.storage import Storage
-from leasekeepd_lib.source import Source, SourceFault
 
 NOW = 1_000_000.0
 SHORT = """margin = "1m"
@@ -135,25 +129,6 @@ class Read(unittest.TestCase):
         inventory = inventory_of(SHORT)
         self.assertEqual(inventory_text(inventory, is_served=True), PLAIN)
         self.assertEqual(inventory_of(PLAIN), inventory)
-
-    def test_an_entry_that_is_added(self) -> None:
-        entry = only_entry('[[token]]\nname = "a"\nneed = "always"\nincrement = "2h"\nsecret = "s.a"\n')
-        self.assertEqual((entry.need, entry.increment, entry.lacks_terms), (253402300799, 7200, True))
-
-    def test_what_is_served(self) -> None:
-        folder = Path(tempfile.mkdtemp())
-        self.addCleanup(shutil.rmtree, folder, True)
-        file = folder / "short.toml"
-        file.touch(0o600)
-        file.write_text(SHORT)
-        source = Source(file, folder / "copy", 5, False, Storage())
-        loaded = source.load()
-        self.assertEqual(loaded.inventory, inventory_of(SHORT))
-        source.keep_copy(loaded)
-        self.assertEqual(source.load_copy(), loaded)
-        file.write_text(SHORT.replace('"1m"', '"1 minute"'))
-        with self.assertRaisesRegex(SourceFault, 'short.toml:1: fault: margin: .*did you mean "1m"'):
-            source.load()
 
 
 class Lint(unittest.TestCase):

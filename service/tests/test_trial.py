@@ -1,4 +1,4 @@
-"""The whole service in real time against minibroker: plain, and behind a TLS proxy."""
+"""The agent in real time against minibroker: plain, and behind a TLS proxy."""
 
 from __future__ import annotations
 
@@ -24,16 +24,16 @@ def program(name: str) -> str:
     """The built program, else the scripted broker; SkipTest where there is none."""
     found = find_program(name) or (str(SCRIPTS / "scripted_minibroker") if name == "minibroker" else None)
     if found is None:
-        raise unittest.SkipTest(f"no built {name} that has the command `watch`")
+        raise unittest.SkipTest(f"no built {name}")
     return found
 
 
 class BuiltPrograms(unittest.TestCase):
-    """Tells whether these tests, and those of the process, run with the built programs."""
+    """Tells whether these tests run with the built programs."""
 
     def test_leasekeep(self) -> None:
         if find_program("leasekeep") is None:
-            self.skipTest("no built leasekeep that has the command `watch`: neither scenarios nor trials are played")
+            self.skipTest("no built leasekeep: no trial is played")
 
     def test_minibroker(self) -> None:
         if find_program("minibroker") is None:
@@ -68,7 +68,7 @@ class Trials(unittest.IsolatedAsyncioTestCase):
         try:
             await (self.behind(trial, proxy, namespace) if proxy else self.plain(trial))
         finally:
-            await trial.stop_daemon(kill=True)
+            await trial.stop_agent(kill=True)
             await trial.stop_broker()
 
     async def begin(self, trial: Trial) -> None:
@@ -78,7 +78,7 @@ class Trials(unittest.IsolatedAsyncioTestCase):
 
     async def plain(self, trial: Trial) -> None:
         await self.begin(trial)
-        await trial.start_daemon(trial.folder / "log")
+        await trial.start_agent(trial.folder / "log")
         await self.assert_kept(trial, wakes=2)
         self.assertEqual((trial.folder / "log").read_text().count(" begin "), 1)
 
@@ -89,7 +89,7 @@ class Trials(unittest.IsolatedAsyncioTestCase):
             self.assertLess(time.monotonic(), end, log)
             await asyncio.sleep(0.2)
         self.assertEqual(await trial.dead(), [], log)
-        self.assertEqual(await trial.stop_daemon(), 0)
+        self.assertEqual(await trial.stop_agent(), 0)
 
     async def behind(self, trial: Trial, name: str, namespace: str) -> None:
         make_authority(trial.folder)
@@ -100,7 +100,7 @@ class Trials(unittest.IsolatedAsyncioTestCase):
         try:
             await self.begin(trial)
             certified.broker = trial.relay.broker
-            await trial.start_daemon(trial.folder / "log", str(proxy.socket))
+            await trial.start_agent(trial.folder / "log", str(proxy.socket))
             await self.assert_kept(trial, wakes=1)
             head = certified.last_head.decode().lower()
             self.assertRegex(head, r"\r\nhost: vault\.example\.com(\r\n|$)")

@@ -12,9 +12,11 @@ from pathlib import Path
 
 from trial.programs import SLOWER
 
+from .test_package import programs
+
 TOP = Path(__file__).resolve().parents[2]
-SERVE, FLEET, STANDBY = (TOP / "service" / name for name in ("leasekeep.service", "leasekeep@.service", "leasekeepd.service"))
-AGENTS = SERVE, FLEET, STANDBY
+SERVE, FLEET = (TOP / "service" / name for name in ("leasekeep.service", "leasekeep@.service"))
+AGENTS = SERVE, FLEET
 PROXY = TOP / "service" / "leasekeep-proxy.service"
 UNITS = *AGENTS, PROXY
 SYSUSERS = TOP / "service" / "leasekeep.sysusers"
@@ -32,7 +34,7 @@ class Units(unittest.TestCase):
             with self.subTest(unit=unit.name):
                 copy = self.folder / unit.name
                 text = unit.read_text()
-                for program in ("/usr/local/bin/leasekeepd", "/usr/local/bin/leasekeep", "/usr/sbin/haproxy"):
+                for program in ("/usr/local/bin/leasekeep", "/usr/sbin/haproxy"):
                     # (a program has to be there: another one stands for it)
                     text = text.replace(f"={program} ", f"={shutil.which('true')} ")
                 copy.write_text(text)
@@ -52,7 +54,7 @@ class Units(unittest.TestCase):
                     self.assertIn(line, lines)
 
     def test_serve_keeps_its_ends_while_it_is_stopped_and_reads_the_id_of_the_boot(self) -> None:
-        for unit in (SERVE, FLEET):
+        for unit in AGENTS:
             text = unit.read_text()
             for line in ("Type=exec", "ExecReload=/usr/local/bin/leasekeep reload", "RuntimeDirectoryPreserve=yes"):
                 self.assertIn(line, text.splitlines())
@@ -68,13 +70,6 @@ class Units(unittest.TestCase):
         self.assertEqual(one, many)
         for line in ("StateDirectory=leasekeep/%i", "RuntimeDirectory=leasekeep/%i", "ReadWritePaths=-/etc/leasekeep/%i"):
             self.assertIn(line, settings(FLEET))
-
-    def test_leasekeepd_stands_by_and_never_beside_serve(self) -> None:
-        lines = STANDBY.read_text().splitlines()
-        for line in ("Conflicts=leasekeep.service", "Type=notify", "WatchdogSec=60", "ExecReload=/bin/sh -c 'kill -HUP \"$MAINPID\"'",
-                     "Environment=BOOT_ID=%b", "ProcSubset=pid"):
-            self.assertIn(line, lines)
-        self.assertIn(" --standby ${STANDBY} ", STANDBY.read_text())
 
     @unittest.skipIf(shutil.which("systemd-analyze") is None, "systemd-analyze is not installed")
     def test_how_exposed_each_is(self) -> None:
@@ -113,17 +108,15 @@ class Installed(unittest.TestCase):
         cls.folder = Path(tempfile.mkdtemp())
         cls.addClassCleanup(shutil.rmtree, cls.folder, True)
         (cls.folder / "etc").mkdir()
-        cls.said = install(cls.folder, "--service")
+        cls.said = install(cls.folder, "--built", str(programs(cls.folder / "programs", "leasekeep", "minibroker")), "/usr/local")
         cls.local = cls.folder / "usr" / "local"
 
-    def test_the_service_lies_where_systemd_looks(self) -> None:
+    def test_the_units_lie_where_systemd_looks(self) -> None:
         self.assertIn("systemd-sysusers leasekeep.conf && systemd-tmpfiles --create leasekeep.conf", self.said)
-        self.assertIn("systemctl enable --now leasekeepd\n", self.said)
-        for place, source in (("lib/systemd/system/leasekeepd.service", STANDBY), ("lib/sysusers.d/leasekeep.conf", SYSUSERS),
+        self.assertIn("systemctl enable --now leasekeep\n", self.said)
+        for place, source in (*((f"lib/systemd/system/{unit.name}", unit) for unit in UNITS), ("lib/sysusers.d/leasekeep.conf", SYSUSERS),
                               ("lib/tmpfiles.d/leasekeep.conf", TMPFILES)):
             self.assertEqual((self.local / place).read_text(), source.read_text())
-        # (without the program that it runs no unit is installed)
-        self.assertFalse((self.local / "lib/systemd/system/leasekeep.service").exists())
 
     @unittest.skipIf(shutil.which("systemd-sysusers") is None or os.getuid() != 0, "systemd or root is missing")
     def test_systemd_makes_user_and_folders(self) -> None:
@@ -137,30 +130,12 @@ class Installed(unittest.TestCase):
             self.assertEqual((stat.S_IMODE(folder.st_mode), folder.st_uid, folder.st_gid),
                              (0o750, numbers[owner][0], numbers["leasekeep"][1]), path)
 
-    def test_the_program(self) -> None:
-        program = str(self.local / "bin" / "leasekeepd")
-        helped = subprocess.run([program, "serve", "--help"], capture_output=True, text=True, timeout=60 * SLOWER)
-        self.assertEqual(helped.returncode, 0, helped.stderr)
-        self.assertIn("FILE PORT|SOCKET", helped.stdout)
-        said = subprocess.run([program, "--version"], capture_output=True, text=True, timeout=60 * SLOWER)
-        self.assertEqual(said.stdout, f"leasekeepd {(TOP / 'VERSION').read_text()}")
-        with tempfile.TemporaryDirectory() as room:
-            file = Path(room) / "inventory.toml"
-            file.touch(0o600)
-            file.write_text("margin = 1\n")
-            linted = subprocess.run([program, "lint", str(file)], capture_output=True, text=True, timeout=60 * SLOWER)
-            self.assertEqual(linted.returncode, 1)
-            self.assertIn("there are no entries", linted.stdout)
-            nobody = subprocess.run([program, "status", "--runtime", room], capture_output=True, text=True, timeout=60 * SLOWER)
-            self.assertEqual(nobody.stderr, f"leasekeepd: status: {room}/control.sock: No such file or directory; no leasekeepd "
-                                            "serves there (--runtime FOLDER names another place)\n")
-            self.assertEqual(nobody.returncode, 1)
-
     def test_what_belongs_to_it(self) -> None:
-        for file in ("share/man/man1/leasekeepd.1", "share/bash-completion/completions/leasekeep-draw",
-                     "share/zsh/site-functions/_leasekeepd", "share/fish/vendor_completions.d/leasekeepd.fish",
+        for file in ("share/man/man1/leasekeep-inventory.1", "share/man/man5/leasekeep-inventory.5",
+                     "share/bash-completion/completions/leasekeep-draw", "share/zsh/site-functions/_leasekeep",
+                     "share/fish/vendor_completions.d/leasekeep-inventory.fish",
                      "share/doc/leasekeep/examples/haproxy.cfg", "share/doc/leasekeep/examples/web.toml",
-                     "share/doc/leasekeep/examples/leasekeepd.rules.yml", "share/doc/leasekeep/examples/dashboard.json"):
+                     "share/doc/leasekeep/examples/leasekeep.rules.yml", "share/doc/leasekeep/examples/dashboard.json"):
             self.assertTrue((self.local / file).is_file(), file)
 
     def test_uninstall_takes_all_of_it_away(self) -> None:
@@ -177,11 +152,32 @@ class Installed(unittest.TestCase):
 class InstalledBelowAHome(unittest.TestCase):
     def test_no_unit_is_installed_and_install_says_so(self) -> None:
         with tempfile.TemporaryDirectory() as room:
-            said = install(Path(room), "--service", "/home/nobody/.local")
+            built = programs(Path(room) / "programs", "leasekeep", "minibroker")
+            said = install(Path(room), "--built", str(built), "/home/nobody/.local")
             self.assertIn("the units for systemd are left out", said)
             self.assertIn("/usr/local", said)
             self.assertEqual([str(file) for file in Path(room).rglob("*.service")], [])
-            self.assertTrue((Path(room) / "home/nobody/.local/bin/leasekeepd").exists())
+            self.assertTrue((Path(room) / "home/nobody/.local/bin/leasekeep").exists())
+
+
+class ToolsAlone(unittest.TestCase):
+    """Those in Python, which need no toolchain."""
+
+    def test_they_run_and_no_unit_is_installed(self) -> None:
+        with tempfile.TemporaryDirectory() as room:
+            install(Path(room), "--tools", "/usr/local")
+            self.assertEqual([str(file) for file in Path(room).rglob("*.service")], [])
+            for name in ("leasekeep-inventory", "leasekeep-draw"):
+                program = str(Path(room) / "usr/local/bin" / name)
+                said = subprocess.run([program, "--version"], capture_output=True, text=True, timeout=60 * SLOWER)
+                self.assertEqual(said.stdout, f"{name} {(TOP / 'VERSION').read_text()}")
+            file = Path(room) / "inventory.toml"
+            file.touch(0o600)
+            file.write_text("margin = 1\n")
+            program = str(Path(room) / "usr/local/bin/leasekeep-inventory")
+            linted = subprocess.run([program, "lint", str(file)], capture_output=True, text=True, timeout=60 * SLOWER)
+            self.assertEqual(linted.returncode, 1)
+            self.assertIn("there are no entries", linted.stdout)
 
 
 if __name__ == "__main__":

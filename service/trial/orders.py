@@ -1,5 +1,4 @@
-"""Changes that are given to whoever leads, while that one is killed, stopped or cut off; and whether those that were
-acknowledged hold at whoever leads next."""
+"""Changes that are given to an agent while it is killed or stopped; and whether those that were acknowledged hold."""
 
 from __future__ import annotations
 
@@ -8,36 +7,35 @@ import random
 import re
 from dataclasses import replace
 from pathlib import Path
-from typing import Awaitable, Callable
+from typing import Callable
 
 from leasekeep_inventory.durations import until_text
 from leasekeep_inventory.inventory import Entry, Kind, entry_text
-from leasekeepd_lib.control import ControlFault, send_command
+
+from .control import ControlFault, send_command
 
 ABSENT = "absent"
-SECONDS = 10.0
-"""The longest that an answer is waited for: one that was stopped gives none."""
 PAUSE = (2.0, 8.0)
 OF_NEEDS = 0.8
-"""How many of the changes are of a need: each other one begins a process anew."""
+"""How many of the changes are of a need."""
+LATE = 8.0
+"""Seconds within which the agent shows an entry that was added or dropped: it takes up to five, and the machine is busy."""
 _LINE = re.compile(r"(\S+) [a-z]+ end \S+ need (\S+) .*")
 
 
-def spare_entries(now: int, seconds: int, over: list[str], in_files: bool) -> list[Entry]:
+def spare_entries(now: int, seconds: int, over: list[str]) -> list[Entry]:
     """A lease of each of these tokens to add and drop, which outlives the trial whether it is kept or not."""
     return [Entry(f"spare{place}", Kind.LEASE, token, now, now + seconds + 3600, increment=600, max_ttl=864000, need=now + seconds,
-                  credential=f"database/creds/spare{place}", credential_file=f"spare{place}.lease" if in_files else None)
-            for place, token in enumerate(over)]
+                  credential=f"database/creds/spare{place}") for place, token in enumerate(over)]
 
 
 class Orders:
-    """Gives needs, additions and drops, one after the other, and looks at what the leader shows after each. `leader` tells the
-    control socket of who leads, and a word that is another one once another leads; `spare` are entries to add and drop. What was
-    acknowledged is shown within `late` seconds."""
+    """Gives needs, additions and drops, one after the other, and looks at what the agent shows after each. `agent` tells its control
+    socket and its process, where it runs; `spare` are entries to add and drop."""
 
-    def __init__(self, leader: Callable[[], Awaitable[tuple[Path, str] | None]], sockets: list[Path], kept: list[Entry],
-                 spare: list[Entry], chance: random.Random, late: float = 0.0) -> None:
-        self._leader, self._sockets, self._chance, self._late = leader, sockets, chance, late
+    def __init__(self, agent: Callable[[], tuple[Path, int] | None], kept: list[Entry], spare: list[Entry], chance: random.Random,
+                 late: float = LATE) -> None:
+        self._agent, self._chance, self._late = agent, chance, late
         self._kept, self._spare = kept, spare
         self._may_be = {entry.name: {until_text(entry.need)} for entry in kept} | {entry.name: {ABSENT} for entry in spare}
         self._number = 0
@@ -53,18 +51,17 @@ class Orders:
             await asyncio.sleep(self._chance.uniform(*PAUSE))
 
     async def give(self) -> None:
-        """One change, mostly at who leads. What was acknowledged is what may be there; what was not may be there too."""
+        """One change. What was acknowledged is what may be there; what was not may be there too."""
         async with self._turn:
             await self._give()
 
     async def _give(self) -> None:
-        led = await self._leader()
-        if led is None:
+        served = self._agent()
+        if served is None:
             return
-        socket = self._chance.choice(self._sockets) if self._chance.random() < 0.1 else led[0]
         name, words, value = self._change()
         self._may_be[name].add(value)
-        if await _say(socket, words) is None:
+        if await _say(served[0], words) is None:
             self.refused += 1
         else:
             self.acknowledged += 1
@@ -84,7 +81,7 @@ class Orders:
         return entry.name, ["drop", entry.name], ABSENT
 
     async def look(self) -> bool:
-        """Compares what the leader shows with what was acknowledged; whether one led all the while."""
+        """Compares what the agent shows with what was acknowledged; whether it ran all the while."""
         async with self._turn:
             return await self._look()
 
@@ -100,10 +97,10 @@ class Orders:
         return True
 
     async def _wrong(self) -> list[str] | None:
-        """What is shown and may not be; None where none led all the while."""
-        before = await self._leader()
+        """What is shown and may not be; None where the agent did not run all the while."""
+        before = self._agent()
         lines = None if before is None else await _say(before[0], ["status"])
-        if not lines or not lines[0].startswith("next-wake ") or await self._leader() != before:
+        if not lines or not lines[0].startswith("next-wake ") or self._agent() != before:
             return None
         shown = {line[1]: line[2] for line in map(_LINE.fullmatch, lines[1:]) if line is not None}
         return [f"{name}: {shown.get(name, ABSENT)}, and {' or '.join(sorted(may_be))} was acknowledged"
@@ -113,7 +110,6 @@ class Orders:
 async def _say(socket: Path, words: list[str]) -> list[str] | None:
     """The lines of the answer; None where there is none, or it is a refusal."""
     try:
-        async with asyncio.timeout(SECONDS):
-            return await asyncio.to_thread(send_command, socket, words)
-    except (ControlFault, TimeoutError):
+        return await asyncio.to_thread(send_command, socket, words)
+    except ControlFault:
         return None

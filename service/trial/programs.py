@@ -23,9 +23,9 @@ def _has(program: str, words: list[str], shown: str) -> bool:
 
 
 def is_live(name: str, program: str) -> bool:
-    """Whether the program has what a trial needs: `leasekeep watch`, and `minibroker` with moments from its input."""
+    """Whether the program has what a trial needs: `leasekeep serve`, and `minibroker` with moments from its input."""
     if name == "leasekeep":
-        return _has(program, ["watch", "--help"], "PORT")
+        return _has(program, ["serve", "--help"], "PORT")
     return _has(program, ["--help"], "standard input")
 
 

@@ -1,9 +1,8 @@
-"""A trial: minibroker behind the relay, an inventory with short leases, and an agent on it: leasekeepd, or `leasekeep serve`."""
+"""A trial: minibroker behind the relay, an inventory with short leases, and `leasekeep serve` on it."""
 
 from __future__ import annotations
 
 import asyncio
-import os
 import time
 from dataclasses import replace
 from pathlib import Path
@@ -13,8 +12,6 @@ from leasekeep_inventory.http_client import Address, HttpTransport
 from leasekeep_inventory.inventory import Entry, Inventory, Kind, inventory_text
 
 from .relay import LiveBroker, Relay
-
-LEASEKEEPD = Path(os.environ.get("LEASEKEEPD", Path(__file__).resolve().parents[1] / "leasekeepd"))
 
 
 def short_leases(now: int, seconds: int) -> Inventory:
@@ -36,8 +33,8 @@ class Trial:
     """The parts of a trial, in one folder; the broker's socket may be elsewhere."""
 
     def __init__(self, folder: Path, leasekeep: str, minibroker: str, inventory: Inventory, timeout: int = 1,
-                 by_itself: bool = False, socket: Path | None = None) -> None:
-        self.folder, self.inventory, self._by_itself = folder, inventory, by_itself
+                 socket: Path | None = None) -> None:
+        self.folder, self.inventory = folder, inventory
         self.spare: tuple[Entry, ...] = ()
         """What the broker has besides, and the agent is not told of."""
         self.control = folder / "run" / "control.sock"
@@ -46,7 +43,7 @@ class Trial:
         self.socket = socket or folder / "broker.sock"
         self.relay = Relay(self.socket)
         self._own = Relay(folder / "own.sock")
-        self.daemon: asyncio.subprocess.Process | None = None
+        self.agent: asyncio.subprocess.Process | None = None
 
     async def start_broker(self, inventory: Inventory) -> None:
         """Starts the broker on these rows, and the relay in front of it."""
@@ -65,32 +62,25 @@ class Trial:
             await self.relay.broker.stop()
             self.relay.broker = self._own.broker = None
 
-    async def start_daemon(self, log: Path, address: str = "") -> None:
+    async def start_agent(self, log: Path, address: str = "") -> None:
         """Starts the agent on the inventory; its log is added to the file."""
+        state = self.folder / "state"
+        self.control.parent.mkdir(exist_ok=True)
+        state.mkdir(mode=0o700, exist_ok=True)
         if not self.file.exists():
             self.file.touch(mode=0o600)
             self.file.write_text(inventory_text(self.inventory, is_served=True))
         with open(log, "ab") as output:
-            self.daemon = await asyncio.create_subprocess_exec(
-                *self._words(), str(self.file), address or str(self.socket), "--timeout", str(self._timeout),
-                stdout=output, stderr=output)
+            self.agent = await asyncio.create_subprocess_exec(
+                self._leasekeep, "serve", str(self.file), address or str(self.socket), "--timeout", str(self._timeout),
+                "--control", str(self.control), "--state", str(state), stdout=output, stderr=output)
 
-    def _words(self) -> list[str]:
-        """The agent's program and its first words; its folders are there after it."""
-        state = self.folder / "state"
-        if self._by_itself:
-            self.control.parent.mkdir(exist_ok=True)
-            state.mkdir(mode=0o700, exist_ok=True)
-            return [self._leasekeep, "serve", "--control", str(self.control), "--state", str(state)]
-        return [str(LEASEKEEPD), "serve", "--leasekeep", self._leasekeep, "--state", str(state), "--runtime",
-                str(self.control.parent)]
-
-    async def stop_daemon(self, kill: bool = False) -> int:
+    async def stop_agent(self, kill: bool = False) -> int:
         """Ends the agent, as a crash would where `kill` is true; its exit."""
-        if self.daemon is None or self.daemon.returncode is not None:
+        if self.agent is None or self.agent.returncode is not None:
             return -1
-        self.daemon.kill() if kill else self.daemon.terminate()
-        return await self.daemon.wait()
+        self.agent.kill() if kill else self.agent.terminate()
+        return await self.agent.wait()
 
     async def look_up_all(self) -> dict[str, Heard]:
         """What the broker says of each entry, past the relay that the agent uses. A row that has ended is never
