@@ -1,4 +1,4 @@
-"""`service/broker`: a broker in real time that obeys lines of its standard input."""
+"""`user-tools/broker`: a broker in real time that obeys lines of its standard input."""
 
 from __future__ import annotations
 

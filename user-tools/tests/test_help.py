@@ -31,7 +31,7 @@ PLACES = {"": "man/man1/{}.1", "bash": "bash-completion/completions/{}", "zsh": 
 @functools.cache
 def written(name: str) -> dict[str, str]:
     """What tools/man makes of a program: the page as "", the completions by their shell."""
-    own = TOP / "service" / name
+    own = TOP / "user-tools" / name
     program = str(own) if own.exists() else find_program(name)
     if program is None:
         raise unittest.SkipTest(f"no built {name}")

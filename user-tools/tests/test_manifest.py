@@ -139,7 +139,7 @@ class Manifest(unittest.TestCase):
         self.assertEqual(environment["PROXY_SOCKET"], self.agent["args"][2])
         self.assertEqual(self.paths(self.proxy)["vault-proxy"], self.paths(self.agent)["vault-proxy"])
         self.assertTrue(environment["PROXY_SOCKET"].startswith(self.paths(self.agent)["vault-proxy"] + "/"))
-        wanted = set(re.findall(r'"\S*\$\{(\w+)\}"', (TOP / "service" / "proxy" / "haproxy.cfg").read_text()))
+        wanted = set(re.findall(r'"\S*\$\{(\w+)\}"', (TOP / "packaging" / "proxy" / "haproxy.cfg").read_text()))
         self.assertLessEqual(wanted, set(environment))
         for file in (environment["VAULT_CA"], self.proxy["args"][-1]):
             folder, _, name = file.rpartition("/")

@@ -21,7 +21,7 @@ from trial.programs import SLOWER, TOP, find_program
 
 from .broker import Vault, VaultServer
 
-MONITORING = TOP / "service" / "monitoring"
+MONITORING = TOP / "packaging" / "monitoring"
 RULES, DASHBOARD = MONITORING / "leasekeep.rules.yml", MONITORING / "dashboard.json"
 SHOWN = set(re.findall(r"# TYPE (\w+)", (TOP / "tests/plays/onlookers/metrics").read_text()))
 """The metrics of an agent."""

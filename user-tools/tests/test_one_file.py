@@ -113,7 +113,7 @@ class OneFile(unittest.TestCase):
         lines = self.both("rehearse", START)
         tables = []
         for name in ("written.toml", "seconds.toml"):
-            ran = subprocess.run([sys.executable, str(TOP / "service" / "leasekeep-draw"), "--table", "--start", START, str(self.room / name)], input=lines,
+            ran = subprocess.run([sys.executable, str(TOP / "user-tools" / "leasekeep-draw"), "--table", "--start", START, str(self.room / name)], input=lines,
                                  capture_output=True, text=True, timeout=60 * SLOWER, check=False)
             self.assertEqual((ran.returncode, ran.stderr), (0, ""))
             tables.append([row.split() for row in ran.stdout.splitlines()])

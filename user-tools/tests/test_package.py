@@ -98,7 +98,7 @@ class Package(unittest.TestCase):
 
     def test_what_an_administrator_changes_is_kept(self) -> None:
         self.assertEqual((self.roots[AGENT] / "DEBIAN/conffiles").read_text(), "/etc/vault-proxy/haproxy.cfg\n")
-        self.assertEqual((self.root / "etc/vault-proxy/haproxy.cfg").read_bytes(), (TOP / "service/proxy/haproxy.cfg").read_bytes())
+        self.assertEqual((self.root / "etc/vault-proxy/haproxy.cfg").read_bytes(), (TOP / "packaging/proxy/haproxy.cfg").read_bytes())
         self.assertNotRegex((self.roots[AGENT] / "DEBIAN/md5sums").read_text(), "(?m)  etc/")
 
     def test_nothing_in_it_speaks_of_usr_local_or_of_the_clone(self) -> None:

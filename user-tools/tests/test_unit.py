@@ -15,12 +15,13 @@ from trial.programs import SLOWER
 from .test_package import programs
 
 TOP = Path(__file__).resolve().parents[2]
-SERVE, FLEET = (TOP / "service" / name for name in ("leasekeep.service", "leasekeep@.service"))
+SYSTEMD = TOP / "packaging" / "systemd"
+SERVE, FLEET = (SYSTEMD / name for name in ("leasekeep.service", "leasekeep@.service"))
 AGENTS = SERVE, FLEET
-PROXY = TOP / "service" / "leasekeep-proxy.service"
+PROXY = SYSTEMD / "leasekeep-proxy.service"
 UNITS = *AGENTS, PROXY
-SYSUSERS = TOP / "service" / "leasekeep.sysusers"
-TMPFILES = TOP / "service" / "leasekeep.tmpfiles"
+SYSUSERS = SYSTEMD / "leasekeep.sysusers"
+TMPFILES = SYSTEMD / "leasekeep.tmpfiles"
 
 
 class Units(unittest.TestCase):

@@ -27,7 +27,7 @@ class Yardstick(unittest.TestCase):
         self.assertIn(ran.stdout, [f"{number}\n" for number in range(1, 21)])
 
     def test_what_reads_it(self) -> None:
-        for folder, read, usual in (("tests", "trying.SECONDS", 60), ("service", "trial.programs.BUILD_SECONDS", 600)):
+        for folder, read, usual in (("tests", "trying.SECONDS", 60), ("user-tools", "trial.programs.BUILD_SECONDS", 600)):
             for slower, times in (("", 1), ("7", 7)):
                 environment = with_slower(slower)
                 module = read.rpartition(".")[0]

@@ -1,4 +1,4 @@
-"""A TLS proxy, of the configurations in service/proxy, before the broker's relay."""
+"""A TLS proxy, of the configurations in packaging/proxy, before the broker's relay."""
 
 from __future__ import annotations
 
@@ -9,7 +9,7 @@ import ssl
 import subprocess
 from pathlib import Path
 
-PROXIES = Path(__file__).resolve().parents[1] / "proxy"
+PROXIES = Path(__file__).resolve().parents[2] / "packaging" / "proxy"
 HOST = "vault.example.com"
 START_SECONDS = 10.0
 NGINX_NAMESPACE = "            # proxy_set_header X-Vault-Namespace team-a;\n"
