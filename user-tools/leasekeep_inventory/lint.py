@@ -137,10 +137,10 @@ def _doubt_file(entry: Entry, file: Path, doubts: _Doubts) -> None:
 
 
 def _doubt_time(entry: Entry, doubts: _Doubts, now: float, all_are_past: bool) -> None:
-    """Moments that have passed. An old end does the service no harm, which asks the broker; a plan goes by it."""
+    """Moments that have passed. An old end does the agent no harm, which asks the broker; a plan goes by it."""
     if entry.issued <= entry.end <= now and not entry.lacks_terms:
         doubts.doubt(entry.name, "end", f"is past ({date_text(entry.end)})",
-                     "if it is alive, write its present end: plans count it as ended, the service looks it up")
+                     "if it is alive, write its present end: plans count it as ended, the agent looks it up")
     if 0 < entry.need <= now and not all_are_past:
         doubts.doubt(entry.name, "need", f"is past ({date_text(entry.need)})",
                      "set one in the future, or remove the entry: it is no longer kept for its own sake")

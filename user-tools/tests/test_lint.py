@@ -227,7 +227,7 @@ class Slips(unittest.TestCase):
         text = "margin = 20\n" + table("token", "a").replace("1000900", "999999") + table("token", "b").replace("1050000", "999999")
         self.assertEqual(linted(text), [
             "f:5: doubt: a end: is past (1970-01-12T13:46:39Z); if it is alive, write its present end: plans count it as ended,"
-            " the service looks it up",
+            " the agent looks it up",
             "f:14: doubt: b need: is past (1970-01-12T13:46:39Z); set one in the future, or remove the entry: it is no"
             " longer kept for its own sake"])
 
