@@ -7,7 +7,7 @@ from dataclasses import dataclass, field
 from functools import cached_property
 from typing import Any, Iterator
 
-from .dialect import SERVED, STRICT, Dialect
+from .dialect import STRICT, Dialect
 from .durations import DURATION_TEXT, INCREMENT_TEXT, MARGIN_TEXT, NEED, SYSTEM_MAX_TEXT
 from .findings import Finding, Severity
 from .inventory import END_MAX, SYSTEM_MAX, Entry, Inventory, Kind
@@ -144,18 +144,6 @@ def read_inventory(data: bytes, dialect: Dialect = STRICT, timeout: int = USUAL_
     reading.sound = Inventory(sound_entries(reading.rows), whole.margin, whole.system_max)
     reading.inventory = None if reading.faults else reading.sound
     return reading
-
-
-def read_tables(data: bytes) -> tuple[Reading, list[Entry]]:
-    """The entries that the bytes write, as they are served, whatever they stand under, with the faults of each alone."""
-    reading = Reading(SERVED)
-    top = _document(data, reading)
-    if top is None:
-        return reading, []
-    table = _Table(reading, Near(), "", 0, None, top)
-    _unknown_tops(table, ("token", "lease"))
-    reading.rows = list(_rows(table))
-    return reading, [row.entry for row in reading.rows if row.entry is not None]
 
 
 def judge(inventory: Inventory) -> list[Finding]:

@@ -42,7 +42,8 @@ class Vault:
         """The rows of an inventory, each with its end as written; `real` changes fields of some by name."""
         for entry in inventory.entries:
             ceiling = inventory.ceiling(entry, entry.issued, entry.period, entry.explicit_max_ttl)
-            row = Secret(entry.name, entry.kind, entry.parent, entry.end, entry.issued, ceiling, entry.period, entry.explicit_max_ttl, entry.renewable)
+            row = Secret(entry.name, entry.kind, entry.parent, entry.end, entry.issued, ceiling, entry.period, entry.explicit_max_ttl,
+                         entry.renewable)
             self.rows[entry.secret] = row
             for key, value in real.get(entry.name, {}).items():
                 setattr(row, key, value)
@@ -65,7 +66,8 @@ class Vault:
             return 400, {"errors": ["unknown lease"]}
         if request.path.endswith("leases/lookup"):
             return 200, {"data": self._lease_facts(lease, body["lease_id"])}
-        return 200, {"lease_id": body["lease_id"], "lease_duration": self._renewed(lease, body.get("increment", 0)), "renewable": lease.renewable}
+        seconds = self._renewed(lease, body.get("increment", 0))
+        return 200, {"lease_id": body["lease_id"], "lease_duration": seconds, "renewable": lease.renewable}
 
     def _alive(self, credential: str) -> Secret | None:
         row = self.rows.get(credential)
@@ -136,7 +138,8 @@ class VaultServer:
     async def _talk(self, reader: asyncio.StreamReader, writer: asyncio.StreamWriter) -> None:
         try:
             reply = self._vault.serve(await read_request(reader))
-            writer.write(b"HTTP/1.1 %d X\r\nContent-Length: %d\r\nConnection: close\r\n\r\n%s" % (reply.status, len(reply.body), reply.body))
+            head = b"HTTP/1.1 %d X\r\nContent-Length: %d\r\nConnection: close\r\n\r\n" % (reply.status, len(reply.body))
+            writer.write(head + reply.body)
             await writer.drain()
         except (OSError, ValueError, asyncio.IncompleteReadError, asyncio.LimitOverrunError):
             pass  # The client sees a connection that closes without a reply.

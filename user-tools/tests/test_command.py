@@ -62,7 +62,8 @@ class Lint(unittest.TestCase):
 
     def test_a_file_that_is_not_there(self) -> None:
         ran = subprocess.run([str(PROGRAM), "lint", "/nowhere/f"], capture_output=True, text=True, timeout=60 * SLOWER)
-        self.assertEqual((ran.returncode, ran.stdout, ran.stderr), (2, "", "leasekeep-inventory: lint: /nowhere/f: No such file or directory\n"))
+        said = "leasekeep-inventory: lint: /nowhere/f: No such file or directory\n"
+        self.assertEqual((ran.returncode, ran.stdout, ran.stderr), (2, "", said))
 
 
 if __name__ == "__main__":

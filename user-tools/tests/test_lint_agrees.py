@@ -102,7 +102,7 @@ def an_inventory(chance: random.Random) -> str:
 
 def faults(text: bytes) -> list[Finding]:
     """What lint refuses as `leasekeep` does."""
-    return [one for one in lint(text, 0o600, 1, NOW, True, STRICT) if one.severity is Severity.FAULT and not of_serving(one)]
+    return [one for one in lint(text, 0o600, 1, NOW, STRICT) if one.severity is Severity.FAULT and not of_serving(one)]
 
 
 def a_text(chance: random.Random) -> bytes:
@@ -123,8 +123,10 @@ def named(key: str, found: list[Finding]) -> bool:
 
 
 def of_serving(fault: Finding) -> bool:
-    """Whether only what is served has it: the commands that plan take a margin of 1 where none is written, and have no time-out."""
-    return fault.key == "margin" and (fault.problem == NO_MARGIN[0] or "under four times the time-out" in fault.problem)
+    """Whether only what is served has it: the commands that plan take a margin of 1 where none is written, have no time-out, and send
+    no credential."""
+    return (fault.key == "margin" and (fault.problem == NO_MARGIN[0] or "under four times the time-out" in fault.problem)
+            or "would be sent to Vault" in fault.problem)
 
 
 class Agreement(unittest.TestCase):

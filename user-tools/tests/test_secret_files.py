@@ -9,7 +9,7 @@ import unittest
 from pathlib import Path
 
 from leasekeep_inventory.dialect import SERVED
-from leasekeep_inventory.inventory import Entry, Inventory, inventory_text
+from leasekeep_inventory.inventory import Inventory
 from leasekeep_inventory.inventory_file import read_inventory
 from leasekeep_inventory.lint import lint
 from leasekeep_inventory.secret_files import SecretFault, is_open_to_others, read_secret

@@ -5,6 +5,7 @@ from __future__ import annotations
 import asyncio
 import logging
 import shutil
+import signal
 import tempfile
 import time
 import unittest
@@ -89,7 +90,7 @@ class Trials(unittest.IsolatedAsyncioTestCase):
             self.assertLess(time.monotonic(), end, log)
             await asyncio.sleep(0.2)
         self.assertEqual(await trial.dead(), [], log)
-        self.assertEqual(await trial.stop_agent(), 0)
+        self.assertEqual(await trial.stop_agent(), -signal.SIGTERM)
 
     async def behind(self, trial: Trial, name: str, namespace: str) -> None:
         make_authority(trial.folder)
