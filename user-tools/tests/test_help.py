@@ -115,7 +115,7 @@ class Help(unittest.TestCase):
 
     def test_commands_of_clap(self) -> None:
         made = written("leasekeep")
-        for command in ("ends", "plan", "margin", "reach", "check", "rehearse", "run", "watch", "serve"):
+        for command in ("ends", "plan", "margin", "reach", "check", "rehearse", "run", "serve"):
             self.assertIn(f'.SS "{command}"', made[""])
             self.assertRegex(made["bash"], rf"compgen -W '[^']*\b{command}\b")
         self.assertRegex(made[""], r"\\fB\\-\\-timeout\\fR \\fISECONDS\\fR")

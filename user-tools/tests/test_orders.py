@@ -29,7 +29,7 @@ class Agent:
 
     def command(self, _socket: Path, words: list[str]) -> list[str]:
         if words == ["status"]:
-            return ["next-wake - beginnings 1", *(f"{name} kept end - need {need} in-force - last-success - wrong -" for name, need in self.needs.items())]
+            return ["standby first next-wake - beginnings 1 margin 60", *(f"{name} kept end - need {need} in-force - last-success - wrong -" for name, need in self.needs.items())]
         if self.keeps:
             self.change(words)
         if not self.answers:

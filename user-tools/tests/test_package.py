@@ -40,7 +40,7 @@ FILES = {
         ("usr/share/bash-completion/completions/leasekeep", 0o644), ("usr/share/zsh/vendor-completions/_leasekeep", 0o644),
         ("usr/share/doc/leasekeep/examples/nginx.conf", 0o644), ("usr/share/doc/leasekeep/examples/sidecar.yaml", 0o644),
         ("usr/share/doc/leasekeep/examples/web.toml", 0o644), ("usr/share/doc/leasekeep/docs/running.md", 0o644),
-        ("usr/share/doc/leasekeep/docs/commands/watch.md", 0o644), ("usr/share/doc/leasekeep/README.md", 0o644),
+        ("usr/share/doc/leasekeep/docs/commands/serve.md", 0o644), ("usr/share/doc/leasekeep/README.md", 0o644),
     ),
     TOOLS: (
         ("usr/bin/minibroker", 0o755), ("usr/lib/leasekeep/leasekeep-inventory", 0o755), ("usr/lib/leasekeep/leasekeep-draw", 0o755),

@@ -100,7 +100,7 @@ class Orders:
         """What is shown and may not be; None where the agent did not run all the while."""
         before = self._agent()
         lines = None if before is None else await _say(before[0], ["status"])
-        if not lines or not lines[0].startswith("next-wake ") or self._agent() != before:
+        if not lines or "next-wake " not in lines[0] or self._agent() != before:
             return None
         shown = {line[1]: line[2] for line in map(_LINE.fullmatch, lines[1:]) if line is not None}
         return [f"{name}: {shown.get(name, ABSENT)}, and {' or '.join(sorted(may_be))} was acknowledged"
