@@ -186,7 +186,7 @@ class Open(unittest.TestCase):
         self.assertEqual(([entry.name for entry in inventory.entries], inventory.is_dated), (["a"], True))
 
     def test_the_margin_that_is_not_written_is_that_of_the_plan(self) -> None:
-        """An increment of 2 is read without one, though the service would not take it."""
+        """An increment of 2 is read without one, though `serve` would not take it."""
         self.assertEqual(len(entries.read('[[token]]\nname = "a"\nissued = 1\nend = 9\nincrement = 2\n').entries), 1)
 
 
