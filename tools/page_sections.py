@@ -7,35 +7,6 @@ _DOCUMENTS = ("PREFIX/share/doc/leasekeep/docs", "the documents that this page n
 _EXAMPLES = ("PREFIX/share/doc/leasekeep/examples", "inventories, configurations of a TLS proxy, alert rules and a dashboard")
 
 SECTIONS: dict[str, list[tuple[str, list[tuple[str, str]]]]] = {
-    "leasekeepd": [
-        ("FILES", [
-            ("/etc/leasekeep/inventory.toml", "the inventory that the systemd unit serves (mode 0600, owned by leasekeep): see "
-             "leasekeep-inventory(5)"),
-            ("/var/lib/leasekeepd/journal", "what need, replace, add and drop have changed. It holds secrets (mode 0600)"),
-            ("/var/lib/leasekeepd/journal.set-aside", "records of the journal that could not be read"),
-            ("/var/lib/leasekeepd/inventory.toml", "the last good copy of the inventory: served at a start where FILE is faulty (mode 0600)"),
-            ("/var/lib/leasekeepd/ends", "when each entry ends, as the broker told in this boot (mode 0600)"),
-            ("/run/leasekeepd/control.sock", "the control socket (mode 0660), for the commands from need to settle"),
-            ("/run/vault-proxy/vault.sock", "the socket of the TLS proxy, in the unit"),
-            ("/var/lib/prometheus/node-exporter/leasekeep.prom", "the metrics, in the unit"),
-            ("PREFIX/lib/systemd/system/leasekeepd.service", "the unit, for --standby (the Debian package: /lib/systemd/system)"),
-            _DOCUMENTS, _EXAMPLES,
-            ("", "Without the unit the folders are those of --state and --runtime. A user's own are ~/.local/state/leasekeepd and "
-             "$XDG_RUNTIME_DIR/leasekeepd."),
-        ]),
-        ("SIGNALS", [
-            ("SIGHUP", "serve reads FILE again, at once, but no more than once in five seconds. A faulty FILE is ignored; the previous "
-             "inventory stays in force"),
-            ("SIGTERM, SIGINT", "serve ends within a second. What it keeps lives on until its end"),
-            ("SIGKILL", "what was acknowledged holds; a start in the same boot knows the ends that were told"),
-        ]),
-        ("ENVIRONMENT", [
-            ("STATE_DIRECTORY, RUNTIME_DIRECTORY", "the folders of systemd, where --state and --runtime are not given"),
-            ("XDG_STATE_HOME, XDG_RUNTIME_DIR", "the folders of a user, where there are none of systemd"),
-            ("BOOT_ID", "the id of this boot, where /proc/sys/kernel/random/boot_id cannot be read, as in the unit"),
-            ("NOTIFY_SOCKET, WATCHDOG_USEC", "systemd's, for sd_notify and the watchdog"),
-        ]),
-    ],
     "leasekeep": [
         ("FILES", [
             ("/etc/leasekeep/inventory.toml", "the inventory that the systemd unit serves (mode 0600, owned by leasekeep): see "
@@ -62,6 +33,7 @@ SECTIONS: dict[str, list[tuple[str, list[tuple[str, str]]]]] = {
             ("SIGKILL", "what was acknowledged holds; a start in the same boot knows the ends that were told"),
         ]),
     ],
+    "leasekeep-inventory": [("FILES", [_DOCUMENTS, _EXAMPLES])],
     "leasekeep-draw": [("FILES", [_DOCUMENTS, _EXAMPLES])],
     "minibroker": [("FILES", [_DOCUMENTS, _EXAMPLES])],
 }

@@ -1,1 +1,0 @@
-"""Models that the service is tried on: time, a keeper that goes by the definitions, a broker in memory."""

@@ -1,1 +1,0 @@
-"""Trials of the service without a Vault: minibroker in real time, behind a relay that stamps each connection."""
