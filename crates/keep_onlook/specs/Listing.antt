@@ -1,6 +1,6 @@
 -- Listing: how the agent and each entry stand, as one text of JSON.
 -- Source: RFC 8259; the members are this project's own. Moments are seconds since 1970-01-01T00:00:00Z.
-use Rattle.std.specs.Prelude.{ℕ, List, [], ◌∷◌, ◌++◌, Option, Some, None, codes, decimal}
+use Rattle.std.specs.Prelude.{ℕ, Bool, true, false, List, [], ◌∷◌, ◌++◌, Option, Some, None, codes, decimal}
 use Rattle.keep_agent.specs.declared.standing.Trouble.{Trouble}
 use Rattle.keep_agent.specs.declared.standing.Trouble.TheVariants as troubles
 use Rattle.keep_inventory.specs.Kinds.{kind_word}
@@ -9,9 +9,7 @@ use Rattle.keep_onlook.specs.declared.board.Row.{Row}
 use Rattle.keep_onlook.specs.declared.board.Surroundings.{Surroundings}
 use Rattle.keep_onlook.specs.declared.listing.Member.{Member}
 use Rattle.keep_onlook.specs.declared.listing.Member.TheVariants as members
-use Rattle.keep_onlook.specs.declared.standby.Standby.{Standby}
 use Rattle.keep_onlook.specs.Escapes.{json_value}
-use Rattle.keep_onlook.specs.Standby.{standby_word}
 use Rattle.keep_onlook.specs.States.{state_word}
 
 abbrev pub number_or_null : Option ℕ → List ℕ
@@ -71,13 +69,14 @@ rows_text (row ∷ rows) = board_row_text row ++ more_rows rows
 unfoldable pub entries_name : List ℕ
 entries_name = codes ",\"entries\":["
 
--- whether the agent is the first, or stands behind another: the first member
-unfoldable pub standby_text : Standby → List ℕ
-standby_text s = codes "{\"standby\":\"" ++ standby_word s.is_behind ++ codes "\""
+-- whether the agent is the first, or stands behind another: the first member, and the brace before it
+unfoldable pub standby_member : Bool → List ℕ
+standby_member true = codes "{\"standby\":\"behind\""
+standby_member false = codes "{\"standby\":\"first\""
 
 unfoldable pub front_text : Board → List ℕ
 front_text b =
-    standby_text b.surroundings.standby ++ member_text members.Now (Some b.broker_now) ++ member_text members.NextWake b.surroundings.next_wake
+    standby_member b.surroundings.standby.is_behind ++ member_text members.Now (Some b.broker_now) ++ member_text members.NextWake b.surroundings.next_wake
     ++ member_text members.Beginnings (Some b.beginnings) ++ member_text members.Margin (Some b.margin) ++ entries_name
 
 unfoldable pub listing_text : Board → List ℕ

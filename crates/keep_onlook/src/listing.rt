@@ -1,11 +1,10 @@
 //! The status as JSON.
 ghost use Rattle.std.specs.Prelude.{◌≡◌, ◌++◌, IfOk, OnOk};
 ghost use Rattle.keep_inventory.specs.Kinds.{kind_word};
-ghost use Rattle.keep_onlook.specs.Listing.{board_row_text, entries_name, front_text, listing_text, member_name, member_text, moments_text, more_rows, number_or_null, renewals_text, rows_text, standby_text, trouble_word, words_text};
+ghost use Rattle.keep_onlook.specs.Listing.{board_row_text, entries_name, front_text, listing_text, member_name, member_text, moments_text, more_rows, number_or_null, renewals_text, rows_text, standby_member, trouble_word, words_text};
 
 use crate::board::{Board, Row};
 use crate::escapes::push_json_value;
-use crate::standby::Standby;
 use keep_agent::Trouble;
 use keep_tree::Kind;
 use keep_words::push_number;
@@ -68,7 +67,7 @@ pub(crate) fn listing_text(alloc: Global, board: &Board) -> Result<Vec<u8>, Allo
 fn push_front(alloc: Global, board: &Board, text: &mut Vec<u8>) -> Result<(), AllocError>
     ensures { OnOk result (text.new.items ≡ text.old.items ++ front_text board.now) }
 {
-    push_standby(board.surroundings.standby, text)?;
+    text.extend_from_slice(standby_member(board.surroundings.standby.is_behind).as_bytes())?;
     push_member(alloc, Member::Now, Some(board.broker_now), text)?;
     push_member(alloc, Member::NextWake, board.surroundings.next_wake, text)?;
     push_member(alloc, Member::Beginnings, Some(board.beginnings), text)?;
@@ -76,14 +75,16 @@ fn push_front(alloc: Global, board: &Board, text: &mut Vec<u8>) -> Result<(), Al
     text.extend_from_slice(entries_name().as_bytes())
 }
 
-/// Appends how the agent stands to others, with the brace before the first member.
-#[tactic(auto, unfolding(crate::specs::Listing::standby_text))]
-fn push_standby(standby: Standby, text: &mut Vec<u8>) -> Result<(), AllocError>
-    ensures { OnOk result (text.new.items ≡ text.old.items ++ standby_text standby) }
+/// The first member, and the brace before it: how the agent stands to others.
+#[tactic(auto, unfolding(crate::specs::Listing::standby_member))]
+fn standby_member(is_behind: bool) -> &'static str
+    ensures { result.now ≡ standby_member is_behind }
 {
-    text.extend_from_slice(b"{\"standby\":\"")?;
-    text.extend_from_slice(standby.word().as_bytes())?;
-    text.extend_from_slice(b"\"")
+    if is_behind {
+        "{\"standby\":\"behind\""
+    } else {
+        "{\"standby\":\"first\""
+    }
 }
 
 #[tactic(auto, unfolding(crate::specs::Listing::entries_name))]
