@@ -69,8 +69,8 @@ rows_text (row ∷ rows) = board_row_text row ++ more_rows rows
 unfoldable pub entries_name : List ℕ
 entries_name = codes ",\"entries\":["
 
--- whether the agent is the first, or stands behind another: the first member, and the brace before it
-unfoldable pub standby_member : Bool → List ℕ
+-- whether the agent is the first, or stands behind another: the first member
+abbrev pub standby_member : Bool → List ℕ
 standby_member true = codes "{\"standby\":\"behind\""
 standby_member false = codes "{\"standby\":\"first\""
 

@@ -5,6 +5,7 @@ ghost use Rattle.keep_onlook.specs.Listing.{board_row_text, entries_name, front_
 
 use crate::board::{Board, Row};
 use crate::escapes::push_json_value;
+use crate::standby::Standby;
 use keep_agent::Trouble;
 use keep_tree::Kind;
 use keep_words::push_number;
@@ -67,7 +68,7 @@ pub(crate) fn listing_text(alloc: Global, board: &Board) -> Result<Vec<u8>, Allo
 fn push_front(alloc: Global, board: &Board, text: &mut Vec<u8>) -> Result<(), AllocError>
     ensures { OnOk result (text.new.items ≡ text.old.items ++ front_text board.now) }
 {
-    text.extend_from_slice(standby_member(board.surroundings.standby.is_behind).as_bytes())?;
+    text.extend_from_slice(standby_member(board.surroundings.standby).as_bytes())?;
     push_member(alloc, Member::Now, Some(board.broker_now), text)?;
     push_member(alloc, Member::NextWake, board.surroundings.next_wake, text)?;
     push_member(alloc, Member::Beginnings, Some(board.beginnings), text)?;
@@ -75,12 +76,11 @@ fn push_front(alloc: Global, board: &Board, text: &mut Vec<u8>) -> Result<(), Al
     text.extend_from_slice(entries_name().as_bytes())
 }
 
-/// The first member, and the brace before it: how the agent stands to others.
-#[tactic(auto, unfolding(crate::specs::Listing::standby_member))]
-fn standby_member(is_behind: bool) -> &'static str
-    ensures { result.now ≡ standby_member is_behind }
+/// How the agent stands to others, with the brace before the first member.
+fn standby_member(standby: Standby) -> &'static str
+    ensures { result.now ≡ standby_member standby.is_behind }
 {
-    if is_behind {
+    if standby.is_behind {
         "{\"standby\":\"behind\""
     } else {
         "{\"standby\":\"first\""

@@ -244,7 +244,7 @@ fn say_if_behind(alloc: Global, now: Reading, behind: Option<u64>, margin: u32, 
 /// Who looks ahead over these lanes, for an agent behind another whose name has that number.
 #[tactic(auto, using(crate::proofs::Putting::is_lookout))]
 fn lookout_of<L: Lanes + Drop>(alloc: Global, behind: Option<u64>, lanes: L) -> Option<Lookout<L>>
-    ensures { LooksAhead behind result }
+    ensures { LooksAhead behind lanes result }
 {
     match behind {
         None => None,
