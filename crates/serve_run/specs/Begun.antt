@@ -97,8 +97,8 @@ house_of now is_good behind ledger named log desk entrances ends =
     }
 
 -- who looks ahead for an agent behind another: one of that number, over these lanes, whose scout is not made yet, and who has heard nothing
-pub record IsLookout {L : Type 0} (number : ℕ) (lanes : L) (l : Ahead L) : Type 0 where
-  pub number : l.number ≡ number
+pub record IsLookout {L : Type 0} (its : ℕ) (lanes : L) (l : Ahead L) : Type 0 where
+  pub number : l.number ≡ its
   pub own : l.own ≡ lanes
   pub scout : l.scout ≡ None
   pub heard : l.heard ≡ []

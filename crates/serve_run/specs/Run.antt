@@ -116,4 +116,4 @@ pub record HasRun {D I L S T O E C P : Type 0} (does : NeighbourCall → EarlyDa
 -- with some log
 abbrev pub HasRunSo : {D I L S T O E C P : Type 0} → (NeighbourCall → EarlyDay (Behind (House S T O (Ledger D I L) E) L) → EarlyDay (Behind (House S T O (Ledger D I L) E) L) → Type 0) → (EarlyDay (Behind (House S T O (Ledger D I L) E) L) → Option (List Change)) → (P → Option (List FileCall)) → Bool → (E → DiskState) →
     (C → ClockSeen) → (L → Lanes) → (L → ℕ) → (L → ℕ) → Served → Type 0
-HasRunSo {_} {_} {_} {S} does given calls known disk_seen clock_seen seen port width served = (log : S) × HasRun does given calls known disk_seen clock_seen seen port width served log
+HasRunSo {S} does given calls known disk_seen clock_seen seen port width served = (log : S) × HasRun does given calls known disk_seen clock_seen seen port width served log
