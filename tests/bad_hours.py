@@ -12,8 +12,8 @@ from troubles import NONE, Incident, Trouble, trouble
 
 START = 1_000_000
 SECOND = 1000
-TOGETHER = 6
-"""Milliseconds for which answers are waited for after the first, and one that rounding costs."""
+ROUNDED = 1
+"""The milliseconds that rounding costs each wake-up."""
 
 
 class Manner(Enum):
@@ -63,7 +63,7 @@ class Hang:
 
 def longest(margin: int, entries: int, width: int, timeout: int, reply: int, late: int, amiss: Trouble = NONE) -> float:
     """The bound of docs/watch.md, in seconds, less what a quota costs besides."""
-    d, w = reply / SECOND, (late + TOGETHER) / SECOND
+    d, w = reply / SECOND, (late + ROUNDED) / SECOND
     count = entries + amiss.joins(entries)
     quiet = -(-count // width) * (d + w) + w
     pause = max(1.0, min(30.0, quiet / 15))
@@ -98,7 +98,7 @@ def storms(chance: random.Random, count: int) -> Iterator[Storm]:
 def passed_over(hung: int, healthy: int, width: int, timeout: int, reply: int, late: int) -> float:
     """Seconds from an entry's time until it is asked, or a little more, where so many others are silent: at first as long as the
     broker seems away, once the silent ones' patience. Fleets are chosen by it, and judged by what they lose."""
-    d, w = reply / SECOND, (late + TOGETHER) / SECOND
+    d, w = reply / SECOND, (late + ROUNDED) / SECOND
     patience = min(timeout, max(1.0, 2 * d))
     return 2 * timeout + patience * -(-hung // width) + (d + w) * (-(-healthy // width) + 2) + 2 * w
 
