@@ -6,5 +6,5 @@ use Rattle.serve_run.proofs.askers.askers_by.Given as goal
 abbrev pub invariant-loop : goal.invariant-loop
 invariant-loop g l = record {
   count : length l.askers.items ≡ l.counter;
-  each : All (IsAskerFor g.L.Lanes.out g.L.Lanes.seconds g.L.Lanes.width l.served.now) l.askers.items;
+  each : All (IsAskerFor g.L.Lanes.out g.L.Lanes.seconds g.L.Lanes.width l.served) l.askers.items;
 }
