@@ -1,5 +1,5 @@
 -- Ending: how a call ends.
--- Source: this project's own; the statuses are those that leasekeepd's commands have, and leasekeep's for its own streams and memory.
+-- Source: this project's own; docs/commands/calls.md.
 use Rattle.std.specs.Prelude.{ℕ}
 use Rattle.keep_report.specs.declared.stop.Stop.{Stop}
 use Rattle.keep_report.specs.declared.stop.Stop.TheVariants as stops

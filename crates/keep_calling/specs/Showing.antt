@@ -1,5 +1,5 @@
 -- Showing: what a call shows of an answer, and what it tells where there is none.
--- Source: this project's own; the words are those of leasekeepd's commands where these have some.
+-- Source: this project's own; docs/commands/calls.md, "What it says".
 use Rattle.std.specs.Prelude.{◌≡◌, ◌⊎◌, ℕ, ◌==◌, List, ◌∷◌, Bool, not, ◌&&◌, ◌||◌, if◌then◌else◌, Option, Some, None, Result, Ok, Err, bytes_eq, codes, length}
 use Rattle.keep_control.specs.Replies.{lines_text}
 use Rattle.keep_control.specs.declared.reply.Reply.{Reply}
