@@ -18,8 +18,8 @@ DENIED = b'HTTP/1.1 403 X\r\nContent-Length: 32\r\nConnection: close\r\n\r\n{"er
 
 @dataclass(frozen=True)
 class Asked:
-    """A request that was answered: when, by whose machine, about which credential, with which status, and how many seconds that had left
-    until then, where it is known."""
+    """A request that was answered: when, by whose machine, about which credential, with which status, how many seconds that had left until
+    then, where it is known, and how long the answer took."""
 
     moment: float
     by: str
@@ -27,6 +27,7 @@ class Asked:
     renews: bool
     status: int
     left: float | None
+    took: float
 
 
 class Broker:
@@ -89,12 +90,12 @@ class Broker:
     async def _talk(self, reader: asyncio.StreamReader, writer: asyncio.StreamWriter) -> None:
         try:
             async with asyncio.timeout(TALK_SECONDS):
-                request = await read_request(reader)
+                request, began = await read_request(reader), time.monotonic()
                 by = next(name for name, wire in self.wires.items() if wire.at_machine == writer.get_extra_info("peername")[0])
                 await asyncio.sleep(self.delays.get(by, 0.0))
                 credential = token_of(request)
                 reply = DENIED if credential in self.revoked else await self.exchange(request)
-                self._note(by, credential, b"/renew" in request.partition(b"\r\n")[0], reply)
+                self._note(by, credential, b"/renew" in request.partition(b"\r\n")[0], reply, began)
                 writer.write(reply)
                 await writer.drain()
         except (OSError, ValueError, TimeoutError, asyncio.IncompleteReadError, asyncio.CancelledError):
@@ -103,11 +104,11 @@ class Broker:
             writer.close()
 
 
-    def _note(self, by: str, credential: str, renews: bool, reply: bytes) -> None:
+    def _note(self, by: str, credential: str, renews: bool, reply: bytes, began: float) -> None:
         """Writes down what was asked and answered."""
         now, status = time.monotonic(), status_of(reply)
         end = self._ends.get(credential)
-        self.asked.append(Asked(now, by, credential, renews, status, None if end is None else end - now))
+        self.asked.append(Asked(now, by, credential, renews, status, None if end is None else end - now, now - began))
         told = re.search(rb'"(?:lease_duration|ttl)":(\d+)', reply)
         if status == 200 and told:
             self._ends[credential] = now + int(told[1])

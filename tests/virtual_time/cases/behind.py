@@ -60,6 +60,8 @@ def a_calm_hour(program: Path) -> list[str]:
             three.equal(f"lookups of {machine.name}", looks(three, machine.margin), got)
             three.equal(f"{machine.name} says ahead", got - 12, len(machine.agent.said("ahead")))
             three.equal("steps in", [], machine.agent.said("steps-in"))
+        shown = [machine.agent.page("/status")["standby"] for machine in three.of.values()]
+        three.equal("shown", ["first", "behind", "behind"], shown)
         three.must(500 <= len(asked) <= 520, f"{len(asked)} requests in all, and {len(alone)} of one alone")
         return three.faults()
 
