@@ -43,7 +43,7 @@ class Plot:
 
 def plot(chance: random.Random) -> Plot:
     """A random beginning."""
-    margin = chance.choice((40, 60, 60, 120, 240))
+    margin = chance.choice((40, 40, 60, 60, 120))
     timeout = chance.choice([seconds for seconds in (1, 2, 3, 5) if 8 * seconds <= margin])
     entries = tokens_of(chance, margin)
     entries += leases_of(chance, margin, entries)
@@ -117,6 +117,8 @@ class Actor:
     def __init__(self, three: Machines, plotted: Plot, chance: random.Random) -> None:
         self._three, self._plot, self._chance = three, plotted, chance
         self._troubles = [Trouble(machine, plotted, chance) for machine in three.of.values()]
+        self._well = chance.choice(self._troubles).machine
+        """Whose agent is well for now."""
         self._made = 0
         self.sick: set[str] = set()
         """Entries that were dropped."""
@@ -125,10 +127,9 @@ class Actor:
         self._three.on(self._three.now + seconds)
 
     def happen(self) -> None:
-        """Something is wrong with all but one; then all is well for some margins."""
-        chance, margin = self._chance, self._plot.fleet.margin
-        well = chance.choice(self._troubles).machine
-        length = chance.uniform(0.5, 8) * margin
+        """Something is wrong with all but one; then all is well for a while, and now and then for so long that each of them is back."""
+        chance, margin, well = self._chance, self._plot.fleet.margin, self._well
+        length = chance.uniform(0.5, 6) * margin
         for trouble in self._troubles:
             if trouble.machine is not well and chance.random() < 0.8:
                 trouble.begin(length)
@@ -140,14 +141,17 @@ class Actor:
         for trouble in self._troubles:
             if trouble.machine is not well:
                 trouble.mend()
-        self._calm()
+        self._go(margin)
+        if chance.random() < 0.4:
+            self._calm()
+            self._well = chance.choice(self._troubles).machine
 
     def _calm(self) -> None:
         """As soon as the one in front is back for sure, those behind leave everything to it."""
         margin = self._plot.fleet.margin
-        self._go(PAUSE + 2 * margin)
+        self._go(PAUSE + margin)
         since = self._three.now
-        self._go(self._chance.uniform(0, 4) * margin)
+        self._go(self._chance.uniform(0, 3) * margin)
         self._three.leave(since)
 
     def _outage(self, well: Machine) -> None:
