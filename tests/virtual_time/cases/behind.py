@@ -13,7 +13,7 @@ from ..faults import Act, fault
 from ..fleet import Entry, Fleet, of, tokens
 from ..machine import INVENTORY
 from ..machines import FRONT, SECOND, THIRD, Machines
-from ..plots import longest
+from ..plots import SLACK, longest
 from ..stage import Stage
 from . import Case
 
@@ -245,6 +245,25 @@ def an_outage_without_the_one_in_front(program: Path) -> list[str]:
     return found
 
 
+def its_looks_are_known_after_a_restart(program: Path) -> list[str]:
+    """One behind has renewed nothing for half an hour. Then the one in front dies, and the broker is away; the one behind is started again
+    in that outage, and knows the ends that it heard when it looked."""
+    found = list[str]()
+    for restarts in (2, 10):
+        with Machines(program, quick(), names=(FRONT, THIRD)) as two:
+            two.on(LATER)
+            two.front.agent.kill()
+            machine = two.of[THIRD]
+            two.on(max(LATER, min(row.end for row in two.vault.rows.values()) / ns(1) - machine.margin - 2))
+            length = longest(machine.margin, 24, 8, 5, 0, 0) - SLACK
+            machine.broker.faults = [fault(two.now, two.now + length, Act.SILENT)]
+            two.on(two.now + restarts)
+            machine.restart()
+            two.on(two.now + 300)
+            found += two.faults()
+    return found
+
+
 # ---- changes
 
 
@@ -291,4 +310,4 @@ KEPT: tuple[Case, ...] = (
     never_back, two_agents, a_stale_secret, an_older_file, a_slow_one_in_front, too_slow_in_front, one_behind_is_cut_off,
     two_in_front, nobody_in_front, walls_that_are_wrong, an_outage_without_the_one_in_front, a_file_for_each_machine, a_bad_push,
 )
-NOT_YET: tuple[Case, ...] = ()
+NOT_YET: tuple[Case, ...] = (its_looks_are_known_after_a_restart,)
