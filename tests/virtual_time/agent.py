@@ -86,9 +86,10 @@ class Client:
 class Agent:
     """The agent of a machine. It may be killed and started again; one runs at a time."""
 
-    def __init__(self, world: World, program: Path, room: Path, words: list[str], clocks: Clocks, late: float = 0.0) -> None:
+    def __init__(self, world: World, program: Path, room: Path, words: list[str], clocks: Clocks, late: float, name: str) -> None:
         """`words`: those behind `serve`. `late`: by how many seconds the machine wakes up late."""
         self.world, self.clocks, self._program, self._room, self._words, self._late = world, clocks, program, room, words, ns(late)
+        self.name = name
         self.run = 0
         """How often it was started."""
         self.lines: list[Line] = []
@@ -97,7 +98,7 @@ class Agent:
         self._boots = 0
         self.new_boot()
         self._heard = NEVER
-        self._suspended_until = 0
+        self._suspended_until = self._stands_until = 0
 
     # ---- its life
 
@@ -115,6 +116,7 @@ class Agent:
         """Starts it; it runs until it waits for the first time, or ends."""
         self.run += 1
         self.status = None
+        self._stands_until = 0
         self._turns = Turns(self._room, self._late)
         self._turns.show(self.clocks, self.world.now)
         self._log_path = self._room / f"log.{self.run}"
@@ -182,7 +184,12 @@ class Agent:
     @property
     def wakes(self) -> int:
         own = self.clocks.moment_of(self._turns.get(Cell.UNTIL))
-        return max(min(own, self._heard), self._suspended_until)
+        return max(min(own, self._heard), self._suspended_until, self._stands_until)
+
+    @property
+    def is_awake(self) -> bool:
+        """Whether it is up, neither stopped nor on a machine that is suspended."""
+        return self.is_up and self.world.now > max(self._suspended_until, self._stands_until)
 
     @property
     def rests(self) -> int:
@@ -202,6 +209,10 @@ class Agent:
         """The machine is suspended for so long: it does nothing, and no wait of it counts that time."""
         self.clocks.suspend(ns(seconds))
         self._suspended_until = self.world.now + ns(seconds)
+
+    def stand_still(self, seconds: float) -> None:
+        """It is stopped (SIGSTOP) for so long: it does nothing, and each wait of it counts that time."""
+        self._stands_until = self.world.now + ns(seconds)
 
     def disk_stalls(self, seconds: float) -> None:
         """Each of its disk calls waits until then, of this run."""

@@ -25,6 +25,8 @@ class Judge:
         """The ends in the file, on the clock that never steps."""
         self.reads = 0
         """How often the file was read anew."""
+        self.is_behind = False
+        """Whether its agent stands behind another: then it looks entries up on lanes of its own besides, whatever else it asks."""
         self._judged = self._twice = 0
         self._last: dict[str, Asked] = {}
         self._stamp: tuple[int, int] = (0, 0)
@@ -34,20 +36,29 @@ class Judge:
     def watch(self) -> None:
         """Judges what is new."""
         self._judge_requests()
-        for name in self._broker.twice[self._twice:]:
-            self._tell(f"{name} is asked while it is being asked")
+        for name, are_renewals in self._broker.twice[self._twice:]:
+            if are_renewals or not self.is_behind:
+                self._tell(f"{name} is asked while it is being asked")
         self._twice = len(self._broker.twice)
-        if self._broker.out > self._width + 1 and not self._crowded:
+        if self._broker.out > self._most_out and not self._crowded:
             self._crowded = True
-            self._tell(f"{self._broker.out} requests are out of {self._width}, and one for a credential")
+            self._tell(f"{self._broker.out} requests are out, and {self._most_out} may be")
         self._judge_ends()
 
+    @property
+    def _most_out(self) -> int:
+        """How many requests may be out: as many as its lanes, and one for a credential."""
+        return (2 if self.is_behind else 1) * self._width + 1
+
     def _tell(self, fault: str) -> None:
-        self.faults.append(f"at {self._broker.world.now / NANOSECONDS:.3f}: {fault}")
+        whose = f"{self._agent.name}: " if self._agent.name else ""
+        self.faults.append(f"at {self._broker.world.now / NANOSECONDS:.3f}: {whose}{fault}")
 
     def _judge_requests(self) -> None:
         asked = self._broker.vault.asked
         for one in asked[self._judged:]:
+            if one.by != self._agent.name:
+                continue
             before = self._last.get(one.credential)
             self._last[one.credential] = one
             if before is not None and one.moment - before.moment < APART and not self._may_follow(before, one):
@@ -57,7 +68,7 @@ class Judge:
     def _may_follow(self, before: Asked, one: Asked) -> bool:
         """Whether it is the renewal right behind its lookup, or what asks knows of no request before it: it has been started again, or the
         credential was looked up before it was taken."""
-        if one.renews and not before.renews:
+        if one.renews and not before.renews or self.is_behind and not (one.renews and before.renews):
             return True
         taken = self._agent.said("add", one.name) + self._agent.said("replace", one.name)
         return one.run != before.run or any(before.moment <= line.moment <= one.moment for line in taken)

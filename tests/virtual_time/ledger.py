@@ -8,7 +8,7 @@ from itertools import product
 
 from .agent import Client
 from .fleet import Entry, Fleet
-from .stage import INVENTORY, Stage
+from .machine import INVENTORY, Machine
 from .vault import Row
 
 Change = Callable[[Fleet], Fleet]
@@ -33,7 +33,7 @@ def nothing() -> None:
 class Ledger:
     """The fleet that is served by all that was acknowledged, and what FILE says."""
 
-    def __init__(self, stage: Stage) -> None:
+    def __init__(self, stage: Machine) -> None:
         self._stage = stage
         self.file = stage.fleet
         self._asked: list[Asked] = []

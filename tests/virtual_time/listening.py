@@ -25,6 +25,7 @@ class Connection:
         self._is_open = True
         self.asks: tuple[int, str] | None = None
         """From which run of the agent its request is, and with which credential."""
+        self.renews = False
         stream.setblocking(False)
         self._world.listen(stream, self._hear)
 
@@ -63,11 +64,12 @@ class Connection:
 
 
 class Broker:
-    """The broker of a world. `latency`: how long a reply takes, in seconds; what is done is done when half of it has passed."""
+    """The broker of a world, as one agent reaches it. `latency`: how long a reply takes, in seconds; what is done is done when half of it
+    has passed."""
 
-    def __init__(self, world: World, path: Path, run_at: Callable[[], int]) -> None:
-        """`run_at`: which run of the agent it is."""
-        self.world, self.vault, self._path, self._run_at = world, Vault(), path, run_at
+    def __init__(self, world: World, vault: Vault, path: Path, run_at: Callable[[], int], by: str = "") -> None:
+        """`run_at`: which run of the agent it is; `by`: the agent's name."""
+        self.world, self.vault, self._path, self._run_at, self._by = world, vault, path, run_at, by
         self.faults: list[Fault] = []
         self.latency = 0.0
         self.latency_of: Callable[[], float] | None = None
@@ -76,8 +78,8 @@ class Broker:
         """The whole reply to a whole request, in place of what the rules say."""
         self.texts: list[bytes] = []
         """Each request as it came."""
-        self.twice: list[str] = []
-        """The name of each entry that was asked while a request of it was out."""
+        self.twice: list[tuple[str, bool]] = []
+        """The name of each entry that was asked while a request of it was out, and whether both were renewals."""
         self.tells_date = False
         self.nodes_ahead: tuple[float, ...] = (0.0,)
         """By how many seconds the clocks of its nodes are ahead, of which one after the other tells the date."""
@@ -132,10 +134,11 @@ class Broker:
         """A request has come."""
         now, request = self.world.now, request_of(text)
         self.texts.append(text)
-        name = self.vault.hear(request, now, self._run_at())
-        connection.asks = self._run_at(), request.credential
-        if any(one.asks == connection.asks for one in self._out if one is not connection):
-            self.twice.append(name or request.credential)
+        name = self.vault.hear(request, now, self._run_at(), self._by)
+        connection.asks, connection.renews = (self._run_at(), request.credential), request.renews
+        for one in self._out - {connection}:
+            if one.asks == connection.asks:
+                self.twice.append((name or request.credential, one.renews and request.renews))
         latency = ns(self.latency if self.latency_of is None else self.latency_of())
         amiss = next((one for one in self.faults if one.holds(now, request, name)), None)
         if self.text_of is not None:

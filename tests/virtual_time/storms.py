@@ -14,7 +14,8 @@ from .clock import MILLISECOND, NEVER, ns
 from .faults import Act, Fault, about
 from .fleet import FAR, Entry, Fleet
 from .ledger import Ledger
-from .stage import TOLD, Stage
+from .machine import TOLD
+from .stage import Stage
 from .strict import Strict
 from .vault import Request
 

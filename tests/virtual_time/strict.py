@@ -4,7 +4,7 @@ its time, and nobody is forgotten. It is seen at the broker, in the log and in t
 from __future__ import annotations
 
 from .clock import NANOSECONDS, ns
-from .stage import Stage
+from .machine import Machine
 from .vault import Asked
 
 TICK = ns(0.05)
@@ -16,9 +16,9 @@ LONG, LONGER = 30, 300
 class Strict:
     """Watches the world of a stage. `faults`: what went wrong, a line each."""
 
-    def __init__(self, stage: Stage, others: frozenset[str] = frozenset()) -> None:
+    def __init__(self, stage: Machine, others: frozenset[str] = frozenset()) -> None:
         """`others`: entries of which nothing is said, since they are refused, or do not stay what they are."""
-        self._stage, self._margin, self._others = stage, ns(stage.fleet.margin), others
+        self._stage, self._margin, self._others = stage, ns(stage.margin), others
         self.faults: list[str] = []
         self._lines = self._asked = self._reads = 0
         """What of the log, of the requests, and of the file of the ends was judged."""
@@ -34,7 +34,7 @@ class Strict:
         self._asked_at: dict[str, int] = {}
         """When each was last asked."""
         self._quiet_since: int | None = 0
-        """Since when no request is out."""
+        """Since when the agent is awake, and no request of it is out."""
         stage.world.watchers.append(self.watch)
 
     def watch(self) -> None:
@@ -44,20 +44,22 @@ class Strict:
         if self._reads < stage.judge.reads:
             self._reads = stage.judge.reads
             self._told.clear()
-        if self._quiet_since is not None:
+        if self._quiet_since is not None and stage.agent.is_awake:
             self._nobody_is_forgotten(self._quiet_since)
-        asked = stage.broker.vault.asked[self._asked:]
-        self._asked += len(asked)
+        new = stage.broker.vault.asked[self._asked:]
+        self._asked += len(new)
+        asked = [one for one in new if one.by == stage.name]
         for one in asked:
             self._nobody_is_early(one)
             self._asked_at[one.name] = one.moment
-        if stage.broker.out:
+        if stage.broker.out or not stage.agent.is_awake:
             self._quiet_since = None
         elif asked or self._quiet_since is None:
             self._quiet_since = stage.world.now
 
     def _tell(self, fault: str) -> None:
-        self.faults.append(f"at {self._stage.now:.3f}: {fault}")
+        whose = f"{self._stage.name}: " if self._stage.name else ""
+        self.faults.append(f"at {self._stage.now:.3f}: {whose}{fault}")
 
     def _hear_log(self) -> None:
         lines = self._stage.agent.lines[self._lines:]
@@ -70,7 +72,7 @@ class Strict:
                     self._lose(line.words[0], line.moment)
                 case "away" | "back":
                     self._is_away = line.event == "away"
-                case "entry" | "told":
+                case "entry" | "told" | "ahead":
                     self._failed.pop(line.words[0], None)
                     self._told.add(line.words[0])
                     if line.event == "told":

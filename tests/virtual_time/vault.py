@@ -83,13 +83,14 @@ class Request:
 
 @dataclass(frozen=True)
 class Asked:
-    """A request as it came: when, about whom (nobody whom the broker knows: an empty name), and from which run of the agent."""
+    """A request as it came: when, about whom (nobody whom the broker knows: an empty name), and from which run of which agent."""
 
     moment: int
     run: int
     name: str
     credential: str
     renews: bool
+    by: str = ""
 
 
 Reply = tuple[int, dict[str, Any]]
@@ -130,19 +131,19 @@ class Vault:
             ends[row.name] = max(row.latest_end, ends.get(row.name, row.latest_end))
         return ends
 
-    def count(self, name: str | None = None, renews: bool | None = None) -> int:
-        """How many requests came, of one entry or of one kind."""
-        return sum(name in (None, one.name) and renews in (None, one.renews) for one in self.asked)
+    def count(self, name: str | None = None, renews: bool | None = None, by: str | None = None) -> int:
+        """How many requests came, of one entry, of one kind or from one agent."""
+        return sum(name in (None, one.name) and renews in (None, one.renews) and by in (None, one.by) for one in self.asked)
 
     def moments(self, name: str, renews: bool | None = None) -> list[float]:
         """When it was asked about an entry, in seconds of the world."""
         return [one.moment / NANOSECONDS for one in self.asked if one.name == name and renews in (None, one.renews)]
 
-    def hear(self, request: Request, now: int, run: int) -> str:
+    def hear(self, request: Request, now: int, run: int, by: str = "") -> str:
         """A request has come; the name of the entry that it is about."""
         row = self.rows.get(request.credential)
         name = "" if row is None else row.name
-        self.asked.append(Asked(now, run, name, request.credential, request.renews))
+        self.asked.append(Asked(now, run, name, request.credential, request.renews, by))
         return name
 
     def answer(self, request: Request, now: int) -> Reply:

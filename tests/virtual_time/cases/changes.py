@@ -6,7 +6,8 @@ from pathlib import Path
 
 from ..faults import Act, fault
 from ..fleet import ALWAYS, Entry, Fleet, fleet
-from ..stage import INVENTORY, Stage
+from ..machine import INVENTORY
+from ..stage import Stage
 from ..vault import Kind
 from . import Case
 

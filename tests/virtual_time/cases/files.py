@@ -8,7 +8,8 @@ from pathlib import Path
 
 from ..clock import ns
 from ..fleet import ALWAYS, Entry, Fleet
-from ..stage import INVENTORY, Stage
+from ..machine import INVENTORY
+from ..stage import Stage
 from ..vault import Kind
 from . import Case
 

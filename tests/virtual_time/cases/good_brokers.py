@@ -12,7 +12,8 @@ from typing import Any
 from ..clock import NEVER, ns
 from ..faults import Act, Fault, Picks
 from ..fleet import Entry, Fleet, of, tokens
-from ..stage import INVENTORY, Stage
+from ..machine import INVENTORY
+from ..stage import Stage
 
 from . import Case
 
