@@ -59,13 +59,13 @@ where
     ensures runs { result ≡ Exit.Done → HasRun (⟦<SystemDay<'a, R> as Neighbours>⟧.does) (⟦<SystemDay<'a, R> as Neighbours>⟧.given) ⟦<SystemDoors<'a, R> as SecretFiles>⟧.calls ⟦<SystemDisk<'a, R> as Disk>⟧.is_known ⟦<SystemDisk<'a, R> as Disk>⟧.state ⟦<SystemClock<'a, R> as keep_clock::Clock>⟧.seen ⟦<SocketLanes<'a, R> as SeenLanes>⟧.seen ⟦<SocketLanes<'a, R> as Lanes>⟧.host_port ⟦<SocketLanes<'a, R> as Lanes>⟧.width served.now log }
 {
     let Ok(mut clock) = SystemClock::new(rt.alloc(), rt) else {
-        return Stop::Memory.report(PROGRAM, errors);
+        return ended(Err(AllocError), errors);
     };
     let Ok(mut lanes) = own_lanes(rt, served, &clock) else {
-        return Stop::Memory.report(PROGRAM, errors);
+        return ended(Err(AllocError), errors);
     };
     let Ok(parts) = parts_of(rt, served, log, &clock) else {
-        return Stop::Memory.report(PROGRAM, errors);
+        return ended(Err(AllocError), errors);
     };
     let doors = SystemDoors::by(rt, &clock);
     run_among(
@@ -75,7 +75,6 @@ where
 
 /// The same by any clock, over any lanes and through any doors. (If all types of the system came together in this one function, its proof
 /// would be past the prover's limit of steps.)
-#[tactic(auto, using(serve_run::proofs::Having::has_run))]
 fn run_among<'a, R, L, P, C, E>(
     rt: &'a R,
     served: &Served<'a>,

@@ -1,0 +1,25 @@
+-- Ran: an agent that has ended with exit 0 has run, with the log that it was given. For `run_among` and `run`.
+use Rattle.std.proofs.Common.{◌≡◌, ◌∙◌, ℕ, Bool, List, Ok, Err, OnErr, OnOk, Option, Result, subst, sym}
+use Rattle.house_ledger.specs.declared.ledger.Ledger.{Ledger}
+use Rattle.keep_asking.specs.Sending.{Lanes}
+use Rattle.keep_behind.specs.declared.behind.Behind.{Behind}
+use Rattle.keep_clock.specs.Seen.{ClockSeen}
+use Rattle.keep_disk.specs.State.{DiskState}
+use Rattle.keep_house.specs.declared.house.House.{House}
+use Rattle.keep_report.specs.declared.exit.Exit.{Exit}
+use Rattle.keep_report.specs.declared.exit.Exit.TheVariants as exits
+use Rattle.keep_secrets.specs.Stamps.{FileCall}
+use Rattle.keep_serving.specs.Neighbours.{NeighbourCall}
+use Rattle.keep_serving.specs.declared.change.Change.{Change}
+use Rattle.keep_serving.specs.declared.day.EarlyDay.{EarlyDay}
+use Rattle.leasekeep_commands.specs.declared.job.Served.{Served}
+use Rattle.serve_run.specs.Run.{HasRun}
+
+pub ran_if : {A E X : Type 0} → (ran : Result A E) (exit : Exit) → OnOk ran X → OnErr ran (exit ≡ exits.Memory) → exit ≡ exits.Done → X
+ran_if (Ok a) exit runs wanting done = runs
+ran_if (Err e) exit runs wanting done = let both : exits.Memory ≡ exits.Done = sym wanting ∙ done in absurd cc
+
+module _ {D I L S T O E C P : Type 0} (does : NeighbourCall → EarlyDay (Behind (House S T O (Ledger D I L) E) L) → EarlyDay (Behind (House S T O (Ledger D I L) E) L) → Type 0) (given : EarlyDay (Behind (House S T O (Ledger D I L) E) L) → Option (List Change)) (calls : P → Option (List FileCall)) (known : Bool) (disk_seen : E → DiskState)
+    (clock_seen : C → ClockSeen) (seen : L → Lanes) (port width : L → ℕ) where
+  pub has_run_by : (served : Served) (log other : S) → log ≡ other → HasRun does given calls known disk_seen clock_seen seen port width served log → HasRun does given calls known disk_seen clock_seen seen port width served other
+  has_run_by served log other same has = subst (HasRun does given calls known disk_seen clock_seen seen port width served) same has

@@ -1,0 +1,12 @@
+-- What was started has run.
+use Rattle.std.proofs.Common.{◌∙◌, refl, subst}
+use Rattle.serve_start.specs.Starts.{IsStart}
+use Rattle.serve_run.proofs.Having.{has_run}
+use Rattle.leasekeep.proofs.Ran.{ran_if}
+use Rattle.leasekeep.proofs.running.run_among.Goals as goal
+
+pub returns-in-Ok-clause-runs : goal.returns-in-Ok-clause-runs
+returns-in-Ok-clause-runs g c done =
+    has_run _ _ _ _ _ _ _ _ _ c.args.served.now c.args.parts.log c.args.demands c.in-Ok.start c.args.parts c.args.doors c.args.clock.now c.run_over-ran.new.clock c.args.lanes.now c.run_over-ran.new.lanes c.requires.demanded
+    (subst (λ b. IsStart c.args.demands b c.in-Ok.start) (c.as_ref.ensures.variant ∙ c.state_folder-folder.ensures) c.in-Ok.ensures.start)
+    refl c.requires.free c.requires.seconds c.requires.width (ran_if c.run_over-ran.result c.ended.result c.run_over-ran.ensures.runs c.ended.ensures.not_done done)
