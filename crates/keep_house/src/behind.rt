@@ -1,9 +1,11 @@
 //! What an agent has done behind another: it is said and counted.
-ghost use Rattle.std.specs.Prelude.{◌≡◌};
+ghost use Rattle.std.specs.Prelude.{◌≡◌, option_map};
 ghost use Rattle.house_log.specs.LogDesk.{HearsAhead, HearsSteps};
 ghost use Rattle.house_log.specs.LinesBehind.{steps_in_count};
 ghost use Rattle.keep_house.specs.Behind.{looked, stepped};
+ghost use Rattle.keep_house.specs.Ends.{to_be_kept};
 
+use crate::ends::spoil;
 use crate::house::House;
 use keep_agent::Agent;
 use keep_onlook::Standby;
@@ -11,13 +13,14 @@ use std::alloc::Global;
 use watch_machine::Request;
 
 impl<S, T, D, K, E> House<S, T, D, K, E> {
-    /// An end was looked up ahead, and handed in.
+    /// An end was looked up ahead, and handed in: the ends are kept anew.
     pub fn hear_ahead(&mut self, alloc: Global, agent: &Agent, entry: u32, end: u64)
         ensures said { HearsAhead agent.now entry end self.old.desk self.new.desk }
-        ensures rest { self.new ≡ record self.old { desk = self.new.desk; standby = looked self.old.standby } }
+        ensures rest { self.new ≡ record self.old { desk = self.new.desk; standby = looked self.old.standby; ends = option_map to_be_kept self.old.ends } }
     {
         self.desk.hear_ahead(alloc, agent, entry, end);
         self.standby = looked(self.standby);
+        spoil(&mut self.ends);
     }
 
     /// The agent asks this for the one in front. What is counted are the entries of which that is said.

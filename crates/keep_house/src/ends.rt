@@ -1,6 +1,6 @@
 //! Ends that are kept over a restart.
-ghost use Rattle.std.specs.Prelude.{◌≡◌};
-ghost use Rattle.keep_house.specs.Ends.{EndsGoOn, HearsEnd, HearsServed, KeepsEnds, is_failing};
+ghost use Rattle.std.specs.Prelude.{◌≡◌, option_map};
+ghost use Rattle.keep_house.specs.Ends.{EndsGoOn, HearsEnd, HearsServed, KeepsEnds, is_failing, to_be_kept};
 
 use crate::house::House;
 use keep_agent::Agent;
@@ -25,9 +25,7 @@ impl<S, T, D, K, E> House<S, T, D, K, E> {
         ensures { HearsServed self.old self.new }
     {
         self.next = None;
-        if let Some(ends) = &mut self.ends {
-            ends.spoil();
-        }
+        spoil(&mut self.ends);
     }
 }
 
@@ -39,6 +37,15 @@ impl<S, T, D, K, E: Disk> House<S, T, D, K, E> {
         let was_failing = is_failing(&self.ends);
         let tried = go_on(alloc, &mut self.ends, agent, now.elapsed);
         self.desk.hear_tried(alloc, agent, was_failing, tried);
+    }
+}
+
+// The file, where there is one, is to be kept anew.
+pub(crate) fn spoil<E>(ends: &mut Option<EndsFile<E>>)
+    ensures { ends.new ≡ option_map to_be_kept ends.old }
+{
+    if let Some(ends) = ends {
+        ends.spoil();
     }
 }
 
