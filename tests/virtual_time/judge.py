@@ -25,8 +25,9 @@ class Judge:
         """The ends in the file, on the clock that never steps."""
         self.reads = 0
         """How often the file was read anew."""
-        self.is_behind = False
-        """Whether its agent stands behind another: then it looks entries up on lanes of its own besides, whatever else it asks."""
+        self.is_behind = self.has_files = False
+        """Whether its agent stands behind another: then it looks entries up on lanes of its own besides, whatever else it asks; and whether
+        it has files of credentials, which are looked up on such lanes, too."""
         self._judged = self._twice = 0
         self._last: dict[str, Asked] = {}
         self._stamp: tuple[int, int] = (0, 0)
@@ -47,8 +48,8 @@ class Judge:
 
     @property
     def _most_out(self) -> int:
-        """How many requests may be out: as many as its lanes, and one for a credential."""
-        return (2 if self.is_behind else 1) * self._width + 1
+        """How many requests may be out: as many as its lanes, and one for a credential of a client."""
+        return (1 + self.is_behind + self.has_files) * self._width + 1
 
     def _tell(self, fault: str) -> None:
         whose = f"{self._agent.name}: " if self._agent.name else ""

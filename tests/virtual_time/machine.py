@@ -40,6 +40,7 @@ class Machine:
         options += ["--control", f"./{CONTROL}", "--listen", f"./{PAGES}", "--state", f"./{STATE}"]
         self.agent = Agent(world, program, room, [*options, *words], self.clocks, late, name)
         self.judge = Judge(self.broker, self.agent, room / ENDS, width)
+        self.judge.has_files = any(entry.file for entry in fleet.entries)
         self._told = 0
         """Lines of the log that were told."""
         world.watchers.append(self._tell_log)

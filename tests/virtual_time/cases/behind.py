@@ -20,7 +20,7 @@ from . import Case
 HOUR = 3600
 BEGINS, LASTS = 300, 300
 """When something goes wrong, and for how long: for longer than any entry lives."""
-ENDS, LATER = BEGINS + LASTS, 1500
+ENDS, LATER = BEGINS + LASTS, 1300
 PAUSE = 300
 """For so long an agent may pause that takes all its entries for lost."""
 
