@@ -308,6 +308,7 @@ def a_bad_push(program: Path) -> list[str]:
 KEPT: tuple[Case, ...] = (
     a_calm_hour, the_one_in_front_is_killed, the_one_in_front_is_stopped, the_one_in_front_is_suspended, the_one_in_front_is_cut_off,
     never_back, two_agents, a_stale_secret, an_older_file, a_slow_one_in_front, too_slow_in_front, one_behind_is_cut_off,
-    two_in_front, nobody_in_front, walls_that_are_wrong, an_outage_without_the_one_in_front, a_file_for_each_machine, a_bad_push,
+    two_in_front, nobody_in_front, walls_that_are_wrong, an_outage_without_the_one_in_front, its_looks_are_known_after_a_restart,
+    a_file_for_each_machine, a_bad_push,
 )
-NOT_YET: tuple[Case, ...] = (its_looks_are_known_after_a_restart,)
+NOT_YET: tuple[Case, ...] = ()
