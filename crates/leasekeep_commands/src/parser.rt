@@ -324,8 +324,8 @@ const FILE: Word = Word {
     name: "FILE",
     takes: Takes::Text,
     help: "\
-The inventory, at most 1 MiB; read first. `leasekeep-inventory lint FILE` shows every fault,
-its line and its fix",
+The inventory, at most 1 MiB; read first. `leasekeep-inventory lint FILE`
+shows every fault, its line and its fix",
 };
 
 const START: Word = Word {
