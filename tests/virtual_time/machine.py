@@ -121,6 +121,11 @@ class Machine:
         told = self.agent.page("/status")
         return {} if told is None else {entry["name"]: entry for entry in told["entries"]}
 
+    def next_wake(self) -> int | None:
+        """The next wake-up as that page shows it."""
+        told = self.agent.page("/status")
+        return None if told is None else told["next_wake"]
+
     def ill(self) -> list[str]:
         """What its judge says, and that it has ended by itself."""
         status = self.agent.status

@@ -93,8 +93,7 @@ impl Agent {
         self.beginnings
     }
 
-    /// The first time of the entries that are wanted and whose end is ahead, `None` where there is none. The only error is want of
-    /// memory.
+    /// The next time of the Watch, one that is ahead if there is one. The only error is want of memory.
     pub fn next(&mut self, alloc: Global) -> Result<Option<Next>, WatchFault>
         ensures next { IfOk result (λ next. IsNextTime self.old.machine next) }
         ensures refused { IfErr result (λ fault. fault ≡ OutOfMemory) }

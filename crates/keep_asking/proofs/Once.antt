@@ -1,4 +1,4 @@
--- Once: an event gives one output and one state, and a state has one next time. For the laws that secrets change no answer.
+-- Once: an event gives one output and one state. For the laws that secrets change no answer.
 use Rattle.std.proofs.Common.{◌≡◌, ◌⊎◌, ◌∙◌, ℕ, suc, ◌+◌, ◌-◌, ◌<◌, ◌≤◌, Bool, true, false, cond, ◌&&◌, ◌||◌, ◌==◌, List, [], ◌∷◌, Option, Some, None, Ok, All, IsSortedBy, count_by, get_or, length, map, nat_lt, take, refl, sym, ap, ap₂, subst, arith, inl, inr}
 use Rattle.std.proofs.lemmas.Bool.{and_parts, cases_Bool, eqb-true}
 use Rattle.std.proofs.lemmas.Bool.Decides.{nat_tests}
@@ -18,12 +18,10 @@ use Rattle.watch_machine.specs.declared.event.Reply.{Reply}
 use Rattle.watch_machine.specs.declared.event.Terms.{Terms}
 use Rattle.watch_machine.specs.declared.lanes.Out.{Out}
 use Rattle.watch_machine.specs.declared.lanes.Presence.{Presence}
-use Rattle.watch_machine.specs.declared.outlook.Next.{Next}
 use Rattle.watch_machine.specs.declared.track.Track.{Track}
 use Rattle.watch_machine.specs.Clocks.{sec}
 use Rattle.watch_machine.specs.History.{Turn}
 use Rattle.watch_machine.specs.Press.{pressed}
-use Rattle.watch_machine.specs.Outlook.{IsNextTime}
 use Rattle.watch_machine.specs.Refusal.{request_out}
 use Rattle.watch_machine.specs.Round.{IsRound, IsSecond, asked_by_round, plan_view}
 use Rattle.watch_machine.specs.Sending.{IsGoing, IsSendingOrder, Place, due, is_before, request, sent}
@@ -249,27 +247,3 @@ step_once old x y (Known i end renewable) a b one two = (two.0 ∙ sym one.0, tw
 
 pub turn_once : (old x y : WatchState) (event : Event) (a b : Output) → Turn old event (Ok a) x → Turn old event (Ok b) y → (b ≡ a) × (y ≡ x)
 turn_once old x y event a b one two = step_once old x y event a b one.1 two.1
-
--- ---- the next time
-
-first_same : (s : WatchState) (a b : Next) → IsNextTime s (Some a) → IsNextTime s (Some b) → b ≡ a
-first_same s a b x y =
-    let low = x.least b.entry y.within y.timed in
-    let high = y.least a.entry x.within x.timed in
-    let at = x.at_is in
-    let at' = y.at_is in
-    let moment : b.at ≡ a.at = omega (arith, low, high, at, at') in
-    let entry : b.entry ≡ a.entry = elim (cases_Bool (nat_lt a.entry b.entry)) [
-      | inl before ↦ absurd (let l : a.entry < b.entry = grind (arith, nat_tests) in let h = y.lowest a.entry l x.timed in omega (arith, h, moment, at))
-      | inr not_before ↦ elim (cases_Bool (nat_lt b.entry a.entry)) [
-        | inl before ↦ absurd (let l : b.entry < a.entry = grind (arith, nat_tests) in let h = x.lowest b.entry l y.timed in omega (arith, h, moment, at'))
-        | inr neither ↦ grind (arith, nat_tests)
-      ]
-    ] in
-    ap₂ (λ m i. record { at = m; entry = i }) moment entry
-
-pub next_once : (s : WatchState) (a b : Option Next) → IsNextTime s a → IsNextTime s b → b ≡ a
-next_once s None None x y = refl
-next_once s None (Some b) x y = absurd (let e = sym (x b.entry y.within) ∙ y.timed in cc)
-next_once s (Some a) None x y = absurd (let e = sym (y a.entry x.within) ∙ x.timed in cc)
-next_once s (Some a) (Some b) x y = ap Some (first_same s a b x y)

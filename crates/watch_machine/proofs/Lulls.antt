@@ -15,7 +15,7 @@ use Rattle.watch_machine.specs.declared.track.Track.{Track}
 use Rattle.watch_machine.specs.Beginning.{beginning}
 use Rattle.watch_machine.specs.Clocks.{sec}
 use Rattle.watch_machine.specs.Lines.{is_due}
-use Rattle.watch_machine.specs.Outlook.{IsNextTime, is_timed, is_timed_at}
+use Rattle.watch_machine.specs.Outlook.{IsFirst, IsNextBy, IsNextTime, is_ahead_at, is_timed, is_timed_at}
 use Rattle.watch_machine.specs.Press.{pressed_track}
 use Rattle.watch_machine.specs.Round.{opens, opens_some}
 use Rattle.watch_machine.specs.Sending.{due, place}
@@ -62,7 +62,7 @@ next_paced g xs need p pace =
 pub lull_of :
     (g : Forest) (xs : List Track) (c : Clocks) (p : Presence) (needs : Loads) (lull : Lull) (now : ℕ) → now ≡ sec c.at → lull.next ≡ next_due g xs (need_at needs) p →
     ((i : ℕ) → i < length g.entries → 0 < need_at needs i → lull.lasting ≤ need_at needs i) →
-    ((i : ℕ) → i < length g.entries → now < believed (track_in xs i).end → lull.lasting ≤ believed (track_in xs i).end) → IsNextTime (shown_by g xs c) lull.ahead →
+    ((i : ℕ) → i < length g.entries → now < believed (track_in xs i).end → lull.lasting ≤ believed (track_in xs i).end) → IsFirst (is_timed_at (shown_by g xs c)) (shown_by g xs c) lull.first →
     HasNeeds g.entries xs c needs → IsLull g xs c p lull
 lull_of g xs c p needs lull now now_is next needed ended told has = record {
   next = next ∙ next_as g xs (need_at needs) (need_of g.entries xs c) p has;
@@ -93,27 +93,36 @@ timed_same :
 unfolding is_timed
 timed_same g xs old new alike i within = ap₂ (λ n b. wants (track_in xs i) n && b) (alike i within).0 (alike i within).1
 
--- and the next time is the same
-next_kept : (g : Forest) (xs : List Track) (old new : Clocks) → AreAlike g xs old new → (o : Option Next) → IsNextTime (shown_by g xs old) o → IsNextTime (shown_by g xs new) o
-next_kept g xs old new alike None is = λ i within. timed_same g xs old new alike i within ∙ is i within
-next_kept g xs old new alike (Some n) is = let same = timed_same g xs old new alike in record {
+-- and the first time is the same
+first_kept :
+    (g : Forest) (xs : List Track) (old new : Clocks) → AreAlike g xs old new → (o : Option Next) → IsFirst (is_timed_at (shown_by g xs old)) (shown_by g xs old) o →
+    IsFirst (is_timed_at (shown_by g xs new)) (shown_by g xs new) o
+first_kept g xs old new alike None is = λ i within. timed_same g xs old new alike i within ∙ is i within
+first_kept g xs old new alike (Some n) is = let same = timed_same g xs old new alike in record {
   within = is.within;
-  timed = same n.entry is.within ∙ is.timed;
+  counted = same n.entry is.within ∙ is.counted;
   at_is = is.at_is;
   least = λ i within timed. is.least i within (sym (same i within) ∙ timed);
   lowest = λ i below timed. let within = is.within in is.lowest i below (sym (same i (omega (arith, within, below))) ∙ timed);
 }
 
--- and nothing else of a state matters for it
+-- and nothing else of a state matters for it, nor for the next one
+pub first_shown : (counts : ℕ → Bool) (s : WatchState) (o : Option Next) → IsFirst counts (shown_by s.forest s.tracks s.clocks) o → IsFirst counts s o
+first_shown counts s None is = is
+first_shown counts s (Some n) is = record { within = is.within; counted = is.counted; at_is = is.at_is; least = is.least; lowest = is.lowest }
+
+shown_by_first : (s : WatchState) (ahead next : Option Next) → IsNextBy (shown_by s.forest s.tracks s.clocks) ahead next → IsNextBy s ahead next
+shown_by_first s None next is = first_shown (is_timed_at s) s next is
+shown_by_first s (Some ahead) next is = is
+
 pub next_shown : (s : WatchState) (o : Option Next) → IsNextTime (shown_by s.forest s.tracks s.clocks) o → IsNextTime s o
-next_shown s None is = is
-next_shown s (Some n) is = record { within = is.within; timed = is.timed; at_is = is.at_is; least = is.least; lowest = is.lowest }
+next_shown s o is = (is.0, (first_shown (is_ahead_at s) s is.0 is.1.0, shown_by_first s is.0 o is.1.1))
 
 -- at a quiet clock it goes on
 goes_on : (g : Forest) (xs : List Track) (old new : Clocks) (p : Presence) (pace : ℕ) (lull : Lull) → AreAlike g xs old new → IsLull g xs old p lull → IsLull g xs new (record p { pace = pace }) lull
 goes_on g xs old new p pace lull alike is = let same = λ (i : ℕ) (within : i < length g.entries). (alike i within).0 in record {
   ended = λ i within living. is.ended i within (was_ahead (sec old.at) (sec new.at) (believed (track_in xs i).end) (alike i within).1 living);
-  told = next_kept g xs old new alike lull.ahead is.told;
+  told = first_kept g xs old new alike lull.first is.told;
   next = is.next ∙ sym (next_as g xs (need_of g.entries xs new) (need_of g.entries xs old) p same) ∙ sym (next_paced g xs (need_of g.entries xs new) p pace);
   needed = λ i within some. let e = same i within in let n = is.needed i within (omega (arith, e, some)) in omega (arith, e, n);
 }

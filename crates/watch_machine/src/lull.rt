@@ -32,7 +32,7 @@ pub(crate) struct Lull {
     /// The first second in which a need that is carried, or an end that was ahead, is past; [`NEVER`] where there is none.
     pub(crate) lasting: Seconds,
     /// The first time of the entries that are wanted and whose end is ahead.
-    pub(crate) ahead: Option<Next>,
+    pub(crate) first: Option<Next>,
 }
 
 /// Whether its try failed since the last clock, so that the next one sets its pause.
@@ -164,11 +164,11 @@ impl Lull {
     {
         let next = next_due(forest, tracks, needs, presence);
         let lasting = first_past(tracks, needs, forest.len(), second(clocks.at));
-        let ahead = first_time(forest, tracks, needs, clocks);
+        let first = first_time(forest, tracks, needs, clocks, false);
         Lull {
             next,
             lasting,
-            ahead,
+            first,
         }
     }
 

@@ -1,11 +1,11 @@
 //! What a watch says of itself between two events.
 ghost use Rattle.std.specs.Prelude.{◌≡◌, ◌<◌, ◌≤◌, IfErr, IfOk, is_some, length};
 ghost use Rattle.keep_tree.specs.declared.forest.TheConstants.{END_MAX};
-ghost use Rattle.watch_machine.specs.Outlook.{IsNextTime, broker_moment, is_timed, is_timed_at, time_of};
+ghost use Rattle.watch_machine.specs.Outlook.{IsNextTime, broker_moment, is_timed, time_of};
 ghost use Rattle.watch_machine.specs.State.{track_at};
 ghost use Rattle.watch_machine.specs.Wanted.{is_wanted};
 ghost use Rattle.watch_machine.specs.code.Lull.{shown_by};
-ghost use Rattle.watch_machine.specs.code.Outlook.{earlier_next};
+ghost use Rattle.watch_machine.specs.code.Outlook.{IsFirstBy, earlier_next, is_counted, is_first_ahead};
 ghost use Rattle.watch_machine.specs.code.View.{HasNeeds};
 ghost use Rattle.watch_machine.specs.declared.fault.WatchFault.TheVariants.{OutOfMemory};
 
@@ -47,28 +47,58 @@ fn is_timed(track: Track, need: u64, now: u64) -> bool
     wants(track, need) && is_alive(track, now)
 }
 
-/// The first time of the entries that are wanted and whose end is ahead, by what they carry.
+/// Whether an entry of that need and that time counts: one that is timed, and whose time is ahead if only such count.
+fn is_counted(is_ahead: bool, now: u64, track: Track, need: u64, at: u64) -> bool
+    ensures { result ≡ is_counted is_ahead now track need at }
+{
+    is_timed(track, need, now) && (!is_ahead || now < at)
+}
+
+/// The first time of the entries that are wanted and whose end is ahead, by what they carry; or of those whose time is ahead too.
 pub(crate) fn first_time(
     forest: &Forest,
     tracks: &[Track],
     needs: &Needs,
     clocks: Clocks,
+    is_ahead: bool,
 ) -> Option<Next>
     requires count { length tracks.now ≡ length forest.now.entries }
     requires needs { length needs.now.cut ≡ length forest.now.entries }
-    ensures { HasNeeds forest.now.entries tracks.now clocks needs.now → IsNextTime (shown_by forest.now tracks.now clocks) result }
+    ensures { HasNeeds forest.now.entries tracks.now clocks needs.now → IsFirstBy is_ahead (shown_by forest.now tracks.now clocks) result }
 {
     let now = second(clocks.at);
     let margin = forest.margin();
     let mut first = None;
     for index in 0..forest.len() {
         let track = tracks[index as usize];
-        if is_timed(track, needs.need(index), now) {
-            let at = time(margin, forest.get(index), track);
+        let at = time(margin, forest.get(index), track);
+        if is_counted(is_ahead, now, track, needs.need(index), at) {
             first = earlier(first, at, index);
         }
     }
     first
+}
+
+/// The next time, by what the entries carry.
+fn next_time(forest: &Forest, tracks: &[Track], needs: &Needs, clocks: Clocks) -> Option<Next>
+    requires count { length tracks.now ≡ length forest.now.entries }
+    requires needs { length needs.now.cut ≡ length forest.now.entries }
+    ensures { HasNeeds forest.now.entries tracks.now clocks needs.now → IsNextTime (shown_by forest.now tracks.now clocks) result }
+{
+    if let Some(ahead) = first_time(forest, tracks, needs, clocks, true) {
+        return Some(ahead);
+    }
+    first_time(forest, tracks, needs, clocks, false)
+}
+
+/// Whether the first time of all is ahead, or there is none.
+fn is_first_ahead(first: Option<Next>, now: u64) -> bool
+    ensures { result ≡ is_first_ahead now first }
+{
+    match first {
+        None => true,
+        Some(first) => now < first.at,
+    }
 }
 
 impl Watch {
@@ -124,16 +154,25 @@ impl Watch {
         wants(self.track(index), need)
     }
 
-    /// The first time of the entries that are wanted and whose end is ahead, `None` where there is none; of an entry that is
-    /// asked and not yet granted it may be past. The only error is lack of memory.
+    /// The next time of the entries that are wanted and whose end is ahead: the first one that is ahead, or if none is, the first of
+    /// all, whose entry is asked and not yet granted; `None` where there is no such entry. The only error is lack of memory.
     pub fn next(&mut self, alloc: Global) -> Result<Option<Next>, WatchFault>
         ensures next { IfOk result (λ next. IsNextTime self.old next) }
         ensures refused { IfErr result (λ fault. fault ≡ OutOfMemory) }
         ensures unchanged { self.new ≡ self.old }
     {
-        if let Some(lull) = self.lull {
-            return Ok(lull.ahead);
+        match self.lull {
+            Some(lull) if is_first_ahead(lull.first, second(self.clocks.at)) => Ok(lull.first),
+            _ => self.next_by_needs(alloc),
         }
+    }
+
+    /// The same, by what the entries carry.
+    fn next_by_needs(&mut self, alloc: Global) -> Result<Option<Next>, WatchFault>
+        ensures next { IfOk result (λ next. IsNextTime self.old next) }
+        ensures refused { IfErr result (λ fault. fault ≡ OutOfMemory) }
+        ensures unchanged { self.new ≡ self.old }
+    {
         let needs = needs_of(
             alloc,
             &mut self.view,
@@ -141,7 +180,7 @@ impl Watch {
             &self.tracks,
             self.clocks,
         )?;
-        let next = first_time(&self.forest, &self.tracks, &needs, self.clocks);
+        let next = next_time(&self.forest, &self.tracks, &needs, self.clocks);
         Ok(next)
     }
 }

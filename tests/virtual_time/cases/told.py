@@ -60,6 +60,19 @@ def one_that_is_revoked(program: Path) -> list[str]:
         return stage.faults()
 
 
+def next_of_one_that_is_revoked(program: Path) -> list[str]:
+    """From its time on, before its end and behind it, the next wake-up is that of the other one, and the log says so once."""
+    with Stage(program, fleet(2, 600, 60, 400)) as stage:
+        stage.on(50)
+        stage.equal("before their time", at(340), stage.next_wake())
+        stage.broker.vault.named("e1").revoked = stage.world.now
+        for moment in (345, 390, 450):
+            stage.on(moment)
+            stage.equal(f"at {moment}", at(880), stage.next_wake())
+        stage.equal("in the log", ["e0", "e0"], [line.words[-1] for line in stage.agent.said("next")])
+        return stage.faults()
+
+
 def one_that_is_tried_until_it_ends(program: Path) -> list[str]:
     """As long as it lives it counts as kept for `health`."""
     with Stage(program, fleet(2, 600, 60, 400)) as stage:
@@ -120,7 +133,7 @@ def counts(row: dict[str, Any]) -> tuple[int, int, int]:
 
 
 KEPT: tuple[Case, ...] = (
-    nothing_is_known_yet, one_that_is_gone_for_a_while, one_that_is_revoked, one_that_is_tried_until_it_ends, one_that_is_short,
-    one_that_another_needs, ends_and_counts,
+    nothing_is_known_yet, one_that_is_gone_for_a_while, one_that_is_revoked, next_of_one_that_is_revoked, one_that_is_tried_until_it_ends,
+    one_that_is_short, one_that_another_needs, ends_and_counts,
 )
 NOT_YET: tuple[Case, ...] = ()

@@ -14,7 +14,7 @@ use Rattle.watch_machine.specs.Beginning.{beginning, is_pressed}
 use Rattle.watch_machine.specs.Clocks.{ms, sec}
 use Rattle.watch_machine.specs.Lines.{ready}
 use Rattle.watch_machine.specs.Margins.{time}
-use Rattle.watch_machine.specs.Outlook.{IsNextTime}
+use Rattle.watch_machine.specs.Outlook.{IsFirst, is_timed_at}
 use Rattle.watch_machine.specs.Press.{pressed_alone}
 use Rattle.watch_machine.specs.Round.{opens_some}
 use Rattle.watch_machine.specs.Sending.{due}
@@ -58,13 +58,13 @@ next_due g xs need p = least NEVER (map (λ i. due_at g.margin (entry_at g.entri
 abbrev pub shown_by : Forest → List Track → Clocks → WatchState
 shown_by g xs c = record (opened g 0) { tracks = xs; clocks = c }
 
--- before `next` nothing is to be done of the entries, before the second `lasting` they carry as much and no end comes, and `ahead`
--- is the next time
+-- before `next` nothing is to be done of the entries, before the second `lasting` they carry as much and no end comes, and `first`
+-- is the first time of all
 pub record IsLull (g : Forest) (xs : List Track) (c : Clocks) (p : Presence) (lull : Lull) : Type 0 where
   pub next : lull.next ≡ next_due g xs (need_of g.entries xs c) p
   pub needed : (i : ℕ) → i < length g.entries → 0 < need_of g.entries xs c i → lull.lasting ≤ need_of g.entries xs c i
   pub ended : (i : ℕ) → i < length g.entries → sec c.at < believed (track_in xs i).end → lull.lasting ≤ believed (track_in xs i).end
-  pub told : IsNextTime (shown_by g xs c) lull.ahead
+  pub told : IsFirst (is_timed_at (shown_by g xs c)) (shown_by g xs c) lull.first
 
 -- later readings, by which the broker's clock and the wall's go beside this one as before
 pub record GoesOn (new old : Clocks) : Type 0 where

@@ -1,9 +1,10 @@
 -- The first time of the entries before the index is found.
-use Rattle.watch_machine.specs.Outlook.{IsNextOf}
+use Rattle.watch_machine.specs.Outlook.{IsFirstOf}
 use Rattle.watch_machine.specs.code.Lull.{shown_by}
+use Rattle.watch_machine.specs.code.Outlook.{counts}
 use Rattle.watch_machine.specs.code.View.{HasNeeds}
 use Rattle.watch_machine.proofs.outlook.first_time.Given as goal
 
 -- the first time so far
 abbrev pub invariant-loop-index : goal.invariant-loop-index
-invariant-loop-index l = HasNeeds l.forest.entries l.tracks l.fn.clocks l.needs → IsNextOf (shown_by l.forest l.tracks l.fn.clocks) l.index l.first
+invariant-loop-index l = HasNeeds l.forest.entries l.tracks l.fn.clocks l.needs → IsFirstOf (counts l.fn.is_ahead (shown_by l.forest l.tracks l.fn.clocks)) (shown_by l.forest l.tracks l.fn.clocks) l.index l.first

@@ -7,6 +7,6 @@ pub returns : goal.returns
 returns c = λ has.
     let count = c.len.ensures.value in
     lull_of c.args.forest.now c.args.tracks.now c.args.clocks c.args.presence c.args.needs.now
-    (record { next = c.next_due-next.result; lasting = c.first_past-lasting.result; ahead = c.first_time-ahead.result }) c.second.result c.second.ensures.value c.next_due-next.ensures
+    (record { next = c.next_due-next.result; lasting = c.first_past-lasting.result; first = c.first_time-first.result }) c.second.result c.second.ensures.value c.next_due-next.ensures
     (λ i within some. c.first_past-lasting.ensures.need i (omega (arith, within, count)) some) (λ i within living. c.first_past-lasting.ensures.end i (omega (arith, within, count)) living)
-    (c.first_time-ahead.ensures has) has
+    (c.first_time-first.ensures has) has

@@ -1,11 +1,12 @@
--- In a lull the next time is known; else it is found by the needs that the view carries.
-use Rattle.std.proofs.Common.{subst}
-use Rattle.watch_machine.specs.Outlook.{IsNextTime}
-use Rattle.watch_machine.specs.State.{WatchState}
-use Rattle.watch_machine.specs.code.Lull.{IsLull, shown_by}
-use Rattle.watch_machine.specs.code.View.{HasNeeds, Sees}
+-- In a lull the first time is known, and where it is ahead it is the next.
+use Rattle.std.proofs.Common.{◌≡◌, ◌∙◌, true, subst, sym}
+use Rattle.watch_machine.specs.Outlook.{IsNextTime, is_timed_at}
+use Rattle.watch_machine.specs.State.{WatchState, second}
+use Rattle.watch_machine.specs.code.Lull.{IsLull}
+use Rattle.watch_machine.specs.code.Outlook.{is_first_ahead}
 use Rattle.watch_machine.proofs.Cases.{of_value}
-use Rattle.watch_machine.proofs.Lulls.{next_shown}
+use Rattle.watch_machine.proofs.FirstTime.{first_is_next}
+use Rattle.watch_machine.proofs.Lulls.{first_shown}
 use Rattle.watch_machine.proofs.watch.Watch.next.Goals as goal
 
 pub returns-in-Some-clause-next : goal.returns-in-Some-clause-next
@@ -25,26 +26,7 @@ returns-in-Some-clause-next c =
     } in
     let lull = c.in-Some.lull in
     let is = of_value (IsLull w.forest w.tracks.items w.clocks w.presence) w.lull lull c.self.invariant.lull c.in-Some.is in
-    subst (λ (t : WatchState). IsNextTime t lull.ahead) c.self.view_is (next_shown s lull.ahead is.told)
-
-pub returns-clause-next : goal.returns-clause-next
-returns-clause-next c =
-    let w = c.self.inside in
-    let s : WatchState = record {
-      forest = w.forest;
-      width = w.width;
-      tracks = w.tracks.items;
-      out = w.out.items;
-      answers = w.answers.items;
-      clocks = w.clocks;
-      presence = w.presence;
-      begun = w.begun;
-      asked = w.asked;
-      stepped = w.stepped;
-    } in
-    let view = c.needs_of.new.view in
-    let needs = c.in_ok-needs.needs in
-    let sees : Sees view w.forest w.tracks.items w.clocks needs = subst (λ xs. Sees view w.forest xs w.clocks needs) c.deref.ensures.value c.in_ok-needs.ensures.needs in
-    let next = c.first_time-next.result in
-    let found = subst (λ xs. HasNeeds w.forest.entries xs w.clocks needs → IsNextTime (shown_by w.forest xs w.clocks) next) c.deref-2.ensures.value c.first_time-next.ensures in
-    subst (λ (t : WatchState). IsNextTime t next) c.self.view_is (next_shown s next (found sees.needs))
+    let now : c.second.result ≡ second s = c.second.ensures.value in
+    let ahead : is_first_ahead (second s) lull.first ≡ true =
+    subst (λ n. is_first_ahead n lull.first ≡ true) now (sym c.is_first_ahead.ensures ∙ c.if-is_first_ahead.true) in
+    subst (λ (t : WatchState). IsNextTime t lull.first) c.self.view_is (first_is_next s lull.first (first_shown (is_timed_at s) s lull.first is.told) ahead)
