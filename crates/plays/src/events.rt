@@ -47,6 +47,7 @@ impl<'a> Play<'a> {
             )),
             ["file", path, words @ ..] => Some(self.put(step, path, words)),
             ["restart"] => Some(self.restart(setting, step.refused())),
+            ["restart", how, seed] => Some(self.end(setting, step, how, seed)),
             // (See sweeps.)
             ["sweep", ..] => Some(Ok(())),
             _ => None,

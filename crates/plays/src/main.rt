@@ -9,6 +9,7 @@
 use std::process::ExitCode;
 
 mod drawers;
+mod endings;
 mod events;
 mod fault;
 mod guests;

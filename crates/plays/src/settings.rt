@@ -1,13 +1,16 @@
 //! What a play begins with.
 use crate::drawers::{Drawer, Stamping};
+use crate::endings::{Ending, files_of};
 use crate::fault::Fault;
+use crate::places::put;
 use crate::steps::Step;
 use crate::words::{answer, failing, lane_fault, number, readings, small};
 use keep_clock::Reading;
-use keep_disk::{Failing, Held, MemoryDisk, Stored};
+use keep_disk::{Failing, Held, MemoryDisk, Stored, Why};
 use keep_lanes::NumberedFault;
 use keep_log::{Answer, Form};
 use std::alloc::{AllocError, Global};
+use std::mem;
 
 /// The inventory's file.
 pub const FILE: &str = "web.toml";
@@ -62,6 +65,10 @@ pub struct Store {
     /// Which of its calls fail; `None` where there is no such disk.
     pub failing: Option<Failing>,
     pub files: Vec<Stored>,
+    /// What stands on it of these; `None` where that is all of them.
+    pub kept: Option<Vec<Stored>>,
+    /// How the agent that has it ends.
+    pub ending: Ending,
 }
 
 impl Store {
@@ -69,6 +76,8 @@ impl Store {
         Store {
             failing: None,
             files: Vec::new(alloc),
+            kept: None,
+            ending: Ending::AtRest,
         }
     }
 
@@ -85,21 +94,41 @@ impl Store {
         Ok(())
     }
 
-    /// It has the files that this disk has at these paths, and no call of it fails.
+    /// It has the files that this disk leaves at these paths behind such an end, and no call of it fails.
     pub fn keep(
         &mut self,
         alloc: Global,
         disk: &MemoryDisk,
         paths: &[&str],
     ) -> Result<(), AllocError> {
+        let ending = mem::replace(&mut self.ending, Ending::AtRest);
         self.failing = Some(Failing::Never);
-        self.files = Vec::new(alloc);
-        for path in paths {
-            if let Some(file) = disk.file(alloc, path)? {
-                self.push(alloc, path, file)?;
+        self.files = files_of(alloc, disk, paths, ending.left())?;
+        let kept = match ending.kept() {
+            None => None,
+            Some(seed) => Some(files_of(alloc, disk, paths, Some(seed))?),
+        };
+        put(&mut self.kept, kept);
+        Ok(())
+    }
+
+    /// The disk of an agent that is started, with these files.
+    pub fn disk(&mut self, alloc: Global, failing: Failing) -> MemoryDisk {
+        let files = mem::replace(&mut self.files, Vec::new(alloc));
+        match mem::replace(&mut self.kept, None) {
+            None => MemoryDisk::new(alloc, files, failing, Why::Full),
+            Some(kept) => MemoryDisk::after_kill(alloc, files, kept, failing, Why::Full),
+        }
+    }
+
+    /// The bytes of its file at a path.
+    pub fn bytes_at(&self, alloc: Global, path: &str) -> Result<Option<Vec<u8>>, AllocError> {
+        for stored in &self.files {
+            if stored.path.as_slice() == path.as_bytes() {
+                return Ok(Some(Vec::from_slice(alloc, &stored.file.bytes)?));
             }
         }
-        Ok(())
+        Ok(None)
     }
 }
 

@@ -14,7 +14,7 @@ use keep_behind::Behind;
 use keep_clients::Entrance;
 use keep_clock::{Clock as _, Reading};
 use keep_device::Place;
-use keep_disk::{Failing, MemoryDisk, Why};
+use keep_disk::{Failing, MemoryDisk};
 use keep_house::{Asker, Demands, House, Ledger};
 use keep_inventory::{Inventory, read};
 use keep_lanes::NumberedFault;
@@ -172,8 +172,7 @@ fn of_state<'a>(
     failing: Failing,
     refused: Fault,
 ) -> Result<Start<MemoryLedger<'a>>, Fault> {
-    let files = mem::replace(&mut setting.state.files, Vec::new(alloc));
-    let disk = MemoryDisk::new(alloc, files, failing, Why::Full);
+    let disk = setting.state.disk(alloc, failing);
     let Ok(opened) = State::open(alloc, disk, paths, Some(&setting.file), None) else {
         return Err(refused);
     };
@@ -262,8 +261,7 @@ fn ends_path(alloc: Global, setting: &Setting) -> Result<Option<String>, AllocEr
 /// The disk of the ends.
 fn ends_disk(alloc: Global, setting: &mut Setting) -> MemoryDisk {
     let failing = setting.ends.failing.unwrap_or(Failing::Never);
-    let files = mem::replace(&mut setting.ends.files, Vec::new(alloc));
-    MemoryDisk::new(alloc, files, failing, Why::Full)
+    setting.ends.disk(alloc, failing)
 }
 
 /// What a ledger leaves for the next start.
@@ -274,13 +272,12 @@ fn leave(
     setting: &mut Setting,
     refused: Fault,
 ) -> Result<(), Fault> {
-    let disk = ledger.state.disk();
-    let Some(held) = disk.file(alloc, FILE)? else {
+    let places = [FILE, paths.journal(), paths.copy(), paths.aside()];
+    setting.state.keep(alloc, ledger.state.disk(), &places)?;
+    let Some(file) = setting.state.bytes_at(alloc, FILE)? else {
         return Err(refused);
     };
-    setting.file = held.bytes;
-    let places = [FILE, paths.journal(), paths.copy(), paths.aside()];
-    setting.state.keep(alloc, disk, &places)?;
+    setting.file = file;
     setting.drawer = mem::replace(&mut ledger.inputs, Drawer::new(alloc));
     Ok(())
 }
