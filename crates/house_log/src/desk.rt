@@ -24,7 +24,7 @@ use keep_log::{Form, Level, LogRoom};
 use keep_moment::Text;
 use std::alloc::{AllocError, Global};
 use std::marker::Model;
-use watch_machine::{Notes, Operation, Request};
+use watch_machine::{Millis, Notes, Operation, Request};
 
 /// How lines are written, those that wait, and what was said last of each entry, and of a lack of memory. Lack of memory costs the
 /// line for which it is wanting: that is dropped and counted.
