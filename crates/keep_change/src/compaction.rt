@@ -37,10 +37,10 @@ pub fn voids(alloc: Global, records: &[Record]) -> Result<Vec<bool>, AllocError>
 
 // Whether one of the later records makes this one void; it is among the later ones from then on.
 #[tactic(auto, using(crate::proofs::Later::given_settling))]
-fn is_void(later: &mut BTreeSet<Needed>, record: &Record) -> Result<bool, AllocError>
-    ensures { IfOk result (λ void. (records : List Record) → AreNeedsOf later.old records → (void ≡ is_void «record».now records) × AreNeedsOf later.new («record».now ∷ records)) }
+fn is_void(later: &mut BTreeSet<Needed>, earlier: &Record) -> Result<bool, AllocError>
+    ensures { IfOk result (λ void. (records : List Record) → AreNeedsOf later.old records → (void ≡ is_void earlier.now records) × AreNeedsOf later.new (earlier.now ∷ records)) }
 {
-    match record {
+    match earlier {
         Record::Made(change) => is_given_again(later, change),
         Record::Settling(_) => Ok(false),
     }

@@ -154,12 +154,12 @@ fn take(
     alloc: Global,
     file: &File,
     at: usize,
-    record: &Record,
+    taken: &Record,
     state: &mut Replayed,
 ) -> Result<(), AllocError>
-    ensures { OnOk result (state.new ≡ replay_step file.now at state.old «record».now) }
+    ensures { OnOk result (state.new ≡ replay_step file.now at state.old taken.now) }
 {
-    match record {
+    match taken {
         Record::Settling(settled) => {
             if settled.list() == file.mark.list() {
                 *state = begin(alloc, file)?;

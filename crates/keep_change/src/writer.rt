@@ -11,11 +11,11 @@ use std::alloc::{AllocError, Global};
 ///
 /// The only error is out of memory.
 #[tactic(auto, unfolding(crate::specs::Records::record_text))]
-pub fn text_of(alloc: Global, record: &Record) -> Result<Text, AllocError>
-    ensures { IfOk result (λ text. text ≡ record_text «record».now) }
+pub fn text_of(alloc: Global, written: &Record) -> Result<Text, AllocError>
+    ensures { IfOk result (λ text. text ≡ record_text written.now) }
 {
     let mut text = Vec::new(alloc);
-    match record {
+    match written {
         Record::Made(change) => push_change(alloc, change, &mut text)?,
         Record::Settling(mark) => {
             push_word(b"settling", &mut text)?;

@@ -3,8 +3,8 @@
 //! The contract for the layers above: what lines mean is said by a [`Hearer`], and [`listen`] hears the lines of an input until it
 //! ends, fails or passes its [`Limits`], or until a line stops it. Begin with `specs/Hearing`, then `specs/Listening`.
 //!
-//! The lines that `run` and `watch` share are here too: `tick` and `need`, which they hear ([`heard_in`]), and the names and
-//! numbers of those that they write (`text`).
+//! The lines that `run` hears are here too, `tick` and `need` ([`heard_in`]), and the names and numbers of those that it writes
+//! (`text`).
 #![tactic(auto)]
 
 mod event_line;

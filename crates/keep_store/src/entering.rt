@@ -106,10 +106,10 @@ fn read_change(alloc: Global, line: &[u8]) -> Result<Option<Change>, AllocError>
     }
 }
 
-fn change_of(record: Record) -> Option<Change>
-    ensures { result ≡ change_in (Some «record») }
+fn change_of(kept: Record) -> Option<Change>
+    ensures { result ≡ change_in (Some kept) }
 {
-    match record {
+    match kept {
         Record::Made(change) => Some(change),
         Record::Settling(_) => None,
     }
