@@ -1,0 +1,81 @@
+-- Limits: why no renewal leads to a need: the ceilings and the ends of an entry and of those over it.
+-- Source: Vault, "Tokens"; Vault, "Lease, renew, and revoke" (maximum TTL); needs are this project's own.
+use Rattle.std.specs.Prelude.{ℕ, ◌+◌, ◌-◌, ◌==◌, ◌&&◌, ◌||◌, Bool, not, max, nat_le, nat_lt, if◌then◌else◌, List, [], ◌∷◌, Option, Some, None, map, unwrap_or}
+use Rattle.keep_inventory.specs.Inventories.{terms_at}
+use Rattle.keep_inventory.specs.Served.{note_at}
+use Rattle.keep_inventory.specs.Terms.{ceiling_of}
+use Rattle.keep_inventory.specs.declared.limits.TheConstants.{SYSTEM_MAX}
+use Rattle.keep_inventory.specs.declared.terms.Terms.{Terms}
+use Rattle.keep_moment.specs.declared.moment.TheConstants.{LAST}
+use Rattle.keep_tree.specs.Forest.{entry_at}
+use Rattle.keep_tree.specs.Over.{chain}
+use Rattle.keep_tree.specs.declared.entry.Entry.{Entry}
+use Rattle.keep_lint.specs.declared.subject.Subject.{Subject}
+use Rattle.keep_lint.specs.declared.what.What.{What}
+use Rattle.keep_lint.specs.declared.what.What.TheVariants.{PastCeiling, PastEnd, PastLife, ShortLife}
+
+-- how long after its issue an entry lives at most, None where nothing limits it
+abbrev pub life_from : ℕ → Option ℕ → Option ℕ
+life_from issued None = None
+life_from issued (Some ceiling) = Some (ceiling - issued)
+
+abbrev pub life_of : Terms → Option ℕ
+life_of t = life_from t.issued (ceiling_of t)
+
+-- it is needed always, and lives a day or less
+abbrev pub short_life : ℕ → Option ℕ → Option What
+short_life over None = None
+short_life over (Some life) = if nat_le life 86400 then Some (ShortLife over life) else None
+
+abbrev pub days_limit : ℕ → Terms → Option What
+days_limit over t = short_life over (life_of t)
+
+-- it cannot be renewed, and ends before the need
+abbrev pub past_end : ℕ → ℕ → Entry → Option What
+past_end need over e = if not e.renewable && nat_lt e.end need then Some (PastEnd over) else None
+
+-- its ceiling and its end, the later of them, lie before the need
+abbrev pub past_ceiling : ℕ → ℕ → Entry → Option ℕ → Option What
+past_ceiling need over e None = past_end need over e
+past_ceiling need over e (Some ceiling) = if nat_lt (max ceiling e.end) need then Some (PastCeiling over (need - max ceiling e.end)) else past_end need over e
+
+abbrev pub told_limit : ℕ → ℕ → Entry → Terms → Option What
+told_limit need over e t = past_ceiling need over e (ceiling_of t)
+
+-- issued by now, it has ended before the need
+abbrev pub past_life : ℕ → ℕ → ℕ → ℕ → Option What
+past_life now need over life = if nat_lt (now + life) need then Some (PastLife over (need - (now + life))) else None
+
+abbrev pub past_any_life : ℕ → ℕ → ℕ → Option ℕ → Option What
+past_any_life now need over None = None
+past_any_life now need over (Some life) = past_life now need over life
+
+-- an explicit maximum TTL is written, or one that is not the system's
+abbrev pub is_written_max : Subject → Terms → Bool
+is_written_max s t = nat_lt 0 t.explicit_max || not (t.max_ttl == unwrap_or s.served.system_max SYSTEM_MAX)
+
+abbrev pub untold_limit : Subject → ℕ → ℕ → Terms → Option What
+untold_limit s need over t = if is_written_max s t then past_any_life s.now need over (life_of t) else None
+
+-- why no renewal of the entry `over` leads to a need
+abbrev pub limit_of : Subject → ℕ → ℕ → Entry → Terms → Option What
+limit_of s need over e t =
+    if need == LAST then days_limit over t
+    else (if (note_at s.served.notes over).is_told then told_limit need over e t else untold_limit s need over t)
+
+unfoldable pub limit_at : Subject → ℕ → ℕ → Option What
+limit_at s need over = limit_of s need over (entry_at s.inventory.forest.entries over) (terms_at s.inventory.terms over)
+
+-- the first of these
+abbrev pub first_of : List (Option What) → Option What
+first_of [] = None
+first_of (None ∷ later) = first_of later
+first_of (Some what ∷ later) = Some what
+
+-- of an entry and of those over it
+unfoldable pub limit_in : Subject → ℕ → ℕ → Option What
+limit_in s need i = first_of (map (limit_at s need) (chain s.inventory.forest.entries i))
+
+-- why no renewal leads to the need of an entry that is not past
+unfoldable pub limit : Subject → ℕ → Option What
+limit s i = let need = (entry_at s.inventory.forest.entries i).need in if nat_le need s.now then None else limit_in s need i

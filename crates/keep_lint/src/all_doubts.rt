@@ -1,0 +1,137 @@
+//! What is legal in an inventory and probably not meant.
+ghost use Rattle.std.specs.Prelude.{◌≡◌, ◌++◌, ◌<◌, ◌≤◌, ◌+◌, ◌*◌, IfOk, OnOk, length};
+ghost use Rattle.keep_lint.specs.Doubts.{doubts, doubts_of_first, entry_doubts, fullest_of_first, has_need_after, is_long, round_doubt, some_whole, told, whole_doubt};
+
+use crate::entry_doubts::{of_moments, of_names, of_needs, of_terms};
+use crate::judging::facts_of;
+use crate::subject::Subject;
+use crate::what::{Doubt, What, Whole};
+use std::alloc::{AllocError, Global};
+
+/// How many requests go out side by side, unless the command line says otherwise.
+const WIDTH: u64 = 8;
+
+/// All doubts: that of the whole, that of the fullest round, and those of each entry. The only error is lack of memory.
+#[tactic(auto, unfolding(crate::specs::Doubts::doubts))]
+pub fn doubts(alloc: Global, subject: &Subject) -> Result<Vec<Doubt>, AllocError>
+    ensures { IfOk result (λ found. found.items ≡ doubts subject.now) }
+{
+    let mut found = Vec::new(alloc);
+    let whole = whole_doubt(subject);
+    if let Some(whole) = whole {
+        found.push(Doubt::Whole(whole))?;
+    }
+    if let Some(doubt) = round_doubt(subject) {
+        found.push(doubt)?;
+    }
+    push_entries(subject, whole, &mut found)?;
+    Ok(found)
+}
+
+// The doubt of all entries together.
+fn whole_doubt(subject: &Subject) -> Option<Whole>
+    ensures { result ≡ whole_doubt subject.now }
+{
+    if subject.inventory.forest().len() == 0 {
+        Some(Whole::NoEntries)
+    } else if !has_need_after(subject, 0) {
+        Some(Whole::NoNeeds)
+    } else if !has_need_after(subject, subject.now.get()) {
+        Some(Whole::AllPast)
+    } else {
+        None
+    }
+}
+
+// Whether some entry is needed past a moment.
+fn has_need_after(subject: &Subject, moment: u64) -> bool
+    ensures { result ≡ has_need_after subject.now.inventory.forest.entries moment (length subject.now.inventory.forest.entries) }
+{
+    let mut has = false;
+    for index in 0..subject.inventory.forest().len() {
+        has = has || subject.inventory.forest().get(index).need > moment;
+    }
+    has
+}
+
+// The doubt of the fullest round, where a margin is written.
+fn round_doubt(subject: &Subject) -> Option<Doubt>
+    ensures { result ≡ round_doubt subject.now }
+{
+    let count = fullest(subject);
+    if subject.served.has_margin() && is_long(subject, count) {
+        Some(Doubt::LongRound(count))
+    } else {
+        None
+    }
+}
+
+// Whether so many requests, some side by side and each as slow as it may be, take longer than the margin.
+fn is_long(subject: &Subject, count: u64) -> bool
+    requires { count ≤ 4096 }
+    ensures { result ≡ is_long subject.now count }
+{
+    let margin = subject.inventory.forest().margin();
+    u64::from(margin) < (count + (WIDTH - 1)) / WIDTH * u64::from(subject.timeout)
+}
+
+// How many entries may fall due at once: those that are needed and can be renewed.
+fn fullest(subject: &Subject) -> u64
+    ensures value { result ≡ fullest_of_first subject.now (length subject.now.inventory.forest.entries) }
+    ensures within { result ≤ 4096 }
+{
+    let mut count = 0;
+    for index in 0..subject.inventory.forest().len() {
+        if subject.carried.need(index) > subject.now.get() && subject.inventory.forest().get(index).renewable {
+            count += 1;
+        }
+    }
+    count
+}
+
+// Appends the doubts of each entry.
+fn push_entries(
+    subject: &Subject,
+    whole: Option<Whole>,
+    found: &mut Vec<Doubt>,
+) -> Result<(), AllocError>
+    ensures { OnOk result (found.new.items ≡ found.old.items ++ doubts_of_first subject.now whole (length subject.now.inventory.forest.entries)) }
+{
+    for index in 0..subject.inventory.forest().len() {
+        push_entry(subject, whole, index, found)?;
+    }
+    Ok(())
+}
+
+// Appends the doubts of one entry.
+fn push_entry(
+    subject: &Subject,
+    whole: Option<Whole>,
+    index: u32,
+    found: &mut Vec<Doubt>,
+) -> Result<(), AllocError>
+    requires { index < length subject.now.inventory.forest.entries }
+    ensures { OnOk result (found.new.items ≡ found.old.items ++ entry_doubts subject.now whole index) }
+{
+    let facts = facts_of(subject, whole, index);
+    push_told(index, &of_names(&facts), found)?;
+    push_told(index, &of_moments(&facts), found)?;
+    push_told(index, &of_terms(&facts), found)?;
+    push_told(index, &of_needs(&facts), found)
+}
+
+// Appends those of these that there are.
+fn push_told(
+    index: u32,
+    whats: &[Option<What>],
+    found: &mut Vec<Doubt>,
+) -> Result<(), AllocError>
+    ensures { OnOk result (found.new.items ≡ found.old.items ++ told index whats.now) }
+{
+    for what in whats {
+        if let Some(what) = what {
+            found.push(Doubt::Of(index, *what))?;
+        }
+    }
+    Ok(())
+}
