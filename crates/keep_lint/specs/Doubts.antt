@@ -1,6 +1,6 @@
 -- Doubts: what is legal in an inventory and probably not meant.
 -- Source: this project's own; docs/commands/lint.md.
-use Rattle.std.specs.Prelude.{ℕ, zero, suc, ◌+◌, ◌*◌, ◌/◌, ◌&&◌, ◌||◌, Bool, false, not, nat_lt, if◌then◌else◌, List, [], ◌∷◌, ◌++◌, Option, Some, None, length}
+use Rattle.std.specs.Prelude.{ℕ, zero, suc, ◌+◌, ◌*◌, ◌/◌, ◌==◌, ◌&&◌, ◌||◌, Bool, false, not, nat_lt, if◌then◌else◌, List, [], ◌∷◌, ◌++◌, Option, Some, None, length}
 use Rattle.keep_needs.specs.Carried.{load_at}
 use Rattle.keep_tree.specs.Forest.{entry_at}
 use Rattle.keep_tree.specs.declared.entry.Entry.{Entry}
@@ -9,7 +9,7 @@ use Rattle.keep_lint.specs.Judging.{facts_of}
 use Rattle.keep_lint.specs.declared.facts.Facts.{Facts}
 use Rattle.keep_lint.specs.declared.subject.Subject.{Subject}
 use Rattle.keep_lint.specs.declared.what.Doubt.{Doubt}
-use Rattle.keep_lint.specs.declared.what.Doubt.TheVariants as doubts
+use Rattle.keep_lint.specs.declared.what.Doubt.TheVariants as variants
 use Rattle.keep_lint.specs.declared.what.What.{What}
 use Rattle.keep_lint.specs.declared.what.Whole.{Whole}
 use Rattle.keep_lint.specs.declared.what.Whole.TheVariants.{NoEntries, NoNeeds, AllPast}
@@ -27,12 +27,12 @@ is_needed_after es moment = has_need_after es moment (length es)
 
 -- there is no entry; none has a need; or all needs are past
 abbrev pub whole_of : List Entry → ℕ → Option Whole
-whole_of [] now = Some NoEntries
-whole_of (e ∷ es) now =
-    if not (is_needed_after (e ∷ es) 0) then Some NoNeeds else (if not (is_needed_after (e ∷ es) now) then Some AllPast else None)
+whole_of es now =
+    if length es == 0 then Some NoEntries
+    else (if not (is_needed_after es 0) then Some NoNeeds else (if not (is_needed_after es now) then Some AllPast else None))
 
 unfoldable pub whole_doubt : Subject → Option Whole
-whole_doubt s = whole_of s.inventory.forest.entries s.now
+whole_doubt s = whole_of s.inventory.forest.entries s.at
 
 -- ---- of the fullest round
 
@@ -40,14 +40,14 @@ whole_doubt s = whole_of s.inventory.forest.entries s.now
 abbrev pub fullest_of_first : Subject → ℕ → ℕ
 fullest_of_first s zero = 0
 fullest_of_first s (suc n) =
-    if nat_lt s.now (load_at s.carried n).need && (entry_at s.inventory.forest.entries n).renewable then fullest_of_first s n + 1 else fullest_of_first s n
+    if nat_lt s.at (load_at s.carried n).need && (entry_at s.inventory.forest.entries n).renewable then fullest_of_first s n + 1 else fullest_of_first s n
 
 -- so many requests, eight side by side and each as slow as it may be, take longer than the margin
 abbrev pub is_long : Subject → ℕ → Bool
 is_long s count = nat_lt s.inventory.forest.margin (((count + 7) / 8) * s.timeout)
 
 abbrev pub long_round : Subject → ℕ → Option Doubt
-long_round s count = if s.served.has_margin && is_long s count then Some (doubts.LongRound count) else None
+long_round s count = if s.served.has_margin && is_long s count then Some (variants.LongRound count) else None
 
 unfoldable pub round_doubt : Subject → Option Doubt
 round_doubt s = long_round s (fullest_of_first s (length s.inventory.forest.entries))
@@ -58,7 +58,7 @@ round_doubt s = long_round s (fullest_of_first s (length s.inventory.forest.entr
 abbrev pub told : ℕ → List (Option What) → List Doubt
 told i [] = []
 told i (None ∷ whats) = told i whats
-told i (Some what ∷ whats) = doubts.Of i what ∷ told i whats
+told i (Some what ∷ whats) = variants.Of i what ∷ told i whats
 
 abbrev pub doubts_by : ℕ → Facts → List Doubt
 doubts_by i f = told i (of_names f) ++ (told i (of_moments f) ++ (told i (of_terms f) ++ told i (of_needs f)))
@@ -75,7 +75,7 @@ doubts_of_first s whole (suc n) = doubts_of_first s whole n ++ entry_doubts s wh
 
 abbrev pub whole_list : Option Whole → List Doubt
 whole_list None = []
-whole_list (Some whole) = doubts.Whole whole ∷ []
+whole_list (Some whole) = variants.Whole whole ∷ []
 
 abbrev pub doubt_list : Option Doubt → List Doubt
 doubt_list None = []

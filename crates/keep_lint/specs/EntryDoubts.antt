@@ -24,7 +24,7 @@ late_need need = if need == LAST then None else late Need need
 
 -- an end that is written, not before its issue, and past
 abbrev pub ended : Facts → Option What
-ended f = only_if ((f.is_told && nat_le f.terms.issued f.end) && nat_le f.end f.now) (doubts.Ended f.end)
+ended f = only_if ((f.is_told && nat_le f.terms.issued f.end) && nat_le f.end f.at) (doubts.Ended f.end)
 
 -- a duration of over 90 days that is a whole number of thousands
 abbrev pub milliseconds : Key → ℕ → Option What
@@ -59,7 +59,7 @@ has_no_needs whole = false
 
 -- a need that is past, where not all are
 abbrev pub need_past : Facts → Option What
-need_past f = only_if (nat_lt 0 f.need && nat_le f.need f.now && not (is_all_past f.whole)) (doubts.NeedPast f.need)
+need_past f = only_if (nat_lt 0 f.need && nat_le f.need f.at && not (is_all_past f.whole)) (doubts.NeedPast f.need)
 
 -- no need, here or under it, where some entry has one
 abbrev pub not_needed : Facts → Option What

@@ -1,14 +1,13 @@
 -- Judging: what the doubts of one entry go by.
 -- Source: this project's own; Vault, "Tokens" (the prefixes of their values).
-use Rattle.std.specs.Prelude.{ℕ, ◌+◌, ◌==◌, ◌&&◌, ◌||◌, Bool, false, true, not, nat_le, if◌then◌else◌, List, [], ◌∷◌, Option, Some, None, bytes_eq, codes, drop, is_some, length, slice_get, slice_index_or}
+use Rattle.std.specs.Prelude.{ℕ, ◌==◌, ◌&&◌, ◌||◌, Bool, false, true, not, nat_le, if◌then◌else◌, List, [], ◌∷◌, Option, Some, None, bytes_eq, codes, drop, is_some, length, slice_get}
 use Rattle.std.specs.List.{list_all}
 use Rattle.keep_inventory.specs.Inventories.{terms_at}
-use Rattle.keep_inventory.specs.Served.{note_at}
 use Rattle.keep_inventory.specs.declared.key.Key.TheVariants.{Increment}
 use Rattle.keep_needs.specs.Carried.{load_at}
 use Rattle.keep_tree.specs.Forest.{entry_at}
 use Rattle.keep_words.specs.Pieces.{pieces}
-use Rattle.keep_lint.specs.Limits.{limit}
+use Rattle.keep_lint.specs.Limits.{is_told, limit}
 use Rattle.keep_lint.specs.Marks.{is_word_byte}
 use Rattle.keep_lint.specs.Places.{first_in}
 use Rattle.keep_lint.specs.declared.facts.Facts.{Facts}
@@ -34,13 +33,17 @@ is_token_like name = is_token_pieces (pieces 46 name)
 abbrev pub written_margin : Subject → Option ℕ
 written_margin s = if s.served.has_margin then Some s.inventory.forest.margin else None
 
+abbrev pub is_true_at : Option Bool → Bool
+is_true_at None = false
+is_true_at (Some b) = b
+
 abbrev pub is_open : List Bool → ℕ → Bool
-is_open open_files i = slice_index_or open_files i false
+is_open open_files i = is_true_at (slice_get open_files i)
 
 -- the table that begins at this line has an increment; where it is not found, it counts as one that has
 abbrev pub writes_increment_at : List Mark → Option ℕ → Bool
 writes_increment_at marks None = true
-writes_increment_at marks (Some head) = is_some (first_in (Key Increment) (head + 1) (drop (head + 1) marks))
+writes_increment_at marks (Some head) = is_some (first_in (Key Increment) head (drop head marks))
 
 abbrev pub writes_increment : List Mark → List ℕ → ℕ → Bool
 writes_increment marks heads i = writes_increment_at marks (slice_get heads i)
@@ -50,6 +53,6 @@ facts_of s whole i =
     let e = entry_at s.inventory.forest.entries i in
     let t = terms_at s.inventory.terms i in
     record {
-      now = s.now; margin = written_margin s; whole = whole; is_token_like = is_token_like e.name; is_open = is_open s.open.items i;
-      is_told = (note_at s.served.notes i).is_told; lacks_step = (t.period == 0) && not (writes_increment s.places.marks.items s.places.heads.items i);
+      at = s.at; margin = written_margin s; whole = whole; is_token_like = is_token_like e.name; is_open = is_open s.open.items i;
+      is_told = is_told s.served.notes i; lacks_step = (t.period == 0) && not (writes_increment s.places.marks.items s.places.heads.items i);
       end = e.end; step = e.step; need = e.need; carried = (load_at s.carried i).need; terms = t; limit = limit s i }

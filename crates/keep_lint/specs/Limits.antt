@@ -5,6 +5,7 @@ use Rattle.keep_inventory.specs.Inventories.{terms_at}
 use Rattle.keep_inventory.specs.Served.{note_at}
 use Rattle.keep_inventory.specs.Terms.{ceiling_of}
 use Rattle.keep_inventory.specs.declared.limits.TheConstants.{SYSTEM_MAX}
+use Rattle.keep_inventory.specs.declared.note.Note.{Note}
 use Rattle.keep_inventory.specs.declared.terms.Terms.{Terms}
 use Rattle.keep_moment.specs.declared.moment.TheConstants.{LAST}
 use Rattle.keep_tree.specs.Forest.{entry_at}
@@ -23,24 +24,30 @@ abbrev pub life_of : Terms → Option ℕ
 life_of t = life_from t.issued (ceiling_of t)
 
 -- it is needed always, and lives a day or less
-abbrev pub short_life : ℕ → Option ℕ → Option What
-short_life over None = None
-short_life over (Some life) = if nat_le life 86400 then Some (ShortLife over life) else None
+abbrev pub short_life : ℕ → ℕ → Option What
+short_life over life = if nat_le life 86400 then Some (ShortLife over life) else None
+
+abbrev pub short_of : ℕ → Option ℕ → Option What
+short_of over None = None
+short_of over (Some life) = short_life over life
 
 abbrev pub days_limit : ℕ → Terms → Option What
-days_limit over t = short_life over (life_of t)
+days_limit over t = short_of over (life_of t)
 
 -- it cannot be renewed, and ends before the need
 abbrev pub past_end : ℕ → ℕ → Entry → Option What
 past_end need over e = if not e.renewable && nat_lt e.end need then Some (PastEnd over) else None
 
 -- its ceiling and its end, the later of them, lie before the need
-abbrev pub past_ceiling : ℕ → ℕ → Entry → Option ℕ → Option What
-past_ceiling need over e None = past_end need over e
-past_ceiling need over e (Some ceiling) = if nat_lt (max ceiling e.end) need then Some (PastCeiling over (need - max ceiling e.end)) else past_end need over e
+abbrev pub past_ceiling : ℕ → ℕ → Entry → ℕ → Option What
+past_ceiling need over e ceiling = if nat_lt (max ceiling e.end) need then Some (PastCeiling over (need - max ceiling e.end)) else past_end need over e
+
+abbrev pub past_bounds : ℕ → ℕ → Entry → Option ℕ → Option What
+past_bounds need over e None = past_end need over e
+past_bounds need over e (Some ceiling) = past_ceiling need over e ceiling
 
 abbrev pub told_limit : ℕ → ℕ → Entry → Terms → Option What
-told_limit need over e t = past_ceiling need over e (ceiling_of t)
+told_limit need over e t = past_bounds need over e (ceiling_of t)
 
 -- issued by now, it has ended before the need
 abbrev pub past_life : ℕ → ℕ → ℕ → ℕ → Option What
@@ -55,13 +62,17 @@ abbrev pub is_written_max : Subject → Terms → Bool
 is_written_max s t = nat_lt 0 t.explicit_max || not (t.max_ttl == unwrap_or s.served.system_max SYSTEM_MAX)
 
 abbrev pub untold_limit : Subject → ℕ → ℕ → Terms → Option What
-untold_limit s need over t = if is_written_max s t then past_any_life s.now need over (life_of t) else None
+untold_limit s need over t = if is_written_max s t then past_any_life s.at need over (life_of t) else None
+
+-- its issue and its end are written
+unfoldable pub is_told : List Note → ℕ → Bool
+is_told notes i = (note_at notes i).is_told
 
 -- why no renewal of the entry `over` leads to a need
 abbrev pub limit_of : Subject → ℕ → ℕ → Entry → Terms → Option What
 limit_of s need over e t =
     if need == LAST then days_limit over t
-    else (if (note_at s.served.notes over).is_told then told_limit need over e t else untold_limit s need over t)
+    else (if is_told s.served.notes over then told_limit need over e t else untold_limit s need over t)
 
 unfoldable pub limit_at : Subject → ℕ → ℕ → Option What
 limit_at s need over = limit_of s need over (entry_at s.inventory.forest.entries over) (terms_at s.inventory.terms over)
@@ -78,4 +89,4 @@ limit_in s need i = first_of (map (limit_at s need) (chain s.inventory.forest.en
 
 -- why no renewal leads to the need of an entry that is not past
 unfoldable pub limit : Subject → ℕ → Option What
-limit s i = let need = (entry_at s.inventory.forest.entries i).need in if nat_le need s.now then None else limit_in s need i
+limit s i = let need = (entry_at s.inventory.forest.entries i).need in if nat_le need s.at then None else limit_in s need i

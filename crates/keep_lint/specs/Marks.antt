@@ -1,6 +1,6 @@
 -- Marks: what each line of an inventory's text begins. A line counts as it stands: one within a text of several lines does, too.
 -- Source: TOML 1.1, "Keys", "Table" and "Array of Tables"; that blanks and quotes are passed over is this project's own.
-use Rattle.std.specs.Prelude.{ℕ, ◌==◌, ◌&&◌, ◌||◌, Bool, true, false, not, nat_eq, if◌then◌else◌, List, [], ◌∷◌, Option, Some, None, bytes_eq, codes, filter, find, map}
+use Rattle.std.specs.Prelude.{ℕ, ◌==◌, ◌&&◌, ◌||◌, Bool, true, false, not, nat_eq, nat_lt, if◌then◌else◌, List, [], ◌∷◌, Option, Some, None, bytes_eq, codes, filter, find, map}
 use Rattle.std.specs.List.{list_all, starts_with}
 use Rattle.std.specs.Char.{is_ascii_alphanumeric}
 use Rattle.keep_inventory.specs.Keys.{key_text}
@@ -11,9 +11,9 @@ use Rattle.keep_words.specs.Pieces.{pieces}
 use Rattle.keep_lint.specs.declared.mark.Mark.{Mark}
 use Rattle.keep_lint.specs.declared.mark.Mark.TheVariants as marks
 
--- all but blanks and quotes
+-- all but blanks, quotes and what is not ASCII, such as a byte-order mark
 abbrev pub is_shown : ℕ → Bool
-is_shown b = not (b == 32) && not (b == 9) && not (b == 13) && not (b == 34) && not (b == 39)
+is_shown b = nat_lt b 128 && not (b == 32) && not (b == 9) && not (b == 13) && not (b == 34) && not (b == 39)
 
 abbrev pub is_word_byte : ℕ → Bool
 is_word_byte b = is_ascii_alphanumeric b || (b == 95) || (b == 45)

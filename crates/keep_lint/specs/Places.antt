@@ -1,4 +1,4 @@
--- Places: where in the text of an inventory the tables of its entries stand, and their keys. Lines count from 0.
+-- Places: where in the text of an inventory the tables of its entries stand, and their keys.
 -- Source: this project's own.
 use Rattle.std.specs.Prelude.{ℕ, ◌+◌, ◌||◌, Bool, true, false, not, if◌then◌else◌, List, [], ◌∷◌, ◌++◌, Option, Some, None, bytes_eq}
 use Rattle.keep_inventory.specs.Keys.{key_text}
@@ -22,12 +22,12 @@ begins_table (marks.Table kind) = true
 begins_table marks.Other = true
 begins_table mark = false
 
--- those lines of these, which are those from this one on
+-- the numbers, from 1 on, of those lines of these, which are those from this one on, counted from 0
 abbrev pub heads_from : Kind → ℕ → List Mark → List ℕ
 heads_from kind at [] = []
-heads_from kind at (mark ∷ later) = if is_table_of kind mark then at ∷ heads_from kind (at + 1) later else heads_from kind (at + 1) later
+heads_from kind at (mark ∷ later) = if is_table_of kind mark then (at + 1) ∷ heads_from kind (at + 1) later else heads_from kind (at + 1) later
 
--- the lines that begin the tables of entries, in the order of the entries: all tokens first
+-- the numbers of the lines that begin the tables of entries, in the order of the entries: all tokens first
 unfoldable pub heads_of : List Mark → List ℕ
 heads_of found = heads_from kinds.Token 0 found ++ heads_from kinds.Lease 0 found
 
@@ -84,7 +84,7 @@ is_sought (soughts.Unknown table) (marks.Key key) = not (is_of_table table key)
 is_sought (soughts.Unknown table) marks.Unknown = true
 is_sought sought mark = false
 
--- the first of these lines, which are those from this one on, that does, before the next table
+-- the first of these lines, which are those from this one on, counted from 0, that does, before the next table
 abbrev pub first_in : Sought → ℕ → List Mark → Option ℕ
 first_in sought at [] = None
 first_in sought at (mark ∷ later) = if is_sought sought mark then Some at else (if begins_table mark then None else first_in sought (at + 1) later)

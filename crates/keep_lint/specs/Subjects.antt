@@ -16,5 +16,5 @@ pub record IsSubject (text : List ℕ) (open_files : List Bool) (now timeout : �
   pub files : s.open.items ≡ open_files
   pub marks : s.places.marks.items ≡ marks_of text
   pub heads : s.places.heads.items ≡ heads_of (marks_of text)
-  pub at_now : s.now ≡ now
+  pub at_now : s.at ≡ now
   pub by_timeout : s.timeout ≡ timeout

@@ -1,6 +1,6 @@
 //! What is legal in an inventory and probably not meant.
 ghost use Rattle.std.specs.Prelude.{◌≡◌, ◌++◌, ◌<◌, ◌≤◌, ◌+◌, ◌*◌, IfOk, OnOk, length};
-ghost use Rattle.keep_lint.specs.Doubts.{doubts, doubts_of_first, entry_doubts, fullest_of_first, has_need_after, is_long, round_doubt, some_whole, told, whole_doubt};
+ghost use Rattle.keep_lint.specs.Doubts.{doubt_list, doubts, doubts_of_first, entry_doubts, fullest_of_first, has_need_after, is_long, round_doubt, told, whole_doubt, whole_list};
 
 use crate::entry_doubts::{of_moments, of_names, of_needs, of_terms};
 use crate::judging::facts_of;
@@ -18,17 +18,32 @@ pub fn doubts(alloc: Global, subject: &Subject) -> Result<Vec<Doubt>, AllocError
 {
     let mut found = Vec::new(alloc);
     let whole = whole_doubt(subject);
-    if let Some(whole) = whole {
-        found.push(Doubt::Whole(whole))?;
-    }
-    if let Some(doubt) = round_doubt(subject) {
-        found.push(doubt)?;
-    }
+    push_whole(whole, &mut found)?;
+    push_round(round_doubt(subject), &mut found)?;
     push_entries(subject, whole, &mut found)?;
     Ok(found)
 }
 
+fn push_whole(whole: Option<Whole>, found: &mut Vec<Doubt>) -> Result<(), AllocError>
+    ensures { OnOk result (found.new.items ≡ found.old.items ++ whole_list whole) }
+{
+    match whole {
+        None => Ok(()),
+        Some(whole) => Ok(found.push(Doubt::Whole(whole))?),
+    }
+}
+
+fn push_round(doubt: Option<Doubt>, found: &mut Vec<Doubt>) -> Result<(), AllocError>
+    ensures { OnOk result (found.new.items ≡ found.old.items ++ doubt_list doubt) }
+{
+    match doubt {
+        None => Ok(()),
+        Some(doubt) => Ok(found.push(doubt)?),
+    }
+}
+
 // The doubt of all entries together.
+#[tactic(auto, unfolding(crate::specs::Doubts::whole_doubt))]
 fn whole_doubt(subject: &Subject) -> Option<Whole>
     ensures { result ≡ whole_doubt subject.now }
 {
@@ -36,7 +51,7 @@ fn whole_doubt(subject: &Subject) -> Option<Whole>
         Some(Whole::NoEntries)
     } else if !has_need_after(subject, 0) {
         Some(Whole::NoNeeds)
-    } else if !has_need_after(subject, subject.now.get()) {
+    } else if !has_need_after(subject, subject.at.get()) {
         Some(Whole::AllPast)
     } else {
         None
@@ -55,6 +70,7 @@ fn has_need_after(subject: &Subject, moment: u64) -> bool
 }
 
 // The doubt of the fullest round, where a margin is written.
+#[tactic(auto, unfolding(crate::specs::Doubts::round_doubt))]
 fn round_doubt(subject: &Subject) -> Option<Doubt>
     ensures { result ≡ round_doubt subject.now }
 {
@@ -82,7 +98,7 @@ fn fullest(subject: &Subject) -> u64
 {
     let mut count = 0;
     for index in 0..subject.inventory.forest().len() {
-        if subject.carried.need(index) > subject.now.get() && subject.inventory.forest().get(index).renewable {
+        if subject.carried.need(index) > subject.at.get() && subject.inventory.forest().get(index).renewable {
             count += 1;
         }
     }
@@ -104,6 +120,7 @@ fn push_entries(
 }
 
 // Appends the doubts of one entry.
+#[tactic(auto, unfolding(crate::specs::Doubts::entry_doubts))]
 fn push_entry(
     subject: &Subject,
     whole: Option<Whole>,

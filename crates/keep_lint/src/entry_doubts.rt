@@ -1,6 +1,6 @@
 //! The doubts of one entry, each by itself.
 ghost use Rattle.std.specs.Prelude.{◌≡◌};
-ghost use Rattle.keep_lint.specs.EntryDoubts.{beside_period, ended, late, milliseconds, near_margin, late_need, need_past, not_needed, of_moments, of_names, of_needs, of_terms, only_if, over_max, swapped};
+ghost use Rattle.keep_lint.specs.EntryDoubts.{beside_period, ended, late, milliseconds, near_margin, late_need, need_past, not_needed, of_moments, of_names, of_needs, of_terms, only_if, over_max};
 
 use crate::facts::Facts;
 use crate::what::{What, Whole};
@@ -85,7 +85,7 @@ fn ended(facts: &Facts) -> Option<What>
     ensures { result ≡ ended facts.now }
 {
     let is_sound = facts.is_told && facts.terms.issued.get() <= facts.end;
-    only_if(is_sound && facts.end <= facts.now, What::Ended(facts.end))
+    only_if(is_sound && facts.end <= facts.at, What::Ended(facts.end))
 }
 
 // A duration that is long and a whole number of thousands: milliseconds, perhaps.
@@ -139,7 +139,7 @@ fn need_past(facts: &Facts) -> Option<What>
 {
     let all_are = matches!(facts.whole, Some(Whole::AllPast));
     only_if(
-        facts.need > 0 && facts.need <= facts.now && !all_are,
+        facts.need > 0 && facts.need <= facts.at && !all_are,
         What::NeedPast(facts.need),
     )
 }

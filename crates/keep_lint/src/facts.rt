@@ -5,7 +5,7 @@ use keep_inventory::Terms;
 #[derive(Clone, Copy, Debug)]
 pub(crate) struct Facts {
     /// The moment of the judgement.
-    pub(crate) now: u64,
+    pub(crate) at: u64,
     /// The margin, where it is written.
     pub(crate) margin: Option<u32>,
     /// The doubt of the inventory as a whole.

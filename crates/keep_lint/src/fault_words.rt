@@ -2,7 +2,7 @@
 //! may be a credential.
 use crate::finding::{Finding, Severity};
 use crate::naming::label;
-use crate::place::{kind_of, line_of, other_table_line, unknown_line};
+use crate::place::{has_key, kind_of, line_of, other_table_line, unknown_line};
 use crate::subject::Places;
 use keep_inventory::{InvFault, Key, read_document};
 use keep_tree::{Kind, TreeFault};
@@ -82,7 +82,7 @@ fn of_missing(
     Ok(Finding {
         severity: Severity::Fault,
         line: line_of(places, Some(entry), key),
-        entry: entry_label(alloc, bytes, places, entry)?,
+        entry: entry_label(alloc, bytes, entry)?,
         key: word,
         problem: String::from_str(alloc, "is missing")?,
         mend,
@@ -109,7 +109,7 @@ fn of_unknown(
     Ok(Finding {
         severity: Severity::Fault,
         line: unknown_line(places, Some(entry)),
-        entry: entry_label(alloc, bytes, places, entry)?,
+        entry: entry_label(alloc, bytes, entry)?,
         key: "",
         problem: String::from_str(alloc, "has a key that is none of this table")?,
         mend: String::from_str(alloc, keys_of(kind_of(places, entry)))?,
@@ -136,7 +136,7 @@ fn of_value(
 ) -> Result<Finding, AllocError> {
     let name = match entry {
         None => String::new(alloc),
-        Some(entry) => entry_label(alloc, bytes, places, entry)?,
+        Some(entry) => entry_label(alloc, bytes, entry)?,
     };
     let problem = match key {
         Key::Token | Key::Lease if entry.is_none() => "is not an array of tables",
@@ -197,11 +197,11 @@ fn of_tree(
     entry: u32,
     fault: TreeFault,
 ) -> Result<Finding, AllocError> {
-    let key = tree_key(kind_of(places, entry), fault);
+    let key = tree_key(places, entry, fault);
     Ok(Finding {
         severity: Severity::Fault,
         line: line_of(places, Some(entry), key),
-        entry: entry_label(alloc, bytes, places, entry)?,
+        entry: entry_label(alloc, bytes, entry)?,
         key: if matches!(fault, TreeFault::Full) { "" } else { key.text() },
         problem: String::from_str(alloc, tree_problem(fault))?,
         mend: String::from_str(alloc, tree_mend(fault))?,
@@ -209,15 +209,16 @@ fn of_tree(
 }
 
 // The key that a fault of the tree of entries is about.
-fn tree_key(kind: Option<Kind>, fault: TreeFault) -> Key {
+fn tree_key(places: &Places, entry: u32, fault: TreeFault) -> Key {
     match fault {
         TreeFault::NoParent
         | TreeFault::ParentIsLease
         | TreeFault::LeaseWithoutToken
-        | TreeFault::TooDeep => match kind {
+        | TreeFault::TooDeep => match kind_of(places, entry) {
             Some(Kind::Lease) => Key::Token,
             _ => Key::Parent,
         },
+        TreeFault::StepTooSmall if has_key(places, entry, Key::Period) => Key::Period,
         TreeFault::StepTooSmall => Key::Increment,
         TreeFault::OutOfRange => Key::MaxTtl,
         _ => Key::Name,
@@ -257,12 +258,7 @@ fn tree_mend(fault: TreeFault) -> &'static str {
 }
 
 // What an entry is called: by its name, where the text has one, else by its place among those of its kind.
-fn entry_label(
-    alloc: Global,
-    bytes: &[u8],
-    places: &Places,
-    entry: u32,
-) -> Result<String, AllocError> {
+fn entry_label(alloc: Global, bytes: &[u8], entry: u32) -> Result<String, AllocError> {
     let table = match read_document(alloc, bytes) {
         Ok(table) => table,
         Err(InvFault::OutOfMemory) => return Err(AllocError),
@@ -276,7 +272,6 @@ fn entry_label(
         let place = index - tokens;
         (name_at(tables_of(&table, Key::Lease), place), "lease", place)
     };
-    let _ = places;
     match found {
         Some(name) if is_shown(name) => label(alloc, name.as_bytes()),
         _ => {

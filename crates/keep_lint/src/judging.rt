@@ -1,7 +1,9 @@
 //! What the doubts of one entry go by.
 ghost use Rattle.std.specs.Prelude.{◌≡◌, ◌<◌, length};
 ghost use Rattle.std.specs.List.{list_all};
-ghost use Rattle.keep_lint.specs.Judging.{facts_of, has_token_bytes, has_token_rest, is_open, is_token_byte, is_token_front, is_token_like, lacks_step, writes_increment, written_margin};
+ghost use Rattle.keep_lint.specs.Marks.{is_word_byte};
+ghost use Rattle.keep_lint.specs.Limits.{is_told};
+ghost use Rattle.keep_lint.specs.Judging.{facts_of, is_open, is_token_front, is_token_like, writes_increment, written_margin};
 
 use crate::facts::Facts;
 use crate::limits::limit;
@@ -20,12 +22,12 @@ pub(crate) fn facts_of(subject: &Subject, whole: Option<Whole>, index: u32) -> F
     let entry = subject.inventory.forest().get(index);
     let terms = subject.inventory.terms(index);
     Facts {
-        now: subject.now.get(),
+        at: subject.at.get(),
         margin: written_margin(subject),
         whole,
         is_token_like: is_token_like(entry.name.list()),
         is_open: is_open(&subject.open, index as usize),
-        is_told: subject.served.notes()[index as usize].is_told,
+        is_told: is_told(subject, index),
         lacks_step: terms.period == 0 && !writes_increment(subject, index as usize),
         end: entry.end,
         step: entry.step,
@@ -34,6 +36,14 @@ pub(crate) fn facts_of(subject: &Subject, whole: Option<Whole>, index: u32) -> F
         terms,
         limit: limit(subject, index),
     }
+}
+
+/// Whether the issue and the end of an entry are written.
+pub(crate) fn is_told(subject: &Subject, index: u32) -> bool
+    requires { index < length subject.now.inventory.forest.entries }
+    ensures { result ≡ is_told subject.now.served.notes index }
+{
+    subject.served.notes()[index as usize].is_told
 }
 
 // The margin, where it is written.
@@ -50,18 +60,23 @@ fn written_margin(subject: &Subject) -> Option<u32>
 fn is_open(open: &[bool], index: usize) -> bool
     ensures { result ≡ is_open open.now index }
 {
-    index < open.len() && open[index]
+    match open.get(index) {
+        None => false,
+        Some(is_open) => *is_open,
+    }
 }
 
 // Whether the table of an entry, where it can be found, has an increment; one that cannot be found counts as one that has.
 fn writes_increment(subject: &Subject, index: usize) -> bool
     ensures { result ≡ writes_increment subject.now.places.marks.items subject.now.places.heads.items index }
 {
-    let heads = &subject.places.heads;
-    if index >= heads.len() {
-        return true;
+    match subject.places.heads.get(index) {
+        None => true,
+        Some(head) => {
+            let key = Sought::Key(Key::Increment);
+            first_in(&subject.places.marks, key, *head).is_some()
+        }
     }
-    first_in(&subject.places.marks, Sought::Key(Key::Increment), heads[index].saturating_add(1)).is_some()
 }
 
 /// Whether a name looks like the value of a token: `hvs`, `hvb`, `hvr`, `s` or `b`, a dot, and 8 letters, digits, `_` or `-` or more.
@@ -85,7 +100,7 @@ fn is_token_front(front: &[u8]) -> bool
 }
 
 fn has_token_bytes(rest: &[u8]) -> bool
-    ensures { result ≡ list_all is_token_byte rest.now }
+    ensures { result ≡ list_all is_word_byte rest.now }
 {
     rest.iter().all(|byte| byte.is_ascii_alphanumeric() || *byte == b'_' || *byte == b'-')
 }

@@ -1,8 +1,9 @@
 //! Why no renewal leads to a need: the ceilings and the ends of an entry and of those over it.
 ghost use Rattle.std.specs.Prelude.{◌≡◌, ◌+◌, ◌^◌, ◌<◌, ◌≤◌, IfSome, length};
 ghost use Rattle.keep_tree.specs.declared.forest.TheConstants.{END_MAX};
-ghost use Rattle.keep_lint.specs.Limits.{days_limit, is_written_max, limit, limit_at, limit_in, life_of, past_ceiling, past_end, past_life, told_limit, untold_limit};
+ghost use Rattle.keep_lint.specs.Limits.{days_limit, is_written_max, limit, limit_at, limit_in, life_of, past_ceiling, past_end, past_life, short_life, told_limit, untold_limit};
 
+use crate::judging::is_told;
 use crate::subject::Subject;
 use crate::what::What;
 use keep_inventory::{SYSTEM_MAX, Terms};
@@ -19,7 +20,7 @@ pub(crate) fn limit(subject: &Subject, index: u32) -> Option<What>
     ensures { result ≡ limit subject.now index }
 {
     let need = subject.inventory.forest().get(index).need;
-    if need <= subject.now.get() {
+    if need <= subject.at.get() {
         return None;
     }
     limit_in(subject, need, index)
@@ -30,9 +31,8 @@ fn limit_in(subject: &Subject, need: u64, index: u32) -> Option<What>
     requires { index < length subject.now.inventory.forest.entries }
     ensures { result ≡ limit_in subject.now need index }
 {
-    let found = limit_at(subject, need, index);
-    if found.is_some() {
-        return found;
+    if let Some(what) = limit_at(subject, need, index) {
+        return Some(what);
     }
     match subject.inventory.forest().get(index).parent {
         None => None,
@@ -41,6 +41,7 @@ fn limit_in(subject: &Subject, need: u64, index: u32) -> Option<What>
 }
 
 // The reason of one entry alone.
+#[tactic(auto, unfolding(crate::specs::Limits::limit_at))]
 fn limit_at(subject: &Subject, need: u64, over: u32) -> Option<What>
     requires { over < length subject.now.inventory.forest.entries }
     ensures { result ≡ limit_at subject.now need over }
@@ -49,7 +50,7 @@ fn limit_at(subject: &Subject, need: u64, over: u32) -> Option<What>
     let entry = subject.inventory.forest().get(over);
     if need == LAST {
         days_limit(over, &terms)
-    } else if subject.served.notes()[over as usize].is_told {
+    } else if is_told(subject, over) {
         told_limit(need, over, entry, &terms)
     } else {
         untold_limit(subject, need, over, &terms)
@@ -61,8 +62,18 @@ fn days_limit(over: u32, terms: &Terms) -> Option<What>
     ensures { result ≡ days_limit over terms.now }
 {
     match life_of(terms) {
-        Some(life) if life <= SHORT_LIFE => Some(What::ShortLife(over, life)),
-        _ => None,
+        None => None,
+        Some(life) => short_life(over, life),
+    }
+}
+
+fn short_life(over: u32, life: u64) -> Option<What>
+    ensures { result ≡ short_life over life }
+{
+    if life <= SHORT_LIFE {
+        Some(What::ShortLife(over, life))
+    } else {
+        None
     }
 }
 
@@ -71,11 +82,29 @@ fn told_limit(need: u64, over: u32, entry: &Entry, terms: &Terms) -> Option<What
     ensures { result ≡ told_limit need over entry.now terms.now }
 {
     match terms.ceiling() {
-        Some(ceiling) if ceiling.max(entry.end) < need => {
-            Some(What::PastCeiling(over, need - ceiling.max(entry.end)))
-        }
-        _ if !entry.renewable && entry.end < need => Some(What::PastEnd(over)),
-        _ => None,
+        None => past_end(need, over, entry),
+        Some(ceiling) => past_ceiling(need, over, entry, ceiling),
+    }
+}
+
+fn past_ceiling(need: u64, over: u32, entry: &Entry, ceiling: u64) -> Option<What>
+    ensures { result ≡ past_ceiling need over entry.now ceiling }
+{
+    let last = ceiling.max(entry.end);
+    if last < need {
+        Some(What::PastCeiling(over, need - last))
+    } else {
+        past_end(need, over, entry)
+    }
+}
+
+fn past_end(need: u64, over: u32, entry: &Entry) -> Option<What>
+    ensures { result ≡ past_end need over entry.now }
+{
+    if !entry.renewable && entry.end < need {
+        Some(What::PastEnd(over))
+    } else {
+        None
     }
 }
 
@@ -88,7 +117,7 @@ fn untold_limit(subject: &Subject, need: u64, over: u32, terms: &Terms) -> Optio
     }
     match life_of(terms) {
         None => None,
-        Some(life) => past_life(subject.now.get(), need, over, life),
+        Some(life) => past_life(subject.at.get(), need, over, life),
     }
 }
 

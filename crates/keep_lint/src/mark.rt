@@ -1,7 +1,7 @@
 //! What a line of an inventory's text begins: a table, or the value of a key.
 ghost use Rattle.std.specs.Prelude.{◌≡◌, IfOk, filter};
 ghost use Rattle.std.specs.List.{list_all};
-ghost use Rattle.keep_lint.specs.Marks.{is_key_word, is_shown, is_table, is_word_byte, key_in, key_of, mark_of, mark_of_key, mark_of_shown, mark_of_word};
+ghost use Rattle.keep_lint.specs.Marks.{is_key_word, is_shown, is_word_byte, key_in, key_of, mark_of, mark_of_key, mark_of_shown, mark_of_word};
 
 use keep_inventory::Key;
 use keep_tree::Kind;
@@ -23,7 +23,7 @@ pub(crate) enum Mark {
     Rest,
 }
 
-/// What a line begins, whatever blanks and quotes stand in it. The only error is lack of memory.
+/// What a line begins, whatever blanks, quotes and bytes that are not ASCII stand in it. The only error is lack of memory.
 #[tactic(auto, unfolding(crate::specs::Marks::mark_of))]
 pub(crate) fn mark_of(alloc: Global, line: &[u8]) -> Result<Mark, AllocError>
     ensures { IfOk result (λ mark. mark ≡ mark_of line.now) }
@@ -32,7 +32,7 @@ pub(crate) fn mark_of(alloc: Global, line: &[u8]) -> Result<Mark, AllocError>
     Ok(mark_of_shown(&text))
 }
 
-// The bytes of a line but for blanks and quotes.
+// The bytes of a line but for blanks, quotes and what is not ASCII, such as a byte-order mark.
 fn shown(alloc: Global, line: &[u8]) -> Result<Vec<u8>, AllocError>
     ensures { IfOk result (λ text. text.items ≡ filter is_shown line.now) }
 {
@@ -48,7 +48,7 @@ fn shown(alloc: Global, line: &[u8]) -> Result<Vec<u8>, AllocError>
 fn is_shown(byte: u8) -> bool
     ensures { result ≡ is_shown byte }
 {
-    byte != b' ' && byte != b'\t' && byte != b'\r' && byte != b'"' && byte != b'\''
+    byte < 0x80 && byte != b' ' && byte != b'\t' && byte != b'\r' && byte != b'"' && byte != b'\''
 }
 
 fn mark_of_shown(text: &[u8]) -> Mark

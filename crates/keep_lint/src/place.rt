@@ -20,18 +20,24 @@ pub fn unknown_line(places: &Places, entry: Option<u32>) -> u64 {
     sought_line(places, entry, Sought::Unknown(table))
 }
 
+/// Whether the table of the entry at an index, where it is found, has that key.
+pub(crate) fn has_key(places: &Places, entry: u32, key: Key) -> bool {
+    let index = entry as usize;
+    if index >= places.heads.len() {
+        return false;
+    }
+    first_in(&places.marks, Sought::Key(key), places.heads[index]).is_some()
+}
+
 /// The kind of the entry at an index, where its table is found.
 pub fn kind_of(places: &Places, entry: u32) -> Option<Kind> {
     let index = entry as usize;
     if index >= places.heads.len() {
         return None;
     }
-    let head = places.heads[index];
-    if head >= places.marks.len() {
-        return None;
-    }
-    match places.marks[head] {
-        Mark::Table(kind) => Some(kind),
+    let line = places.heads[index].saturating_sub(1);
+    match places.marks.get(line) {
+        Some(Mark::Table(kind)) => Some(*kind),
         _ => None,
     }
 }
@@ -58,8 +64,10 @@ fn in_table(places: &Places, index: usize, sought: Sought) -> u64 {
         return 0;
     }
     let head = places.heads[index];
-    let found = first_in(&places.marks, sought, head.saturating_add(1));
-    number(found.or(Some(head)))
+    match first_in(&places.marks, sought, head) {
+        None => head as u64,
+        Some(line) => number(Some(line)),
+    }
 }
 
 // The number of a line.

@@ -34,8 +34,8 @@ pub(crate) fn marks_of(alloc: Global, text: &[u8]) -> Result<Vec<Mark>, AllocErr
     Ok(marks)
 }
 
-/// The lines, counted from 0, that begin the tables of entries, in the order of the entries: all tokens first. The only error is lack
-/// of memory.
+/// The numbers of the lines, counted from 1, that begin the tables of entries, in the order of the entries: all tokens first. The only
+/// error is lack of memory.
 #[tactic(auto, unfolding(crate::specs::Places::heads_of))]
 pub(crate) fn heads_of(alloc: Global, marks: &[Mark]) -> Result<Vec<usize>, AllocError>
     ensures { IfOk result (λ heads. heads.items ≡ heads_of marks.now) }
@@ -52,13 +52,13 @@ fn push_heads(marks: &[Mark], kind: Kind, heads: &mut Vec<usize>) -> Result<(), 
 {
     for at in 0..marks.len() {
         if is_table_of(marks[at], kind) {
-            heads.push(at)?;
+            heads.push(at + 1)?;
         }
     }
     Ok(())
 }
 
-/// The first line from this one on that begins what is sought, before the next table.
+/// The first line from this one on, counted from 0, that begins what is sought, before the next table.
 pub(crate) fn first_in(marks: &[Mark], sought: Sought, from: usize) -> Option<usize>
     ensures found { result ≡ first_in sought from (drop from marks.now) }
     ensures within { IfSome result (λ at. at < length marks.now) }

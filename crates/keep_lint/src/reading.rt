@@ -39,7 +39,7 @@ pub fn subject_of(
         carried,
         open,
         places,
-        now,
+        at: now,
         timeout,
     })
 }

@@ -19,14 +19,14 @@ pub struct Subject {
     /// Where the text has what.
     pub places: Places,
     /// The moment of the judgement.
-    pub now: Moment,
+    pub at: Moment,
     /// How long one request may take, in seconds.
     pub timeout: Span,
     ghost noted: { length served.notes ≡ length inventory.forest.entries },
     ghost counted: { length carried ≡ length inventory.forest.entries },
 }
 
-/// What each line of a text begins, and which lines, counted from 0, begin the tables of the entries, in their order.
+/// What each line of a text begins, and the numbers of the lines, counted from 1, that begin the tables of the entries, in their order.
 #[derive(Debug, Drop)]
 pub struct Places {
     pub(crate) marks: Vec<Mark>,

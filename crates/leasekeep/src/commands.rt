@@ -1,5 +1,6 @@
 //! All commands: the words of the command line are read, and what they ask is done.
 use crate::calling::call;
+use crate::linting::lint;
 use crate::live::keep;
 use crate::serve::serve;
 use crate::watch::watch;
@@ -43,6 +44,7 @@ where
         Job::Live(live) => keep(rt, live, &mut streams_of(rt, input, errors)).code(),
         Job::Watch(watched) => watch(rt, watched, &mut streams_of(rt, input, errors)).code(),
         Job::Serve(served) => serve(rt, served, output, &mut errors).code(),
+        Job::Lint(linted) => lint(rt, linted, &mut errors).code(),
         Job::Offline(command) => do_offline(rt, command, &mut errors).code(),
     }
 }

@@ -1,11 +1,12 @@
 //! What is said of the faults and the doubts of an inventory. The only error is lack of memory.
 use crate::judged::{Doubted, Judged};
-use house_words::{Demands, StartFault, file_words};
+use house_words::{Demands, StartFault, file_words, unread_words};
 use keep_inventory::{InvFault, Key};
 use keep_lint::{
     Finding, Places, Severity, finding_of, finding_of_fault, kind_of, label, line_of, places_of,
 };
 use keep_settle::SettleFault;
+use keep_state::ReadFault;
 use keep_tree::{Forest, Kind};
 use std::alloc::{AllocError, Global};
 
@@ -133,4 +134,19 @@ fn name_of(forest: &Forest, entry: Option<u32>) -> &str {
         }
         _ => "",
     }
+}
+
+/// What is said of a file that may not be served whatever it holds.
+pub(crate) fn finding_of_file(alloc: Global, fault: ReadFault) -> Result<Finding, AllocError> {
+    let said = unread_words(alloc, fault)?;
+    let said = std::str::from_utf8(said.list()).unwrap_or("");
+    let (problem, mend) = said.split_once("; ").unwrap_or((said, ""));
+    Ok(Finding {
+        severity: Severity::Fault,
+        line: 0,
+        entry: String::new(alloc),
+        key: "",
+        problem: String::from_str(alloc, problem)?,
+        mend: String::from_str(alloc, mend)?,
+    })
 }
