@@ -1,4 +1,4 @@
--- Limits: the first limit of an entry and of those over it is its own, else the first of its parent and of those over that.
+-- FirstLimit: the first limit of an entry and of those over it is its own, else the first of its parent and of those over that.
 use Rattle.std.proofs.Common.{◌≡◌, ◌∙◌, ℕ, List, [], ◌∷◌, Option, Some, None, ap, map}
 use Rattle.keep_tree.proofs.Chains.{ParentsFirst, chain_child, chain_root}
 use Rattle.keep_tree.specs.Forest.{entry_at}
