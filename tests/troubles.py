@@ -39,11 +39,6 @@ class Trouble:
     incidents: tuple[Incident, ...] = ()
 
     @property
-    def changes(self) -> bool:
-        """Whether the inventory is changed."""
-        return any(one.what is not What.BEGIN for one in self.incidents)
-
-    @property
     def touched(self) -> frozenset[str]:
         """Entries that are revoked, or are no more what they were."""
         return self.revoked | {one.name for one in self.incidents if one.what in (What.ADD, What.DROP, What.REPLACE)}

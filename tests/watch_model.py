@@ -3,13 +3,10 @@ should be. It knows no dates of replies, and of a lookup no terms."""
 
 from __future__ import annotations
 
-import heapq
-import json
 import math
 from dataclasses import dataclass, field, replace
 
-from bad_hours import SECOND, START, TOGETHER
-from watch_plays import SILENT, Judge, Row, true_reply
+from bad_hours import SECOND
 
 DAY = 86_400_000
 LONGEST = 300_000
@@ -135,8 +132,6 @@ class Machine:
     width: int
     at: int = 0
     out: list[Out] = field(default_factory=list)
-    notes: list[list[str]] = field(default_factory=list)
-    """The words of the lines that were said since they were taken."""
 
     def __post_init__(self) -> None:
         self.tracks = [Track() for _ in self.entries]
@@ -149,7 +144,7 @@ class Machine:
         self.phase = 0
         self._wall = (0, 0)
         self._begun: int | None = None
-        self._asked = self.away = False
+        self.away = False
         self._count = self._hold = self._pace = 0
 
     def _chain(self, index: int) -> list[int]:
@@ -209,15 +204,6 @@ class Machine:
 
     # ---- events
 
-    def begin(self) -> None:
-        self._asked = True
-
-    def know(self, index: int, end: int, renewable: bool) -> None:
-        track = self.tracks[index]
-        track.end, track.renewable = end, renewable
-        if not track.is_alive(self.now):
-            self._owe_at(track, self.at)
-
     def changed(self, entries: list[Entry]) -> Machine:
         """The watch after a change of the inventory. What was keeps all that is known of it, its request that is out too; that of an entry
         that is no more is out of none, -1. What is new, or of which the inventory says something else but for its need, owes a lookup."""
@@ -234,12 +220,9 @@ class Machine:
         for out in new.out:
             out.entry = kept.get(out.entry, -1)
         new.at, new.phase, new.away = self.at, self.phase, self.away
-        new._answers, new._wall, new._begun, new._asked = self._answers, self._wall, self._begun, self._asked
+        new._answers, new._wall, new._begun = self._answers, self._wall, self._begun
         new._count, new._hold, new._pace = self._count, self._hold, self._pace
         return new
-
-    def need(self, index: int, until: int) -> None:
-        self.entries[index] = replace(self.entries[index], need=until)
 
     def answer(self, request: Out, reply: Reply) -> None:
         """Takes the answer to a request that is out."""
@@ -252,14 +235,12 @@ class Machine:
             self._hear()
         elif not request.heard and not self.away:
             self.away, self._count, self._hold = True, 0, 0
-            self.notes.append(["away"])
 
     def _hear(self) -> None:
         for out in self.out:
             out.heard = True
         if not self.away:
             return
-        self.notes.append(["back"])
         self.away, self._count, self._hold = False, 0, 0
         for track in self.tracks:
             if track.attempt and track.out:
@@ -284,7 +265,6 @@ class Machine:
             self._unheard(index, request, reply, track.is_pressed and track.is_open(self.now))
         elif reply.told is None:
             track.owes = False
-            self.notes.append(["gone", self.entries[index].name, str(reply.status)])
             was_pressed = track.is_pressed
             self._failing(index, track.is_open(self.now))
             if track.is_open(self.now) and not was_pressed and track.attempt:
@@ -295,8 +275,6 @@ class Machine:
     def _looked_told(self, index: int, request: Out, reply: Reply) -> None:
         assert reply.told is not None
         track = self.tracks[index]
-        if reply.endless and track.end != NEVER:
-            self.notes.append(["never", self.entries[index].name])
         track.end = NEVER if reply.endless else request.since // SECOND + reply.told[0]
         track.renewable, track.owes = reply.told[1], False
         if self._has_come(index) and self._wants(index, self._carried(index)):
@@ -332,8 +310,6 @@ class Machine:
             is_no_further = since // SECOND + 2 <= counts // SECOND and before < step and seconds < step and end <= most + 1
         track.last_try = not is_no_further or (track.last_try and not track.top)
         track.top, track.end, track.renewable, track.grant = is_no_further, end, renewable, (seconds, counts)
-        if is_no_further:
-            self.notes.append(["top", self.entries[index].name, str(self.broker_moment(end))])
         if track.attempt and self.now >= end:
             self._failing(index, False)
         else:
@@ -390,18 +366,10 @@ class Machine:
 
     def _begin_anew(self, jumped: bool) -> None:
         urgent = any(track.is_pressed and track.is_alive(self.now) for track in self.tracks)
-        if self._begun is None:
-            why = "start"
-        elif jumped:
-            why = "jump"
-        elif self._asked:
-            why = "asked"
-        elif self.at >= self._begun + DAY and not urgent:
-            why = "day"
-        else:
+        is_first = self._begun is None
+        if self._begun is not None and not jumped and (urgent or self.at < self._begun + DAY):
             return
-        is_first, self._begun, self._asked = self._begun is None, self.at, False
-        self.notes.append(["begin", why])
+        self._begun = self.at
         for track in self.tracks:
             track.leave_top()
         for index, track in enumerate(self.tracks):
@@ -427,7 +395,6 @@ class Machine:
         asked: list[int] = []
         if any(self._is_in_plan(index) and self.tracks[index].is_alive(self.now) for index in fresh):
             asked = self._asks(needs)
-            self.notes.append(["wake", str(self.broker_moment(self.now)), *(self.entries[index].name for index in asked)])
         for index, track in enumerate(self.tracks):
             if index in fresh:
                 track.attempt = self._pressed(track)
@@ -509,146 +476,3 @@ class Machine:
             if self._wants(index, needs[index]) and not track.is_pressed:
                 least = min(least, self._time(index) * SECOND)
         return int(least)
-
-
-# ---- the model as a program
-
-class ModelPlay:
-    """The model in the place of a `leasekeep watch` (a `Play`), at the same broker."""
-
-    def __init__(self, rows: dict[str, Row], steps: dict[str, int], judge: Judge, margin: int, width: int, timeout: int,
-                 now: int = START) -> None:
-        self.now, self.rows, self.judge, self._timeout = now, rows, judge, timeout
-        self.machine = Machine(self._entries(steps), margin, width)
-        self._coming: list[tuple[int, int, Out, str, bytes | None]] = []
-        """The moment, the number of the request, the request, why it is lost, and what is sent in place of the true reply, if anything."""
-        self._sent = 0
-        self._unread: list[tuple[int, str, bool]] = []
-        """The moment at which the broker reads a request, its entry, and whether that is to be renewed."""
-        self._told: dict[str, bytes] = {}
-        self.is_tied = False
-        """Whether an answer came at the moment at which no more were waited for, so that a program may take it or not."""
-
-    def _entries(self, steps: dict[str, int]) -> list[Entry]:
-        """The entries of these names, with their steps."""
-        self._names = list(steps)
-        self._at = {name: index for index, name in enumerate(steps)}
-        parents = [self.rows[name].parent for name in steps]
-        return [Entry(name, step, 90_000_000, None if parent is None else self._at[parent])
-                for (name, step), parent in zip(steps.items(), parents)]
-
-    def tell(self, line: str) -> list[list[str]]:
-        match line.split():
-            case ["begin"]:
-                self.machine.begin()
-            case ["known", name, end, renewable]:
-                self.machine.know(self._at[name], int(end) // SECOND, renewable == "yes")
-            case ["need", name, until]:
-                self.machine.need(self._at[name], int(until))
-        return [["clock"]]
-
-    def change(self, steps: dict[str, int]) -> None:
-        """From now on these are watched, with their steps. (Among the lines of `leasekeep watch` there is none for that.)"""
-        self.machine = self.machine.changed(self._entries(steps))
-        self._coming = [coming for coming in self._coming if coming[2] in self.machine.out]
-        heapq.heapify(self._coming)
-
-    def clock(self, wall: int) -> list[list[str]]:
-        """Hands in both clocks; the words of each line that answers."""
-        requests, until = self.machine.clock(wall, self.now)
-        lines = self._noted()
-        for word, renews in (("look", False), ("renew", True)):
-            names = [self._names[request.entry] for request in requests if request.renews == renews]
-            lines += [[word, *names]] if names else []
-        for request in requests:
-            self._send(request)
-        until -= self.machine.phase
-        if not self.machine.out:
-            return [*lines, ["wait", str(until)]]
-        return [*lines, *self._take(min(until, self.now + SECOND)), ["clock"]]
-
-    def until(self, moment: int) -> None:
-        self._grant_until(moment)
-        self.now = max(self.now, moment)
-
-    def end(self) -> None:
-        pass
-
-    def kill(self) -> None:
-        pass
-
-    def _noted(self) -> list[list[str]]:
-        notes, self.machine.notes = self.machine.notes, []
-        return notes
-
-    def _send(self, request: Out) -> None:
-        name = self._names[request.entry]
-        self._sent += 1
-        fate = self.judge(self.now, name)
-        patience = self._timeout * SECOND if request.patience is None else min(request.patience, self._timeout * SECOND)
-        if fate == SILENT or fate.after is None:
-            heapq.heappush(self._coming, (self.now + patience, self._sent, request, "timeout", None))
-            return
-        if fate.text is None:
-            heapq.heappush(self._unread, (self.now + fate.after // 2, name, request.renews))
-        late = fate.after >= patience
-        why, text = ("timeout", None) if late else ("", fate.text)
-        heapq.heappush(self._coming, (self.now + min(fate.after, patience), self._sent, request, why, text))
-
-    def _grant_until(self, moment: float) -> None:
-        """The broker reads what was sent."""
-        while self._unread and self._unread[0][0] <= moment:
-            at, name, renews = heapq.heappop(self._unread)
-            self._told[name] = true_reply(self.rows, name, renews, at)
-
-    def _take(self, limit: int) -> list[list[str]]:
-        if not self._coming or self._coming[0][0] > limit:
-            self.until(max(self.now, limit))
-            return []
-        first = max(self.now, self._coming[0][0])
-        patience = min(first + TOGETHER - 1, max(first, limit))
-        self.is_tied |= any(answer[0] == patience for answer in self._coming)
-        self.until(min(patience, max(first, max(self._coming)[0])))
-        answers = []
-        while self._coming and self._coming[0][0] <= self.now:
-            answers.append(heapq.heappop(self._coming))
-        lines: list[list[str]] = []
-        for _, _, request, why, text in sorted(answers, key=lambda answer: answer[2].entry):
-            lines += self._answer(request, why, text)
-        return lines
-
-    def _answer(self, request: Out, why: str, text: bytes | None) -> list[list[str]]:
-        name = self._names[request.entry] if request.entry >= 0 else ""
-        if why:
-            reply, said = Reply(), ["lost", name, why]
-        else:
-            reply, said = read_reply(name, request.renews, self._told.pop(name, b"") if text is None else text)
-        self.machine.answer(request, reply)
-        if request.entry < 0:
-            return self._noted()
-        if said[0] == "entry":
-            said[2] = str(self.machine.broker_moment(self.machine.now) + int(said[2]))
-        lines = [said]
-        end = self.machine.tracks[request.entry].end
-        if reply.told is not None and end is not None and end != NEVER:
-            lines.append(["end", name, f"{int(end) * SECOND - self.machine.phase}", "yes" if reply.told[1] else "no"])
-        return lines + self._noted()
-
-
-def read_reply(name: str, renews: bool, text: bytes) -> tuple[Reply, list[str]]:
-    """What a reply says, and the line for it."""
-    if not text:
-        return Reply(), ["lost", name, "closed"]
-    head, _, body = text.partition(b"\r\n\r\n")
-    status = int(head.split()[1])
-    if status in (400, 403, 404, 405):
-        return Reply(status=status), ["refused", name, str(status)]
-    if status != 200:
-        return Reply(busy=status == 429), ["lost", name, str(status)]
-    told = json.loads(body)
-    if renews:
-        seconds = told["auth"]["lease_duration"]
-        return Reply((seconds, told["auth"]["renewable"])), ["told", name, str(seconds)]
-    data = told["data"]
-    endless = data["ttl"] == 0 and data["expire_time"] is None
-    return Reply((data["ttl"], data["renewable"]), endless=endless), ["entry", name, str(data["ttl"])]

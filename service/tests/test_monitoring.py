@@ -62,6 +62,10 @@ def state(name: str) -> str:
     return f'leasekeep_state{{entry="web",state="{name}"}}'
 
 
+def behind(place: int) -> str:
+    return f'leasekeep_behind{{job="web",instance="{place}"}}'
+
+
 class Shipped(unittest.TestCase):
     def test_they_ask_for_what_is_there_and_for_all_of_it(self) -> None:
         there = set(re.findall(r"# TYPE (\w+)", EXPECTED))
@@ -139,6 +143,13 @@ class Rules(unittest.TestCase):
                  ("LeasekeepLogDropped", "180", 1), ("LeasekeepLogDropped", "1200", 0)),
             case({**up, "leasekeep_alerts_dropped_total": "5x10 7x100"}, ("LeasekeepAlertsDropped", "135", 0),
                  ("LeasekeepAlertsDropped", "180", 1), ("LeasekeepAlertsDropped", "1200", 0)),
+            case({**up, "leasekeep_stepped_in_total": "5x10 7x100"}, ("LeasekeepSteppedIn", "135", 0),
+                 ("LeasekeepSteppedIn", "180", 1), ("LeasekeepSteppedIn", "1200", 0)),
+            *(case({behind(place): f"{number}x100" for place, number in enumerate(numbers)},
+                   ("LeasekeepNotOneInFront", "585", 0), ("LeasekeepNotOneInFront", "615", fires))
+              for numbers, fires in (((0, 1, 1), 0), ((0,), 0), ((0, 0), 0), ((1, 1), 1), ((0, 0, 1), 1))),
+            case({behind(0): "0x4 stale", behind(1): "1x100"},
+                 ("LeasekeepNotOneInFront", "660", 0), ("LeasekeepNotOneInFront", "690", 1)),
         ]
         with tempfile.TemporaryDirectory() as folder:
             file = Path(folder) / "tests.yml"

@@ -6,7 +6,6 @@
 
    It does what the environment says besides:
      BOOT_AHEAD    CLOCK_BOOTTIME is ahead by so many seconds, as where the machine was suspended for so long
-     WAIT_TAKES    CLOCK_MONOTONIC moves on by so many milliseconds with each wait for sockets, and by nothing else; such a wait ends soon
      SHORT_WRITES  a write to a socket or a pipe takes so many bytes at most
      FAILS         names a file: each call whose name stands in it fails (EIO), of those that ask `fails` */
 #define _GNU_SOURCE
@@ -31,16 +30,14 @@
 #include <unistd.h>
 
 #define SIGNALS (_NSIG / 8)
-#define SHORT_WAIT 10
 #define LOG_FD 500 /* above all that a program opens, so that its own numbers are as without this library */
 
 static int log_fd = -1;
-static long boot_ahead, short_writes, wait_takes, wait_count;
+static long boot_ahead, short_writes;
 static const char *failing;
 
 __attribute__((constructor)) static void begin(void) {
     const char *name = getenv("CALLS"), *ahead = getenv("BOOT_AHEAD"), *most = getenv("SHORT_WRITES");
-    const char *takes = getenv("WAIT_TAKES");
     if (!name) return;
     int fd = syscall(SYS_openat, AT_FDCWD, name, O_WRONLY | O_CREAT | O_APPEND | O_CLOEXEC, 0600);
     log_fd = fd < 0 ? -1 : syscall(SYS_fcntl, fd, F_DUPFD_CLOEXEC, LOG_FD);
@@ -48,7 +45,6 @@ __attribute__((constructor)) static void begin(void) {
     syscall(SYS_close, fd);
     boot_ahead = ahead ? atol(ahead) : 0;
     short_writes = most ? atol(most) : 0;
-    wait_takes = takes ? atol(takes) : 0;
     failing = getenv("FAILS");
 }
 
@@ -146,14 +142,11 @@ static long millis_of(const struct timespec *time) { return time ? time->tv_sec 
 int clock_gettime(clockid_t clock, struct timespec *time) {
     int result = syscall(SYS_clock_gettime, clock, time);
     if (result == 0 && clock == CLOCK_BOOTTIME) time->tv_sec += boot_ahead;
-    if (result == 0 && clock == CLOCK_MONOTONIC && wait_takes > 0) *time = time_of(1000000 + wait_count * wait_takes);
     SAID(result, "clock_gettime %d", clock);
 }
 
 int epoll_pwait(int place, struct epoll_event *events, int most, int millis, const sigset_t *signals) {
     say("epoll_wait %d %d", place, millis);
-    wait_count += 1;
-    if (wait_takes > 0 && (millis < 0 || millis > SHORT_WAIT)) millis = SHORT_WAIT;
     return fails("epoll_wait") ? -1 : syscall(SYS_epoll_pwait, place, events, most, millis, signals, SIGNALS);
 }
 

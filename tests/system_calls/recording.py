@@ -15,8 +15,6 @@ CAN_READ, CAN_WRITE = 1, 4
 """What an epoll tells of (sys/epoll.h)."""
 ADD = 1
 """How epoll_ctl is told to begin with a socket."""
-MONOTONIC = 1
-"""A clock (time.h)."""
 BY_NUMBER = ("read", "write", "pwrite", "sync", "cut", "fchmod", "flock", "bind", "listen", "accept", "connect", "epoll_ctl",
              "longest-read", "longest-write", "close")
 """Calls whose first word is the number of what they are made of."""

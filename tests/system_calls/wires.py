@@ -1,4 +1,4 @@
-"""SocketWires: the connections to the broker, and the wait of an agent that waits for them by itself."""
+"""SocketWires: the connections to the broker."""
 
 from __future__ import annotations
 
@@ -6,12 +6,12 @@ import socket
 import threading
 import time
 
-from trying import Behave, Peer, Ran, good, secret_web
+from trying import Behave, Peer
 
-from .clocks import RESTLESS, sleeps, waits
+from .clocks import waits
 from .doors import told_of
-from .recording import CAN_READ, CAN_WRITE, MONOTONIC, Call
-from .stage import PATIENCE, SECRET, TIMEOUT, Serving, Stage, inventory, living, until
+from .recording import CAN_READ, CAN_WRITE
+from .stage import PATIENCE, SECRET, Serving, Stage, inventory, living, until
 
 PIECE = 50
 """The most bytes that a write takes: less than a request has."""
@@ -23,12 +23,6 @@ LIFE = 3600
 """Seconds that a broker tells."""
 HELD = 2.0
 """Seconds for which a broker holds an answer back: less than the time-out."""
-LINES = 5
-"""How often a watch is told the time that waits for a silent broker."""
-SECOND, TAKES = 1000, 300
-"""The longest wait for a line, and what each wait takes, in milliseconds."""
-LOOKED_UP = b"begin start\nlook web\nentry web 1060\nend web 1060000 yes\n"
-"""What a watch says, but for the lines that ask for the time."""
 
 
 def request(port: str) -> bytes:
@@ -109,35 +103,3 @@ def full_queue(stage: Stage) -> None:
                     each.close()
                 stage.check("it is told", True, agent.says("entry web "))
                 stage.check("and lost nothing", [], [event for event in agent.events if "lost" in event])
-
-
-def late(_number: int, stream: socket.socket, request: bytes) -> None:
-    """A broker that tells of 60 seconds, half a second later."""
-    time.sleep(0.5)
-    if request:
-        stream.sendall(good(request))
-
-
-def silent(_number: int, _stream: socket.socket, _request: bytes) -> None:
-    time.sleep(PATIENCE)
-
-
-def watched(stage: Stage, behave: Behave, lines: int, told: dict[str, str]) -> tuple[Ran, list[Call]]:
-    """How `leasekeep watch` answers so many lines with the time, and its calls."""
-    (stage.room / "watched.toml").write_bytes(secret_web(SECRET))
-    with Peer(behave, stage.room / "vault.sock") as broker:
-        words = ("watch", "watched.toml", broker.word, "--timeout", str(TIMEOUT))
-        ran, recording = stage.run(*words, given=b"clock 1000000 1000000\n" * lines, told=told)
-    return ran, recording.calls("epoll_wait", "clock_gettime", "sleep")
-
-
-def waits_by_itself(stage: Stage) -> None:
-    """`leasekeep watch` waits for its connections by itself, for a second a line at most; what has passed it knows by the clock that
-    never steps, also where a wait ends before its time."""
-    ran, calls = watched(stage, late, PATIENCE // 2, {})
-    stage.check("it is told", (0, LOOKED_UP), (ran.exit, ran.out.replace(b"clock\n", b"")[:len(LOOKED_UP)]))
-    stage.check("it rests", (True, []), (0 < len(waits(calls)) < RESTLESS, sleeps(calls)))
-    ran, calls = watched(stage, silent, LINES, {"WAIT_TAKES": str(TAKES)})
-    stage.check("a silent broker is waited for", (0, b"begin start\nlook web\n" + b"clock\n" * LINES), (ran.exit, ran.out))
-    stage.check("until a second has passed, by its clock", list(range(SECOND, 0, -TAKES)) * LINES, waits(calls))
-    stage.check("the clock that it reads", {str(MONOTONIC)}, {call.words[0] for call in calls if call.name == "clock_gettime"})

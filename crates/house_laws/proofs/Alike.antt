@@ -1,6 +1,6 @@
 -- Alike: texts that are the same where credentials alone are others. For `no_credential_is_said`, `no_credential_is_told` and
 -- `no_credential_of_a_file_is_said`.
-use Rattle.std.proofs.Common.{◌≡◌, ◌∙◌, ◌+◌, ◌*◌, ◌++◌, ℕ, zero, suc, true, false, cond, List, [], ◌∷◌, Option, None, Some, Result, Ok, Err, ap, inl, inr, refl, subst, sym, take, length}
+use Rattle.std.proofs.Common.{◌≡◌, ◌∙◌, ◌+◌, ◌++◌, ℕ, zero, suc, true, false, cond, List, [], ◌∷◌, Option, None, Some, Result, Ok, Err, ap, inl, inr, refl, subst, sym, take, length}
 use Rattle.std.specs.List.{find, flat_map}
 use Rattle.std.specs.Prelude.{◌-◌, not, ◌&&◌, if◌then◌else◌, bytes_eq, codes, is_none, is_some, nat_lt, slice_get}
 use Rattle.keep_agent.specs.Agent.{Agent}

@@ -1,6 +1,6 @@
 -- Passed: what holds of each call of neighbours holds of what they are called for where one more stands before them, who looks ahead or asks
 -- for a beginning. For the laws of what a turn calls.
-use Rattle.std.proofs.Common.{◌≡◌, ◌∙◌, ℕ, Bool, true, false, inl, inr, Option, None, Some, ap, refl, subst, sym}
+use Rattle.std.proofs.Common.{◌≡◌, ℕ, Bool, true, false, inl, inr, Option, None, Some, ap, subst, sym}
 use Rattle.keep_behind.specs.Behinds.{OthersGive, PassesBehind, SettlesBy, StepsBy}
 use Rattle.keep_behind.specs.declared.behind.Behind.{Behind}
 use Rattle.keep_behind.specs.declared.behind.Giver.{Giver}

@@ -1,6 +1,6 @@
 -- Disks: how often disks are called in a turn. Each law is the contract of a public function without a body.
 -- Source: this project's own; which call of the loop does what is specs/Doing.
-use Rattle.std.specs.Prelude.{◌≡◌, ◌⊎◌, ◌+◌, ◌*◌, ◌≤◌, ℕ, Bool, true, List, [], ◌∷◌, ◌++◌, Option, Some, None, IfSome, Result, length}
+use Rattle.std.specs.Prelude.{◌≡◌, ◌⊎◌, ◌*◌, ◌≤◌, ℕ, Bool, true, List, [], ◌∷◌, ◌++◌, Option, Some, None, IfSome, Result, length}
 use Rattle.std.specs.List.{sum_by}
 use Rattle.std.specs.declared.alloc.AllocError.{AllocError}
 use Rattle.keep_agent.specs.Agent.{Agent}

@@ -1,6 +1,6 @@
 -- LinesBehind: what an agent says that stands behind another: which ends it looked up, and for whom it steps in.
 -- Source: docs/running.md, "What the operator sees".
-use Rattle.std.specs.Prelude.{ℕ, ◌-◌, Bool, true, not, ◌&&◌, if◌then◌else◌, List, [], ◌∷◌, codes, flat_map, length, nat_lt, slice_set}
+use Rattle.std.specs.Prelude.{ℕ, ◌-◌, Bool, true, not, ◌&&◌, if◌then◌else◌, List, [], ◌∷◌, codes, filter, flat_map, length, nat_lt, slice_set}
 use Rattle.keep_agent.specs.Agent.{Agent}
 use Rattle.keep_lines.specs.Text.{name_of}
 use Rattle.keep_log.specs.declared.level.Level.TheVariants.{Info, Warning}
@@ -26,11 +26,18 @@ abbrev pub is_renewal : Request → Bool
 is_renewal r = is_same r.operation Renew
 
 -- that is said once, until an end of the entry is looked up again
+abbrev pub is_first_step : List Mark → Request → Bool
+is_first_step marks r = is_renewal r && not (mark_at marks r.entry).steps_in
+
 abbrev pub steps_in_line : Forest → List Mark → Request → List Line
-steps_in_line g marks r = if is_renewal r && not (mark_at marks r.entry).steps_in then said_line Warning (codes "steps-in") (words.Text (name_of g r.entry) ∷ []) ∷ [] else []
+steps_in_line g marks r = if is_first_step marks r then said_line Warning (codes "steps-in") (words.Text (name_of g r.entry) ∷ []) ∷ [] else []
 
 abbrev pub steps_in_lines : Forest → List Mark → List Request → List Line
 steps_in_lines g marks requests = flat_map (steps_in_line g marks) requests
+
+-- of so many entries
+abbrev pub steps_in_count : List Mark → List Request → ℕ
+steps_in_count marks requests = length (filter (is_first_step marks) requests)
 
 -- whether it was said of an entry, where there is a mark of it
 abbrev pub with_step : ℕ → Bool → List Mark → List Mark

@@ -1,13 +1,14 @@
 //! Where it is said what happens to an agent.
 ghost use Rattle.std.specs.Prelude.{◌≡◌, IfOk, length};
 ghost use Rattle.house_log.specs.Changed.{entry_log_line, fault_lines, reread_lines, settled_line};
+ghost use Rattle.house_log.specs.LinesBehind.{steps_in_count};
 ghost use Rattle.house_log.specs.LinesOfClocks.{marks_anew};
 ghost use Rattle.house_log.specs.LogDesk.{HearsAhead, HearsAnswer, HearsAtStart, HearsClock, HearsNoSocket, HearsRefusal, HearsShorts, HearsSteps, HearsWant, SaysLine, SaysLines, begun_desk};
 ghost use Rattle.house_words.specs.Moments.{now_of};
 ghost use Rattle.house_log.specs.Sockets.{need_log_line};
 
 use crate::log_answers::{say_answered, trouble_after};
-use crate::log_behind::{mark_steps, say_ahead, say_steps, set_step};
+use crate::log_behind::{count_steps, mark_steps, say_ahead, say_steps, set_step};
 use crate::log_changes::{say_entry, say_faults, say_reread, say_settled};
 use crate::log_clock::{say_clocked, say_memory, say_shorts};
 use crate::log_ended::{mark_anew, mark_ended};
@@ -126,6 +127,13 @@ impl Desk {
         let stamp = self.stamp(agent);
         say_ahead(alloc, &stamp, agent, entry, end, &mut self.room);
         set_step(&mut self.marks, entry, false);
+    }
+
+    /// Of how many entries it will be said that an agent steps in, by what it asks.
+    pub fn count_steps(&self, requests: &[Request]) -> usize
+        ensures { result ≡ steps_in_count self.now.marks requests.now }
+    {
+        count_steps(requests, &self.marks)
     }
 
     /// Says for which entries an agent steps in that stands behind another, by what it asks.

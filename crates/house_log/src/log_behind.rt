@@ -1,7 +1,7 @@
 //! What an agent says that stands behind another.
 ghost use Rattle.std.specs.Prelude.{◌≡◌};
 ghost use Rattle.house_log.specs.Lines.{AreSaid, LineIsSaid};
-ghost use Rattle.house_log.specs.LinesBehind.{ahead_line, is_renewal, steps_in_line, steps_in_lines, with_renewal, with_renewals, with_step};
+ghost use Rattle.house_log.specs.LinesBehind.{ahead_line, is_first_step, is_renewal, steps_in_count, steps_in_line, steps_in_lines, with_renewal, with_renewals, with_step};
 
 use crate::log_line::{Stamp, say_of, say_text};
 use crate::log_words::is_same;
@@ -67,10 +67,27 @@ fn say_step(
 )
     ensures { AreSaid stamp.now.form stamp.now.moment (steps_in_line names.now marks.now request) room.old room.new }
 {
-    if is_renewal(request) && !mark_at(marks, request.entry).steps_in {
+    if is_first_step(request, marks) {
         let name = name_of(names, request.entry);
         say_text(alloc, stamp, Level::Warning, "steps-in", name, room);
     }
+}
+
+/// Of how many entries that is said.
+pub(crate) fn count_steps(requests: &[Request], marks: &[Mark]) -> usize
+    ensures { result ≡ steps_in_count marks.now requests.now }
+{
+    requests
+        .iter()
+        .filter(|request| is_first_step(**request, marks))
+        .count()
+}
+
+// Whether it is a renewal of an entry of which that was not said.
+fn is_first_step(request: Request, marks: &[Mark]) -> bool
+    ensures { result ≡ is_first_step marks.now request }
+{
+    is_renewal(request) && !mark_at(marks, request.entry).steps_in
 }
 
 fn is_renewal(request: Request) -> bool

@@ -1,5 +1,5 @@
 -- Handed: what is made of an answer. For `hand_in`.
-use Rattle.std.proofs.Common.{◌≡◌, ◌∙◌, ℕ, Bool, true, false, Option, Some, None, inr, refl, sym, ap}
+use Rattle.std.proofs.Common.{◌≡◌, ◌∙◌, true, false, Option, None, inr, refl, sym, ap}
 use Rattle.std.proofs.lemmas.Bool.{cond-false, cond-true}
 use Rattle.keep_agent.specs.Agent.{Agent}
 use Rattle.keep_lanes.specs.declared.lanes.Answered.{Answered}

@@ -11,7 +11,7 @@ use Rattle.watch_scout.specs.Hearing.{freed}
 use Rattle.watch_scout.specs.Looking.{found}
 use Rattle.watch_scout.specs.State.{ScoutState}
 use Rattle.watch_scout.proofs.Coming.{found_seen, freed_seen}
-use Rattle.keep_behind.specs.Lookups.{AreLookedUp, ByFound, IsLookedUp, Side, asked_from, look_at, side}
+use Rattle.keep_behind.specs.Lookups.{AreLookedUp, ByFound, IsLookedUp, Side, look_at, side}
 
 pub sent_one :
     (port : ℕ) (a : Agent) (r : Reading) (i : ℕ) (s : ScoutState) (l m : Lanes) → GoesOut port a.inventory a.machine (second_of_wall r.wall) r.elapsed (look_at i) l m → IsLookedUp port a r i (side s l) (side s m)

@@ -1,5 +1,5 @@
 -- Stages: what a lookout does stage by stage, and where an answer is handed in. For `lookout`.
-use Rattle.std.proofs.Common.{◌≡◌, ◌⊎◌, ◌∙◌, ◌==◌, ◌-◌, ℕ, true, false, List, [], ◌∷◌, ◌++◌, Option, Some, None, IfSome, eqb-true, length, ap, inl, inr, refl, subst, sym}
+use Rattle.std.proofs.Common.{◌≡◌, ◌⊎◌, ◌∙◌, ◌-◌, ℕ, true, false, [], ◌∷◌, ◌++◌, Option, Some, None, IfSome, eqb-true, length, ap, inl, inr, refl, subst, sym}
 use Rattle.keep_agent.specs.Agent.{Agent}
 use Rattle.keep_clock.specs.declared.reading.Reading.{Reading}
 use Rattle.keep_lanes.specs.declared.lanes.Answered.{Answered}

@@ -1,5 +1,5 @@
 -- Steps: what a lookout does with its scout are steps of it. For the laws.
-use Rattle.std.proofs.Common.{◌≡◌, ◌⊎◌, ◌∙◌, ℕ, zero, suc, ◌==◌, ◌&&◌, Bool, true, false, if◌then◌else◌, List, [], ◌∷◌, ◌++◌, Option, Some, None, length, nat_lt, refl, sym, ap, subst, inl, inr}
+use Rattle.std.proofs.Common.{◌≡◌, ◌∙◌, ℕ, zero, suc, Bool, true, false, if◌then◌else◌, [], ◌∷◌, Option, Some, None, refl, sym, ap, subst, inl, inr}
 use Rattle.keep_agent.specs.Agent.{Agent}
 use Rattle.keep_asking.specs.Sending.{Lanes}
 use Rattle.keep_clock.specs.declared.reading.Reading.{Reading}
@@ -8,7 +8,7 @@ use Rattle.keep_serving.specs.declared.change.Change.{Change}
 use Rattle.keep_serving.specs.declared.change.Change.TheVariants as changes
 use Rattle.keep_tree.specs.Forest.{Forest}
 use Rattle.scout_laws.specs.Behind.{IsLaterEnd}
-use Rattle.scout_laws.specs.Steps.{AllSteps, ScoutStep, Hears, Seeks, scout_after, scout_after_all}
+use Rattle.scout_laws.specs.Steps.{AllSteps, ScoutStep, Hears, Seeks, scout_after}
 use Rattle.scout_laws.proofs.Handing.{hands}
 use Rattle.watch_machine.specs.declared.event.Event.{Event}
 use Rattle.watch_machine.specs.declared.event.Reply.{Reply}
@@ -17,9 +17,9 @@ use Rattle.watch_machine.specs.State.{WatchState}
 use Rattle.watch_machine.proofs.Cases.{value_is}
 use Rattle.watch_scout.specs.Hearing.{event_of, freed}
 use Rattle.watch_scout.specs.Looking.{found}
-use Rattle.watch_scout.specs.State.{ScoutState, opened_scout}
+use Rattle.watch_scout.specs.State.{ScoutState}
 use Rattle.keep_behind.specs.Laws.{Follows, GivesLaw, GoesLaw, IsFirstScout, IsLaterKnown, ToldLaw}
-use Rattle.keep_behind.specs.Lookouts.{Ahead, AnswersComeOff, GivesAhead, GoesAhead, HandsIn, HandsInBy, IsHandedIn, IsMade, LooksBy, StandsBeside, change_of, event_handed, is_of_served, scout_handed}
+use Rattle.keep_behind.specs.Lookouts.{Ahead, HandsInBy, IsHandedIn, IsMade, LooksBy, StandsBeside, change_of, is_of_served}
 use Rattle.keep_behind.specs.Lookups.{AreLookedUp, ByFound, IsLookedUp, Side, asked_from, side}
 
 -- ---- one step after another

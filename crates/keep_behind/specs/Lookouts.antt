@@ -1,6 +1,6 @@
 -- Lookouts: what a lookout does in a turn: answers come off its lanes, lookups go out, and an end that is known is given.
 -- Source: this project's own.
-use Rattle.std.specs.Prelude.{◌≡◌, ◌⊎◌, ℕ, ◌+◌, ◌-◌, ◌==◌, Bool, true, false, not, ◌&&◌, if◌then◌else◌, List, [], ◌∷◌, ◌++◌, Option, Some, None, IfSome, length, nat_lt}
+use Rattle.std.specs.Prelude.{◌≡◌, ◌⊎◌, ℕ, ◌-◌, ◌==◌, Bool, true, false, not, ◌&&◌, if◌then◌else◌, List, [], ◌∷◌, ◌++◌, Option, Some, None, IfSome, length, nat_lt}
 use Rattle.keep_agent.specs.Agent.{Agent}
 use Rattle.keep_asking.specs.Sending.{Lanes}
 use Rattle.keep_asking.specs.Told.{reply_as}

@@ -46,6 +46,7 @@ impl<L: Lanes> Lookout<L> {
     /// served then.
     pub fn new(alloc: Global, number: u64, lanes: L) -> Lookout<L>
         ensures number { result.number ≡ number }
+        ensures own { result.own ≡ lanes }
         ensures scout { result.scout ≡ None }
         ensures heard { result.heard ≡ [] }
     {

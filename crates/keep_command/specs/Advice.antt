@@ -64,7 +64,7 @@ value_form keys.Need = Some forms.Need
 value_form key = None
 
 abbrev pub form_words : Form → List ℕ
-form_words forms.Both = codes "write both issued and end, or neither: serve, watch and run look them up"
+form_words forms.Both = codes "write both issued and end, or neither: serve and run look them up"
 form_words forms.Duration = codes "write whole seconds, or a duration in quotes with its units, as \"90m\" or \"1h30m\""
 form_words forms.Margin = codes "write 1 to 3600 seconds, as a whole number or as a duration in quotes, as \"10m\""
 form_words forms.Moment = codes "write whole seconds since 1970, or a date in quotes with its offset, as \"2026-11-22T09:00:00Z\""
@@ -85,7 +85,7 @@ fault_advice program fault = None
 abbrev pub open_line_of : List ℕ → Served → Option ℕ → Option (List ℕ)
 open_line_of program v None = None
 open_line_of program v (Some index) =
-    Some (advice_line program (entry_at v.inventory.forest.entries index).name (codes "issued and end are not written; serve, watch and run look them up"))
+    Some (advice_line program (entry_at v.inventory.forest.entries index).name (codes "issued and end are not written; serve and run look them up"))
 
 unfoldable pub open_line : List ℕ → Served → Option (List ℕ)
 open_line program v = open_line_of program v (first_untold 0 v.notes)

@@ -62,7 +62,7 @@ pub fn advise_on_open<E: Sink>(program: &str, served: &Served, errors: &mut E)
             errors,
             program.as_bytes(),
             name,
-            b"issued and end are not written; serve, watch and run look them up",
+            b"issued and end are not written; serve and run look them up",
         );
     }
 }
@@ -121,7 +121,7 @@ fn words_of(form: Form) -> &'static str
     ensures { result.now ≡ form_words form }
 {
     match form {
-        Form::Both => "write both issued and end, or neither: serve, watch and run look them up",
+        Form::Both => "write both issued and end, or neither: serve and run look them up",
         Form::Duration => {
             "write whole seconds, or a duration in quotes with its units, as \"90m\" or \"1h30m\""
         }

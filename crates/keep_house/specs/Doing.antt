@@ -16,7 +16,9 @@ use Rattle.watch_machine.specs.declared.command.Request.{Request}
 use Rattle.watch_machine.specs.declared.notes.Notes.{Notes}
 use Rattle.watch_machine.specs.declared.outlook.Next.{Next}
 use Rattle.keep_house.specs.Commands.{AsksFor, SettlesGiven, is_served}
+use Rattle.house_log.specs.LinesBehind.{steps_in_count}
 use Rattle.house_log.specs.LogDesk.{Desk, HearsAhead, HearsAnswer, HearsClock, HearsShorts, HearsSteps}
+use Rattle.keep_house.specs.Behind.{looked, stepped}
 use Rattle.keep_house.specs.Ends.{HearsServed, KeepsEnds, after_answer}
 use Rattle.keep_house.specs.Houses.{Attends}
 use Rattle.house_ledger.specs.Keeping.{KeepCall}
@@ -38,14 +40,16 @@ pub record HearsOfTime {S T D K E : Type 0} (agent : Agent) (notes : Notes) (req
   pub clock : HearsClock agent notes requests timed desk
   pub then : HearsNext agent next (record old { desk = desk }) new
 
--- an answer is said, and the ends are to be kept anew where it tells of one. Nothing else changes
+-- an answer is said, and the ends are to be kept anew where it tells of one; what is done behind another is said and counted. Nothing else
+-- changes
 abbrev pub HearsOf : {S T D K E : Type 0} → Agent → Happened → House S T D K E → House S T D K E → Type 0
 HearsOf agent (happened.Clocked notes requests next) old new = HearsOfTime agent notes.now requests.now next old new
 HearsOf agent (happened.Shorts shorts) old new = HearsShorts agent shorts.now old.desk new.desk × (new ≡ record old { desk = new.desk })
 HearsOf agent (happened.Answered entry operation said notes) old new =
     HearsAnswer agent entry operation said notes.now old.desk new.desk × (new ≡ record old { desk = new.desk; ends = option_map (after_answer said.reply) old.ends })
-HearsOf agent (happened.Ahead entry end) old new = HearsAhead agent entry end old.desk new.desk × (new ≡ record old { desk = new.desk })
-HearsOf agent (happened.StepsIn requests) old new = HearsSteps agent requests.now old.desk new.desk × (new ≡ record old { desk = new.desk })
+HearsOf agent (happened.Ahead entry end) old new = HearsAhead agent entry end old.desk new.desk × (new ≡ record old { desk = new.desk; standby = looked old.standby })
+HearsOf agent (happened.StepsIn requests) old new =
+    HearsSteps agent requests.now old.desk new.desk × (new ≡ record old { desk = new.desk; standby = stepped (steps_in_count old.desk.marks requests.now) old.standby })
 HearsOf agent happened.Refused old new = HearsWanting agent old.desk new.desk × (new ≡ record old { desk = new.desk })
 HearsOf agent happened.Wanting old new = HearsWanting agent old.desk new.desk × (new ≡ record old { desk = new.desk })
 

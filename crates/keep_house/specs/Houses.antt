@@ -17,6 +17,7 @@ use Rattle.keep_log.specs.Waiting.{Waiting}
 use Rattle.keep_log.specs.declared.writing.TheConstants.{MOST_TRIES}
 use Rattle.keep_onlook.specs.declared.board.FileReading.{FileReading}
 use Rattle.keep_onlook.specs.declared.board.Surroundings.{Surroundings}
+use Rattle.keep_onlook.specs.declared.standby.Standby.{Standby}
 use Rattle.keep_onlook.specs.Naming.{Around, beside}
 use Rattle.keep_serving.specs.declared.change.Change.{Change}
 use Rattle.watch_machine.specs.declared.outlook.Next.{Next}
@@ -33,11 +34,11 @@ use Rattle.keep_house.specs.declared.house.House.{House}
 
 -- ---- what the agent does not know of itself
 
--- what was said last of the next time of an entry, how the inventory's file was last read, whether something keeps changes, how many lines
--- of the log were dropped, and the wall's clock, in milliseconds
-abbrev pub around_of : Option (Option Next) → FileReading → Bool → ℕ → ℕ → Surroundings
-around_of next file keeps dropped wall =
-    record { wall = wall / 1000; next_wake = next_wake_of next; file = file; keeps_changes = keeps; dropped_lines = dropped; dropped_alerts = 0 }
+-- what was said last of the next time of an entry, how the inventory's file was last read, whether something keeps changes, how it stands to
+-- others, how many lines of the log were dropped, and the wall's clock, in milliseconds
+abbrev pub around_of : Option (Option Next) → FileReading → Bool → Standby → ℕ → ℕ → Surroundings
+around_of next file keeps standby dropped wall =
+    record { wall = wall / 1000; next_wake = next_wake_of next; file = file; keeps_changes = keeps; standby = standby; dropped_lines = dropped; dropped_alerts = 0 }
 
 -- the entries that the inventory names: those after every change, and where nothing keeps changes those that the start has read
 abbrev pub named_in : {K : Type 0} → (K → List Row) → Option K → Option (List Row) → List Row
@@ -77,7 +78,7 @@ pub record Attends {S T D K E : Type 0} (given : S → Option (List ℕ)) (failu
   pub few : tries new.sink ≤ tries old.sink + MOST_TRIES
   pub follow : FollowersGoOn old.desk.form (second_of now.wall) (record old.desk.room { log = room }) rooms old.control fed
   pub around : Around
-  pub around_is : around ≡ beside (around_of old.next old.file (is_some old.state) rooms.log.dropped now.wall) (named_in rows old.state old.read)
+  pub around_is : around ≡ beside (around_of old.next old.file (is_some old.state) old.standby rooms.log.dropped now.wall) (named_in rows old.state old.read)
   pub onlookers : OnlookersGoOn remaining written calls log agent around now shown old.onlookers new.onlookers
   pub clients : ClientsGoOn remaining written calls log agent around now answered fed new.control
   pub desk : HearsWant agent (shown.is_enough && answered.is_enough) (record old.desk { room = rooms }) new.desk

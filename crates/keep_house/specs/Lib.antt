@@ -1,5 +1,6 @@
 pub mod Nexts
 pub mod Ends
+pub mod Behind
 pub mod Houses
 pub mod Admitting
 pub mod Awaiting

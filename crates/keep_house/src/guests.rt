@@ -65,13 +65,14 @@ impl<S, T: Talk, D: Door<T>, K, E> House<S, T, D, K, E> {
 impl<S, T, D, K, E> House<S, T, D, K, E> {
     /// What is around the agent at a moment.
     fn around(&self, now: Reading) -> Surroundings
-        ensures { result ≡ around_of self.now.next self.now.file (is_some self.now.state) self.now.desk.room.log.dropped now.wall }
+        ensures { result ≡ around_of self.now.next self.now.file (is_some self.now.state) self.now.standby self.now.desk.room.log.dropped now.wall }
     {
         Surroundings {
             wall: now.wall / 1000,
             next_wake: next_wake_of(self.next),
             file: self.file,
             keeps_changes: self.state.is_some(),
+            standby: self.standby,
             dropped_lines: self.desk.room().dropped(),
             dropped_alerts: 0,
         }

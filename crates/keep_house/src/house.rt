@@ -12,7 +12,7 @@ use keep_clock::Reading;
 use keep_disk::Disk;
 use keep_ends::EndsFile;
 use keep_log::LogSink;
-use keep_onlook::FileReading;
+use keep_onlook::{FileReading, Standby};
 use keep_serving::{Change, Happened, Neighbours};
 use std::alloc::Global;
 use watch_machine::Next;
@@ -31,6 +31,8 @@ pub struct House<S, T, D, K, E> {
     pub onlookers: Option<Onlookers<T, D>>,
     /// How the inventory's file was last read.
     pub file: FileReading,
+    /// How the agent stands to others that serve the same inventory.
+    pub standby: Standby,
     /// What keeps changes over a restart, where something does.
     pub state: Option<K>,
     /// The entries that the file named at the start, where nothing keeps changes and some of them are not served.
@@ -47,8 +49,8 @@ pub struct House<S, T, D, K, E> {
 
 impl<S, T, D, K, E> House<S, T, D, K, E> {
     /// The log alone: with no control socket, none for onlookers, and nothing that is kept.
-    pub fn new(desk: Desk, sink: S, file: FileReading) -> House<S, T, D, K, E>
-        ensures { result ≡ record { desk = desk; sink = sink; control = None; onlookers = None; file = file; state = None; read = None; given = None; awaited = None; next = None; ends = None } }
+    pub fn new(desk: Desk, sink: S, file: FileReading, standby: Standby) -> House<S, T, D, K, E>
+        ensures { result ≡ record { desk = desk; sink = sink; control = None; onlookers = None; file = file; standby = standby; state = None; read = None; given = None; awaited = None; next = None; ends = None } }
     {
         House {
             desk,
@@ -56,6 +58,7 @@ impl<S, T, D, K, E> House<S, T, D, K, E> {
             control: None,
             onlookers: None,
             file,
+            standby,
             state: None,
             read: None,
             given: None,
@@ -96,8 +99,8 @@ impl<S: LogSink, T: Talk, D: Door<T>, K: Keeping, E: Disk> Neighbours for House<
                 self.desk
                     .hear_answer(alloc, agent, *entry, *operation, *said, notes);
             }
-            Happened::Ahead { entry, end } => self.desk.hear_ahead(alloc, agent, *entry, *end),
-            Happened::StepsIn(requests) => self.desk.hear_steps(alloc, agent, requests),
+            Happened::Ahead { entry, end } => self.hear_ahead(alloc, agent, *entry, *end),
+            Happened::StepsIn(requests) => self.hear_steps(alloc, agent, requests),
             Happened::Refused | Happened::Wanting => self.desk.hear_wanting(alloc, agent),
         }
     }

@@ -1,4 +1,5 @@
 pub mod States
+pub mod Standby
 pub mod Naming
 pub mod Waiting
 pub mod Board

@@ -18,7 +18,7 @@ abbrev pub AreEntryLines : Lines → List Row → List ℕ → Type 0
 AreEntryLines lines [] text = text ≡ []
 AreEntryLines lines (row ∷ rows) text = (line rest : List ℕ) × IsEntryLine lines row line × AreEntryLines lines rows rest × (text ≡ line ++ rest)
 
--- the next wake-up, how often everything was looked up, and the margin; then a line for each entry
+-- how the agent stands to others, the next wake-up, how often everything was looked up, and the margin; then a line for each entry
 unfoldable pub IsStandingText : Board → List ℕ → Type 0
 IsStandingText b text =
     (next rows : List ℕ) × SaysPoint (point_of b.surroundings.next_wake) next × AreEntryLines Standing b.rows rows × (text ≡ first_line b next ++ rows)

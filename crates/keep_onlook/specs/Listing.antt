@@ -1,6 +1,6 @@
 -- Listing: how the agent and each entry stand, as one text of JSON.
 -- Source: RFC 8259; the members are this project's own. Moments are seconds since 1970-01-01T00:00:00Z.
-use Rattle.std.specs.Prelude.{ℕ, List, [], ◌∷◌, ◌++◌, Option, Some, None, codes, decimal}
+use Rattle.std.specs.Prelude.{ℕ, Bool, true, false, List, [], ◌∷◌, ◌++◌, Option, Some, None, codes, decimal}
 use Rattle.keep_agent.specs.declared.standing.Trouble.{Trouble}
 use Rattle.keep_agent.specs.declared.standing.Trouble.TheVariants as troubles
 use Rattle.keep_inventory.specs.Kinds.{kind_word}
@@ -30,7 +30,7 @@ words_text row =
 
 -- a member with a number, its name first
 unfoldable pub member_name : Member → List ℕ
-member_name members.Now = codes "{\"now\":"
+member_name members.Now = codes ",\"now\":"
 member_name members.NextWake = codes ",\"next_wake\":"
 member_name members.Beginnings = codes ",\"beginnings\":"
 member_name members.Margin = codes ",\"margin\":"
@@ -69,10 +69,15 @@ rows_text (row ∷ rows) = board_row_text row ++ more_rows rows
 unfoldable pub entries_name : List ℕ
 entries_name = codes ",\"entries\":["
 
+-- whether the agent is the first, or stands behind another: the first member
+abbrev pub standby_member : Bool → List ℕ
+standby_member true = codes "{\"standby\":\"behind\""
+standby_member false = codes "{\"standby\":\"first\""
+
 unfoldable pub front_text : Board → List ℕ
 front_text b =
-    member_text members.Now (Some b.broker_now) ++ member_text members.NextWake b.surroundings.next_wake ++ member_text members.Beginnings (Some b.beginnings)
-    ++ member_text members.Margin (Some b.margin) ++ entries_name
+    standby_member b.surroundings.standby.is_behind ++ member_text members.Now (Some b.broker_now) ++ member_text members.NextWake b.surroundings.next_wake
+    ++ member_text members.Beginnings (Some b.beginnings) ++ member_text members.Margin (Some b.margin) ++ entries_name
 
 unfoldable pub listing_text : Board → List ℕ
 listing_text b = front_text b ++ rows_text b.rows ++ codes "]}\n"

@@ -16,6 +16,7 @@ use Rattle.keep_onlook.specs.declared.family.Format.{Format}
 use Rattle.keep_onlook.specs.declared.family.Format.TheVariants.{Prometheus, OpenMetrics}
 use Rattle.keep_onlook.specs.declared.figure.Figure.{Figure}
 use Rattle.keep_onlook.specs.declared.figure.Figure.TheVariants as figures
+use Rattle.keep_onlook.specs.declared.standby.Standby.{Standby}
 use Rattle.keep_onlook.specs.declared.state.State.{State}
 use Rattle.keep_onlook.specs.declared.state.State.TheVariants.{Gone, Ended, Waiting, Short, Unknown, Trying, Kept}
 use Rattle.keep_onlook.specs.Escapes.{label_value}
@@ -36,6 +37,9 @@ figure_kind figures.ChangesAreKept = Gauge
 figure_kind figures.Beginnings = Counter
 figure_kind figures.DroppedLines = Counter
 figure_kind figures.DroppedAlerts = Counter
+figure_kind figures.Behind = Gauge
+figure_kind figures.LookedAhead = Counter
+figure_kind figures.SteppedIn = Counter
 
 unfoldable pub figure_name : Figure → List ℕ
 figure_name figures.Written = codes "metrics_written_timestamp_seconds"
@@ -49,6 +53,9 @@ figure_name figures.ChangesAreKept = codes "changes_kept"
 figure_name figures.Beginnings = codes "beginnings"
 figure_name figures.DroppedLines = codes "log_dropped_lines"
 figure_name figures.DroppedAlerts = codes "alerts_dropped"
+figure_name figures.Behind = codes "behind"
+figure_name figures.LookedAhead = codes "looked_ahead"
+figure_name figures.SteppedIn = codes "stepped_in"
 
 unfoldable pub figure_help : Figure → List ℕ
 figure_help figures.Written = codes "When these figures were written."
@@ -62,6 +69,9 @@ figure_help figures.ChangesAreKept = codes "Whether changes are kept over a rest
 figure_help figures.Beginnings = codes "Beginnings: everything is looked up."
 figure_help figures.DroppedLines = codes "Log lines that nobody took."
 figure_help figures.DroppedAlerts = codes "Warnings and alerts that no program was run with."
+figure_help figures.Behind = codes "Whether this agent stands behind another."
+figure_help figures.LookedAhead = codes "Later ends that were found by looking ahead."
+figure_help figures.SteppedIn = codes "Times that this agent stepped in for the one in front."
 
 -- and those of each entry
 abbrev pub column_kind : Column → FamilyKind
@@ -177,10 +187,15 @@ counts_text format b =
     figure_text format figures.Beginnings (Some b.beginnings) ++ figure_text format figures.DroppedLines (Some b.surroundings.dropped_lines)
     ++ figure_text format figures.DroppedAlerts (Some b.surroundings.dropped_alerts)
 
+unfoldable pub standby_text : Format → Standby → List ℕ
+standby_text format s =
+    figure_text format figures.Behind (Some (one_if s.is_behind)) ++ figure_text format figures.LookedAhead (Some s.looked_ahead)
+    ++ figure_text format figures.SteppedIn (Some s.stepped_in)
+
 unfoldable pub agent_text : Format → Board → List ℕ
 agent_text format b =
     clocks_text format b ++ file_text format b.surroundings.file ++ figure_text format figures.ChangesAreKept (Some (one_if b.surroundings.keeps_changes))
-    ++ counts_text format b
+    ++ counts_text format b ++ standby_text format b.surroundings.standby
 
 -- ---- the entries
 

@@ -4,9 +4,11 @@ use Rattle.std.specs.Prelude.{◌≡◌, ℕ, List, ◌++◌, Option, Some, None
 use Rattle.keep_agent.specs.declared.standing.Trouble.{Trouble}
 use Rattle.keep_agent.specs.declared.standing.Trouble.TheVariants.{Lost, Refused, Gone}
 use Rattle.keep_onlook.specs.Points.{SaysPoint, point_at, point_of}
+use Rattle.keep_onlook.specs.Standby.{standby_word}
 use Rattle.keep_onlook.specs.States.{state_word}
 use Rattle.keep_onlook.specs.declared.board.Board.{Board}
 use Rattle.keep_onlook.specs.declared.board.Row.{Row}
+use Rattle.keep_onlook.specs.declared.standby.Standby.{Standby}
 
 abbrev pub wrong_word : Option Trouble → List ℕ
 wrong_word None = codes "-"
@@ -37,10 +39,14 @@ IsStandingLine row line =
     × SaysPoint (point_at row.in_force) reached × SaysPoint (point_of row.last_success) renewed
     × (line ≡ standing_line row until needed reached renewed)
 
+-- whether the agent is the first, or stands behind another
+unfoldable pub standby_text : Standby → List ℕ
+standby_text s = codes "standby " ++ standby_word s.is_behind
+
 -- how often everything was looked up, and the margin
 unfoldable pub beginnings_and_margin_text : ℕ → ℕ → List ℕ
 beginnings_and_margin_text beginnings margin = (codes " beginnings " ++ decimal beginnings) ++ (codes " margin " ++ decimal margin) ++ codes "\n"
 
 -- the first line, where this is the text of the next wake-up
 unfoldable pub first_line : Board → List ℕ → List ℕ
-first_line b next = codes "next-wake " ++ next ++ beginnings_and_margin_text b.beginnings b.margin
+first_line b next = standby_text b.surroundings.standby ++ codes " next-wake " ++ next ++ beginnings_and_margin_text b.beginnings b.margin

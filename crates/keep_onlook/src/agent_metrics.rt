@@ -1,10 +1,11 @@
 //! The figures of the agent as a whole.
 ghost use Rattle.std.specs.Prelude.{◌≡◌, ◌++◌, OnOk};
-ghost use Rattle.keep_onlook.specs.Metrics.{agent_text, clocks_text, counts_text, figure_text, file_text, offset_number, offset_text, one_if};
+ghost use Rattle.keep_onlook.specs.Metrics.{agent_text, clocks_text, counts_text, figure_text, file_text, offset_number, offset_text, one_if, standby_text};
 
 use crate::board::{Board, FileReading};
 use crate::family::{Family, Format, push_head, push_sample_name, push_sample_of};
 use crate::figure::Figure;
+use crate::standby::Standby;
 use keep_words::push_number;
 use std::alloc::{AllocError, Global};
 
@@ -23,7 +24,8 @@ pub(crate) fn push_agent(
     push_clocks(alloc, format, board, text)?;
     push_file(alloc, format, around.file, text)?;
     push_figure(alloc, format, Figure::ChangesAreKept, keeps_changes, text)?;
-    push_counts(alloc, format, board, text)
+    push_counts(alloc, format, board, text)?;
+    push_standby(alloc, format, around.standby, text)
 }
 
 #[tactic(auto, unfolding(crate::specs::Metrics::clocks_text))]
@@ -94,6 +96,23 @@ fn push_counts(
         Some(around.dropped_alerts),
         text,
     )
+}
+
+#[tactic(auto, unfolding(crate::specs::Metrics::standby_text))]
+fn push_standby(
+    alloc: Global,
+    format: Format,
+    standby: Standby,
+    text: &mut Vec<u8>,
+) -> Result<(), AllocError>
+    ensures { OnOk result (text.new.items ≡ text.old.items ++ standby_text format standby) }
+{
+    let is_behind = Some(one_if(standby.is_behind));
+    let looked_ahead = Some(standby.looked_ahead);
+    let stepped_in = Some(standby.stepped_in);
+    push_figure(alloc, format, Figure::Behind, is_behind, text)?;
+    push_figure(alloc, format, Figure::LookedAhead, looked_ahead, text)?;
+    push_figure(alloc, format, Figure::SteppedIn, stepped_in, text)
 }
 
 /// Appends one figure.

@@ -1,4 +1,5 @@
 //! What onlookers are shown. There is no credential in it.
+use crate::standby::Standby;
 use crate::state::State;
 use keep_agent::Trouble;
 use keep_moment::Name;
@@ -26,6 +27,8 @@ pub struct Surroundings {
     pub file: FileReading,
     /// Whether changes are kept over a restart.
     pub keeps_changes: bool,
+    /// How it stands to others that serve the same inventory.
+    pub standby: Standby,
     /// How many lines of the log were dropped.
     pub dropped_lines: u64,
     /// How many warnings and alerts were dropped before whoever follows them took them.

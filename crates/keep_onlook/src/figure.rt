@@ -27,6 +27,9 @@ pub(crate) enum Figure {
     Beginnings,
     DroppedLines,
     DroppedAlerts,
+    Behind,
+    LookedAhead,
+    SteppedIn,
 }
 
 impl Figure {
@@ -42,9 +45,13 @@ impl Figure {
             | Figure::FileIsGood
             | Figure::FileRead
             | Figure::FileReadGood
-            | Figure::ChangesAreKept => FamilyKind::Gauge,
-            Figure::Beginnings | Figure::DroppedLines | Figure::DroppedAlerts =>
-                FamilyKind::Counter,
+            | Figure::ChangesAreKept
+            | Figure::Behind => FamilyKind::Gauge,
+            Figure::Beginnings
+            | Figure::DroppedLines
+            | Figure::DroppedAlerts
+            | Figure::LookedAhead
+            | Figure::SteppedIn => FamilyKind::Counter,
         }
     }
 
@@ -65,6 +72,9 @@ impl Figure {
             Figure::Beginnings => "beginnings",
             Figure::DroppedLines => "log_dropped_lines",
             Figure::DroppedAlerts => "alerts_dropped",
+            Figure::Behind => "behind",
+            Figure::LookedAhead => "looked_ahead",
+            Figure::SteppedIn => "stepped_in",
         }
     }
 
@@ -86,6 +96,9 @@ impl Figure {
             Figure::Beginnings => "Beginnings: everything is looked up.",
             Figure::DroppedLines => "Log lines that nobody took.",
             Figure::DroppedAlerts => "Warnings and alerts that no program was run with.",
+            Figure::Behind => "Whether this agent stands behind another.",
+            Figure::LookedAhead => "Later ends that were found by looking ahead.",
+            Figure::SteppedIn => "Times that this agent stepped in for the one in front.",
         }
     }
 }

@@ -1,10 +1,11 @@
 //! The status as JSON.
 ghost use Rattle.std.specs.Prelude.{◌≡◌, ◌++◌, IfOk, OnOk};
 ghost use Rattle.keep_inventory.specs.Kinds.{kind_word};
-ghost use Rattle.keep_onlook.specs.Listing.{board_row_text, entries_name, front_text, listing_text, member_name, member_text, moments_text, more_rows, number_or_null, renewals_text, rows_text, trouble_word, words_text};
+ghost use Rattle.keep_onlook.specs.Listing.{board_row_text, entries_name, front_text, listing_text, member_name, member_text, moments_text, more_rows, number_or_null, renewals_text, rows_text, standby_member, trouble_word, words_text};
 
 use crate::board::{Board, Row};
 use crate::escapes::push_json_value;
+use crate::standby::Standby;
 use keep_agent::Trouble;
 use keep_tree::Kind;
 use keep_words::push_number;
@@ -34,7 +35,7 @@ impl Member {
         ensures { result.now ≡ member_name self }
     {
         match self {
-            Member::Now => "{\"now\":",
+            Member::Now => ",\"now\":",
             Member::NextWake => ",\"next_wake\":",
             Member::Beginnings => ",\"beginnings\":",
             Member::Margin => ",\"margin\":",
@@ -67,11 +68,23 @@ pub(crate) fn listing_text(alloc: Global, board: &Board) -> Result<Vec<u8>, Allo
 fn push_front(alloc: Global, board: &Board, text: &mut Vec<u8>) -> Result<(), AllocError>
     ensures { OnOk result (text.new.items ≡ text.old.items ++ front_text board.now) }
 {
+    text.extend_from_slice(standby_member(board.surroundings.standby).as_bytes())?;
     push_member(alloc, Member::Now, Some(board.broker_now), text)?;
     push_member(alloc, Member::NextWake, board.surroundings.next_wake, text)?;
     push_member(alloc, Member::Beginnings, Some(board.beginnings), text)?;
     push_member(alloc, Member::Margin, Some(u64::from(board.margin)), text)?;
     text.extend_from_slice(entries_name().as_bytes())
+}
+
+/// How the agent stands to others, with the brace before the first member.
+fn standby_member(standby: Standby) -> &'static str
+    ensures { result.now ≡ standby_member standby.is_behind }
+{
+    if standby.is_behind {
+        "{\"standby\":\"behind\""
+    } else {
+        "{\"standby\":\"first\""
+    }
 }
 
 #[tactic(auto, unfolding(crate::specs::Listing::entries_name))]

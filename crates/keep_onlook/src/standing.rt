@@ -1,9 +1,10 @@
 //! How the agent and each of its entries stand, as lines for people.
 ghost use Rattle.std.specs.Prelude.{◌≡◌, ◌++◌, List, ℕ, IfOk, OnOk, decimal};
-ghost use Rattle.keep_onlook.specs.Standing.{IsStandingLine, beginnings_and_margin_text, first_line, labelled_moments_text, name_and_state_text, standing_line, wrong_text, wrong_word};
+ghost use Rattle.keep_onlook.specs.Standing.{IsStandingLine, beginnings_and_margin_text, first_line, labelled_moments_text, name_and_state_text, standby_text, standing_line, wrong_text, wrong_word};
 
 use crate::board::{Board, Row};
 use crate::point::{point_at, point_of, point_text};
+use crate::standby::Standby;
 use keep_agent::Trouble;
 use keep_words::push_number;
 use std::alloc::{AllocError, Global};
@@ -14,11 +15,21 @@ pub(crate) fn first_line(alloc: Global, board: &Board, next: &[u8]) -> Result<Ve
     ensures { IfOk result (λ line. line.items ≡ first_line board.now next.now) }
 {
     let mut line = Vec::new(alloc);
-    line.extend_from_slice(b"next-wake ")?;
+    push_standby(board.surroundings.standby, &mut line)?;
+    line.extend_from_slice(b" next-wake ")?;
     line.extend_from_slice(next)?;
     let margin = u64::from(board.margin);
     push_counts(alloc, board.beginnings, margin, &mut line)?;
     Ok(line)
+}
+
+/// Appends how the agent stands to others.
+#[tactic(auto, unfolding(crate::specs::Standing::standby_text))]
+fn push_standby(standby: Standby, line: &mut Vec<u8>) -> Result<(), AllocError>
+    ensures { OnOk result (line.new.items ≡ line.old.items ++ standby_text standby) }
+{
+    line.extend_from_slice(b"standby ")?;
+    line.extend_from_slice(standby.word().as_bytes())
 }
 
 /// Appends how often everything was looked up, and the margin.

@@ -1,9 +1,9 @@
 -- A file that a call on another one leaves alone, and what a crash leaves at the end of a run.
-use Rattle.std.proofs.Common.{◌≡◌, ⊎_elim, ℕ, ◌≤◌, List, Bool, true, false, sym, ◌∙◌}
+use Rattle.std.proofs.Common.{◌≡◌, ⊎_elim, ℕ, ◌≤◌, List, true, false, sym, ◌∙◌}
 use Rattle.std.proofs.lemmas.Bool.{true≢false, cases_Bool}
 use Rattle.std.proofs.lemmas.Slice.Eq.{bytes_eq-Decides}
 use Rattle.std.specs.Str.{bytes_eq}
-use Rattle.keep_disk.specs.Image.{File, Image, SameElsewhere}
+use Rattle.keep_disk.specs.Image.{File, Image}
 use Rattle.keep_disk.specs.State.{DiskState, OutcomesFollow, DiskKeeps, LeavesOnly}
 use Rattle.keep_disk.specs.Torn.{MovesFile}
 use Rattle.keep_journal.specs.Journals.{FileIsThere, JournalIsAtRest, KeepsOthers}

@@ -1,7 +1,6 @@
 -- Two names in one folder are two paths.
-use Rattle.std.proofs.Common.{◌≡◌, ⊎_elim, ℕ, Bool, List, ap, ◌∙◌}
+use Rattle.std.proofs.Common.{◌≡◌, ℕ, List, ap, ◌∙◌}
 use Rattle.std.specs.Prelude.{codes}
-use Rattle.std.proofs.lemmas.Bool.{true≢false}
 use Rattle.keep_state.specs.Places.{Places, in_folder, places_of}
 
 abbrev made : List ℕ → List ℕ → List ℕ → List ℕ → List ℕ → Places

@@ -1,5 +1,5 @@
 -- FILE becomes what is kept, and then the copy is FILE and the journal empty: what a crash leaves meanwhile, and what is there then.
-use Rattle.std.proofs.Common.{◌≡◌, ◌⊎◌, inl, inr, ⊎_elim, ℕ, ◌≤◌, Bool, true, false, ◌||◌, IsTrue, List, [], ◌∷◌, ◌++◌, Option, Some, None, Result, Ok, Err, OnOk, OnErr, refl, sym, ap, subst, ◌∙◌}
+use Rattle.std.proofs.Common.{◌≡◌, ◌⊎◌, inl, inr, ⊎_elim, ℕ, ◌≤◌, Bool, false, ◌||◌, IsTrue, List, [], ◌∷◌, ◌++◌, Option, Some, Result, Ok, Err, OnOk, OnErr, refl, sym, ap, subst, ◌∙◌}
 use Rattle.std.specs.Str.{bytes_eq}
 use Rattle.std.proofs.lemmas.Bool.{or_parts}
 use Rattle.std.specs.Result.{result_err}
@@ -13,9 +13,9 @@ use Rattle.keep_journal.proofs.Runs.{rest_has}
 use Rattle.keep_state.proofs.Others.{apart_back, at_end}
 use Rattle.keep_inventory.specs.Served.{Served}
 use Rattle.keep_store.specs.declared.store.Store.{Store}
-use Rattle.keep_store.specs.Moved.{LeftByMove, Marking, SaysAllKept, mark_line}
+use Rattle.keep_store.specs.Moved.{LeftByMove, SaysAllKept, mark_line}
 use Rattle.keep_store.specs.Stores.{book_of, journal_of, lines_in, path_of_store}
-use Rattle.keep_state.specs.Places.{Places, PlacesAreApart, is_inside}
+use Rattle.keep_state.specs.Places.{Places, PlacesAreApart}
 use Rattle.keep_state.specs.Settles.{HandingOver, IsHandedOver, LeftBySettling, copy_with, mode_of}
 
 -- FILE is none of the folder's files

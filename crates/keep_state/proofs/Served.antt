@@ -12,8 +12,7 @@ use Rattle.keep_journal.specs.Journals.{FileIsThere, KeepsOthers}
 use Rattle.keep_store.specs.Records.{records_in}
 use Rattle.keep_store.proofs.Copied.{moves_elsewhere}
 use Rattle.keep_store.proofs.Undamaged.{same_records}
-use Rattle.keep_state.specs.declared.fault.OpenFault.{OpenFault}
-use Rattle.keep_state.specs.declared.fault.OpenFault.TheVariants.{Held, Disk, OutOfMemory}
+use Rattle.keep_state.specs.declared.fault.OpenFault.TheVariants.{OutOfMemory}
 use Rattle.keep_state.specs.Opens.{IsOfFolder, unheld}
 use Rattle.keep_state.specs.Places.{Places}
 use Rattle.keep_state.specs.Recovers.{IsAside}

@@ -18,7 +18,7 @@ use Rattle.keep_state.specs.declared.opening.Opened.{Opened}
 use Rattle.keep_state.specs.Places.{Places}
 use Rattle.keep_state.specs.Recovers.{IsAside, IsPutAside, LeftByStart, damage_of}
 use Rattle.keep_state.specs.Settles.{IsCopiedTo}
-use Rattle.keep_state.specs.States.{Kept, book_in, store_in}
+use Rattle.keep_state.specs.States.{book_in, store_in}
 
 -- lack of memory is told as such
 abbrev pub unheld : DiskFault → OpenFault

@@ -1,6 +1,6 @@
 -- States: a keeper beside its disk and its paths.
 -- Source: this project's own.
-use Rattle.std.specs.Prelude.{◌≡◌, Bool, false, List}
+use Rattle.std.specs.Prelude.{◌≡◌, Bool, false}
 use Rattle.std.specs.Str.{bytes_eq}
 use Rattle.keep_disk.specs.State.{DiskState}
 use Rattle.keep_journal.specs.Journals.{JournalHolds}

@@ -1,6 +1,6 @@
 -- Tables: the entry of one table `[[token]]` or `[[lease]]` that stands alone, as an inventory would read it.
 -- Source: this project's own.
-use Rattle.std.specs.Prelude.{◌≡◌, ℕ, Bool, List, [], ◌∷◌, ◌++◌, Option, Some, None, Result, Ok, Err, codes, if◌then◌else◌, is_some, slice_get, decimal}
+use Rattle.std.specs.Prelude.{◌≡◌, ℕ, List, [], ◌∷◌, ◌++◌, Option, Some, None, Result, Ok, Err, codes, if◌then◌else◌, slice_get, decimal}
 use Rattle.toml.specs.Data.{Data, string, table, array, item, no_items, Items, Members, get_member}
 use Rattle.keep_tree.specs.Push.{is_name}
 use Rattle.keep_inventory.specs.declared.fault.InvFault.{InvFault}

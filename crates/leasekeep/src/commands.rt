@@ -3,7 +3,6 @@ use crate::calling::call;
 use crate::linting::lint;
 use crate::live::keep;
 use crate::serve::serve;
-use crate::watch::watch;
 use keep_command::{SystemFiles, words};
 use keep_device::{Counted, Sink, Streams};
 use keep_engine::{Command, Exit, PROGRAM, obey};
@@ -42,7 +41,6 @@ where
     match job {
         Job::Call(called) => call(rt, called, input, &mut errors).code(),
         Job::Live(live) => keep(rt, live, &mut streams_of(rt, input, errors)).code(),
-        Job::Watch(watched) => watch(rt, watched, &mut streams_of(rt, input, errors)).code(),
         Job::Serve(served) => serve(rt, served, output, &mut errors).code(),
         Job::Lint(linted) => lint(rt, linted, &mut errors).code(),
         Job::Offline(command) => do_offline(rt, command, &mut errors).code(),

@@ -1,6 +1,6 @@
-//! `leasekeep`: keeps Vault tokens and leases alive with the fewest wake-ups. The program over `keep_engine` and
-//! `watch_lines`, of the agent over `keep_house`, and of its commands over `keep_calling`: files, standard streams and the exit status.
-//! What its words ask is read in `leasekeep_commands`.
+//! `leasekeep`: keeps Vault tokens and leases alive with the fewest wake-ups. The program over `keep_engine`, of the agent over
+//! `keep_house`, and of its commands over `keep_calling`: files, standard streams and the exit status. What its words ask is read in
+//! `leasekeep_commands`.
 #![tactic(auto)]
 
 use std::process::ExitCode;
@@ -12,7 +12,6 @@ mod live;
 mod running;
 mod serve;
 mod system_doors;
-mod watch;
 
 fn main(rt: HostRuntime) -> ExitCode {
     ExitCode::from(commands::run(&rt, rt.stdin(), rt.stdout(), rt.stderr()))

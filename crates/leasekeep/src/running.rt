@@ -11,13 +11,14 @@ use keep_clock::SystemClock;
 use keep_device::{Sink, Watched};
 use keep_disk::{Disk, SystemDisk};
 use keep_engine::{Exit, PROGRAM, Stop};
+use keep_files::Inputs;
 use keep_house::{Demands, House};
 use keep_lanes::{Lanes, LanesOver, SocketLanes};
 use keep_log::StandardOutput;
 use keep_secrets::SecretFiles;
 use keep_serving::{EarlyDay, Neighbours};
 use leasekeep_commands::{Room, Served};
-use serve_run::{Parts, askers_by, most_out, run_over};
+use serve_run::{Doors, Parts, askers_by, most_out, run_over};
 use serve_start::{Folder, SystemLedger, folder_of, make_start};
 use std::alloc::{AllocError, Global};
 use std::fs::File;
@@ -28,13 +29,16 @@ use std::rt::{Clock, Files};
 type SystemParts<'a, R> = Parts<StandardOutput, SystemDisk<'a, R>, SocketLanes<'a, R>>;
 
 /// Its neighbours.
-pub(crate) type SystemDay<'a, R> = EarlyDay<Behind<SystemHouse<'a, R>, SocketLanes<'a, R>>>;
+pub(crate) type SystemDay<'a, R> = DayOver<'a, R, SocketLanes<'a, R>>;
 
-type SystemHouse<'a, R> = House<
+/// Those of an agent over lanes of any kind.
+type DayOver<'a, R, L> = EarlyDay<Behind<HouseOver<'a, R, L>, L>>;
+
+type HouseOver<'a, R, L> = House<
     StandardOutput,
     SocketTalk,
     SocketDoor,
-    SystemLedger<'a, R, SocketLanes<'a, R>>,
+    SystemLedger<'a, R, L>,
     SystemDisk<'a, R>,
 >;
 
@@ -63,40 +67,47 @@ where
     let Ok(parts) = parts_of(rt, served, log, &clock) else {
         return Stop::Memory.report(PROGRAM, errors);
     };
-    run_among(rt, served, demands, parts, &mut clock, &mut lanes, errors)
+    let doors = SystemDoors::by(rt, &clock);
+    run_among(
+        rt, served, demands, parts, doors, &mut clock, &mut lanes, errors,
+    )
 }
 
-/// The same by this clock, over these lanes, and with these parts.
+/// The same by any clock, over any lanes and through any doors. (If all types of the system came together in this one function, its proof
+/// would be past the prover's limit of steps.)
 #[tactic(auto, using(serve_run::proofs::Having::has_run))]
-fn run_among<'a, R, E>(
+fn run_among<'a, R, L, P, C, E>(
     rt: &'a R,
     served: &Served<'a>,
     demands: Demands,
-    parts: SystemParts<'a, R>,
-    clock: &mut SystemClock<'a, R>,
-    lanes: &mut SocketLanes<'a, R>,
+    parts: Parts<StandardOutput, SystemDisk<'a, R>, L>,
+    doors: P,
+    clock: &mut C,
+    lanes: &mut L,
     errors: &mut E,
 ) -> Exit
 where
     R: Files<File = File> + AllocGlobal + Net + Clock,
+    L: Lanes + Drop,
+    P: Doors<SocketTalk, SocketDoor> + Inputs + SecretFiles + Drop,
+    C: keep_clock::Clock,
     E: Sink,
     requires demanded { IsDemanded served.now demands }
-    requires free { ⟦<SocketLanes<'a, R> as Lanes>⟧.out lanes.old ≡ [] }
-    requires seconds { ⟦<SocketLanes<'a, R> as Lanes>⟧.seconds lanes.old ≡ timeout_of served.now.patience }
-    requires width { ⟦<SocketLanes<'a, R> as Lanes>⟧.width lanes.old ≡ width_of served.now.width }
-    requires lane_free { ⟦<SocketLanes<'a, R> as Lanes>⟧.out parts.lane ≡ [] }
-    requires lane_seconds { ⟦<SocketLanes<'a, R> as Lanes>⟧.seconds parts.lane ≡ timeout_of served.now.patience }
-    requires lane_width { ⟦<SocketLanes<'a, R> as Lanes>⟧.width parts.lane ≡ 1 }
-    requires askers { AreAskersFor (⟦<SocketLanes<'a, R> as Lanes>⟧.out) (⟦<SocketLanes<'a, R> as Lanes>⟧.seconds) (⟦<SocketLanes<'a, R> as Lanes>⟧.width) served.now parts.askers.items }
-    requires ahead { AreOwnLanes (⟦<SocketLanes<'a, R> as Lanes>⟧.out) (⟦<SocketLanes<'a, R> as Lanes>⟧.seconds) (⟦<SocketLanes<'a, R> as Lanes>⟧.width) served.now parts.ahead }
+    requires free { L.out lanes.old ≡ [] }
+    requires seconds { L.seconds lanes.old ≡ timeout_of served.now.patience }
+    requires width { L.width lanes.old ≡ width_of served.now.width }
+    requires lane_free { L.out parts.lane ≡ [] }
+    requires lane_seconds { L.seconds parts.lane ≡ timeout_of served.now.patience }
+    requires lane_width { L.width parts.lane ≡ 1 }
+    requires askers { AreAskersFor (L.out) (L.seconds) (L.width) served.now parts.askers.items }
+    requires ahead { AreOwnLanes (L.out) (L.seconds) (L.width) served.now parts.ahead }
     ensures told { EndsServe result (⟦<E as Watched>⟧.change errors.old errors.new) }
-    ensures runs { result ≡ Exit.Done → HasRun (⟦<SystemDay<'a, R> as Neighbours>⟧.does) (⟦<SystemDay<'a, R> as Neighbours>⟧.given) ⟦<SystemDoors<'a, R> as SecretFiles>⟧.calls ⟦<SystemDisk<'a, R> as Disk>⟧.is_known ⟦<SystemDisk<'a, R> as Disk>⟧.state ⟦<SystemClock<'a, R> as keep_clock::Clock>⟧.seen ⟦<SocketLanes<'a, R> as SeenLanes>⟧.seen ⟦<SocketLanes<'a, R> as Lanes>⟧.host_port ⟦<SocketLanes<'a, R> as Lanes>⟧.width served.now parts.entry.log }
-    ensures sent { result ≢ Exit.Done → ⟦<SocketLanes<'a, R> as SeenLanes>⟧.seen lanes.new ≡ ⟦<SocketLanes<'a, R> as SeenLanes>⟧.seen lanes.old }
+    ensures runs { result ≡ Exit.Done → HasRun (⟦<DayOver<'a, R, L> as Neighbours>⟧.does) (⟦<DayOver<'a, R, L> as Neighbours>⟧.given) P.calls ⟦<SystemDisk<'a, R> as Disk>⟧.is_known ⟦<SystemDisk<'a, R> as Disk>⟧.state C.seen ⟦<L as SeenLanes>⟧.seen L.host_port L.width served.now parts.entry.log }
+    ensures sent { result ≢ Exit.Done → ⟦<L as SeenLanes>⟧.seen lanes.new ≡ ⟦<L as SeenLanes>⟧.seen lanes.old }
 {
     let folder = state_folder(rt.alloc(), served);
     match make_start(rt, served.file, folder.as_ref(), demands, errors) {
         Ok(start) => {
-            let doors = SystemDoors::by(rt, clock);
             let ran = run_over(rt.alloc(), served, start, parts, doors, clock, lanes);
             ended(ran, errors)
         }

@@ -15,8 +15,6 @@ pub enum Job<'a> {
     Call(Called<'a>),
     /// `run`, the agent.
     Live(Live<'a>),
-    /// `watch`, the agent in real time.
-    Watch(Watched<'a>),
     /// `serve`, the agent that runs by itself.
     Serve(Served<'a>),
     /// `lint`, which shows what is wrong with an inventory.
@@ -42,19 +40,6 @@ pub struct Live<'a> {
     pub start: Moment,
     /// How long one connect, read or write may take, in seconds.
     pub patience: u64,
-}
-
-/// What the words of `watch` ask.
-#[derive(Debug, Drop)]
-pub struct Watched<'a> {
-    /// The path of the inventory.
-    pub file: &'a str,
-    /// Where the broker listens.
-    pub place: Place<'a>,
-    /// How long the connect, write and first read of a request may take, in seconds.
-    pub patience: u64,
-    /// How many requests are out at once at most.
-    pub width: u64,
 }
 
 /// What the words of `serve` ask.

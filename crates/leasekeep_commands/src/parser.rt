@@ -218,46 +218,6 @@ malformed line, 7 memory",
     ],
 };
 
-/// `watch FILE PORT|SOCKET [--timeout SECONDS] [--width K]`
-const WATCH: Described = Described {
-    name: "watch",
-    about: "Keeps the entries alive against a broker in real time: decides what to ask and when, as two clocks on standard input say",
-    after: "\
-It reads no clock: each line of standard input hands in both, or a change, and is answered before the next one is read.
-  clock WALL ELAPSED     the time, and that of a clock which never steps (CLOCK_BOOTTIME), both in milliseconds
-  need NAME T            NAME is needed until T, in seconds since 1970-01-01T00:00:00Z
-  begin                  look everything up again
-  known NAME END yes|no  before the first clock: an `end` line of an earlier watch of the same boot
-The last line of an answer is `clock`, hand in the clocks at once, or `wait ELAPSED`, hand them in when the second one shows that:
-  begin WHY              everything is looked up, because of the start, asked, jump or day
-  wake T NAME..          a round of renewals opens
-  look NAME.., renew NAME..    these requests go out, side by side
-  entry NAME END, told NAME SECONDS, refused NAME STATUS, lost NAME WHY    what came of each
-  end NAME END yes|no    the end, in milliseconds of the second clock, and whether NAME can be renewed
-  gone NAME STATUS, top NAME T, orphan NAME, never NAME, away, back    what was found out
-  short NAME T           NAME cannot be kept past T
-  next T NAME, next none    when NAME is next due
-  planned                the new need is in force
-  fault unknown-name, fault after-clock    the line was not taken
-docs/commands/watch.md says what to do about each, and has a shell script that drives it. The broker is asked over plain HTTP, at
-a port of 127.0.0.1 or at a UNIX socket, which keeps strangers out.
-
-Example (lines that begin with > are typed):
-  leasekeep watch web.toml 8200
-  > clock 1000000 1000000
-  begin start
-  look web
-  entry web 1060
-  end web 1060000 yes
-  clock
-  > clock 1000000 1000000
-  next 1059 web
-  wait 1001000
-
-Exit status: 0 the lines have ended, 1 inventory, 2 command line, 6 read, write or a malformed line, 7 memory",
-    words: &[FILE, PORT, TIMEOUT_OF_LANES, WIDTH],
-};
-
 /// `serve FILE PORT|SOCKET [--timeout SECONDS] [--width K] [--names-are-secrets] [--log text|json] [--state FOLDER]
 /// [--control SOCKET] [--listen PLACE] [--runtime FOLDER] [--spread SECONDS] [--behind] [--name NAME]`
 const SERVE: Described = Described {
@@ -444,11 +404,10 @@ pub fn parse<'a>(alloc: Global, words: &'a [String]) -> Result<ArgMatches<'a>, E
 }
 
 /// The mistake of a value of this command that the parser takes as a word. Its text has the usage of the command, which is one
-/// of those that name a place: `run`, `watch` or `serve`.
+/// of those that name a place: `run` or `serve`.
 pub fn mistake(alloc: Global, command: &str, message: &str) -> Result<Error, AllocError> {
     match command {
         "run" => mistake_of(alloc, &RUN, "leasekeep run", message),
-        "watch" => mistake_of(alloc, &WATCH, "leasekeep watch", message),
         _ => mistake_of(alloc, &SERVE, "leasekeep serve", message),
     }
 }
@@ -492,6 +451,5 @@ fn add_offline<'a>(alloc: Global, commands: &mut Vec<Command<'a>>) -> Result<(),
 /// The commands that keep entries alive.
 fn add_agents<'a>(alloc: Global, commands: &mut Vec<Command<'a>>) -> Result<(), AllocError> {
     RUN.add_to(alloc, commands)?;
-    WATCH.add_to(alloc, commands)?;
     SERVE.add_to(alloc, commands)
 }

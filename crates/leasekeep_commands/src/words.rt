@@ -1,6 +1,6 @@
 //! What the words of the command line ask.
 use crate::call_commands::called;
-use crate::job::{Called, Job, Linted, Live, Room, Served, Socket, Watched};
+use crate::job::{Called, Job, Linted, Live, Room, Served, Socket};
 use crate::parser::{BROKER, mistake, parse};
 use clap::error::ErrorKind;
 use clap::{ArgMatches, Error};
@@ -159,7 +159,6 @@ fn job_of<'a>(alloc: Global, matches: &ArgMatches<'a>) -> Result<Job<'a>, Unread
     }
     match matches.subcommand() {
         Some(("run", matches)) => live(matches),
-        Some(("watch", matches)) => watched(matches),
         Some(("serve", matches)) => served(matches),
         Some(("lint", matches)) => linted(matches),
         Some((command, matches)) => Ok(Job::Offline(command_of(alloc, command, matches)?)),
@@ -174,16 +173,6 @@ fn live<'a>(matches: &ArgMatches<'a>) -> Result<Job<'a>, Unread> {
         place: place(matches)?,
         start: start(matches)?,
         patience: number_or(matches, "timeout", PATIENCE).ok_or(Unread::Value)?,
-    }))
-}
-
-/// What `watch` asks.
-fn watched<'a>(matches: &ArgMatches<'a>) -> Result<Job<'a>, Unread> {
-    Ok(Job::Watch(Watched {
-        file: matches.get_str("FILE").ok_or(Unread::Value)?,
-        place: place(matches)?,
-        patience: number_or(matches, "timeout", PATIENCE).ok_or(Unread::Value)?,
-        width: number_or(matches, "width", WIDTH as u64).ok_or(Unread::Value)?,
     }))
 }
 

@@ -10,7 +10,7 @@ use keep_behind::Behind;
 use keep_clock::MemoryClock;
 use keep_house::{Desk, House};
 use keep_log::MemorySink;
-use keep_onlook::FileReading;
+use keep_onlook::{FileReading, Standby};
 use keep_serving::EarlyDay;
 use keep_state::Paths;
 use std::alloc::Global;
@@ -96,7 +96,7 @@ fn played_among(
     };
     let readings = mem::replace(&mut setting.readings, Vec::new(alloc));
     let clock = MemoryClock::new(alloc, readings, CLOCK_CALLS)?;
-    let lanes = lanes_of(alloc, setting, setting.width, refused)?;
+    let lanes = lanes_of(alloc, setting, &setting.broker, setting.width, refused)?;
     let desk = Desk::new(alloc, setting.form, 0)?;
     let house = house_of(alloc, setting, desk);
     let play = Play::new(alloc, paths, guests, clock, lanes, house);
@@ -106,7 +106,8 @@ fn played_among(
 /// A house in which there is the log alone.
 fn house_of<'a>(alloc: Global, setting: &mut Setting, desk: Desk) -> MemoryDay<'a> {
     let answers = mem::replace(&mut setting.answers, Vec::new(alloc));
-    let house = House::new(desk, MemorySink::new(alloc, answers), UNREAD);
+    let sink = MemorySink::new(alloc, answers);
+    let house = House::new(desk, sink, UNREAD, Standby::new(false));
     EarlyDay::new(
         Behind::new(house, None),
         u64::from(setting.part).saturating_mul(1000),

@@ -31,8 +31,13 @@ pub struct Setting {
     pub width: u32,
     /// By how many seconds a day is shorter.
     pub part: u32,
+    /// Where the agent stands behind another, the number of its name.
+    pub behind: Option<u64>,
     /// The inventory that the broker knows at first.
     pub broker: Vec<u8>,
+    /// The one that it knows to who looks ahead, and what goes wrong with one of these requests.
+    pub ahead: Vec<u8>,
+    pub ahead_fault: Option<NumberedFault>,
     /// Whether credentials are looked up before they are taken, and what goes wrong with one of these requests.
     pub looks_up: bool,
     pub lookup_fault: Option<NumberedFault>,
@@ -107,7 +112,10 @@ impl Setting {
             timeout: 5,
             width: 8,
             part: 0,
+            behind: None,
             broker: Vec::new(alloc),
+            ahead: Vec::new(alloc),
+            ahead_fault: None,
             looks_up: false,
             lookup_fault: None,
             readings: Vec::new(alloc),
@@ -132,6 +140,9 @@ impl Setting {
         if self.broker.is_empty() {
             self.broker = Vec::from_slice(self.alloc, &self.file)?;
         }
+        if self.ahead.is_empty() {
+            self.ahead = Vec::from_slice(self.alloc, &self.broker)?;
+        }
         Ok(first)
     }
 
@@ -145,6 +156,10 @@ impl Setting {
             }
             ["inventory", "later"] => self.state.hold(alloc, FILE, step)?,
             ["broker"] => self.broker = step.bytes(alloc)?,
+            ["behind", word] => {
+                self.behind = Some(number(word, step.unread())?);
+                self.ahead = step.bytes(alloc)?;
+            }
             ["state", words @ ..] => {
                 self.state.failing = Some(failing(words, step.unread())?);
             }
@@ -177,10 +192,11 @@ impl Setting {
             }
             ["lookups"] => self.looks_up = true,
             ["lookups", request, fault @ ..] => {
-                let number = number(request, unread)?;
-                let fault = lane_fault(fault, unread)?;
                 self.looks_up = true;
-                self.lookup_fault = Some(NumberedFault { number, fault });
+                self.lookup_fault = Some(numbered_fault(request, fault, unread)?);
+            }
+            ["ahead", request, fault @ ..] => {
+                self.ahead_fault = Some(numbered_fault(request, fault, unread)?);
             }
             _ => return Ok(false),
         }
@@ -218,6 +234,14 @@ impl Setting {
         self.readings = readings;
         Ok(())
     }
+}
+
+/// What goes wrong with the request of that number.
+fn numbered_fault(request: &str, fault: &[&str], unread: Fault) -> Result<NumberedFault, Fault> {
+    Ok(NumberedFault {
+        number: number(request, unread)?,
+        fault: lane_fault(fault, unread)?,
+    })
 }
 
 /// The file with the id of the boot.

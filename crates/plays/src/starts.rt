@@ -9,6 +9,7 @@ use crate::play::Play;
 use crate::running::MemoryLanes;
 use crate::settings::{BOOT, ENDS, FILE, Setting};
 use broker_table::Table;
+use house_words::wide;
 use keep_behind::Behind;
 use keep_clients::Entrance;
 use keep_clock::{Clock as _, Reading};
@@ -37,17 +38,18 @@ pub type MemoryDay<'a> = EarlyDay<Behind<MemoryHouse<'a>, MemoryLanes>>;
 /// What an agent of a play is put together from.
 pub type MemoryParts = Parts<MemorySink, MemoryDisk, MemoryLanes>;
 
-/// So many lanes to the broker.
+/// So many lanes to a broker that knows the inventory of this text.
 pub fn lanes_of(
     alloc: Global,
     setting: &Setting,
+    known: &[u8],
     width: u32,
     refused: Fault,
 ) -> Result<MemoryLanes, Fault>
     ensures none { IfOk result (λ lanes. lanes.out ≡ []) }
     ensures wide { IfOk result (λ lanes. lanes.width ≡ max 1 (min width 32)) }
 {
-    let table = table_of(alloc, &setting.broker, refused)?;
+    let table = table_of(alloc, known, refused)?;
     Ok(MemoryLanes::new(alloc, table, setting.timeout, width))
 }
 
@@ -110,7 +112,7 @@ impl<'a> Play<'a> {
             disk: ends_disk(alloc, setting),
             lane,
             askers: askers_of(alloc, setting, refused)?,
-            ahead: lanes_of(alloc, setting, setting.width, refused)?,
+            ahead: lanes_ahead(alloc, setting, refused)?,
         })
     }
 
@@ -131,7 +133,7 @@ fn started<'a>(
     refused: Fault,
 ) -> Result<Start<MemoryLedger<'a>>, Fault> {
     let mut start = match setting.state.failing {
-        None => of_file(alloc, &setting.file, refused)?,
+        None => of_file(alloc, setting, refused)?,
         Some(failing) => of_state(alloc, paths, setting, failing, refused)?,
     };
     start.part = setting.part;
@@ -141,14 +143,18 @@ fn started<'a>(
 /// The file alone is served.
 fn of_file<'a>(
     alloc: Global,
-    file: &[u8],
+    setting: &Setting,
     refused: Fault,
 ) -> Result<Start<MemoryLedger<'a>>, Fault> {
+    let Ok(text) = std::str::from_utf8(&setting.file) else {
+        return Err(refused);
+    };
+    let written = read_or(alloc, text.as_bytes(), refused)?;
     Ok(Start {
         part: 0,
-        behind: None,
+        behind: setting.behind,
         inventories: Inventories {
-            served: read_or(alloc, file, refused)?,
+            served: wide(alloc, demands_of(setting), text, written)?,
             again: None,
             named: None,
         },
@@ -172,14 +178,19 @@ fn of_state<'a>(
         return Err(refused);
     };
     let drawer = mem::replace(&mut setting.drawer, Drawer::new(alloc));
-    let demands = Demands {
+    let demands = demands_of(setting);
+    let said = Vec::new(alloc);
+    Ok(start_with(alloc, paths, demands, drawer, opened, said)?)
+}
+
+/// What is demanded of an inventory.
+fn demands_of(setting: &Setting) -> Demands {
+    Demands {
         timeout: setting.timeout,
         names_are_secrets: false,
         earlier: 0,
-        behind: None,
-    };
-    let said = Vec::new(alloc);
-    Ok(start_with(alloc, paths, demands, drawer, opened, said)?)
+        behind: setting.behind,
+    }
 }
 
 /// What the words of a command line would ask.
@@ -201,7 +212,7 @@ fn served_of(setting: &Setting) -> Served<'static> {
         name: None,
         state: None,
         spread: 0,
-        behind: false,
+        behind: setting.behind.is_some(),
     }
 }
 
@@ -210,11 +221,20 @@ fn lane_of(alloc: Global, setting: &Setting, refused: Fault) -> Result<MemoryLan
     ensures free { IfOk result (λ lane. lane.out ≡ []) }
     ensures one { IfOk result (λ lane. lane.width ≡ 1) }
 {
-    let mut lane = lanes_of(alloc, setting, 1, refused)?;
+    let mut lane = lanes_of(alloc, setting, &setting.broker, 1, refused)?;
     if let Some(NumberedFault { number, fault }) = setting.lookup_fault {
         lane.set_fault(number, fault)?;
     }
     Ok(lane)
+}
+
+/// The lanes over which entries are looked up ahead.
+fn lanes_ahead(alloc: Global, setting: &Setting, refused: Fault) -> Result<MemoryLanes, Fault> {
+    let mut lanes = lanes_of(alloc, setting, &setting.ahead, setting.width, refused)?;
+    if let Some(NumberedFault { number, fault }) = setting.ahead_fault {
+        lanes.set_fault(number, fault)?;
+    }
+    Ok(lanes)
 }
 
 /// As many who look up what files hold as requests may be out at once.

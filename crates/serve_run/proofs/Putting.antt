@@ -45,8 +45,8 @@ pub says_no_door : (now : Reading) (socket word why cost : List ℕ) (who : Gues
 says_no_door now socket word why cost who old new same is hears =
     record { why = why; hears = subst (λ w. HearsNoSocket now w why (cost_without who) old new) same (subst (λ c. HearsNoSocket now socket why c old new) is hears) }
 
-pub is_lookout : {L : Type 0} → (number : ℕ) (l : Ahead L) → l.number ≡ number → l.scout ≡ None → l.heard ≡ [] → IsLookout number l
-is_lookout number l its none nothing = record { number = its; scout = none; heard = nothing }
+pub is_lookout : {L : Type 0} → (number : ℕ) (lanes : L) (l : Ahead L) → l.number ≡ number → l.own ≡ lanes → l.scout ≡ None → l.heard ≡ [] → IsLookout number lanes l
+is_lookout number lanes l its own none nothing = record { number = its; own = own; scout = none; heard = nothing }
 
 pub begins_log :
     {P : Type 0} → (calls : P → Option (List FileCall)) (now : Reading) (form : Form) (count : ℕ) (said heard : List Said) (warned : Vec Said Global) (path : Option (String Global)) (folder : Option (List ℕ)) (files after : P) (result : Result Desk AllocError) →
@@ -87,7 +87,7 @@ pub put_together :
     {D I L S T O E P : Type 0} → (calls : P → Option (List FileCall)) (known : Bool) (seen : E → DiskState) (now : Reading) (served : Served) (start : Start (Ledger D I L)) (parts : Parts S E L) (doors : P) (width : ℕ) (b : Begun S T O (Ledger D I L) E L) (ready : Ready O E) (desk : Desk)
     (lookout : Option (Ahead L)) (events : List Event) (ledger : Option (Ledger D I L)) (house : House S T O (Ledger D I L) E) (neighbours : Behind (House S T O (Ledger D I L) E) L) → IsReady calls known seen now served start.behind start.inventories.served start.said.items parts.ends parts.disk doors ready →
     IsResumedFrom events start.inventories.served width b.serving → events ≡ ready.taken.known.items → WaitsFor events width now start.part b.serving.agent start.inventories.again b.wait ready.desk desk → ledger ≡ with_lanes parts.lane parts.askers start.ledger →
-    house ≡ house_of now start.is_good ledger start.inventories.named parts.log desk ready.entrances ready.taken.file → LooksAhead start.behind lookout → neighbours ≡ beside house lookout →
+    house ≡ house_of now start.is_good start.behind ledger start.inventories.named parts.log desk ready.entrances ready.taken.file → LooksAhead start.behind parts.ahead lookout → neighbours ≡ beside house lookout →
     b.neighbours ≡ day_of start.part neighbours → IsBegun calls known seen now served start parts doors width b
 put_together calls known seen now served start parts doors width b ready desk lookout events ledger house neighbours is agent handed waits l h ahead by n =
     record {
@@ -98,7 +98,7 @@ put_together calls known seen now served start parts doors width b ready desk lo
       agent = subst (λ k. IsResumedFrom k start.inventories.served width b.serving) handed agent;
       waits = subst (λ k. WaitsFor k width now start.part b.serving.agent start.inventories.again b.wait ready.desk desk) handed waits;
       ahead = ahead;
-      neighbours = n ∙ ap (day_of start.part) (by ∙ ap (λ k. beside k lookout) (h ∙ ap (λ led. house_of now start.is_good led start.inventories.named parts.log desk ready.entrances ready.taken.file) l));
+      neighbours = n ∙ ap (day_of start.part) (by ∙ ap (λ k. beside k lookout) (h ∙ ap (λ led. house_of now start.is_good start.behind led start.inventories.named parts.log desk ready.entrances ready.taken.file) l));
     }
 
 -- ---- what it reads first, and its run

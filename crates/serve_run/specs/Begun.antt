@@ -17,6 +17,7 @@ use Rattle.keep_ends.specs.declared.file.EndsFile.{EndsFile}
 use Rattle.keep_house.specs.declared.house.House.{House}
 use Rattle.keep_inventory.specs.Inventories.{Inventory}
 use Rattle.keep_log.specs.declared.form.Form.{Form}
+use Rattle.keep_onlook.specs.Standby.{begun_standby}
 use Rattle.keep_onlook.specs.declared.board.FileReading.{FileReading}
 use Rattle.keep_secrets.specs.Stamps.{FileCall}
 use Rattle.keep_serving.specs.declared.day.EarlyDay.{EarlyDay}
@@ -78,14 +79,15 @@ abbrev pub read_at : Reading → Bool → FileReading
 read_at now is_good = record { is_good = is_good; at = Some (now.wall / 1000); good_at = if is_good then Some (now.wall / 1000) else None }
 
 -- the parts of a house: nobody has come, and nothing was given or said yet
-abbrev pub house_of : {S T D K E : Type 0} → Reading → Bool → Option K → Option (List Row) → S → Desk → Entrances D → Option (EndsFile E) → House S T D K E
-house_of now is_good ledger named log desk entrances ends =
+abbrev pub house_of : {S T D K E : Type 0} → Reading → Bool → Option ℕ → Option K → Option (List Row) → S → Desk → Entrances D → Option (EndsFile E) → House S T D K E
+house_of now is_good behind ledger named log desk entrances ends =
     record {
       desk = desk;
       sink = log;
       control = option_map (nobody_asks entrances.places.clients) entrances.control;
       onlookers = option_map (nobody entrances.places.onlookers) entrances.onlookers;
       file = read_at now is_good;
+      standby = begun_standby (is_some behind);
       state = ledger;
       read = named;
       given = None;
@@ -94,16 +96,17 @@ house_of now is_good ledger named log desk entrances ends =
       ends = ends;
     }
 
--- who looks ahead for an agent behind another: one of that number, whose scout is not made yet, and who has heard nothing
-pub record IsLookout {L : Type 0} (number : ℕ) (l : Ahead L) : Type 0 where
+-- who looks ahead for an agent behind another: one of that number, over these lanes, whose scout is not made yet, and who has heard nothing
+pub record IsLookout {L : Type 0} (number : ℕ) (lanes : L) (l : Ahead L) : Type 0 where
   pub number : l.number ≡ number
+  pub own : l.own ≡ lanes
   pub scout : l.scout ≡ None
   pub heard : l.heard ≡ []
 
-abbrev pub LooksAhead : {L : Type 0} → Option ℕ → Option (Ahead L) → Type 0
-LooksAhead None lookout = lookout ≡ None
-LooksAhead (Some number) None = ⊥
-LooksAhead (Some number) (Some l) = IsLookout number l
+abbrev pub LooksAhead : {L : Type 0} → Option ℕ → L → Option (Ahead L) → Type 0
+LooksAhead None lanes lookout = lookout ≡ None
+LooksAhead (Some number) lanes None = ⊥
+LooksAhead (Some number) lanes (Some l) = IsLookout number lanes l
 
 abbrev pub beside : {N L : Type 0} → N → Option (Ahead L) → Behind N L
 beside others lookout = record { others = others; lookout = lookout; giver = Others }
@@ -119,5 +122,5 @@ pub record IsBegun {D I L S T O E P : Type 0} (calls : P → Option (List FileCa
   pub is_ready : IsReady calls known seen now served start.behind start.inventories.served start.said.items parts.ends parts.disk doors ready
   pub agent : IsResumedFrom ready.taken.known.items start.inventories.served width b.serving
   pub waits : WaitsFor ready.taken.known.items width now start.part b.serving.agent start.inventories.again b.wait ready.desk desk
-  pub ahead : LooksAhead start.behind lookout
-  pub neighbours : b.neighbours ≡ day_of start.part (beside (house_of now start.is_good (with_lanes parts.lane parts.askers start.ledger) start.inventories.named parts.log desk ready.entrances ready.taken.file) lookout)
+  pub ahead : LooksAhead start.behind parts.ahead lookout
+  pub neighbours : b.neighbours ≡ day_of start.part (beside (house_of now start.is_good start.behind (with_lanes parts.lane parts.askers start.ledger) start.inventories.named parts.log desk ready.entrances ready.taken.file) lookout)

@@ -21,7 +21,7 @@ use keep_house::House;
 use keep_inventory::Inventory;
 use keep_lanes::{Lanes, MOST_WIDTH};
 use keep_log::{Form, LogSink};
-use keep_onlook::FileReading;
+use keep_onlook::{FileReading, Standby};
 use keep_proving::Proving;
 use keep_secrets::SecretFiles;
 use keep_serving::{EarlyDay, Serving};
@@ -136,7 +136,7 @@ where
     let desk = &mut ready.desk;
     let AtFirst { serving, wait } = resume(alloc, inventory, again, lanes, known, now, part, desk)?;
     let ledger = with_lanes(ledger, lane, askers);
-    let house = house_of(alloc, now, is_good, ledger, named, log, ready);
+    let house = house_of(alloc, now, is_good, behind, ledger, named, log, ready);
     let lookout = lookout_of(alloc, behind, ahead);
     Ok(Begun {
         serving,
@@ -150,12 +150,13 @@ fn house_of<S, T: Talk, D: Door<T>, K, E>(
     alloc: Global,
     now: Reading,
     is_good: bool,
+    behind: Option<u64>,
     ledger: Option<K>,
     named: Option<Rows>,
     log: S,
     ready: Ready<D, E>,
 ) -> House<S, T, D, K, E>
-    ensures { result ≡ house_of now is_good ledger named log ready.desk ready.entrances ready.taken.file }
+    ensures { result ≡ house_of now is_good behind ledger named log ready.desk ready.entrances ready.taken.file }
 {
     let Ready {
         desk,
@@ -168,6 +169,7 @@ fn house_of<S, T: Talk, D: Door<T>, K, E>(
         control: control_at(alloc, entrances.control, entrances.places.clients),
         onlookers: onlookers_at(alloc, entrances.onlookers, entrances.places.onlookers),
         file: read_at(now, is_good),
+        standby: Standby::new(behind.is_some()),
         state: ledger,
         read: named,
         given: None,
@@ -242,7 +244,7 @@ fn say_if_behind(alloc: Global, now: Reading, behind: Option<u64>, margin: u32, 
 /// Who looks ahead over these lanes, for an agent behind another whose name has that number.
 #[tactic(auto, using(crate::proofs::Putting::is_lookout))]
 fn lookout_of<L: Lanes + Drop>(alloc: Global, behind: Option<u64>, lanes: L) -> Option<Lookout<L>>
-    ensures { LooksAhead behind result }
+    ensures { LooksAhead behind lanes result }
 {
     match behind {
         None => None,

@@ -1,5 +1,5 @@
 //! A lane over a real socket, whose peer listens in the same thread and answers nothing. (That answers come over sockets, and to whom,
-//! tests/end-to-end-watch and tests/end-to-end-serve show.)
+//! tests/end-to-end-serve shows.)
 use crate::renewals::{Comes, is, send};
 use keep_clock::{Clock, SystemClock};
 use keep_device::{Counted, Place, read_all};

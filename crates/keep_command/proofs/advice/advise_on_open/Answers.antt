@@ -20,7 +20,7 @@ returns-in-Some g c =
     let forest = c.forest.ensures.value ∙ ap (λ (x : Inventory). x.forest) c.inventory-inventory.ensures.value in
     let first = found c.args.served.now c.first_untold.result c.notes.result.now c.in-Some.index c.first_untold.ensures c.notes.ensures.value c.in-Some.is in
     let out = change g.E.Device.is_in_memory (g.E.Device.seen c.args.errors.now) (g.E.Device.seen c.tell_line.new.errors) in
-    let words = codes "issued and end are not written; serve, watch and run look them up" in
+    let words = codes "issued and end are not written; serve and run look them up" in
     let name = c.list-name.ensures ∙ ap (λ (e : Entry). e.name) c.get.ensures.value ∙ ap (λ (f : Forest). (entry_at f.entries c.in-Some.index).name) forest in
     advised c.args.program.now c.args.served.now c.in-Some.index out first
     (subst (λ (p : List ℕ). Reports (advice_line p (entry_at c.args.served.now.inventory.forest.entries c.in-Some.index).name words) out) c.as_bytes.ensures.value

@@ -46,10 +46,10 @@ returns-in-Answered-clause-does g c =
     (c.args.agent.now, (happened.Answered a.entry a.operation a.said a.notes, (ap thing_of a.is, answered c.args.agent.now a.entry a.operation a.said a.notes.now c.args.self.now c.hear_end.new.self c.hear_answer.new.self c.hear_end.ensures c.hear_answer.ensures)))
 
 pub returns-in-Ahead-clause-does : goal.returns-in-Ahead-clause-does
-returns-in-Ahead-clause-does g c = (c.args.agent.now, (happened.Ahead c.in-Ahead.entry c.in-Ahead.end, (ap thing_of c.in-Ahead.is, (c.hear_ahead.ensures, refl))))
+returns-in-Ahead-clause-does g c = (c.args.agent.now, (happened.Ahead c.in-Ahead.entry c.in-Ahead.end, (ap thing_of c.in-Ahead.is, (c.hear_ahead.ensures.said, c.hear_ahead.ensures.rest))))
 
 pub returns-in-StepsIn-clause-does : goal.returns-in-StepsIn-clause-does
-returns-in-StepsIn-clause-does g c = (c.args.agent.now, (happened.StepsIn c.in-StepsIn.requests, (ap thing_of c.in-StepsIn.is, (c.hear_steps.ensures, refl))))
+returns-in-StepsIn-clause-does g c = (c.args.agent.now, (happened.StepsIn c.in-StepsIn.requests, (ap thing_of c.in-StepsIn.is, (c.hear_steps.ensures.said, c.hear_steps.ensures.rest))))
 
 pub returns-in-Refused-clause-does : goal.returns-in-Refused-clause-does
 returns-in-Refused-clause-does g c =
