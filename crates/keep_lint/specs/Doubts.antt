@@ -36,11 +36,17 @@ whole_doubt s = whole_of s.inventory.forest.entries s.at
 
 -- ---- of the fullest round
 
--- how many of the first n entries may fall due at once: those that are needed and can be renewed
+-- an entry is needed and can be renewed
+abbrev pub falls_due : Subject → ℕ → Bool
+falls_due s i = nat_lt s.at (load_at s.carried i).need && (entry_at s.inventory.forest.entries i).renewable
+
+abbrev pub one_if : Bool → ℕ
+one_if holds = if holds then 1 else 0
+
+-- how many of the first n entries may fall due at once
 abbrev pub fullest_of_first : Subject → ℕ → ℕ
 fullest_of_first s zero = 0
-fullest_of_first s (suc n) =
-    if nat_lt s.at (load_at s.carried n).need && (entry_at s.inventory.forest.entries n).renewable then fullest_of_first s n + 1 else fullest_of_first s n
+fullest_of_first s (suc n) = fullest_of_first s n + one_if (falls_due s n)
 
 -- so many requests, eight side by side and each as slow as it may be, take longer than the margin
 abbrev pub is_long : Subject → ℕ → Bool
@@ -54,11 +60,14 @@ round_doubt s = long_round s (fullest_of_first s (length s.inventory.forest.entr
 
 -- ---- of each entry
 
+abbrev pub told_of : ℕ → Option What → List Doubt
+told_of i None = []
+told_of i (Some what) = variants.Of i what ∷ []
+
 -- those of these that there are
 abbrev pub told : ℕ → List (Option What) → List Doubt
 told i [] = []
-told i (None ∷ whats) = told i whats
-told i (Some what ∷ whats) = variants.Of i what ∷ told i whats
+told i (what ∷ whats) = told_of i what ++ told i whats
 
 abbrev pub doubts_by : ℕ → Facts → List Doubt
 doubts_by i f = told i (of_names f) ++ (told i (of_moments f) ++ (told i (of_terms f) ++ told i (of_needs f)))

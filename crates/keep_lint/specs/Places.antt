@@ -22,10 +22,14 @@ begins_table (marks.Table kind) = true
 begins_table marks.Other = true
 begins_table mark = false
 
+-- the number of a line, where it does
+abbrev pub head_at : Kind → ℕ → Mark → List ℕ
+head_at kind line mark = if is_table_of kind mark then line ∷ [] else []
+
 -- the numbers, from 1 on, of those lines of these, which are those from this one on, counted from 0
 abbrev pub heads_from : Kind → ℕ → List Mark → List ℕ
 heads_from kind at [] = []
-heads_from kind at (mark ∷ later) = if is_table_of kind mark then (at + 1) ∷ heads_from kind (at + 1) later else heads_from kind (at + 1) later
+heads_from kind at (mark ∷ later) = head_at kind (at + 1) mark ++ heads_from kind (at + 1) later
 
 -- the numbers of the lines that begin the tables of entries, in the order of the entries: all tokens first
 unfoldable pub heads_of : List Mark → List ℕ

@@ -1,6 +1,6 @@
 //! What is legal in an inventory and probably not meant.
 ghost use Rattle.std.specs.Prelude.{◌≡◌, ◌++◌, ◌<◌, ◌≤◌, ◌+◌, ◌*◌, IfOk, OnOk, length};
-ghost use Rattle.keep_lint.specs.Doubts.{doubt_list, doubts, doubts_of_first, entry_doubts, fullest_of_first, has_need_after, is_long, round_doubt, told, whole_doubt, whole_list};
+ghost use Rattle.keep_lint.specs.Doubts.{doubt_list, doubts, doubts_of_first, entry_doubts, falls_due, fullest_of_first, has_need_after, is_long, one_if, round_doubt, told, told_of, whole_doubt, whole_list};
 
 use crate::entry_doubts::{of_moments, of_names, of_needs, of_terms};
 use crate::judging::facts_of;
@@ -98,11 +98,25 @@ fn fullest(subject: &Subject) -> u64
 {
     let mut count = 0;
     for index in 0..subject.inventory.forest().len() {
-        if subject.carried.need(index) > subject.at.get() && subject.inventory.forest().get(index).renewable {
-            count += 1;
-        }
+        count += one_if(falls_due(subject, index));
     }
     count
+}
+
+fn one_if(holds: bool) -> u64
+    ensures value { result ≡ one_if holds }
+    ensures within { result ≤ 1 }
+{
+    if holds { 1 } else { 0 }
+}
+
+// Whether an entry is needed and can be renewed.
+fn falls_due(subject: &Subject, index: u32) -> bool
+    requires { index < length subject.now.inventory.forest.entries }
+    ensures { result ≡ falls_due subject.now index }
+{
+    subject.carried.need(index) > subject.at.get()
+        && subject.inventory.forest().get(index).renewable
 }
 
 // Appends the doubts of each entry.
@@ -145,10 +159,17 @@ fn push_told(
 ) -> Result<(), AllocError>
     ensures { OnOk result (found.new.items ≡ found.old.items ++ told index whats.now) }
 {
-    for what in whats {
-        if let Some(what) = what {
-            found.push(Doubt::Of(index, *what))?;
-        }
+    for at in 0..whats.len() {
+        push_what(index, whats[at], found)?;
     }
     Ok(())
+}
+
+fn push_what(index: u32, what: Option<What>, found: &mut Vec<Doubt>) -> Result<(), AllocError>
+    ensures { OnOk result (found.new.items ≡ found.old.items ++ told_of index what) }
+{
+    match what {
+        None => Ok(()),
+        Some(what) => Ok(found.push(Doubt::Of(index, what))?),
+    }
 }

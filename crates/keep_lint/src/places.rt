@@ -2,7 +2,7 @@
 ghost use Rattle.std.specs.Prelude.{◌≡◌, ◌<◌, ◌++◌, IfOk, IfSome, OnOk, drop, length};
 
 ghost use Rattle.keep_lint.specs.Marks.{marks_of};
-ghost use Rattle.keep_lint.specs.Places.{begins_table, first_in, heads_from, is_of_entry, is_of_lease, is_of_table, is_of_token, is_of_top, is_sought, is_table_of, heads_of};
+ghost use Rattle.keep_lint.specs.Places.{begins_table, first_in, head_at, heads_from, is_of_entry, is_of_lease, is_of_table, is_of_token, is_of_top, is_sought, is_table_of, heads_of};
 
 use crate::mark::{Mark, mark_of};
 use keep_inventory::Key;
@@ -51,9 +51,22 @@ fn push_heads(marks: &[Mark], kind: Kind, heads: &mut Vec<usize>) -> Result<(), 
     ensures { OnOk result (heads.new.items ≡ heads.old.items ++ heads_from kind 0 marks.now) }
 {
     for at in 0..marks.len() {
-        if is_table_of(marks[at], kind) {
-            heads.push(at + 1)?;
-        }
+        push_head(marks[at], kind, at + 1, heads)?;
+    }
+    Ok(())
+}
+
+// Appends the number of a line, where it begins the table of such an entry.
+fn push_head(
+    mark: Mark,
+    kind: Kind,
+    line: usize,
+    heads: &mut Vec<usize>,
+) -> Result<(), AllocError>
+    ensures { OnOk result (heads.new.items ≡ heads.old.items ++ head_at kind line mark) }
+{
+    if is_table_of(mark, kind) {
+        heads.push(line)?;
     }
     Ok(())
 }

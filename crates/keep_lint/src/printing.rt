@@ -20,8 +20,10 @@ pub fn push_line(
     text.extend_from_slice(b": ")?;
     push_subject(finding, text)?;
     text.extend_from_slice(finding.problem.as_bytes())?;
-    text.extend_from_slice(b"; ")?;
-    text.extend_from_slice(finding.mend.as_bytes())?;
+    if !finding.mend.is_empty() {
+        text.extend_from_slice(b"; ")?;
+        text.extend_from_slice(finding.mend.as_bytes())?;
+    }
     text.extend_from_slice(b"\n")
 }
 

@@ -3,5 +3,5 @@ use Rattle.std.proofs.Common.{◌≡◌, ◌++◌, drop}
 use Rattle.keep_lint.specs.Doubts.{told}
 use Rattle.keep_lint.proofs.all_doubts.push_told.Given as goal
 
-abbrev pub invariant-loop-what : goal.invariant-loop-what
-invariant-loop-what l = l.found.items ++ told l.index (drop l.what-index l.whats) ≡ l.initial.found.items ++ told l.index l.whats
+abbrev pub invariant-loop-at : goal.invariant-loop-at
+invariant-loop-at l = l.found.items ++ told l.index (drop l.at l.whats) ≡ l.initial.found.items ++ told l.index l.whats
