@@ -1,3 +1,4 @@
 pub mod Behind
 pub mod FirstLimit
+pub mod GoodOnes
 pub mod Steps

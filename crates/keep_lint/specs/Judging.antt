@@ -53,6 +53,17 @@ facts_of s whole i =
     let e = entry_at s.inventory.forest.entries i in
     let t = terms_at s.inventory.terms i in
     record {
-      at = s.at; margin = written_margin s; whole = whole; is_token_like = is_token_like e.name; is_open = is_open s.open.items i;
-      is_told = is_told s.served.notes i; lacks_step = (t.period == 0) && not (writes_increment s.places.marks.items s.places.heads.items i);
-      end = e.end; step = e.step; need = e.need; carried = (load_at s.carried i).need; terms = t; limit = limit s i }
+      at = s.at;
+      margin = written_margin s;
+      whole = whole;
+      is_token_like = is_token_like e.name;
+      is_open = is_open s.open.items i;
+      is_told = is_told s.served.notes i;
+      lacks_step = (t.period == 0) && not (writes_increment s.places.marks.items s.places.heads.items i);
+      end = e.end;
+      step = e.step;
+      need = e.need;
+      carried = (load_at s.carried i).need;
+      terms = t;
+      limit = limit s i;
+    }

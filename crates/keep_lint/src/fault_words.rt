@@ -39,7 +39,12 @@ fn of_syntax(alloc: Global, bytes: &[u8]) -> Result<Finding, AllocError> {
         None => 0,
         Some(range) => line_at(bytes, range.start),
     };
-    whole(alloc, line, "the file is not a TOML document", "correct the syntax there: texts and dates stand between straight quotes")
+    whole(
+        alloc,
+        line,
+        "the file is not a TOML document",
+        "correct the syntax there: texts and dates stand between straight quotes",
+    )
 }
 
 // The number of the line that has the byte at an index.
@@ -54,12 +59,7 @@ fn line_at(bytes: &[u8], at: usize) -> u64 {
 }
 
 // A fault of the file, and not of an entry or a key.
-fn whole(
-    alloc: Global,
-    line: u64,
-    problem: &str,
-    mend: &str,
-) -> Result<Finding, AllocError> {
+fn whole(alloc: Global, line: u64, problem: &str, mend: &str) -> Result<Finding, AllocError> {
     Ok(Finding {
         severity: Severity::Fault,
         line,
@@ -91,7 +91,11 @@ fn of_missing(
 
 fn of_unknown_top(alloc: Global, places: &Places) -> Result<Finding, AllocError> {
     let found = unknown_line(places, None);
-    let line = if found == 0 { other_table_line(places) } else { found };
+    let line = if found == 0 {
+        other_table_line(places)
+    } else {
+        found
+    };
     whole(
         alloc,
         line,
@@ -202,7 +206,11 @@ fn of_tree(
         severity: Severity::Fault,
         line: line_of(places, Some(entry), key),
         entry: entry_label(alloc, bytes, entry)?,
-        key: if matches!(fault, TreeFault::Full) { "" } else { key.text() },
+        key: if matches!(fault, TreeFault::Full) {
+            ""
+        } else {
+            key.text()
+        },
         problem: String::from_str(alloc, tree_problem(fault))?,
         mend: String::from_str(alloc, tree_mend(fault))?,
     })
@@ -267,10 +275,18 @@ fn entry_label(alloc: Global, bytes: &[u8], entry: u32) -> Result<String, AllocE
     let tokens = tables_of(&table, Key::Token).len();
     let index = entry as usize;
     let (found, kind, place) = if index < tokens {
-        (name_at(tables_of(&table, Key::Token), index), "token", index)
+        (
+            name_at(tables_of(&table, Key::Token), index),
+            "token",
+            index,
+        )
     } else {
         let place = index - tokens;
-        (name_at(tables_of(&table, Key::Lease), place), "lease", place)
+        (
+            name_at(tables_of(&table, Key::Lease), place),
+            "lease",
+            place,
+        )
     };
     match found {
         Some(name) if is_shown(name) => label(alloc, name.as_bytes()),

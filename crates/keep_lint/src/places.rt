@@ -1,6 +1,5 @@
 //! Where in the text of an inventory the tables of its entries stand, and their keys.
 ghost use Rattle.std.specs.Prelude.{◌≡◌, ◌<◌, ◌++◌, IfOk, IfSome, OnOk, drop, length};
-
 ghost use Rattle.keep_lint.specs.Marks.{marks_of};
 ghost use Rattle.keep_lint.specs.Places.{begins_table, first_in, head_at, heads_from, is_of_entry, is_of_lease, is_of_table, is_of_token, is_of_top, is_sought, is_table_of, heads_of};
 
@@ -57,12 +56,7 @@ fn push_heads(marks: &[Mark], kind: Kind, heads: &mut Vec<usize>) -> Result<(), 
 }
 
 // Appends the number of a line, where it begins the table of such an entry.
-fn push_head(
-    mark: Mark,
-    kind: Kind,
-    line: usize,
-    heads: &mut Vec<usize>,
-) -> Result<(), AllocError>
+fn push_head(mark: Mark, kind: Kind, line: usize, heads: &mut Vec<usize>) -> Result<(), AllocError>
     ensures { OnOk result (heads.new.items ≡ heads.old.items ++ head_at kind line mark) }
 {
     if is_table_of(mark, kind) {

@@ -52,14 +52,20 @@ pub fn push_json(
         text.extend_from_slice(front)?;
         push_object(alloc, &findings[index], text)?;
     }
-    let end: &[u8] = if findings.is_empty() { b"]\n" } else { b"\n]\n" };
+    let end: &[u8] = if findings.is_empty() {
+        b"]\n"
+    } else {
+        b"\n]\n"
+    };
     text.extend_from_slice(end)
 }
 
 fn push_object(alloc: Global, finding: &Finding, text: &mut Vec<u8>) -> Result<(), AllocError> {
     let severity = finding.severity.word();
     let line = finding.line;
-    let front = format!(in alloc; "{{\"severity\": \"{severity}\", \"line\": {line}, \"entry\": \"")?;
+    let front = format!(in alloc;
+        "{{\"severity\": \"{severity}\", \"line\": {line}, \"entry\": \""
+    )?;
     text.extend_from_slice(front.as_bytes())?;
     push_escaped(finding.entry.as_bytes(), text)?;
     text.extend_from_slice(b"\", \"key\": \"")?;

@@ -94,9 +94,8 @@ fn after<'a>(said: &'a str, word: &str) -> &'a str {
 // The entry that a fault is about.
 fn entry_of(fault: StartFault) -> Option<u32> {
     match fault {
-        StartFault::NoCredential(entry) | StartFault::NoFile(entry) | StartFault::NoSecret(entry) => {
-            u32::try_from(entry).ok()
-        }
+        StartFault::NoCredential(entry) | StartFault::NoFile(entry) | StartFault::NoSecret(entry) =>
+            { u32::try_from(entry).ok() }
         StartFault::Together(SettleFault::Refused(InvFault::BadValue(entry, _))) => entry,
         _ => None,
     }

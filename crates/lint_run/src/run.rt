@@ -146,7 +146,15 @@ pub fn lint_bytes<I: Inputs, W: Sink, E: Sink>(
     ensures { EndsBy linted.entry.demands (I.bytes_at inputs.old) read.now.folder.now read.now.bytes.now (is_some read.now.refused) result }
 {
     let demands = linted.demands;
-    let Ok(judged) = judge(alloc, read.bytes, demands, read.folder, inputs, open, read.at) else {
+    let Ok(judged) = judge(
+        alloc,
+        read.bytes,
+        demands,
+        read.folder,
+        inputs,
+        open,
+        read.at,
+    ) else {
         return Stop::Memory.report(PROGRAM, errors);
     };
     let is_faulty = read.refused.is_some() || !judged.faults.is_empty();
@@ -204,15 +212,15 @@ fn write<W: Sink, E: Sink>(
         return stop.report(PROGRAM, errors);
     }
     tell(errors, count.as_bytes());
-    if is_faulty { Exit::Inventory } else { Exit::Done }
+    if is_faulty {
+        Exit::Inventory
+    } else {
+        Exit::Done
+    }
 }
 
 // The text of findings. The only error is lack of memory.
-fn text_of(
-    alloc: Global,
-    linted: Linted<'_>,
-    findings: &[Finding],
-) -> Result<Vec<u8>, AllocError> {
+fn text_of(alloc: Global, linted: Linted<'_>, findings: &[Finding]) -> Result<Vec<u8>, AllocError> {
     let mut text = Vec::new(alloc);
     if linted.json {
         push_json(alloc, findings, &mut text)?;
