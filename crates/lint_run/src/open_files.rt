@@ -2,7 +2,8 @@
 use keep_inventory::{InvFault, Note, read_served};
 use keep_secrets::placed;
 use std::alloc::{AllocError, Global};
-use std::fs;
+use std::fs::{self, Metadata};
+use std::io::ErrorKind;
 use std::os::unix::fs::MetadataExt;
 use std::rt::Files;
 
@@ -41,7 +42,13 @@ fn is_open<R: Files + AllocGlobal>(
         return Ok(false);
     };
     match fs::metadata(rt, path) {
-        Ok(found) => Ok(found.is_file() && found.mode() & 0o006 != 0),
+        Ok(found) => Ok(found.is_file() && is_for_others(&found)),
+        Err(error) if error.kind() == ErrorKind::OutOfMemory => Err(AllocError),
         Err(_) => Ok(false),
     }
+}
+
+/// Whether others may read or write a file.
+pub(crate) fn is_for_others(found: &Metadata) -> bool {
+    found.mode() & 0o006 != 0
 }

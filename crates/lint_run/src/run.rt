@@ -4,7 +4,7 @@ ghost use Rattle.lint_run.specs.Ends.{EndsBy, ends_by};
 
 use crate::findings::{finding_of_file, push_findings};
 use crate::judged::{Judged, judge};
-use crate::open_files::open_files;
+use crate::open_files::{is_for_others, open_files};
 use house_words::Demands;
 use keep_command::SystemFiles;
 use keep_device::Sink;
@@ -17,6 +17,7 @@ use keep_state::ReadFault;
 use serve_start::{SystemSecrets, folder_of};
 use std::alloc::{AllocError, Global};
 use std::fs;
+use std::io::ErrorKind;
 use std::os::unix::fs::MetadataExt;
 use std::rt::{Clock, Files};
 
@@ -51,7 +52,9 @@ where
     W: Sink,
     E: Sink,
 {
-    let refused = refused_file(rt, linted.file);
+    let Ok(refused) = refused_file(rt, linted.file) else {
+        return Stop::Memory.report(PROGRAM, errors);
+    };
     if let Some(ReadFault::NotRegular) = refused {
         return lint_unread(rt.alloc(), linted, out, errors);
     }
@@ -67,16 +70,20 @@ where
 }
 
 // Why a file may not be served whatever it holds: it is no regular one, or others may read or write it. One that is not there is read,
-// which tells why.
-fn refused_file<R: Files + AllocGlobal>(rt: &R, file: &str) -> Option<ReadFault> {
-    let found = fs::metadata(rt, file).ok()?;
-    if !found.is_file() && !found.is_dir() {
-        return Some(ReadFault::NotRegular);
+// which tells why. The only error is lack of memory.
+fn refused_file<R: Files + AllocGlobal>(
+    rt: &R,
+    file: &str,
+) -> Result<Option<ReadFault>, AllocError> {
+    match fs::metadata(rt, file) {
+        Ok(found) if found.is_dir() => Ok(None),
+        Ok(found) if !found.is_file() => Ok(Some(ReadFault::NotRegular)),
+        Ok(found) if is_for_others(&found) => {
+            Ok(Some(ReadFault::ForOthers(found.mode() & 0o7777)))
+        }
+        Err(error) if error.kind() == ErrorKind::OutOfMemory => Err(AllocError),
+        _ => Ok(None),
     }
-    if found.is_file() && found.mode() & 0o006 != 0 {
-        return Some(ReadFault::ForOthers(found.mode() & 0o7777));
-    }
-    None
 }
 
 // Tells that a file is no regular one, and ends.
