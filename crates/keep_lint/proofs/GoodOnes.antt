@@ -4,7 +4,7 @@ use Rattle.std.proofs.lemmas.List.FromFn.{length-map-range_with_len}
 use Rattle.keep_inventory.specs.Answers.{◌>>=◌}
 use Rattle.keep_inventory.specs.Inventories.{Inventory}
 use Rattle.keep_inventory.specs.Inventory.{read_served}
-use Rattle.keep_inventory.specs.Served.{IsServedInventory, Served}
+use Rattle.keep_inventory.specs.Served.{Served}
 use Rattle.keep_inventory.specs.declared.fault.InvFault.{InvFault}
 use Rattle.keep_served.specs.ForGood.{inventory_for_good, inventory_with_needs, served_for_good}
 
@@ -14,6 +14,6 @@ good_of bytes v good reads is =
     let both : Ok (served_for_good v) ≡ Ok good = sym (ap (λ (r : Result Served InvFault). r >>= λ w. Ok (served_for_good w)) reads) ∙ is in
     cc
 
-pub good_count : (v : Served) → IsServedInventory v → length v.notes ≡ length (served_for_good v).forest.entries
+pub good_count : (v : Served) → length (served_for_good v).forest.entries ≡ length v.inventory.forest.entries
 unfolding served_for_good inventory_with_needs
-good_count v is = is.notes ∙ sym (length-map-range_with_len _ 0 (length v.inventory.forest.entries))
+good_count v = length-map-range_with_len _ 0 (length v.inventory.forest.entries)

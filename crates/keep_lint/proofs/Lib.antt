@@ -1,4 +1,3 @@
-pub mod Behind
 pub mod FirstLimit
 pub mod GoodOnes
 pub mod Steps

@@ -49,11 +49,11 @@ fullest_of_first s zero = 0
 fullest_of_first s (suc n) = fullest_of_first s n + one_if (falls_due s n)
 
 -- so many requests, eight side by side and each as slow as it may be, take longer than the margin
-abbrev pub is_long : Subject → ℕ → Bool
-is_long s count = nat_lt s.inventory.forest.margin (((count + 7) / 8) * s.timeout)
+abbrev pub is_long : ℕ → ℕ → ℕ → Bool
+is_long margin timeout count = nat_lt margin (((count + 7) / 8) * timeout)
 
 abbrev pub long_round : Subject → ℕ → Option Doubt
-long_round s count = if s.served.has_margin && is_long s count then Some (variants.LongRound count) else None
+long_round s count = if s.served.has_margin && is_long s.inventory.forest.margin s.timeout count then Some (variants.LongRound count) else None
 
 unfoldable pub round_doubt : Subject → Option Doubt
 round_doubt s = long_round s (fullest_of_first s (length s.inventory.forest.entries))

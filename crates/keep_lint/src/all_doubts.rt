@@ -75,7 +75,8 @@ fn round_doubt(subject: &Subject) -> Option<Doubt>
     ensures { result ≡ round_doubt subject.now }
 {
     let count = fullest(subject);
-    if subject.served.has_margin() && is_long(subject, count) {
+    let margin = subject.inventory.forest().margin();
+    if subject.served.has_margin() && is_long(margin, subject.timeout, count) {
         Some(Doubt::LongRound(count))
     } else {
         None
@@ -83,12 +84,11 @@ fn round_doubt(subject: &Subject) -> Option<Doubt>
 }
 
 // Whether so many requests, some side by side and each as slow as it may be, take longer than the margin.
-fn is_long(subject: &Subject, count: u64) -> bool
+fn is_long(margin: u32, timeout: u32, count: u64) -> bool
     requires { count ≤ 4096 }
-    ensures { result ≡ is_long subject.now count }
+    ensures { result ≡ is_long margin timeout count }
 {
-    let margin = subject.inventory.forest().margin();
-    u64::from(margin) < (count + (WIDTH - 1)) / WIDTH * u64::from(subject.timeout)
+    u64::from(margin) < (count + (WIDTH - 1)) / WIDTH * u64::from(timeout)
 }
 
 // How many entries may fall due at once: those that are needed and can be renewed.

@@ -43,7 +43,9 @@ pub(crate) fn is_told(subject: &Subject, index: u32) -> bool
     requires { index < length subject.now.inventory.forest.entries }
     ensures { result ≡ is_told subject.now.served.notes index }
 {
-    subject.served.notes()[index as usize].is_told
+    let notes = subject.served.notes();
+    let at = index as usize;
+    notes[at].is_told
 }
 
 // The margin, where it is written.

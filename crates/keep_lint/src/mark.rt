@@ -1,5 +1,6 @@
 //! What a line of an inventory's text begins: a table, or the value of a key.
-ghost use Rattle.std.specs.Prelude.{◌≡◌, IfOk, filter};
+ghost use Rattle.std.specs.Prelude.{◌≡◌, IfOk, bytes_eq, filter};
+ghost use Rattle.keep_inventory.specs.Keys.{key_text};
 ghost use Rattle.std.specs.List.{list_all};
 ghost use Rattle.keep_lint.specs.Marks.{is_key_word, is_shown, is_word_byte, key_in, key_of, mark_of, mark_of_key, mark_of_shown, mark_of_word};
 
@@ -130,7 +131,11 @@ fn key_of(word: &[u8]) -> Option<Key>
 fn key_in(word: &[u8], keys: &[Key]) -> Option<Key>
     ensures { result ≡ key_in word.now keys.now }
 {
-    keys.iter()
-        .find(|key| key.text().as_bytes() == word)
-        .copied()
+    keys.iter().find(|key| is_text(**key, word)).copied()
+}
+
+fn is_text(key: Key, word: &[u8]) -> bool
+    ensures { result ≡ bytes_eq (key_text key) word.now }
+{
+    key.text().as_bytes() == word
 }

@@ -1,8 +1,8 @@
 -- What is told of the first of the rest is appended.
-use Rattle.std.proofs.Common.{◌≡◌, ◌∙◌, ◌++◌, ◌+◌, [], None, ap, append-nil, append_assoc, arith, drop, sym}
+use Rattle.std.proofs.Common.{◌≡◌, ◌∙◌, ◌++◌, ◌+◌, [], None, ap, append-nil, append_assoc, arith, drop, get_or, sym}
 use Rattle.std.proofs.lemmas.Grind.{common_steps}
+use Rattle.std.proofs.lemmas.List.{drop_more}
 use Rattle.keep_lint.specs.Doubts.{told, told_of}
-use Rattle.keep_lint.proofs.Behind.{first_behind}
 use Rattle.keep_lint.proofs.all_doubts.push_told.Goals as goal
 
 pub loop-at-preserved : goal.loop-at-preserved
@@ -11,9 +11,9 @@ loop-at-preserved c =
     let i = c.args.index in
     let said = c.loop-at.found.items in
     let later = told i (drop (at + 1) c.args.whats.now) in
-    let e = first_behind c.args.whats.now at c.index-whats-at.result c.loop-at-test.true c.index-whats-at.is in
+    let e = drop_more c.args.whats.now at None c.loop-at-test.true in
     ap (λ l. l ++ later) c.in_ok-push_what.ensures
-    ∙ append_assoc said (told_of i c.index-whats-at.result) later
+    ∙ append_assoc said (told_of i (get_or c.args.whats.now at None)) later
     ∙ sym (ap (λ whats. said ++ told i whats) e)
     ∙ c.loop-at.invariant
 
