@@ -10,9 +10,9 @@ pub returns : goal.returns
 unfolding is_told note_at
 returns c =
     let i = c.args.index in
-    let notes = c.notes.result.now in
+    let notes = c.notes-notes.result.now in
     let first = c.index-notes-at.result in
-    let size = ap (λ (ns : List Note). length ns) c.notes.ensures.value in
+    let size = ap (λ (ns : List Note). length ns) c.notes-notes.ensures.value in
     let within : i < length notes = omega (arith, c.requires, c.args.subject.now.noted, size) in
     ap (λ (n : Note). n.is_told) (sym c.index-notes-at.is ∙ get_or_read notes i first within c.index-notes-at.is no_note)
-    ∙ ap (λ (ns : List Note). (get_or ns i no_note).is_told) c.notes.ensures.value
+    ∙ ap (λ (ns : List Note). (get_or ns i no_note).is_told) c.notes-notes.ensures.value
