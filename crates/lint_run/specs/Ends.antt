@@ -1,6 +1,6 @@
 -- Ends: how a run of `lint` ends.
 -- Source: this project's own; docs/commands/lint.md.
-use Rattle.std.specs.Prelude.{◌≡◌, ◌⊎◌, ℕ, Bool, true, false, not, List, Ok, Err}
+use Rattle.std.specs.Prelude.{◌≡◌, ◌⊎◌, ℕ, Bool, true, false, not, List, [], ◌∷◌, Ok, Err}
 use Rattle.keep_files.specs.Files.{Files}
 use Rattle.keep_inventory.specs.Inventories.{Inventory}
 use Rattle.keep_report.specs.declared.exit.Exit.{Exit}
@@ -17,6 +17,11 @@ EndsBy d known folder bytes refused exits.Inventory = (refused ≡ true) ⊎ ((f
 EndsBy d known folder bytes refused exits.Device = Unit {0}
 EndsBy d known folder bytes refused exits.Memory = Unit {0}
 EndsBy d known folder bytes refused exit = ⊥
+
+-- an inventory is refused, whatever it holds or for one of these faults
+abbrev pub is_faulty : Bool → List StartFault → Bool
+is_faulty refused [] = refused
+is_faulty refused (fault ∷ faults) = true
 
 -- the same of an inventory that is faulty, or is not
 abbrev pub ends_by : Bool → Exit → Bool

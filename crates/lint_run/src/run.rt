@@ -1,11 +1,11 @@
 //! The command `lint`: a file is read, judged, and told of.
 ghost use Rattle.std.specs.Prelude.{◌≡◌, is_some, true};
-ghost use Rattle.lint_run.specs.Ends.{EndsBy, ends_by};
+ghost use Rattle.lint_run.specs.Ends.{EndsBy, ends_by, is_faulty};
 
 use crate::findings::{finding_of_file, push_findings};
 use crate::judged::{Judged, judge};
 use crate::open_files::{is_for_others, open_files};
-use house_words::Demands;
+use house_words::{Demands, StartFault};
 use keep_command::SystemFiles;
 use keep_device::Sink;
 use keep_files::Inputs;
@@ -164,11 +164,18 @@ pub fn lint_bytes<I: Inputs, W: Sink, E: Sink>(
     ) else {
         return Stop::Memory.report(PROGRAM, errors);
     };
-    let is_faulty = read.refused.is_some() || !judged.faults.is_empty();
+    let is_faulty = is_faulty(read.refused.is_some(), &judged.faults);
     match said_of(alloc, demands, read, &judged) {
         Ok(findings) => write(alloc, linted, &findings, is_faulty, out, errors),
         Err(AllocError) => Stop::Memory.report(PROGRAM, errors),
     }
+}
+
+// Whether an inventory is refused, whatever it holds or for a fault.
+fn is_faulty(is_refused: bool, faults: &[StartFault]) -> bool
+    ensures { result ≡ is_faulty is_refused faults.now }
+{
+    is_refused || !faults.is_empty()
 }
 
 // All that is said.
