@@ -1,37 +1,36 @@
 //! An inventory that is to be judged, from its text.
-ghost use Rattle.std.specs.Prelude.{◌≡◌, IfOk};
+ghost use Rattle.std.specs.Prelude.{◌≡◌, IfOk, Ok};
+ghost use Rattle.keep_inventory.specs.Inventory.{read_served};
+ghost use Rattle.keep_needs.specs.Carried.{IsCarried};
+ghost use Rattle.keep_served.specs.ForGood.{inventory_for_good};
 ghost use Rattle.keep_lint.specs.Subjects.{IsSubject};
 ghost use Rattle.keep_lint.specs.Marks.{marks_of};
 ghost use Rattle.keep_lint.specs.Places.{heads_of};
 
 use crate::places::{heads_of, marks_of};
 use crate::subject::{Places, Subject};
-use keep_inventory::{InvFault, read_served};
+use keep_inventory::{Inventory, Served};
 use keep_moment::{Moment, Span};
-use keep_needs::{NeedsFault, carry};
+use keep_needs::{Carried, carry};
 use keep_served::read_for_good;
+use keep_tree::Forest;
 use std::alloc::{AllocError, Global};
 
-/// The inventory of a text, to be judged at a moment by a time-out; `open` says whose files others may read or write.
-///
-/// # Errors
-///
-/// Those of [`read_served`].
+/// What these bytes write, to be judged at a moment by a time-out; `open` says whose files others may read or write. The only error is
+/// lack of memory.
 pub fn subject_of(
     alloc: Global,
     bytes: &[u8],
+    served: Served,
     open: Vec<bool>,
     now: Moment,
     timeout: Span,
-) -> Result<Subject, InvFault>
+) -> Result<Subject, AllocError>
+    requires { read_served bytes.now ≡ Ok served }
     ensures { IfOk result (λ s. IsSubject bytes.now open.items now timeout s) }
 {
-    let served = read_served(alloc, bytes)?;
-    let inventory = read_for_good(alloc, bytes)?;
-    let carried = match carry(alloc, inventory.forest(), Moment::new(0).unwrap()) {
-        Ok(carried) => carried,
-        Err(NeedsFault::OutOfMemory) => return Err(InvFault::OutOfMemory),
-    };
+    let inventory = inventory_for_good(alloc, bytes)?;
+    let carried = carried_of_all(alloc, inventory.forest())?;
     let places = places_of(alloc, bytes)?;
     Ok(Subject {
         served,
@@ -42,6 +41,26 @@ pub fn subject_of(
         at: now,
         timeout,
     })
+}
+
+// The inventory in which a need that is `always` lasts to the last moment.
+fn inventory_for_good(alloc: Global, bytes: &[u8]) -> Result<Inventory, AllocError>
+    ensures { IfOk result (λ inventory. inventory_for_good bytes.now ≡ Ok inventory) }
+{
+    match read_for_good(alloc, bytes) {
+        Ok(inventory) => Ok(inventory),
+        Err(_) => Err(AllocError),
+    }
+}
+
+// What each entry carries of all needs.
+fn carried_of_all(alloc: Global, forest: &Forest) -> Result<Carried, AllocError>
+    ensures { IfOk result (IsCarried forest.now 0) }
+{
+    match carry(alloc, forest, Moment::new(0).unwrap()) {
+        Ok(carried) => Ok(carried),
+        Err(_) => Err(AllocError),
+    }
 }
 
 /// Where a text has what. The only error is lack of memory.

@@ -5,7 +5,7 @@ ghost use Rattle.lint_run.specs.Judged.{AreDoubts};
 
 use house_words::{Demands, StartFault, faults_to_serve};
 use keep_files::Inputs;
-use keep_inventory::InvFault;
+use keep_inventory::{InvFault, read_served};
 use keep_lint::{Doubt, Subject, doubts, subject_of};
 use keep_moment::Moment;
 use std::alloc::{AllocError, Global};
@@ -48,6 +48,7 @@ pub fn judge<I: Inputs>(
 }
 
 // What is doubted; nothing, where the text is no inventory.
+#[tactic(auto, using(crate::proofs::NoInventory::none_of))]
 fn doubted_of(
     alloc: Global,
     bytes: &[u8],
@@ -57,8 +58,9 @@ fn doubted_of(
 ) -> Result<Option<Doubted>, AllocError>
     ensures { IfOk result (λ doubted. AreDoubts bytes.now open.items now timeout doubted) }
 {
-    match subject_of(alloc, bytes, open, now, timeout) {
-        Ok(subject) => {
+    match read_served(alloc, bytes) {
+        Ok(served) => {
+            let subject = subject_of(alloc, bytes, served, open, now, timeout)?;
             let doubts = doubts(alloc, &subject)?;
             Ok(Some(Doubted { subject, doubts }))
         }
