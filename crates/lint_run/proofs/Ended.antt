@@ -8,6 +8,18 @@ use Rattle.house_words.specs.declared.demands.Demands.{Demands}
 use Rattle.house_words.specs.declared.fault.StartFault.{StartFault}
 use Rattle.lint_run.specs.Ends.{EndsBy, ends_by, is_faulty}
 
+-- where memory was refused
+pub memory_ends : (d : Demands) (known : Files) (folder bytes : List ℕ) (refused : Bool) (exit : Exit) → exit ≡ Memory → EndsBy d known folder bytes refused exit
+memory_ends d known folder bytes refused Memory e = tt
+memory_ends d known folder bytes refused Done e = cc
+memory_ends d known folder bytes refused Inventory e = cc
+memory_ends d known folder bytes refused CommandLine e = cc
+memory_ends d known folder bytes refused Unkeepable e = cc
+memory_ends d known folder bytes refused No e = cc
+memory_ends d known folder bytes refused TooLong e = cc
+memory_ends d known folder bytes refused Device e = cc
+
+-- else
 pub ended : (d : Demands) (known : Files) (folder bytes : List ℕ) (refused : Bool) (faults : List StartFault) (exit : Exit) → FirstIsWhy d known folder bytes faults
     → ends_by (is_faulty refused faults) exit ≡ true → EndsBy d known folder bytes refused exit
 ended d known folder bytes true [] Done first ends = cc

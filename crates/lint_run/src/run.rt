@@ -141,6 +141,7 @@ fn now_of<R: Clock>(rt: &R) -> Moment {
 /// others may read or write the file.
 ///
 /// Exit 1: `serve` refuses it. Exit 0: `serve` takes it. Exit 6: a write failed. Exit 7: memory was refused.
+#[tactic(auto, using(crate::proofs::Ended::ended, crate::proofs::Ended::memory_ends))]
 pub fn lint_bytes<I: Inputs, W: Sink, E: Sink>(
     alloc: Global,
     linted: Linted<'_>,
