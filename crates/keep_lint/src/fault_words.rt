@@ -126,7 +126,9 @@ fn keys_of(kind: Option<Kind>) -> &'static str {
             "look for a misspelling; the keys are name, token, issued, end, renewable, increment, max_ttl, need, lease_id and lease_id_file"
         }
         _ => {
-            "look for a misspelling; the keys are name, parent, issued, end, renewable, increment, period, max_ttl, explicit_max_ttl, need, secret and secret_file"
+            "\
+look for a misspelling; the keys are name, parent, issued, end, renewable, increment, period, max_ttl, explicit_max_ttl, need, secret \
+and secret_file"
         }
     }
 }
