@@ -3,6 +3,7 @@ use keep_engine::Exit;
 use keep_house::Demands;
 use leasekeep_commands::Linted;
 use lint_run::run_lint;
+use serve_start::{SystemSecrets, folder_of};
 use std::io;
 use std::rt::{Clock, Files};
 
@@ -24,5 +25,13 @@ where
         json: linted.json,
         demands,
     };
-    run_lint(rt, asked, &mut out, errors)
+    let mut secrets = SystemSecrets::new(rt);
+    run_lint(
+        rt,
+        asked,
+        folder_of(linted.file),
+        &mut secrets,
+        &mut out,
+        errors,
+    )
 }

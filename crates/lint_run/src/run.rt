@@ -14,7 +14,6 @@ use keep_lint::{Finding, Severity, push_json, push_line};
 use keep_moment::{LAST, Moment};
 use keep_report::{Exit, PROGRAM, Stop, send, tell};
 use keep_state::ReadFault;
-use serve_start::{SystemSecrets, folder_of};
 use std::alloc::{AllocError, Global};
 use std::fs;
 use std::io::ErrorKind;
@@ -44,11 +43,19 @@ pub struct Read<'a> {
     pub at: Moment,
 }
 
-/// Writes every fault of the inventory in a file of the system and every doubt about it, and counts them on `errors`. It ends as
-/// [`lint_bytes`] does, and with 6 where the file is not read.
-pub fn run_lint<R, W, E>(rt: &R, linted: Linted<'_>, out: &mut W, errors: &mut E) -> Exit
+/// Writes every fault of the inventory in a file of the system and every doubt about it, and counts them on `errors`; paths of files of
+/// credentials start at `folder`. It ends as [`lint_bytes`] does, and with 6 where the file is not read.
+pub fn run_lint<R, I, W, E>(
+    rt: &R,
+    linted: Linted<'_>,
+    folder: &str,
+    inputs: &mut I,
+    out: &mut W,
+    errors: &mut E,
+) -> Exit
 where
     R: Files + AllocGlobal + Clock,
+    I: Inputs,
     W: Sink,
     E: Sink,
 {
@@ -60,7 +67,15 @@ where
     }
     let mut files = SystemFiles::new(rt);
     match files.read(rt.alloc(), linted.file, MOST_INVENTORY) {
-        Ok(bytes) => lint_read(rt, linted, refused, bytes.list(), out, errors),
+        Ok(bytes) => {
+            let read = Read {
+                refused,
+                bytes: bytes.list(),
+                folder,
+                at: now_of(rt),
+            };
+            lint_read(rt, linted, &read, inputs, out, errors)
+        }
         Err(fault) => {
             let exit = Stop::from(fault).report(PROGRAM, errors);
             files.advise(PROGRAM, exit, linted.file, errors);
@@ -100,32 +115,25 @@ fn lint_unread<W: Sink, E: Sink>(
     }
 }
 
-// The same over the bytes of the file, by the clock of the system.
-fn lint_read<R, W, E>(
+// The same over what was read.
+fn lint_read<R, I, W, E>(
     rt: &R,
     linted: Linted<'_>,
-    refused: Option<ReadFault>,
-    bytes: &[u8],
+    read: &Read<'_>,
+    inputs: &mut I,
     out: &mut W,
     errors: &mut E,
 ) -> Exit
 where
-    R: Files + AllocGlobal + Clock,
+    R: Files + AllocGlobal,
+    I: Inputs,
     W: Sink,
     E: Sink,
 {
-    let folder = folder_of(linted.file);
-    let Ok(open) = open_files(rt, bytes, folder) else {
-        return Stop::Memory.report(PROGRAM, errors);
-    };
-    let read = Read {
-        refused,
-        bytes,
-        folder,
-        at: now_of(rt),
-    };
-    let mut secrets = SystemSecrets::new(rt);
-    lint_bytes(rt.alloc(), linted, &read, open, &mut secrets, out, errors)
+    match open_files(rt, read.bytes, read.folder) {
+        Ok(open) => lint_bytes(rt.alloc(), linted, read, open, inputs, out, errors),
+        Err(AllocError) => Stop::Memory.report(PROGRAM, errors),
+    }
 }
 
 // The second that the system's clock shows; the first one, where it shows none.
