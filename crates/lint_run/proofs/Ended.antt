@@ -1,9 +1,9 @@
--- Ended: a run that ends by its faults ends by what a start would say.
+-- Ended: a run that ends by its faults ends by what a start would say. For `lint_bytes`.
 use Rattle.std.proofs.Common.{◌≡◌, ◌⊎◌, ℕ, Bool, true, false, List, [], ◌∷◌, inl, inr, refl}
 use Rattle.keep_files.specs.Files.{Files}
 use Rattle.keep_report.specs.declared.exit.Exit.{Exit}
 use Rattle.keep_report.specs.declared.exit.Exit.TheVariants.{Done, Inventory, CommandLine, Unkeepable, No, TooLong, Device, Memory}
-use Rattle.house_words.specs.Reading.{FirstIsWhy}
+use Rattle.house_words.specs.Reading.{AreFaults, FirstIsWhy}
 use Rattle.house_words.specs.declared.demands.Demands.{Demands}
 use Rattle.house_words.specs.declared.fault.StartFault.{StartFault}
 use Rattle.lint_run.specs.Ends.{EndsBy, ends_by, is_faulty}
@@ -20,17 +20,17 @@ memory_ends d known folder bytes refused TooLong e = cc
 memory_ends d known folder bytes refused Device e = cc
 
 -- else
-pub ended : (d : Demands) (known : Files) (folder bytes : List ℕ) (refused : Bool) (faults : List StartFault) (exit : Exit) → FirstIsWhy d known folder bytes faults
+pub ended : (d : Demands) (known : Files) (folder bytes : List ℕ) (refused : Bool) (faults : List StartFault) (exit : Exit) → AreFaults d known folder bytes faults → FirstIsWhy d known folder bytes faults
     → ends_by (is_faulty refused faults) exit ≡ true → EndsBy d known folder bytes refused exit
-ended d known folder bytes true [] Done first ends = cc
-ended d known folder bytes false [] Done first ends = (refl, first)
-ended d known folder bytes refused (fault ∷ faults) Done first ends = cc
-ended d known folder bytes true [] Inventory first ends = inl refl
-ended d known folder bytes false [] Inventory first ends = cc
-ended d known folder bytes refused (fault ∷ faults) Inventory first ends = inr (fault, first)
-ended d known folder bytes refused faults Device first ends = tt
-ended d known folder bytes refused faults Memory first ends = tt
-ended d known folder bytes refused faults CommandLine first ends = cc
-ended d known folder bytes refused faults Unkeepable first ends = cc
-ended d known folder bytes refused faults No first ends = cc
-ended d known folder bytes refused faults TooLong first ends = cc
+ended d known folder bytes true [] Done all first ends = cc
+ended d known folder bytes false [] Done all first ends = (refl, first)
+ended d known folder bytes refused (fault ∷ faults) Done all first ends = cc
+ended d known folder bytes true [] Inventory all first ends = inl refl
+ended d known folder bytes false [] Inventory all first ends = cc
+ended d known folder bytes refused (fault ∷ faults) Inventory all first ends = inr (fault, (faults, all))
+ended d known folder bytes refused faults Device all first ends = tt
+ended d known folder bytes refused faults Memory all first ends = tt
+ended d known folder bytes refused faults CommandLine all first ends = cc
+ended d known folder bytes refused faults Unkeepable all first ends = cc
+ended d known folder bytes refused faults No all first ends = cc
+ended d known folder bytes refused faults TooLong all first ends = cc

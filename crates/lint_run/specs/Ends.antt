@@ -1,19 +1,19 @@
 -- Ends: how a run of `lint` ends.
 -- Source: this project's own; docs/commands/lint.md.
-use Rattle.std.specs.Prelude.{◌≡◌, ◌⊎◌, ℕ, Bool, true, false, not, List, [], ◌∷◌, Ok, Err}
+use Rattle.std.specs.Prelude.{◌≡◌, ◌⊎◌, ℕ, Bool, true, false, not, List, [], ◌∷◌, Ok}
 use Rattle.keep_files.specs.Files.{Files}
 use Rattle.keep_inventory.specs.Inventories.{Inventory}
 use Rattle.keep_report.specs.declared.exit.Exit.{Exit}
 use Rattle.keep_report.specs.declared.exit.Exit.TheVariants as exits
-use Rattle.house_words.specs.Reading.{IsToServe}
+use Rattle.house_words.specs.Reading.{AreFaults, IsToServe}
 use Rattle.house_words.specs.declared.demands.Demands.{Demands}
 use Rattle.house_words.specs.declared.fault.StartFault.{StartFault}
 
--- with 1 only where it is refused, whatever it holds or for a fault, and with 0 only where it is served; else a write failed, or memory was
--- refused
+-- with 1 only where it is refused, whatever it holds or because it has faults, and with 0 only where it is served; else a write failed, or
+-- memory was refused
 abbrev pub EndsBy : Demands → Files → List ℕ → List ℕ → Bool → Exit → Type 0
 EndsBy d known folder bytes refused exits.Done = (refused ≡ false) × ((inventory : Inventory) × IsToServe d known folder bytes (Ok inventory))
-EndsBy d known folder bytes refused exits.Inventory = (refused ≡ true) ⊎ ((fault : StartFault) × IsToServe d known folder bytes (Err fault))
+EndsBy d known folder bytes refused exits.Inventory = (refused ≡ true) ⊎ ((fault : StartFault) × ((more : List StartFault) × AreFaults d known folder bytes (fault ∷ more)))
 EndsBy d known folder bytes refused exits.Device = Unit {0}
 EndsBy d known folder bytes refused exits.Memory = Unit {0}
 EndsBy d known folder bytes refused exit = ⊥
