@@ -323,7 +323,7 @@ it renews, and renews what the one in front has left undone",
 /// `lint FILE [--timeout SECONDS] [--names-are-secrets] [--json]`
 const LINT: Described = Described {
     name: "lint",
-    about: "Shows all faults of an inventory, and what is probably not meant, with line and fix",
+    about: "Shows what is wrong with an inventory, and what is probably not meant, with line and fix",
     after: "\
 Each finding is a line `FILE:LINE: SEVERITY: ENTRY KEY: PROBLEM; FIX`. `leasekeep serve` refuses an
 inventory for a `fault`, and takes it with a `doubt`. What has no line of its own is said of FILE,
@@ -364,8 +364,8 @@ const FILE: Word = Word {
     name: "FILE",
     takes: Takes::Text,
     help: "\
-The inventory, at most 1 MiB; read first. `leasekeep lint FILE` shows every
-fault, its line and its fix",
+The inventory, at most 1 MiB; read first. `leasekeep lint FILE` shows what is
+wrong with it, with line and fix",
 };
 
 const START: Word = Word {
