@@ -6,7 +6,6 @@ import tomllib
 from dataclasses import dataclass
 from typing import Any
 
-from leasekeep_inventory.dialect import SERVED
 from leasekeep_inventory.inventory import ALWAYS, Kind
 from leasekeep_inventory.inventory import Entry as Written
 from leasekeep_inventory.inventory import Inventory as WrittenInventory
@@ -47,10 +46,9 @@ class Inventory:
 
 def read(text: str, path: str = "FILE") -> Inventory:
     """The entries of an inventory's text, which stands in that file. Raises InventoryFault."""
-    reading = read_inventory(text.encode(), SERVED)
+    reading = read_inventory(text.encode())
     if reading.inventory is None:
-        first = min(reading.faults, key=lambda fault: fault.line)
-        raise InventoryFault(f"{first.text(path)} (`leasekeep-inventory lint {path}` shows every fault)")
+        raise InventoryFault(min(reading.faults, key=lambda fault: fault.line).text(path))
     written = reading.inventory
     places = {entry.name: place for place, entry in enumerate(written.entries)}
     entries = tuple(_entry(written, entry, places) for entry in written.entries)

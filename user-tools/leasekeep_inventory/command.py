@@ -11,11 +11,9 @@ import time
 from pathlib import Path
 
 from .broker import Broker
-from .dialect import SERVED, STRICT
 from .discover import DiscoverFault, Filled, discover, read_list
 from .http_client import Address, HttpTransport
 from .inventory_file import LIMIT
-from .lint import kinds_of, lint
 from .version import version
 
 EXIT_FAULT, EXIT_COMMAND_LINE = 1, 2
@@ -30,17 +28,16 @@ def main(words: list[str]) -> int:
     except OSError as error:
         print(f"leasekeep-inventory: {asked.command}: {asked.file}: {error.strerror}", file=sys.stderr)
         return EXIT_COMMAND_LINE
-    return _draft(asked, data, mode) if asked.command == "draft" else _lint(asked, data, mode)
+    return _draft(asked, data, mode)
 
 
 def _parser() -> argparse.ArgumentParser:
     parser = argparse.ArgumentParser(
-        prog="leasekeep-inventory", description="Drafts an inventory by asking the broker, and finds the mistakes of one.",
+        prog="leasekeep-inventory", description="Drafts an inventory by asking the broker.",
         epilog="Exit status: 0 done, 1 a faulty inventory or a lookup that failed, 2 the command line.")
     parser.add_argument("--version", action="version", version=f"leasekeep-inventory {version()}")
     commands = parser.add_subparsers(dest="command", required=True, metavar="COMMAND")
     _add_draft(commands)
-    _add_lint(commands)
     return parser
 
 
@@ -57,14 +54,6 @@ def _add_draft(commands: "argparse._SubParsersAction[argparse.ArgumentParser]") 
                          help="the broker: a port of 127.0.0.1, or the path of a UNIX socket")
     drafted.add_argument("--timeout", type=_timeout, default=5, metavar="SECONDS",
                          help="the longest that a lookup may take (1 to 60, default: 5)")
-
-
-def _add_lint(commands: "argparse._SubParsersAction[argparse.ArgumentParser]") -> None:
-    linted = commands.add_parser("lint", help="show every fault and doubt of an inventory, with its line and its fix")
-    linted.add_argument("file", type=Path, metavar="FILE", help="the inventory")
-    linted.add_argument("--timeout", type=_timeout, default=5, metavar="SECONDS", help="the time-out of serve (1 to 60, default: 5)")
-    linted.add_argument("--strict", action="store_true",
-                        help="judge FILE as the commands of `leasekeep` that plan do, which take no end that is left to a lookup")
 
 
 def _timeout(word: str) -> int:
@@ -94,17 +83,3 @@ def _draft(asked: argparse.Namespace, data: bytes, mode: int) -> int:
     sys.stdout.buffer.write(filled.data)
     sys.stdout.flush()
     return 0
-
-
-def _lint(asked: argparse.Namespace, data: bytes, mode: int) -> int:
-    found = lint(data, mode, asked.timeout, time.time(), STRICT if asked.strict else SERVED, asked.file.parent)
-    for finding in found:
-        print(finding.text(str(asked.file)))
-    sys.stdout.flush()
-    faults, doubts = kinds_of(found)
-    print(f"{asked.file}: {_count(faults, 'fault')}, {_count(doubts, 'doubt')}", file=sys.stderr)
-    return EXIT_FAULT if faults else 0
-
-
-def _count(number: int, word: str) -> str:
-    return f"{number} {word}" if number == 1 else f"{number} {word}s"

@@ -13,7 +13,6 @@ from pathlib import Path
 from typing import Any, Callable
 
 from .broker import Broker, Facts, Verdict
-from .dialect import SERVED
 from .filling import Moment, Page, Value
 from .findings import Finding, Severity
 from .inventory import Entry, Inventory, Kind
@@ -55,7 +54,7 @@ class Filled:
 def read_list(data: bytes, mode: int, folder: Path) -> Listed:
     """The list that the bytes write; DiscoverFault where it is faulty, or where others may read or write it. Files of secrets are
     below the folder."""
-    reading = read_inventory(data, SERVED)
+    reading = read_inventory(data)
     faults = reading.faults + open_to_others(mode) + without_credential(reading)
     secrets = dict[str, str]()
     for entry in reading.sound.entries:
@@ -152,7 +151,7 @@ def _written(listed: Listed, told: dict[str, dict[str, Value]], expected: Invent
             faults.append(_unwritable(listed, name))
     data = (codecs.BOM_UTF8 if listed.data.startswith(codecs.BOM_UTF8) else b"") + page.text.encode()
     if not faults:
-        again = read_inventory(data, SERVED)
+        again = read_inventory(data)
         found = {entry.name: entry for entry in again.sound.entries}
         faults = [_unwritable(listed, entry.name) for entry in expected.entries if found.get(entry.name) != entry]
         faults = faults or again.faults

@@ -7,13 +7,10 @@ from dataclasses import dataclass, field
 from functools import cached_property
 from typing import Any, Iterator
 
-from .dialect import STRICT, Dialect
 from .durations import DURATION_TEXT, INCREMENT_TEXT, MARGIN_TEXT, NEED, SYSTEM_MAX_TEXT
 from .findings import Finding, Severity
 from .inventory import END_MAX, SYSTEM_MAX, Entry, Inventory, Kind
-from .near import Near, Slip
 from .rfc3339 import LAST
-from .room import USUAL_TIMEOUT
 from .toml_text import Lines, SyntaxFault, decoded, parsed
 from .tree import Row, judge_rows, shown, sound_entries
 from .values import ABOVE, CREDENTIAL_FORM, FILE_FORM, FLAG, NAME, NAME_FORM, Form, moment, tables
@@ -40,7 +37,6 @@ class Reading:
     one is written.
     """
 
-    dialect: Dialect = STRICT
     inventory: Inventory | None = None
     sound: Inventory = field(default_factory=Inventory)
     rows: list[Row] = field(default_factory=list)
@@ -76,11 +72,9 @@ class Reading:
 class _Table:
     """One table of the file, its keys taken one by one."""
 
-    def __init__(self, reading: Reading, near: Near, head: str, place: int, kind: Kind | None, values: dict[str, Any],
-                 ) -> None:
-        self.reading, self.near, self.values = reading, near, values
-        self.head, self.place, self.kind = head, place, kind
-        self.slips: dict[str, str] = {}
+    def __init__(self, reading: Reading, head: str, place: int, kind: Kind | None, values: dict[str, Any]) -> None:
+        self.reading, self.values = reading, values
+        self.head, self.place = head, place
         named = values.get("name")
         if isinstance(named, str) and NAME.fullmatch(named):
             self.label = shown(named)
@@ -92,55 +86,39 @@ class _Table:
         self.reading.findings.append(Finding(Severity.FAULT, line, self.label, key, problem, mend))
 
     def unknown(self, known: tuple[str, ...]) -> None:
-        """A fault for each key that is none of these; its value is read as that of the key that it was meant to be."""
+        """A fault for each key that is none of these."""
         for key in self.values:
             if key not in known:
                 shown_key = key if NAME.fullmatch(key) else "?"
-                slip = self.near.key(key, known, self.values, self.kind)
-                self.fault(shown_key, slip.problem, slip.mend)
-                self.slip(key, slip)
-
-    def slip(self, key: str, slip: Slip) -> None:
-        """Takes the key for the one that was meant, also in what is said of its line."""
-        if slip.meant is not None and slip.meant not in self.slips:
-            self.slips[slip.meant] = key
-            lines = self.reading.lines
-            lines.keys.setdefault((self.head, self.place, slip.meant), lines.of_key(self.head, self.place, key))
-
-    def has(self, key: str) -> bool:
-        """Whether the key is there, or a slip that was meant to be it."""
-        return key in self.values or key in self.slips
+                self.fault(shown_key, "is not a key of this table", f"the keys are {', '.join(known)}")
 
     def take(self, key: str, form: Form, absent: Any = None, must: bool = False) -> Any:
         """The key's value as the form reads it; a fault, and `absent`, where it is missing or no such value."""
-        written = key if key in self.values else self.slips.get(key)
-        if written is None:
+        if key not in self.values:
             if must:
                 self.fault(key, "is missing", f"add {key}: {form.expected}")
             return absent
-        value = form.read(self.values[written])
-        if value is None and written == key:  # (of a slip it may be the guess that is wrong)
+        value = form.read(self.values[key])
+        if value is None:
             self.fault(key, f"is not {form.expected}", form.mend(self.values[key]))
         return absent if value is None else value
 
 
-def read_inventory(data: bytes, dialect: Dialect = STRICT, timeout: int = USUAL_TIMEOUT) -> Reading:
-    """The inventory that the bytes write, with every fault, and advice for that time-out."""
-    reading = Reading(dialect)
+def read_inventory(data: bytes) -> Reading:
+    """The inventory that the bytes write as `leasekeep serve` takes it, with every fault."""
+    reading = Reading()
     top = _document(data, reading)
     if top is None:
         return reading
-    near = Near()
-    table = _Table(reading, near, "", 0, None, top)
+    table = _Table(reading, "", 0, None, top)
     _unknown_tops(table)
     system_max = table.take("system_max", SYSTEM_MAX_TEXT)
     margin = table.take("margin", MARGIN_TEXT)
-    is_written = "margin" in top or "margin" in table.slips
-    reading.margin = margin if is_written else ABSENT_MARGIN
-    reading.has_margin = is_written
+    reading.has_margin = "margin" in top
+    reading.margin = margin if reading.has_margin else ABSENT_MARGIN
     reading.rows = list(_rows(table))
     whole = Inventory((), reading.margin or 1, system_max or SYSTEM_MAX)
-    reading.findings += judge_rows(reading.rows, whole, reading.margin, reading.lines, timeout)
+    reading.findings += judge_rows(reading.rows, whole, reading.margin, reading.lines)
     reading.sound = Inventory(sound_entries(reading.rows), whole.margin, whole.system_max)
     reading.inventory = None if reading.faults else reading.sound
     return reading
@@ -177,55 +155,52 @@ def _unknown_tops(table: _Table, known: tuple[str, ...] = TOP) -> None:
             is_table = isinstance(value, (list, dict))
             label = (f"[[{key}]]" if is_table else key) if re.fullmatch(r"[A-Za-z0-9_-]{1,32}", key) else "?"
             line = table.reading.lines.of_top(key)
-            slip = table.near.top(key, known, is_table)
-            table.reading.findings.append(Finding(Severity.FAULT, line, "", label, slip.problem, slip.mend))
-            table.slip(key, slip)
+            problem = "is not a table of an inventory" if is_table else "is not a key of the top level"
+            mend = "the tables are [[token]] and [[lease]]" if is_table else f"the keys are {', '.join(known)}"
+            table.reading.findings.append(Finding(Severity.FAULT, line, "", label, problem, mend))
 
 
 def _rows(table: _Table) -> Iterator[Row]:
-    """All tokens, then all leases; also those under a head that is nearly one of theirs."""
+    """All tokens, then all leases."""
     for kind in Kind:
-        heads = [kind.value, *(key for key, value in table.values.items()
-                               if isinstance(value, (list, dict)) and table.near.kind_of(key) == kind.value)]
-        for head in heads:
-            for place, values in enumerate(_tables_of(table, head, kind)):
-                yield _row(_Table(table.reading, table.near, head, place, kind, values), kind)
+        for place, values in enumerate(_tables_of(table, kind)):
+            yield _row(_Table(table.reading, kind.value, place, kind, values), kind)
 
 
-def _tables_of(table: _Table, head: str, kind: Kind) -> list[dict[str, Any]]:
-    value = table.values.get(head, [])
+def _tables_of(table: _Table, kind: Kind) -> list[dict[str, Any]]:
+    value = table.values.get(kind.value, [])
     form = tables(kind.value)
     found = form.read(value)
-    if found is None and head == kind.value:
-        line = table.reading.lines.of_top(head)
+    if found is None:
+        line = table.reading.lines.of_top(kind.value)
         table.reading.findings.append(
-            Finding(Severity.FAULT, line, "", head, f"is not {form.expected}", form.mend(value)))
+            Finding(Severity.FAULT, line, "", kind.value, f"is not {form.expected}", form.mend(value)))
     is_one = isinstance(value, dict) and not all(isinstance(item, dict) for item in value.values())
     return found or ([value] if is_one else [])
 
 
 def _row(table: _Table, kind: Kind) -> Row:
-    before, dialect = len(table.reading.findings), table.reading.dialect
+    before = len(table.reading.findings)
     is_token = kind is Kind.TOKEN
     key = "secret" if is_token else "lease_id"
     file_key = f"{key}_file"
     table.unknown(KEYS[kind])
     name = table.take("name", NAME_FORM, must=True)
     above = table.take("parent" if is_token else "token", ABOVE, must=not is_token)
-    issued = table.take("issued", moment(LAST), 0, must=dialect.has_terms or "end" in table.values)
-    end = table.take("end", moment(END_MAX), 0, must=dialect.has_terms or "issued" in table.values)
+    issued = table.take("issued", moment(LAST), 0, must="end" in table.values)
+    end = table.take("end", moment(END_MAX), 0, must="issued" in table.values)
     renewable = table.take("renewable", FLAG, True)
     period = table.take("period", DURATION_TEXT, 0) if is_token else 0
     increment = table.take("increment", INCREMENT_TEXT)
-    if not period and not table.has("increment"):
+    if not period and "increment" not in table.values:
         increment = ABSENT_INCREMENT
     max_ttl = table.take("max_ttl", DURATION_TEXT)
     explicit = table.take("explicit_max_ttl", DURATION_TEXT, 0) if is_token else 0
     need = table.take("need", NEED, 0)
     credential = table.take(key, CREDENTIAL_FORM)
-    has_credential = table.has(key)
+    has_credential = key in table.values
     file = None
-    if table.has(file_key):
+    if file_key in table.values:
         file = table.take(file_key, FILE_FORM)
         if has_credential:
             table.fault(file_key, f"stands beside {key}", "write one of the two")

@@ -7,21 +7,8 @@ import stat
 from .findings import Finding, Severity
 from .inventory import Kind
 from .inventory_file import Reading
-from .room import TIMEOUTS_IN_MARGIN, Room
 
-NO_MARGIN = "is not written", f"write one of at least {TIMEOUTS_IN_MARGIN} times the time-out"
-
-
-def refusals(reading: Reading, timeout: int, mode: int) -> list[Finding]:
-    """Why an inventory may not be served, besides what its reading found."""
-    found = open_to_others(mode)
-    margin = reading.margin
-    if lacks_margin(reading):
-        found.append(_fault(0, "", "margin", *NO_MARGIN))
-    elif margin is not None and margin < TIMEOUTS_IN_MARGIN * timeout:
-        found.append(_fault(reading.line_of("", "margin"), "", "margin", f"is {margin} s, under four times the time-out of {timeout} s",
-                            room_of(reading).for_timeout(timeout, margin)))
-    return found + without_credential(reading)
+NO_MARGIN = "is not written", "write one of at least 4 times the time-out"
 
 
 def lacks_margin(reading: Reading) -> bool:
@@ -49,8 +36,3 @@ def without_credential(reading: Reading) -> list[Finding]:
 
 def _fault(line: int, label: str, key: str, problem: str, mend: str) -> Finding:
     return Finding(Severity.FAULT, line, label, key, problem, mend)
-
-
-def room_of(reading: Reading) -> Room:
-    """The room that the steps leave for the margin, as far as they are known."""
-    return Room.of((row.step, row.label) for row in reading.rows if row.step)

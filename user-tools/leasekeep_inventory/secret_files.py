@@ -29,11 +29,3 @@ def read_secret(path: Path) -> str:
     if not CREDENTIAL.fullmatch(text):
         raise SecretFault("holds no secret of 1 to 256 printable ASCII characters" if data is not None else "is not a regular file")
     return text
-
-
-def is_open_to_others(path: Path) -> bool:
-    """Whether others may read or write the file."""
-    try:
-        return bool(path.stat().st_mode & (stat.S_IROTH | stat.S_IWOTH))
-    except (OSError, ValueError):
-        return False

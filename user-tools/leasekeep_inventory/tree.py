@@ -2,20 +2,16 @@
 
 from __future__ import annotations
 
-import difflib
 import re
 from dataclasses import dataclass
 from typing import Iterator
 
 from .findings import Finding, Severity
 from .inventory import END_MAX, MAX_DEPTH, MAX_ENTRIES, Entry, Inventory, Kind
-from .room import USUAL_TIMEOUT, instead_of_step, step_for
 from .toml_text import Lines
 
 TOKEN_VALUE = re.compile(r"(hvs|hvb|hvr|s|b)\.[A-Za-z0-9_\-]{8,}", re.ASCII)
 """What the values of Vault's tokens look like."""
-_GUESSES = 20
-"""So many names that nothing has get a guess: more are no slips."""
 
 
 def shown(name: str) -> str:
@@ -58,10 +54,9 @@ class Row:
         return self.credential if self.is_written else self.name
 
 
-def judge_rows(rows: list[Row], whole: Inventory, margin: int | None, lines: Lines, timeout: int = USUAL_TIMEOUT) -> list[Finding]:
-    """The faults of rows beside each other. `whole` has the system's maximum; a margin of None could not be read. Advice is for that
-    time-out."""
-    return list(_Judge(rows, whole, margin, lines, timeout).findings())
+def judge_rows(rows: list[Row], whole: Inventory, margin: int | None, lines: Lines) -> list[Finding]:
+    """The faults of rows beside each other. `whole` has the system's maximum; a margin of None could not be read."""
+    return list(_Judge(rows, whole, margin, lines).findings())
 
 
 def sound_entries(rows: list[Row]) -> tuple[Entry, ...]:
@@ -80,16 +75,13 @@ def sound_entries(rows: list[Row]) -> tuple[Entry, ...]:
 class _Judge:
     """Goes over the rows in their order, with those before each."""
 
-    def __init__(self, rows: list[Row], whole: Inventory, margin: int | None, lines: Lines, timeout: int) -> None:
-        self._rows, self._whole, self._margin, self._lines, self._timeout = rows, whole, margin, lines, timeout
+    def __init__(self, rows: list[Row], whole: Inventory, margin: int | None, lines: Lines) -> None:
+        self._rows, self._whole, self._margin, self._lines = rows, whole, margin, lines
         self._first: dict[str, tuple[int, Row]] = {}
         for at, row in enumerate(rows):
             if row.name is not None:
                 self._first.setdefault(row.name, (at, row))
         self._depths: dict[str, int] = {}
-        self._circles = _circles({name: row for name, (_, row) in self._first.items()})
-        self._circled: set[str] = set()
-        self._guesses = _GUESSES
 
     def findings(self) -> Iterator[Finding]:
         credentials: dict[tuple[Kind, str], Row] = {}
@@ -109,8 +101,7 @@ class _Judge:
             yield "", f"is one more than the {MAX_ENTRIES} entries allowed", "split the inventory"
         if self._margin is not None and step is not None and step <= self._margin:
             key = "period" if entry is not None and entry.period else "increment"
-            yield (key, f"is not greater than the margin of {self._margin} s",
-                   f"ask for {step_for(self._margin)} or more{instead_of_step(step, self._timeout)}")
+            yield key, f"is not greater than the margin of {self._margin} s", "ask for more, or lower the margin"
         if entry is not None:
             ceiling = self._whole.ceiling(entry, entry.issued, entry.period, entry.explicit_max_ttl)
             if ceiling is not None and ceiling > END_MAX:
@@ -133,56 +124,12 @@ class _Judge:
         if row.above is not None:
             key = "token" if row.kind is Kind.LEASE else "parent"
             above = self._first.get(row.above)
-            if above is None:
-                yield key, "names no token of this inventory", self._guess(row.above)
+            if above is None or above[0] >= at:
+                yield key, "names no token above this table", "write that token's table before this one"
             elif above[1].kind is Kind.LEASE:
-                token = above[1].above
-                yield key, "names a lease", f"name the lease's token, {shown(token)}" if token else "name the lease's token"
-            elif above[0] >= at:
-                yield from self._later(row, above[1], key)
+                yield key, "names a lease", "name the lease's token"
             depth = self._depths.get(row.above, 0) + 1
             if depth == MAX_DEPTH + 1:
                 yield key, f"is the {depth}th of its chain", "flatten the tree"
         if row.name is not None:
             self._depths.setdefault(row.name, depth)
-
-    def _later(self, row: Row, above: Row, key: str) -> Iterator[tuple[str, str, str]]:
-        if above is row:
-            yield key, "names the entry itself", "remove it, or name the token that it was made with"
-            return
-        circle = self._circles.get(row.above or "", [])
-        if row not in circle:
-            yield key, f"names a later token: {self._on(above, 'name')}", "write that token's table before this one"
-        elif row.name not in self._circled:
-            self._circled.update(other.name for other in circle if other.name is not None)
-            names = [self._on(other, key) for other in circle]
-            yield (key, f"leads in a cycle: {', '.join(names[:-1])} and {names[-1]} are under each other",
-                   "remove parent from the one that was made first")
-
-    def _guess(self, name: str) -> str:
-        self._guesses -= 1
-        if self._guesses >= 0:
-            tokens = [token for token, (_, row) in self._first.items() if row.kind is Kind.TOKEN]
-            near = difflib.get_close_matches(name, tokens, 1, 0.7)
-            if near:
-                return f"did you mean {shown(near[0])}?"
-        return "write that token's table, or look for a misspelling"
-
-
-def _circles(rows: dict[str, Row]) -> dict[str, list[Row]]:
-    """By the name of each row that leads back to itself over what it stands under: the rows of that circle."""
-    circles: dict[str, list[Row]] = {}
-    passed: set[str] = set()
-    for start in rows:
-        path: list[str] = []
-        places: dict[str, int] = {}
-        name: str | None = start
-        while name in rows and name not in passed and name not in places:
-            places[name] = len(path)
-            path.append(name)
-            name = rows[name].above
-        if name in places:
-            circle = path[places[name]:]
-            circles.update((other, [rows[one] for one in circle]) for other in circle)
-        passed.update(path)
-    return circles

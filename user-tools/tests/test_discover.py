@@ -14,7 +14,6 @@ from pathlib import Path
 from typing import Any
 
 from leasekeep_inventory.broker import Broker, read_lease_lookup, read_token_lookup
-from leasekeep_inventory.dialect import SERVED
 from leasekeep_inventory.discover import DiscoverFault, Filled, discover, read_list
 from leasekeep_inventory.inventory import ALWAYS, Entry, Inventory, Kind
 from leasekeep_inventory.inventory_file import read_inventory
@@ -111,7 +110,7 @@ class Kept(Discovered):
         text = self.text(LIST)
         self.assertEqual(text, FILLED)
         self.assertNotIn("hvs.app-secret", text)
-        inventory = read_inventory(text.encode(), SERVED).inventory or Inventory()
+        inventory = read_inventory(text.encode()).inventory or Inventory()
         app = inventory.entries[0]
         self.assertEqual((app.need, app.max_ttl, app.credential_file, app.credential), (ALWAYS, 2_592_000, "app.token", None))
 
@@ -155,7 +154,7 @@ class Kept(Discovered):
 class Increments(Discovered):
     def increments(self, margin: int, **real: dict[str, object]) -> list[int | None]:
         text = self.text(LIST.replace('"30s"', str(margin)).replace('increment = "10m"\n', ""), **real)
-        inventory = read_inventory(text.encode(), SERVED).inventory
+        inventory = read_inventory(text.encode()).inventory
         assert inventory is not None
         return [entry.increment for entry in inventory.entries]
 
@@ -178,7 +177,7 @@ class Increments(Discovered):
 
     def test_one_that_is_no_longer_than_the_margin_is_a_fault(self) -> None:
         self.assertEqual(self.faults(LIST, job={"lasts": 30}), [
-            "f:18: fault: job increment: is not greater than the margin of 30 s; ask for 40 or more, or lower margin to 22"])
+            "f:18: fault: job increment: is not greater than the margin of 30 s; ask for more, or lower the margin"])
 
     def test_replies(self) -> None:
         lease = b'{"data":{"id":"l","issue_time":"2017-04-30T10:18:11.9999-04:00","expire_time":"2017-04-30T11:18:12.0001-04:00",%s"ttl":18}}'
@@ -197,8 +196,8 @@ class Increments(Discovered):
 class Faults(Discovered):
     def test_each_with_its_line(self) -> None:
         for old, new, expected in (
-            ("max_ttl", "max_tll", "f:7: fault: app max_tll: is not a key of this table; did you mean max_ttl?"),
-            ("margin", "magrin", "f:2: fault: magrin: is not a key of the top level; did you mean margin?"),
+            ("max_ttl", "max_tll", "f:7: fault: app max_tll: is not a key of this table; the keys are name, "),
+            ("margin", "magrin", "f:2: fault: magrin: is not a key of the top level; the keys are system_max, "),
             ('"30s"', '"1 minute"', "f:2: fault: margin: is not 1 to 3600 seconds"),
             ("always", "forever", "f:8: fault: app need: is not "),
             ('secret = "s.job"', "", "f:18: fault: job secret: is missing"),

@@ -84,7 +84,7 @@ class Reading(unittest.TestCase):
         for text, expected in (("[[token", "f.toml:1: fault: "), ("[[token]]\nname = 'a'\nend = 1\n", "f.toml:1: fault: a issued: is missing"),
                                ("token = 5\n", "f.toml:1: fault: token: is not an array"), ("margin = '1 m'\n", 'did you mean "1m"'),
                                (FAMILY.replace('token = "T"', 'token = "X"'), "f.toml:19: fault: L token: names no token")):
-            with self.subTest(text=text), self.assertRaisesRegex(entries.InventoryFault, f"{expected}.*`leasekeep-inventory lint f.toml` shows every"):
+            with self.subTest(text=text), self.assertRaisesRegex(entries.InventoryFault, expected):
                 entries.read(text, "f.toml")
 
     def test_lines_that_nobody_prints(self) -> None:

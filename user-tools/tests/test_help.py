@@ -146,13 +146,13 @@ class Help(unittest.TestCase):
                 continue
             with self.subTest(shell=shell):
                 self.assertEqual(self.completed(shell, "leasekeep-inventory", "d"), ["draft"])
-                self.assertEqual(self.completed(shell, "leasekeep-inventory", "lint", "--st"), ["--strict"])
-                self.assertEqual(self.completed(shell, "leasekeep-inventory", "lint", "w"), ["web.toml"])
+                self.assertEqual(self.completed(shell, "leasekeep-inventory", "draft", "--ti"), ["--timeout"])
+                self.assertEqual(self.completed(shell, "leasekeep-inventory", "draft", "w"), ["web.toml"])
 
     @unittest.skipIf(shutil.which("zsh") is None, "zsh is not installed")
     def test_zsh(self) -> None:
         (self.folder / "_leasekeep-inventory").write_text(written("leasekeep-inventory")["zsh"])
-        self.assertIn("lint --strict", self.typed_in_zsh("leasekeep-inventory lint --st\t\t"))
+        self.assertIn("draft --timeout", self.typed_in_zsh("leasekeep-inventory draft --ti\t\t"))
 
     def typed_in_zsh(self, line: str) -> str:
         """What a zsh shows that has these completions, while that is typed."""

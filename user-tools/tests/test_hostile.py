@@ -14,7 +14,6 @@ from leasekeep_inventory.broker import read_lease_lookup, read_token_lookup
 from leasekeep_inventory.discover import DiscoverFault, read_list
 from leasekeep_inventory.http_client import MOST, Response, read_response
 from leasekeep_inventory.inventory_file import read_inventory
-from leasekeep_inventory.lint import lint
 from trial.programs import SLOWER
 
 CASES = 1500
@@ -118,7 +117,7 @@ class Hostile(unittest.TestCase):
         for text in cases((INVENTORY,), 3):
             reading = read_inventory(text)
             self.assertTrue(reading.faults or reading.inventory is not None)
-            for finding in lint(text, 0o600, 5, 1e9):
+            for finding in reading.findings:
                 self.assertNotIn("s.app", finding.text("file"))
 
     def test_inventories_that_python_cannot_read(self) -> None:

@@ -9,11 +9,8 @@ import unittest
 from dataclasses import replace
 from pathlib import Path
 
-from leasekeep_inventory.dialect import SERVED, STRICT
-from leasekeep_inventory.findings import Severity
 from leasekeep_inventory.inventory import ALWAYS
 from leasekeep_inventory.inventory_file import read_inventory
-from leasekeep_inventory.lint import lint
 from leasekeep_inventory.rfc3339 import date_text
 from trial.programs import SLOWER, TOP, find_program
 
@@ -99,10 +96,7 @@ class OneFile(unittest.TestCase):
         self.assertEqual(len(wakes), int(plan.splitlines()[-1].removeprefix("end ")))
 
     def test_the_tools(self) -> None:
-        for dialect in (SERVED, STRICT):
-            faults = [each for each in lint(WRITTEN.encode(), 0o600, 5, float(START), dialect=dialect) if each.severity is Severity.FAULT]
-            self.assertEqual(faults, [], dialect)
-        mine, other = read_inventory(WRITTEN.encode(), SERVED).inventory, read_inventory(IN_SECONDS.encode(), SERVED).inventory
+        mine, other = read_inventory(WRITTEN.encode()).inventory, read_inventory(IN_SECONDS.encode(), SERVED).inventory
         assert mine is not None and other is not None
         self.assertEqual(mine.margin, other.margin)
         for entry, plain in zip(mine.entries, other.entries, strict=True):

@@ -4,13 +4,10 @@ from __future__ import annotations
 
 import unittest
 
-from leasekeep_inventory.dialect import SERVED, STRICT, Dialect
 from leasekeep_inventory.durations import duration_text, meant_duration, read_duration
 from leasekeep_inventory.inventory import ALWAYS, Inventory, inventory_text
 from leasekeep_inventory.inventory_file import read_inventory
-from leasekeep_inventory.lint import lint
 
-NOW = 1_000_000.0
 SHORT = """margin = "1m"
 [[token]]
 name = "app"
@@ -26,8 +23,6 @@ max_ttl = "1d"
 need = "2026-12-01T00:00:00Z"
 lease_id = "db/creds/1"
 """
-WELL = SHORT.replace('"2026-12-01T00:00:00Z"', '"always"').replace('"1d"', '"2d"')
-"""(A lease of a day is not kept for years, and is short from its issue on.)"""
 PLAIN = """system_max = 2764800
 margin = 60
 
@@ -48,12 +43,12 @@ lease_id = "db/creds/1"
 """
 
 
-def linted(text: str, dialect: Dialect = SERVED) -> list[str]:
-    return [finding.text("f") for finding in lint(text.encode(), 0o600, 5, NOW, dialect=dialect)]
+def faults_of(text: str) -> list[str]:
+    return [fault.text("f") for fault in read_inventory(text.encode()).faults]
 
 
 def inventory_of(text: str) -> Inventory:
-    reading = read_inventory(text.encode(), SERVED)
+    reading = read_inventory(text.encode())
     assert reading.inventory is not None, [fault.text("f") for fault in reading.faults]
     return reading.inventory
 
@@ -102,28 +97,24 @@ class Read(unittest.TestCase):
 
     def test_a_margin_that_is_not_written(self) -> None:
         """It is read as the commands that plan read it, and noted."""
-        reading = read_inventory(SHORT.replace('margin = "1m"\n', "").encode(), SERVED)
+        reading = read_inventory(SHORT.replace('margin = "1m"\n', "").encode())
         self.assertEqual((reading.margin, reading.has_margin), (1, False))
-        self.assertTrue(read_inventory(SHORT.encode(), SERVED).has_margin)
+        self.assertTrue(read_inventory(SHORT.encode()).has_margin)
 
     def test_issue_and_end_are_both_written_or_neither(self) -> None:
         for written, missing in (("issued = 1000", "end"), ("end = 2000", "issued"), ('end = "x"', "issued")):
-            faults = read_inventory(SHORT.replace('max_ttl = "30d"', written).encode(), SERVED).faults
+            faults = read_inventory(SHORT.replace('max_ttl = "30d"', written).encode()).faults
             self.assertEqual([fault.key for fault in faults if fault.problem == "is missing"], [missing])
             self.assertEqual({fault.line for fault in faults}, {2, 4} if '"x"' in written else {2})
         self.assertEqual(inventory_of(SHORT.replace('max_ttl = "30d"', "issued = 1000\nend = 2000")).entries[0].end, 2000)
 
-    def test_leasekeep_plans_for_nothing_that_is_left_open(self) -> None:
-        keys = [fault.key for fault in read_inventory(SHORT.encode()).faults]
-        self.assertEqual(keys, ["issued", "end", "issued", "end"])
-        text = SHORT.replace("[[token]]", "[[token]]\nissued = 1\nend = 2").replace("[[lease]]", "[[lease]]\nissued = 1\nend = 2")
-        reading = read_inventory(text.replace('"always"', "3").replace('secret = "', 'secret_file = "').encode())
-        assert reading.inventory is not None
-        self.assertEqual([(entry.increment, entry.max_ttl) for entry in reading.inventory.entries], [(3600, 2592000), (5400, 86400)])
+    def test_what_a_lookup_tells_may_be_left_open(self) -> None:
+        text = SHORT.replace("[[token]]", "[[token]]\nissued = 1\nend = 2").replace('secret = "', 'secret_file = "')
+        app, db = inventory_of(text).entries
+        self.assertEqual((app.lacks_terms, db.lacks_terms), (False, True))
 
-    def test_what_leasekeep_is_handed_is_strict(self) -> None:
-        reading = read_inventory(inventory_text(inventory_of(SHORT)).encode(), STRICT)
-        self.assertEqual((reading.faults, reading.inventory), ([], inventory_of(SHORT)))
+    def test_what_is_written_is_read_again(self) -> None:
+        self.assertEqual(inventory_of(inventory_text(inventory_of(SHORT))), inventory_of(SHORT))
 
     def test_a_settled_file_has_the_words_and_means_the_same(self) -> None:
         inventory = inventory_of(SHORT)
@@ -131,16 +122,7 @@ class Read(unittest.TestCase):
         self.assertEqual(inventory_of(PLAIN), inventory)
 
 
-class Lint(unittest.TestCase):
-    def test_a_good_one(self) -> None:
-        self.assertEqual(linted(WELL.replace('"30d"\n', '"30d"\nincrement = "1h"\n')), [])
-
-    def test_what_is_asked_for_where_nothing_is_written(self) -> None:
-        self.assertEqual(linted(WELL), [
-            "f:2: doubt: app increment: is not written: 3600 s are asked for; write what a renewal is to ask for, or the period of a"
-            " periodic token"])
-        self.assertEqual(linted(WELL.replace('"30d"\n', '"30d"\nperiod = "1h"\n')), [])
-
+class Faults(unittest.TestCase):
     def test_slips(self) -> None:
         for written, slip, expected in (
             ('"90m"', '"90 min"', 'f:11: fault: db increment: is not a whole number of seconds, 0 to 4294967295, or a text such as'
@@ -152,25 +134,12 @@ class Lint(unittest.TestCase):
             ("always", "Always", 'did you mean "always"?'), ("always", "allways", 'did you mean "always"?'),
             ("always", "30d", 'a need is a moment: write a date or "always"'),
             ("always", "2026-13-01T00:00:00Z", "months are 01 to 12"),
-            ('increment = "90m"', 'incremnt = "90m"', "did you mean increment?"), ('"90m"', '"60s"', "is not greater than the margin of 60 s"),
+            ('increment = "90m"', 'incremnt = "90m"', "incremnt: is not a key of this table; the keys are name, "), ('"90m"', '"60s"', "is not greater than the margin of 60 s"),
         ):
             with self.subTest(slip):
-                found = [line for line in linted(SHORT.replace(written, slip)) if ": fault: " in line]
+                found = faults_of(SHORT.replace(written, slip))
                 self.assertEqual(len(found), 1, found)
                 self.assertIn(expected, found[0])
-
-    def test_a_need_without_end_is_past_no_ceiling(self) -> None:
-        whole = SHORT.replace('max_ttl = "30d"\n', 'max_ttl = "30d"\nissued = 999000\nend = 1000900\nincrement = "1h"\n')
-        self.assertEqual(linted(whole.replace('"2026-12-01T00:00:00Z"', '"always"').replace('"1d"', '"2d"')), [])
-        self.assertIn("need: is ", "\n".join(linted(whole)))  # (That of db is past the ceiling of app.)
-
-    def test_strictly(self) -> None:
-        faults = [line for line in linted(SHORT, STRICT) if ": fault: " in line]
-        self.assertNotIn("max_ttl", "\n".join(faults))
-        self.assertNotIn("need", "\n".join(faults))
-        self.assertIn('; a need is a moment: write a date', "\n".join(linted(SHORT.replace("always", "30d"), STRICT)))
-        self.assertIn("f:2: fault: app issued: is missing; add issued: a whole number of seconds since 1970, or a date such as"
-                      ' "2026-11-22T09:00:00Z"', faults)
 
 
 class Words(unittest.TestCase):

@@ -8,11 +8,9 @@ import tempfile
 import unittest
 from pathlib import Path
 
-from leasekeep_inventory.dialect import SERVED
 from leasekeep_inventory.inventory import Inventory
 from leasekeep_inventory.inventory_file import read_inventory
-from leasekeep_inventory.lint import lint
-from leasekeep_inventory.secret_files import SecretFault, is_open_to_others, read_secret
+from leasekeep_inventory.secret_files import SecretFault, read_secret
 
 LIST = """margin = 20
 [[token]]
@@ -48,7 +46,7 @@ class InFolder(unittest.TestCase):
         new.rename(self.folder / name)
 
     def inventory(self, text: str = LIST) -> Inventory:
-        reading = read_inventory(text.encode(), SERVED)
+        reading = read_inventory(text.encode())
         assert reading.inventory is not None, [fault.text("f") for fault in reading.faults]
         return reading.inventory
 
@@ -72,13 +70,6 @@ class Read(InFolder):
             with self.subTest(name), self.assertRaisesRegex(SecretFault, why):
                 read_secret(self.folder / name)
 
-    def test_who_may_read_it(self) -> None:
-        self.write("app.token", "a")
-        for mode, is_open in ((0o600, False), (0o640, False), (0o660, False), (0o644, True), (0o602, True)):
-            (self.folder / "app.token").chmod(mode)
-            self.assertEqual(is_open_to_others(self.folder / "app.token"), is_open)
-        self.assertFalse(is_open_to_others(self.folder / "none"))
-
 
 class InTheInventory(InFolder):
     def test_faults(self) -> None:
@@ -86,9 +77,8 @@ class InTheInventory(InFolder):
             (LIST.replace('"app.token"', '"app.token"\nsecret = "s"'), "f:6: fault: app secret_file: stands beside secret; write one"),
             (LIST.replace('"app.token"', "5"), "f:6: fault: app secret_file: is not the path of a file; write a text in quotes"),
             (LIST.replace('"app.token"', '""'), "f:6: fault: app secret_file: is not the path of a file; it is empty"),
-            (LIST.replace("secret_file", "secretfile"), "f:6: fault: app secretfile: is not a key of this table; did you mean secret_file?"),
-            (LIST.replace("secret_file", "lease_id_file"), "f:6: fault: app lease_id_file: is not a key of this table; did you mean"
-             " secret_file?"),
+            (LIST.replace("secret_file", "secretfile"), "f:6: fault: app secretfile: is not a key of this table; the keys are"),
+            (LIST.replace("secret_file", "lease_id_file"), "f:6: fault: app lease_id_file: is not a key of this table; the keys are"),
             (LIST.replace('"app.token"', f'"{"é" * 2049}"'), "f:6: fault: app secret_file: is not the path of a file; it has 4098 bytes:"
              " write 4096 or less"),
             (LIST.replace("hvs.job", "app"), "f:11: fault: job secret: occurs twice: line 3 (app) has it too"),
@@ -96,30 +86,13 @@ class InTheInventory(InFolder):
              "f:23: fault: web secret_file: occurs twice: line 11 (job) has it too"),
         ):
             with self.subTest(expected):
-                found = [finding.text("f") for finding in lint(text.encode(), 0o600, 5, 1000.0)]
-                faults = [line for line in found if ": fault: " in line]
+                faults = [fault.text("f") for fault in read_inventory(text.encode()).faults]
                 self.assertEqual(len(faults), 1, faults)
                 self.assertTrue(faults[0].startswith(expected), faults)
 
     def test_a_path_of_as_many_bytes_as_there_may_be(self) -> None:
         entry = self.inventory(LIST.replace('"app.token"', f'"{"é" * 2048}"')).find("app")
         self.assertEqual(entry and entry.credential_file, "é" * 2048)
-
-    def test_two_that_name_one_file_are_doubted(self) -> None:
-        """`leasekeep` opens no file: so it is no fault."""
-        found = [finding.text("f") for finding in lint(LIST.replace('secret = "hvs.job"', 'secret_file = "app.token"').encode(), 0o600, 5, 1000.0)]
-        self.assertIn("f:11: doubt: job secret_file: is that of line 6 (app) too; it is not kept: write each entry once, and one file for"
-                      " each", found)
-        self.assertNotIn(": fault: ", "\n".join(found))
-
-    def test_doubts(self) -> None:
-        self.write("app.token", "hvs.app")
-        (self.folder / "app.token").chmod(0o644)
-        found = [finding.text("f") for finding in lint(LIST.encode(), 0o600, 5, 1000.0, folder=self.folder)]
-        self.assertIn("f:6: doubt: app secret_file: may be read or written by others; chmod o-rwx the file: it holds a secret", found)
-        self.assertIn("f:18: doubt: db lease_id_file: cannot be read: No such file or directory; neither it nor what is under it is"
-                      " kept until the file holds its secret", found)
-        self.assertNotIn("hvs.app", "\n".join(found))
 
 
 if __name__ == "__main__":

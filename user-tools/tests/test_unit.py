@@ -172,13 +172,13 @@ class ToolsAlone(unittest.TestCase):
                 program = str(Path(room) / "usr/local/bin" / name)
                 said = subprocess.run([program, "--version"], capture_output=True, text=True, timeout=60 * SLOWER)
                 self.assertEqual(said.stdout, f"{name} {(TOP / 'VERSION').read_text()}")
-            file = Path(room) / "inventory.toml"
+            file = Path(room) / "list.toml"
             file.touch(0o600)
-            file.write_text("margin = 1\n")
+            file.write_text("margin = 0\n")
             program = str(Path(room) / "usr/local/bin/leasekeep-inventory")
-            linted = subprocess.run([program, "lint", str(file)], capture_output=True, text=True, timeout=60 * SLOWER)
-            self.assertEqual(linted.returncode, 1)
-            self.assertIn("there are no entries", linted.stdout)
+            drafted = subprocess.run([program, "draft", str(file), "1"], capture_output=True, text=True, timeout=60 * SLOWER)
+            self.assertEqual(drafted.returncode, 1)
+            self.assertIn("list.toml:1: fault: margin: is not 1 to 3600 seconds", drafted.stderr)
 
 
 if __name__ == "__main__":

@@ -2,7 +2,7 @@
 use Rattle.std.proofs.Common.{◌≡◌, ℕ, ◌<◌, List, [], ◌∷◌, Bool, true, false, cond, not, filter, map, nat_le, Option, None, Some, Result, Ok, Err, IfOk, OnOk, arith, refl, ap, subst, sym, ◌∙◌}
 use Rattle.std.proofs.lemmas.Bool.{false≢true, leb-false}
 use Rattle.keep_device.specs.Moments.{earlier}
-use Rattle.keep_lanes.specs.Out.{AreThere, AreThereAt, IsDueAfter, Out, first_at, is_there, is_there_at, sooner_at, up_to}
+use Rattle.keep_lanes.specs.Out.{AreThereAt, IsDueAfter, Out, first_at, is_there, is_there_at, sooner_at}
 use Rattle.keep_lanes.specs.Seats.{AreTakenOut, out_of_seat, outs}
 use Rattle.keep_lanes.specs.declared.coming.Coming.{Coming}
 use Rattle.keep_lanes.specs.declared.lanes.Answered.{Answered}
@@ -34,11 +34,6 @@ pub there_at : {X E : Type 0} (r : Result X E) (items : X → List Answered) (mo
     → IfOk r (λ a. AreTakenOut (λ (coming : Coming). nat_le coming.at moment) old new (items a)) → IfOk r (λ a. AreThereAt moment (outs (λ coming. Some coming) old) (items a) (outs (λ coming. Some coming) new))
 there_at (Ok a) items moment old new h = are_there_at moment old new (items a) h
 there_at (Err e) items moment old new h = tt
-
-pub there_all : {X E : Type 0} (r : Result X E) (items : X → List Answered) (now until moment : ℕ) (old new : List (Seat Coming)) → moment ≡ up_to now until (first_at (outs (λ coming. Some coming) old))
-    → IfOk r (λ a. AreTakenOut (λ (coming : Coming). nat_le coming.at moment) old new (items a)) → IfOk r (λ a. AreThere now until (outs (λ coming. Some coming) old) (items a) (outs (λ coming. Some coming) new))
-there_all r items now until moment old new is h =
-    subst (λ m. IfOk r (λ a. AreThereAt m (outs (λ coming. Some coming) old) (items a) (outs (λ coming. Some coming) new))) is (there_at r items moment old new h)
 
 -- ---- what is left is due later
 

@@ -2,7 +2,7 @@ ghost use Rattle.std.specs.Prelude.{◌≡◌, ◌++◌, ◌∷◌, [], None, So
 ghost use Rattle.broker_lanes.specs.InMemory.{AnswersFor};
 ghost use Rattle.keep_exchange.specs.Requests.{IsShortRequest};
 ghost use Rattle.keep_device.specs.Moments.{earlier};
-ghost use Rattle.keep_lanes.specs.Out.{first_at, up_to};
+ghost use Rattle.keep_lanes.specs.Out.{first_at};
 ghost use Rattle.keep_lanes.specs.Serving.{ComesOfRequest, IsTableLeft, RequestIsServed, lane_fault_at, later};
 ghost use Rattle.keep_lanes.specs.Seats.{outs};
 ghost use Rattle.vault_http.specs.RoundTripRequest.{IsWritable};
@@ -12,7 +12,7 @@ use broker_table::Table;
 use keep_exchange::{Exchange, ExchangeFault};
 use keep_lanes::{
     Allowance, Answered, Ask, Coming, LaneFault, Lanes, Loss, MOST_WIDTH, NumberedFault, Seat,
-    TOGETHER, free_of, loss_of, put, rename, take_out,
+    free_of, loss_of, put, rename, take_out,
 };
 use keep_moment::{Moment, Text};
 use std::alloc::{AllocError, Global};
@@ -212,16 +212,6 @@ fn earlier(n: u64, other: Option<u64>) -> u64
     }
 }
 
-/// The moment up to which answers are handed back.
-fn up_to(now: u64, until: u64, first: Option<u64>) -> u64
-    ensures { result ≡ up_to now until first }
-{
-    match first {
-        Some(first) if first <= now.max(until) => now.max(first).saturating_add(TOGETHER),
-        _ => now,
-    }
-}
-
 impl Lanes for MemoryLanes {
     ghost behind = { λ l. Some l.behind };
 
@@ -258,11 +248,6 @@ impl Lanes for MemoryLanes {
         let index = ask.index;
         put(&mut self.out, Seat { index, standing });
         Ok(())
-    }
-
-    fn wait(&mut self, alloc: Global, now: u64, until: u64) -> Result<Vec<Answered>, AllocError> {
-        let moment = up_to(now, until, first_at(&self.out));
-        take_out(alloc, &mut self.out, moment)
     }
 
     fn go_on(&mut self, alloc: Global, now: u64) -> Result<Vec<Answered>, AllocError> {

@@ -1,11 +1,9 @@
--- Sending: requests go out on lanes, and answers are handed back.
+-- Sending: requests go out on lanes.
 -- Source: this project's own.
-use Rattle.std.specs.Prelude.{◌≡◌, ℕ, List, [], ◌∷◌, Option, IfSome}
+use Rattle.std.specs.Prelude.{◌≡◌, ℕ, List, [], ◌∷◌, Option}
 use Rattle.keep_inventory.specs.Inventories.{Inventory}
 use Rattle.keep_lanes.specs.Out as lanes
-use Rattle.keep_lanes.specs.Out.{AreThere, IsParted}
 use Rattle.keep_lanes.specs.Serving.{BehindLanes, RequestIsSent}
-use Rattle.keep_lanes.specs.declared.lanes.Answered.{Answered}
 use Rattle.watch_machine.specs.declared.command.Request.{Request}
 use Rattle.watch_machine.specs.State.{WatchState}
 use Rattle.keep_asking.specs.Asking.{ask_of}
@@ -28,9 +26,3 @@ pub record GoesOut (port : ℕ) (s : Inventory) (m : WatchState) (t now : ℕ) (
 abbrev pub GoOut : ℕ → Inventory → WatchState → ℕ → ℕ → List Request → Lanes → Lanes → Type 0
 GoOut port s m t now [] old new = new ≡ old
 GoOut port s m t now (r ∷ rest) old new = (mid : Lanes) × (GoesOut port s m t now r old mid × GoOut port s m t now rest mid new)
-
--- the answers that were waited for: each is that of a request that was out
-pub record AreHandedBack (now until : ℕ) (old : Lanes) (answers : List Answered) (new : Lanes) : Type 0 where
-  pub parted : IsParted old.out answers new.out
-  pub there : IfSome old.behind (λ _. AreThere now until old.out answers new.out)
-  pub rest : new ≡ record old { out = new.out }

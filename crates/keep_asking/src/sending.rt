@@ -1,11 +1,11 @@
-//! Requests go out on lanes, and answers are waited for.
-ghost use Rattle.std.specs.Prelude.{◌≡◌, ◌+◌, ◌<◌, ◌≤◌, All, IfOk, OnErr, OnOk, length};
-ghost use Rattle.keep_asking.specs.Sending.{AreHandedBack, GoOut};
+//! Requests go out on lanes.
+ghost use Rattle.std.specs.Prelude.{◌≡◌, ◌+◌, ◌<◌, ◌≤◌, All, OnOk, length};
+ghost use Rattle.keep_asking.specs.Sending.{GoOut};
 
 use crate::asking::ask_for;
 use crate::seen::SeenLanes;
 use keep_inventory::Inventory;
-use keep_lanes::{Answered, Lanes};
+use keep_lanes::Lanes;
 use keep_moment::Moment;
 use std::alloc::{AllocError, Global};
 use watch_machine::{Request, Watch};
@@ -34,21 +34,4 @@ pub fn send<L: Lanes>(
         lanes.send(alloc, t, now, &ask)?;
     }
     Ok(())
-}
-
-/// Waits for the first answer, from `now` until a moment of the elapsed clock, and hands back those that are there then
-/// ([`Lanes::wait`]). The only error is out of memory: all are out as before.
-pub fn take_back<L: Lanes>(
-    alloc: Global,
-    lanes: &mut L,
-    now: u64,
-    until: u64,
-) -> Result<Vec<Answered>, AllocError>
-    ensures back { IfOk result (λ answers. AreHandedBack now until (⟦<L as SeenLanes>⟧.seen lanes.old) answers.items (⟦<L as SeenLanes>⟧.seen lanes.new)) }
-    ensures kept { OnErr result (⟦<L as SeenLanes>⟧.seen lanes.new ≡ ⟦<L as SeenLanes>⟧.seen lanes.old) }
-    ensures width { L.width lanes.new ≡ L.width lanes.old }
-    ensures port { L.host_port lanes.new ≡ L.host_port lanes.old }
-{
-    let answers = lanes.wait(alloc, now, until)?;
-    Ok(answers)
 }

@@ -4,6 +4,5 @@ pub mod Parted
 pub mod Seated
 pub mod TakenOut
 pub mod Moved
-pub mod Dials
 pub mod Due
 pub mod Renamed

@@ -1,14 +1,13 @@
 -- Each of those that are out goes on for itself: for `go_on` of them all.
-use Rattle.std.proofs.Common.{◌≡◌, ℕ, zero, suc, ◌<◌, ◌+◌, inl, inr, Some, IfSome, List, [], ◌∷◌, ◌++◌, length, take, drop, get_or, set, Option, None, refl, sym, subst, ap, ◌∙◌, arith}
+use Rattle.std.proofs.Common.{◌≡◌, ℕ, zero, suc, ◌<◌, ◌+◌, Some, IfSome, List, [], ◌∷◌, ◌++◌, length, take, drop, get_or, set, Option, None, refl, sym, subst, ap, ◌∙◌, arith}
 use Rattle.std.proofs.lemmas.Grind.{drop_more_same}
 use Rattle.std.proofs.lemmas.List.{drop-set-lt, drop_more, take_more_set}
 use Rattle.std.proofs.Math.Seq.{take-add}
-use Rattle.std.proofs.KnownBytes.{Appends-nil}
 use Rattle.keep_lanes.specs.Lanes.{FrontIsWritten}
 use Rattle.keep_lanes.specs.Losses.{Answer}
 use Rattle.keep_lanes.specs.Out as outs_of
 use Rattle.keep_lanes.specs.Seats.{out_of_seat, outs}
-use Rattle.keep_lanes.specs.code.Ways.{DeadlineIsAhead, HasBegun, LaneGoesOn, Move, StaysOrMoves, WayMoves}
+use Rattle.keep_lanes.specs.code.Ways.{DeadlineIsAhead, HasBegun, LaneGoesOn, Move, WayMoves}
 use Rattle.keep_lanes.specs.declared.allowance.Allowance.{Allowance}
 use Rattle.keep_lanes.specs.declared.lane.Lane.{Lane}
 use Rattle.keep_lanes.specs.declared.seats.Seat.{Seat}
@@ -17,7 +16,7 @@ use Rattle.keep_lanes.specs.declared.way.Way.TheVariants.{Out, Over}
 
 module _ {L : Type 0} (written remaining : L → Option (List ℕ)) (now : ℕ) where
   pub move_more : (old new : List (Seat (Way L))) (s n : Seat (Way L)) → Move written remaining now old new
-      → (n.index ≡ s.index) × (StaysOrMoves written remaining now s.standing n.standing × DeadlineIsAhead now n.standing) → Move written remaining now (old ++ s ∷ []) (new ++ n ∷ [])
+      → (n.index ≡ s.index) × (WayMoves written remaining now s.standing n.standing × DeadlineIsAhead now n.standing) → Move written remaining now (old ++ s ∷ []) (new ++ n ∷ [])
   move_more [] new s n h one = subst (λ l. Move written remaining now (s ∷ []) (l ++ n ∷ [])) (sym h) (one, refl)
   move_more (o ∷ os) [] s n h one = absurd h
   move_more (o ∷ os) (x ∷ xs) s n h one = (h.0, move_more os xs s n h.1 one)
@@ -25,31 +24,28 @@ module _ {L : Type 0} (written remaining : L → Option (List ℕ)) (now : ℕ) 
   pub rest_next : (old out : List (Seat (Way L))) (i : ℕ) (n : Seat (Way L)) → drop i out ≡ drop i old → drop (i + 1) (set out i n) ≡ drop (i + 1) old
   rest_next old out i n rest = drop-set-lt (i + 1) out i n (omega arith) ∙ drop_more_same out old i rest
 
-  pub move_next : (old out : List (Seat (Way L))) (i : ℕ) (d n : Seat (Way L)) (from : Way L) → i < length out → drop i out ≡ drop i old
-      → Move written remaining now (take i old) (take i out) → StaysOrMoves written remaining now from n.standing → from ≡ (get_or out i d).standing → DeadlineIsAhead now n.standing
+  pub move_next : (old out : List (Seat (Way L))) (i : ℕ) (d n : Seat (Way L)) → i < length out → drop i out ≡ drop i old
+      → Move written remaining now (take i old) (take i out) → WayMoves written remaining now (get_or out i d).standing n.standing → DeadlineIsAhead now n.standing
       → n.index ≡ (get_or out i d).index → Move written remaining now (take (i + 1) old) (take (i + 1) (set out i n))
-  move_next old out i d n from within rest h moved is ahead same =
+  move_next old out i d n within rest h moved ahead same =
       let s = get_or out i d in
       let here : drop i old ≡ s ∷ drop (i + 1) out = sym rest ∙ drop_more out i d within in
       let front : take (i + 1) old ≡ take i old ++ s ∷ [] = take-add i 1 old ∙ ap (λ l. take i old ++ take 1 l) here in
       subst (λ l. Move written remaining now l (take (i + 1) (set out i n))) (sym front)
       (subst (λ l. Move written remaining now (take i old ++ s ∷ []) l) (sym (take_more_set out i n within))
-      (move_more (take i old) (take i out) s n h (same, (subst (λ w. StaysOrMoves written remaining now w n.standing) is moved, ahead))))
+      (move_more (take i old) (take i out) s n h (same, (moved, ahead))))
 
   -- one goes on, and is answered
   pub moves_over : (old : Way L) (lane next : Lane L) (got : Option Answer) (a : Answer) → old ≡ Out lane → got ≡ Some a → LaneGoesOn written remaining now lane next got
-      → StaysOrMoves written remaining now old (Over a)
+      → WayMoves written remaining now old (Over a)
   moves_over old lane next got a is answered goes =
-      inr (subst (λ w. WayMoves written remaining now w (Over a)) (sym is) (next, subst (λ g. LaneGoesOn written remaining now lane next g) answered goes))
+      subst (λ w. WayMoves written remaining now w (Over a)) (sym is) (next, subst (λ g. LaneGoesOn written remaining now lane next g) answered goes)
 
   -- one that goes on from its begin has begun
   pub begun : (text : List ℕ) (allowance : Allowance) (lane : Lane L) (way : Way L) → text ≡ lane.unsent.items → lane.course.allowance ≡ allowance → IfSome (written lane.line) (λ bytes. bytes ≡ [])
-      → StaysOrMoves written remaining now (Out lane) way → HasBegun written text allowance way
+      → WayMoves written remaining now (Out lane) way → HasBegun written text allowance way
   begun text allowance lane (Over a) of al fresh h = tt
-  begun text allowance lane (Out next) of al fresh (inl same) =
-      subst (λ w. HasBegun written text allowance w) (sym same)
-      (al, record { fresh = lane.line; unwritten = fresh; sent = record { front = []; parts = of; appended = Appends-nil (written lane.line) } })
-  begun text allowance lane (Out next) of al fresh (inr goes) =
+  begun text allowance lane (Out next) of al fresh goes =
       (goes.allowance ∙ al, record { fresh = lane.line; unwritten = fresh; sent = subst (λ l. FrontIsWritten l next.unsent.items (written lane.line) (written next.line)) (sym of) goes.sent })
 
 -- a change of one under its index

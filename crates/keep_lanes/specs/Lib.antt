@@ -1,7 +1,6 @@
 pub mod Losses
 pub mod Allowed
 pub mod Stages
-pub mod Dials
 pub mod Lanes
 pub mod Out
 pub mod Serving

@@ -1,6 +1,6 @@
 -- The requests that are out, and the answers that are handed back.
 -- Source: this project's own.
-use Rattle.std.specs.Prelude.{◌≡◌, ◌==◌, ℕ, ◌+◌, ◌-◌, ◌^◌, ◌≤◌, ◌<◌, ◌⊎◌, All, List, [], ◌∷◌, ◌++◌, Bool, false, not, nat_le, max, min, map, Option, Some, None, IfSome, if◌then◌else◌}
+use Rattle.std.specs.Prelude.{◌≡◌, ◌==◌, ℕ, ◌^◌, ◌≤◌, ◌<◌, ◌⊎◌, All, List, [], ◌∷◌, ◌++◌, Bool, false, not, nat_le, map, Option, Some, None, IfSome, if◌then◌else◌}
 use Rattle.std.specs.List.{filter}
 use Rattle.keep_device.specs.Moments.{earlier}
 use Rattle.keep_lanes.specs.declared.coming.Coming.{Coming}
@@ -62,11 +62,6 @@ abbrev pub first_at : List Out → Option ℕ
 first_at [] = None
 first_at (o ∷ os) = sooner_at o.comes (first_at os)
 
--- the answers that are there up to this moment are handed back: 5 ms after the first, where that comes in time
-abbrev pub up_to : ℕ → ℕ → Option ℕ → ℕ
-up_to now until None = now
-up_to now until (Some first) = if nat_le first (max now until) then min (max now first + 5) (2 ^ 64 - 1) else now
-
 abbrev pub is_there_at : ℕ → Option Coming → Bool
 is_there_at moment None = false
 is_there_at moment (Some c) = nat_le c.at moment
@@ -78,10 +73,6 @@ is_there moment o = is_there_at moment o.comes
 pub record AreThereAt (moment : ℕ) (old : List Out) (answers : List Answered) (new : List Out) : Type 0 where
   pub left : new ≡ filter (λ o. not (is_there moment o)) old
   pub indices : map (λ (a : Answered). a.index) answers ≡ map (λ (o : Out). o.index) (filter (is_there moment) old)
-
--- those that come together are handed back, and no others
-abbrev pub AreThere : ℕ → ℕ → List Out → List Answered → List Out → Type 0
-AreThere now until old answers new = AreThereAt (up_to now until (first_at old)) old answers new
 
 -- ---- when they have to be looked at again
 

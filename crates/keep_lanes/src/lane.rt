@@ -17,8 +17,6 @@ use vault_http::{Arriving, DatedReply, HttpFault};
 #[derive(Drop)]
 pub(crate) struct Lane<L> {
     pub(crate) line: L,
-    /// The index that the connection was made for. Its request may be for another one by now.
-    pub(crate) dialled: u32,
     /// What is still to be written of the request.
     pub(crate) unsent: Vec<u8>,
     pub(crate) course: Course,
@@ -35,13 +33,7 @@ pub(crate) struct Course {
 
 impl<L: Line> Lane<L> {
     /// That of a request with this text over a connection to which nothing was written. It takes no memory.
-    pub(crate) fn new(
-        alloc: Global,
-        line: L,
-        dialled: u32,
-        text: Vec<u8>,
-        allowance: Allowance,
-    ) -> Lane<L>
+    pub(crate) fn new(alloc: Global, line: L, text: Vec<u8>, allowance: Allowance) -> Lane<L>
         ensures line { result.line ≡ line }
         ensures unsent { result.unsent ≡ text }
         ensures allowance { result.course.allowance ≡ allowance }
@@ -50,7 +42,6 @@ impl<L: Line> Lane<L> {
     {
         Lane {
             line,
-            dialled,
             unsent: text,
             course: Course {
                 allowance,

@@ -1,7 +1,7 @@
 ghost use Rattle.std.specs.Prelude.{◌≡◌, ℕ, ◌-◌, ◌<◌, ◌≤◌, List, [], Option, IfOk, IfSome, OnErr, OnOk, length};
 ghost use Rattle.keep_exchange.specs.Requests.{IsShortRequest};
 ghost use Rattle.keep_device.specs.Moments.{earlier};
-ghost use Rattle.keep_lanes.specs.Out.{AreThere, AreThereAt, IsDueAfter, IsParted, Out, first_at, renamed};
+ghost use Rattle.keep_lanes.specs.Out.{AreThereAt, IsDueAfter, IsParted, Out, first_at, renamed};
 ghost use Rattle.keep_lanes.specs.Serving.{BehindLanes, BrokerIsLeft, RequestIsSent};
 ghost use Rattle.vault_http.specs.RoundTripRequest.{IsWritable};
 
@@ -75,20 +75,6 @@ pub trait Lanes {
         ensures sent { OnOk result (RequestIsSent (Self.seconds self.old) t now ask.now (Self.behind self.old) (Self.out self.old) (Self.behind self.new) (Self.out self.new)) }
         ensures kept { OnErr result (Self.out self.new ≡ Self.out self.old) }
         ensures left { OnErr result (IfSome (Self.behind self.old) (λ old. BrokerIsLeft t ask.now.request old (Self.behind self.new))) }
-        ensures width { Self.width self.new ≡ Self.width self.old }
-        ensures seconds { Self.seconds self.new ≡ Self.seconds self.old }
-        ensures port { Self.host_port self.new ≡ Self.host_port self.old };
-
-    /// Waits for the first answer, from `now` until a moment of the elapsed clock, and hands back those that are there within
-    /// 5 ms of the first, in their order, each with the index that its request was for. It hands back none where none came by
-    /// then, and waits no longer once nothing is out. What it hands back is out no more.
-    ///
-    /// The only error is out of memory: all are out as before.
-    fn wait(&mut self, alloc: Global, now: u64, until: u64) -> Result<Vec<Answered>, AllocError>
-        ensures parted { IfOk result (λ answers. IsParted (Self.out self.old) answers.items (Self.out self.new)) }
-        ensures there { IfSome (Self.behind self.old) (λ _. IfOk result (λ answers. AreThere now until (Self.out self.old) answers.items (Self.out self.new))) }
-        ensures kept { OnErr result (Self.out self.new ≡ Self.out self.old) }
-        ensures behind { Self.behind self.new ≡ Self.behind self.old }
         ensures width { Self.width self.new ≡ Self.width self.old }
         ensures seconds { Self.seconds self.new ≡ Self.seconds self.old }
         ensures port { Self.host_port self.new ≡ Self.host_port self.old };

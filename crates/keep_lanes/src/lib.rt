@@ -29,7 +29,7 @@ pub use heard::{Heard, hear_lookup, hear_renewal};
 pub use lanes::{Answered, Ask, Lanes, MOST_WIDTH, free_of};
 pub use line::{Line, Wires};
 pub use loss::{Loss, loss_of};
-pub use running::{LanesOver, TOGETHER};
+pub use running::LanesOver;
 pub use seats::{Seat, Standing, put, rename, take_out};
 pub use sockets::{SocketLanes, SocketLine, SocketWires};
 pub use stage::Stage;

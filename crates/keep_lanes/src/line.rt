@@ -1,8 +1,7 @@
-//! Connections whose calls do not wait, and what tells when one can go on.
+//! Connections whose calls do not wait, and what makes them.
 ghost use Rattle.std.specs.Prelude.{◌≡◌, ℕ, ◌<◌, ◌≤◌, List, [], ◌∷◌, ◌++◌, length, take, Option, None, Some, Bool, IfSome, false};
 ghost use Rattle.std.specs.Io.KnownBytes.{Appends, Consumes, IsAtEnd, Keeps};
 ghost use Rattle.keep_device.specs.Tries.{IfTryDone, MatchTried};
-ghost use Rattle.keep_lanes.specs.Dials.{DialLog};
 
 use keep_device::Tried;
 
@@ -40,15 +39,15 @@ pub trait Line {
         ensures { result ≡ restless self.now };
 }
 
-/// What makes connections, and tells which of them can go on.
+/// What makes connections.
 ///
-/// To contracts one in memory is the log of what was asked of it; of the system they know nothing.
+/// To contracts one in memory is the indices that it has made connections for; of the system they know nothing.
 pub trait Wires {
     /// Its connections.
     type Line: Line + Drop;
 
-    /// What was asked of it, where it is known.
-    ghost log: { Self → Option DialLog } = { λ _. None };
+    /// The indices that it has made connections for, where they are known.
+    ghost dialled: { Self → Option (List ℕ) } = { λ _. None };
 
     /// The port that requests to its broker name.
     ghost host_port: { Self → ℕ } = { λ _. 8200 };
@@ -60,20 +59,6 @@ pub trait Wires {
     /// Makes a connection for this index, or begins to. One that cannot be made fails at its first call.
     fn dial(&mut self, index: u32) -> Self::Line
         ensures unwritten { IfSome (Self.Line.written result) (λ bytes. bytes ≡ []) }
-        ensures log { IfSome (Self.log self.old) (λ log. Self.log self.new ≡ Some (record log { dials = log.dials ++ index ∷ [] })) }
+        ensures dialled { IfSome (Self.dialled self.old) (λ indices. Self.dialled self.new ≡ Some (indices ++ index ∷ [])) }
         ensures port { Self.host_port self.new ≡ Self.host_port self.old };
-
-    /// Time is counted from here.
-    fn begin(&mut self)
-        ensures log { Self.log self.new ≡ Self.log self.old }
-        ensures port { Self.host_port self.new ≡ Self.host_port self.old };
-
-    /// Waits until a connection can go on, so many milliseconds at most, and says how many have passed since it was begun to
-    /// count.
-    fn wait(&mut self, millis: u64) -> u64
-        ensures log { IfSome (Self.log self.old) (λ log. Self.log self.new ≡ Some (record log { waits = log.waits ++ millis ∷ [] })) }
-        ensures port { Self.host_port self.new ≡ Self.host_port self.old };
-
-    /// Whether the last wait has told that the connection for this index can go on.
-    fn is_ready(&self, index: u32) -> bool;
 }

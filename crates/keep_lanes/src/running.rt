@@ -1,8 +1,7 @@
 //! Lanes over connections, whatever these are.
 ghost use Rattle.std.specs.Prelude.{◌≡◌, ◌++◌, ◌∷◌, ◌*◌, ◌-◌, ◌<◌, ◌≤◌, [], None, Some, Bool, IfOk, IfSome, IsTrue, OnErr, OnOk, false, length, min, max, vec_len};
-ghost use Rattle.std.specs.List.{list_all, list_any};
+ghost use Rattle.std.specs.List.{list_any};
 ghost use Rattle.keep_device.specs.declared.limits.TheConstants.{MOST_ROOM};
-ghost use Rattle.keep_lanes.specs.Dials.{KeepsDials};
 ghost use Rattle.keep_lanes.specs.Seats.{outs};
 ghost use Rattle.keep_lanes.specs.code.Ways.{AreAhead, HasBegun, Move, is_way_over, soonest, soonest_or_now};
 ghost use Rattle.vault_http.specs.RoundTripRequest.{IsWritable};
@@ -18,9 +17,6 @@ use keep_device::{MOST_ROOM, zeros};
 use keep_moment::Moment;
 use std::alloc::{AllocError, Global};
 use vault_http::text_of_request;
-
-/// How long the answers that come after the first are waited for, in milliseconds.
-pub const TOGETHER: u64 = 5;
 
 /// Lanes over the connections that `wires` makes.
 #[derive(Drop)]
@@ -51,44 +47,6 @@ impl<W: Wires> LanesOver<W> {
         }
     }
 
-    /// Waits from `now` for the first answers, until that moment.
-    fn listen(&mut self, alloc: Global, now: u64, until: u64) -> Result<(), AllocError>
-        ensures out { outs (λ _. None) self.new.out.items ≡ outs (λ _. None) self.old.out.items }
-        ensures seconds { self.new.seconds ≡ self.old.seconds }
-        ensures width { self.new.width ≡ self.old.width }
-        ensures port { W.host_port self.new.wires ≡ W.host_port self.old.wires }
-        ensures dials { KeepsDials (W.log self.old.wires) (W.log self.new.wires) }
-    {
-        make_room(alloc, &mut self.room)?;
-        self.wires.begin();
-        let mut time = now;
-        let mut by = until;
-        let mut is_first = true;
-        for _ in 0..u64::MAX {
-            if are_over(&self.out) {
-                break;
-            }
-            if is_first && has_answer(&self.out) {
-                is_first = false;
-                by = time.saturating_add(TOGETHER);
-            }
-            let passed = pass(&mut self.wires, &self.out, time, by);
-            time = time.max(now.saturating_add(passed));
-            go_on(
-                alloc,
-                &self.wires,
-                &mut self.out,
-                &mut self.room,
-                time,
-                false,
-            )?;
-            if time >= by {
-                break;
-            }
-        }
-        Ok(())
-    }
-
     /// Each goes on at `now`.
     fn try_all(&mut self, alloc: Global, now: u64) -> Result<(), AllocError>
         ensures out { outs (λ _. None) self.new.out.items ≡ outs (λ _. None) self.old.out.items }
@@ -98,7 +56,7 @@ impl<W: Wires> LanesOver<W> {
         ensures wires { self.new.wires ≡ self.old.wires }
     {
         make_room(alloc, &mut self.room)?;
-        go_on(alloc, &self.wires, &mut self.out, &mut self.room, now, true)
+        go_on(alloc, &mut self.out, &mut self.room, now)
     }
 }
 
@@ -125,24 +83,17 @@ fn begin<W: Wires>(
     ensures index { IfOk result (λ seat. seat.index ≡ ask.now.index) }
     ensures begins { IfOk result (λ seat. HasBegun W.Line.written (request_text ask.now.request) allowance seat.standing) }
     ensures room { length room.new ≡ length room.old }
-    ensures dialled { IfSome (W.log wires.old) (λ log. OnOk result (W.log wires.new ≡ Some (record log { dials = log.dials ++ ask.now.index ∷ [] }))) }
+    ensures dialled { IfSome (W.dialled wires.old) (λ indices. OnOk result (W.dialled wires.new ≡ Some (indices ++ ask.now.index ∷ []))) }
     ensures port { W.host_port wires.new ≡ W.host_port wires.old }
 {
     let text = text_of_request(alloc, &ask.request)?;
     let line = wires.dial(ask.index);
-    let mut standing = Way::Out(Lane::new(alloc, line, ask.index, text, allowance));
-    standing.go_on(alloc, room, true, allowance.asked)?;
+    let mut standing = Way::Out(Lane::new(alloc, line, text, allowance));
+    standing.go_on(alloc, room, allowance.asked)?;
     Ok(Seat {
         index: ask.index,
         standing,
     })
-}
-
-/// Whether none is on its way.
-fn are_over<L>(out: &[Seat<Way<L>>]) -> bool
-    ensures { result ≡ list_all (λ seat. is_way_over seat.standing) out.now }
-{
-    out.iter().all(|seat| seat.standing.is_over())
 }
 
 /// Whether an answer has come.
@@ -163,16 +114,6 @@ fn soonest<L: Line + Drop>(out: &[Seat<Way<L>>], time: u64, moment: u64) -> u64
     first
 }
 
-/// Waits at `time` until a connection can go on, but no longer than until one of them has to be looked at, and no longer than
-/// until that moment. It gives the milliseconds that have passed since time was begun to count.
-fn pass<W: Wires>(wires: &mut W, out: &[Seat<Way<W::Line>>], time: u64, by: u64) -> u64
-    ensures waited { IfSome (W.log wires.old) (λ log. W.log wires.new ≡ Some (record log { waits = log.waits ++ (soonest W.Line.restless time by out.now - time) ∷ [] })) }
-    ensures port { W.host_port wires.new ≡ W.host_port wires.old }
-{
-    let millis = soonest(out, time, by).saturating_sub(time);
-    wires.wait(millis)
-}
-
 /// The moment by which they have to be looked at again, and no later than `by`.
 fn due<L: Line + Drop>(out: &[Seat<Way<L>>], now: u64, by: u64) -> u64
     ensures due { result ≡ soonest_or_now L.restless now by out.now }
@@ -185,31 +126,20 @@ fn due<L: Line + Drop>(out: &[Seat<Way<L>>], now: u64, by: u64) -> u64
     }
 }
 
-/// Whether its connection can go on by what the last wait told.
-fn is_ready<W: Wires>(wires: &W, standing: &Way<W::Line>) -> bool {
-    match standing {
-        Way::Out(lane) => wires.is_ready(lane.dialled),
-        Way::Over(_) => false,
-    }
-}
-
-/// Each of them goes on that may, or has come to its deadline. All of them may, or those that can by what the last wait told.
-fn go_on<W: Wires>(
+/// Each of them goes on.
+fn go_on<L: Line + Drop>(
     alloc: Global,
-    wires: &W,
-    out: &mut [Seat<Way<W::Line>>],
+    out: &mut [Seat<Way<L>>],
     room: &mut [u8],
-    time: u64,
-    may_all: bool,
+    now: u64,
 ) -> Result<(), AllocError>
     requires room { 0 < length room.old }
     ensures room { length room.new ≡ length room.old }
-    ensures moves { OnOk result (Move W.Line.written W.Line.remaining time out.old out.new) }
+    ensures moves { OnOk result (Move L.written L.remaining now out.old out.new) }
     ensures out { outs (λ _. None) out.new ≡ outs (λ _. None) out.old }
 {
     for seat in out.iter_mut() {
-        let is_ready = may_all || is_ready(wires, &seat.standing);
-        seat.standing.go_on(alloc, room, is_ready, time)?;
+        seat.standing.go_on(alloc, room, now)?;
     }
     Ok(())
 }
@@ -242,11 +172,6 @@ impl<W: Wires> Lanes for LanesOver<W> {
         let seat = begin(alloc, &mut self.wires, &mut self.room, allowance, ask)?;
         put(&mut self.out, seat);
         Ok(())
-    }
-
-    fn wait(&mut self, alloc: Global, now: u64, until: u64) -> Result<Vec<Answered>, AllocError> {
-        self.listen(alloc, now, until)?;
-        take_out(alloc, &mut self.out, now)
     }
 
     fn go_on(&mut self, alloc: Global, now: u64) -> Result<Vec<Answered>, AllocError> {

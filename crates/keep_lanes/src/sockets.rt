@@ -1,47 +1,29 @@
 //! Connections of the system, which tells by `mio` when they can go on.
-ghost use Rattle.std.specs.Prelude.{◌≡◌, [], IfOk, max, min};
+ghost use Rattle.std.specs.Prelude.{◌≡◌, [], max, min};
 ghost use Rattle.keep_exchange.specs.Sockets.{port_of};
 ghost use Rattle.keep_device.specs.Places.{IsHere};
 
 use crate::lanes::Lanes;
 use crate::line::{Line, Wires};
 use crate::running::LanesOver;
-use crate::way::RESTLESS;
 use keep_device::{Place, Tried};
 use mio::net::{TcpStream, UnixStream};
-use mio::{Events, Interest, Poll, Registry, Token};
-use std::alloc::{AllocError, Global};
+use mio::{Interest, Registry, Token};
+use std::alloc::Global;
+use std::io;
 use std::io::{ErrorKind, Read, Write};
 use std::net::{IpAddr, Ipv4Addr, Net, SocketAddr};
-use std::time::{Clock, Duration};
-use std::{io, thread};
 
 /// Lanes to the broker that listens at a port of 127.0.0.1 or on a UNIX socket, over plain HTTP, with a connection for each
 /// request.
 pub type SocketLanes<'a, R> = LanesOver<SocketWires<'a, R>>;
 
-impl<'a, R: Net + Clock> LanesOver<SocketWires<'a, R>> {
+impl<'a, R: Net> LanesOver<SocketWires<'a, R>> {
     /// So many lanes, at most 32 and at least one, to the broker that listens there, with time-outs of so many seconds. Nothing is
-    /// out, and it connects to nothing yet. The only error is out of memory.
-    pub fn over_sockets(
-        alloc: Global,
-        rt: &'a R,
-        place: Place<'a>,
-        seconds: u32,
-        width: u32,
-    ) -> Result<SocketLanes<'a, R>, AllocError>
-        ensures none { IfOk result (λ lanes. ⟦<LanesOver<SocketWires<'a, R>> as Lanes>⟧.out lanes ≡ []) }
-        ensures width { IfOk result (λ lanes. ⟦<LanesOver<SocketWires<'a, R>> as Lanes>⟧.width lanes ≡ max 1 (min width 32)) }
-        ensures seconds { IfOk result (λ lanes. ⟦<LanesOver<SocketWires<'a, R>> as Lanes>⟧.seconds lanes ≡ seconds) }
-        ensures port { IfOk result (λ lanes. ⟦<LanesOver<SocketWires<'a, R>> as Lanes>⟧.host_port lanes ≡ port_of place.entry) }
-    {
-        let wires = SocketWires::new(alloc, rt, place, Poll::new(rt).ok(), None)?;
-        Ok(LanesOver::new(alloc, wires, seconds, width))
-    }
-
-    /// The same for a caller that waits by itself: its wait is to end for what is registered there, and then they go on (see
-    /// [`Lanes::go_on`]). Each connection is registered under the index of its request. Without a registry nothing tells of
-    /// them, and they are due every 20 ms. [`Lanes::wait`] would try them again and again.
+    /// out, and it connects to nothing yet. It takes no memory.
+    ///
+    /// Whoever drives them waits for what is registered there, and has them go on then ([`Lanes::go_on`]). Each connection is
+    /// registered under the index of its request. Without a registry nothing tells of them, and they are due every 20 ms.
     pub fn over_registry(
         alloc: Global,
         rt: &'a R,
@@ -49,14 +31,18 @@ impl<'a, R: Net + Clock> LanesOver<SocketWires<'a, R>> {
         seconds: u32,
         width: u32,
         registry: Option<Registry>,
-    ) -> Result<SocketLanes<'a, R>, AllocError>
-        ensures none { IfOk result (λ lanes. ⟦<LanesOver<SocketWires<'a, R>> as Lanes>⟧.out lanes ≡ []) }
-        ensures width { IfOk result (λ lanes. ⟦<LanesOver<SocketWires<'a, R>> as Lanes>⟧.width lanes ≡ max 1 (min width 32)) }
-        ensures seconds { IfOk result (λ lanes. ⟦<LanesOver<SocketWires<'a, R>> as Lanes>⟧.seconds lanes ≡ seconds) }
-        ensures port { IfOk result (λ lanes. ⟦<LanesOver<SocketWires<'a, R>> as Lanes>⟧.host_port lanes ≡ port_of place.entry) }
+    ) -> SocketLanes<'a, R>
+        ensures none { ⟦<LanesOver<SocketWires<'a, R>> as Lanes>⟧.out result ≡ [] }
+        ensures width { ⟦<LanesOver<SocketWires<'a, R>> as Lanes>⟧.width result ≡ max 1 (min width 32) }
+        ensures seconds { ⟦<LanesOver<SocketWires<'a, R>> as Lanes>⟧.seconds result ≡ seconds }
+        ensures port { ⟦<LanesOver<SocketWires<'a, R>> as Lanes>⟧.host_port result ≡ port_of place.entry }
     {
-        let wires = SocketWires::new(alloc, rt, place, None, registry)?;
-        Ok(LanesOver::new(alloc, wires, seconds, width))
+        let wires = SocketWires {
+            rt,
+            place,
+            registry,
+        };
+        LanesOver::new(alloc, wires, seconds, width)
     }
 }
 
@@ -65,48 +51,14 @@ impl<'a, R: Net + Clock> LanesOver<SocketWires<'a, R>> {
 pub struct SocketWires<'a, R> {
     rt: &'a R,
     place: Place<'a>,
-    /// What waits for them. Where there is none, somebody else waits, or connections are tried again and again.
-    poll: Option<Poll>,
-    events: Events,
-    /// Where somebody else waits: of whom.
+    /// Where they are registered.
     registry: Option<Registry>,
-    /// The monotonic clock where time is counted from, and the milliseconds since.
-    began: Duration,
-    passed: u64,
 }
 
-impl<'a, R: Net + Clock> SocketWires<'a, R> {
-    fn new(
-        alloc: Global,
-        rt: &'a R,
-        place: Place<'a>,
-        poll: Option<Poll>,
-        registry: Option<Registry>,
-    ) -> Result<SocketWires<'a, R>, AllocError>
-        ensures { IfOk result (λ wires. wires.place ≡ place.entry) }
-    {
-        Ok(SocketWires {
-            rt,
-            place,
-            poll,
-            events: Events::with_capacity(alloc, MOST_EVENTS)?,
-            registry,
-            began: Duration::ZERO,
-            passed: 0,
-        })
-    }
-
-    /// Where connections are registered.
-    fn registry(&self) -> Option<&Registry> {
-        match &self.poll {
-            Some(poll) => Some(poll.registry()),
-            None => self.registry.as_ref(),
-        }
-    }
-
+impl<'a, R> SocketWires<'a, R> {
     /// Has the connection told of under this index.
     fn register(&self, stream: &mut Stream, index: u32) -> bool {
-        let Some(registry) = self.registry() else {
+        let Some(registry) = &self.registry else {
             return false;
         };
         let token = Token(index as usize);
@@ -119,10 +71,7 @@ impl<'a, R: Net + Clock> SocketWires<'a, R> {
     }
 }
 
-/// The most connections that one wait tells of.
-const MOST_EVENTS: usize = 64;
-
-impl<'a, R: Net + Clock> Wires for SocketWires<'a, R> {
+impl<'a, R: Net> Wires for SocketWires<'a, R> {
     type Line = SocketLine<'a, R>;
 
     ghost host_port = { λ w. port_of w.place };
@@ -139,39 +88,6 @@ impl<'a, R: Net + Clock> Wires for SocketWires<'a, R> {
         line.is_restless = !self.register(&mut line.stream, index);
         line
     }
-
-    fn begin(&mut self) {
-        self.began = self.rt.monotonic().unwrap_or(Duration::ZERO);
-        self.passed = 0;
-    }
-
-    fn wait(&mut self, millis: u64) -> u64 {
-        self.events.clear();
-        match &mut self.poll {
-            Some(poll) => {
-                let _ended = poll.poll(&mut self.events, Some(Duration::from_millis(millis)));
-            }
-            None => thread::sleep(self.rt, Duration::from_millis(millis.min(RESTLESS))),
-        }
-        let passed = match self.rt.monotonic() {
-            Ok(now) => millis_of(now.saturating_sub(self.began)),
-            Err(_) => self.passed.saturating_add(millis),
-        };
-        self.passed = self.passed.max(passed);
-        self.passed
-    }
-
-    fn is_ready(&self, index: u32) -> bool {
-        self.poll.is_none()
-            || self
-                .events
-                .iter()
-                .any(|event| event.token() == Token(index as usize))
-    }
-}
-
-fn millis_of(time: Duration) -> u64 {
-    u64::try_from(time.as_millis()).unwrap_or(u64::MAX)
 }
 
 /// A connection of the system, or none.

@@ -1,6 +1,6 @@
 //! A request that is on its way over a connection, or over.
 ghost use Rattle.std.specs.Prelude.{◌≡◌, ◌<◌, None, OnOk, length};
-ghost use Rattle.keep_lanes.specs.code.Ways.{DeadlineIsAhead, StaysOrMoves, is_way_over, sooner};
+ghost use Rattle.keep_lanes.specs.code.Ways.{DeadlineIsAhead, WayMoves, is_way_over, sooner};
 
 use crate::lane::Lane;
 use crate::line::Line;
@@ -10,7 +10,7 @@ use std::alloc::{AllocError, Global};
 use vault_http::DatedReply;
 
 /// The longest wait while a connection has to be tried again and again, in milliseconds.
-pub(crate) const RESTLESS: u64 = 20;
+const RESTLESS: u64 = 20;
 
 /// A request on its way, or what came of it.
 #[derive(Drop)]
@@ -62,24 +62,21 @@ impl<L: Line + Drop> Way<L> {
         }
     }
 
-    /// Goes as far as it can at this moment, where it may, or has come to its deadline.
+    /// Goes as far as it can at this moment.
     pub(crate) fn go_on(
         &mut self,
         alloc: Global,
         room: &mut [u8],
-        is_ready: bool,
         now: u64,
     ) -> Result<(), AllocError>
         requires room { 0 < length room.old }
         ensures room { length room.new ≡ length room.old }
-        ensures moves { OnOk result (StaysOrMoves L.written L.remaining now self.old self.new) }
+        ensures moves { OnOk result (WayMoves L.written L.remaining now self.old self.new) }
         ensures ahead { OnOk result (DeadlineIsAhead now self.new) }
     {
         if let Way::Out(lane) = self {
-            if is_ready || lane.line.is_restless() || lane.deadline() <= now {
-                if let Some(answer) = lane.go_on(alloc, room, now)? {
-                    *self = Way::Over(answer);
-                }
+            if let Some(answer) = lane.go_on(alloc, room, now)? {
+                *self = Way::Over(answer);
             }
         }
         Ok(())

@@ -1,5 +1,6 @@
 //! All commands: the words of the command line are read, and what they ask is done.
 use crate::calling::call;
+use crate::linting::lint;
 use crate::live::keep;
 use crate::serve::serve;
 use keep_command::{SystemFiles, words};
@@ -41,6 +42,7 @@ where
         Job::Call(called) => call(rt, called, input, &mut errors).code(),
         Job::Live(live) => keep(rt, live, &mut streams_of(rt, input, errors)).code(),
         Job::Serve(served) => serve(rt, served, output, &mut errors).code(),
+        Job::Lint(linted) => lint(rt, linted, &mut errors).code(),
         Job::Offline(command) => do_offline(rt, command, &mut errors).code(),
     }
 }

@@ -7,6 +7,7 @@ use std::process::ExitCode;
 
 mod calling;
 mod commands;
+mod linting;
 mod live;
 mod running;
 mod serve;

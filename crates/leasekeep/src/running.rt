@@ -61,9 +61,7 @@ where
     let Ok(mut clock) = SystemClock::new(rt.alloc(), rt) else {
         return ended(Err(AllocError), errors);
     };
-    let Ok(mut lanes) = own_lanes(rt, served, &clock) else {
-        return ended(Err(AllocError), errors);
-    };
+    let mut lanes = own_lanes(rt, served, &clock);
     let Ok(parts) = parts_of(rt, served, log, &clock) else {
         return ended(Err(AllocError), errors);
     };
@@ -156,21 +154,17 @@ where
         log,
         ends: ends_path(rt.alloc(), served.room)?,
         disk: SystemDisk::new(rt),
-        lane: own_lane(rt, served, clock)?,
-        askers: askers_by(rt.alloc(), served, || own_lane(rt, served, clock))?,
-        ahead: own_lanes(rt, served, clock)?,
+        lane: own_lane(rt, served, clock),
+        askers: askers_by(rt.alloc(), served, || Ok(own_lane(rt, served, clock)))?,
+        ahead: own_lanes(rt, served, clock),
     })
 }
 
-/// A lane of its own for whoever looks a credential up. The only error is lack of memory.
-fn own_lane<'a, R>(
-    rt: &'a R,
-    served: &Served<'a>,
-    clock: &SystemClock<'_, R>,
-) -> Result<SocketLanes<'a, R>, AllocError>
+/// A lane of its own for whoever looks a credential up.
+fn own_lane<'a, R>(rt: &'a R, served: &Served<'a>, clock: &SystemClock<'_, R>) -> SocketLanes<'a, R>
 where
     R: Files<File = File> + AllocGlobal + Net + Clock,
-    ensures { IfOk result (IsOwnLane (⟦<SocketLanes<'a, R> as Lanes>⟧.out) (⟦<SocketLanes<'a, R> as Lanes>⟧.seconds) (⟦<SocketLanes<'a, R> as Lanes>⟧.width) served.now) }
+    ensures { IsOwnLane (⟦<SocketLanes<'a, R> as Lanes>⟧.out) (⟦<SocketLanes<'a, R> as Lanes>⟧.seconds) (⟦<SocketLanes<'a, R> as Lanes>⟧.width) served.now result }
 {
     lanes_of(rt, served, clock, 1)
 }
@@ -187,34 +181,34 @@ fn ends_path(alloc: Global, room: Option<Room<'_>>) -> Result<Option<String>, Al
     }
 }
 
-/// As many lanes to the broker as the words ask for, which wait by this clock. The only error is lack of memory.
+/// As many lanes to the broker as the words ask for, which this clock waits for.
 #[tactic(auto, using(crate::proofs::Widths::least_twice))]
 fn own_lanes<'a, R>(
     rt: &'a R,
     served: &Served<'a>,
     clock: &SystemClock<'_, R>,
-) -> Result<SocketLanes<'a, R>, AllocError>
+) -> SocketLanes<'a, R>
 where
     R: Files<File = File> + AllocGlobal + Net + Clock,
-    ensures none { IfOk result (λ lanes. ⟦<SocketLanes<'a, R> as Lanes>⟧.out lanes ≡ []) }
-    ensures width { IfOk result (λ lanes. ⟦<SocketLanes<'a, R> as Lanes>⟧.width lanes ≡ width_of served.now.width) }
-    ensures seconds { IfOk result (λ lanes. ⟦<SocketLanes<'a, R> as Lanes>⟧.seconds lanes ≡ timeout_of served.now.patience) }
+    ensures none { ⟦<SocketLanes<'a, R> as Lanes>⟧.out result ≡ [] }
+    ensures width { ⟦<SocketLanes<'a, R> as Lanes>⟧.width result ≡ width_of served.now.width }
+    ensures seconds { ⟦<SocketLanes<'a, R> as Lanes>⟧.seconds result ≡ timeout_of served.now.patience }
 {
     lanes_of(rt, served, clock, most_out(served))
 }
 
-/// So many lanes to the broker, which wait by this clock. The only error is lack of memory.
+/// So many lanes to the broker, which this clock waits for.
 fn lanes_of<'a, R>(
     rt: &'a R,
     served: &Served<'a>,
     clock: &SystemClock<'_, R>,
     width: u32,
-) -> Result<SocketLanes<'a, R>, AllocError>
+) -> SocketLanes<'a, R>
 where
     R: Files<File = File> + AllocGlobal + Net + Clock,
-    ensures none { IfOk result (λ lanes. ⟦<SocketLanes<'a, R> as Lanes>⟧.out lanes ≡ []) }
-    ensures width { IfOk result (λ lanes. ⟦<SocketLanes<'a, R> as Lanes>⟧.width lanes ≡ max 1 (min width 32)) }
-    ensures seconds { IfOk result (λ lanes. ⟦<SocketLanes<'a, R> as Lanes>⟧.seconds lanes ≡ timeout_of served.now.patience) }
+    ensures none { ⟦<SocketLanes<'a, R> as Lanes>⟧.out result ≡ [] }
+    ensures width { ⟦<SocketLanes<'a, R> as Lanes>⟧.width result ≡ max 1 (min width 32) }
+    ensures seconds { ⟦<SocketLanes<'a, R> as Lanes>⟧.seconds result ≡ timeout_of served.now.patience }
 {
     let seconds = served.patience.min(60) as u32;
     let registry = registry_of(clock);

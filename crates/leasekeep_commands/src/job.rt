@@ -17,6 +17,8 @@ pub enum Job<'a> {
     Live(Live<'a>),
     /// `serve`, the agent that runs by itself.
     Serve(Served<'a>),
+    /// `lint`, which shows what is wrong with an inventory.
+    Lint(Linted<'a>),
 }
 
 /// What the words of the command line ask of a running agent.
@@ -69,6 +71,19 @@ pub struct Served<'a> {
     pub spread: u64,
     /// Whether it stands behind another agent.
     pub behind: bool,
+}
+
+/// What the words of `lint` ask.
+#[derive(Clone, Copy, Debug)]
+pub struct Linted<'a> {
+    /// The path of the inventory.
+    pub file: &'a str,
+    /// Whether the findings are written as an array of JSON.
+    pub json: bool,
+    /// The time-out of the agent that is to serve it, in seconds.
+    pub patience: u64,
+    /// Whether the name of an entry may be sent as its credential.
+    pub names_are_secrets: bool,
 }
 
 /// Where guests come in, and the word of the command line that says so.

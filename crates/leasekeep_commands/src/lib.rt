@@ -10,5 +10,5 @@ mod job;
 mod parser;
 mod words;
 
-pub use job::{Called, Job, Live, Room, Served, Socket};
+pub use job::{Called, Job, Linted, Live, Room, Served, Socket};
 pub use words::read_command;

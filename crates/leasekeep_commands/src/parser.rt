@@ -320,12 +320,52 @@ it renews, and renews what the one in front has left undone",
     ],
 };
 
+/// `lint FILE [--timeout SECONDS] [--names-are-secrets] [--json]`
+const LINT: Described = Described {
+    name: "lint",
+    about: "Shows what is wrong with an inventory, and what is probably not meant, with line and fix",
+    after: "\
+Each finding is a line `FILE:LINE: SEVERITY: ENTRY KEY: PROBLEM; FIX`. `leasekeep serve` refuses an
+inventory for a `fault`, and takes it with a `doubt`. What has no line of its own is said of FILE,
+or of the entry's table. A text that is no inventory has one fault, its first. Files of credentials
+are read as at a start without --state. No line has a credential in it.
+
+The last line, on standard error, counts the faults and the doubts.
+
+Example:
+  leasekeep lint fleet.toml
+
+Exit status: 0 no fault, 1 a fault, 2 command line, 6 read or write, 7 memory",
+    words: &[
+        FILE,
+        Word {
+            name: "timeout",
+            takes: Takes::Option("SECONDS", Value::Number(1, 60)),
+            help: "\
+The time-out of the agent that is to serve it, 1 to 60 seconds
+[default: 5]",
+        },
+        Word {
+            name: "names-are-secrets",
+            takes: Takes::Flag,
+            help: "\
+Passes over credentials that are not written, as `serve` does with
+the same word, for trials",
+        },
+        Word {
+            name: "json",
+            takes: Takes::Flag,
+            help: "Shows an array of JSON, with an object for each finding",
+        },
+    ],
+};
+
 const FILE: Word = Word {
     name: "FILE",
     takes: Takes::Text,
     help: "\
-The inventory, at most 1 MiB; read first. `leasekeep-inventory lint FILE`
-shows every fault, its line and its fix",
+The inventory, at most 1 MiB; read first. `leasekeep lint FILE` shows what is
+wrong with it, with line and fix",
 };
 
 const START: Word = Word {
@@ -405,7 +445,8 @@ fn add_offline<'a>(alloc: Global, commands: &mut Vec<Command<'a>>) -> Result<(),
     MARGIN.add_to(alloc, commands)?;
     REACH.add_to(alloc, commands)?;
     CHECK.add_to(alloc, commands)?;
-    REHEARSE.add_to(alloc, commands)
+    REHEARSE.add_to(alloc, commands)?;
+    LINT.add_to(alloc, commands)
 }
 
 /// The commands that keep entries alive.

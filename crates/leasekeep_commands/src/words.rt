@@ -1,6 +1,6 @@
 //! What the words of the command line ask.
 use crate::call_commands::called;
-use crate::job::{Called, Job, Live, Room, Served, Socket};
+use crate::job::{Called, Job, Linted, Live, Room, Served, Socket};
 use crate::parser::{BROKER, mistake, parse};
 use clap::error::ErrorKind;
 use clap::{ArgMatches, Error};
@@ -160,6 +160,7 @@ fn job_of<'a>(alloc: Global, matches: &ArgMatches<'a>) -> Result<Job<'a>, Unread
     match matches.subcommand() {
         Some(("run", matches)) => live(matches),
         Some(("serve", matches)) => served(matches),
+        Some(("lint", matches)) => linted(matches),
         Some((command, matches)) => Ok(Job::Offline(command_of(alloc, command, matches)?)),
         None => Err(Unread::Value),
     }
@@ -191,6 +192,16 @@ fn served<'a>(matches: &ArgMatches<'a>) -> Result<Job<'a>, Unread> {
         state: matches.get_str("state"),
         spread: number_or(matches, "spread", 0).ok_or(Unread::Value)?,
         behind: matches.get_flag("behind"),
+    }))
+}
+
+/// What `lint` asks.
+fn linted<'a>(matches: &ArgMatches<'a>) -> Result<Job<'a>, Unread> {
+    Ok(Job::Lint(Linted {
+        file: matches.get_str("FILE").ok_or(Unread::Value)?,
+        json: matches.get_flag("json"),
+        patience: number_or(matches, "timeout", PATIENCE).ok_or(Unread::Value)?,
+        names_are_secrets: matches.get_flag("names-are-secrets"),
     }))
 }
 

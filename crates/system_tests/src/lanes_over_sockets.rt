@@ -37,7 +37,7 @@ fn is_closed<S: Read + Drop>(alloc: Global, stream: S) -> bool {
 fn nobody_waits_for_it(rt: HostRuntime) -> Result<(), Fail> {
     let alloc = rt.alloc();
     let (listener, port) = listener(&rt)?;
-    let mut lanes = LanesOver::over_registry(alloc, &rt, Place::Port(port), 5, 1, None)?;
+    let mut lanes = LanesOver::over_registry(alloc, &rt, Place::Port(port), 5, 1, None);
     assert!(rt; is_due(alloc, &mut lanes, 30)?);
     let (stream, _) = listener.accept()?;
     lanes.forget();
@@ -60,7 +60,7 @@ fn a_clock_waits_for_it(rt: HostRuntime) -> Result<(), Fail> {
     let (listener, port) = listener(&rt)?;
     let registry = clock.registry().ok_or("a poll")?.try_clone()?;
     let place = Place::Port(port);
-    let mut lanes = LanesOver::over_registry(alloc, &rt, place, 5, 1, Some(registry))?;
+    let mut lanes = LanesOver::over_registry(alloc, &rt, place, 5, 1, Some(registry));
     assert!(rt; is_due(alloc, &mut lanes, 5000)?);
     drop(listener.accept()?);
     let before = clock.read()?.elapsed;

@@ -128,26 +128,24 @@ const PLAYS: [(Does, u64, Comes, u64); 28] = [
     (Does::Says(b"hello\r\n\r\n", End::Stays), 5000, UNREAD, 0),
 ];
 
-/// A step of a play, and what is to come of it. Moments are milliseconds of the elapsed clock.
+/// A step of a play, and what is to come of it. Moments are milliseconds of the elapsed clock, which is the play's, too.
 #[derive(Clone, Copy)]
 enum Step {
     /// At that moment the renewal for an index is sent, with so much patience.
     Sends(u64, u32, u64),
-    /// A wait from the first moment on, until the second at the latest, hands this back for each of these indices.
-    Waits(u64, u64, &'static [u32], Comes),
-    /// So much time has passed.
-    Passed(u64),
-    /// The longest that it was to wait since this was last asked.
-    Longest(u64),
+    /// At the first moment, and up to the second, the lanes are due at the third.
+    Due(u64, u64, u64),
+    /// They go on in each millisecond from the first moment to the second. By then this comes for each of these indices, and
+    /// nothing before.
+    Hands(u64, u64, &'static [u32], Comes),
 }
 
-/// Lanes over connections of a play, and what is seen of its time.
+/// Lanes over connections of a play, and its clock.
 #[derive(Drop)]
 struct Play<'a> {
     alloc: Global,
     lanes: LanesOver<Wired<'a>>,
     clock: &'a Cell<u64>,
-    longest: &'a Cell<u64>,
 }
 
 impl<'a> Play<'a> {
@@ -155,23 +153,33 @@ impl<'a> Play<'a> {
     fn goes_on(&mut self, step: &Step) -> Result<bool, AllocError> {
         match *step {
             Step::Sends(now, index, patience) => {
+                self.clock.set(now);
                 send(self.alloc, &mut self.lanes, now, index, patience)
             }
-            Step::Waits(now, until, indices, comes) => self.waits(now, until, indices, comes),
-            Step::Passed(millis) => Ok(self.clock.get() == millis),
-            Step::Longest(millis) => Ok(self.longest.replace(0) == millis),
+            Step::Due(now, by, then) => Ok(self.lanes.due(now, by) == then),
+            Step::Hands(from, to, indices, comes) => self.hands(from, to, indices, comes),
         }
     }
 
-    fn waits(
+    fn hands(
         &mut self,
-        now: u64,
-        until: u64,
+        from: u64,
+        to: u64,
         indices: &[u32],
         comes: Comes,
     ) -> Result<bool, AllocError> {
-        let came = self.lanes.wait(self.alloc, now, until)?;
-        Ok(are(&came, indices, comes))
+        for now in from..to {
+            if !self.hear(now)?.is_empty() {
+                return Ok(false);
+            }
+        }
+        Ok(are(&self.hear(to)?, indices, comes))
+    }
+
+    /// The answers that are there when the lanes go on at this moment.
+    fn hear(&mut self, now: u64) -> Result<Vec<Answered>, AllocError> {
+        self.clock.set(now);
+        self.lanes.go_on(self.alloc, now)
     }
 
     /// The number of the first step, counted from 0, of which something else comes than is to come; `None` where there is none.
@@ -202,21 +210,18 @@ fn plays_with<R: AllocGlobal + Abort>(
     width: u32,
     steps: &[Step],
 ) -> Result<(), Fail> {
-    let (clock, longest) = (Cell::new(0), Cell::new(0));
+    let clock = Cell::new(0);
     let wires = Wired {
         alloc: rt.alloc(),
         parts,
         clock: &clock,
-        longest: &longest,
         otherwise: prompt(),
-        began: 0,
         dials: 0,
     };
     let mut play = Play {
         alloc: rt.alloc(),
         lanes: LanesOver::new(rt.alloc(), wires, 5, width),
         clock: &clock,
-        longest: &longest,
     };
     assert_eq!(rt; play.first_wrong(steps)?, None);
     Ok(())
@@ -227,31 +232,27 @@ fn each_peer_costs_what_it_may(rt: HostRuntime) -> Result<(), Fail> {
     for (does, patience, comes, until) in &PLAYS {
         let steps = [
             Step::Sends(0, 4, *patience),
-            Step::Waits(0, 60_000, &[4], *comes),
-            Step::Passed(*until),
+            Step::Hands(0, *until, &[4], *comes),
         ];
         plays_with(&rt, &[part_of(*does)], 1, &steps)?;
     }
     Ok(())
 }
 
-const SILENCE: [Step; 10] = [
-    // A connection is waited for until it has to be looked at again, and no longer.
+const SILENCE: [Step; 7] = [
+    // It has to be looked at again when its patience is over.
     Step::Sends(0, 4, 400),
-    Step::Waits(0, 300, &[], GRANTED),
-    Step::Longest(300),
-    Step::Passed(300),
-    Step::Waits(300, 9000, &[4], TIMEOUT),
-    Step::Longest(100),
-    Step::Passed(400),
+    Step::Due(0, 300, 300),
+    Step::Due(0, 9000, 400),
+    Step::Hands(0, 400, &[4], TIMEOUT),
     // Its times go by the clock that is handed in.
     Step::Sends(7000, 4, 5000),
-    Step::Waits(11_999, 11_999, &[], GRANTED),
-    Step::Waits(12_000, 12_000, &[4], TIMEOUT),
+    Step::Due(7000, 60_000, 12_000),
+    Step::Hands(7000, 12_000, &[4], TIMEOUT),
 ];
 
 #[test]
-fn no_wait_is_longer_than_the_patience(rt: HostRuntime) -> Result<(), Fail> {
+fn it_is_due_when_its_patience_is_over(rt: HostRuntime) -> Result<(), Fail> {
     plays_with(&rt, &[after(NEVER), after(NEVER)], 1, &SILENCE)
 }
 
@@ -260,13 +261,11 @@ const SENDS_5: Step = Step::Sends(0, 5, 5000);
 
 const SENDS_4: Step = Step::Sends(0, 4, 5000);
 
-const ONE_IS_SILENT: [Step; 6] = [
+const ONE_IS_SILENT: [Step; 4] = [
     SENDS_5,
     SENDS_4,
-    Step::Waits(0, 60_000, &[5], GRANTED),
-    Step::Passed(105),
-    Step::Waits(105, 60_000, &[4], TIMEOUT),
-    Step::Passed(5000),
+    Step::Hands(0, 100, &[5], GRANTED),
+    Step::Hands(101, 5000, &[4], TIMEOUT),
 ];
 
 #[test]
@@ -274,16 +273,15 @@ fn a_silent_peer_costs_its_neighbour_nothing(rt: HostRuntime) -> Result<(), Fail
     plays_with(&rt, &[other_after(100), after(NEVER)], 2, &ONE_IS_SILENT)
 }
 
-const TOGETHER: [Step; 6] = [
+const TOGETHER: [Step; 4] = [
     SENDS_5,
     SENDS_4,
-    Step::Waits(0, 60_000, &[4, 5], GRANTED),
-    Step::Passed(54),
-    Step::Waits(54, 60_000, &[], GRANTED),
-    Step::Passed(54),
+    Step::Hands(0, 50, &[4, 5], GRANTED),
+    // Nothing is out.
+    Step::Due(50, 60_000, 60_000),
 ];
 
 #[test]
-fn answers_within_5_ms_come_together_by_index(rt: HostRuntime) -> Result<(), Fail> {
-    plays_with(&rt, &[other_after(50), after(54)], 2, &TOGETHER)
+fn answers_that_are_there_come_by_index(rt: HostRuntime) -> Result<(), Fail> {
+    plays_with(&rt, &[other_after(50), after(50)], 2, &TOGETHER)
 }

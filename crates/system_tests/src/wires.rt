@@ -1,4 +1,4 @@
-//! Connections of a play, in time that passes only while they are waited for.
+//! Connections of a play, in the time of its clock.
 use keep_device::Tried;
 use keep_lanes::{Line, Wires};
 use std::alloc::Global;
@@ -112,9 +112,6 @@ pub(crate) struct Wired<'a> {
     pub(crate) parts: &'a [Part],
     pub(crate) otherwise: Part,
     pub(crate) clock: &'a Cell<u64>,
-    /// The longest that it was to wait.
-    pub(crate) longest: &'a Cell<u64>,
-    pub(crate) began: u64,
     pub(crate) dials: usize,
 }
 
@@ -134,21 +131,5 @@ impl<'a> Wires for Wired<'a> {
             taken: Vec::new(self.alloc),
             sent: 0,
         }
-    }
-
-    fn begin(&mut self) {
-        self.began = self.clock.get();
-    }
-
-    /// A millisecond passes, or none where none was to pass.
-    fn wait(&mut self, millis: u64) -> u64 {
-        self.longest.set(self.longest.get().max(millis));
-        let now = self.clock.get().saturating_add(millis.min(1));
-        self.clock.set(now);
-        now.saturating_sub(self.began)
-    }
-
-    fn is_ready(&self, _index: u32) -> bool {
-        true
     }
 }

@@ -1,5 +1,5 @@
 -- A request on its way over a connection, or what came of it, as the code has it.
-use Rattle.std.specs.Prelude.{◌≡◌, ℕ, ◌<◌, ◌⊎◌, List, [], ◌∷◌, Bool, true, false, Option, Some, None, IfSome, min, if◌then◌else◌}
+use Rattle.std.specs.Prelude.{◌≡◌, ℕ, ◌<◌, List, [], ◌∷◌, Bool, true, false, Option, Some, None, IfSome, min, if◌then◌else◌}
 use Rattle.std.specs.List.{list_any}
 use Rattle.keep_lanes.specs.Allowed.{deadline, millis_after}
 use Rattle.keep_lanes.specs.Lanes.{FrontIsWritten, ReplyIsHeard, RequestIsSettled}
@@ -27,10 +27,6 @@ WayMoves written remaining now (Over a) new = new ≡ Over a
 WayMoves written remaining now (Out lane) (Out next) = LaneGoesOn written remaining now lane next None
 WayMoves {L} written remaining now (Out lane) (Over a) = (next : Lane L) × LaneGoesOn written remaining now lane next (Some a)
 
--- it stays as it is while its deadline is ahead, or moves
-abbrev pub StaysOrMoves : {L : Type 0} → (L → Option (List ℕ)) → (L → Option (List ℕ)) → ℕ → Way L → Way L → Type 0
-StaysOrMoves written remaining now old new = (new ≡ old) ⊎ WayMoves written remaining now old new
-
 -- the deadline of one that is on its way is ahead
 abbrev pub DeadlineIsAhead : {L : Type 0} → ℕ → Way L → Type 0
 DeadlineIsAhead now (Out lane) = now < deadline lane.course.allowance lane.course.stage
@@ -45,7 +41,7 @@ AreAhead now (s ∷ ss) = DeadlineIsAhead now s.standing × AreAhead now ss
 abbrev pub Move : {L : Type 0} → (L → Option (List ℕ)) → (L → Option (List ℕ)) → ℕ → List (Seat (Way L)) → List (Seat (Way L)) → Type 0
 Move written remaining now [] new = new ≡ []
 Move written remaining now (s ∷ ss) [] = ⊥
-Move written remaining now (s ∷ ss) (n ∷ ns) = ((n.index ≡ s.index) × (StaysOrMoves written remaining now s.standing n.standing × DeadlineIsAhead now n.standing)) × Move written remaining now ss ns
+Move written remaining now (s ∷ ss) (n ∷ ns) = ((n.index ≡ s.index) × (WayMoves written remaining now s.standing n.standing × DeadlineIsAhead now n.standing)) × Move written remaining now ss ns
 
 -- a request with this text is on its way, over a connection to which nothing was written before
 pub record LaneIsBegun {L : Type 0} (written : L → Option (List ℕ)) (text : List ℕ) (lane : Lane L) : Type 0 where
@@ -69,6 +65,6 @@ abbrev pub soonest : {L : Type 0} → (L → Bool) → ℕ → ℕ → List (Sea
 soonest restless time moment [] = moment
 soonest restless time moment (s ∷ ss) = soonest restless time (sooner restless time moment s.standing) ss
 
--- the same where nobody waits for them meanwhile: at once where one is over
+-- the moment by which they have to be looked at again: at once where one is over
 abbrev pub soonest_or_now : {L : Type 0} → (L → Bool) → ℕ → ℕ → List (Seat (Way L)) → ℕ
 soonest_or_now restless now by seats = if list_any (λ seat. is_way_over seat.standing) seats then min now by else soonest restless now by seats

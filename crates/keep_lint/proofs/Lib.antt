@@ -1,0 +1,3 @@
+pub mod FirstLimit
+pub mod GoodOnes
+pub mod Steps

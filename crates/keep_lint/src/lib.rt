@@ -1,0 +1,36 @@
+//! What is wrong with an inventory, or legal and probably not meant, in words for people: with its line, entry, key and what helps.
+//!
+//! The contract for the layers above: [`doubts`] gives exactly the doubts of `specs/Doubts`, of what [`subject_of`] reads of a text
+//! (`specs/Subjects`). Where tables and keys stand in a text is `specs/Places`. What is said of a doubt and of a text that is no
+//! inventory is printing, of which no contract speaks. Begin with `specs/EntryDoubts`, then `all_doubts`.
+#![tactic(auto)]
+
+mod all_doubts;
+mod doubt_mends;
+mod doubt_words;
+mod entry_doubts;
+mod facts;
+mod fault_words;
+mod finding;
+mod judging;
+mod limits;
+mod mark;
+mod naming;
+mod place;
+mod places;
+mod printing;
+mod reading;
+mod subject;
+mod units;
+mod what;
+
+pub use all_doubts::doubts;
+pub use doubt_words::finding_of;
+pub use fault_words::finding_of_fault;
+pub use finding::{Finding, Severity};
+pub use naming::label;
+pub use place::{kind_of, line_of};
+pub use printing::{push_json, push_line};
+pub use reading::{places_of, subject_of};
+pub use subject::{Places, Subject};
+pub use what::{Doubt, What, Whole};

@@ -1,0 +1,37 @@
+use keep_device::{Counted, Sink};
+use keep_engine::Exit;
+use keep_house::Demands;
+use leasekeep_commands::Linted;
+use lint_run::run_lint;
+use serve_start::{SystemSecrets, folder_of};
+use std::io;
+use std::rt::{Clock, Files};
+
+/// Shows what is wrong with an inventory, on standard output.
+pub fn lint<R, E>(rt: &R, linted: &Linted<'_>, errors: &mut E) -> Exit
+where
+    R: Files + AllocGlobal + Print + Clock,
+    E: Sink,
+{
+    let mut out = Counted::new(io::writer(rt));
+    let demands = Demands {
+        timeout: linted.patience.min(60) as u32,
+        names_are_secrets: linted.names_are_secrets,
+        earlier: 0,
+        behind: None,
+    };
+    let asked = lint_run::Linted {
+        file: linted.file,
+        json: linted.json,
+        demands,
+    };
+    let mut secrets = SystemSecrets::new(rt);
+    run_lint(
+        rt,
+        asked,
+        folder_of(linted.file),
+        &mut secrets,
+        &mut out,
+        errors,
+    )
+}
