@@ -24,16 +24,16 @@ module _ {L : Type 0} (written remaining : L → Option (List ℕ)) (now : ℕ) 
   pub rest_next : (old out : List (Seat (Way L))) (i : ℕ) (n : Seat (Way L)) → drop i out ≡ drop i old → drop (i + 1) (set out i n) ≡ drop (i + 1) old
   rest_next old out i n rest = drop-set-lt (i + 1) out i n (omega arith) ∙ drop_more_same out old i rest
 
-  pub move_next : (old out : List (Seat (Way L))) (i : ℕ) (d n : Seat (Way L)) (from : Way L) → i < length out → drop i out ≡ drop i old
-      → Move written remaining now (take i old) (take i out) → WayMoves written remaining now from n.standing → from ≡ (get_or out i d).standing → DeadlineIsAhead now n.standing
+  pub move_next : (old out : List (Seat (Way L))) (i : ℕ) (d n : Seat (Way L)) → i < length out → drop i out ≡ drop i old
+      → Move written remaining now (take i old) (take i out) → WayMoves written remaining now (get_or out i d).standing n.standing → DeadlineIsAhead now n.standing
       → n.index ≡ (get_or out i d).index → Move written remaining now (take (i + 1) old) (take (i + 1) (set out i n))
-  move_next old out i d n from within rest h moved is ahead same =
+  move_next old out i d n within rest h moved ahead same =
       let s = get_or out i d in
       let here : drop i old ≡ s ∷ drop (i + 1) out = sym rest ∙ drop_more out i d within in
       let front : take (i + 1) old ≡ take i old ++ s ∷ [] = take-add i 1 old ∙ ap (λ l. take i old ++ take 1 l) here in
       subst (λ l. Move written remaining now l (take (i + 1) (set out i n))) (sym front)
       (subst (λ l. Move written remaining now (take i old ++ s ∷ []) l) (sym (take_more_set out i n within))
-      (move_more (take i old) (take i out) s n h (same, (subst (λ w. WayMoves written remaining now w n.standing) is moved, ahead))))
+      (move_more (take i old) (take i out) s n h (same, (moved, ahead))))
 
   -- one goes on, and is answered
   pub moves_over : (old : Way L) (lane next : Lane L) (got : Option Answer) (a : Answer) → old ≡ Out lane → got ≡ Some a → LaneGoesOn written remaining now lane next got
