@@ -133,12 +133,24 @@ class Machines:
                        self.renewals(machine.name, since, until))
 
     def step_in(self, since: float, until: float) -> None:
-        """Between these moments each entry was renewed by those behind, which say so."""
+        """Between these moments each entry was renewed by those behind. Of those that were renewed after their look they say so, and not of
+        those that a round asked along before that."""
         by = {name for machine in self.behind for name in self.renewals(machine.name, since, until)}
         self.equal("renewed by those behind", set(self.fleet.names), by)
         for machine in self.behind:
             said = {line.words[0] for line in machine.agent.said("steps-in") if ns(since) <= line.moment < ns(until)}
-            self.equal(f"{machine.name} steps in", set(self.renewals(machine.name, since, until)), said)
+            after = self._renewed_from_its_look(machine, since, until, ns(2))
+            self.equal(f"{machine.name} steps in, and does not say so", set(), after - said)
+            about = self._renewed_from_its_look(machine, since, until, -ns(3))
+            self.equal(f"{machine.name} says that it steps in, for what it asks along", set(), said - about)
+
+    def _renewed_from_its_look(self, machine: Machine, since: float, until: float, later: int) -> set[str]:
+        """What that agent renewed from the moment on at which it looks, or so much later: half way between the time in front and its own."""
+        margins = ns(self.fleet.margin + machine.margin) // 2
+        ends = {row.name: row.renewals for row in self.vault.rows.values()}
+        return {one.name for one in self.vault.asked if one.renews and one.by == machine.name and ns(since) <= one.moment < ns(until)
+                for before in [[end for moment, end in ends[one.name] if moment < one.moment]]
+                if before and one.moment >= before[-1] - margins + later}
 
     def faults(self, *lost: str, sick: Iterable[str] = ()) -> list[str]:
         """What went wrong. These entries are lost, and no others, but perhaps those that are sick."""

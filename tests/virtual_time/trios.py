@@ -75,13 +75,9 @@ class Trouble:
         machine.tell(name)
         happens()
 
-    # (The seconds of the boot clock stay in phase with the wall's: else the file of the ends may have an end, of which an agent behind
-    # heard when it looked, up to a second too late.)
-
     def _boot(self) -> None:
         self.machine.agent.kill()
         self.machine.agent.new_boot()
-        self.machine.clocks.booted -= self.machine.clocks.booted % NANOSECONDS
 
     def _cut(self, act: Act, status: int) -> None:
         self.machine.broker.faults = [Fault(self.machine.world.now, NEVER, act, status)]
@@ -93,7 +89,7 @@ class Trouble:
         self.machine.agent.kill_at_call(self._chance.randint(1, 60))
 
     def _jump(self) -> None:
-        self.machine.clocks.wall_ahead += ns(self._chance.randint(-4000, 4000))
+        self.machine.clocks.wall_ahead += ns(self._chance.uniform(-4000, 4000))
 
     def _bad_file(self) -> None:
         self.machine.write(INVENTORY, "margin = oh no\n")

@@ -42,7 +42,7 @@ module _ {S T D K E : Type 0} where
   heard_of agent (happened.Shorts shorts) old new h = ap (λ x. x.sink) h.1
   heard_of agent (happened.Answered entry operation said notes) old new h = ap (λ x. x.sink) h.1
   heard_of agent (happened.Ahead entry end) old new h = ap (λ x. x.sink) h.1
-  heard_of agent (happened.StepsIn requests) old new h = ap (λ x. x.sink) h.1
+  heard_of agent (happened.StepsIn lead requests) old new h = ap (λ x. x.sink) h.1
   heard_of agent happened.Refused old new h = ap (λ x. x.sink) h.1
   heard_of agent happened.Wanting old new h = ap (λ x. x.sink) h.1
 

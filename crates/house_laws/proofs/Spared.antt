@@ -134,7 +134,7 @@ module _ {S T D K E : Type 0} where
   heard_of agent (happened.Shorts shorts) old new h = (ap (λ x. x.state) h.1, left_same old.ends new.ends (ap (λ x. x.ends) h.1))
   heard_of agent (happened.Answered entry operation said notes) old new h = (ap (λ x. x.state) h.1, marked (after_answer said.reply) (λ x. refl) old.ends new.ends (ap (λ x. x.ends) h.1))
   heard_of agent (happened.Ahead entry end) old new h = (ap (λ x. x.state) h.1, marked to_be_kept (λ x. refl) old.ends new.ends (ap (λ x. x.ends) h.1))
-  heard_of agent (happened.StepsIn requests) old new h = (ap (λ x. x.state) h.1, left_same old.ends new.ends (ap (λ x. x.ends) h.1))
+  heard_of agent (happened.StepsIn lead requests) old new h = (ap (λ x. x.state) h.1, left_same old.ends new.ends (ap (λ x. x.ends) h.1))
   heard_of agent happened.Refused old new h = (ap (λ x. x.state) h.1, left_same old.ends new.ends (ap (λ x. x.ends) h.1))
   heard_of agent happened.Wanting old new h = (ap (λ x. x.state) h.1, left_same old.ends new.ends (ap (λ x. x.ends) h.1))
 

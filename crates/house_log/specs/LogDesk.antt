@@ -13,7 +13,7 @@ use Rattle.keep_log.specs.declared.line.Word.TheVariants as words
 use Rattle.watch_machine.specs.declared.command.Request.{Request}
 use Rattle.watch_machine.specs.declared.event.Operation.{Operation}
 use Rattle.watch_machine.specs.declared.notes.Notes.{Notes}
-use Rattle.house_log.specs.LinesBehind.{ahead_line, steps_in_lines, with_renewals, with_step}
+use Rattle.house_log.specs.LinesBehind.{ahead_line, steps_in_lines, with_step, with_steps}
 use Rattle.house_log.specs.LinesOfAnswers.{answered_lines, trouble_after}
 use Rattle.house_log.specs.LinesOfClocks.{clocked_lines, marks_clocked, memory_line, short_log_lines}
 use Rattle.house_log.specs.Lines.{AreSaid, Line, LineIsSaid, TellsDropped, said_line}
@@ -57,8 +57,8 @@ HearsAnswer a i operation said notes old new =
 abbrev pub HearsAhead : Agent → ℕ → ℕ → Desk → Desk → Type 0
 HearsAhead a i end old new = SaysLines a (ahead_line a i end ∷ []) (with_step i false old.marks) old new
 
-abbrev pub HearsSteps : Agent → List Request → Desk → Desk → Type 0
-HearsSteps a requests old new = SaysLines a (steps_in_lines a.inventory.forest old.marks requests) (with_renewals requests old.marks) old new
+abbrev pub HearsSteps : Agent → ℕ → List Request → Desk → Desk → Type 0
+HearsSteps a lead requests old new = SaysLines a (steps_in_lines a lead old.marks requests) (with_steps a.machine lead requests old.marks) old new
 
 abbrev pub HearsRefusal : Agent → Desk → Desk → Type 0
 HearsRefusal a old new = SaysLines a (memory_line ∷ []) old.marks old new

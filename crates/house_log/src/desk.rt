@@ -24,7 +24,7 @@ use keep_log::{Form, Level, LogRoom};
 use keep_moment::Text;
 use std::alloc::{AllocError, Global};
 use std::marker::Model;
-use watch_machine::{Notes, Operation, Request};
+use watch_machine::{Millis, Notes, Operation, Request};
 
 /// How lines are written, those that wait, and what was said last of each entry, and of a lack of memory. Lack of memory costs the
 /// line for which it is wanting: that is dropped and counted.
@@ -129,21 +129,28 @@ impl Desk {
         set_step(&mut self.marks, entry, false);
     }
 
-    /// Of how many entries it will be said that an agent steps in, by what it asks.
-    pub fn count_steps(&self, requests: &[Request]) -> usize
-        ensures { result ≡ steps_in_count self.now.marks requests.now }
+    /// Of how many entries it will be said that an agent steps in, by what it asks; `lead` is how long before its time it looks an entry up.
+    pub fn count_steps(&self, agent: &Agent, lead: Millis, requests: &[Request]) -> usize
+        ensures { result ≡ steps_in_count agent.now.machine lead self.now.marks requests.now }
     {
-        count_steps(requests, &self.marks)
+        count_steps(agent.watch(), lead, requests, &self.marks)
     }
 
     /// Says for which entries an agent steps in that stands behind another, by what it asks.
-    pub fn hear_steps(&mut self, alloc: Global, agent: &Agent, requests: &[Request])
-        ensures { HearsSteps agent.now requests.now self.old self.new }
+    pub fn hear_steps(&mut self, alloc: Global, agent: &Agent, lead: Millis, requests: &[Request])
+        ensures { HearsSteps agent.now lead requests.now self.old self.new }
     {
         let stamp = self.stamp(agent);
-        let names = agent.inventory().forest();
-        say_steps(alloc, &stamp, names, requests, &self.marks, &mut self.room);
-        mark_steps(requests, &mut self.marks);
+        say_steps(
+            alloc,
+            &stamp,
+            agent,
+            lead,
+            requests,
+            &self.marks,
+            &mut self.room,
+        );
+        mark_steps(agent.watch(), lead, requests, &mut self.marks);
     }
 
     /// Says that memory was refused.

@@ -1,7 +1,7 @@
 //! What an agent says that stands behind another.
 ghost use Rattle.std.specs.Prelude.{◌≡◌};
 ghost use Rattle.house_log.specs.Lines.{AreSaid, LineIsSaid};
-ghost use Rattle.house_log.specs.LinesBehind.{ahead_line, is_first_step, is_renewal, steps_in_count, steps_in_line, steps_in_lines, with_renewal, with_renewals, with_step};
+ghost use Rattle.house_log.specs.LinesBehind.{ahead_line, is_first_step, is_step, steps_in_count, steps_in_line, steps_in_lines, with_step, with_step_by, with_steps};
 
 use crate::log_line::{Stamp, say_of, say_text};
 use crate::log_words::is_same;
@@ -10,9 +10,8 @@ use crate::rooms::Rooms;
 use keep_agent::Agent;
 use keep_lines::name_of;
 use keep_log::{Level, Word};
-use keep_tree::Forest;
 use std::alloc::Global;
-use watch_machine::{Operation, Request};
+use watch_machine::{Millis, Operation, Request, Watch};
 
 /// Says that an entry was looked up, and how many seconds it has left.
 #[tactic(auto, unfolding(watch_machine::specs::Clocks::sec))]
@@ -43,72 +42,82 @@ pub(crate) fn say_ahead(
 pub(crate) fn say_steps(
     alloc: Global,
     stamp: &Stamp,
-    names: &Forest,
+    agent: &Agent,
+    lead: Millis,
     requests: &[Request],
     marks: &[Mark],
     room: &mut Rooms,
 )
-    ensures { AreSaid stamp.now.form stamp.now.moment (steps_in_lines names.now marks.now requests.now) room.old room.new }
+    ensures { AreSaid stamp.now.form stamp.now.moment (steps_in_lines agent.now lead marks.now requests.now) room.old room.new }
 {
     for request in requests {
-        say_step(alloc, stamp, names, *request, marks, room);
+        say_step(alloc, stamp, agent, lead, *request, marks, room);
     }
 }
 
-// Says so of the entry of a request, where that is a renewal.
+// Says so of the entry of a request, where that is a renewal by which the agent steps in.
 #[tactic(auto, using(crate::proofs::Said::one_said))]
 fn say_step(
     alloc: Global,
     stamp: &Stamp,
-    names: &Forest,
+    agent: &Agent,
+    lead: Millis,
     request: Request,
     marks: &[Mark],
     room: &mut Rooms,
 )
-    ensures { AreSaid stamp.now.form stamp.now.moment (steps_in_line names.now marks.now request) room.old room.new }
+    ensures { AreSaid stamp.now.form stamp.now.moment (steps_in_line agent.now lead marks.now request) room.old room.new }
 {
-    if is_first_step(request, marks) {
-        let name = name_of(names, request.entry);
+    if is_first_step(agent.watch(), lead, request, marks) {
+        let name = name_of(agent.inventory().forest(), request.entry);
         say_text(alloc, stamp, Level::Warning, "steps-in", name, room);
     }
 }
 
 /// Of how many entries that is said.
-pub(crate) fn count_steps(requests: &[Request], marks: &[Mark]) -> usize
-    ensures { result ≡ steps_in_count marks.now requests.now }
+pub(crate) fn count_steps(
+    watch: &Watch,
+    lead: Millis,
+    requests: &[Request],
+    marks: &[Mark],
+) -> usize
+    ensures { result ≡ steps_in_count watch.now lead marks.now requests.now }
 {
     requests
         .iter()
-        .filter(|request| is_first_step(**request, marks))
+        .filter(|request| is_first_step(watch, lead, **request, marks))
         .count()
 }
 
-// Whether it is a renewal of an entry of which that was not said.
-fn is_first_step(request: Request, marks: &[Mark]) -> bool
-    ensures { result ≡ is_first_step marks.now request }
+// Whether the agent steps in by it for an entry of which that was not said.
+fn is_first_step(watch: &Watch, lead: Millis, request: Request, marks: &[Mark]) -> bool
+    ensures { result ≡ is_first_step watch.now lead marks.now request }
 {
-    is_renewal(request) && !mark_at(marks, request.entry).steps_in
+    is_step(watch, lead, request) && !mark_at(marks, request.entry).steps_in
 }
 
-fn is_renewal(request: Request) -> bool
-    ensures { result ≡ is_renewal request }
+// Whether it is a renewal of an entry of which the look moment has come. One that a round asks along before that may still be renewed in front.
+fn is_step(watch: &Watch, lead: Millis, request: Request) -> bool
+    ensures { result ≡ is_step watch.now lead request }
 {
     is_same(request.operation, Operation::Renew)
+        && request.entry < watch.forest().len()
+        && (watch.time_of(request.entry) * 1000).saturating_sub(lead) <= watch.clocks().at
 }
 
 /// Marks the entries of which that was said.
-pub(crate) fn mark_steps(requests: &[Request], marks: &mut [Mark])
-    ensures { marks.new ≡ with_renewals requests.now marks.old }
+pub(crate) fn mark_steps(watch: &Watch, lead: Millis, requests: &[Request], marks: &mut [Mark])
+    ensures { marks.new ≡ with_steps watch.now lead requests.now marks.old }
 {
     for request in requests {
-        mark_step(*request, marks);
+        mark_step(watch, lead, *request, marks);
     }
 }
 
-fn mark_step(request: Request, marks: &mut [Mark])
-    ensures { marks.new ≡ with_renewal request marks.old }
+fn mark_step(watch: &Watch, lead: Millis, request: Request, marks: &mut [Mark])
+    ensures { marks.new ≡ with_step_by watch.now lead request marks.old }
 {
-    if is_renewal(request) {
+    if is_step(watch, lead, request) {
         set_step(marks, request.entry, true);
     }
 }

@@ -3,7 +3,7 @@
 use Rattle.std.proofs.Common.{◌≡◌, ◌∙◌, ℕ, zero, suc, ◌<◌, Bool, true, false, ◌&&◌, ◌||◌, ◌==◌, if◌then◌else◌, List, [], ◌∷◌, Option, Some, None, Result, Ok, Err, is_none, length, min, nat_le, refl, sym, ap, subst, arith, inl, inr}
 use Rattle.std.proofs.lemmas.Bool.{cases_lt}
 use Rattle.std.proofs.lemmas.Bool.Decides.{nat_tests}
-use Rattle.std.proofs.lemmas.List.{get_or_past, get_or-set_other, get_or-set_same, length-set}
+use Rattle.std.proofs.lemmas.List.{get_or_past, get_or-set_other, length-set}
 use Rattle.std.specs.List.{list_any}
 use Rattle.std.specs.Prelude.{slice_set}
 use Rattle.keep_moment.specs.declared.moment.TheConstants.{LAST}
@@ -38,7 +38,7 @@ use Rattle.watch_machine.specs.Round.{asked_by_round}
 use Rattle.watch_machine.specs.Sending.{sent, sent_in, sent_track}
 use Rattle.watch_machine.specs.Settling.{at_reading, clocks_after, date_of, dated, dated_by_all, dated_on, is_real, read, settled, settled_track, timed}
 use Rattle.watch_machine.specs.State.{WatchState, each, no_track, track_at, track_in}
-use Rattle.watch_machine.specs.Step.{Step, StepClock, StepCommand, StepLooked, StepRenewed, readied, told_earlier, why}
+use Rattle.watch_machine.specs.Step.{Step, StepClock, StepCommand, StepLooked, StepRenewed, readied, why}
 use Rattle.watch_machine.specs.Wanted.{is_alive, is_open, need_of, wants}
 use Rattle.watch_machine.proofs.Cases.{if_both}
 use Rattle.watch_machine.proofs.Seeing.{each_past, each_read}
@@ -328,9 +328,3 @@ by_index s i other free = by (nat_le (length s.forest.entries) i) refl free wher
   by : (b : Bool) → nat_le (length s.forest.entries) i ≡ b → (if b then Some BadIndex else other) ≡ None → i < length s.forest.entries
   by true is free = absurd cc
   by false is free = grind (arith, nat_tests)
-
--- an end that is handed in is believed
-pub known_word : (s new : WatchState) (i end : ℕ) (renewable : Bool) (output : Output) → Turn s (Known i end renewable) (Ok output) new → i < length s.tracks →
-    Word (track_at new i) (told_earlier end renewable (track_at s i))
-known_word s new i end renewable output turn within =
-    ap (λ (t : WatchState). word (track_at t i)) turn.1.1 ∙ ap word (get_or-set_same s.tracks i _ no_track within) ∙ past_word s.clocks.at (told_earlier end renewable (track_at s i))

@@ -1,25 +1,22 @@
 -- Turned: after a turn, an agent is one. For `turn`.
-use Rattle.std.proofs.Common.{◌≡◌, ◌∙◌, ℕ, zero, suc, ◌<◌, ◌≤◌, Bool, List, [], ◌∷◌, Some, Ok, All, length, min, refl, sym, ap, subst, arith, inl, inr}
+use Rattle.std.proofs.Common.{◌≡◌, ◌∙◌, ℕ, zero, suc, ◌<◌, ◌≤◌, Bool, List, [], ◌∷◌, Some, Ok, All, length, refl, sym, ap, subst, arith, inl, inr}
 use Rattle.std.proofs.lemmas.Bool.{cases_eq, cases_lt}
 use Rattle.std.proofs.lemmas.List.{get_or_past, get_or-set_other, get_or-set_same, length-set, set_past}
 use Rattle.std.specs.Prelude.{slice_set}
 use Rattle.keep_inventory.specs.Inventories.{Inventory, inventory_with_need}
-use Rattle.keep_tree.specs.declared.forest.TheConstants.{END_MAX}
 use Rattle.watch_machine.specs.declared.command.Output.{Output}
 use Rattle.watch_machine.specs.declared.event.Event.{Event}
 use Rattle.watch_machine.specs.declared.event.Event.TheVariants.{Clock, Looked, Renewed, Need, Begin, Known}
 use Rattle.watch_machine.specs.declared.event.Reply.TheVariants.{Told, Refused, Busy, Lost}
-use Rattle.watch_machine.specs.declared.track.End.TheVariants.{At}
 use Rattle.watch_machine.specs.declared.track.Track.{Track}
 use Rattle.watch_machine.specs.History.{Turn}
 use Rattle.watch_machine.specs.State.{WatchState, no_track, track_at}
 use Rattle.keep_agent.specs.declared.standing.Standing.{Standing}
 use Rattle.keep_agent.specs.Agent.{Agent, Believes, IsAgent, IsStanding}
-use Rattle.keep_agent.specs.Standings.{fresh_standing, known_standing, standing_in, standings_after, told_of}
+use Rattle.keep_agent.specs.Standings.{fresh_standing, standing_in, standings_after, told_of}
 use Rattle.keep_agent.specs.Turns.{EventIsTaken, inventory_after}
-use Rattle.keep_agent.proofs.Left.{IsLeft, TellsOf, known_word, left_turn}
+use Rattle.keep_agent.proofs.Left.{IsLeft, TellsOf, left_turn}
 use Rattle.keep_agent.proofs.Believing.{still_believed, told_believed}
-use Rattle.keep_agent.proofs.Within.{taken_within}
 
 -- ---- what was told of an entry of which an event tells nothing
 
@@ -78,10 +75,6 @@ answer_believed old new event xs j y left few tracked below is = elim (cases_lt 
   | inr past ↦ past_believed new xs j y (let count = left.tracks in omega (arith, count, tracked, few, past)) past
 ]
 
-known_believed : (x : Track) (end : ℕ) (renewable : Bool) → x.end ≡ At (min END_MAX end) → x.renewable ≡ renewable → Believes x.end x.renewable (Some (record { end = min END_MAX end; renewable = renewable }))
-known_believed x end renewable is says =
-    subst (λ e. Believes e x.renewable (Some (record { end = min END_MAX end; renewable = renewable }))) (sym is) (omega arith, (omega arith, says))
-
 one_or_other : (old new : WatchState) (event : Event) (xs : List Standing) (j i : ℕ) → IsLeft old event new → ((i ≡ j → ⊥) → TellsOf event i → ⊥) → Believed new (standings_after new event xs) j → Believed old xs i → Believed new (standings_after new event xs) i
 one_or_other old new event xs j i left others own h =
     elim (cases_eq i j) [
@@ -111,12 +104,7 @@ turn_believed old new Begin output xs few tracked below turn i h = rest_believed
 turn_believed old new (Known j end renewable) output xs few tracked below turn i h =
     let event = Known j end renewable in
     let left = left_turn old new event output turn in
-    let within : j < length old.forest.entries = taken_within old event turn.0 in
-    let track = known_word old new j end renewable output turn (omega (arith, within, tracked)) in
-    let standing = get_or-set_same xs j (known_standing end renewable (standing_in xs j)) fresh_standing (omega (arith, within, few)) in
-    one_or_other old new event xs j i left (λ other. other)
-    (subst (λ t. Believes (track_at new j).end (track_at new j).renewable t) (sym (ap (λ (x : Standing). x.told) standing))
-    (known_believed (track_at new j) end renewable (ap (λ (x : Track). x.end) track) (ap (λ (x : Track). x.renewable) track))) h
+    one_or_other old new event xs j i left (λ other. other) (answer_believed old new event xs j _ left few tracked (left.phase below) refl) h
 
 -- ---- the counts
 

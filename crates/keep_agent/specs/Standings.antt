@@ -2,7 +2,6 @@
 -- Source: this project's own, over Vault, HTTP API: `auth/token`, "Lookup a token (self)", "Renew a token (self)"; `sys/leases`, "Read
 -- lease", "Renew lease".
 use Rattle.std.specs.Prelude.{ℕ, ◌+◌, ◌-◌, ◌*◌, ◌/◌, Bool, List, Option, Some, None, min, slice_index_or, slice_set}
-use Rattle.keep_tree.specs.declared.forest.TheConstants.{END_MAX}
 use Rattle.watch_machine.specs.declared.clocks.Clocks.{Clocks}
 use Rattle.watch_machine.specs.declared.event.Event.{Event}
 use Rattle.watch_machine.specs.declared.event.Event.TheVariants.{Clock, Looked, Renewed, Need, Begin, Known}
@@ -63,9 +62,9 @@ renewed_standing m i (replies.Refused status date) x = record x { trouble = trou
 renewed_standing m i replies.Busy x = record x { trouble = troubled x.trouble Lost; lost = more x.lost }
 renewed_standing m i replies.Lost x = record x { trouble = troubled x.trouble Lost; lost = more x.lost }
 
--- and once an end is handed in that was told earlier in this boot
-abbrev pub known_standing : ℕ → Bool → Standing → Standing
-known_standing end renewable x = record x { told = Some (record { end = min END_MAX end; renewable = renewable }) }
+-- and once an end is handed in that is known, in the machine after it
+abbrev pub known_standing : WatchState → ℕ → Standing → Standing
+known_standing m i x = record x { told = told_of m i }
 
 -- the standings after an event, in the machine after it: only that of its own entry is another
 abbrev pub standings_after : WatchState → Event → List Standing → List Standing
@@ -74,4 +73,4 @@ standings_after m (Looked i reply terms) xs = slice_set xs i (looked_standing m 
 standings_after m (Renewed i reply) xs = slice_set xs i (renewed_standing m i reply (standing_in xs i))
 standings_after m (Need i until) xs = xs
 standings_after m Begin xs = xs
-standings_after m (Known i end renewable) xs = slice_set xs i (known_standing end renewable (standing_in xs i))
+standings_after m (Known i end renewable) xs = slice_set xs i (known_standing m i (standing_in xs i))

@@ -4,7 +4,6 @@ ghost use Rattle.keep_agent.specs.Agent.{IsStanding};
 ghost use Rattle.keep_agent.specs.Standings.{fresh_standing, known_standing, looked_standing, more, renewed_standing, told_of, troubled};
 ghost use Rattle.keep_tree.specs.declared.forest.TheConstants.{END_MAX};
 
-use keep_tree::END_MAX;
 use watch_machine::{End, Millis, Reply, Seconds, Watch};
 
 /// What the broker told of an entry in this boot, of the credential that is served.
@@ -117,16 +116,15 @@ impl Standing {
         }
     }
 
-    /// Once an end is handed in that was told earlier in this boot.
-    pub(crate) fn known(self, end: Seconds, renewable: bool) -> Standing
-        ensures value { result ≡ known_standing end renewable self }
+    /// Once an end is handed in that is known, which the Watch has taken.
+    pub(crate) fn known(self, watch: &Watch, entry: u32) -> Standing
+        requires within { entry < length watch.now.forest.entries }
+        requires bounds { IsStanding self }
+        ensures value { result ≡ known_standing watch.now entry self }
         ensures bounds { IsStanding result }
     {
         Standing {
-            told: Some(Told {
-                end: END_MAX.min(end),
-                renewable,
-            }),
+            told: told_of(watch, entry),
             ..self
         }
     }

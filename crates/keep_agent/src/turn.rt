@@ -62,13 +62,9 @@ fn stand(watch: &Watch, standings: &mut [Standing], event: Event)
                 standings[index] = standings[index].renewed(watch, entry, reply);
             }
         }
-        Event::Known {
-            entry,
-            end,
-            renewable,
-        } => {
+        Event::Known { entry, .. } => {
             let index = entry as usize;
-            standings[index] = standings[index].known(end, renewable);
+            standings[index] = standings[index].known(watch, entry);
         }
     }
 }

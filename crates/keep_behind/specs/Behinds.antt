@@ -11,9 +11,10 @@ use Rattle.keep_serving.specs.declared.change.Change.TheVariants as changes
 use Rattle.keep_serving.specs.declared.neighbours.Happened.{Happened}
 use Rattle.keep_serving.specs.declared.neighbours.Happened.TheVariants as happened
 use Rattle.watch_machine.specs.Refusal.{is_same}
+use Rattle.watch_machine.specs.State.{WatchState}
 use Rattle.watch_machine.specs.declared.command.Request.{Request}
 use Rattle.watch_machine.specs.declared.event.Operation.TheVariants.{Renew}
-use Rattle.keep_behind.specs.Lookouts.{Ahead, GivesAhead, GoesAhead}
+use Rattle.keep_behind.specs.Lookouts.{Ahead, GivesAhead, GoesAhead, lead_by}
 use Rattle.keep_behind.specs.declared.behind.Behind.{Behind}
 use Rattle.keep_behind.specs.declared.behind.Giver.{Giver}
 use Rattle.keep_behind.specs.declared.behind.Giver.TheVariants.{Others, OthersServe, Lookout}
@@ -32,6 +33,11 @@ OneGives {L} (Some l) change new = (m : Ahead L) × ((new ≡ Some m) × ((a : A
 abbrev pub rest_ahead : {L : Type 0} → (ℕ → ℕ → L → ℕ) → ℕ → Option (Ahead L) → Option ℕ
 rest_ahead due_by now None = None
 rest_ahead due_by now (Some l) = rest_until (Some (due_by now l.due l.own)) now
+
+-- it looks an entry up so long before its time
+abbrev pub lead_ahead : {L : Type 0} → WatchState → Option (Ahead L) → Option ℕ
+lead_ahead w None = None
+lead_ahead w (Some l) = Some (lead_by w l.scout)
 
 -- beside another inventory it has no scout yet
 abbrev pub left_alone : {L : Type 0} → Ahead L → Ahead L
@@ -90,7 +96,7 @@ requests_at (happened.Clocked notes requests next) = Some requests.now
 requests_at (happened.Shorts shorts) = None
 requests_at (happened.Answered entry operation said notes) = None
 requests_at (happened.Ahead entry end) = None
-requests_at (happened.StepsIn requests) = None
+requests_at (happened.StepsIn lead requests) = None
 requests_at happened.Refused = None
 requests_at happened.Wanting = None
 

@@ -18,7 +18,7 @@ use Rattle.watch_machine.specs.declared.event.Reply.TheVariants.{Lost}
 use Rattle.watch_machine.specs.State.{WatchState}
 use Rattle.keep_spread.specs.Behind.{margin_in_front}
 use Rattle.watch_scout.specs.Hearing.{event_of, freed}
-use Rattle.watch_scout.specs.Looking.{next_moment}
+use Rattle.watch_scout.specs.Looking.{lead, next_moment}
 use Rattle.watch_scout.specs.State.{ScoutState, opened_scout}
 use Rattle.keep_behind.specs.Lookups.{AreLookedUp, side}
 
@@ -108,6 +108,11 @@ pub record LooksOut {L : Type 0} (a : Agent) (r : Reading) (old new : Ahead L) :
 abbrev pub due_after : WatchState → ℕ → Option ScoutState → ℕ
 due_after w now None = now
 due_after w now (Some s) = next_moment s w 18446744073709551615 - w.clocks.phase
+
+-- and so long before its time an entry is looked up, in milliseconds; without a scout none is
+abbrev pub lead_by : WatchState → Option ScoutState → ℕ
+lead_by w None = 0
+lead_by w (Some s) = lead s w
 
 -- all of that; and whether an answer waits to be handed in then
 pub record GoesAhead {L : Type 0} (a : Agent) (r : Reading) (old : Ahead L) (waits : Bool) (new : Ahead L) : Type 0 where

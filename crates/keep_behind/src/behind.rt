@@ -1,7 +1,7 @@
 //! Neighbours of an agent that stands behind another.
 ghost use Rattle.std.specs.Prelude.{◌≡◌, ◌⊎◌, ◌&&◌, ℕ, None, Option, is_some, option_map};
 ghost use Rattle.keep_behind.specs.declared.behind.Giver.TheVariants.{Others};
-ghost use Rattle.keep_behind.specs.Behinds.{HearsBy, LookoutGives, OneGives, OneGoesAhead, OthersGive, SettlesBy, StepsBy, beside_another, giver_ahead, giver_of, giver_of_known, left_alone, renews, renews_by, requests_at, rest_ahead};
+ghost use Rattle.keep_behind.specs.Behinds.{HearsBy, LookoutGives, OneGives, OneGoesAhead, OthersGive, SettlesBy, StepsBy, beside_another, giver_ahead, giver_of, giver_of_known, lead_ahead, left_alone, renews, renews_by, requests_at, rest_ahead};
 ghost use Rattle.keep_clock.specs.Rests.{shorter};
 ghost use Rattle.keep_serving.specs.Neighbours.{Rest};
 ghost use Rattle.keep_serving.specs.Outlook.{IsToldNext};
@@ -14,7 +14,7 @@ use keep_clock::{Reading, shorter};
 use keep_lanes::Lanes;
 use keep_serving::{Change, Happened, Neighbours};
 use std::alloc::Global;
-use watch_machine::{Operation, Request};
+use watch_machine::{Millis, Operation, Request, Watch};
 
 /// Whose a change is.
 #[derive(Clone, Copy, Debug, PartialEq, Eq)]
@@ -94,6 +94,17 @@ impl<N, L: Lanes> Behind<N, L> {
         }
     }
 
+    /// How long before its time the lookout looks an entry up, where there is one.
+    fn lead(&self, watch: &Watch) -> Option<Millis>
+        ensures value { result ≡ lead_ahead watch.now self.now.lookout }
+        ensures is { is_some result ≡ is_some self.now.lookout }
+    {
+        match &self.lookout {
+            None => None,
+            Some(lookout) => Some(lookout.lead(watch)),
+        }
+    }
+
     /// For how long the lookout may be left alone.
     fn rest_ahead(&self, now: u64) -> Option<u64>
         ensures { result ≡ rest_ahead L.due_by now self.now.lookout }
@@ -146,7 +157,7 @@ fn requests_in<'a>(happened: &Happened<'a>) -> Option<&'a [Request]>
         Happened::Shorts(_) => None,
         Happened::Answered { .. } => None,
         Happened::Ahead { .. } => None,
-        Happened::StepsIn(_) => None,
+        Happened::StepsIn { .. } => None,
         Happened::Refused => None,
         Happened::Wanting => None,
     }
@@ -201,8 +212,12 @@ impl<N: Neighbours, L: Lanes> Behind<N, L> {
         let Some(requests) = requests else {
             return;
         };
-        if renews(requests) && self.lookout.is_some() {
-            self.others.hear(alloc, agent, &Happened::StepsIn(requests));
+        let Some(lead) = self.lead(agent.watch()) else {
+            return;
+        };
+        if renews(requests) {
+            self.others
+                .hear(alloc, agent, &Happened::StepsIn { lead, requests });
         }
     }
 

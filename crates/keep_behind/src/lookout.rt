@@ -1,6 +1,6 @@
 //! The lookout: a scout, and the lanes over which it looks.
 ghost use Rattle.std.specs.Prelude.{◌≡◌, ◌<◌, ◌⊎◌, [], IfSome, None, Some, length, not, true};
-ghost use Rattle.keep_behind.specs.Lookouts.{AnswersComeOff, GivesAhead, GoesAhead, HaveComeOff, IsHandedIn, IsMade, IsReplyTo, LooksOut, NoneComesOff, StandsBeside, change_of, due_after, is_beside, is_of_served, none_waits};
+ghost use Rattle.keep_behind.specs.Lookouts.{AnswersComeOff, GivesAhead, GoesAhead, HaveComeOff, IsHandedIn, IsMade, IsReplyTo, LooksOut, NoneComesOff, StandsBeside, change_of, due_after, is_beside, is_of_served, lead_by, none_waits};
 ghost use Rattle.keep_clock.specs.Rests.{rest_until};
 
 use crate::looking::look_from;
@@ -68,6 +68,16 @@ impl<L: Lanes> Lookout<L> {
         self.look(alloc, agent, now);
         self.set_due(agent.watch(), now.elapsed);
         self.is_waiting()
+    }
+
+    /// How long before its time an entry is looked up, in milliseconds. Without a scout none is.
+    pub(crate) fn lead(&self, watch: &Watch) -> Millis
+        ensures { result ≡ lead_by watch.now self.now.scout }
+    {
+        match &self.scout {
+            None => 0,
+            Some(scout) => scout.lead(watch),
+        }
     }
 
     /// Sets the moment at which a look is next due.

@@ -49,8 +49,8 @@ HearsOf agent (happened.Answered entry operation said notes) old new =
     HearsAnswer agent entry operation said notes.now old.desk new.desk × (new ≡ record old { desk = new.desk; ends = option_map (after_answer said.reply) old.ends })
 HearsOf agent (happened.Ahead entry end) old new =
     HearsAhead agent entry end old.desk new.desk × (new ≡ record old { desk = new.desk; standby = looked old.standby; ends = option_map to_be_kept old.ends })
-HearsOf agent (happened.StepsIn requests) old new =
-    HearsSteps agent requests.now old.desk new.desk × (new ≡ record old { desk = new.desk; standby = stepped (steps_in_count old.desk.marks requests.now) old.standby })
+HearsOf agent (happened.StepsIn lead requests) old new =
+    HearsSteps agent lead requests.now old.desk new.desk × (new ≡ record old { desk = new.desk; standby = stepped (steps_in_count agent.machine lead old.desk.marks requests.now) old.standby })
 HearsOf agent happened.Refused old new = HearsWanting agent old.desk new.desk × (new ≡ record old { desk = new.desk })
 HearsOf agent happened.Wanting old new = HearsWanting agent old.desk new.desk × (new ≡ record old { desk = new.desk })
 

@@ -10,7 +10,7 @@ use crate::house::House;
 use keep_agent::Agent;
 use keep_onlook::Standby;
 use std::alloc::Global;
-use watch_machine::Request;
+use watch_machine::{Millis, Request};
 
 impl<S, T, D, K, E> House<S, T, D, K, E> {
     /// An end was looked up ahead, and handed in: the ends are kept anew.
@@ -23,13 +23,14 @@ impl<S, T, D, K, E> House<S, T, D, K, E> {
         spoil(&mut self.ends);
     }
 
-    /// The agent asks this for the one in front. What is counted are the entries of which that is said.
-    pub fn hear_steps(&mut self, alloc: Global, agent: &Agent, requests: &[Request])
-        ensures said { HearsSteps agent.now requests.now self.old.desk self.new.desk }
-        ensures rest { self.new ≡ record self.old { desk = self.new.desk; standby = stepped (steps_in_count self.old.desk.marks requests.now) self.old.standby } }
+    /// The agent asks this, and looks each entry up so many milliseconds before its time. What is counted are the entries of which it is said that
+    /// it steps in.
+    pub fn hear_steps(&mut self, alloc: Global, agent: &Agent, lead: Millis, requests: &[Request])
+        ensures said { HearsSteps agent.now lead requests.now self.old.desk self.new.desk }
+        ensures rest { self.new ≡ record self.old { desk = self.new.desk; standby = stepped (steps_in_count agent.now.machine lead self.old.desk.marks requests.now) self.old.standby } }
     {
-        self.standby = stepped(self.desk.count_steps(requests), self.standby);
-        self.desk.hear_steps(alloc, agent, requests);
+        self.standby = stepped(self.desk.count_steps(agent, lead, requests), self.standby);
+        self.desk.hear_steps(alloc, agent, lead, requests);
     }
 }
 

@@ -100,7 +100,7 @@ impl<S: LogSink, T: Talk, D: Door<T>, K: Keeping, E: Disk> Neighbours for House<
                     .hear_answer(alloc, agent, *entry, *operation, *said, notes);
             }
             Happened::Ahead { entry, end } => self.hear_ahead(alloc, agent, *entry, *end),
-            Happened::StepsIn(requests) => self.hear_steps(alloc, agent, requests),
+            Happened::StepsIn { lead, requests } => self.hear_steps(alloc, agent, *lead, requests),
             Happened::Refused | Happened::Wanting => self.desk.hear_wanting(alloc, agent),
         }
     }

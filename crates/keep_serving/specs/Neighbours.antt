@@ -26,7 +26,7 @@ thing_of (happened.Clocked notes requests next) = Time
 thing_of (happened.Shorts shorts) = Needs
 thing_of (happened.Answered entry operation said notes) = Answer
 thing_of (happened.Ahead entry end) = End
-thing_of (happened.StepsIn requests) = Step
+thing_of (happened.StepsIn lead requests) = Step
 thing_of happened.Refused = Needs
 thing_of happened.Wanting = Want
 

@@ -17,6 +17,6 @@ IsToldNext s (happened.Clocked notes requests next) = IfSome next (IsOutlook s)
 IsToldNext s (happened.Shorts shorts) = Unit {0}
 IsToldNext s (happened.Answered entry operation said notes) = Unit {0}
 IsToldNext s (happened.Ahead entry end) = Unit {0}
-IsToldNext s (happened.StepsIn requests) = Unit {0}
+IsToldNext s (happened.StepsIn lead requests) = Unit {0}
 IsToldNext s happened.Refused = Unit {0}
 IsToldNext s happened.Wanting = Unit {0}

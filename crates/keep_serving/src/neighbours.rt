@@ -10,7 +10,7 @@ use keep_agent::{Agent, Short};
 use keep_asking::Said;
 use keep_clock::Reading;
 use std::alloc::Global;
-use watch_machine::{Next, Notes, Operation, Request};
+use watch_machine::{Millis, Next, Notes, Operation, Request};
 
 /// What has happened, for the log.
 #[derive(Debug, Drop)]
@@ -38,8 +38,12 @@ pub enum Happened<'a> {
         entry: u32,
         end: u64,
     },
-    /// An agent that stands behind another asks this: it renews what the one in front has left undone.
-    StepsIn(&'a [Request]),
+    /// An agent that stands behind another asks this, renewals among it. It looks each entry up `lead` before its time: what it renews from
+    /// that moment on, the one in front has left undone.
+    StepsIn {
+        lead: Millis,
+        requests: &'a [Request],
+    },
     /// Memory was refused for a look at which needs are past what their entries reach.
     Refused,
     /// Memory was wanting to send a request, or to take or hand in an answer, or to hand in the time. The next turn goes on with what

@@ -49,7 +49,7 @@ fn one_more(out: u32, width: u32) -> u32
 
 impl Scout {
     /// How long before its time an entry is looked up, in milliseconds.
-    fn lead(&self, watch: &Watch) -> u64
+    pub fn lead(&self, watch: &Watch) -> Millis
         ensures { result ≡ lead self.now watch.now }
     {
         let more = self.margin.saturating_sub(watch.forest().margin());

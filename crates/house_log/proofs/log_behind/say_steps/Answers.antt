@@ -16,7 +16,8 @@ none_asked = record { entry = 0; operation = Look; patience = Full }
 
 pub loop-request-preserved : goal.loop-request-preserved
 loop-request-preserved c last said =
-    let g = c.args.names.now in
+    let a = c.args.agent.now in
+    let lead = c.args.lead in
     let ms = c.args.marks.now in
     let rs = c.args.requests.now in
     let at = c.loop-request.request-index in
@@ -24,11 +25,11 @@ loop-request-preserved c last said =
     let form = c.args.stamp.now.form in
     let moment = c.args.stamp.now.moment in
     c.loop-request.invariant last
-    (subst (λ xs. AreSaid form moment (steps_in_lines g ms xs) c.loop-request.room last) (sym (drop_more rs at none_asked c.loop-request-test.true))
-    (both_said form moment (steps_in_line g ms r) (steps_in_lines g ms (drop (at + 1) rs)) c.loop-request.room c.say_step.new.room last c.say_step.ensures said))
+    (subst (λ xs. AreSaid form moment (steps_in_lines a lead ms xs) c.loop-request.room last) (sym (drop_more rs at none_asked c.loop-request-test.true))
+    (both_said form moment (steps_in_line a lead ms r) (steps_in_lines a lead ms (drop (at + 1) rs)) c.loop-request.room c.say_step.new.room last c.say_step.ensures said))
 
 pub returns : goal.returns
 returns c =
     let e : drop c.loop-request.request-index c.args.requests.now ≡ [] = grind (arith, common_steps) in
     c.loop-request.invariant c.loop-request.room
-    (subst (λ xs. AreSaid c.args.stamp.now.form c.args.stamp.now.moment (steps_in_lines c.args.names.now c.args.marks.now xs) c.loop-request.room c.loop-request.room) (sym e) refl)
+    (subst (λ xs. AreSaid c.args.stamp.now.form c.args.stamp.now.moment (steps_in_lines c.args.agent.now c.args.lead c.args.marks.now xs) c.loop-request.room c.loop-request.room) (sym e) refl)

@@ -1,4 +1,4 @@
--- Once the renewals to come are said, all of them are.
+-- Once the requests to come are said, all of them are.
 use Rattle.std.proofs.Common.{drop}
 use Rattle.house_log.specs.LinesBehind.{steps_in_lines}
 use Rattle.house_log.specs.Lines.{AreSaid}
@@ -6,5 +6,5 @@ use Rattle.house_log.specs.Rooms.{Rooms}
 use Rattle.house_log.proofs.log_behind.say_steps.Given as goal
 
 abbrev pub invariant-loop-request : goal.invariant-loop-request
-invariant-loop-request l = (last : Rooms) → AreSaid l.stamp.form l.stamp.moment (steps_in_lines l.names l.marks (drop l.request-index l.requests)) l.room last
-    → AreSaid l.stamp.form l.stamp.moment (steps_in_lines l.names l.marks l.requests) l.initial.room last
+invariant-loop-request l = (last : Rooms) → AreSaid l.stamp.form l.stamp.moment (steps_in_lines l.agent l.lead l.marks (drop l.request-index l.requests)) l.room last
+    → AreSaid l.stamp.form l.stamp.moment (steps_in_lines l.agent l.lead l.marks l.requests) l.initial.room last

@@ -49,7 +49,7 @@ pub returns-in-Ahead-clause-does : goal.returns-in-Ahead-clause-does
 returns-in-Ahead-clause-does g c = (c.args.agent.now, (happened.Ahead c.in-Ahead.entry c.in-Ahead.end, (ap thing_of c.in-Ahead.is, (c.hear_ahead.ensures.said, c.hear_ahead.ensures.rest))))
 
 pub returns-in-StepsIn-clause-does : goal.returns-in-StepsIn-clause-does
-returns-in-StepsIn-clause-does g c = (c.args.agent.now, (happened.StepsIn c.in-StepsIn.requests, (ap thing_of c.in-StepsIn.is, (c.hear_steps.ensures.said, c.hear_steps.ensures.rest))))
+returns-in-StepsIn-clause-does g c = (c.args.agent.now, (happened.StepsIn c.in-StepsIn.lead c.in-StepsIn.requests, (ap thing_of c.in-StepsIn.is, (c.hear_steps.ensures.said, c.hear_steps.ensures.rest))))
 
 pub returns-in-Refused-clause-does : goal.returns-in-Refused-clause-does
 returns-in-Refused-clause-does g c =
