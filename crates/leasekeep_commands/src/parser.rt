@@ -3,6 +3,7 @@ use crate::call_commands::add_calls;
 use crate::described::{Described, Takes, Value, Word};
 use clap::error::ErrorKind;
 use clap::{ArgMatches, Command, Error};
+use keep_command::VERSION;
 use keep_engine::{LIMIT, PROGRAM};
 use std::alloc::{AllocError, Global};
 use watch_machine::WIDTH_MAX;
@@ -431,7 +432,7 @@ fn whole<'a>(alloc: Global) -> Result<Command<'a>, AllocError> {
     add_agents(alloc, &mut commands)?;
     add_calls(alloc, &mut commands)?;
     Command::new(alloc, PROGRAM)
-        .version("0.1.0")
+        .version(VERSION)
         .about(ABOUT)
         .subcommand_required(true)
         .arg_required_else_help(true)

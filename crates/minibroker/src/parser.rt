@@ -1,5 +1,6 @@
 use clap::error::ErrorKind;
 use clap::{Arg, ArgAction, ArgMatches, Command, Error};
+use keep_command::VERSION;
 use std::alloc::{AllocError, Global};
 
 const ABOUT: &str =
@@ -55,7 +56,7 @@ fn minibroker<'a>(alloc: Global) -> Result<Command<'a>, AllocError> {
         timeout(alloc),
     ]?;
     Command::new(alloc, "minibroker")
-        .version("0.1.0")
+        .version(VERSION)
         .about(ABOUT)
         .after_help(AFTER)
         .args(args)

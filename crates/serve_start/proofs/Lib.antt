@@ -3,4 +3,5 @@ mod Mounted
 mod Numbers
 mod Refusals
 mod Saying
+mod SetAside
 mod Taking

@@ -3,6 +3,7 @@ pub mod Mounts
 pub mod Numbers
 pub mod Refusals
 pub mod Saying
+pub mod SettingAside
 pub mod Stalls
 pub mod Starts
 pub mod TakingOver

@@ -4,6 +4,7 @@ ghost use Rattle.serve_start.specs.Refusals.{RefusesStart};
 ghost use Rattle.serve_start.specs.Starts.{Begins, IsFreshLedger, IsLedgerAtStart, IsOfFolder, IsStart};
 ghost use Rattle.serve_start.specs.declared.folder.NotBegun.TheVariants as nots;
 
+use crate::aside::set_aside;
 use crate::found::{Found, find};
 use crate::reading::Inventories;
 use crate::said::{About, Said, push, push_each};
@@ -114,7 +115,8 @@ fn begin_in<'a, R: Files<File = File> + AllocGlobal, L: Lanes + Drop>(
     let mut disk = SystemDisk::new(rt);
     make_folder(alloc, &mut disk, folder.name)?;
     hold(alloc, &mut disk, paths, folder.name)?;
-    let found = find(alloc, &mut disk, paths, folder.name, demands)?;
+    let mut found = find(alloc, &mut disk, paths, folder.name, demands)?;
+    keep_unread(alloc, &mut disk, paths, folder.name, &mut found.said)?;
     let opened = open(alloc, disk, paths, folder.name, &found)?;
     let files = SystemSecrets::new(rt);
     Ok(start_with(alloc, paths, demands, files, opened, found.said)?)
@@ -141,6 +143,23 @@ fn hold<D: Disk>(alloc: Global, disk: &mut D, paths: &Paths, folder: &str) -> Re
     match disk.lock(paths.lock()) {
         Ok(Some(_)) => Ok(()),
         Ok(None) => Err(NotBegun::Held),
+        Err(fault) => Err(unused_by(alloc, folder, fault)?),
+    }
+}
+
+/// Keeps what cannot be read in the journal in the file aside, and says so. Where it cannot be kept the folder cannot be used, since a change
+/// would be written over it.
+fn keep_unread<D: Disk>(
+    alloc: Global,
+    disk: &mut D,
+    paths: &Paths,
+    folder: &str,
+    said: &mut Vec<Said>,
+) -> Result<(), NotBegun>
+    ensures { IfErr result IsOfFolder }
+{
+    match set_aside(alloc, disk, paths.journal(), paths.aside(), said) {
+        Ok(()) => Ok(()),
         Err(fault) => Err(unused_by(alloc, folder, fault)?),
     }
 }
