@@ -1,6 +1,18 @@
-//! The version of the programs.
+//! The version of the programs, and whether their build was proved.
+//!
+//! What is proved says that it is. `tools/try-quickly` changes that here before it builds anything without a proof.
 #![tactic(auto)]
 
-/// What `--version` says. `tools/try-quickly` changes it to `(not proved)` before it builds anything, so that only a proved build says
-/// that it is one.
+ghost use Rattle.std.specs.Prelude.{◌≡◌};
+ghost use Rattle.keep_version.specs.Version.{build_labels};
+
+/// What `--version` says.
 pub const VERSION: &str = "0.2.0 (proved)";
+
+/// The labels of the metric that tells of the build.
+#[tactic(auto, unfolding(crate::specs::Version::build_labels))]
+pub fn build_labels() -> &'static str
+    ensures { result.now ≡ build_labels }
+{
+    "{version=\"0.2.0\",proved=\"true\"}"
+}
