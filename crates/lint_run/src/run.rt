@@ -215,7 +215,6 @@ fn push_refused(
 }
 
 // Writes findings, and gives the exit of an inventory that is faulty, or is not.
-#[tactic(auto, using(crate::proofs::Ended::cut_ends))]
 fn write<W: Sink, E: Sink>(
     alloc: Global,
     linted: Linted<'_>,
