@@ -96,7 +96,7 @@ class OneFile(unittest.TestCase):
         self.assertEqual(len(wakes), int(plan.splitlines()[-1].removeprefix("end ")))
 
     def test_the_tools(self) -> None:
-        mine, other = read_inventory(WRITTEN.encode()).inventory, read_inventory(IN_SECONDS.encode(), SERVED).inventory
+        mine, other = read_inventory(WRITTEN.encode()).inventory, read_inventory(IN_SECONDS.encode()).inventory
         assert mine is not None and other is not None
         self.assertEqual(mine.margin, other.margin)
         for entry, plain in zip(mine.entries, other.entries, strict=True):

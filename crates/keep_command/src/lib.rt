@@ -13,7 +13,6 @@ mod files;
 mod number;
 mod place;
 mod unread;
-mod version;
 
 pub use advice::{advise_on_fault, advise_on_file, advise_on_open};
 pub use command_line::{say, show, words};
@@ -21,4 +20,3 @@ pub use files::SystemFiles;
 pub use number::number_or;
 pub use place::{place_to_ask, place_to_listen};
 pub use unread::Unread;
-pub use version::VERSION;

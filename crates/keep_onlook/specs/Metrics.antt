@@ -21,11 +21,13 @@ use Rattle.keep_onlook.specs.declared.state.State.{State}
 use Rattle.keep_onlook.specs.declared.state.State.TheVariants.{Gone, Ended, Waiting, Short, Unknown, Trying, Kept}
 use Rattle.keep_onlook.specs.Escapes.{label_value}
 use Rattle.keep_onlook.specs.States.{is_same_state, state_word}
+use Rattle.keep_version.specs.Version.{build_labels}
 
 -- ---- a family: lines that tell of it, and samples
 
 -- the figures of the agent
 abbrev pub figure_kind : Figure → FamilyKind
+figure_kind figures.Build = Gauge
 figure_kind figures.Written = Gauge
 figure_kind figures.NextWake = Gauge
 figure_kind figures.Margin = Gauge
@@ -42,6 +44,7 @@ figure_kind figures.LookedAhead = Counter
 figure_kind figures.SteppedIn = Counter
 
 unfoldable pub figure_name : Figure → List ℕ
+figure_name figures.Build = codes "build_info"
 figure_name figures.Written = codes "metrics_written_timestamp_seconds"
 figure_name figures.NextWake = codes "next_wake_timestamp_seconds"
 figure_name figures.Margin = codes "margin_seconds"
@@ -58,6 +61,7 @@ figure_name figures.LookedAhead = codes "looked_ahead"
 figure_name figures.SteppedIn = codes "stepped_in"
 
 unfoldable pub figure_help : Figure → List ℕ
+figure_help figures.Build = codes "1, with the version and whether its build was proved."
 figure_help figures.Written = codes "When these figures were written."
 figure_help figures.NextWake = codes "The next wake-up."
 figure_help figures.Margin = codes "How long before its end an entry is renewed."
@@ -160,6 +164,10 @@ sample_of family labels (Some value) = sample family labels value
 unfoldable pub figure_text : Format → Figure → Option ℕ → List ℕ
 figure_text format figure value = family_head format (Agent figure) ++ sample_of (Agent figure) [] value
 
+-- what the build is, in its labels
+unfoldable pub build_text : Format → List ℕ
+build_text format = family_head format (Agent figures.Build) ++ sample (Agent figures.Build) build_labels 1
+
 -- how far a clock that shows `now` is ahead of the wall's, 0 where they are apart by no more than two seconds
 unfoldable pub offset_number : ℕ → ℕ → List ℕ
 offset_number wall now = if nat_lt 2 (now - wall) then decimal (now - wall) else (if nat_lt 2 (wall - now) then codes "-" ++ decimal (wall - now) else codes "0")
@@ -194,8 +202,8 @@ standby_text format s =
 
 unfoldable pub agent_text : Format → Board → List ℕ
 agent_text format b =
-    clocks_text format b ++ file_text format b.surroundings.file ++ figure_text format figures.ChangesAreKept (Some (one_if b.surroundings.keeps_changes))
-    ++ counts_text format b ++ standby_text format b.surroundings.standby
+    build_text format ++ clocks_text format b ++ file_text format b.surroundings.file
+    ++ figure_text format figures.ChangesAreKept (Some (one_if b.surroundings.keeps_changes)) ++ counts_text format b ++ standby_text format b.surroundings.standby
 
 -- ---- the entries
 

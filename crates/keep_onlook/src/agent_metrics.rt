@@ -1,11 +1,12 @@
 //! The figures of the agent as a whole.
 ghost use Rattle.std.specs.Prelude.{◌≡◌, ◌++◌, OnOk};
-ghost use Rattle.keep_onlook.specs.Metrics.{agent_text, clocks_text, counts_text, figure_text, file_text, offset_number, offset_text, one_if, standby_text};
+ghost use Rattle.keep_onlook.specs.Metrics.{agent_text, build_text, clocks_text, counts_text, figure_text, file_text, offset_number, offset_text, one_if, standby_text};
 
 use crate::board::{Board, FileReading};
-use crate::family::{Family, Format, push_head, push_sample_name, push_sample_of};
+use crate::family::{Family, Format, push_head, push_sample, push_sample_name, push_sample_of};
 use crate::figure::Figure;
 use crate::standby::Standby;
+use keep_version::build_labels;
 use keep_words::push_number;
 use std::alloc::{AllocError, Global};
 
@@ -21,11 +22,27 @@ pub(crate) fn push_agent(
 {
     let around = board.surroundings;
     let keeps_changes = Some(one_if(around.keeps_changes));
+    push_build(alloc, format, text)?;
     push_clocks(alloc, format, board, text)?;
     push_file(alloc, format, around.file, text)?;
     push_figure(alloc, format, Figure::ChangesAreKept, keeps_changes, text)?;
     push_counts(alloc, format, board, text)?;
     push_standby(alloc, format, around.standby, text)
+}
+
+/// Appends the figure of the build.
+#[tactic(auto, unfolding(crate::specs::Metrics::build_text))]
+fn push_build(alloc: Global, format: Format, text: &mut Vec<u8>) -> Result<(), AllocError>
+    ensures { OnOk result (text.new.items ≡ text.old.items ++ build_text format) }
+{
+    push_head(format, Family::Agent(Figure::Build), text)?;
+    push_sample(
+        alloc,
+        Family::Agent(Figure::Build),
+        build_labels().as_bytes(),
+        1,
+        text,
+    )
 }
 
 #[tactic(auto, unfolding(crate::specs::Metrics::clocks_text))]

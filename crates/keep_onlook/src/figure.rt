@@ -16,6 +16,7 @@ pub(crate) enum FamilyKind {
 /// A figure of the agent.
 #[derive(Clone, Copy, Debug)]
 pub(crate) enum Figure {
+    Build,
     Written,
     NextWake,
     Margin,
@@ -38,7 +39,8 @@ impl Figure {
         ensures { result ≡ figure_kind self }
     {
         match self {
-            Figure::Written
+            Figure::Build
+            | Figure::Written
             | Figure::NextWake
             | Figure::Margin
             | Figure::ClockOffset
@@ -61,6 +63,7 @@ impl Figure {
         ensures { result.now ≡ figure_name self }
     {
         match self {
+            Figure::Build => "build_info",
             Figure::Written => "metrics_written_timestamp_seconds",
             Figure::NextWake => "next_wake_timestamp_seconds",
             Figure::Margin => "margin_seconds",
@@ -84,6 +87,7 @@ impl Figure {
         ensures { result.now ≡ figure_help self }
     {
         match self {
+            Figure::Build => "1, with the version and whether its build was proved.",
             Figure::Written => "When these figures were written.",
             Figure::NextWake => "The next wake-up.",
             Figure::Margin => "How long before its end an entry is renewed.",

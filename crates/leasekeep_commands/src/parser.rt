@@ -3,8 +3,8 @@ use crate::call_commands::add_calls;
 use crate::described::{Described, Takes, Value, Word};
 use clap::error::ErrorKind;
 use clap::{ArgMatches, Command, Error};
-use keep_command::VERSION;
 use keep_engine::{LIMIT, PROGRAM};
+use keep_version::VERSION;
 use std::alloc::{AllocError, Global};
 use watch_machine::WIDTH_MAX;
 

@@ -1,6 +1,6 @@
 use clap::error::ErrorKind;
 use clap::{Arg, ArgAction, ArgMatches, Command, Error};
-use keep_command::VERSION;
+use keep_version::VERSION;
 use std::alloc::{AllocError, Global};
 
 const ABOUT: &str =
@@ -40,7 +40,7 @@ fn minibroker<'a>(alloc: Global) -> Result<Command<'a>, AllocError> {
         word(
             alloc,
             "FILE",
-            "The inventory, at most 1 MiB; read first. `leasekeep-inventory lint FILE` shows every fault, its line and its fix",
+            "The inventory, at most 1 MiB; read first. `leasekeep lint FILE` shows what is wrong with it, with line and fix",
         ),
         word(
             alloc,

@@ -31,7 +31,7 @@ pub unread_closed : (rest end : List ℕ) → rest ≡ end → is_closed rest �
 unread_closed rest end same closed = sym (cond-true (is_closed end) [] end (ap is_closed (sym same) ∙ closed))
 
 pub unread_open : (rest end : List ℕ) → rest ≡ end → is_closed rest ≡ false → rest ≡ unread_of end
-unread_open rest end same no = same ∙ sym (cond-false (is_closed end) [] end (ap is_closed (sym same) ∙ no))
+unread_open rest end same apart = same ∙ sym (cond-false (is_closed end) [] end (ap is_closed (sym same) ∙ apart))
 
 pub unread_read : (file bytes result : List ℕ) (lines : List (List ℕ)) → StandsFor file lines → bytes ≡ file → ((end : List ℕ) → bytes ≡ blocks lines ++ end → result ≡ unread_of end) → IsUnread file result
 unread_read file bytes result lines h same so = record { lines = lines; stands = h; is = so h.end (same ∙ h.split) }

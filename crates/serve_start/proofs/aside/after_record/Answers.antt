@@ -5,4 +5,4 @@ use Rattle.serve_start.proofs.aside.after_record.Goals as goal
 
 pub returns : goal.returns
 returns c end is =
-    c.after-2.ensures ∙ ap (drop 2) (c.after.ensures ∙ ap (λ n. drop n c.args.bytes.now) c.len.ensures) ∙ after_block c.args.bytes.now c.args.line.now end is
+    c.after-2.ensures ∙ ap (drop 2) c.after.ensures ∙ after_block c.args.bytes.now c.args.line.now end is

@@ -10,7 +10,7 @@ loop-line-preserved c end is =
     let lines = c.args.lines.now in
     let i = c.loop-line.line-index in
     let left = blocks (drop (i + 1) lines) ++ end in
-    c.after_record.ensures left
+    c.after_record-rest.ensures left
     (c.loop-line.invariant end is ∙ record_then lines i c.line-item.result end c.loop-line-test.true c.line-item.is ∙ ap (λ (l : List ℕ). block l ++ left) (sym c.list.ensures))
 
 pub returns : goal.returns
