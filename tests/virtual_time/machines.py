@@ -13,7 +13,7 @@ from .fleet import Fleet
 from .machine import INVENTORY, Machine
 from .stage import Verdict, folder, loss
 from .strict import Strict
-from .vault import Vault
+from .vault import Asked, Vault
 from .world import World
 
 FRONT, SECOND, THIRD = "front", "second", "third"
@@ -146,11 +146,19 @@ class Machines:
 
     def _renewed_from_its_look(self, machine: Machine, since: float, until: float, later: int) -> set[str]:
         """What that agent renewed from the moment on at which it looks, or so much later: half way between the time in front and its own."""
-        margins = ns(self.fleet.margin + machine.margin) // 2
-        ends = {row.name: row.renewals for row in self.vault.rows.values()}
+        margins = ns(machine.fleet.margin + margin_behind(machine.fleet.margin, machine.name)) // 2
         return {one.name for one in self.vault.asked if one.renews and one.by == machine.name and ns(since) <= one.moment < ns(until)
-                for before in [[end for moment, end in ends[one.name] if moment < one.moment]]
-                if before and one.moment >= before[-1] - margins + later}
+                and one.moment >= self._believed(machine, one) - margins + later}
+
+    def _believed(self, machine: Machine, one: Asked) -> int:
+        """The end that its agent knew of an entry as it asked: as its log said it last; as it was, where it looked it up at a start."""
+        told = [line for line in machine.agent.lines if line.moment < one.moment and line.words[:1] == (one.name,)
+                and line.event in ("entry", "told", "ahead")]
+        if told and told[-1].event != "entry":
+            return told[-1].moment + ns(int(told[-1].words[1]))
+        asked = told[-1].moment if told else 0
+        granted = [end for row in self.vault.rows.values() if row.name == one.name for moment, end in row.renewals if moment < asked]
+        return [*(ns(entry.left) for entry in self.fleet.entries if entry.name == one.name), *granted][-1]
 
     def faults(self, *lost: str, sick: Iterable[str] = ()) -> list[str]:
         """What went wrong. These entries are lost, and no others, but perhaps those that are sick."""
