@@ -25,7 +25,7 @@ MONITORING = TOP / "packaging" / "monitoring"
 RULES, DASHBOARD = MONITORING / "leasekeep.rules.yml", MONITORING / "dashboard.json"
 SHOWN = set(re.findall(r"# TYPE (\w+)", (TOP / "tests/plays/onlookers/metrics").read_text()))
 """The metrics of an agent."""
-UNASKED = {"leasekeep_changes_kept", "leasekeep_alerts_dropped_total"}
+UNASKED = {"leasekeep_build_info", "leasekeep_changes_kept", "leasekeep_alerts_dropped_total"}
 """What neither a rule nor a panel asks for: these stay as they are as long as an agent runs."""
 PORT_WORDS = re.compile(r"Listening on.*address=127\.0\.0\.1:(\d+)")
 NEED = 'leasekeep_need_carried_timestamp_seconds{entry="web"}'

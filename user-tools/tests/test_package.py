@@ -60,12 +60,18 @@ class Package(unittest.TestCase):
     """Each package, unpacked by itself."""
     root: Path
     """Both in one."""
+    proved: str
+    version: str
+    """What the programs say of their build; and the version of the packages, which says so, too."""
 
     @classmethod
     def setUpClass(cls) -> None:
         cls.folder = Path(tempfile.mkdtemp())
         cls.addClassCleanup(shutil.rmtree, cls.folder, True)
         built = programs(cls.folder / "programs", "leasekeep", "minibroker")
+        said = subprocess.run([str(built / "leasekeep"), "--version"], check=True, capture_output=True, text=True, timeout=60 * SLOWER).stdout
+        cls.proved = said.removeprefix(f"leasekeep {VERSION} ").strip()
+        cls.version = {"(proved)": VERSION, "(not proved)": f"{VERSION}~unproved"}[cls.proved]
         said = subprocess.run([str(TOP / "scripts" / "package"), "--built", str(built), str(cls.folder / "out")], check=True,
                               capture_output=True, text=True, timeout=600 * SLOWER,
                               env={**os.environ, "DPKG_DEB_COMPRESSOR_TYPE": "gzip"}).stdout
@@ -126,37 +132,38 @@ class Package(unittest.TestCase):
 
     def test_its_news_has_its_version(self) -> None:
         news = gzip.decompress((self.root / "usr/share/doc/leasekeep/NEWS.md.gz").read_bytes()).decode()
-        self.assertRegex(news, rf"(?m)^## {re.escape(VERSION)}, of commit [0-9a-f]+ of \d{{4}}-\d\d-\d\d$")
+        self.assertRegex(news, rf"(?m)^## {re.escape(self.version)}, of commit [0-9a-f]+ of \d{{4}}-\d\d-\d\d$")
         self.assertNotIn("Unreleased", news)
 
     def test_their_fields(self) -> None:
         for name, deb in self.debs.items():
             shown = subprocess.run(["dpkg-deb", "-f", str(deb), "Package", "Version", "Depends"], check=True, capture_output=True,
                                    text=True, timeout=60 * SLOWER).stdout
-            self.assertIn(f"Package: {name}\nVersion: {VERSION}\n", shown)
+            self.assertIn(f"Package: {name}\nVersion: {self.version}\n", shown)
             self.assertIn("libc6", shown)
             self.assertEqual("python3 (>= 3.11)" in shown, name == TOOLS)
-            self.assertEqual(f"leasekeep (= {VERSION})" in shown, name == TOOLS)
+            self.assertEqual(f"leasekeep (= {self.version})" in shown, name == TOOLS)
 
     def test_the_programs_run_from_where_they_are_unpacked(self) -> None:
         environment = {"PATH": os.environ["PATH"], "HOME": str(self.folder)}
         subprocess.run(["tar", "-xzf", str(self.tar), "-C", str(self.folder)], check=True, timeout=60 * SLOWER)
-        for folder in (self.root / "usr/bin", self.folder / f"leasekeep-{VERSION}" / "bin"):
+        for folder in (self.root / "usr/bin", self.folder / f"leasekeep-{self.version}" / "bin"):
             for program in ("leasekeep", "minibroker", "leasekeep-inventory", "leasekeep-draw"):
                 ran = subprocess.run([str(folder / program), "--version"], capture_output=True, text=True, timeout=60 * SLOWER, env=environment)
-                self.assertEqual((ran.returncode, ran.stdout), (0, f"{program} {VERSION}\n"), ran.stderr)
+                version = VERSION if program.startswith("leasekeep-") else f"{VERSION} {self.proved}"
+                self.assertEqual((ran.returncode, ran.stdout), (0, f"{program} {version}\n"), ran.stderr)
 
     def test_the_archive_is_for_usr_local(self) -> None:
         with tarfile.open(self.tar) as archive:
             names = {member.name for member in archive}
             owners = {(member.uid, member.gid) for member in archive}
-            unit = archive.extractfile(f"leasekeep-{VERSION}/lib/systemd/system/leasekeep.service")
+            unit = archive.extractfile(f"leasekeep-{self.version}/lib/systemd/system/leasekeep.service")
             assert unit is not None
             self.assertIn(b"ExecStart=/usr/local/bin/leasekeep serve ", unit.read())
         self.assertEqual(owners, {(0, 0)})
         for file in ("bin/leasekeep", "bin/leasekeep-inventory", "lib/sysusers.d/leasekeep.conf", "lib/systemd/system/leasekeep@.service", "share/man/man1/leasekeep-draw.1",
                      "share/leasekeep/installed"):
-            self.assertIn(f"leasekeep-{VERSION}/{file}", names)
+            self.assertIn(f"leasekeep-{self.version}/{file}", names)
 
     @unittest.skipIf(shutil.which("lintian") is None, "lintian is not installed")
     def test_lintian_has_no_error(self) -> None:
