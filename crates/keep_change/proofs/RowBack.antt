@@ -304,8 +304,8 @@ row_only line r e =
     let w = bound (one_and_rest line) _ r e in
     elim (branch (bytes_eq w.0.0 (codes "reissued")) (row_of_words true w.0.1) (row_of_words false line) r w.2) [
       | inl q ↦
-        let p = plain_only true w.0.1 r q.1 in
-        (p.0, cut_only line w.0.0 w.0.1 w.1 ∙ ap (λ l. l ++ 32 ∷ w.0.1) ((bytes_decides w.0.0 (codes "reissued")).0 q.0) ∙ ap (λ l. codes "reissued " ++ l) p.1 ∙ ap (λ b. mark_text b ++ plain_text r) (sym p.2))
+          let p = plain_only true w.0.1 r q.1 in
+          (p.0, cut_only line w.0.0 w.0.1 w.1 ∙ ap (λ l. l ++ 32 ∷ w.0.1) ((bytes_decides w.0.0 (codes "reissued")).0 q.0) ∙ ap (λ l. codes "reissued " ++ l) p.1 ∙ ap (λ b. mark_text b ++ plain_text r) (sym p.2))
       | inr f ↦ let p = plain_only false line r f in (p.0, p.1 ∙ ap (λ b. mark_text b ++ plain_text r) (sym p.2))
     ]
 

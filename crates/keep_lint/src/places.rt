@@ -152,7 +152,8 @@ fn is_of_entry(key: Key) -> bool
             | Key::End
             | Key::Renewable
             | Key::Increment
-            | Key::MaxTtl | Key::Reissued
+            | Key::MaxTtl
+            | Key::Reissued
             | Key::Need
     )
 }
