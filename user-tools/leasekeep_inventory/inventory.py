@@ -41,6 +41,7 @@ class Entry:
     need: int = 0
     credential: str | None = None
     credential_file: str | None = None
+    reissued: bool = False
 
     def __repr__(self) -> str:
         """Names alone: a credential never shows."""
@@ -164,6 +165,8 @@ def entry_text(entry: Entry, is_served: bool = False) -> str:
         lines.append(f"max_ttl = {entry.max_ttl}")
     if entry.explicit_max_ttl:
         lines.append(f"explicit_max_ttl = {entry.explicit_max_ttl}")
+    if is_served and entry.reissued:
+        lines.append("reissued = true")
     if entry.need:
         lines.append('need = "always"' if is_served and entry.need == ALWAYS else f"need = {entry.need}")
     key = "lease_id" if entry.kind is Kind.LEASE else "secret"

@@ -16,7 +16,7 @@ from .tree import Row, judge_rows, shown, sound_entries
 from .values import ABOVE, CREDENTIAL_FORM, FILE_FORM, FLAG, NAME, NAME_FORM, Form, moment, tables
 
 LIMIT = 1 << 20
-_COMMON = ("name", "issued", "end", "renewable", "increment", "max_ttl", "need")
+_COMMON = ("name", "issued", "end", "renewable", "increment", "max_ttl", "reissued", "need")
 KEYS = {
     Kind.TOKEN: (*_COMMON, "parent", "period", "explicit_max_ttl", "secret", "secret_file"),
     Kind.LEASE: (*_COMMON, "token", "lease_id", "lease_id_file"),
@@ -196,6 +196,7 @@ def _row(table: _Table, kind: Kind) -> Row:
         increment = ABSENT_INCREMENT
     max_ttl = table.take("max_ttl", DURATION_TEXT)
     explicit = table.take("explicit_max_ttl", DURATION_TEXT, 0) if is_token else 0
+    reissued = table.take("reissued", FLAG, False)
     need = table.take("need", NEED, 0)
     credential = table.take(key, CREDENTIAL_FORM)
     has_credential = key in table.values
@@ -207,6 +208,6 @@ def _row(table: _Table, kind: Kind) -> Row:
         has_credential = True
     entry = None
     if len(table.reading.findings) == before:
-        entry = Entry(name, kind, above, issued, end, renewable, increment, period, max_ttl, explicit, need, credential, file)
+        entry = Entry(name, kind, above, issued, end, renewable, increment, period, max_ttl, explicit, need, credential, file, reissued)
     step = period or increment
     return Row(kind, table.head, table.place, table.label, name, above, credential, has_credential, file, step, entry)

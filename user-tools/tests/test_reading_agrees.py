@@ -17,8 +17,8 @@ from trial.programs import SLOWER, find_program
 CASES = int(os.environ.get("CASES", "100"))
 SEED = int(os.environ.get("SEED", "1"))
 NAMES = "abcdefgh"
-KEYS = ("name", "parent", "issued", "end", "renewable", "increment", "period", "max_ttl", "explicit_max_ttl", "need", "secret", "token",
-        "lease_id", "nam", "secret_file", "lease_id_file", "margin")
+KEYS = ("name", "parent", "issued", "end", "renewable", "increment", "period", "max_ttl", "explicit_max_ttl", "reissued", "need",
+        "secret", "token", "lease_id", "nam", "secret_file", "lease_id_file", "margin")
 VALUES = ('"a"', '"b"', '"c"', "1000", "2000", "0", "-1", "true", "false", '"true"', '"2026-11-22T09:00:00Z"', '"2026-13-01T00:00:00Z"',
           "2026-11-22T09:00:00Z", "1.5", "4294967295", "4294967296", "253402300799", "253402300800", "257697268094", "257697268095",
           '"x y"', '""', "[]", "60", "61", "3", '"hvs.x"', '"é"', "{}", "{a=1}", '"always"', '"Always"', '"forever"',

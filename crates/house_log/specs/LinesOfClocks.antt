@@ -118,7 +118,7 @@ clocked_lines a notes requests marks =
 -- ---- needs that are past what their entries reach
 
 abbrev pub short_log_line : Forest → Short → Line
-short_log_line g short = said_line Warning (codes "short") (words.Text (name_of g short.entry) ∷ moment_word short.reach ∷ [])
+short_log_line g short = said_line (if short.reissued then Alert else Warning) (codes "short") (words.Text (name_of g short.entry) ∷ moment_word short.reach ∷ [])
 
 unfoldable pub short_log_lines : Agent → List Short → List Line
 short_log_lines a shorts = map (short_log_line a.inventory.forest) shorts

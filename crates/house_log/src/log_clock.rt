@@ -146,7 +146,12 @@ fn say_short(alloc: Global, stamp: &Stamp, names: &Forest, short: Short, room: &
 {
     let reach = moment_word(short.reach);
     let name = name_of(names, short.entry);
-    say_of(alloc, stamp, Level::Warning, "short", name, reach, room);
+    let level = if short.reissued {
+        Level::Alert
+    } else {
+        Level::Warning
+    };
+    say_of(alloc, stamp, level, "short", name, reach, room);
 }
 
 /// Says that memory was refused.

@@ -67,8 +67,10 @@ same_terms a b e =
     let increment = same_option a.increment b.increment from_increment.0 in
     let period = eqb-true a.period b.period from_period.0 in
     let max_ttl = eqb-true a.max_ttl b.max_ttl from_max.0 in
-    let explicit_max = eqb-true a.explicit_max b.explicit_max from_max.1 in
-    λ i. record { issued = issued i; increment = increment i; period = period i; max_ttl = max_ttl i; explicit_max = explicit_max i }
+    let from_explicit = and_parts _ _ from_max.1 in
+    let explicit_max = eqb-true a.explicit_max b.explicit_max from_explicit.0 in
+    let reissued = same_bool a.reissued b.reissued from_explicit.1 in
+    λ i. record { issued = issued i; increment = increment i; period = period i; max_ttl = max_ttl i; explicit_max = explicit_max i; reissued = reissued i }
 
 pub entry_decides : (a b : Entry) → ((entry_eq.ghosts).eq a b ≡ true) ↔ (a ≡ b)
 entry_decides a b = (same_entry a b, λ e. subst (λ (x : Entry). (entry_eq.ghosts).eq a x ≡ true) e (entry_law.refl a))

@@ -1,11 +1,13 @@
 -- Saying: standings that are made anew one after another, and what is told in a list of news. For `say_all`, `shorts_of` and `say_shorts`.
-use Rattle.std.proofs.Common.{◌≡◌, ◌∙◌, ℕ, zero, suc, ◌+◌, ◌<◌, ◌≤◌, List, [], ◌∷◌, ◌++◌, Option, Some, None, All, flat_map, length, map, set, take, refl, sym, ap, subst, arith, inl, inr}
+use Rattle.std.proofs.Common.{◌≡◌, ◌∙◌, ℕ, zero, suc, ◌+◌, ◌<◌, ◌≤◌, Bool, List, [], ◌∷◌, ◌++◌, Option, Some, None, All, flat_map, length, map, set, take, refl, sym, ap, subst, arith, inl, inr}
 use Rattle.std.proofs.lemmas.Bool.{cases_lt}
 use Rattle.std.proofs.lemmas.Grind.{flat_map-append}
 use Rattle.std.proofs.lemmas.List.{append-nil, get_or_past, get_or-set_other, length-set, take_all, take_more_set}
 use Rattle.std.proofs.lemmas.List.FromFn.{fill_by_all, get_or-map-range_with_len, length-map-range_with_len, map-range_with_len_more}
 use Rattle.std.specs.List.{range_with_len}
 use Rattle.keep_tree.proofs.Ranges.{range_more}
+use Rattle.keep_inventory.specs.Inventories.{terms_at}
+use Rattle.keep_inventory.specs.declared.terms.Terms.{Terms}
 use Rattle.watch_machine.specs.State.{WatchState, track_at}
 use Rattle.keep_agent.specs.declared.shorts.Short.{Short}
 use Rattle.keep_agent.specs.declared.standing.Standing.{Standing}
@@ -52,48 +54,48 @@ no_piece f a (suc n) none zero within = ap f (let e : a + 0 ≡ a = omega arith 
 no_piece f a (suc n) none (suc i) within =
     ap f (let e : a + suc i ≡ a + 1 + i = omega arith in e) ∙ no_piece f (a + 1) n (nil_parts (f a) (flat_map f (range_with_len (a + 1) n)) none).1 i (omega (arith, within))
 
-unsaid : (i : ℕ) (news : Option ℕ) → short_at i news ≡ [] → news ≡ None
-unsaid i None none = refl
-unsaid i (Some reach) none = let long : suc zero ≡ zero = ap length none in absurd (omega (arith, long))
+unsaid : (i : ℕ) (reissued : Bool) (news : Option ℕ) → short_at i reissued news ≡ [] → news ≡ None
+unsaid i reissued None none = refl
+unsaid i reissued (Some reach) none = let long : suc zero ≡ zero = ap length none in absurd (omega (arith, long))
 
-as_said : (m : WatchState) (i : ℕ) (x : Standing) → news_in m i x.short ≡ None → x ≡ said_standing m i x
+as_said : (m : WatchState) (ts : List Terms) (i : ℕ) (x : Standing) → news_in m ts i x.short ≡ None → x ≡ said_standing m ts i x
 unfolding said_standing
-as_said m i x none = ap (λ news. record x { short = said_short x.short news }) (sym none)
+as_said m ts i x none = ap (λ news. record x { short = said_short x.short news }) (sym none)
 
-pub nothing_said : (m : WatchState) (xs : List Standing) → shorts_in m xs ≡ [] → xs ≡ said_standings m xs
+pub nothing_said : (m : WatchState) (ts : List Terms) (xs : List Standing) → shorts_in m ts xs ≡ [] → xs ≡ said_standings m ts xs
 unfolding said_standings shorts_in
-nothing_said m xs none =
-    let f : ℕ → List Short = λ i. short_at i (news_in m i (standing_in xs i).short) in
-    fill_by_all (λ i. said_standing m i (standing_in xs i)) xs (length xs) fresh_standing refl
-    (λ k within. as_said m k (standing_in xs k) (unsaid k (news_in m k (standing_in xs k).short) (subst (λ j. f j ≡ []) (let e : 0 + k ≡ k = omega arith in e) (no_piece f 0 (length xs) none k within))))
+nothing_said m ts xs none =
+    let f : ℕ → List Short = λ i. short_at i (terms_at ts i).reissued (news_in m ts i (standing_in xs i).short) in
+    fill_by_all (λ i. said_standing m ts i (standing_in xs i)) xs (length xs) fresh_standing refl
+    (λ k within. as_said m ts k (standing_in xs k) (unsaid k (terms_at ts k).reissued (news_in m ts k (standing_in xs k).short) (subst (λ j. f j ≡ []) (let e : 0 + k ≡ k = omega arith in e) (no_piece f 0 (length xs) none k within))))
 
 -- ---- what is said leaves what was told
 
-said_told : (m : WatchState) (i : ℕ) (x : Standing) → (said_standing m i x).told ≡ x.told
+said_told : (m : WatchState) (ts : List Terms) (i : ℕ) (x : Standing) → (said_standing m ts i x).told ≡ x.told
 unfolding said_standing
-said_told m i x = refl
+said_told m ts i x = refl
 
-all_told : (m : WatchState) (xs : List Standing) (i : ℕ) → (standing_in (said_standings m xs) i).told ≡ (standing_in xs i).told
+all_told : (m : WatchState) (ts : List Terms) (xs : List Standing) (i : ℕ) → (standing_in (said_standings m ts xs) i).told ≡ (standing_in xs i).told
 unfolding said_standings
-all_told m xs i =
-    let f : ℕ → Standing = λ j. said_standing m j (standing_in xs j) in
+all_told m ts xs i =
+    let f : ℕ → Standing = λ j. said_standing m ts j (standing_in xs j) in
     let count = length-map-range_with_len f 0 (length xs) in
     elim (cases_lt i (length xs)) [
-      | inl within ↦ ap (λ (x : Standing). x.told) (get_or-map-range_with_len f 0 (length xs) i i fresh_standing within (omega arith)) ∙ said_told m i (standing_in xs i)
+      | inl within ↦ ap (λ (x : Standing). x.told) (get_or-map-range_with_len f 0 (length xs) i i fresh_standing within (omega arith)) ∙ said_told m ts i (standing_in xs i)
       | inr past ↦
           ap (λ (x : Standing). x.told) (get_or_past (map f (range_with_len 0 (length xs))) i fresh_standing (omega (arith, past, count)) ∙ sym (get_or_past xs i fresh_standing past))
     ]
 
-said_count : (m : WatchState) (xs : List Standing) → length (said_standings m xs) ≡ length xs
+said_count : (m : WatchState) (ts : List Terms) (xs : List Standing) → length (said_standings m ts xs) ≡ length xs
 unfolding said_standings
-said_count m xs = length-map-range_with_len (λ j. said_standing m j (standing_in xs j)) 0 (length xs)
+said_count m ts xs = length-map-range_with_len (λ j. said_standing m ts j (standing_in xs j)) 0 (length xs)
 
-pub said_is_agent : (a : Agent) → IsAgent a → All IsStanding (said_standings a.machine a.standings) → IsAgent (all_said a)
+pub said_is_agent : (a : Agent) → IsAgent a → All IsStanding (said_standings a.machine a.inventory.terms a.standings) → IsAgent (all_said a)
 said_is_agent a h bounded = record {
   entries = h.entries;
   tracks = h.tracks;
-  standings = said_count a.machine a.standings ∙ h.standings;
+  standings = said_count a.machine a.inventory.terms a.standings ∙ h.standings;
   phase = h.phase;
   bounded = bounded;
-  believed = λ i. subst (λ t. Believes (track_at a.machine i).end (track_at a.machine i).renewable t) (sym (all_told a.machine a.standings i)) (h.believed i);
+  believed = λ i. subst (λ t. Believes (track_at a.machine i).end (track_at a.machine i).renewable t) (sym (all_told a.machine a.inventory.terms a.standings i)) (h.believed i);
 }

@@ -59,7 +59,7 @@ is_same_number (Some m) (Some n) = m == n
 -- its terms
 unfoldable pub is_same_terms : Terms → Terms → Bool
 is_same_terms t u =
-    t.issued == u.issued && (is_same_number t.increment u.increment && (t.period == u.period && (t.max_ttl == u.max_ttl && t.explicit_max == u.explicit_max)))
+    t.issued == u.issued && (is_same_number t.increment u.increment && (t.period == u.period && (t.max_ttl == u.max_ttl && (t.explicit_max == u.explicit_max && is_same_answer t.reissued u.reissued))))
 
 -- the name of its parent, which is the same where that has another index; no name where it has none
 abbrev pub parent_name : List Entry → Option ℕ → List ℕ

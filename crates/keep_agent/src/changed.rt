@@ -192,4 +192,5 @@ fn is_same_terms(one: Terms, other: Terms) -> bool
         && one.period == other.period
         && one.max_ttl == other.max_ttl
         && one.explicit_max == other.explicit_max
+        && is_same_answer(one.reissued, other.reissued)
 }

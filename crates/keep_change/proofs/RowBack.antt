@@ -1,6 +1,7 @@
 -- A row is read back from its text, and from no other; and its text is one line.
-use Rattle.std.proofs.Common.{◌≡◌, ℕ, ◌^◌, ◌<◌, ◌≤◌, Bool, true, false, cond, not, ◌==◌, ◌&&◌, nat_le, List, [], ◌∷◌, ◌++◌, append_assoc, Option, Some, None, codes, decimal, IfSome, refl, sym, ap, ◌∙◌, subst, arith, inl}
-use Rattle.std.proofs.lemmas.Bool.{and_parts, cond-true}
+use Rattle.std.proofs.Common.{◌≡◌, ℕ, ◌^◌, ◌<◌, ◌≤◌, Bool, true, false, cond, not, ◌==◌, ◌&&◌, nat_le, List, [], ◌∷◌, ◌++◌, append_assoc, bytes_eq, Option, Some, None, codes, decimal, IfSome, refl, sym, ap, ◌∙◌, subst, arith, inl, inr}
+use Rattle.std.proofs.lemmas.Bool.{and_parts, cond-true, cond-false}
+use Rattle.std.specs.Cmp.Lexicographic.{bytes_decides}
 use Rattle.std.specs.List.{list_all}
 use Rattle.keep_moment.specs.declared.moment.TheConstants.{LAST}
 use Rattle.keep_words.specs.Laws.{Lacks}
@@ -20,10 +21,10 @@ use Rattle.keep_change.specs.declared.row.Row.{Row}
 use Rattle.keep_change.specs.declared.row_text.Who.{Who}
 use Rattle.keep_change.specs.declared.row_text.Life.{Life}
 use Rattle.keep_change.specs.declared.row_text.Limits.{Limits}
-use Rattle.keep_change.specs.RowText.{IsRow, either, four_and_rest, if_written, is_file, is_written, kind_of, life_of, limits_of, name_or_star, one_and_rest, row_of_line, row_with, sent_of, span_or_star, who_of}
-use Rattle.keep_change.specs.Words.{file_end, life_words, name_word, need_in_word, number_word, renewable_word, row_text, spaced, terms_words, told_word, who_words}
+use Rattle.keep_change.specs.RowText.{IsRow, either, four_and_rest, if_written, is_file, is_written, kind_of, life_of, limits_of, name_or_star, one_and_rest, row_of_line, row_of_words, row_with, sent_of, span_or_star, who_of}
+use Rattle.keep_change.specs.Words.{file_end, life_words, mark_text, name_word, need_in_word, number_word, plain_text, renewable_word, row_text, spaced, terms_words, told_word, who_words}
 use Rattle.keep_change.proofs.Cuts.{cut_back, cut_only}
-use Rattle.keep_change.proofs.RowWords.{bound, kind_back, kind_only, name_or_star_back, name_or_star_only, passed, renewable_back, renewable_only, sent_back, sent_only, some_same, span_or_star_back, span_or_star_only, told_back, told_only}
+use Rattle.keep_change.proofs.RowWords.{bound, branch, kind_back, kind_only, name_or_star_back, name_or_star_only, passed, renewable_back, renewable_only, sent_back, sent_only, some_same, span_or_star_back, span_or_star_only, told_back, told_only}
 use Rattle.keep_change.proofs.Spelling.{ArePlain, IsPlain, each_weaker, byte_is_not, name_is_plain, need_back, need_is_plain, need_only, word_is_plain}
 
 -- ---- four words and what follows them
@@ -205,9 +206,9 @@ terms_are_plain r h =
 
 -- ---- a row
 
-pub row_back : (r : Row) → IsRow r → row_of_line (row_text r) ≡ Some r
-unfolding row_of_line row_text
-row_back r h =
+plain_back : (r : Row) → IsRow r → row_of_words r.terms.reissued (plain_text r) ≡ Some r
+unfolding row_of_words plain_text
+plain_back r h =
     let who : Who = record { kind = r.kind; name = r.name; parent = r.parent; is_told = r.is_told } in
     let life : Life = record { issued = r.terms.issued; end = r.end; renewable = r.renewable; increment = r.terms.increment } in
     let limits : Limits = record { period = r.terms.period; max_ttl = r.terms.max_ttl; explicit_max = r.terms.explicit_max; need = r.need } in
@@ -226,12 +227,12 @@ same_four : (a b c d w x y z : List ℕ) → a ≡ w → b ≡ x → c ≡ y →
 same_four a b c d w x y z e f g h =
     ap (λ l. spaced (l ∷ b ∷ c ∷ d ∷ [])) e ∙ ap (λ l. spaced (w ∷ l ∷ c ∷ d ∷ [])) f ∙ ap (λ l. spaced (w ∷ x ∷ l ∷ d ∷ [])) g ∙ ap (λ l. spaced (w ∷ x ∷ y ∷ l ∷ [])) h
 
-abbrev Written : List ℕ → Row → Type 0
-Written line r = IsRow r × (line ≡ row_text r)
+abbrev Written : Bool → List ℕ → Row → Type 0
+Written reissued line r = IsRow r × (line ≡ plain_text r) × (r.terms.reissued ≡ reissued)
 
-pub row_only : (line : List ℕ) (r : Row) → row_of_line line ≡ Some r → IsRow r × (line ≡ row_text r)
-unfolding row_of_line row_text
-row_only line r e =
+plain_only : (reissued : Bool) (line : List ℕ) (r : Row) → row_of_words reissued line ≡ Some r → Written reissued line r
+unfolding row_of_words plain_text
+plain_only reissued line r e =
     let a = bound (four_and_rest line) _ r e in
     let b = bound (four_and_rest a.0.4) _ r a.2 in
     let c = bound (four_and_rest b.0.4) _ r b.2 in
@@ -239,7 +240,7 @@ row_only line r e =
     let l = bound (life_of b.0.0 b.0.1 b.0.2 b.0.3) _ r w.2 in
     let m = bound (limits_of c.0.0 c.0.1 c.0.2 c.0.3) _ r l.2 in
     let s = bound (sent_of c.0.4) _ r m.2 in
-    let row : Row = row_with w.0 l.0 m.0 s.0 in
+    let row : Row = row_with reissued w.0 l.0 m.0 s.0 in
     let p = passed (is_written row) (Some row) r s.2 in
     let who = who_only a.0.0 a.0.1 a.0.2 a.0.3 w.0 w.1 in
     let life = life_only b.0.0 b.0.1 b.0.2 b.0.3 l.0 l.1 in
@@ -248,14 +249,14 @@ row_only line r e =
     let first : spaced (a.0.0 ∷ a.0.1 ∷ a.0.2 ∷ a.0.3 ∷ []) ≡ spaced (who_words row) = same_four a.0.0 a.0.1 a.0.2 a.0.3 (kind_word row.kind) row.name (name_word row.parent) (told_word row.is_told) who.kind who.name who.parent who.told in
     let second : spaced (b.0.0 ∷ b.0.1 ∷ b.0.2 ∷ b.0.3 ∷ []) ≡ spaced (life_words row) = same_four b.0.0 b.0.1 b.0.2 b.0.3 (decimal row.terms.issued) (decimal row.end) (renewable_word row.renewable) (number_word row.terms.increment) life.issued life.end life.renewable life.increment in
     let third : spaced (c.0.0 ∷ c.0.1 ∷ c.0.2 ∷ c.0.3 ∷ []) ≡ spaced (terms_words row) = same_four c.0.0 c.0.1 c.0.2 c.0.3 (decimal row.terms.period) (decimal row.terms.max_ttl) (decimal row.terms.explicit_max) (need_word row.need) limits.period limits.max_ttl limits.explicit_max limits.need in
-    let spelled : line ≡ row_text row =
+    let spelled : line ≡ plain_text row =
     four_only line a.0 a.1 ∙ ap (λ l. spaced (a.0.0 ∷ a.0.1 ∷ a.0.2 ∷ a.0.3 ∷ []) ++ l) (four_only a.0.4 b.0 b.1
     ∙ ap (λ l. spaced (b.0.0 ∷ b.0.1 ∷ b.0.2 ∷ b.0.3 ∷ []) ++ l) (four_only b.0.4 c.0 c.1
     ∙ ap (λ l. spaced (c.0.0 ∷ c.0.1 ∷ c.0.2 ∷ c.0.3 ∷ []) ++ l) sent.spelled))
     ∙ ap (λ l. l ++ (spaced (b.0.0 ∷ b.0.1 ∷ b.0.2 ∷ b.0.3 ∷ []) ++ (spaced (c.0.0 ∷ c.0.1 ∷ c.0.2 ∷ c.0.3 ∷ []) ++ (row.credential ++ file_end row.file)))) first
     ∙ ap (λ l. spaced (who_words row) ++ (l ++ (spaced (c.0.0 ∷ c.0.1 ∷ c.0.2 ∷ c.0.3 ∷ []) ++ (row.credential ++ file_end row.file)))) second
     ∙ ap (λ l. spaced (who_words row) ++ (spaced (life_words row) ++ (l ++ (row.credential ++ file_end row.file)))) third in
-    subst (Written line) (some_same row r p.1) (
+    subst (Written reissued line) (some_same row r p.1) (
       record {
         name = who.named;
         parent = who.over;
@@ -271,7 +272,42 @@ row_only line r e =
         written = p.0;
       },
       spelled,
+      refl,
     )
+
+-- ---- the mark
+
+no_mark : (k : Kind) → bytes_eq (kind_word k) (codes "reissued") ≡ false
+no_mark Token = refl
+no_mark Lease = refl
+
+plain_cut : (r : Row) → (w : List ℕ) × (one_and_rest (plain_text r) ≡ Some (kind_word r.kind, w))
+unfolding plain_text
+plain_cut r =
+    let rest = spaced (life_words r) ++ (spaced (terms_words r) ++ (r.credential ++ file_end r.file)) in
+    (_, ap one_and_rest (led_is (who_words r) rest) ∙ cut_back (kind_word r.kind) _ (kind_is_plain r.kind).spaces)
+
+marked_back : (r : Row) → IsRow r → (b : Bool) → r.terms.reissued ≡ b → row_of_line (mark_text b ++ plain_text r) ≡ Some r
+unfolding row_of_line
+marked_back r h true e = rw (cut_back (codes "reissued") (plain_text r) refl) (ap (λ b. row_of_words b (plain_text r)) (sym e) ∙ plain_back r h)
+marked_back r h false e =
+    let parts = plain_cut r in
+    rw (parts.1) (cond-false (bytes_eq (kind_word r.kind) (codes "reissued")) _ _ (no_mark r.kind) ∙ ap (λ b. row_of_words b (plain_text r)) (sym e) ∙ plain_back r h)
+
+pub row_back : (r : Row) → IsRow r → row_of_line (row_text r) ≡ Some r
+unfolding row_text
+row_back r h = marked_back r h r.terms.reissued refl
+
+pub row_only : (line : List ℕ) (r : Row) → row_of_line line ≡ Some r → IsRow r × (line ≡ row_text r)
+unfolding row_of_line row_text
+row_only line r e =
+    let w = bound (one_and_rest line) _ r e in
+    elim (branch (bytes_eq w.0.0 (codes "reissued")) (row_of_words true w.0.1) (row_of_words false line) r w.2) [
+      | inl q ↦
+          let p = plain_only true w.0.1 r q.1 in
+          (p.0, cut_only line w.0.0 w.0.1 w.1 ∙ ap (λ l. l ++ 32 ∷ w.0.1) ((bytes_decides w.0.0 (codes "reissued")).0 q.0) ∙ ap (λ l. codes "reissued " ++ l) p.1 ∙ ap (λ b. mark_text b ++ plain_text r) (sym p.2))
+      | inr f ↦ let p = plain_only false line r f in (p.0, p.1 ∙ ap (λ b. mark_text b ++ plain_text r) (sym p.2))
+    ]
 
 -- ---- one line
 
@@ -289,10 +325,18 @@ file_lacks (Some path) h =
     let control = (and_parts _ _ (and_parts _ _ (and_parts _ _ h).0).1).1 in
     each_weaker is_path_byte (λ x. not (x == 10)) (byte_is_not is_path_byte 10 refl) path control
 
-pub row_lacks : (r : Row) → IsRow r → Lacks 10 (row_text r)
-unfolding row_text
-row_lacks r h =
+plain_lacks : (r : Row) → IsRow r → Lacks 10 (plain_text r)
+unfolding plain_text
+plain_lacks r h =
     lacks_append 10 (spaced (who_words r)) _ (spaced_lacks (who_words r) (who_is_plain r h))
     (lacks_append 10 (spaced (life_words r)) _ (spaced_lacks (life_words r) (life_is_plain r h))
     (lacks_append 10 (spaced (terms_words r)) _ (spaced_lacks (terms_words r) (terms_are_plain r h))
     (lacks_append 10 r.credential (file_end r.file) (word_is_plain r.credential h.credential).feeds (file_lacks r.file h.file))))
+
+mark_lacks : (b : Bool) → Lacks 10 (mark_text b)
+mark_lacks true = refl
+mark_lacks false = refl
+
+pub row_lacks : (r : Row) → IsRow r → Lacks 10 (row_text r)
+unfolding row_text
+row_lacks r h = lacks_append 10 (mark_text r.terms.reissued) (plain_text r) (mark_lacks r.terms.reissued) (plain_lacks r h)

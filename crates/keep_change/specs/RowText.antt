@@ -104,15 +104,15 @@ sent_beside credential file = if is_word credential && is_file file then Some (r
 unfoldable pub sent_of : List ℕ → Option Sent
 sent_of text = elim (one_and_rest text) [ None ↦ sent_alone text | Some w ↦ sent_beside w.0 w.1 ]
 
-abbrev pub row_with : Who → Life → Limits → Sent → Row
-row_with who life limits sent = record {
+abbrev pub row_with : Bool → Who → Life → Limits → Sent → Row
+row_with reissued who life limits sent = record {
   name = who.name;
   kind = who.kind;
   parent = who.parent;
   is_told = who.is_told;
   end = life.end;
   renewable = life.renewable;
-  terms = record { issued = life.issued; increment = life.increment; period = limits.period; max_ttl = limits.max_ttl; explicit_max = limits.explicit_max };
+  terms = record { issued = life.issued; increment = life.increment; period = limits.period; max_ttl = limits.max_ttl; explicit_max = limits.explicit_max; reissued = reissued };
   need = limits.need;
   credential = sent.credential;
   file = sent.file;
@@ -137,9 +137,9 @@ is_written row =
 abbrev pub if_written : Row → Option Row
 if_written row = if is_written row then Some row else None
 
--- the row of a line
-unfoldable pub row_of_line : List ℕ → Option Row
-row_of_line line = do
+-- the row of a line before which no mark stands, whether it is reissued or not
+unfoldable pub row_of_words : Bool → List ℕ → Option Row
+row_of_words reissued line = do
   a ← four_and_rest line
   b ← four_and_rest a.4
   c ← four_and_rest b.4
@@ -147,7 +147,13 @@ row_of_line line = do
   life ← life_of b.0 b.1 b.2 b.3
   limits ← limits_of c.0 c.1 c.2 c.3
   sent ← sent_of c.4
-  if_written (row_with who life limits sent)
+  if_written (row_with reissued who life limits sent)
+
+-- the row of a line
+unfoldable pub row_of_line : List ℕ → Option Row
+row_of_line line = do
+  w ← one_and_rest line
+  if bytes_eq w.0 (codes "reissued") then row_of_words true w.1 else row_of_words false line
 
 -- ---- which rows there are
 

@@ -55,6 +55,15 @@ life_words row = decimal row.terms.issued ∷ decimal row.end ∷ renewable_word
 abbrev pub terms_words : Row → List (List ℕ)
 terms_words row = decimal row.terms.period ∷ decimal row.terms.max_ttl ∷ decimal row.terms.explicit_max ∷ need_word row.need ∷ []
 
+-- a row as a line, whether it is reissued or not
+unfoldable pub plain_text : Row → List ℕ
+plain_text row = spaced (who_words row) ++ (spaced (life_words row) ++ (spaced (terms_words row) ++ (row.credential ++ file_end row.file)))
+
+-- what stands before a row that is reissued, and before no other: a word that is no kind
+abbrev pub mark_text : Bool → List ℕ
+mark_text true = codes "reissued "
+mark_text false = []
+
 -- a row as a line
 unfoldable pub row_text : Row → List ℕ
-row_text row = spaced (who_words row) ++ (spaced (life_words row) ++ (spaced (terms_words row) ++ (row.credential ++ file_end row.file)))
+row_text row = mark_text row.terms.reissued ++ plain_text row

@@ -8,7 +8,7 @@ ghost use Rattle.keep_words.specs.Numbers.{number_up_to};
 ghost use Rattle.keep_inventory.specs.declared.limits.TheConstants.{SPAN_MAX};
 ghost use Rattle.keep_inventory.specs.Values.{is_path};
 ghost use Rattle.keep_tree.specs.Push.{is_name, is_name_byte};
-ghost use Rattle.keep_change.specs.RowText.{either, four_and_rest, if_written, is_file, is_word, is_written, kind_of, life_of, limits_of, name_or_star, one_and_rest, row_of_line, row_with, sent_alone, sent_beside, sent_of, span_or_star, stands_for, suits, who_of};
+ghost use Rattle.keep_change.specs.RowText.{either, four_and_rest, if_written, is_file, is_word, is_written, kind_of, life_of, limits_of, name_or_star, one_and_rest, row_of_line, row_of_words, row_with, sent_alone, sent_beside, sent_of, span_or_star, stands_for, suits, who_of};
 
 use crate::row::Row;
 use crate::words::need_of;
@@ -57,6 +57,21 @@ pub(crate) struct Sent {
 pub(crate) fn read_row(alloc: Global, line: &[u8]) -> Result<Option<Row>, AllocError>
     ensures { IfOk result (λ row. row ≡ row_of_line line.now) }
 {
+    let Some((word, rest)) = one_and_rest(line) else {
+        return Ok(None);
+    };
+    if word == b"reissued".as_slice() {
+        read_words(alloc, true, rest)
+    } else {
+        read_words(alloc, false, line)
+    }
+}
+
+// The row that a line writes before which no mark stands.
+#[tactic(auto, unfolding(crate::specs::RowText::row_of_words))]
+fn read_words(alloc: Global, reissued: bool, line: &[u8]) -> Result<Option<Row>, AllocError>
+    ensures { IfOk result (λ row. row ≡ row_of_words reissued line.now) }
+{
     let Some((kind, name, parent, told, rest)) = four_and_rest(line) else {
         return Ok(None);
     };
@@ -78,11 +93,11 @@ pub(crate) fn read_row(alloc: Global, line: &[u8]) -> Result<Option<Row>, AllocE
     let Some(sent) = sent_of(alloc, rest)? else {
         return Ok(None);
     };
-    Ok(if_written(row_with(who, life, limits, sent)))
+    Ok(if_written(row_with(reissued, who, life, limits, sent)))
 }
 
-fn row_with(who: Who, life: Life, limits: Limits, sent: Sent) -> Row
-    ensures { result ≡ row_with who life limits sent }
+fn row_with(reissued: bool, who: Who, life: Life, limits: Limits, sent: Sent) -> Row
+    ensures { result ≡ row_with reissued who life limits sent }
 {
     Row {
         name: who.name,
@@ -97,6 +112,7 @@ fn row_with(who: Who, life: Life, limits: Limits, sent: Sent) -> Row
             period: limits.period,
             max_ttl: limits.max_ttl,
             explicit_max: limits.explicit_max,
+            reissued,
         },
         need: limits.need,
         credential: sent.credential,

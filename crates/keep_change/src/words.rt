@@ -1,6 +1,6 @@
 ghost use Rattle.std.specs.Prelude.{◌≡◌, ◌++◌, ◌∷◌, [], IfOk, OnOk, Some};
 ghost use Rattle.keep_inventory.specs.Kinds.{kind_word};
-ghost use Rattle.keep_change.specs.Words.{file_end, fingerprint, life_words, name_word, need_in_word, number_word, renewable_word, row_text, spaced, terms_words, told_word, who_words};
+ghost use Rattle.keep_change.specs.Words.{file_end, fingerprint, life_words, mark_text, name_word, need_in_word, number_word, plain_text, renewable_word, row_text, spaced, terms_words, told_word, who_words};
 ghost use Rattle.keep_inventory.specs.Needs.{need_word};
 
 use crate::row::Row;
@@ -58,6 +58,22 @@ pub(crate) fn push_word(word: &[u8], text: &mut Vec<u8>) -> Result<(), AllocErro
 #[tactic(auto, unfolding(crate::specs::Words::row_text))]
 pub(crate) fn push_row(alloc: Global, row: &Row, text: &mut Vec<u8>) -> Result<(), AllocError>
     ensures { OnOk result (text.new.items ≡ text.old.items ++ row_text row.now) }
+{
+    text.extend_from_slice(mark_text(row.terms.reissued))?;
+    push_plain(alloc, row, text)
+}
+
+// What stands before a row that is reissued. What is written of any other is what it was before there was the mark.
+fn mark_text(reissued: bool) -> &'static [u8]
+    ensures { result.now ≡ mark_text reissued }
+{
+    if reissued { b"reissued " } else { b"" }
+}
+
+// Appends a row as a line, whether it is reissued or not.
+#[tactic(auto, unfolding(crate::specs::Words::plain_text))]
+fn push_plain(alloc: Global, row: &Row, text: &mut Vec<u8>) -> Result<(), AllocError>
+    ensures { OnOk result (text.new.items ≡ text.old.items ++ plain_text row.now) }
 {
     push_who(row, text)?;
     push_life(alloc, row, text)?;

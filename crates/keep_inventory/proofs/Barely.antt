@@ -12,7 +12,7 @@ use Rattle.keep_inventory.specs.declared.limits.TheConstants.{SPAN_MAX, STEP_ABS
 use Rattle.keep_inventory.specs.declared.fault.InvFault.{InvFault}
 use Rattle.keep_inventory.specs.declared.fault.InvFault.TheVariants.{BadValue}
 use Rattle.keep_inventory.specs.declared.key.Key.{Key}
-use Rattle.keep_inventory.specs.declared.key.Key.TheVariants.{SystemMax, Margin, Token, Lease, Name, Parent, Issued, End, Renewable, Increment, Period, MaxTtl, ExplicitMaxTtl, Need, SecretFile, LeaseIdFile}
+use Rattle.keep_inventory.specs.declared.key.Key.TheVariants.{SystemMax, Margin, Token, Lease, Name, Parent, Issued, End, Renewable, Increment, Period, MaxTtl, ExplicitMaxTtl, Reissued, Need, SecretFile, LeaseIdFile}
 use Rattle.keep_inventory.specs.declared.row.Life.{Life}
 use Rattle.keep_inventory.specs.declared.row.Row.{Row}
 use Rattle.keep_inventory.specs.declared.terms.Terms.{Terms}
@@ -217,16 +217,20 @@ life_bare index ms =
     ∙ ap (λ y. life_by index (is_key_there End ms) (value_at moment_value (Some index) Issued ms) y (value_at flag_value (Some index) Renewable (bare_members ms))) b
     ∙ ap (life_by index (is_key_there End ms) (value_at moment_value (Some index) Issued ms) (value_at end_value (Some index) End ms)) c
 
-abbrev token_terms_by : ℕ → ℕ → Result (Option ℕ) InvFault → Result (Option ℕ) InvFault → Result (Option ℕ) InvFault → Result (Option ℕ) InvFault → Result Terms InvFault
-token_terms_by system_max issued a b c d = do
+abbrev token_terms_by : ℕ → ℕ → Result (Option ℕ) InvFault → Result (Option ℕ) InvFault → Result (Option ℕ) InvFault → Result (Option ℕ) InvFault → Result (Option Bool) InvFault → Result Terms InvFault
+token_terms_by system_max issued a b c d f = do
   increment ← a
   period ← b
   max_ttl ← c
   explicit_max ← d
-  Ok (record { issued = issued; increment = step_or increment (unwrap_or period 0); period = unwrap_or period 0; max_ttl = max_ttl_of system_max max_ttl; explicit_max = unwrap_or explicit_max 0 })
+  reissued ← f
+  Ok (record { issued = issued; increment = step_or increment (unwrap_or period 0); period = unwrap_or period 0; max_ttl = max_ttl_of system_max max_ttl; explicit_max = unwrap_or explicit_max 0; reissued = unwrap_or reissued false })
 
 abbrev Span : ℕ → Key → Members → Result (Option ℕ) InvFault
 Span index key ms = value_at (span full 0 SPAN_MAX) (Some index) key ms
+
+abbrev Flag : ℕ → Members → Result (Option Bool) InvFault
+Flag index ms = value_at flag_value (Some index) Reissued ms
 
 token_terms_bare : (system_max index issued : ℕ) (ms : Members) → token_terms full system_max index issued (bare_members ms) ≡ token_terms full system_max index issued ms
 unfolding token_terms is_secret_key
@@ -236,24 +240,29 @@ token_terms_bare system_max index issued ms =
     let b = kept_span 0 SPAN_MAX (Some index) Period refl ms in
     let c = kept_span 0 SPAN_MAX (Some index) MaxTtl refl ms in
     let d = kept_span 0 SPAN_MAX (Some index) ExplicitMaxTtl refl ms in
-    ap (λ x. by x (Span index Period (bare_members ms)) (Span index MaxTtl (bare_members ms)) (Span index ExplicitMaxTtl (bare_members ms))) a
-    ∙ ap (λ x. by (Span index Increment ms) x (Span index MaxTtl (bare_members ms)) (Span index ExplicitMaxTtl (bare_members ms))) b
-    ∙ ap (λ x. by (Span index Increment ms) (Span index Period ms) x (Span index ExplicitMaxTtl (bare_members ms))) c
-    ∙ ap (by (Span index Increment ms) (Span index Period ms) (Span index MaxTtl ms)) d
+    let f = kept flag_value blind_flag (Some index) Reissued refl ms in
+    ap (λ x. by x (Span index Period (bare_members ms)) (Span index MaxTtl (bare_members ms)) (Span index ExplicitMaxTtl (bare_members ms)) (Flag index (bare_members ms))) a
+    ∙ ap (λ x. by (Span index Increment ms) x (Span index MaxTtl (bare_members ms)) (Span index ExplicitMaxTtl (bare_members ms)) (Flag index (bare_members ms))) b
+    ∙ ap (λ x. by (Span index Increment ms) (Span index Period ms) x (Span index ExplicitMaxTtl (bare_members ms)) (Flag index (bare_members ms))) c
+    ∙ ap (λ x. by (Span index Increment ms) (Span index Period ms) (Span index MaxTtl ms) x (Flag index (bare_members ms))) d
+    ∙ ap (by (Span index Increment ms) (Span index Period ms) (Span index MaxTtl ms) (Span index ExplicitMaxTtl ms)) f
 
-abbrev lease_terms_by : ℕ → ℕ → Result (Option ℕ) InvFault → Result (Option ℕ) InvFault → Result Terms InvFault
-lease_terms_by system_max issued a b = do
+abbrev lease_terms_by : ℕ → ℕ → Result (Option ℕ) InvFault → Result (Option ℕ) InvFault → Result (Option Bool) InvFault → Result Terms InvFault
+lease_terms_by system_max issued a b c = do
   increment ← a
   max_ttl ← b
-  Ok (record { issued = issued; increment = Some (unwrap_or increment STEP_ABSENT); period = 0; max_ttl = max_ttl_of system_max max_ttl; explicit_max = 0 })
+  reissued ← c
+  Ok (record { issued = issued; increment = Some (unwrap_or increment STEP_ABSENT); period = 0; max_ttl = max_ttl_of system_max max_ttl; explicit_max = 0; reissued = unwrap_or reissued false })
 
 lease_terms_bare : (system_max index issued : ℕ) (ms : Members) → lease_terms full system_max index issued (bare_members ms) ≡ lease_terms full system_max index issued ms
 unfolding lease_terms is_secret_key
 lease_terms_bare system_max index issued ms =
     let a = kept_span 0 SPAN_MAX (Some index) Increment refl ms in
     let b = kept_span 0 SPAN_MAX (Some index) MaxTtl refl ms in
-    ap (λ x. lease_terms_by system_max issued x (Span index MaxTtl (bare_members ms))) a
-    ∙ ap (lease_terms_by system_max issued (Span index Increment ms)) b
+    let c = kept flag_value blind_flag (Some index) Reissued refl ms in
+    ap (λ x. lease_terms_by system_max issued x (Span index MaxTtl (bare_members ms)) (Flag index (bare_members ms))) a
+    ∙ ap (λ x. lease_terms_by system_max issued (Span index Increment ms) x (Flag index (bare_members ms))) b
+    ∙ ap (lease_terms_by system_max issued (Span index Increment ms) (Span index MaxTtl ms)) c
 
 -- ---- a row, but for its credential
 

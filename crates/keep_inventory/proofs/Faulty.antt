@@ -14,7 +14,7 @@ use Rattle.keep_tree.specs.Push.{entry_refusal}
 use Rattle.keep_inventory.specs.declared.fault.InvFault.{InvFault}
 use Rattle.keep_inventory.specs.declared.fault.InvFault.TheVariants.{NotToml, MissingKey, UnknownKey, BadValue, Tree}
 use Rattle.keep_inventory.specs.declared.key.Key.{Key}
-use Rattle.keep_inventory.specs.declared.key.Key.TheVariants.{SystemMax, Margin, Token, Lease, Name, Parent, Issued, End, Renewable, Increment, Period, MaxTtl, ExplicitMaxTtl, Need, Secret, SecretFile, LeaseId, LeaseIdFile}
+use Rattle.keep_inventory.specs.declared.key.Key.TheVariants.{SystemMax, Margin, Token, Lease, Name, Parent, Issued, End, Renewable, Increment, Period, MaxTtl, ExplicitMaxTtl, Reissued, Need, Secret, SecretFile, LeaseId, LeaseIdFile}
 use Rattle.keep_inventory.specs.declared.limits.TheConstants.{SPAN_MAX, SYSTEM_MAX}
 use Rattle.keep_inventory.specs.declared.row.Life.{Life}
 use Rattle.keep_inventory.specs.declared.row.Row.{Row}
@@ -125,7 +125,7 @@ life_fault i ms =
     last (value_at flag_value (Some i) Renewable ms) _ _ (value_fault flag_value (Some i) Renewable ms) (λ renewable f. refl)))))
 
 token_terms_faults : ℕ → Members → List (Option InvFault)
-token_terms_faults i ms = bad (span full 0 SPAN_MAX) (Some i) Increment ms ∷ bad (span full 0 SPAN_MAX) (Some i) Period ms ∷ bad (span full 0 SPAN_MAX) (Some i) MaxTtl ms ∷ bad (span full 0 SPAN_MAX) (Some i) ExplicitMaxTtl ms ∷ []
+token_terms_faults i ms = bad (span full 0 SPAN_MAX) (Some i) Increment ms ∷ bad (span full 0 SPAN_MAX) (Some i) Period ms ∷ bad (span full 0 SPAN_MAX) (Some i) MaxTtl ms ∷ bad (span full 0 SPAN_MAX) (Some i) ExplicitMaxTtl ms ∷ bad flag_value (Some i) Reissued ms ∷ []
 
 token_terms_fault : (system_max i issued : ℕ) (ms : Members) → fault_of (token_terms full system_max i issued ms) ≡ first_fault_of (token_terms_faults i ms)
 unfolding token_terms token_terms_faults
@@ -133,16 +133,18 @@ token_terms_fault system_max i issued ms =
     chain (value_at (span full 0 SPAN_MAX) (Some i) Increment ms) _ _ _ (value_fault (span full 0 SPAN_MAX) (Some i) Increment ms) (λ increment a.
     chain (value_at (span full 0 SPAN_MAX) (Some i) Period ms) _ _ _ (value_fault (span full 0 SPAN_MAX) (Some i) Period ms) (λ period b.
     chain (value_at (span full 0 SPAN_MAX) (Some i) MaxTtl ms) _ _ _ (value_fault (span full 0 SPAN_MAX) (Some i) MaxTtl ms) (λ max_ttl c.
-    last (value_at (span full 0 SPAN_MAX) (Some i) ExplicitMaxTtl ms) _ _ (value_fault (span full 0 SPAN_MAX) (Some i) ExplicitMaxTtl ms) (λ explicit_max d. refl))))
+    chain (value_at (span full 0 SPAN_MAX) (Some i) ExplicitMaxTtl ms) _ _ _ (value_fault (span full 0 SPAN_MAX) (Some i) ExplicitMaxTtl ms) (λ explicit_max d.
+    last (value_at flag_value (Some i) Reissued ms) _ _ (value_fault flag_value (Some i) Reissued ms) (λ reissued f. refl)))))
 
 lease_terms_faults : ℕ → Members → List (Option InvFault)
-lease_terms_faults i ms = bad (span full 0 SPAN_MAX) (Some i) Increment ms ∷ bad (span full 0 SPAN_MAX) (Some i) MaxTtl ms ∷ []
+lease_terms_faults i ms = bad (span full 0 SPAN_MAX) (Some i) Increment ms ∷ bad (span full 0 SPAN_MAX) (Some i) MaxTtl ms ∷ bad flag_value (Some i) Reissued ms ∷ []
 
 lease_terms_fault : (system_max i issued : ℕ) (ms : Members) → fault_of (lease_terms full system_max i issued ms) ≡ first_fault_of (lease_terms_faults i ms)
 unfolding lease_terms lease_terms_faults
 lease_terms_fault system_max i issued ms =
     chain (value_at (span full 0 SPAN_MAX) (Some i) Increment ms) _ _ _ (value_fault (span full 0 SPAN_MAX) (Some i) Increment ms) (λ increment a.
-    last (value_at (span full 0 SPAN_MAX) (Some i) MaxTtl ms) _ _ (value_fault (span full 0 SPAN_MAX) (Some i) MaxTtl ms) (λ max_ttl b. refl))
+    chain (value_at (span full 0 SPAN_MAX) (Some i) MaxTtl ms) _ _ _ (value_fault (span full 0 SPAN_MAX) (Some i) MaxTtl ms) (λ max_ttl b.
+    last (value_at flag_value (Some i) Reissued ms) _ _ (value_fault flag_value (Some i) Reissued ms) (λ reissued c. refl)))
 
 file_fault : (i : ℕ) (other key : Key) (has_credential : Bool) (ms : Members) → has_credential ≡ is_key_there other ms → fault_of (file_at i key has_credential ms) ≡ first_fault_of (bad path (Some i) key ms ∷ excluded_beside other i key ms ∷ [])
 file_fault i other key has_credential ms is =

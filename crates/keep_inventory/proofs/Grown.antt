@@ -112,6 +112,7 @@ token_over system_max es fs i ms e sent t note same is = record {
   period = is.period;
   max_ttl = is.max_ttl;
   explicit_max = is.explicit_max;
+  reissued = is.reissued;
   secret = is.secret;
 }
 
@@ -129,6 +130,7 @@ lease_over system_max es fs i ms e sent t note same is = record {
   period = is.period;
   max_ttl = is.max_ttl;
   explicit_max = is.explicit_max;
+  reissued = is.reissued;
   lease_id = is.lease_id;
 }
 

@@ -10,7 +10,7 @@ use Rattle.keep_tree.proofs.Placed.{parent_below, taken_from_refusal}
 use Rattle.keep_inventory.specs.declared.fault.InvFault.{InvFault}
 use Rattle.keep_inventory.specs.declared.fault.InvFault.TheVariants.{BadValue, UnknownKey}
 use Rattle.keep_inventory.specs.declared.key.Key.{Key}
-use Rattle.keep_inventory.specs.declared.key.Key.TheVariants.{Token, Name, Parent, Issued, End, Renewable, Increment, Period, MaxTtl, ExplicitMaxTtl, Need, Secret, SecretFile, LeaseId, LeaseIdFile}
+use Rattle.keep_inventory.specs.declared.key.Key.TheVariants.{Token, Name, Parent, Issued, End, Renewable, Increment, Period, MaxTtl, ExplicitMaxTtl, Reissued, Need, Secret, SecretFile, LeaseId, LeaseIdFile}
 use Rattle.keep_inventory.specs.declared.limits.TheConstants.{SPAN_MAX, STEP_ABSENT}
 use Rattle.keep_inventory.specs.declared.row.Life.{Life}
 use Rattle.keep_inventory.specs.declared.row.Row.{Row}
@@ -95,6 +95,7 @@ record TokenTerms (system_max from : ℕ) (ms : Members) (t : Terms) : Type 0 wh
   period : WritesOr (span full 0 SPAN_MAX) Period ms 0 t.period
   max_ttl : WritesMost system_max ms t.max_ttl
   explicit_max : WritesOr (span full 0 SPAN_MAX) ExplicitMaxTtl ms 0 t.explicit_max
+  reissued : WritesOr flag_value Reissued ms false t.reissued
 
 token_termed : (system_max index issued : ℕ) (ms : Members) (t : Terms) → token_terms full system_max index issued ms ≡ Ok t → TokenTerms system_max issued ms t
 unfolding token_terms
@@ -103,7 +104,8 @@ token_termed system_max index issued ms t e =
     bind_ok (value_at (span full 0 SPAN_MAX) (Some index) Period ms) _ t e1 (λ period b e2.
     bind_ok (value_at (span full 0 SPAN_MAX) (Some index) MaxTtl ms) _ t e2 (λ max_ttl d e4.
     bind_ok (value_at (span full 0 SPAN_MAX) (Some index) ExplicitMaxTtl ms) _ t e4 (λ explicit_max f e5.
-    let made : Terms = record { issued = issued; increment = step_or increment (unwrap_or period 0); period = unwrap_or period 0; max_ttl = max_ttl_of system_max max_ttl; explicit_max = unwrap_or explicit_max 0 } in
+    bind_ok (value_at flag_value (Some index) Reissued ms) _ t e5 (λ reissued g e6.
+    let made : Terms = record { issued = issued; increment = step_or increment (unwrap_or period 0); period = unwrap_or period 0; max_ttl = max_ttl_of system_max max_ttl; explicit_max = unwrap_or explicit_max 0; reissued = unwrap_or reissued false } in
     let same : made ≡ t = cc in
     subst (TokenTerms system_max issued ms) same (record {
       issued = refl;
@@ -113,7 +115,8 @@ token_termed system_max index issued ms t e =
       period = (period, writes_is (span full 0 SPAN_MAX) (Some index) Period ms period b, refl);
       max_ttl = (max_ttl, writes_is (span full 0 SPAN_MAX) (Some index) MaxTtl ms max_ttl d, refl);
       explicit_max = (explicit_max, writes_is (span full 0 SPAN_MAX) (Some index) ExplicitMaxTtl ms explicit_max f, refl);
-    })))))
+      reissued = (reissued, writes_is flag_value (Some index) Reissued ms reissued g, refl);
+    }))))))
 
 record LeaseTerms (system_max from : ℕ) (ms : Members) (t : Terms) : Type 0 where
   issued : t.issued ≡ from
@@ -123,13 +126,15 @@ record LeaseTerms (system_max from : ℕ) (ms : Members) (t : Terms) : Type 0 wh
   period : t.period ≡ 0
   max_ttl : WritesMost system_max ms t.max_ttl
   explicit_max : t.explicit_max ≡ 0
+  reissued : WritesOr flag_value Reissued ms false t.reissued
 
 lease_termed : (system_max index issued : ℕ) (ms : Members) (t : Terms) → lease_terms full system_max index issued ms ≡ Ok t → LeaseTerms system_max issued ms t
 unfolding lease_terms
 lease_termed system_max index issued ms t e =
     bind_ok (value_at (span full 0 SPAN_MAX) (Some index) Increment ms) _ t e (λ increment a e1.
     bind_ok (value_at (span full 0 SPAN_MAX) (Some index) MaxTtl ms) _ t e1 (λ max_ttl d e3.
-    let made : Terms = record { issued = issued; increment = Some (unwrap_or increment STEP_ABSENT); period = 0; max_ttl = max_ttl_of system_max max_ttl; explicit_max = 0 } in
+    bind_ok (value_at flag_value (Some index) Reissued ms) _ t e3 (λ reissued g e4.
+    let made : Terms = record { issued = issued; increment = Some (unwrap_or increment STEP_ABSENT); period = 0; max_ttl = max_ttl_of system_max max_ttl; explicit_max = 0; reissued = unwrap_or reissued false } in
     let same : made ≡ t = cc in
     subst (LeaseTerms system_max issued ms) same (record {
       issued = refl;
@@ -139,7 +144,8 @@ lease_termed system_max index issued ms t e =
       period = refl;
       max_ttl = (max_ttl, writes_is (span full 0 SPAN_MAX) (Some index) MaxTtl ms max_ttl d, refl);
       explicit_max = refl;
-    })))
+      reissued = (reissued, writes_is flag_value (Some index) Reissued ms reissued g, refl);
+    }))))
 
 -- ---- the credential, or its file
 
@@ -233,6 +239,7 @@ token_row_is system_max g ms row read fits =
       period = terms.period;
       max_ttl = terms.max_ttl;
       explicit_max = terms.explicit_max;
+      reissued = terms.reissued;
       secret = secret_is (length g.entries) Secret SecretFile ms parts.name parts.secret parts.file parts.secret_read parts.file_read;
     })
 
@@ -266,5 +273,6 @@ lease_row_is system_max g ms row read fits =
       period = terms.period;
       max_ttl = terms.max_ttl;
       explicit_max = terms.explicit_max;
+      reissued = terms.reissued;
       lease_id = secret_is (length g.entries) LeaseId LeaseIdFile ms parts.name parts.lease_id parts.file parts.lease_id_read parts.file_read;
     })

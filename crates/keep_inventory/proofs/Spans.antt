@@ -1,5 +1,5 @@
 -- Spans: the step of a row that was read is a duration; step and ceiling are those of its terms.
-use Rattle.std.proofs.Common.{◌≡◌, ◌==◌, ◌&&◌, ℕ, ◌≤◌, Some, None, Option, Ok, refl, sym, subst, arith, unwrap_or, inl, inr}
+use Rattle.std.proofs.Common.{◌≡◌, ◌==◌, ◌&&◌, ℕ, ◌≤◌, false, Some, None, Option, Ok, refl, sym, subst, arith, unwrap_or, inl, inr}
 use Rattle.std.specs.Option.{is_some}
 use Rattle.std.proofs.lemmas.Bool.{cases_Bool, cond-true, cond-false}
 use Rattle.toml.specs.Data.{Members}
@@ -7,10 +7,10 @@ use Rattle.keep_tree.specs.declared.entry.Entry.{Entry}
 use Rattle.keep_tree.specs.Forest.{Forest}
 use Rattle.keep_inventory.specs.Languages.{Language, is_strict}
 use Rattle.keep_inventory.specs.declared.limits.TheConstants.{SPAN_MAX, STEP_ABSENT}
-use Rattle.keep_inventory.specs.declared.key.Key.TheVariants.{Increment, Period, MaxTtl, ExplicitMaxTtl}
+use Rattle.keep_inventory.specs.declared.key.Key.TheVariants.{Increment, Period, MaxTtl, ExplicitMaxTtl, Reissued}
 use Rattle.keep_inventory.specs.declared.row.Row.{Row}
 use Rattle.keep_inventory.specs.declared.terms.Terms.{Terms}
-use Rattle.keep_inventory.specs.Values.{has_if, span, value_at}
+use Rattle.keep_inventory.specs.Values.{flag_value, has_if, span, value_at}
 use Rattle.keep_inventory.specs.Rows.{lease_terms, step_or, token_terms}
 use Rattle.keep_inventory.specs.Terms.{ceiling_of, max_ttl_of, step_of}
 use Rattle.keep_inventory.proofs.Chains.{bind_ok}
@@ -40,12 +40,13 @@ token_terms_are l system_max index issued ms t e =
     bind_ok (has_if (is_strict l && (unwrap_or period 0 == 0)) index Increment (is_some increment)) _ t e2 (λ u c e3.
     bind_ok (value_at (span l 0 SPAN_MAX) (Some index) MaxTtl ms) _ t e3 (λ max_ttl d e4.
     bind_ok (value_at (span l 0 SPAN_MAX) (Some index) ExplicitMaxTtl ms) _ t e4 (λ explicit_max f e5.
-    let made : Terms = record { issued = issued; increment = step_or increment (unwrap_or period 0); period = unwrap_or period 0; max_ttl = max_ttl_of system_max max_ttl; explicit_max = unwrap_or explicit_max 0 } in
+    bind_ok (value_at flag_value (Some index) Reissued ms) _ t e5 (λ reissued g e6.
+    let made : Terms = record { issued = issued; increment = step_or increment (unwrap_or period 0); period = unwrap_or period 0; max_ttl = max_ttl_of system_max max_ttl; explicit_max = unwrap_or explicit_max 0; reissued = unwrap_or reissued false } in
     let same : made ≡ t = cc in
     subst AreSpans same (record {
       increment = step_or_within increment (unwrap_or period 0) (within_read l 0 SPAN_MAX 0 (omega arith, omega arith) (Some index) Increment ms increment a).1;
       period = (within_read l 0 SPAN_MAX 0 (omega arith, omega arith) (Some index) Period ms period b).1;
-    }))))))
+    })))))))
 
 lease_terms_are : (l : Language) (system_max index issued : ℕ) (ms : Members) (t : Terms) → lease_terms l system_max index issued ms ≡ Ok t → AreSpans t
 unfolding lease_terms
@@ -53,12 +54,13 @@ lease_terms_are l system_max index issued ms t e =
     bind_ok (value_at (span l 0 SPAN_MAX) (Some index) Increment ms) _ t e (λ increment a e1.
     bind_ok (has_if (is_strict l) index Increment (is_some increment)) _ t e1 (λ u b e2.
     bind_ok (value_at (span l 0 SPAN_MAX) (Some index) MaxTtl ms) _ t e2 (λ max_ttl d e3.
-    let made : Terms = record { issued = issued; increment = Some (unwrap_or increment STEP_ABSENT); period = 0; max_ttl = max_ttl_of system_max max_ttl; explicit_max = 0 } in
+    bind_ok (value_at flag_value (Some index) Reissued ms) _ t e3 (λ reissued g e4.
+    let made : Terms = record { issued = issued; increment = Some (unwrap_or increment STEP_ABSENT); period = 0; max_ttl = max_ttl_of system_max max_ttl; explicit_max = 0; reissued = unwrap_or reissued false } in
     let same : made ≡ t = cc in
     subst AreSpans same (record {
       increment = (within_read l 0 SPAN_MAX STEP_ABSENT (omega arith, omega arith) (Some index) Increment ms increment a).1;
       period = omega arith;
-    }))))
+    })))))
 
 -- a step that is a duration, and step and ceiling by the terms
 abbrev pub IsGood : Entry → Terms → Type 0

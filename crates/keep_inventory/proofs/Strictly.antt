@@ -18,7 +18,7 @@ use Rattle.keep_inventory.specs.declared.limits.TheConstants.{SPAN_MAX, SYSTEM_M
 use Rattle.keep_inventory.specs.declared.fault.InvFault.{InvFault}
 use Rattle.keep_inventory.specs.declared.fault.InvFault.TheVariants.{BadValue, UnknownKey}
 use Rattle.keep_inventory.specs.declared.key.Key.{Key}
-use Rattle.keep_inventory.specs.declared.key.Key.TheVariants.{SystemMax, Margin, Token, Lease, Issued, End, Renewable, Increment, Period, MaxTtl, ExplicitMaxTtl, Need, SecretFile, LeaseIdFile}
+use Rattle.keep_inventory.specs.declared.key.Key.TheVariants.{SystemMax, Margin, Token, Lease, Issued, End, Renewable, Increment, Period, MaxTtl, ExplicitMaxTtl, Reissued, Need, SecretFile, LeaseIdFile}
 use Rattle.keep_inventory.specs.declared.need.Need as needs
 use Rattle.keep_inventory.specs.declared.need.Need.TheVariants.{Always}
 use Rattle.keep_inventory.specs.declared.note.Note.{Note}
@@ -116,6 +116,10 @@ only_lifts keys key place ms u e =
     let all = keys_lift (is_one_of keys) (is_one_of (keys ++ key ∷ [])) (λ text. any_more (λ k. bytes_eq (key_text k) text) keys key) ms (only_is keys place ms u e) in
     ap (λ b. cond b (Ok tt) (Err (UnknownKey place))) all
 
+-- the two keys that the full language has besides
+file_lifts : (keys : List Key) (key : Key) (place : Option ℕ) (ms : Members) (u : Unit {0}) → only keys place ms ≡ Ok u → only ((keys ++ key ∷ []) ++ Reissued ∷ []) place ms ≡ Ok u
+file_lifts keys key place ms u e = only_lifts (keys ++ key ∷ []) Reissued place ms u (only_lifts keys key place ms u e)
+
 -- a key that no key of the table may be is not there
 absent_past : (o : Ordering) (d : Data) (x : Option Data) → (is_eq o ≡ true → ⊥) → x ≡ None → match_ordering o x (Some d) x ≡ None
 absent_past Less d x other e = e
@@ -179,10 +183,12 @@ token_terms_strict system_max index issued ms t e =
     bind_ok (has_if (unwrap_or period 0 == 0) index Increment (is_some increment)) _ t e2 (λ u c e3.
     bind_ok (value_at (span strict 0 SPAN_MAX) (Some index) MaxTtl ms) _ t e3 (λ max_ttl d e4.
     bind_ok (value_at (span strict 0 SPAN_MAX) (Some index) ExplicitMaxTtl ms) _ t e4 (λ explicit_max f e5.
+    bind_ok (value_at flag_value (Some index) Reissued ms) _ t e5 (λ reissued g e6.
     follow _ increment _ _ (span_read 0 SPAN_MAX (Some index) Increment ms increment a)
     (follow _ period _ _ (span_read 0 SPAN_MAX (Some index) Period ms period b)
     (follow _ max_ttl _ _ (span_read 0 SPAN_MAX (Some index) MaxTtl ms max_ttl d)
-    (follow _ explicit_max _ _ (span_read 0 SPAN_MAX (Some index) ExplicitMaxTtl ms explicit_max f) e5))))))))
+    (follow _ explicit_max _ _ (span_read 0 SPAN_MAX (Some index) ExplicitMaxTtl ms explicit_max f)
+    (follow _ reissued _ _ g e6))))))))))
 
 lease_terms_strict : (system_max index issued : ℕ) (ms : Members) (t : Terms) → lease_terms strict system_max index issued ms ≡ Ok t → lease_terms full system_max index issued ms ≡ Ok t
 unfolding lease_terms
@@ -190,8 +196,10 @@ lease_terms_strict system_max index issued ms t e =
     bind_ok (value_at (span strict 0 SPAN_MAX) (Some index) Increment ms) _ t e (λ increment a e1.
     bind_ok (has_if true index Increment (is_some increment)) _ t e1 (λ u b e2.
     bind_ok (value_at (span strict 0 SPAN_MAX) (Some index) MaxTtl ms) _ t e2 (λ max_ttl d e3.
+    bind_ok (value_at flag_value (Some index) Reissued ms) _ t e3 (λ reissued g e4.
     follow _ increment _ _ (span_read 0 SPAN_MAX (Some index) Increment ms increment a)
-    (follow _ max_ttl _ _ (span_read 0 SPAN_MAX (Some index) MaxTtl ms max_ttl d) e3))))
+    (follow _ max_ttl _ _ (span_read 0 SPAN_MAX (Some index) MaxTtl ms max_ttl d)
+    (follow _ reissued _ _ g e4))))))
 
 -- a need of the strict language is a moment
 until_good : (o : Option ℕ) → is_for_good (until_if o) ≡ false
@@ -224,7 +232,7 @@ token_strict system_max g ms row e =
     let n = length g.entries in
     let life = life_strict n ms p.life p.life_read in
     let none = absent (is_one_of (token_keys strict)) (key_text SecretFile) refl ms (only_is (token_keys strict) (Some n) ms p.known p.known_read) in (
-      follow _ p.known _ _ (only_lifts (token_keys strict) SecretFile (Some n) ms p.known p.known_read)
+      follow _ p.known _ _ (file_lifts (token_keys strict) SecretFile (Some n) ms p.known p.known_read)
           (follow _ p.name_if _ _ p.name_read
           (follow _ p.name _ _ p.name_there
           (follow _ p.parent _ _ p.parent_read
@@ -247,7 +255,7 @@ lease_strict system_max g ms row e =
     let n = length g.entries in
     let life = life_strict n ms p.life p.life_read in
     let none = absent (is_one_of (lease_keys strict)) (key_text LeaseIdFile) refl ms (only_is (lease_keys strict) (Some n) ms p.known p.known_read) in (
-      follow _ p.known _ _ (only_lifts (lease_keys strict) LeaseIdFile (Some n) ms p.known p.known_read)
+      follow _ p.known _ _ (file_lifts (lease_keys strict) LeaseIdFile (Some n) ms p.known p.known_read)
           (follow _ p.name_if _ _ p.name_read
           (follow _ p.name _ _ p.name_there
           (follow _ p.token_if _ _ p.token_read

@@ -8,7 +8,7 @@ use Rattle.keep_tree.specs.Push.{entry_refusal}
 use Rattle.keep_inventory.specs.declared.fault.InvFault.{InvFault}
 use Rattle.keep_inventory.specs.declared.fault.InvFault.TheVariants.{NotToml, MissingKey, UnknownKey, BadValue, Tree}
 use Rattle.keep_inventory.specs.declared.key.Key.{Key}
-use Rattle.keep_inventory.specs.declared.key.Key.TheVariants.{SystemMax, Margin, Token, Lease, Name, Parent, Issued, End, Renewable, Increment, Period, MaxTtl, ExplicitMaxTtl, Need, Secret, SecretFile, LeaseId, LeaseIdFile}
+use Rattle.keep_inventory.specs.declared.key.Key.TheVariants.{SystemMax, Margin, Token, Lease, Name, Parent, Issued, End, Renewable, Increment, Period, MaxTtl, ExplicitMaxTtl, Reissued, Need, Secret, SecretFile, LeaseId, LeaseIdFile}
 use Rattle.keep_inventory.specs.declared.limits.TheConstants.{SPAN_MAX, SYSTEM_MAX}
 use Rattle.keep_inventory.specs.declared.row.Row.{Row}
 use Rattle.keep_inventory.specs.Intake.{Intake, empty_intake, has_text, key_written}
@@ -78,6 +78,7 @@ token_faults i ms =
     ∷ bad (span full 0 SPAN_MAX) (Some i) Period ms
     ∷ bad (span full 0 SPAN_MAX) (Some i) MaxTtl ms
     ∷ bad (span full 0 SPAN_MAX) (Some i) ExplicitMaxTtl ms
+    ∷ bad flag_value (Some i) Reissued ms
     ∷ bad (need full) (Some i) Need ms
     ∷ bad credential (Some i) Secret ms
     ∷ bad path (Some i) SecretFile ms
@@ -99,6 +100,7 @@ lease_faults i ms =
     ∷ bad flag_value (Some i) Renewable ms
     ∷ bad (span full 0 SPAN_MAX) (Some i) Increment ms
     ∷ bad (span full 0 SPAN_MAX) (Some i) MaxTtl ms
+    ∷ bad flag_value (Some i) Reissued ms
     ∷ bad (need full) (Some i) Need ms
     ∷ bad credential (Some i) LeaseId ms
     ∷ bad path (Some i) LeaseIdFile ms

@@ -1,5 +1,5 @@
 -- What an inventory holds: a forest, and beside each entry the credential that is sent for it and its terms.
-use Rattle.std.specs.Prelude.{◌≡◌, ℕ, ◌<◌, ◌≤◌, List, [], None, length, slice_index_or, slice_set}
+use Rattle.std.specs.Prelude.{◌≡◌, ℕ, ◌<◌, ◌≤◌, false, List, [], None, length, slice_index_or, slice_set}
 use Rattle.std.specs.List.{All}
 use Rattle.keep_tree.specs.Forest.{Forest, entry_at}
 use Rattle.keep_tree.specs.Push.{IsForest}
@@ -14,7 +14,7 @@ pub record Inventory : Type 0 where
 
 -- what is read past the last entry
 abbrev pub empty_terms : Terms
-empty_terms = record { issued = 0; increment = None; period = 0; max_ttl = 0; explicit_max = 0 }
+empty_terms = record { issued = 0; increment = None; period = 0; max_ttl = 0; explicit_max = 0; reissued = false }
 
 -- the terms of an entry
 unfoldable pub terms_at : List Terms → ℕ → Terms

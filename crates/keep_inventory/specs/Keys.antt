@@ -4,7 +4,7 @@ use Rattle.std.specs.Prelude.{ℕ, Bool, true, ◌&&◌, List, [], ◌∷◌, co
 use Rattle.std.specs.List.{list_any}
 use Rattle.toml.specs.Data.{Members, no_members, member}
 use Rattle.keep_inventory.specs.declared.key.Key.{Key}
-use Rattle.keep_inventory.specs.declared.key.Key.TheVariants.{SystemMax, Margin, Token, Lease, Name, Parent, Issued, End, Renewable, Increment, Period, MaxTtl, ExplicitMaxTtl, Need, Secret, SecretFile, LeaseId, LeaseIdFile}
+use Rattle.keep_inventory.specs.declared.key.Key.TheVariants.{SystemMax, Margin, Token, Lease, Name, Parent, Issued, End, Renewable, Increment, Period, MaxTtl, ExplicitMaxTtl, Reissued, Need, Secret, SecretFile, LeaseId, LeaseIdFile}
 use Rattle.keep_inventory.specs.Languages.{Language, strict, full}
 
 -- the bytes of a key
@@ -22,6 +22,7 @@ key_text Increment = codes "increment"
 key_text Period = codes "period"
 key_text MaxTtl = codes "max_ttl"
 key_text ExplicitMaxTtl = codes "explicit_max_ttl"
+key_text Reissued = codes "reissued"
 key_text Need = codes "need"
 key_text Secret = codes "secret"
 key_text SecretFile = codes "secret_file"
@@ -36,10 +37,10 @@ is_one_of keys text = list_any (λ key. bytes_eq (key_text key) text) keys
 abbrev pub top_keys : List Key
 top_keys = SystemMax ∷ Margin ∷ Token ∷ Lease ∷ []
 
--- a key that names a file: the strict language has none
+-- a key that names a file, and the one that says that another program writes a new credential: the strict language has neither
 abbrev pub file_keys : Language → Key → List Key
 file_keys strict key = []
-file_keys full key = key ∷ []
+file_keys full key = key ∷ Reissued ∷ []
 
 -- the keys of a table `[[token]]`
 abbrev pub token_keys : Language → List Key

@@ -1,12 +1,12 @@
 -- A table `[[token]]` or `[[lease]]` of an inventory as an entry, in either language.
 -- Source: Vault, "Tokens"; Vault, "Lease, renew, and revoke"; the keys are this project's own.
-use Rattle.std.specs.Prelude.{ℕ, Bool, true, ◌==◌, ◌&&◌, ◌||◌, List, Option, Some, is_some, Result, Ok, unwrap_or, length, if◌then◌else◌, option_map}
+use Rattle.std.specs.Prelude.{ℕ, Bool, true, false, ◌==◌, ◌&&◌, ◌||◌, List, Option, Some, is_some, Result, Ok, unwrap_or, length, if◌then◌else◌, option_map}
 use Rattle.toml.specs.Data.{Members}
 use Rattle.keep_tree.specs.declared.entry.Kind.TheVariants as kind
 use Rattle.keep_tree.specs.Forest.{Forest, index_named}
 use Rattle.keep_inventory.specs.declared.fault.InvFault.{InvFault}
 use Rattle.keep_inventory.specs.declared.key.Key.{Key}
-use Rattle.keep_inventory.specs.declared.key.Key.TheVariants.{Token, Name, Parent, Issued, End, Renewable, Increment, Period, MaxTtl, ExplicitMaxTtl, Need, Secret, SecretFile, LeaseId, LeaseIdFile}
+use Rattle.keep_inventory.specs.declared.key.Key.TheVariants.{Token, Name, Parent, Issued, End, Renewable, Increment, Period, MaxTtl, ExplicitMaxTtl, Reissued, Need, Secret, SecretFile, LeaseId, LeaseIdFile}
 use Rattle.keep_inventory.specs.declared.limits.TheConstants.{SPAN_MAX, STEP_ABSENT}
 use Rattle.keep_inventory.specs.declared.need.Need as needs
 use Rattle.keep_inventory.specs.declared.note.Note.{Note}
@@ -46,14 +46,16 @@ token_terms l system_max index issued ms = do
   step_there ← has_if (is_strict l && (unwrap_or period 0 == 0)) index Increment (is_some increment)
   max_ttl ← value_at (span l 0 SPAN_MAX) (Some index) MaxTtl ms
   explicit_max ← value_at (span l 0 SPAN_MAX) (Some index) ExplicitMaxTtl ms
-  Ok (record { issued = issued; increment = step_or increment (unwrap_or period 0); period = unwrap_or period 0; max_ttl = max_ttl_of system_max max_ttl; explicit_max = unwrap_or explicit_max 0 })
+  reissued ← value_at flag_value (Some index) Reissued ms
+  Ok (record { issued = issued; increment = step_or increment (unwrap_or period 0); period = unwrap_or period 0; max_ttl = max_ttl_of system_max max_ttl; explicit_max = unwrap_or explicit_max 0; reissued = unwrap_or reissued false })
 
 unfoldable pub lease_terms : Language → ℕ → ℕ → ℕ → Members → Result Terms InvFault
 lease_terms l system_max index issued ms = do
   increment ← value_at (span l 0 SPAN_MAX) (Some index) Increment ms
   step_there ← has_if (is_strict l) index Increment (is_some increment)
   max_ttl ← value_at (span l 0 SPAN_MAX) (Some index) MaxTtl ms
-  Ok (record { issued = issued; increment = Some (unwrap_or increment STEP_ABSENT); period = 0; max_ttl = max_ttl_of system_max max_ttl; explicit_max = 0 })
+  reissued ← value_at flag_value (Some index) Reissued ms
+  Ok (record { issued = issued; increment = Some (unwrap_or increment STEP_ABSENT); period = 0; max_ttl = max_ttl_of system_max max_ttl; explicit_max = 0; reissued = unwrap_or reissued false })
 
 -- the path of the file that holds a credential, which may not be written beside the credential itself
 abbrev pub file_at : ℕ → Key → Bool → Members → Result (Option (List ℕ)) InvFault

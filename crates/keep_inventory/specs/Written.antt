@@ -7,7 +7,7 @@ use Rattle.keep_tree.specs.declared.entry.Kind.TheVariants as kind
 use Rattle.keep_tree.specs.declared.forest.TheConstants.{MARGIN_MAX}
 use Rattle.keep_tree.specs.Forest.{entry_at}
 use Rattle.keep_inventory.specs.declared.key.Key.{Key}
-use Rattle.keep_inventory.specs.declared.key.Key.TheVariants.{SystemMax, Margin, Token, Lease, Name, Parent, Issued, End, Renewable, Increment, Period, MaxTtl, ExplicitMaxTtl, Need, Secret, SecretFile, LeaseId, LeaseIdFile}
+use Rattle.keep_inventory.specs.declared.key.Key.TheVariants.{SystemMax, Margin, Token, Lease, Name, Parent, Issued, End, Renewable, Increment, Period, MaxTtl, ExplicitMaxTtl, Reissued, Need, Secret, SecretFile, LeaseId, LeaseIdFile}
 use Rattle.keep_inventory.specs.declared.limits.TheConstants.{SPAN_MAX, STEP_ABSENT, SYSTEM_MAX}
 use Rattle.keep_inventory.specs.declared.need.Need as needs
 use Rattle.keep_inventory.specs.declared.note.Note.{Note}
@@ -83,6 +83,7 @@ pub record IsToken (system_max : ℕ) (es : List Entry) (i : ℕ) (ms : Members)
   pub period : WritesOr (span full 0 SPAN_MAX) Period ms 0 t.period
   pub max_ttl : WritesMost system_max ms t.max_ttl
   pub explicit_max : WritesOr (span full 0 SPAN_MAX) ExplicitMaxTtl ms 0 t.explicit_max
+  pub reissued : WritesOr flag_value Reissued ms false t.reissued
   pub secret : IsSecret Secret SecretFile ms e.name sent note.file
 
 -- and those of a table `[[lease]]`
@@ -99,6 +100,7 @@ pub record IsLease (system_max : ℕ) (es : List Entry) (i : ℕ) (ms : Members)
   pub period : t.period ≡ 0
   pub max_ttl : WritesMost system_max ms t.max_ttl
   pub explicit_max : t.explicit_max ≡ 0
+  pub reissued : WritesOr flag_value Reissued ms false t.reissued
   pub lease_id : IsSecret LeaseId LeaseIdFile ms e.name sent note.file
 
 abbrev pub IsTokenAt : ℕ → Served → ℕ → Members → Type 0

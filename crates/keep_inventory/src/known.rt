@@ -40,6 +40,7 @@ pub fn only_token_keys(table: &Table, index: u32) -> Result<(), InvFault>
             Key::Need,
             Key::Secret,
             Key::SecretFile,
+            Key::Reissued,
         ],
         Some(index),
     )
@@ -62,6 +63,7 @@ pub fn only_lease_keys(table: &Table, index: u32) -> Result<(), InvFault>
             Key::Need,
             Key::LeaseId,
             Key::LeaseIdFile,
+            Key::Reissued,
         ],
         Some(index),
     )

@@ -55,6 +55,7 @@ pub fn told_terms(lookup: &Lookup, terms: Terms) -> Terms
             period: *period,
             max_ttl: terms.max_ttl,
             explicit_max: *explicit_max,
+            reissued: terms.reissued,
         },
         Lookup::Lease { issued, .. } => Terms {
             issued: *issued,

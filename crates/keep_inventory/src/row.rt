@@ -287,12 +287,14 @@ fn token_terms(
     let period = span_at(table, Some(index), Key::Period, 0, SPAN_MAX)?.unwrap_or(0);
     let longest = span_at(table, Some(index), Key::MaxTtl, 0, SPAN_MAX)?;
     let explicit_max = span_at(table, Some(index), Key::ExplicitMaxTtl, 0, SPAN_MAX)?;
+    let reissued = flag_at(table, Some(index), Key::Reissued)?;
     Ok(Terms {
         issued,
         increment: step_or(increment, period),
         period,
         max_ttl: max_ttl(system_max, longest),
         explicit_max: explicit_max.unwrap_or(0),
+        reissued: reissued.unwrap_or(false),
     })
 }
 
@@ -308,11 +310,13 @@ fn lease_terms(
 {
     let increment = span_at(table, Some(index), Key::Increment, 0, SPAN_MAX)?;
     let longest = span_at(table, Some(index), Key::MaxTtl, 0, SPAN_MAX)?;
+    let reissued = flag_at(table, Some(index), Key::Reissued)?;
     Ok(Terms {
         issued,
         increment: Some(increment.unwrap_or(STEP_ABSENT)),
         period: 0,
         max_ttl: max_ttl(system_max, longest),
         explicit_max: 0,
+        reissued: reissued.unwrap_or(false),
     })
 }

@@ -19,6 +19,8 @@ pub struct Terms {
     pub max_ttl: Span,
     /// The explicit max TTL, 0 where none is set.
     pub explicit_max: Span,
+    /// Whether another program issues it again in time, and hands in the new credential.
+    pub reissued: bool,
 }
 
 impl Terms {

@@ -87,6 +87,8 @@ first_of (Some what ∷ later) = Some what
 unfoldable pub limit_in : Subject → ℕ → ℕ → Option What
 limit_in s need i = first_of (map (limit_at s need) (chain s.inventory.forest.entries i))
 
--- why no renewal leads to the need of an entry that is not past
+-- why no renewal leads to the need of an entry that is not past; of one that is reissued it is said, and no doubt
 unfoldable pub limit : Subject → ℕ → Option What
-limit s i = let need = (entry_at s.inventory.forest.entries i).need in if nat_le need s.at then None else limit_in s need i
+limit s i =
+    let need = (entry_at s.inventory.forest.entries i).need in
+    if nat_le need s.at || (terms_at s.inventory.terms i).reissued then None else limit_in s need i

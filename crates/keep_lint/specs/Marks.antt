@@ -32,7 +32,7 @@ key_in word among = find (λ key. bytes_eq (key_text key) word) among
 -- the key of that text
 abbrev pub key_of : List ℕ → Option Key
 key_of word =
-    key_in word (keys.SystemMax ∷ keys.Margin ∷ keys.Token ∷ keys.Lease ∷ keys.Name ∷ keys.Parent ∷ keys.Issued ∷ keys.End ∷ keys.Renewable ∷ keys.Increment ∷ keys.Period ∷ keys.MaxTtl ∷ keys.ExplicitMaxTtl ∷ keys.Need ∷ keys.Secret ∷ keys.SecretFile ∷ keys.LeaseId ∷ keys.LeaseIdFile ∷ [])
+    key_in word (keys.SystemMax ∷ keys.Margin ∷ keys.Token ∷ keys.Lease ∷ keys.Name ∷ keys.Parent ∷ keys.Issued ∷ keys.End ∷ keys.Renewable ∷ keys.Increment ∷ keys.Period ∷ keys.MaxTtl ∷ keys.ExplicitMaxTtl ∷ keys.Reissued ∷ keys.Need ∷ keys.Secret ∷ keys.SecretFile ∷ keys.LeaseId ∷ keys.LeaseIdFile ∷ [])
 
 abbrev pub mark_by : Option Key → Mark
 mark_by (Some key) = marks.Key key

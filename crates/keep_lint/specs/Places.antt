@@ -52,6 +52,7 @@ is_of_entry keys.End = true
 is_of_entry keys.Renewable = true
 is_of_entry keys.Increment = true
 is_of_entry keys.MaxTtl = true
+is_of_entry keys.Reissued = true
 is_of_entry keys.Need = true
 is_of_entry key = false
 

@@ -41,7 +41,7 @@ fn plain_mend(what: What) -> &'static str {
         }
         What::PastEnd(_) => "issue the secret afresh before then",
         What::ShortLife(_, _) => {
-            "it is `short`, and not healthy, from its issue on: write the moment by which you issue it afresh"
+            "it is `short`, and not healthy, from its issue on: write reissued = true, or the moment by which you issue it afresh"
         }
         _ => "it is not renewed: add the moment until which it is needed",
     }

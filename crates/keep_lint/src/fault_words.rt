@@ -123,12 +123,14 @@ fn of_unknown(
 fn keys_of(kind: Option<Kind>) -> &'static str {
     match kind {
         Some(Kind::Lease) => {
-            "look for a misspelling; the keys are name, token, issued, end, renewable, increment, max_ttl, need, lease_id and lease_id_file"
+            "\
+look for a misspelling; the keys are name, token, issued, end, renewable, increment, max_ttl, reissued, need, lease_id and \
+lease_id_file"
         }
         _ => {
             "\
-look for a misspelling; the keys are name, parent, issued, end, renewable, increment, period, max_ttl, explicit_max_ttl, need, secret \
-and secret_file"
+look for a misspelling; the keys are name, parent, issued, end, renewable, increment, period, max_ttl, explicit_max_ttl, reissued, need, \
+secret and secret_file"
         }
     }
 }
@@ -185,7 +187,7 @@ fn expected(key: Key) -> &'static str {
         Key::Need => {
             "whole seconds since 1970, a date in quotes such as \"2027-01-31T08:00:00Z\", or \"always\""
         }
-        Key::Renewable => "true or false, without quotes",
+        Key::Renewable | Key::Reissued => "true or false, without quotes",
         Key::Secret | Key::LeaseId => {
             "1 to 256 printable ASCII characters without blanks, in quotes, and each entry once"
         }

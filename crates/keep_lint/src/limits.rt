@@ -13,14 +13,14 @@ use keep_tree::Entry;
 /// The longest life under which a need that is `always` is doubted, in seconds: a day.
 const SHORT_LIFE: u64 = 86_400;
 
-/// Why no renewal leads to the need of the entry at an index: the first such reason of it and of those over it.
+/// Why no renewal leads to the need of the entry at an index, unless it is reissued: the first such reason of it and of those over it.
 #[tactic(auto, unfolding(crate::specs::Limits::limit))]
 pub(crate) fn limit(subject: &Subject, index: u32) -> Option<What>
     requires { index < length subject.now.inventory.forest.entries }
     ensures { result ≡ limit subject.now index }
 {
     let need = subject.inventory.forest().get(index).need;
-    if need <= subject.at.get() {
+    if need <= subject.at.get() || subject.inventory.terms(index).reissued {
         return None;
     }
     limit_in(subject, need, index)

@@ -118,6 +118,7 @@ fn key_of(word: &[u8]) -> Option<Key>
             Key::Period,
             Key::MaxTtl,
             Key::ExplicitMaxTtl,
+            Key::Reissued,
             Key::Need,
             Key::Secret,
             Key::SecretFile,

@@ -153,6 +153,7 @@ fn is_of_entry(key: Key) -> bool
             | Key::Renewable
             | Key::Increment
             | Key::MaxTtl
+            | Key::Reissued
             | Key::Need
     )
 }

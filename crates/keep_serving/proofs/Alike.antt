@@ -126,7 +126,7 @@ until_in o = until_by o.command
 says_alike : (is_said : Bool) (mid other a b : Agent) → AreAgentsAlike mid other → SaysBy is_said mid a → SaysBy is_said other b → AreAgentsAlike a b
 says_alike true mid other a b alike one two =
     same_agents (all_said mid) (all_said other) a b one two
-    (record { machine = alike.machine; inventory = alike.inventory; standings = ap₂ (λ (m : WatchState) (xs : List Standing). said_standings m xs) alike.machine alike.standings; beginnings = alike.beginnings })
+    (record { machine = alike.machine; inventory = alike.inventory; standings = ap (λ (s : Inventory). said_standings other.machine s.terms other.standings) alike.inventory ∙ ap₂ (λ (m : WatchState) (xs : List Standing). said_standings m mid.inventory.terms xs) alike.machine alike.standings; beginnings = alike.beginnings })
 says_alike false mid other a b alike one two = same_agents mid other a b one two alike
 
 hands_alike :

@@ -8,10 +8,10 @@ use Rattle.keep_change.specs.declared.row.Row.{Row}
 pub same_bytes : (a b : List ℕ) → bytes_eq a b ≡ true → a ≡ b
 same_bytes a b e = (bytes_decides a b).0 e
 
-pub same_terms : (a b : Terms) → a.issued ≡ b.issued → a.increment ≡ b.increment → a.period ≡ b.period → a.max_ttl ≡ b.max_ttl → a.explicit_max ≡ b.explicit_max → a ≡ b
-same_terms a b issued increment period max_ttl explicit_max =
-    let both : ◌≡◌ {A = Terms} (record { issued = a.issued; increment = a.increment; period = a.period; max_ttl = a.max_ttl; explicit_max = a.explicit_max })
-    (record { issued = b.issued; increment = b.increment; period = b.period; max_ttl = b.max_ttl; explicit_max = b.explicit_max }) = cc in
+pub same_terms : (a b : Terms) → a.issued ≡ b.issued → a.increment ≡ b.increment → a.period ≡ b.period → a.max_ttl ≡ b.max_ttl → a.explicit_max ≡ b.explicit_max → a.reissued ≡ b.reissued → a ≡ b
+same_terms a b issued increment period max_ttl explicit_max reissued =
+    let both : ◌≡◌ {A = Terms} (record { issued = a.issued; increment = a.increment; period = a.period; max_ttl = a.max_ttl; explicit_max = a.explicit_max; reissued = a.reissued })
+    (record { issued = b.issued; increment = b.increment; period = b.period; max_ttl = b.max_ttl; explicit_max = b.explicit_max; reissued = b.reissued }) = cc in
     both
 
 pub same_row : (a b : Row) → a.name ≡ b.name → a.kind ≡ b.kind → a.parent ≡ b.parent → a.is_told ≡ b.is_told → a.end ≡ b.end → a.renewable ≡ b.renewable → a.terms ≡ b.terms → a.need ≡ b.need → a.credential ≡ b.credential → a.file ≡ b.file → a ≡ b

@@ -71,6 +71,7 @@ fn is_same_terms(terms: &Terms, other: &Terms) -> bool
         && terms.period == other.period
         && terms.max_ttl == other.max_ttl
         && terms.explicit_max == other.explicit_max
+        && terms.reissued == other.reissued
 }
 
 /// Whether two durations that may be absent are the same.

@@ -83,7 +83,11 @@ fn put_terms(alloc: Global, table: &mut Table, terms: &Terms) -> Result<(), Allo
     put_if(alloc, table, Key::Increment, terms.increment)?;
     put_some(alloc, table, Key::Period, terms.period)?;
     put_some(alloc, table, Key::MaxTtl, terms.max_ttl)?;
-    put_some(alloc, table, Key::ExplicitMaxTtl, terms.explicit_max)
+    put_some(alloc, table, Key::ExplicitMaxTtl, terms.explicit_max)?;
+    if !terms.reissued {
+        return Ok(());
+    }
+    put(alloc, table, Key::Reissued, Value::Boolean(true))
 }
 
 fn put_need(alloc: Global, table: &mut Table, need: &Need) -> Result<(), AllocError> {

@@ -7,4 +7,4 @@ use Rattle.keep_agent.proofs.shorts.say.Goals as goal
 
 pub returns-else-not-is_empty-clause-value : goal.returns-else-not-is_empty-clause-value
 returns-else-not-is_empty-clause-value c =
-    nothing_said c.args.watch.now c.args.standings.now (sym c.requires.shorts ∙ nil_from_length c.args.shorts.now (eqb-true _ _ (sym c.if-not-is_empty.ensures)))
+    nothing_said c.args.watch.now c.args.inventory.now.terms c.args.standings.now (sym c.requires.shorts ∙ nil_from_length c.args.shorts.now (eqb-true _ _ (sym c.if-not-is_empty.ensures)))

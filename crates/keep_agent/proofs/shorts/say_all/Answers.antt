@@ -8,11 +8,11 @@ use Rattle.keep_agent.proofs.Saying.{said_all, said_more, said_none}
 use Rattle.keep_agent.proofs.shorts.say_all.Goals as goal
 
 pub loop-entry-init : goal.loop-entry-init
-loop-entry-init c = record { said = said_none (said_standing c.args.watch.now) c.args.standings.now; bounds = c.requires.bounds }
+loop-entry-init c = record { said = said_none (said_standing c.args.watch.now c.args.inventory.now.terms) c.args.standings.now; bounds = c.requires.bounds }
 
 pub loop-entry-preserved : goal.loop-entry-preserved
 loop-entry-preserved c =
-    let f = said_standing c.args.watch.now in
+    let f = said_standing c.args.watch.now c.args.inventory.now.terms in
     let old = c.args.standings.now in
     let now = c.loop-entry.standings in
     let k = c.loop-entry.entry in
@@ -30,4 +30,4 @@ unfolding said_standings
 returns-clause-value c =
     let same = c.requires.count in
     let all : c.len-entry-end.result ≡ length c.args.watch.now.forest.entries = c.len-entry-end.ensures.value ∙ ap (λ (g : Forest). length g.entries) c.forest.ensures in
-    said_all (said_standing c.args.watch.now) c.args.standings.now c.loop-entry.standings c.loop-entry.entry c.loop-entry.invariant.said (omega (arith, all, same))
+    said_all (said_standing c.args.watch.now c.args.inventory.now.terms) c.args.standings.now c.loop-entry.standings c.loop-entry.entry c.loop-entry.invariant.said (omega (arith, all, same))

@@ -6,4 +6,4 @@ use Rattle.keep_agent.proofs.Saying.{Said}
 use Rattle.keep_agent.proofs.shorts.say_all.Given as goal
 
 abbrev pub invariant-loop-entry : goal.invariant-loop-entry
-invariant-loop-entry l = record { said : Said (said_standing l.watch) l.initial.standings l.standings l.entry; bounds : All IsStanding l.standings }
+invariant-loop-entry l = record { said : Said (said_standing l.watch l.inventory.terms) l.initial.standings l.standings l.entry; bounds : All IsStanding l.standings }

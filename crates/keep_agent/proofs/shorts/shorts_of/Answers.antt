@@ -1,6 +1,7 @@
 -- The news of one entry more.
 use Rattle.std.proofs.Common.{◌≡◌, ◌∙◌, ◌++◌, ℕ, List, ap, arith, flat_map, length}
 use Rattle.std.specs.List.{range_with_len}
+use Rattle.keep_inventory.specs.Inventories.{terms_at}
 use Rattle.keep_tree.specs.Forest.{Forest}
 use Rattle.keep_agent.specs.declared.shorts.Short.{Short}
 use Rattle.keep_agent.specs.Shorts.{news_in, short_at, shorts_in}
@@ -10,15 +11,15 @@ use Rattle.keep_agent.proofs.shorts.shorts_of.Goals as goal
 
 pub loop-entry-preserved : goal.loop-entry-preserved
 loop-entry-preserved c =
-    let f : ℕ → List Short = λ i. short_at i (news_in c.args.watch.now i (standing_in c.args.standings.now i).short) in
+    let f : ℕ → List Short = λ i. short_at i (terms_at c.args.inventory.now.terms i).reissued (news_in c.args.watch.now c.args.inventory.now.terms i (standing_in c.args.standings.now i).short) in
     let k = c.loop-entry.entry in
-    c.in_ok-push_short.ensures ∙ ap (λ xs. xs ++ short_at k c.news_in-news.result) c.loop-entry.invariant
-    ∙ ap (λ o. flat_map f (range_with_len 0 k) ++ short_at k o) c.news_in-news.ensures ∙ news_more f k
+    c.in_ok-push_short.ensures ∙ ap (λ xs. xs ++ short_at k (terms_at c.args.inventory.now.terms k).reissued c.news_in-news.result) c.loop-entry.invariant
+    ∙ ap (λ o. flat_map f (range_with_len 0 k) ++ short_at k (terms_at c.args.inventory.now.terms k).reissued o) c.news_in-news.ensures ∙ news_more f k
 
 pub returns : goal.returns
 unfolding shorts_in
 returns c =
-    let f : ℕ → List Short = λ i. short_at i (news_in c.args.watch.now i (standing_in c.args.standings.now i).short) in
+    let f : ℕ → List Short = λ i. short_at i (terms_at c.args.inventory.now.terms i).reissued (news_in c.args.watch.now c.args.inventory.now.terms i (standing_in c.args.standings.now i).short) in
     let count : c.len-entry-end.result ≡ length c.args.watch.now.forest.entries = c.len-entry-end.ensures.value ∙ ap (λ (g : Forest). length g.entries) c.forest.ensures in
-    let same = c.requires in
+    let same = c.requires.count in
     c.loop-entry.invariant ∙ ap (λ n. flat_map f (range_with_len 0 n)) (let e : c.loop-entry.entry ≡ length c.args.standings.now = omega (arith, count, same) in e)
