@@ -20,6 +20,9 @@ use Rattle.keep_inventory.specs.Bare.{DocumentsAreAlike}
 use Rattle.keep_inventory.specs.Inventory.{read_served}
 use Rattle.keep_inventory.specs.Served.{Served}
 use Rattle.keep_inventory.specs.declared.fault.InvFault.{InvFault}
+use Rattle.keep_inventory.specs.declared.fault.InvFault.TheVariants.{NotToml}
+use Rattle.keep_lint.specs.Marks.{marks_of}
+use Rattle.keep_lint.proofs.Alike.{said_alike}
 use Rattle.keep_inventory.specs.declared.note.Note as entries
 use Rattle.keep_notes.proofs.Secrecy.{note_shows_none}
 use Rattle.keep_notes.specs.Laws.{IsSameBut}
@@ -35,7 +38,7 @@ use Rattle.watch_machine.specs.State.{WatchState}
 use Rattle.house_laws.specs.Alike.{AgentsAreAlike, FilesAreAlike, IsRecordBut, JudgedAlike, RecordsAreAlike, RowsAreAlike, SecretsAreAlike, ServedAreAlike}
 use Rattle.keep_house.specs.Commands.{end_known_at, end_named}
 use Rattle.house_words.specs.Filling.{AreUnfilled, CannotFill, FillsFrom, FillsRow, IsFaultOfRow}
-use Rattle.house_words.specs.Noting.{AreWhysNotServed, left_lines, said_faults, said_notes}
+use Rattle.house_words.specs.Noting.{AreWhysNotServed, IsAlone, left_lines, said_faults, said_notes}
 use Rattle.house_words.specs.Starts.{bare_at, bare_faults, fault_list, least_margin, margin_fault, written_faults}
 use Rattle.house_words.specs.Telling.{replaced_text}
 use Rattle.house_words.specs.VerdictWords.{kept_words}
@@ -135,6 +138,20 @@ pub whys_alike : (d : Demands) (bytes other : List ℕ) (v w : Served) (faults :
     AreWhysNotServed d bytes faults whys → AreWhysNotServed d other faults more → more ≡ whys
 whys_alike d bytes other v w faults whys more alike reads others h k =
     said_of_read d other w faults more others k ∙ ap (λ (g : Forest). said_faults d g faults) (forests_alike bytes other v w alike reads others) ∙ sym (said_of_read d bytes v faults whys reads h)
+
+-- of a text that is no inventory
+said_of_none : (d : Demands) (bytes : List ℕ) (why : InvFault) (faults : List StartFault) (whys : List (List ℕ)) → read_served bytes ≡ Err why → AreWhysNotServed d bytes faults whys → IsAlone bytes why whys
+said_of_none d bytes why faults whys reads (inl h) =
+    let same : h.0 ≡ why = let both : ◌≡◌ {A = Result Served InvFault} (Err h.0) (Err why) = sym h.1.0 ∙ reads in cc in
+    subst (λ (w : InvFault). IsAlone bytes w whys) same h.1.1
+said_of_none d bytes why faults whys reads (inr h) = absurd (let no : ◌≡◌ {A = Result Served InvFault} (Ok h.0) (Err why) = sym h.1.0 ∙ reads in cc)
+
+pub faulty_alike : (d : Demands) (bytes other : List ℕ) (why : InvFault) (faults others : List StartFault) (whys more : List (List ℕ)) → DocumentsAreAlike bytes other → marks_of other ≡ marks_of bytes → (why ≡ NotToml → ⊥) →
+    read_served bytes ≡ Err why → read_served other ≡ Err why → AreWhysNotServed d bytes faults whys → AreWhysNotServed d other others more → more ≡ whys
+faulty_alike d bytes other why faults others whys more alike marks no reads also h k =
+    let one = said_of_none d bytes why faults whys reads h in
+    let two = said_of_none d other why others more also k in
+    two.1.1 ∙ ap (λ (w : List ℕ). w ∷ []) (said_alike bytes other why one.0 two.0 alike marks no one.1.0 two.1.0) ∙ sym one.1.1
 
 bare_alike : (v w : Served) → ServedAreAlike v w → (i : ℕ) (notes : List entries.Note) → bare_faults w i notes ≡ bare_faults v i notes
 bare_alike v w h i [] = refl

@@ -1,7 +1,7 @@
 -- Alike: what is said of two agents, changes, journals, files and secrets that differ in credentials alone. Each law is the contract of a
 -- public function without a body.
 -- Source: this project's own.
-use Rattle.std.specs.Prelude.{◌≡◌, ◌⊎◌, ℕ, List, [], ◌∷◌, Option, Some, Ok, bytes_eq}
+use Rattle.std.specs.Prelude.{◌≡◌, ◌⊎◌, ℕ, List, [], ◌∷◌, Option, Some, Ok, Err, bytes_eq}
 use Rattle.keep_agent.specs.Agent.{Agent}
 use Rattle.keep_agent.specs.declared.shorts.Short.{Short}
 use Rattle.keep_agent.specs.declared.standing.Trouble.{Trouble}
@@ -18,7 +18,10 @@ use Rattle.keep_inventory.specs.Inventories.{credential_at}
 use Rattle.keep_inventory.specs.Inventory.{read_served}
 use Rattle.keep_inventory.specs.Laws.{DifferInCredentials}
 use Rattle.keep_inventory.specs.Served.{Served}
+use Rattle.keep_inventory.specs.declared.fault.InvFault.{InvFault}
+use Rattle.keep_inventory.specs.declared.fault.InvFault.TheVariants.{NotToml}
 use Rattle.keep_lines.specs.Text.{name_of}
+use Rattle.keep_lint.specs.Marks.{marks_of}
 use Rattle.keep_notes.specs.Laws.{IsSameBut}
 use Rattle.keep_proving.specs.declared.verdict.Verdict.{Verdict}
 use Rattle.keep_secrets.specs.Looking.{is_held}
@@ -142,6 +145,12 @@ abbrev pub WhysAlike : Type 0
 WhysAlike =
     (d : Demands) (bytes other : List ℕ) (v w : Served) (faults : List StartFault) (whys more : List (List ℕ)) → DocumentsAreAlike bytes other → read_served bytes ≡ Ok v → read_served other ≡ Ok w →
     AreWhysNotServed d bytes faults whys → AreWhysNotServed d other faults more → more ≡ whys
+
+-- why it is no inventory, for the same fault, where its lines begin the same
+abbrev pub FaultyAlike : Type 0
+FaultyAlike =
+    (d : Demands) (bytes other : List ℕ) (why : InvFault) (faults others : List StartFault) (whys more : List (List ℕ)) → DocumentsAreAlike bytes other → marks_of other ≡ marks_of bytes → (why ≡ NotToml → ⊥) →
+    read_served bytes ≡ Err why → read_served other ≡ Err why → AreWhysNotServed d bytes faults whys → AreWhysNotServed d other others more → more ≡ whys
 
 -- and at a start
 abbrev pub StartAlike : Type 0

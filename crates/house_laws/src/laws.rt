@@ -1,7 +1,7 @@
 //! Laws of what a house says.
 ghost use Rattle.house_laws.specs.Alike.{AnsweredAlike, CarriedAlike, ClockedAlike, NeedAlike, NextAlike, ShortsAlike};
 ghost use Rattle.house_laws.specs.Alike.{EndAlike, KeepsAlike, RefusedAlike, ReplacedAlike, ReplacedOfAlike};
-ghost use Rattle.house_laws.specs.Alike.{JudgedAlike, NewsAlike, NotesAlike, StartAlike, UnfilledAlike, WhysAlike, WrittenAlike};
+ghost use Rattle.house_laws.specs.Alike.{FaultyAlike, JudgedAlike, NewsAlike, NotesAlike, StartAlike, UnfilledAlike, WhysAlike, WrittenAlike};
 ghost use Rattle.house_laws.specs.Disks.{AsksLittleLaw, EndsLaw, LedgerLaw, SparesLaw};
 ghost use Rattle.house_laws.specs.Tried.{BehindTriesLaw, DayTriesLaw, TriesLaw};
 
@@ -40,6 +40,7 @@ pub fn no_credential_is_told()
 pub fn no_credential_of_a_file_is_said()
     ensures notes { NotesAlike }
     ensures whys { WhysAlike }
+    ensures faulty { FaultyAlike }
     ensures start { StartAlike }
     ensures written { WrittenAlike }
     ensures unfilled { UnfilledAlike }

@@ -6,7 +6,7 @@ use Rattle.keep_change.specs.declared.replaying.Note.{Note}
 use Rattle.keep_inventory.specs.Inventory.{read_served}
 use Rattle.keep_inventory.specs.Served.{Served}
 use Rattle.keep_inventory.specs.declared.fault.InvFault.{InvFault}
-use Rattle.keep_report.specs.FaultLine.{inventory_words}
+use Rattle.keep_lint.specs.FaultWords.{IsSaidOf}
 use Rattle.keep_state.specs.Noted.{note_lines}
 use Rattle.keep_tree.specs.Forest.{Forest}
 use Rattle.house_words.specs.Reasons.{file_words, left_words, more_words}
@@ -29,7 +29,11 @@ more_faults left = if left == 0 then [] else more_words left ∷ []
 unfoldable pub said_faults : Demands → Forest → List StartFault → List (List ℕ)
 said_faults d g faults = map (file_words d g) (take 100 faults) ++ more_faults (length faults - 100)
 
+-- what is said of a text that is no inventory, alone
+abbrev pub IsAlone : List ℕ → InvFault → List (List ℕ) → Type 0
+IsAlone bytes why whys = (said : List ℕ) × (IsSaidOf bytes why said × (whys ≡ said ∷ []))
+
 -- why a file with these bytes is not served: its one fault as an inventory; or these faults of the entries that it writes
 abbrev pub AreWhysNotServed : Demands → List ℕ → List StartFault → List (List ℕ) → Type 0
 AreWhysNotServed d bytes faults whys =
-    ((why : InvFault) × ((read_served bytes ≡ Err why) × (whys ≡ inventory_words why ∷ []))) ⊎ ((v : Served) × ((read_served bytes ≡ Ok v) × (whys ≡ said_faults d v.inventory.forest faults)))
+    ((why : InvFault) × ((read_served bytes ≡ Err why) × IsAlone bytes why whys)) ⊎ ((v : Served) × ((read_served bytes ≡ Ok v) × (whys ≡ said_faults d v.inventory.forest faults)))

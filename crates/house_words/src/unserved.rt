@@ -7,8 +7,9 @@ ghost use Rattle.house_words.specs.Rereading.{SaysIfFaulty};
 use crate::all_faults::faults_as_written;
 use crate::demands::Demands;
 use crate::fault::StartFault;
-use crate::reasons::{file_words, inventory_words};
+use crate::reasons::file_words;
 use keep_inventory::{InvFault, read_served};
+use keep_lint::words_of_fault;
 use keep_moment::Text;
 use keep_tree::Forest;
 use keep_words::push_number;
@@ -47,7 +48,7 @@ fn words_of(
     match read_served(alloc, bytes) {
         Ok(served) => said_faults(alloc, demands, served.inventory().forest(), faults),
         Err(InvFault::OutOfMemory) => Err(AllocError),
-        Err(fault) => alone(alloc, inventory_words(alloc, fault)?),
+        Err(fault) => alone(alloc, words_of_fault(alloc, bytes, fault)?),
     }
 }
 

@@ -58,7 +58,7 @@ found_in : (k l : List ℕ) (d : Data) (ms : Members) (b : Bool) → (b ≡ true
 found_in k l d ms true other e = found_past (slice_cmp nat_cmp k l) d _ _ (other refl) e
 found_in k l d ms false other e = found_here (slice_cmp nat_cmp k l) d _ _ e
 
-bare_found : (k : List ℕ) → is_secret_key k ≡ false → (ms : Members) → get_member k (bare_members ms) ≡ option_map bare_value (get_member k ms)
+pub bare_found : (k : List ℕ) → is_secret_key k ≡ false → (ms : Members) → get_member k (bare_members ms) ≡ option_map bare_value (get_member k ms)
 bare_found k stays no_members = refl
 bare_found k stays (member l d ms) = found_in k l d ms (is_secret_key l) (λ goes. other_key k l stays goes) (bare_found k stays ms)
 

@@ -5,3 +5,6 @@ pub mod Limits
 pub mod Judging
 pub mod Subjects
 pub mod Doubts
+pub mod FaultPlaces
+pub mod FaultNames
+pub mod FaultWords

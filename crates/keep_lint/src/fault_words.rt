@@ -1,126 +1,308 @@
 //! What is said of a text that is no inventory: its first fault, with its place and what helps. No part of a value is in it, since that
-//! may be a credential.
+//! may be a credential; the name of an entry is, unless it may be a token's value.
+ghost use Rattle.std.specs.Prelude.{◌≡◌, ◌≤◌, ◌++◌, IfOk, codes, length, string_bytes};
+ghost use Rattle.std.specs.Str.{is_utf8};
+ghost use Rattle.keep_inventory.specs.Keys.{key_text};
+ghost use Rattle.keep_lint.specs.FaultPlaces.{IsSomeLine, line_at};
+ghost use Rattle.keep_lint.specs.FaultWords.{IsLineOf, IsSaidOf, called_of, entry_of, expected, expected_at, expected_of_top, fault_entry, fault_key, fault_mend, fault_problem, keys_words, over_key, syntax_mend, syntax_problem, tree_key, tree_key_text, tree_mend, tree_problem, unknown_mend, unknown_problem, value_problem};
+
+use crate::fault_names::called_if;
 use crate::finding::{Finding, Severity};
-use crate::naming::label;
-use crate::place::{has_key, kind_of, line_of, other_table_line, unknown_line};
+use crate::place::{has_key, kind_of, line_of, unknown_line, unknown_top_line};
+use crate::printing::{push_line_number, push_words};
+use crate::reading::places_of;
 use crate::subject::Places;
-use keep_inventory::{InvFault, Key, read_document};
+use keep_inventory::{InvFault, Key};
+use keep_moment::Text;
 use keep_tree::{Kind, TreeFault};
 use std::alloc::{AllocError, Global};
-use toml::{Table, Value};
 
-/// What is said of the first fault of a text that is no inventory. The only error is lack of memory.
+/// What is said of the first fault of a text that is no inventory, in one line. The only error is lack of memory, here and in what
+/// follows.
+pub fn words_of_fault(alloc: Global, bytes: &[u8], fault: InvFault) -> Result<Text, AllocError>
+    ensures { IfOk result (IsSaidOf bytes.now fault) }
+{
+    let places = places_of(alloc, bytes)?;
+    let finding = finding_of_fault(alloc, bytes, &places, fault)?;
+    let mut text = Vec::new(alloc);
+    push_line_number(alloc, finding.line, &mut text)?;
+    push_words(&finding, &mut text)?;
+    Ok(Text::from_vec(text))
+}
+
+/// The same as a finding, where the text has what.
 pub fn finding_of_fault(
     alloc: Global,
     bytes: &[u8],
     places: &Places,
     fault: InvFault,
-) -> Result<Finding, AllocError> {
+) -> Result<Finding, AllocError>
+    ensures line { IfOk result (λ f. IsLineOf bytes.now places.now.marks.items places.now.heads.items fault f.line) }
+    ensures entry { IfOk result (λ f. string_bytes f.entry ≡ fault_entry bytes.now fault) }
+    ensures key { IfOk result (λ f. f.key.now ≡ fault_key places.now.marks.items places.now.heads.items fault) }
+    ensures problem { IfOk result (λ f. string_bytes f.problem ≡ fault_problem bytes.now fault) }
+    ensures mend { IfOk result (λ f. string_bytes f.mend ≡ fault_mend bytes.now places.now.marks.items places.now.heads.items fault) }
+{
+    if matches!(fault, InvFault::OutOfMemory) {
+        return Err(AllocError);
+    }
+    Ok(Finding {
+        severity: Severity::Fault,
+        line: line_of_fault(alloc, bytes, places, fault)?,
+        entry: called_of(alloc, bytes, entry_of(fault))?,
+        key: key_of(places, fault),
+        problem: String::from_str(alloc, problem_of(bytes, fault))?,
+        mend: mend_of(alloc, bytes, places, fault)?,
+    })
+}
+
+// ---- where
+
+fn line_of_fault(
+    alloc: Global,
+    bytes: &[u8],
+    places: &Places,
+    fault: InvFault,
+) -> Result<u64, AllocError>
+    ensures { IfOk result (IsLineOf bytes.now places.now.marks.items places.now.heads.items fault) }
+{
     match fault {
-        InvFault::NotToml => of_syntax(alloc, bytes),
-        InvFault::MissingKey(entry, key) => of_missing(alloc, bytes, places, entry, key),
-        InvFault::UnknownKey(None) => of_unknown_top(alloc, places),
-        InvFault::UnknownKey(Some(entry)) => of_unknown(alloc, bytes, places, entry),
-        InvFault::BadValue(entry, key) => of_value(alloc, bytes, places, entry, key),
-        InvFault::Tree(entry, fault) => of_tree(alloc, bytes, places, entry, fault),
-        InvFault::OutOfMemory => Err(AllocError),
+        InvFault::NotToml => syntax_line(alloc, bytes),
+        InvFault::MissingKey(entry, key) => Ok(line_of(places, Some(entry), key)),
+        InvFault::UnknownKey(None) => Ok(unknown_top_line(places)),
+        InvFault::UnknownKey(Some(entry)) => Ok(unknown_line(places, Some(entry))),
+        InvFault::BadValue(entry, key) => Ok(line_of(places, entry, key)),
+        InvFault::Tree(entry, fault) => {
+            let key = tree_key(places, entry, fault);
+            Ok(line_of(places, Some(entry), key))
+        }
+        InvFault::OutOfMemory => Ok(0),
     }
 }
 
-fn of_syntax(alloc: Global, bytes: &[u8]) -> Result<Finding, AllocError> {
+// The line at which the text stops being TOML; 0 where it is not UTF-8.
+#[tactic(auto, using(crate::proofs::Said::no_line, crate::proofs::Said::some_line))]
+fn syntax_line(alloc: Global, bytes: &[u8]) -> Result<u64, AllocError>
+    ensures { IfOk result (IsSomeLine bytes.now) }
+{
     let Ok(text) = std::str::from_utf8(bytes) else {
-        return whole(alloc, 0, "the file is not UTF-8", "save it as UTF-8");
+        return Ok(0);
     };
-    let at = match toml::table_from_str(alloc, text) {
-        Ok(_) => None,
-        Err(error) => error.span(),
-    };
-    let line = match at {
-        None => 0,
-        Some(range) => line_at(bytes, range.start),
-    };
-    whole(
-        alloc,
-        line,
-        "the file is not a TOML document",
-        "correct the syntax there: texts and dates stand between straight quotes",
-    )
+    match toml::table_from_str(alloc, text) {
+        Ok(_) => Ok(0),
+        Err(error) => match error.span() {
+            None => Err(AllocError),
+            Some(range) => Ok(line_at(bytes, range.start)),
+        },
+    }
 }
 
 // The number of the line that has the byte at an index.
-fn line_at(bytes: &[u8], at: usize) -> u64 {
-    let mut line: u64 = 1;
-    for index in 0..bytes.len().min(at) {
-        if bytes[index] == b'\n' {
-            line = line.saturating_add(1);
+fn line_at(bytes: &[u8], at: usize) -> u64
+    requires { at ≤ length bytes.now }
+    ensures { result ≡ line_at bytes.now at }
+{
+    let before = &bytes[..at];
+    before.iter().filter(|byte| **byte == b'\n').count() as u64 + 1
+}
+
+// The index of the entry of a fault.
+fn entry_of(fault: InvFault) -> Option<u32>
+    ensures { result ≡ entry_of fault }
+{
+    match fault {
+        InvFault::MissingKey(entry, _) | InvFault::Tree(entry, _) => Some(entry),
+        InvFault::UnknownKey(entry) | InvFault::BadValue(entry, _) => entry,
+        InvFault::NotToml | InvFault::OutOfMemory => None,
+    }
+}
+
+fn called_of(alloc: Global, bytes: &[u8], entry: Option<u32>) -> Result<String, AllocError>
+    ensures { IfOk result (λ text. string_bytes text ≡ called_of bytes.now entry) }
+{
+    match entry {
+        None => Ok(String::new(alloc)),
+        Some(entry) => called_if(alloc, bytes, entry),
+    }
+}
+
+fn key_of(places: &Places, fault: InvFault) -> &'static str
+    ensures { result.now ≡ fault_key places.now.marks.items places.now.heads.items fault }
+{
+    match fault {
+        InvFault::MissingKey(_, key) | InvFault::BadValue(_, key) => key.text(),
+        InvFault::Tree(entry, fault) => tree_key_text(places, entry, fault),
+        InvFault::NotToml | InvFault::UnknownKey(_) | InvFault::OutOfMemory => "",
+    }
+}
+
+fn tree_key_text(places: &Places, entry: u32, fault: TreeFault) -> &'static str
+    ensures { result.now ≡ tree_key_text places.now.marks.items places.now.heads.items entry fault }
+{
+    match fault {
+        TreeFault::Full => "",
+        _ => tree_key(places, entry, fault).text(),
+    }
+}
+
+// The key that a fault of the tree of entries is about.
+#[tactic(auto, unfolding(crate::specs::FaultWords::tree_key))]
+fn tree_key(places: &Places, entry: u32, fault: TreeFault) -> Key
+    ensures { result ≡ tree_key places.now.marks.items places.now.heads.items entry fault }
+{
+    match fault {
+        TreeFault::NoParent
+        | TreeFault::ParentIsLease
+        | TreeFault::LeaseWithoutToken
+        | TreeFault::TooDeep => over_key(kind_of(places, entry)),
+        TreeFault::StepTooSmall => {
+            if has_key(places, entry, Key::Period) {
+                Key::Period
+            } else {
+                Key::Increment
+            }
+        }
+        TreeFault::OutOfRange => Key::MaxTtl,
+        TreeFault::BadName | TreeFault::NameTwice | TreeFault::Full | TreeFault::OutOfMemory => {
+            Key::Name
         }
     }
-    line
 }
 
-// A fault of the file, and not of an entry or a key.
-fn whole(alloc: Global, line: u64, problem: &str, mend: &str) -> Result<Finding, AllocError> {
-    Ok(Finding {
-        severity: Severity::Fault,
-        line,
-        entry: String::new(alloc),
-        key: "",
-        problem: String::from_str(alloc, problem)?,
-        mend: String::from_str(alloc, mend)?,
-    })
+fn over_key(kind: Option<Kind>) -> Key
+    ensures { result ≡ over_key kind }
+{
+    match kind {
+        Some(Kind::Lease) => Key::Token,
+        _ => Key::Parent,
+    }
 }
 
-fn of_missing(
-    alloc: Global,
-    bytes: &[u8],
-    places: &Places,
-    entry: u32,
-    key: Key,
-) -> Result<Finding, AllocError> {
-    let word = key.text();
-    let mend = format!(in alloc; "add {word}: {}", expected(key))?;
-    Ok(Finding {
-        severity: Severity::Fault,
-        line: line_of(places, Some(entry), key),
-        entry: entry_label(alloc, bytes, entry)?,
-        key: word,
-        problem: String::from_str(alloc, "is missing")?,
-        mend,
-    })
+// ---- what is wrong
+
+fn problem_of(bytes: &[u8], fault: InvFault) -> &'static str
+    ensures { result.now ≡ fault_problem bytes.now fault }
+{
+    match fault {
+        InvFault::NotToml => syntax_problem(is_utf8(bytes)),
+        InvFault::MissingKey(_, _) => "is missing",
+        InvFault::UnknownKey(entry) => unknown_problem(entry),
+        InvFault::BadValue(entry, key) => value_problem(entry, key),
+        InvFault::Tree(_, fault) => tree_problem(fault),
+        InvFault::OutOfMemory => "memory",
+    }
 }
 
-fn of_unknown_top(alloc: Global, places: &Places) -> Result<Finding, AllocError> {
-    let found = unknown_line(places, None);
-    let line = if found == 0 {
-        other_table_line(places)
+fn is_utf8(bytes: &[u8]) -> bool
+    ensures { result ≡ is_utf8 bytes.now }
+{
+    std::str::from_utf8(bytes).is_ok()
+}
+
+fn syntax_problem(is_utf8: bool) -> &'static str
+    ensures { result.now ≡ syntax_problem is_utf8 }
+{
+    if is_utf8 {
+        "the file is not a TOML document"
     } else {
-        found
-    };
-    whole(
-        alloc,
-        line,
-        "a key or a table is none of an inventory",
-        "look for a misspelling; the keys are margin and system_max, the tables [[token]] and [[lease]]",
-    )
+        "the file is not UTF-8"
+    }
 }
 
-fn of_unknown(
+fn unknown_problem(entry: Option<u32>) -> &'static str
+    ensures { result.now ≡ unknown_problem entry }
+{
+    match entry {
+        None => "a key or a table is none of an inventory",
+        Some(_) => "has a key that is none of this table",
+    }
+}
+
+#[tactic(auto, unfolding(crate::specs::FaultWords::value_problem))]
+fn value_problem(entry: Option<u32>, key: Key) -> &'static str
+    ensures { result.now ≡ value_problem entry key }
+{
+    match (entry, key) {
+        (None, Key::Token | Key::Lease) => "is not an array of tables",
+        (_, Key::Secret | Key::LeaseId) => "is none, or another entry of this kind has it",
+        (_, Key::SecretFile | Key::LeaseIdFile) => {
+            "is no path, or stands beside the credential itself"
+        }
+        _ => "is of the wrong type or out of range",
+    }
+}
+
+#[tactic(auto, unfolding(crate::specs::FaultWords::tree_problem))]
+fn tree_problem(fault: TreeFault) -> &'static str
+    ensures { result.now ≡ tree_problem fault }
+{
+    match fault {
+        TreeFault::BadName => "is no name",
+        TreeFault::NameTwice => "occurs twice",
+        TreeFault::NoParent => "names no token above this table",
+        TreeFault::ParentIsLease => "names a lease",
+        TreeFault::LeaseWithoutToken => "is missing",
+        TreeFault::StepTooSmall => "is not greater than the margin",
+        TreeFault::OutOfRange => "leads past the last moment",
+        TreeFault::TooDeep => "is the 65th of its chain",
+        TreeFault::Full => "is one more than the 4096 entries allowed",
+        TreeFault::OutOfMemory => "memory",
+    }
+}
+
+// ---- what helps
+
+fn mend_of(
     alloc: Global,
     bytes: &[u8],
     places: &Places,
-    entry: u32,
-) -> Result<Finding, AllocError> {
-    Ok(Finding {
-        severity: Severity::Fault,
-        line: unknown_line(places, Some(entry)),
-        entry: entry_label(alloc, bytes, entry)?,
-        key: "",
-        problem: String::from_str(alloc, "has a key that is none of this table")?,
-        mend: String::from_str(alloc, keys_of(kind_of(places, entry)))?,
-    })
+    fault: InvFault,
+) -> Result<String, AllocError>
+    ensures { IfOk result (λ text. string_bytes text ≡ fault_mend bytes.now places.now.marks.items places.now.heads.items fault) }
+{
+    match fault {
+        InvFault::NotToml => String::from_str(alloc, syntax_mend(is_utf8(bytes))),
+        InvFault::MissingKey(_, key) => missing_mend(alloc, key),
+        InvFault::UnknownKey(entry) => String::from_str(alloc, unknown_mend(places, entry)),
+        InvFault::BadValue(entry, key) => value_mend(alloc, entry, key),
+        InvFault::Tree(_, fault) => String::from_str(alloc, tree_mend(fault)),
+        InvFault::OutOfMemory => String::from_str(alloc, "memory"),
+    }
 }
 
-fn keys_of(kind: Option<Kind>) -> &'static str {
+fn syntax_mend(is_utf8: bool) -> &'static str
+    ensures { result.now ≡ syntax_mend is_utf8 }
+{
+    if is_utf8 {
+        "correct the syntax there: texts and dates stand between straight quotes"
+    } else {
+        "save it as UTF-8"
+    }
+}
+
+fn missing_mend(alloc: Global, key: Key) -> Result<String, AllocError>
+    ensures { IfOk result (λ text. string_bytes text ≡ codes "add " ++ (key_text key ++ (codes ": " ++ expected key))) }
+{
+    let word = key.text();
+    let expected = expected(key);
+    format!(in alloc; "add {word}: {expected}")
+}
+
+fn unknown_mend(places: &Places, entry: Option<u32>) -> &'static str
+    ensures { result.now ≡ unknown_mend places.now.marks.items places.now.heads.items entry }
+{
+    match entry {
+        None => {
+            "look for a misspelling; the keys are margin and system_max, the tables [[token]] and [[lease]]"
+        }
+        Some(entry) => keys_words(kind_of(places, entry)),
+    }
+}
+
+#[tactic(auto, unfolding(crate::specs::FaultWords::keys_words))]
+fn keys_words(kind: Option<Kind>) -> &'static str
+    ensures { result.now ≡ keys_words kind }
+{
     match kind {
         Some(Kind::Lease) => {
             "\
@@ -135,39 +317,27 @@ secret and secret_file"
     }
 }
 
-fn of_value(
-    alloc: Global,
-    bytes: &[u8],
-    places: &Places,
-    entry: Option<u32>,
-    key: Key,
-) -> Result<Finding, AllocError> {
-    let name = match entry {
-        None => String::new(alloc),
-        Some(entry) => entry_label(alloc, bytes, entry)?,
-    };
-    let problem = match key {
-        Key::Token | Key::Lease if entry.is_none() => "is not an array of tables",
-        Key::Secret | Key::LeaseId => "is none, or another entry of this kind has it",
-        Key::SecretFile | Key::LeaseIdFile => "is no path, or stands beside the credential itself",
-        _ => "is of the wrong type or out of range",
-    };
-    let mend = match entry {
+fn value_mend(alloc: Global, entry: Option<u32>, key: Key) -> Result<String, AllocError>
+    ensures { IfOk result (λ text. string_bytes text ≡ codes "write " ++ expected_at entry key) }
+{
+    let expected = expected_at(entry, key);
+    format!(in alloc; "write {expected}")
+}
+
+fn expected_at(entry: Option<u32>, key: Key) -> &'static str
+    ensures { result.now ≡ expected_at entry key }
+{
+    match entry {
         None => expected_of_top(key),
         Some(_) => expected(key),
-    };
-    Ok(Finding {
-        severity: Severity::Fault,
-        line: line_of(places, entry, key),
-        entry: name,
-        key: key.text(),
-        problem: String::from_str(alloc, problem)?,
-        mend: format!(in alloc; "write {mend}")?,
-    })
+    }
 }
 
 // What is to stand at a key of the top level.
-fn expected_of_top(key: Key) -> &'static str {
+#[tactic(auto, unfolding(crate::specs::FaultWords::expected_of_top))]
+fn expected_of_top(key: Key) -> &'static str
+    ensures { result.now ≡ expected_of_top key }
+{
     match key {
         Key::Margin => "1 to 3600 seconds, or a text such as \"90s\" or \"15m\"",
         Key::Token => "[[token]], with two brackets, over each token",
@@ -177,7 +347,10 @@ fn expected_of_top(key: Key) -> &'static str {
 }
 
 // What is to stand at a key of an entry.
-fn expected(key: Key) -> &'static str {
+#[tactic(auto, unfolding(crate::specs::FaultWords::expected))]
+fn expected(key: Key) -> &'static str
+    ensures { result.now ≡ expected key }
+{
     match key {
         Key::Name => "1 to 64 letters, digits, -, _, . and /, in quotes",
         Key::Parent | Key::Token => "the name of a token, in quotes",
@@ -198,61 +371,10 @@ fn expected(key: Key) -> &'static str {
     }
 }
 
-fn of_tree(
-    alloc: Global,
-    bytes: &[u8],
-    places: &Places,
-    entry: u32,
-    fault: TreeFault,
-) -> Result<Finding, AllocError> {
-    let key = tree_key(places, entry, fault);
-    Ok(Finding {
-        severity: Severity::Fault,
-        line: line_of(places, Some(entry), key),
-        entry: entry_label(alloc, bytes, entry)?,
-        key: if matches!(fault, TreeFault::Full) {
-            ""
-        } else {
-            key.text()
-        },
-        problem: String::from_str(alloc, tree_problem(fault))?,
-        mend: String::from_str(alloc, tree_mend(fault))?,
-    })
-}
-
-// The key that a fault of the tree of entries is about.
-fn tree_key(places: &Places, entry: u32, fault: TreeFault) -> Key {
-    match fault {
-        TreeFault::NoParent
-        | TreeFault::ParentIsLease
-        | TreeFault::LeaseWithoutToken
-        | TreeFault::TooDeep => match kind_of(places, entry) {
-            Some(Kind::Lease) => Key::Token,
-            _ => Key::Parent,
-        },
-        TreeFault::StepTooSmall if has_key(places, entry, Key::Period) => Key::Period,
-        TreeFault::StepTooSmall => Key::Increment,
-        TreeFault::OutOfRange => Key::MaxTtl,
-        _ => Key::Name,
-    }
-}
-
-fn tree_problem(fault: TreeFault) -> &'static str {
-    match fault {
-        TreeFault::BadName => "is no name",
-        TreeFault::NameTwice => "occurs twice",
-        TreeFault::NoParent => "names no token above this table",
-        TreeFault::ParentIsLease => "names a lease",
-        TreeFault::LeaseWithoutToken => "is missing",
-        TreeFault::StepTooSmall => "is not greater than the margin",
-        TreeFault::OutOfRange => "leads past the last moment",
-        TreeFault::TooDeep => "is the 65th of its chain",
-        TreeFault::Full => "is one more than the 4096 entries allowed",
-        TreeFault::OutOfMemory => "memory",
-    }
-}
-
-fn tree_mend(fault: TreeFault) -> &'static str {
+#[tactic(auto, unfolding(crate::specs::FaultWords::tree_mend))]
+fn tree_mend(fault: TreeFault) -> &'static str
+    ensures { result.now ≡ tree_mend fault }
+{
     match fault {
         TreeFault::BadName => "write 1 to 64 letters, digits, -, _, . and /",
         TreeFault::NameTwice => "rename one of them",
@@ -267,63 +389,4 @@ fn tree_mend(fault: TreeFault) -> &'static str {
         TreeFault::Full => "split the inventory",
         TreeFault::OutOfMemory => "memory",
     }
-}
-
-// What an entry is called: by its name, where the text has one, else by its place among those of its kind.
-fn entry_label(alloc: Global, bytes: &[u8], entry: u32) -> Result<String, AllocError> {
-    let table = match read_document(alloc, bytes) {
-        Ok(table) => table,
-        Err(InvFault::OutOfMemory) => return Err(AllocError),
-        Err(_) => return String::from_str(alloc, "an entry"),
-    };
-    let tokens = tables_of(&table, Key::Token).len();
-    let index = entry as usize;
-    let (found, kind, place) = if index < tokens {
-        (
-            name_at(tables_of(&table, Key::Token), index),
-            "token",
-            index,
-        )
-    } else {
-        let place = index - tokens;
-        (
-            name_at(tables_of(&table, Key::Lease), place),
-            "lease",
-            place,
-        )
-    };
-    match found {
-        Some(name) if is_shown(name) => label(alloc, name.as_bytes()),
-        _ => {
-            let number = place.saturating_add(1);
-            format!(in alloc; "{kind} {number}")
-        }
-    }
-}
-
-// The tables at a key.
-fn tables_of(table: &Table, key: Key) -> &[Value] {
-    match table.get(key.text()) {
-        Some(Value::Array(values)) => values.as_slice(),
-        _ => &[],
-    }
-}
-
-fn name_at(tables: &[Value], index: usize) -> Option<&str> {
-    if index >= tables.len() {
-        return None;
-    }
-    match &tables[index] {
-        Value::Table(table) => match table.get(Key::Name.text()) {
-            Some(Value::String(name)) => Some(name.as_str()),
-            _ => None,
-        },
-        _ => None,
-    }
-}
-
-// Whether a name is one that can be shown.
-fn is_shown(name: &str) -> bool {
-    let bytes = name.as_bytes();
-    !bytes.is_empty() && bytes.len() <= 64 && bytes.iter().all(|byte| byte.is_ascii_graphic())
 }

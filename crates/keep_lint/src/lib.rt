@@ -1,8 +1,9 @@
 //! What is wrong with an inventory, or legal and probably not meant, in words for people: with its line, entry, key and what helps.
 //!
 //! The contract for the layers above: [`doubts`] gives exactly the doubts of `specs/Doubts`, of what [`subject_of`] reads of a text
-//! (`specs/Subjects`). Where tables and keys stand in a text is `specs/Places`. What is said of a doubt and of a text that is no
-//! inventory is printing, of which no contract speaks. Begin with `specs/EntryDoubts`, then `all_doubts`.
+//! (`specs/Subjects`). Where tables and keys stand in a text is `specs/Places`. What is said of a text that is no inventory is that of
+//! `specs/FaultWords`, by [`finding_of_fault`], and by [`words_of_fault`] in one line. What is said of a doubt is printing, of which no
+//! contract speaks. Begin with `specs/EntryDoubts`, then `all_doubts`.
 #![tactic(auto)]
 
 mod all_doubts;
@@ -10,6 +11,7 @@ mod doubt_mends;
 mod doubt_words;
 mod entry_doubts;
 mod facts;
+mod fault_names;
 mod fault_words;
 mod finding;
 mod judging;
@@ -26,7 +28,7 @@ mod what;
 
 pub use all_doubts::doubts;
 pub use doubt_words::finding_of;
-pub use fault_words::finding_of_fault;
+pub use fault_words::{finding_of_fault, words_of_fault};
 pub use finding::{Finding, Severity};
 pub use naming::label;
 pub use place::{kind_of, line_of};

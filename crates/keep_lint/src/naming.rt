@@ -1,4 +1,7 @@
 //! What entries are called.
+ghost use Rattle.std.specs.Prelude.{◌≡◌, IfOk, string_bytes};
+ghost use Rattle.keep_lint.specs.FaultNames.{label};
+
 use crate::judging::is_token_like;
 use crate::subject::Subject;
 use std::alloc::{AllocError, Global};
@@ -17,15 +20,23 @@ pub(crate) fn shown_name(
     }
 }
 
-/// A name, unless it may be a token's value, or is no text. The only error is lack of memory.
+/// A name, unless it may be a token's value, or is no text. The only error is lack of memory, here and in what follows.
 pub fn label(alloc: Global, name: &[u8]) -> Result<String, AllocError> {
-    if is_token_like(name) {
-        return String::from_str(alloc, "(a name like a token's value)");
-    }
-    String::from_str(alloc, std::str::from_utf8(name).unwrap_or(""))
+    label_of(alloc, std::str::from_utf8(name).unwrap_or(""))
 }
 
-/// Whose something is that stands over the entry at an index. The only error is lack of memory.
+/// A name, unless it may be a token's value.
+pub(crate) fn label_of(alloc: Global, name: &str) -> Result<String, AllocError>
+    ensures { IfOk result (λ text. string_bytes text ≡ label name.now) }
+{
+    if is_token_like(name.as_bytes()) {
+        String::from_str(alloc, "(a name like a token's value)")
+    } else {
+        String::from_str(alloc, name)
+    }
+}
+
+/// Whose something is that stands over the entry at an index.
 pub(crate) fn whose(
     alloc: Global,
     subject: &Subject,

@@ -1,4 +1,7 @@
 //! The lines of entries, keys and faults, counted from 1.
+ghost use Rattle.std.specs.Prelude.{◌≡◌, slice_get};
+ghost use Rattle.keep_lint.specs.FaultPlaces.{first_other, has_key, kind_at, kind_if, kind_in, kind_of, line_from, line_of, line_unless_0, sought_line, unknown_line, unknown_top_line};
+
 use crate::mark::Mark;
 use crate::places::{Sought, first_in};
 use crate::subject::Places;
@@ -7,73 +10,111 @@ use keep_tree::Kind;
 
 /// The line of a key of the entry at an index, else that of its table; of the top level, where there is no entry; 0 where it is not
 /// found.
-pub fn line_of(places: &Places, entry: Option<u32>, key: Key) -> u64 {
+pub fn line_of(places: &Places, entry: Option<u32>, key: Key) -> u64
+    ensures { result ≡ line_of places.now.marks.items places.now.heads.items entry key }
+{
     sought_line(places, entry, Sought::Key(key))
 }
 
 /// The same of the first key that the table, or the top level, does not have.
-pub fn unknown_line(places: &Places, entry: Option<u32>) -> u64 {
-    let table = match entry {
-        None => None,
-        Some(index) => kind_of(places, index),
-    };
-    sought_line(places, entry, Sought::Unknown(table))
+pub(crate) fn unknown_line(places: &Places, entry: Option<u32>) -> u64
+    ensures { result ≡ unknown_line places.now.marks.items places.now.heads.items entry }
+{
+    sought_line(places, entry, Sought::Unknown(kind_if(places, entry)))
+}
+
+/// The line of the first key or table that the top level does not have; 0 where it is not found.
+pub(crate) fn unknown_top_line(places: &Places) -> u64
+    ensures { result ≡ unknown_top_line places.now.marks.items places.now.heads.items }
+{
+    line_unless_0(unknown_line(places, None), first_other(&places.marks))
+}
+
+fn line_unless_0(line: u64, other: u64) -> u64
+    ensures { result ≡ line_unless_0 line other }
+{
+    if line == 0 { other } else { line }
 }
 
 /// Whether the table of the entry at an index, where it is found, has that key.
-pub(crate) fn has_key(places: &Places, entry: u32, key: Key) -> bool {
-    let index = entry as usize;
-    if index >= places.heads.len() {
-        return false;
+pub(crate) fn has_key(places: &Places, entry: u32, key: Key) -> bool
+    ensures { result ≡ has_key places.now.marks.items places.now.heads.items entry key }
+{
+    match places.heads.get(entry as usize) {
+        None => false,
+        Some(head) => first_in(&places.marks, Sought::Key(key), *head).is_some(),
     }
-    first_in(&places.marks, Sought::Key(key), places.heads[index]).is_some()
 }
 
 /// The kind of the entry at an index, where its table is found.
-pub fn kind_of(places: &Places, entry: u32) -> Option<Kind> {
-    let index = entry as usize;
-    if index >= places.heads.len() {
-        return None;
+pub fn kind_of(places: &Places, entry: u32) -> Option<Kind>
+    ensures { result ≡ kind_of places.now.marks.items places.now.heads.items entry }
+{
+    match places.heads.get(entry as usize) {
+        None => None,
+        Some(head) => kind_on(&places.marks, head.saturating_sub(1)),
     }
-    let line = places.heads[index].saturating_sub(1);
-    match places.marks.get(line) {
-        Some(Mark::Table(kind)) => Some(*kind),
+}
+
+// The kind of the entry whose table this line begins, counted from 0.
+fn kind_on(marks: &[Mark], line: usize) -> Option<Kind>
+    ensures { result ≡ kind_at (slice_get marks.now line) }
+{
+    match marks.get(line) {
+        None => None,
+        Some(mark) => kind_in(*mark),
+    }
+}
+
+fn kind_in(mark: Mark) -> Option<Kind>
+    ensures { result ≡ kind_in mark }
+{
+    match mark {
+        Mark::Table(kind) => Some(kind),
         _ => None,
     }
 }
 
-/// The line of the first table that no inventory has; 0 where there is none.
-pub fn other_table_line(places: &Places) -> u64 {
-    for at in 0..places.marks.len() {
-        if matches!(places.marks[at], Mark::Other) {
-            return number(Some(at));
+fn kind_if(places: &Places, entry: Option<u32>) -> Option<Kind>
+    ensures { result ≡ kind_if places.now.marks.items places.now.heads.items entry }
+{
+    match entry {
+        None => None,
+        Some(entry) => kind_of(places, entry),
+    }
+}
+
+// The line of the first table that no inventory has; 0 where there is none.
+fn first_other(marks: &[Mark]) -> u64
+    ensures { result ≡ first_other 0 marks.now }
+{
+    for at in 0..marks.len() {
+        if matches!(marks[at], Mark::Other) {
+            return (at + 1) as u64;
         }
     }
     0
 }
 
-fn sought_line(places: &Places, entry: Option<u32>, sought: Sought) -> u64 {
+// The line of what is sought in the table of an entry, else its head; before all tables, where there is no entry.
+fn sought_line(places: &Places, entry: Option<u32>, sought: Sought) -> u64
+    ensures { result ≡ sought_line places.now.marks.items places.now.heads.items entry sought }
+{
     match entry {
-        None => number(first_in(&places.marks, sought, 0)),
-        Some(index) => in_table(places, index as usize, sought),
+        None => line_from(&places.marks, sought, 0, 0),
+        Some(entry) => match places.heads.get(entry as usize) {
+            None => 0,
+            Some(head) => line_from(&places.marks, sought, *head, *head),
+        },
     }
 }
 
-fn in_table(places: &Places, index: usize, sought: Sought) -> u64 {
-    if index >= places.heads.len() {
-        return 0;
-    }
-    let head = places.heads[index];
-    match first_in(&places.marks, sought, head) {
-        None => head as u64,
-        Some(line) => number(Some(line)),
-    }
-}
-
-// The number of a line.
-fn number(line: Option<usize>) -> u64 {
-    match line {
-        None => 0,
-        Some(line) => (line as u64).saturating_add(1),
+// The line of what is sought from a line on, before the next table; else another.
+fn line_from(marks: &[Mark], sought: Sought, from: usize, other: usize) -> u64
+    ensures { result ≡ line_from marks.now sought from other }
+{
+    match first_in(marks, sought, from) {
+        None => other as u64,
+        Some(at) => (at + 1) as u64,
     }
 }

@@ -1,5 +1,9 @@
 //! Findings as people and programs read them. The only error is lack of memory.
+ghost use Rattle.std.specs.Prelude.{◌≡◌, ◌++◌, OnOk};
+ghost use Rattle.keep_lint.specs.FaultWords.{between_words, finding_words, line_words, mend_words, subject_words};
+
 use crate::finding::Finding;
+use keep_words::push_number;
 use std::alloc::{AllocError, Global};
 
 /// Appends a finding as a line, as compilers write them: `FILE:LINE: SEVERITY: ENTRY KEY: PROBLEM; REMEDY`.
@@ -18,26 +22,69 @@ pub fn push_line(
     text.extend_from_slice(b": ")?;
     text.extend_from_slice(finding.severity.word().as_bytes())?;
     text.extend_from_slice(b": ")?;
-    push_subject(finding, text)?;
-    text.extend_from_slice(finding.problem.as_bytes())?;
-    if !finding.mend.is_empty() {
-        text.extend_from_slice(b"; ")?;
-        text.extend_from_slice(finding.mend.as_bytes())?;
-    }
+    push_words(finding, text)?;
     text.extend_from_slice(b"\n")
 }
 
+/// Appends a finding without its place: `ENTRY KEY: PROBLEM; REMEDY`.
+#[tactic(auto, unfolding(crate::specs::FaultWords::finding_words))]
+pub(crate) fn push_words(finding: &Finding, text: &mut Vec<u8>) -> Result<(), AllocError>
+    ensures { OnOk result (text.new.items ≡ text.old.items ++ finding_words finding.now) }
+{
+    push_subject(finding.entry.as_bytes(), finding.key.as_bytes(), text)?;
+    text.extend_from_slice(finding.problem.as_bytes())?;
+    push_mend(finding.mend.as_bytes(), text)
+}
+
 // Appends the entry and the key, as far as they are meant.
-fn push_subject(finding: &Finding, text: &mut Vec<u8>) -> Result<(), AllocError> {
-    text.extend_from_slice(finding.entry.as_bytes())?;
-    if !finding.entry.is_empty() && !finding.key.is_empty() {
-        text.extend_from_slice(b" ")?;
+fn push_subject(entry: &[u8], key: &[u8], text: &mut Vec<u8>) -> Result<(), AllocError>
+    ensures { OnOk result (text.new.items ≡ text.old.items ++ subject_words entry.now key.now) }
+{
+    if entry.is_empty() && key.is_empty() {
+        return Ok(());
     }
-    text.extend_from_slice(finding.key.as_bytes())?;
-    if !finding.entry.is_empty() || !finding.key.is_empty() {
-        text.extend_from_slice(b": ")?;
+    text.extend_from_slice(entry)?;
+    push_between(entry, key, text)?;
+    text.extend_from_slice(key)?;
+    text.extend_from_slice(b": ")
+}
+
+// Appends a blank between an entry and a key, where both are meant.
+fn push_between(entry: &[u8], key: &[u8], text: &mut Vec<u8>) -> Result<(), AllocError>
+    ensures { OnOk result (text.new.items ≡ text.old.items ++ between_words entry.now key.now) }
+{
+    if entry.is_empty() || key.is_empty() {
+        Ok(())
+    } else {
+        text.extend_from_slice(b" ")
     }
-    Ok(())
+}
+
+// Appends what helps, where something does.
+fn push_mend(mend: &[u8], text: &mut Vec<u8>) -> Result<(), AllocError>
+    ensures { OnOk result (text.new.items ≡ text.old.items ++ mend_words mend.now) }
+{
+    if mend.is_empty() {
+        return Ok(());
+    }
+    text.extend_from_slice(b"; ")?;
+    text.extend_from_slice(mend)
+}
+
+/// Appends the number of a line, where one is meant.
+pub(crate) fn push_line_number(
+    alloc: Global,
+    line: u64,
+    text: &mut Vec<u8>,
+) -> Result<(), AllocError>
+    ensures { OnOk result (text.new.items ≡ text.old.items ++ line_words line) }
+{
+    if line == 0 {
+        return Ok(());
+    }
+    text.extend_from_slice(b"line ")?;
+    push_number(alloc, line, text)?;
+    text.extend_from_slice(b": ")
 }
 
 /// Appends findings as an array of JSON, an object a line.

@@ -3,7 +3,7 @@ use Rattle.std.proofs.Common.{ap}
 use Rattle.keep_secrets.specs.Outcomes.{news_about, news_of}
 use Rattle.house_words.specs.Refusing.{start_refusal_line}
 use Rattle.house_log.specs.SecretLines.{news_lines}
-use Rattle.house_laws.proofs.Alike.{forests_alike, held_alike, judged_alike, notes_alike, unfilled_alike, whys_alike, written_alike}
+use Rattle.house_laws.proofs.Alike.{faulty_alike, forests_alike, held_alike, judged_alike, notes_alike, unfilled_alike, whys_alike, written_alike}
 use Rattle.house_laws.proofs.laws.no_credential_of_a_file_is_said.Goals as goal
 
 pub returns-clause-notes : goal.returns-clause-notes
@@ -11,6 +11,9 @@ returns-clause-notes c = notes_alike
 
 pub returns-clause-whys : goal.returns-clause-whys
 returns-clause-whys c = whys_alike
+
+pub returns-clause-faulty : goal.returns-clause-faulty
+returns-clause-faulty c = faulty_alike
 
 pub returns-clause-start : goal.returns-clause-start
 returns-clause-start c = λ program d bytes other v w fault alike reads others. ap (λ g. start_refusal_line program d g fault) (forests_alike bytes other v w alike reads others)
