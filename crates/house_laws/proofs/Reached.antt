@@ -11,10 +11,8 @@ use Rattle.keep_disk.specs.State.{DiskState}
 use Rattle.keep_inventory.specs.Inventories.{Inventory}
 use Rattle.keep_log.specs.declared.writing.TheConstants.{MOST_TRIES}
 use Rattle.keep_serving.specs.Days.{PassesToOthers}
-use Rattle.keep_serving.specs.Neighbours.{Give, GoOn, Hear, NeighbourCall, Rest, Settle}
+use Rattle.keep_serving.specs.Neighbours.{Answer, End, Give, GoOn, Hear, NeighbourCall, Needs, Rest, Settle, Step, Thing, Time, Want}
 use Rattle.keep_serving.specs.declared.day.EarlyDay.{EarlyDay}
-use Rattle.keep_serving.specs.declared.neighbours.Happened.{Happened}
-use Rattle.keep_serving.specs.declared.neighbours.Happened.TheVariants as happened
 use Rattle.watch_machine.specs.declared.outlook.Next.{Next}
 use Rattle.keep_house.specs.Doing.{DoesToHouse, HearsOf, HearsServedIf}
 use Rattle.house_ledger.specs.Keeping.{KeepCall}
@@ -26,10 +24,10 @@ use Rattle.house_laws.proofs.Passed.{Passes, by_day, by_day_behind}
 
 -- where the house goes on it is tried 16 times at most, and else left alone
 abbrev pub DoesToReader : {S : Type 0} → (S → ℕ) → NeighbourCall → S → S → Type 0
-DoesToReader tries (Hear thing) old new = new ≡ old
-DoesToReader tries (GoOn is_busy) old new = tries new ≤ tries old + MOST_TRIES
-DoesToReader tries (Give change) old new = new ≡ old
-DoesToReader tries (Settle is_made) old new = new ≡ old
+DoesToReader tries (Hear agent thing) old new = new ≡ old
+DoesToReader tries (GoOn agent now is_busy) old new = tries new ≤ tries old + MOST_TRIES
+DoesToReader tries (Give agent now change) old new = new ≡ old
+DoesToReader tries (Settle agent is_made) old new = new ≡ old
 DoesToReader tries (Rest now rest) old new = new ≡ old
 
 module _ {S T D K E : Type 0} where
@@ -37,14 +35,14 @@ module _ {S T D K E : Type 0} where
   next_heard agent None old new h = ap (λ x. x.sink) h
   next_heard agent (Some next) old new h = ap (λ x. x.sink) h.rest
 
-  heard_of : (agent : Agent) (h : Happened) (old new : House S T D K E) → HearsOf agent h old new → new.sink ≡ old.sink
-  heard_of agent (happened.Clocked notes requests next) old new h = next_heard agent next (record old { desk = h.desk }) new h.then
-  heard_of agent (happened.Shorts shorts) old new h = ap (λ x. x.sink) h.1
-  heard_of agent (happened.Answered entry operation said notes) old new h = ap (λ x. x.sink) h.1
-  heard_of agent (happened.Ahead entry end) old new h = ap (λ x. x.sink) h.1
-  heard_of agent (happened.StepsIn lead requests) old new h = ap (λ x. x.sink) h.1
-  heard_of agent happened.Refused old new h = ap (λ x. x.sink) h.1
-  heard_of agent happened.Wanting old new h = ap (λ x. x.sink) h.1
+  heard_of : (agent : Agent) (thing : Thing) (old new : House S T D K E) → HearsOf agent thing old new → new.sink ≡ old.sink
+  heard_of agent (Time notes requests next) old new h = next_heard agent next (record old { desk = h.desk }) new h.then
+  heard_of agent (Needs (Some shorts)) old new h = ap (λ x. x.sink) h.1
+  heard_of agent (Needs None) old new h = ap (λ x. x.sink) h.1
+  heard_of agent (Answer entry operation said notes) old new h = ap (λ x. x.sink) h.1
+  heard_of agent (End entry end) old new h = ap (λ x. x.sink) h.1
+  heard_of agent (Step lead requests) old new h = ap (λ x. x.sink) h.1
+  heard_of agent Want old new h = ap (λ x. x.sink) h.1
 
   served_heard : (is : Bool) (old new : House S T D K E) → HearsServedIf is old new → new.sink ≡ old.sink
   served_heard true old new h = ap (λ x. x.sink) h
@@ -57,12 +55,11 @@ module _ {S T D K E : Type 0} (given : S → Option (List ℕ)) (failures tries 
   Does call old new = DoesToHouse given failures tries remaining written calls log does rows path reads gives known state call old new
 
   pub reader_of : (call : NeighbourCall) (old new : House S T D K E) → Does call old new → DoesToReader tries call old.sink new.sink
-  reader_of (Hear thing) old new h = heard_of h.0 h.1.0 old new h.1.1.1
-  reader_of (GoOn is_busy) old new h =
-      subst (λ s. tries new.sink ≤ tries s + MOST_TRIES) (ap (λ x. x.sink) h.1.1.look.rest ∙ ap (λ x. x.sink) h.1.1.ends.rest) h.1.1.attend.few
-  reader_of (Give change) old new h = (asked_for does rows path reads gives h.0 h.1.0 h.1.1.0 change old new h.1.1.1.1).sink
-  reader_of (Settle is_made) old new h =
-      ap (λ x. x.sink) h.1.rest ∙ (settled_given does h.0 is_made h.1.heard h.1.settled h.1.settles).sink ∙ served_heard _ old h.1.heard h.1.served
+  reader_of (Hear agent thing) old new h = heard_of agent thing old new h
+  reader_of (GoOn agent now is_busy) old new h = subst (λ s. tries new.sink ≤ tries s + MOST_TRIES) (ap (λ x. x.sink) h.look.rest ∙ ap (λ x. x.sink) h.ends.rest) h.attend.few
+  reader_of (Give agent now change) old new h = (asked_for does rows path reads gives agent now h.0 change old new h.1.1).sink
+  reader_of (Settle agent is_made) old new h =
+      ap (λ x. x.sink) h.rest ∙ (settled_given does agent is_made h.heard h.settled h.settles).sink ∙ served_heard _ old h.heard h.served
   reader_of (Rest now rest) old new h = ap (λ x. x.sink) h.0
 
   -- ---- the same after one more neighbour
@@ -72,11 +69,11 @@ module _ {S T D K E : Type 0} (given : S → Option (List ℕ)) (failures tries 
 
   reads_on : Passes ToReader
   reads_on = record {
-    heard = λ a b x y z h k. k ∙ h;
-    settled = λ thing is_made x y h. h;
-    unsettled = λ is_made x y same. ap (λ (v : House S T D K E). v.sink) same;
-    goes = λ b c x y h. h;
-    gives = λ change x y h. h;
+    heard = λ a one other x y z h k. k ∙ h;
+    settled = λ a thing is_made x y h. h;
+    unsettled = λ a is_made x y same. ap (λ (v : House S T D K E). v.sink) same;
+    goes = λ a now b c x y h. h;
+    gives = λ a now change x y h. h;
     rests = λ now rest x y same. ap (λ (v : House S T D K E). v.sink) same;
   }
 

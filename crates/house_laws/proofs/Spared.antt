@@ -16,11 +16,10 @@ use Rattle.keep_ends.specs.declared.file.EndsFile.{EndsFile}
 use Rattle.keep_inventory.specs.Inventories.{Inventory}
 use Rattle.keep_serving.specs.Changes.{given_by}
 use Rattle.keep_serving.specs.Days.{PassesToOthers}
-use Rattle.keep_serving.specs.Neighbours.{AllCalled, Give, GoOn, Hear, NeighbourCall, Rest, Settle, calls_at}
+use Rattle.keep_serving.specs.Calls.{calls_in}
+use Rattle.keep_serving.specs.Neighbours.{AllCalled, Answer, End, Give, GoOn, Hear, NeighbourCall, Needs, Rest, Settle, Step, Thing, Time, Want}
 use Rattle.keep_serving.specs.declared.change.Change.{Change}
 use Rattle.keep_serving.specs.declared.day.EarlyDay.{EarlyDay}
-use Rattle.keep_serving.specs.declared.neighbours.Happened.{Happened}
-use Rattle.keep_serving.specs.declared.neighbours.Happened.TheVariants as happened
 use Rattle.watch_machine.specs.declared.outlook.Next.{Next}
 use Rattle.house_laws.specs.Disks.{AreEndsLeft, AsksLittle, EndsAreTriedOnce, IsAskedWithin, ToHouse, TriesEnds}
 use Rattle.keep_house.specs.Doing.{HearsOf, HearsServedIf}
@@ -79,31 +78,33 @@ module _ {E : Type 0} (known : Bool) (state : E → DiskState) where
 
   -- they are tried where the house goes on, and else left alone
   abbrev DoesToEnds : NeighbourCall → Option (EndsFile E) → Option (EndsFile E) → Type 0
-  DoesToEnds (Hear thing) old new = AreEndsLeft old new
-  DoesToEnds (GoOn is_busy) old new = MayBeTried old new
-  DoesToEnds (Give change) old new = AreEndsLeft old new
-  DoesToEnds (Settle is_made) old new = AreEndsLeft old new
+  DoesToEnds (Hear agent thing) old new = AreEndsLeft old new
+  DoesToEnds (GoOn agent now is_busy) old new = MayBeTried old new
+  DoesToEnds (Give agent now change) old new = AreEndsLeft old new
+  DoesToEnds (Settle agent is_made) old new = AreEndsLeft old new
   DoesToEnds (Rest now rest) old new = AreEndsLeft old new
 
   module _ {N : Type 0} (does : NeighbourCall → N → N → Type 0) (ends : N → Option (EndsFile E)) (by : (call : NeighbourCall) (old new : N) → does call old new → DoesToEnds call (ends old) (ends new)) where
     left_of : (calls : List NeighbourCall) (old new : N) → AllCalled does calls old new → weight goes calls ≡ 0 → AreEndsLeft (ends old) (ends new)
     left_of [] old new h none = left_same (ends old) (ends new) (ap ends h)
-    left_of (Hear thing ∷ rest) old new h none = left_join (ends old) (ends h.0) (ends new) (by (Hear thing) old h.0 h.1.0) (left_of rest h.0 new h.1.1 (omega (arith, none)))
-    left_of (GoOn is_busy ∷ rest) old new h none = absurd (omega (arith, none))
-    left_of (Give change ∷ rest) old new h none = left_join (ends old) (ends h.0) (ends new) (by (Give change) old h.0 h.1.0) (left_of rest h.0 new h.1.1 (omega (arith, none)))
-    left_of (Settle is_made ∷ rest) old new h none = left_join (ends old) (ends h.0) (ends new) (by (Settle is_made) old h.0 h.1.0) (left_of rest h.0 new h.1.1 (omega (arith, none)))
+    left_of (Hear agent thing ∷ rest) old new h none = left_join (ends old) (ends h.0) (ends new) (by (Hear agent thing) old h.0 h.1.0) (left_of rest h.0 new h.1.1 (omega (arith, none)))
+    left_of (GoOn agent now is_busy ∷ rest) old new h none = absurd (omega (arith, none))
+    left_of (Give agent now change ∷ rest) old new h none = left_join (ends old) (ends h.0) (ends new) (by (Give agent now change) old h.0 h.1.0) (left_of rest h.0 new h.1.1 (omega (arith, none)))
+    left_of (Settle agent is_made ∷ rest) old new h none = left_join (ends old) (ends h.0) (ends new) (by (Settle agent is_made) old h.0 h.1.0) (left_of rest h.0 new h.1.1 (omega (arith, none)))
     left_of (Rest now left ∷ rest) old new h none = left_join (ends old) (ends h.0) (ends new) (by (Rest now left) old h.0 h.1.0) (left_of rest h.0 new h.1.1 (omega (arith, none)))
 
     tried_of : (calls : List NeighbourCall) (old new : N) → AllCalled does calls old new → weight goes calls ≤ 1 → MayBeTried (ends old) (ends new)
     tried_of [] old new h few = inl (left_same (ends old) (ends new) (ap ends h))
-    tried_of (Hear thing ∷ rest) old new h few = left_tried (ends old) (ends h.0) (ends new) (by (Hear thing) old h.0 h.1.0) (tried_of rest h.0 new h.1.1 (omega (arith, few)))
-    tried_of (GoOn is_busy ∷ rest) old new h few = tried_left (ends old) (ends h.0) (ends new) (by (GoOn is_busy) old h.0 h.1.0) (left_of rest h.0 new h.1.1 (omega (arith, few)))
-    tried_of (Give change ∷ rest) old new h few = left_tried (ends old) (ends h.0) (ends new) (by (Give change) old h.0 h.1.0) (tried_of rest h.0 new h.1.1 (omega (arith, few)))
-    tried_of (Settle is_made ∷ rest) old new h few = left_tried (ends old) (ends h.0) (ends new) (by (Settle is_made) old h.0 h.1.0) (tried_of rest h.0 new h.1.1 (omega (arith, few)))
+    tried_of (Hear agent thing ∷ rest) old new h few = left_tried (ends old) (ends h.0) (ends new) (by (Hear agent thing) old h.0 h.1.0) (tried_of rest h.0 new h.1.1 (omega (arith, few)))
+    tried_of (GoOn agent now is_busy ∷ rest) old new h few = tried_left (ends old) (ends h.0) (ends new) (by (GoOn agent now is_busy) old h.0 h.1.0) (left_of rest h.0 new h.1.1 (omega (arith, few)))
+    tried_of (Give agent now change ∷ rest) old new h few = left_tried (ends old) (ends h.0) (ends new) (by (Give agent now change) old h.0 h.1.0) (tried_of rest h.0 new h.1.1 (omega (arith, few)))
+    tried_of (Settle agent is_made ∷ rest) old new h few = left_tried (ends old) (ends h.0) (ends new) (by (Settle agent is_made) old h.0 h.1.0) (tried_of rest h.0 new h.1.1 (omega (arith, few)))
     tried_of (Rest now left ∷ rest) old new h few = left_tried (ends old) (ends h.0) (ends new) (by (Rest now left) old h.0 h.1.0) (tried_of rest h.0 new h.1.1 (omega (arith, few)))
 
     pub ends_law : TriesEnds does known state ends
-    ends_law width t old new h = tried_of (calls_at t.reading h.answers h.is_handed t) old new h.called (goes_once t.reading h.answers h.is_handed t)
+    ends_law t old new turn =
+        let h = turn.1.1.1 in
+        tried_of (calls_in turn.0 turn.1.0 t turn.1.1.0 h.is) old new h.called (goes_once turn.0 t.reading turn.1.0 t h.is.mid turn.1.1.0.held.agent h.is.hears)
 
 -- ---- whoever keeps changes
 
@@ -115,9 +116,11 @@ module _ {K N : Type 0} (asks : KeepCall → K → K → Type 0) (does : Neighbo
       within_join asks (goes call) (gives call) (weight goes rest) (weight gives rest) (keeper old) (keeper h.0) (keeper new) (by call old h.0 h.1.0) (asked_of rest h.0 new h.1.1)
 
   pub asks_law : AsksLittle does asks keeper
-  asks_law width t old new h =
-      let calls = calls_at t.reading h.answers h.is_handed t in
-      within_more asks (weight goes calls) (weight gives calls) 1 (length (given_by t.made)) (keeper old) (keeper new) (goes_once t.reading h.answers h.is_handed t) (gives_few t.reading h.answers h.is_handed t)
+  asks_law t old new turn =
+      let h = turn.1.1.1 in
+      let calls = calls_in turn.0 turn.1.0 t turn.1.1.0 h.is in
+      let last = turn.1.1.0.held.agent in
+      within_more asks (weight goes calls) (weight gives calls) 1 (length (given_by t.made)) (keeper old) (keeper new) (goes_once turn.0 t.reading turn.1.0 t h.is.mid last h.is.hears) (gives_few turn.0 t.reading turn.1.0 t h.is.mid last h.is.hears)
       (asked_of calls old new h.called)
 
 -- ---- a house
@@ -127,16 +130,16 @@ module _ {S T D K E : Type 0} where
   next_heard agent None old new h = (ap (λ x. x.state) h, ap (λ x. x.ends) h)
   next_heard agent (Some next) old new h = (ap (λ x. x.state) h.rest, ap (λ x. x.ends) h.rest)
 
-  heard_of : (agent : Agent) (h : Happened) (old new : House S T D K E) → HearsOf agent h old new → (new.state ≡ old.state) × AreEndsLeft old.ends new.ends
-  heard_of agent (happened.Clocked notes requests next) old new h =
+  heard_of : (agent : Agent) (thing : Thing) (old new : House S T D K E) → HearsOf agent thing old new → (new.state ≡ old.state) × AreEndsLeft old.ends new.ends
+  heard_of agent (Time notes requests next) old new h =
       let next_left = next_heard agent next (record old { desk = h.desk }) new h.then in
       (next_left.0, left_same old.ends new.ends next_left.1)
-  heard_of agent (happened.Shorts shorts) old new h = (ap (λ x. x.state) h.1, left_same old.ends new.ends (ap (λ x. x.ends) h.1))
-  heard_of agent (happened.Answered entry operation said notes) old new h = (ap (λ x. x.state) h.1, marked (after_answer said.reply) (λ x. refl) old.ends new.ends (ap (λ x. x.ends) h.1))
-  heard_of agent (happened.Ahead entry end) old new h = (ap (λ x. x.state) h.1, marked to_be_kept (λ x. refl) old.ends new.ends (ap (λ x. x.ends) h.1))
-  heard_of agent (happened.StepsIn lead requests) old new h = (ap (λ x. x.state) h.1, left_same old.ends new.ends (ap (λ x. x.ends) h.1))
-  heard_of agent happened.Refused old new h = (ap (λ x. x.state) h.1, left_same old.ends new.ends (ap (λ x. x.ends) h.1))
-  heard_of agent happened.Wanting old new h = (ap (λ x. x.state) h.1, left_same old.ends new.ends (ap (λ x. x.ends) h.1))
+  heard_of agent (Needs (Some shorts)) old new h = (ap (λ x. x.state) h.1, left_same old.ends new.ends (ap (λ x. x.ends) h.1))
+  heard_of agent (Needs None) old new h = (ap (λ x. x.state) h.1, left_same old.ends new.ends (ap (λ x. x.ends) h.1))
+  heard_of agent (Answer entry operation said notes) old new h = (ap (λ x. x.state) h.1, marked (after_answer said.reply) (λ x. refl) old.ends new.ends (ap (λ x. x.ends) h.1))
+  heard_of agent (End entry end) old new h = (ap (λ x. x.state) h.1, marked to_be_kept (λ x. refl) old.ends new.ends (ap (λ x. x.ends) h.1))
+  heard_of agent (Step lead requests) old new h = (ap (λ x. x.state) h.1, left_same old.ends new.ends (ap (λ x. x.ends) h.1))
+  heard_of agent Want old new h = (ap (λ x. x.state) h.1, left_same old.ends new.ends (ap (λ x. x.ends) h.1))
 
   served_heard : (is : Bool) (old new : House S T D K E) → HearsServedIf is old new → (new.state ≡ old.state) × AreEndsLeft old.ends new.ends
   served_heard true old new h = (ap (λ x. x.state) h, marked to_be_kept (λ x. refl) old.ends new.ends (ap (λ x. x.ends) h))
@@ -153,37 +156,35 @@ module _ {S T D K E : Type 0} (given : S → Option (List ℕ)) (failures tries 
   abbrev Does : NeighbourCall → House S T D K E → House S T D K E → Type 0
   Does = ToHouse given failures tries remaining written calls log asks rows path reads gives_served known state
 
-  given_of : (change : Option Change) (old new : House S T D K E) → Does (Give change) old new → Spares asks (gives (Give change)) old new
-  given_of None old new h = asked_for asks rows path reads gives_served h.0 h.1.0 h.1.1.0 None old new h.1.1.1.1
-  given_of (Some change) old new h = asked_for asks rows path reads gives_served h.0 h.1.0 h.1.1.0 (Some change) old new h.1.1.1.1
+  given_of : (agent : Agent) (now : Reading) (change : Option Change) (old new : House S T D K E) → Does (Give agent now change) old new → Spares asks (gives (Give agent now change)) old new
+  given_of agent now None old new h = asked_for asks rows path reads gives_served agent now h.0 None old new h.1.1
+  given_of agent now (Some change) old new h = asked_for asks rows path reads gives_served agent now h.0 (Some change) old new h.1.1
 
   pub asked_at : (call : NeighbourCall) (old new : House S T D K E) → Does call old new → IsAskedWithin asks (goes call) (gives call) old.state new.state
-  asked_at (Hear thing) old new h = within_none asks old.state new.state (heard_of h.0 h.1.0 old new h.1.1.1).0
-  asked_at (GoOn is_busy) old new h =
-      let went = h.1.1 in
-      subst (λ (s : Option K). IsAskedWithin asks 1 0 s new.state) (ap (λ x. x.state) went.ends.rest)
-      (subst (λ (s : Option K). IsAskedWithin asks 1 0 went.kept.state s) (sym (ap (λ x. x.state) went.attend.rest)) (looked_at asks h.1.0 went.look.look went.kept.state went.looked.state went.look.asks))
-  asked_at (Give None) old new h = (given_of None old new h).asked
-  asked_at (Give (Some change)) old new h = (given_of (Some change) old new h).asked
-  asked_at (Settle is_made) old new h =
-      let heard = served_heard _ old h.1.heard h.1.served in
-      let settled = settled_given asks h.0 is_made h.1.heard h.1.settled h.1.settles in
+  asked_at (Hear agent thing) old new h = within_none asks old.state new.state (heard_of agent thing old new h).0
+  asked_at (GoOn agent now is_busy) old new h =
+      subst (λ (s : Option K). IsAskedWithin asks 1 0 s new.state) (ap (λ x. x.state) h.ends.rest)
+      (subst (λ (s : Option K). IsAskedWithin asks 1 0 h.kept.state s) (sym (ap (λ x. x.state) h.attend.rest)) (looked_at asks now h.look.look h.kept.state h.looked.state h.look.asks))
+  asked_at (Give agent now None) old new h = (given_of agent now None old new h).asked
+  asked_at (Give agent now (Some change)) old new h = (given_of agent now (Some change) old new h).asked
+  asked_at (Settle agent is_made) old new h =
+      let heard = served_heard _ old h.heard h.served in
+      let settled = settled_given asks agent is_made h.heard h.settled h.settles in
       subst (λ (s : Option K). IsAskedWithin asks 0 0 s new.state) heard.0
-      (subst (λ (s : Option K). IsAskedWithin asks 0 0 h.1.heard.state s) (sym (ap (λ x. x.state) h.1.rest)) settled.asked)
+      (subst (λ (s : Option K). IsAskedWithin asks 0 0 h.heard.state s) (sym (ap (λ x. x.state) h.rest)) settled.asked)
   asked_at (Rest now rest) old new h = within_none asks old.state new.state (ap (λ x. x.state) h.0)
 
   pub ends_at : (call : NeighbourCall) (old new : House S T D K E) → Does call old new → DoesToEnds known state call old.ends new.ends
-  ends_at (Hear thing) old new h = (heard_of h.0 h.1.0 old new h.1.1.1).1
-  ends_at (GoOn is_busy) old new h =
-      let went = h.1.1 in
-      tried_left known state old.ends went.kept.ends new.ends (gone_on known state h.0 h.1.0.elapsed went.ends.tried old.ends went.kept.ends went.ends.ends)
-      (left_same went.kept.ends new.ends (ap (λ x. x.ends) went.attend.rest ∙ ap (λ x. x.ends) went.look.rest))
-  ends_at (Give None) old new h = left_same old.ends new.ends (given_of None old new h).ends
-  ends_at (Give (Some change)) old new h = left_same old.ends new.ends (given_of (Some change) old new h).ends
-  ends_at (Settle is_made) old new h =
-      let heard = served_heard _ old h.1.heard h.1.served in
-      let settled = settled_given asks h.0 is_made h.1.heard h.1.settled h.1.settles in
-      left_join old.ends h.1.heard.ends new.ends heard.1 (left_same h.1.heard.ends new.ends (ap (λ x. x.ends) h.1.rest ∙ settled.ends))
+  ends_at (Hear agent thing) old new h = (heard_of agent thing old new h).1
+  ends_at (GoOn agent now is_busy) old new h =
+      tried_left known state old.ends h.kept.ends new.ends (gone_on known state agent now.elapsed h.ends.tried old.ends h.kept.ends h.ends.ends)
+      (left_same h.kept.ends new.ends (ap (λ x. x.ends) h.attend.rest ∙ ap (λ x. x.ends) h.look.rest))
+  ends_at (Give agent now None) old new h = left_same old.ends new.ends (given_of agent now None old new h).ends
+  ends_at (Give agent now (Some change)) old new h = left_same old.ends new.ends (given_of agent now (Some change) old new h).ends
+  ends_at (Settle agent is_made) old new h =
+      let heard = served_heard _ old h.heard h.served in
+      let settled = settled_given asks agent is_made h.heard h.settled h.settles in
+      left_join old.ends h.heard.ends new.ends heard.1 (left_same h.heard.ends new.ends (ap (λ x. x.ends) h.rest ∙ settled.ends))
   ends_at (Rest now rest) old new h = left_same old.ends new.ends (ap (λ x. x.ends) h.0)
 
   -- ---- the same after one more neighbour
@@ -191,16 +192,16 @@ module _ {S T D K E : Type 0} (given : S → Option (List ℕ)) (failures tries 
   abbrev ToKeeper : NeighbourCall → House S T D K E → House S T D K E → Type 0
   ToKeeper call old new = IsAskedWithin asks (goes call) (gives call) old.state new.state
 
-  given_more : (change : Option Change) (x y : House S T D K E) → ToKeeper (Give None) x y → ToKeeper (Give change) x y
-  given_more None x y h = h
-  given_more (Some change) x y h = within_more asks 0 0 0 1 x.state y.state (omega arith) (omega arith) h
+  given_more : (a : Agent) (now : Reading) (change : Option Change) (x y : House S T D K E) → ToKeeper (Give a now None) x y → ToKeeper (Give a now change) x y
+  given_more a now None x y h = h
+  given_more a now (Some change) x y h = within_more asks 0 0 0 1 x.state y.state (omega arith) (omega arith) h
 
   asks_on : Passes ToKeeper
   asks_on = record {
-    heard = λ a b x y z h k. within_join asks 0 0 0 0 x.state y.state z.state h k;
-    settled = λ thing is_made x y h. h;
-    unsettled = λ is_made x y same. within_none asks x.state y.state (ap (λ (v : House S T D K E). v.state) same);
-    goes = λ b c x y h. h;
+    heard = λ a one other x y z h k. within_join asks 0 0 0 0 x.state y.state z.state h k;
+    settled = λ a thing is_made x y h. h;
+    unsettled = λ a is_made x y same. within_none asks x.state y.state (ap (λ (v : House S T D K E). v.state) same);
+    goes = λ a now b c x y h. h;
     gives = given_more;
     rests = λ now rest x y same. within_none asks x.state y.state (ap (λ (v : House S T D K E). v.state) same);
   }
@@ -210,11 +211,11 @@ module _ {S T D K E : Type 0} (given : S → Option (List ℕ)) (failures tries 
 
   ends_on : Passes ToEnds
   ends_on = record {
-    heard = λ a b x y z h k. left_join x.ends y.ends z.ends h k;
-    settled = λ thing is_made x y h. h;
-    unsettled = λ is_made x y same. left_same x.ends y.ends (ap (λ (v : House S T D K E). v.ends) same);
-    goes = λ b c x y h. h;
-    gives = λ change x y h. h;
+    heard = λ a one other x y z h k. left_join x.ends y.ends z.ends h k;
+    settled = λ a thing is_made x y h. h;
+    unsettled = λ a is_made x y same. left_same x.ends y.ends (ap (λ (v : House S T D K E). v.ends) same);
+    goes = λ a now b c x y h. h;
+    gives = λ a now change x y h. h;
     rests = λ now rest x y same. left_same x.ends y.ends (ap (λ (v : House S T D K E). v.ends) same);
   }
 

@@ -269,8 +269,8 @@ module _ {D I L : Type 0} (known : Bool) (seen : D → DiskState) (calls : I →
       spared_more (64 * sum_by looks_of asked) (sum_by looks_of asked) 64 1 old new (omega (arith, few)) few (spared_all asked old new h none)
 
   pub spares_law : {N : Type 0} → (does : NeighbourCall → N → N → Type 0) (ledger : N → Option (Ledger D I L)) → AsksLittle does Does ledger → SparesLedger does calls ledger
-  spares_law does ledger little width t old new h none =
-      let within = little width t old new h in
+  spares_law does ledger little t old new h none =
+      let within = little t old new h in
       let makes = within.few_makes in
       let no_change = ap (λ made. length (given_by made)) none in
       spared_by within.calls (ledger old) (ledger new) within.asked (omega (arith, makes, no_change)) within.few_looks

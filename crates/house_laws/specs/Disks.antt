@@ -19,7 +19,8 @@ use Rattle.keep_secrets.specs.Stamps.{FileCall, Opened, Stamped}
 use Rattle.keep_secrets.specs.declared.looking.TheConstants.{MOST_LOOKS}
 use Rattle.keep_serving.specs.Changes.{given_by}
 use Rattle.keep_serving.specs.Days.{PassesToOthers}
-use Rattle.keep_serving.specs.Neighbours.{AreCalled, NeighbourCall}
+use Rattle.keep_serving.specs.Calls.{TurnCalls}
+use Rattle.keep_serving.specs.Neighbours.{NeighbourCall}
 use Rattle.keep_serving.specs.Turns.{ServingTurn}
 use Rattle.keep_serving.specs.declared.day.EarlyDay.{EarlyDay}
 use Rattle.keep_state.specs.States.{book_in}
@@ -74,7 +75,7 @@ pub record IsAskedWithin {K : Type 0} (asks : KeepCall → K → K → Type 0) (
 
 -- in a turn of neighbours to which each call does this there is one look at most, and no more changes are made than the turn took
 abbrev pub AsksLittle : {K N : Type 0} → (NeighbourCall → N → N → Type 0) → (KeepCall → K → K → Type 0) → (N → Option K) → Type 0
-AsksLittle {K} {N} does asks keeper = (width : ℕ) (t : ServingTurn) (old new : N) → AreCalled does width t old new → IsAskedWithin asks 1 (length (given_by t.made)) (keeper old) (keeper new)
+AsksLittle {K} {N} does asks keeper = (t : ServingTurn) (old new : N) → TurnCalls does t old new → IsAskedWithin asks 1 (length (given_by t.made)) (keeper old) (keeper new)
 
 -- ---- the file of the ends
 
@@ -98,7 +99,7 @@ pub record EndsAreTriedOnce {E : Type 0} (known : Bool) (state : E → DiskState
 
 abbrev pub TriesEnds : {E N : Type 0} → (NeighbourCall → N → N → Type 0) → Bool → (E → DiskState) → (N → Option (EndsFile E)) → Type 0
 TriesEnds {E} {N} does known state ends =
-    (width : ℕ) (t : ServingTurn) (old new : N) → AreCalled does width t old new → AreEndsLeft (ends old) (ends new) ⊎ EndsAreTriedOnce known state (ends old) (ends new)
+    (t : ServingTurn) (old new : N) → TurnCalls does t old new → AreEndsLeft (ends old) (ends new) ⊎ EndsAreTriedOnce known state (ends old) (ends new)
 
 -- ---- files of credentials
 
@@ -134,7 +135,7 @@ SparesIf calls (Some old) (Some new) = LedgerIsSpared calls MOST_LOOKS 1 old new
 
 -- so in a turn in which no change is taken
 abbrev pub SparesLedger : {D I L N : Type 0} → (NeighbourCall → N → N → Type 0) → (I → Option (List FileCall)) → (N → Option (Ledger D I L)) → Type 0
-SparesLedger {D} {I} {L} {N} does calls ledger = (width : ℕ) (t : ServingTurn) (old new : N) → AreCalled does width t old new → t.made ≡ None → SparesIf calls (ledger old) (ledger new)
+SparesLedger {D} {I} {L} {N} does calls ledger = (t : ServingTurn) (old new : N) → TurnCalls does t old new → t.made ≡ None → SparesIf calls (ledger old) (ledger new)
 
 -- ---- these may be a house, an early day before one, or one with a lookout between them
 

@@ -11,7 +11,8 @@ use Rattle.keep_disk.specs.State.{DiskState}
 use Rattle.keep_inventory.specs.Inventories.{Inventory}
 use Rattle.keep_log.specs.declared.writing.TheConstants.{MOST_TRIES}
 use Rattle.keep_serving.specs.Days.{PassesToOthers}
-use Rattle.keep_serving.specs.Neighbours.{AreCalled, NeighbourCall}
+use Rattle.keep_serving.specs.Calls.{TurnCalls}
+use Rattle.keep_serving.specs.Neighbours.{NeighbourCall}
 use Rattle.keep_serving.specs.Turns.{ServingTurn}
 use Rattle.keep_serving.specs.declared.day.EarlyDay.{EarlyDay}
 use Rattle.keep_house.specs.Doing.{DoesToHouse}
@@ -21,7 +22,7 @@ use Rattle.keep_house.specs.declared.house.House.{House}
 
 -- in a turn of neighbours to which each call does this, the reader that they hold is tried 16 times at most
 abbrev pub IsTriedLittle : {S N : Type 0} → (NeighbourCall → N → N → Type 0) → (S → ℕ) → (N → S) → Type 0
-IsTriedLittle {S} {N} does tries reader = (width : ℕ) (t : ServingTurn) (old new : N) → AreCalled does width t old new → tries (reader new) ≤ tries (reader old) + MOST_TRIES
+IsTriedLittle {S} {N} does tries reader = (t : ServingTurn) (old new : N) → TurnCalls does t old new → tries (reader new) ≤ tries (reader old) + MOST_TRIES
 
 -- these may be a house; a house, and one more, who asks that everything is looked up anew; or both of them, and one who looks ahead
 module _ {S T D K E : Type 0} (given : S → Option (List ℕ)) (failures tries : S → ℕ) (remaining written : T → Option (List ℕ)) (calls : T → Option (List Call)) (log : D → Option (DoorLog T))

@@ -1,15 +1,13 @@
 -- Behinds: neighbours, and one more, who looks entries up before their times for an agent that stands behind another.
 -- Source: this project's own.
-use Rattle.std.specs.Prelude.{◌≡◌, ◌⊎◌, ℕ, Bool, true, false, ◌&&◌, ◌||◌, if◌then◌else◌, List, Option, Some, None, is_some, option_map}
+use Rattle.std.specs.Prelude.{◌≡◌, ◌⊎◌, ℕ, Bool, true, false, ◌||◌, if◌then◌else◌, List, Option, Some, None, option_map}
 use Rattle.std.specs.List.{list_any}
 use Rattle.keep_agent.specs.Agent.{Agent}
 use Rattle.keep_clock.specs.Rests.{rest_until, shorter}
 use Rattle.keep_clock.specs.declared.reading.Reading.{Reading}
-use Rattle.keep_serving.specs.Neighbours.{End, Give, GoOn, Hear, NeighbourCall, Rest, Settle, Step, thing_of}
+use Rattle.keep_serving.specs.Neighbours.{Answer, End, Give, GoOn, Hear, NeighbourCall, Needs, Rest, Settle, Step, Thing, Time, Want}
 use Rattle.keep_serving.specs.declared.change.Change.{Change}
 use Rattle.keep_serving.specs.declared.change.Change.TheVariants as changes
-use Rattle.keep_serving.specs.declared.neighbours.Happened.{Happened}
-use Rattle.keep_serving.specs.declared.neighbours.Happened.TheVariants as happened
 use Rattle.watch_machine.specs.Refusal.{is_same}
 use Rattle.watch_machine.specs.State.{WatchState}
 use Rattle.watch_machine.specs.declared.command.Request.{Request}
@@ -21,13 +19,13 @@ use Rattle.keep_behind.specs.declared.behind.Giver.TheVariants.{Others, OthersSe
 
 -- ---- the lookout, where there is one
 
-abbrev pub OneGoesAhead : {L : Type 0} → Option (Ahead L) → Bool → Option (Ahead L) → Type 0
-OneGoesAhead None waits new = (waits ≡ false) × (new ≡ None)
-OneGoesAhead {L} (Some l) waits new = (m : Ahead L) × ((new ≡ Some m) × ((a : Agent) × ((r : Reading) × GoesAhead a r l waits m)))
+abbrev pub OneGoesAhead : {L : Type 0} → Agent → Reading → Option (Ahead L) → Bool → Option (Ahead L) → Type 0
+OneGoesAhead a now None waits new = (waits ≡ false) × (new ≡ None)
+OneGoesAhead {L} a now (Some l) waits new = (m : Ahead L) × ((new ≡ Some m) × GoesAhead a now l waits m)
 
-abbrev pub OneGives : {L : Type 0} → Option (Ahead L) → Option Change → Option (Ahead L) → Type 0
-OneGives None change new = (change ≡ None) × (new ≡ None)
-OneGives {L} (Some l) change new = (m : Ahead L) × ((new ≡ Some m) × ((a : Agent) × GivesAhead a l change m))
+abbrev pub OneGives : {L : Type 0} → Agent → Option (Ahead L) → Option Change → Option (Ahead L) → Type 0
+OneGives a None change new = (change ≡ None) × (new ≡ None)
+OneGives {L} a (Some l) change new = (m : Ahead L) × ((new ≡ Some m) × GivesAhead a l change m)
 
 -- until its lanes have to be looked at, or its next look is due
 abbrev pub rest_ahead : {L : Type 0} → (ℕ → ℕ → L → ℕ) → ℕ → Option (Ahead L) → Option ℕ
@@ -69,51 +67,51 @@ giver_ahead None = Others
 giver_ahead (Some change) = giver_of_known change
 
 -- the others give a change, or else the lookout may
-abbrev pub OthersGive : {N L : Type 0} → (NeighbourCall → N → N → Type 0) → Option Change → Behind N L → Behind N L → Type 0
-OthersGive does None old new = ⊥
-OthersGive does (Some change) old new = does (Give (Some change)) old.others new.others × ((new.lookout ≡ old.lookout) × (new.giver ≡ giver_of change))
+abbrev pub OthersGive : {N L : Type 0} → (NeighbourCall → N → N → Type 0) → Agent → Reading → Option Change → Behind N L → Behind N L → Type 0
+OthersGive does a now None old new = ⊥
+OthersGive does a now (Some change) old new = does (Give a now (Some change)) old.others new.others × ((new.lookout ≡ old.lookout) × (new.giver ≡ giver_of change))
 
-abbrev pub LookoutGives : {N L : Type 0} → (NeighbourCall → N → N → Type 0) → Option Change → Behind N L → Behind N L → Type 0
-LookoutGives does change old new = does (Give None) old.others new.others × (OneGives old.lookout change new.lookout × (new.giver ≡ giver_ahead change))
+abbrev pub LookoutGives : {N L : Type 0} → (NeighbourCall → N → N → Type 0) → Agent → Reading → Option Change → Behind N L → Behind N L → Type 0
+LookoutGives does a now change old new = does (Give a now None) old.others new.others × (OneGives a old.lookout change new.lookout × (new.giver ≡ giver_ahead change))
 
 -- the others hear only of their own changes whether they were made; an end that the lookout gave is one that they hear of
-abbrev pub SettlesBy : {N L : Type 0} → (NeighbourCall → N → N → Type 0) → Giver → Bool → Behind N L → Behind N L → Type 0
-SettlesBy does Others is_made old new = does (Settle is_made) old.others new.others × (new.lookout ≡ old.lookout)
-SettlesBy does OthersServe is_made old new = does (Settle is_made) old.others new.others × (new.lookout ≡ beside_another is_made old.lookout)
-SettlesBy does (Lookout i end) is_made old new = does (Hear End) old.others new.others × (new.lookout ≡ old.lookout)
+abbrev pub SettlesBy : {N L : Type 0} → (NeighbourCall → N → N → Type 0) → Giver → Agent → Bool → Behind N L → Behind N L → Type 0
+SettlesBy does Others a is_made old new = does (Settle a is_made) old.others new.others × (new.lookout ≡ old.lookout)
+SettlesBy does OthersServe a is_made old new = does (Settle a is_made) old.others new.others × (new.lookout ≡ beside_another is_made old.lookout)
+SettlesBy does (Lookout i end) a is_made old new = does (Hear a (End i end)) old.others new.others × (new.lookout ≡ old.lookout)
 
--- they hear that the agent steps in, where it does
+-- the requests that go out, where the time was handed in
+abbrev pub requests_at : Thing → Option (List Request)
+requests_at (Answer entry operation said notes) = None
+requests_at (Time notes requests next) = Some requests
+requests_at (Needs shorts) = None
+requests_at (End entry end) = None
+requests_at (Step lead requests) = None
+requests_at Want = None
+
+-- they hear that the agent steps in with these, so long ahead, where it does
 abbrev pub renews : List Request → Bool
 renews requests = list_any (λ (r : Request). is_same r.operation Renew) requests
 
-abbrev pub StepsBy : {N : Type 0} → (NeighbourCall → N → N → Type 0) → Bool → N → N → Type 0
-StepsBy does true old new = does (Hear Step) old new
-StepsBy does false old new = new ≡ old
+abbrev pub StepsIf : {N : Type 0} → (NeighbourCall → N → N → Type 0) → Bool → Agent → ℕ → List Request → N → N → Type 0
+StepsIf does true a lead requests old new = does (Hear a (Step lead requests)) old new
+StepsIf does false a lead requests old new = new ≡ old
 
--- the requests that go out, where the time was handed in
-abbrev pub requests_at : Happened → Option (List Request)
-requests_at (happened.Clocked notes requests next) = Some requests.now
-requests_at (happened.Shorts shorts) = None
-requests_at (happened.Answered entry operation said notes) = None
-requests_at (happened.Ahead entry end) = None
-requests_at (happened.StepsIn lead requests) = None
-requests_at happened.Refused = None
-requests_at happened.Wanting = None
+abbrev pub StepsBy : {N : Type 0} → (NeighbourCall → N → N → Type 0) → Agent → Option (List Request) → Option ℕ → N → N → Type 0
+StepsBy does a None lead old new = new ≡ old
+StepsBy does a (Some requests) None old new = new ≡ old
+StepsBy does a (Some requests) (Some lead) old new = StepsIf does (renews requests) a lead requests old new
 
-abbrev pub renews_by : Option (List Request) → Bool
-renews_by None = false
-renews_by (Some requests) = renews requests
-
-pub record HearsBy {N L : Type 0} (does : NeighbourCall → N → N → Type 0) (is_behind : Bool) (h : Happened) (old new : Behind N L) : Type 0 where
+pub record HearsBy {N L : Type 0} (does : NeighbourCall → N → N → Type 0) (a : Agent) (thing : Thing) (old new : Behind N L) : Type 0 where
   pub others : N
-  pub hears : does (Hear (thing_of h)) old.others others
-  pub steps : StepsBy does (renews_by (requests_at h) && is_behind) others new.others
+  pub hears : does (Hear a thing) old.others others
+  pub steps : StepsBy does a (requests_at thing) (lead_ahead a.machine old.lookout) others new.others
   pub rest : new ≡ record old { others = new.others }
 
 abbrev pub PassesBehind : {N L : Type 0} → (ℕ → ℕ → L → ℕ) → (NeighbourCall → N → N → Type 0) → NeighbourCall → Behind N L → Behind N L → Type 0
-PassesBehind due_by does (Hear thing) old new = (h : Happened) × ((thing ≡ thing_of h) × HearsBy does (is_some old.lookout) h old new)
-PassesBehind due_by does (GoOn is_busy) old new =
-    (theirs : Bool) × (does (GoOn theirs) old.others new.others × ((waits : Bool) × (OneGoesAhead old.lookout waits new.lookout × (is_busy ≡ theirs || waits))))
-PassesBehind due_by does (Give change) old new = OthersGive does change old new ⊎ LookoutGives does change old new
-PassesBehind due_by does (Settle is_made) old new = SettlesBy does old.giver is_made old new
+PassesBehind due_by does (Hear a thing) old new = HearsBy does a thing old new
+PassesBehind due_by does (GoOn a now is_busy) old new =
+    (theirs : Bool) × (does (GoOn a now theirs) old.others new.others × ((waits : Bool) × (OneGoesAhead a now old.lookout waits new.lookout × (is_busy ≡ theirs || waits))))
+PassesBehind due_by does (Give a now change) old new = OthersGive does a now change old new ⊎ LookoutGives does a now change old new
+PassesBehind due_by does (Settle a is_made) old new = SettlesBy does old.giver a is_made old new
 PassesBehind due_by does (Rest now rest) old new = (new ≡ old) × ((theirs : Option ℕ) × (does (Rest now theirs) old.others old.others × (rest ≡ shorter theirs (rest_ahead due_by now old.lookout))))

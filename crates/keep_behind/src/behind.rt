@@ -1,9 +1,9 @@
 //! Neighbours of an agent that stands behind another.
-ghost use Rattle.std.specs.Prelude.{◌≡◌, ◌⊎◌, ◌&&◌, ℕ, None, Option, is_some, option_map};
+ghost use Rattle.std.specs.Prelude.{◌≡◌, ◌⊎◌, ℕ, None, Option, option_map};
 ghost use Rattle.keep_behind.specs.declared.behind.Giver.TheVariants.{Others};
-ghost use Rattle.keep_behind.specs.Behinds.{HearsBy, LookoutGives, OneGives, OneGoesAhead, OthersGive, SettlesBy, StepsBy, beside_another, giver_ahead, giver_of, giver_of_known, lead_ahead, left_alone, renews, renews_by, requests_at, rest_ahead};
+ghost use Rattle.keep_behind.specs.Behinds.{HearsBy, LookoutGives, OneGives, OneGoesAhead, OthersGive, SettlesBy, StepsBy, beside_another, giver_ahead, giver_of, giver_of_known, lead_ahead, left_alone, renews, requests_at, rest_ahead};
 ghost use Rattle.keep_clock.specs.Rests.{shorter};
-ghost use Rattle.keep_serving.specs.Neighbours.{Rest};
+ghost use Rattle.keep_serving.specs.Neighbours.{Rest, thing_of};
 ghost use Rattle.keep_serving.specs.Outlook.{IsToldNext};
 ghost use Rattle.watch_machine.specs.Refusal.{is_same};
 ghost use Rattle.watch_machine.specs.declared.event.Operation.TheVariants.{Renew};
@@ -54,7 +54,7 @@ impl<N, L: Lanes> Behind<N, L> {
     /// The lookout goes on, where there is one. Whether an answer waits to be handed in.
     #[tactic(auto, using(crate::proofs::Passing::none_goes))]
     fn go_ahead(&mut self, alloc: Global, agent: &Agent, now: Reading) -> bool
-        ensures goes { OneGoesAhead self.old.lookout result self.new.lookout }
+        ensures goes { OneGoesAhead agent.now now self.old.lookout result self.new.lookout }
         ensures rest { self.new ≡ record self.old { lookout = self.new.lookout } }
     {
         match &mut self.lookout {
@@ -66,7 +66,7 @@ impl<N, L: Lanes> Behind<N, L> {
     /// The lookout gives a change, where there is one.
     #[tactic(auto, using(crate::proofs::Passing::none_gives))]
     fn give(&mut self, alloc: Global, agent: &Agent) -> Option<Change>
-        ensures gives { OneGives self.old.lookout result self.new.lookout }
+        ensures gives { OneGives agent.now self.old.lookout result self.new.lookout }
         ensures rest { self.new ≡ record self.old { lookout = self.new.lookout } }
     {
         match &mut self.lookout {
@@ -96,8 +96,7 @@ impl<N, L: Lanes> Behind<N, L> {
 
     /// How long before its time the lookout looks an entry up, where there is one.
     fn lead(&self, watch: &Watch) -> Option<Millis>
-        ensures value { result ≡ lead_ahead watch.now self.now.lookout }
-        ensures is { is_some result ≡ is_some self.now.lookout }
+        ensures { result ≡ lead_ahead watch.now self.now.lookout }
     {
         match &self.lookout {
             None => None,
@@ -150,7 +149,7 @@ fn giver_of_known(change: &Change) -> Giver
 
 /// The requests that go out, where the time was handed in.
 fn requests_in<'a>(happened: &Happened<'a>) -> Option<&'a [Request]>
-    ensures { option_map (λ r. r.now) result ≡ requests_at happened.now }
+    ensures { option_map (λ r. r.now) result ≡ requests_at (thing_of happened.now) }
 {
     match happened {
         Happened::Clocked { requests, .. } => Some(*requests),
@@ -182,7 +181,7 @@ fn is_renewal(operation: Operation) -> bool
 impl<N: Neighbours, L: Lanes> Behind<N, L> {
     /// The others give a change, or else the lookout may.
     fn give_first(&mut self, alloc: Global, agent: &Agent, now: Reading) -> Option<Change>
-        ensures { OthersGive N.does result self.old self.new ⊎ LookoutGives N.does result self.old self.new }
+        ensures { OthersGive N.does agent.now now result self.old self.new ⊎ LookoutGives N.does agent.now now result self.old self.new }
     {
         if let Some(change) = self.others.change(alloc, agent, now) {
             self.giver = giver_of(&change);
@@ -197,16 +196,16 @@ impl<N: Neighbours, L: Lanes> Behind<N, L> {
     #[tactic(auto, using(crate::proofs::Passing::hears_by))]
     fn tell_heard(&mut self, alloc: Global, agent: &Agent, happened: &Happened<'_>)
         requires next { IsToldNext agent.now.machine happened.now }
-        ensures { HearsBy N.does (is_some self.old.lookout) happened.now self.old self.new }
+        ensures { HearsBy N.does agent.now (thing_of happened.now) self.old self.new }
     {
         self.others.hear(alloc, agent, happened);
         self.tell_steps(alloc, agent, requests_in(happened));
     }
 
     /// They hear of the renewals among these requests, where the agent stands behind another.
-    #[tactic(auto, using(crate::proofs::Passing::steps_taken, crate::proofs::Passing::none_taken))]
+    #[tactic(auto, using(crate::proofs::Passing::steps_taken, crate::proofs::Passing::none_renewed, crate::proofs::Passing::none_ahead, crate::proofs::Passing::none_out))]
     fn tell_steps(&mut self, alloc: Global, agent: &Agent, requests: Option<&[Request]>)
-        ensures steps { StepsBy N.does (renews_by (option_map (λ r. r.now) requests.entry) && is_some self.old.lookout) self.old.others self.new.others }
+        ensures steps { StepsBy N.does agent.now (option_map (λ r. r.now) requests.entry) (lead_ahead agent.now.machine self.old.lookout) self.old.others self.new.others }
         ensures rest { self.new ≡ record self.old { others = self.new.others } }
     {
         let Some(requests) = requests else {
@@ -223,7 +222,7 @@ impl<N: Neighbours, L: Lanes> Behind<N, L> {
 
     /// The others are told of their own change whether it was made, and of an end that the lookout gave.
     fn tell(&mut self, alloc: Global, agent: &Agent, is_made: bool)
-        ensures { SettlesBy N.does self.old.giver is_made self.old self.new }
+        ensures { SettlesBy N.does self.old.giver agent.now is_made self.old self.new }
     {
         match self.giver {
             Giver::Others => self.others.settle(alloc, agent, is_made),

@@ -1,6 +1,6 @@
 -- Doing: what each call of the loop does to a house.
 -- Source: this project's own; what each neighbour is given of it is specs/Houses, specs/Commands, specs/SecretLines and specs/Ends.
-use Rattle.std.specs.Prelude.{◌≡◌, ℕ, Bool, true, false, ◌&&◌, ◌||◌, List, Option, Result, option_map}
+use Rattle.std.specs.Prelude.{◌≡◌, ℕ, Bool, true, false, ◌&&◌, ◌||◌, List, Option, Some, None, Result, option_map}
 use Rattle.std.specs.declared.alloc.AllocError.{AllocError}
 use Rattle.keep_agent.specs.Agent.{Agent}
 use Rattle.keep_change.specs.declared.row.Row.{Row}
@@ -9,9 +9,7 @@ use Rattle.keep_clients.specs.declared.talk.Call.{Call}
 use Rattle.keep_clock.specs.declared.reading.Reading.{Reading}
 use Rattle.keep_disk.specs.State.{DiskState}
 use Rattle.keep_inventory.specs.Inventories.{Inventory}
-use Rattle.keep_serving.specs.Neighbours.{Give, GoOn, Hear, NeighbourCall, Rest, Settle, thing_of}
-use Rattle.keep_serving.specs.declared.neighbours.Happened.{Happened}
-use Rattle.keep_serving.specs.declared.neighbours.Happened.TheVariants as happened
+use Rattle.keep_serving.specs.Neighbours.{Answer, End, Give, GoOn, Hear, NeighbourCall, Needs, Rest, Settle, Step, Thing, Time, Want}
 use Rattle.watch_machine.specs.declared.command.Request.{Request}
 use Rattle.watch_machine.specs.declared.notes.Notes.{Notes}
 use Rattle.watch_machine.specs.declared.outlook.Next.{Next}
@@ -42,17 +40,17 @@ pub record HearsOfTime {S T D K E : Type 0} (agent : Agent) (notes : Notes) (req
 
 -- an answer is said, and the ends are to be kept anew where it tells of one, as where one is looked up ahead; what is done behind another is
 -- said and counted. Nothing else changes
-abbrev pub HearsOf : {S T D K E : Type 0} → Agent → Happened → House S T D K E → House S T D K E → Type 0
-HearsOf agent (happened.Clocked notes requests next) old new = HearsOfTime agent notes.now requests.now next old new
-HearsOf agent (happened.Shorts shorts) old new = HearsShorts agent shorts.now old.desk new.desk × (new ≡ record old { desk = new.desk })
-HearsOf agent (happened.Answered entry operation said notes) old new =
-    HearsAnswer agent entry operation said notes.now old.desk new.desk × (new ≡ record old { desk = new.desk; ends = option_map (after_answer said.reply) old.ends })
-HearsOf agent (happened.Ahead entry end) old new =
+abbrev pub HearsOf : {S T D K E : Type 0} → Agent → Thing → House S T D K E → House S T D K E → Type 0
+HearsOf agent (Time notes requests next) old new = HearsOfTime agent notes requests next old new
+HearsOf agent (Needs (Some shorts)) old new = HearsShorts agent shorts old.desk new.desk × (new ≡ record old { desk = new.desk })
+HearsOf agent (Needs None) old new = HearsWanting agent old.desk new.desk × (new ≡ record old { desk = new.desk })
+HearsOf agent (Answer entry operation said notes) old new =
+    HearsAnswer agent entry operation said notes old.desk new.desk × (new ≡ record old { desk = new.desk; ends = option_map (after_answer said.reply) old.ends })
+HearsOf agent (End entry end) old new =
     HearsAhead agent entry end old.desk new.desk × (new ≡ record old { desk = new.desk; standby = looked old.standby; ends = option_map to_be_kept old.ends })
-HearsOf agent (happened.StepsIn lead requests) old new =
-    HearsSteps agent lead requests.now old.desk new.desk × (new ≡ record old { desk = new.desk; standby = stepped (steps_in_count agent.machine lead old.desk.marks requests.now) old.standby })
-HearsOf agent happened.Refused old new = HearsWanting agent old.desk new.desk × (new ≡ record old { desk = new.desk })
-HearsOf agent happened.Wanting old new = HearsWanting agent old.desk new.desk × (new ≡ record old { desk = new.desk })
+HearsOf agent (Step lead requests) old new =
+    HearsSteps agent lead requests old.desk new.desk × (new ≡ record old { desk = new.desk; standby = stepped (steps_in_count agent.machine lead old.desk.marks requests) old.standby })
+HearsOf agent Want old new = HearsWanting agent old.desk new.desk × (new ≡ record old { desk = new.desk })
 
 -- ---- a change is settled
 
@@ -85,10 +83,9 @@ module _ {S T D K E : Type 0} (given : S → Option (List ℕ)) (failures tries 
     pub attend : Attends given failures tries remaining written calls log rows agent now is_more looked new
     pub busy : is_busy ≡ (goes_on || is_more)
 
-  -- for some agent, at some reading; what is heard of is such a thing
   abbrev pub DoesToHouse : NeighbourCall → House S T D K E → House S T D K E → Type 0
-  DoesToHouse (Hear thing) old new = (agent : Agent) × ((h : Happened) × ((thing ≡ thing_of h) × HearsOf agent h old new))
-  DoesToHouse (GoOn is_busy) old new = (agent : Agent) × ((now : Reading) × HouseGoesOn agent now is_busy old new)
-  DoesToHouse (Give change) old new = (agent : Agent) × ((now : Reading) × AsksFor does rows path reads gives agent now change old new)
-  DoesToHouse (Settle is_made) old new = (agent : Agent) × SettlesChange does agent is_made old new
+  DoesToHouse (Hear agent thing) old new = HearsOf agent thing old new
+  DoesToHouse (GoOn agent now is_busy) old new = HouseGoesOn agent now is_busy old new
+  DoesToHouse (Give agent now change) old new = AsksFor does rows path reads gives agent now change old new
+  DoesToHouse (Settle agent is_made) old new = SettlesChange does agent is_made old new
   DoesToHouse (Rest now rest) old new = (new ≡ old) × Rests does now rest old

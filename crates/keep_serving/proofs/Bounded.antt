@@ -1,14 +1,22 @@
 -- Bounded: how long a turn waits at most, and how often it calls its neighbours. For `a_turn_is_bounded`.
-use Rattle.std.proofs.Common.{◌≡◌, ◌∙◌, ℕ, ◌+◌, ◌-◌, ◌≤◌, Bool, true, false, ◌||◌, List, [], ◌∷◌, ◌++◌, Option, None, Some, length, replicate, ap, arith, subst, sym}
+use Rattle.std.proofs.Common.{◌≡◌, ◌∙◌, ℕ, ◌+◌, ◌-◌, ◌≤◌, Bool, true, false, ◌||◌, List, [], ◌∷◌, ◌++◌, Option, None, Some, length, ap, arith, inl, inr, refl, subst, sym}
 use Rattle.std.specs.Prelude.{IfSome}
-use Rattle.std.proofs.lemmas.List.{length-append, length-replicate}
+use Rattle.std.proofs.lemmas.List.{length-append}
+use Rattle.keep_agent.specs.Agent.{Agent}
+use Rattle.keep_asking.specs.Sending.{Lanes}
+use Rattle.keep_asking.proofs.InStep.{parted_count}
 use Rattle.keep_clock.specs.declared.reading.Reading.{Reading}
 use Rattle.keep_device.specs.Moments.{earlier}
+use Rattle.keep_lanes.specs.declared.lanes.Answered.{Answered}
+use Rattle.keep_serving.specs.Calls.{calls_after, calls_at, calls_of_answering, calls_of_answers, calls_of_reading, calls_of_taken, calls_of_taking, heard_of_want}
 use Rattle.keep_serving.specs.Changes.{MadeChange, is_one_made}
-use Rattle.keep_serving.specs.Held.{Held}
+use Rattle.keep_serving.specs.Held.{Held, IsInStep, ServingSide}
 use Rattle.keep_serving.specs.Laws.{CallsLaw, TurnWaitLaw}
-use Rattle.keep_serving.specs.Neighbours.{Answer, GoOn, Hear, NeighbourCall, Rest, calls_after, calls_at, calls_for_change, calls_of_hearing, heard_of_time, heard_of_want}
-use Rattle.keep_serving.specs.Turns.{ServingTurn, longest_wait, turn_wait_by}
+use Rattle.keep_serving.specs.Neighbours.{GoOn, Rest, calls_for_change}
+use Rattle.keep_serving.specs.Stages.{AnswersAreTaken, Commands, HandsInAnswers, HaveTaken, LeftOverGoesFirst, OnHeld, TakesAnswers, TakesUp, Then, of_answers, of_coming, of_commands, of_left, of_stages}
+use Rattle.keep_serving.specs.Turns.{ServingTurn, TurnHears, longest_wait, turn_wait_by}
+use Rattle.keep_serving.specs.declared.change.Change.{Change}
+use Rattle.keep_serving.proofs.Staged.{sends_keeps}
 
 -- ---- the wait
 
@@ -48,44 +56,98 @@ wait_law port old new t h =
 
 -- ---- the calls
 
-few_of_time : (is_handed : Bool) → length (heard_of_time is_handed) ≤ 2
-few_of_time true = omega arith
-few_of_time false = omega arith
+-- one for each answer
+few_of_answers : (answers : List Answered) (old new : Agent) (h : AnswersAreTaken answers old new) → length (calls_of_answers answers old new h) ≡ length answers
+few_of_answers [] old new h = refl
+few_of_answers (a ∷ rest) old new h = (let more = few_of_answers rest h.0 new h.1.1 in omega (arith, more))
 
-few_heard : (answers : ℕ) (is_handed : Bool) → length (calls_of_hearing answers is_handed) ≤ answers + 2
-few_heard answers is_handed =
-    let all = length-append (replicate answers (Hear Answer)) (heard_of_time is_handed) in
-    let first = length-replicate answers (Hear Answer) in
-    let last = few_of_time is_handed in
-    omega (arith, all, first, last)
+few_taken : (old new : Held) (h : HaveTaken old new) → length (calls_of_taken old new h) + length new.pending ≡ length old.pending
+few_taken old new h =
+    let parts = ap length h.parts ∙ length-append h.taken new.pending in
+    let one = few_of_answers h.taken old.agent new.agent h.agent in
+    omega (arith, parts, one)
 
-few_of_change : (made : Option MadeChange) → length (calls_for_change made) ≤ 2
-few_of_change None = omega arith
-few_of_change (Some m) = omega arith
+few_taking : (old : Held) (is_whole : Bool) (new : Held) (h : TakesAnswers old is_whole new) → length (calls_of_taking old is_whole new h) + length new.pending ≡ length old.pending
+few_taking old true new h = few_taken old new h.0
+few_taking old false new h = few_taken old new h.0
 
-few_of_want : (is_whole : Bool) → length (heard_of_want is_whole) ≤ 1
-few_of_want true = omega arith
-few_of_want false = omega arith
+module _ (port : ℕ) (r : Reading) where
+  few_commands : (old : ServingSide) (is_whole : Bool) (new : ServingSide) (h : Commands port r old is_whole new) → length (of_commands port r calls_of_answering (calls_of_reading r) old is_whole new h) ≤ 2
+  few_commands old is_whole new (inl h) = omega arith
+  few_commands old is_whole new (inr h) = omega arith
+
+  few_handed : (old : ServingSide) (is_whole : Bool) (new : ServingSide) (h : HandsInAnswers port r old is_whole new) → length (of_answers port r calls_of_answering (calls_of_reading r) old is_whole new h) ≤ length old.held.pending + 2
+  few_handed old is_whole new (inl h) =
+      let first = calls_of_taking old.held true h.0.held h.1.0.0 in
+      let more = of_commands port r calls_of_answering (calls_of_reading r) h.0 is_whole new h.1.1 in
+      let all = length-append first more in
+      let one = few_taking old.held true h.0.held h.1.0.0 in
+      let two = few_commands h.0 is_whole new h.1.1 in
+      omega (arith, all, one, two)
+  few_handed old is_whole new (inr h) = (let one = few_taking old.held false new.held h.0.0 in omega (arith, one))
+
+  few_come : (old : ServingSide) (is_whole : Bool) (new : ServingSide) (h : TakesUp port r old is_whole new) → length (of_coming port r calls_of_answering (calls_of_reading r) old is_whole new h) ≤ length old.lanes.out + 2
+  few_come old is_whole new (inl h) =
+      let parts = parted_count old.lanes.out h.0.held.pending h.0.lanes.out h.1.0.parted in
+      let more = few_handed h.0 is_whole new h.1.1 in
+      omega (arith, parts, more)
+  few_come old is_whole new (inr h) = omega arith
+
+  few_left : (old : ServingSide) (is_whole : Bool) (new : ServingSide) (h : Then (OnHeld TakesAnswers) (TakesUp port r) old is_whole new) →
+      length (of_left port r calls_of_answering (calls_of_reading r) old is_whole new h) ≤ length old.held.pending + length old.lanes.out + 2
+  few_left old is_whole new (inl h) =
+      let first = calls_of_taking old.held true h.0.held h.1.0.0 in
+      let more = of_coming port r calls_of_answering (calls_of_reading r) h.0 is_whole new h.1.1 in
+      let all = length-append first more in
+      let one = few_taking old.held true h.0.held h.1.0.0 in
+      let two = few_come h.0 is_whole new h.1.1 in
+      let same = ap (λ (l : Lanes). length l.out) h.1.0.1 in
+      omega (arith, all, one, two, same)
+  few_left old is_whole new (inr h) = (let one = few_taking old.held false new.held h.0.0 in omega (arith, one))
+
+  -- no more than there are lanes, and two of the time
+  few_heard : (width : ℕ) (old : ServingSide) (is_whole : Bool) (new : ServingSide) (h : LeftOverGoesFirst port r old is_whole new) → IsInStep width old.lanes.out old.held →
+      length (of_stages port r calls_of_answering (calls_of_reading r) old is_whole new h) ≤ width + 2
+  few_heard width old is_whole new (inl h) step =
+      let sent = sends_keeps port width old h.0 true h.1.0 step in
+      let count = sent.count in
+      let room = sent.room in
+      let left = few_left h.0 is_whole new h.1.1 in
+      omega (arith, count, room, left)
+  few_heard width old is_whole new (inr h) step = omega arith
+
+few_of_change : (a : Agent) (r : Reading) (told : Change → Agent) (made : Option MadeChange) → length (calls_for_change a r told made) ≤ 2
+few_of_change a r told None = omega arith
+few_of_change a r told (Some m) = omega arith
+
+few_of_want : (is_whole : Bool) (a : Agent) → length (heard_of_want is_whole a) ≤ 1
+few_of_want true a = omega arith
+few_of_want false a = omega arith
 
 -- but for the call that tells of a want
-few_at : (answers : ℕ) (is_handed is_whole : Bool) (rest : List NeighbourCall) → length rest ≤ 4 → length (calls_of_hearing answers is_handed ++ (heard_of_want is_whole ++ rest)) ≤ answers + 6 + length (heard_of_want is_whole)
-few_at answers is_handed is_whole rest last =
-    let all = length-append (calls_of_hearing answers is_handed) (heard_of_want is_whole ++ rest) in
-    let want = length-append (heard_of_want is_whole) rest in
-    let first = few_heard answers is_handed in
-    omega (arith, all, want, first, last)
+few_after : (r : Reading) (t : ServingTurn) (mid new : Agent) → length (calls_after r t mid new) ≤ 4 + length (heard_of_want t.is_whole mid)
+few_after r t mid new =
+    let asks = calls_for_change mid r (λ change. new) t.made in
+    let all = length-append (heard_of_want t.is_whole mid) (GoOn mid r t.is_busy ∷ (asks ++ Rest r.elapsed t.rest ∷ [])) in
+    let after = length-append asks (Rest r.elapsed t.rest ∷ []) in
+    let change = few_of_change mid r (λ change. new) t.made in
+    omega (arith, all, after, change)
 
-few_calls : (reading : Option Reading) (answers : ℕ) (is_handed : Bool) (t : ServingTurn) → length (calls_at reading answers is_handed t) ≤ answers + 6 + length (heard_of_want t.is_whole)
-few_calls None answers is_handed t = omega arith
-few_calls (Some r) answers is_handed t =
-    let change = few_of_change t.made in
-    let after = length-append (calls_for_change t.made) (Rest r.elapsed t.rest ∷ []) in
-    few_at answers is_handed t.is_whole (GoOn t.is_busy ∷ calls_after r t) (omega (arith, change, after))
+few_calls :
+    (port width : ℕ) (reading : Option Reading) (old : ServingSide) (t : ServingTurn) (mid : ServingSide) (new : Agent) (h : TurnHears port reading old t.is_whole mid) → IsInStep width old.lanes.out old.held →
+    length (calls_at port reading old t mid new h) ≤ width + 6 + length (heard_of_want t.is_whole mid.held.agent)
+few_calls port width None old t mid new h step = omega arith
+few_calls port width (Some r) old t mid new h step =
+    let heard = of_stages port r calls_of_answering (calls_of_reading r) old t.is_whole mid h in
+    let all = length-append heard (calls_after r t mid.held.agent new) in
+    let first = few_heard port r width old t.is_whole mid h step in
+    let after = few_after r t mid.held.agent new in
+    omega (arith, all, first, after)
 
 pub calls_law : CallsLaw
-calls_law answers is_handed t =
-    let few = few_calls t.reading answers is_handed t in
-    let want = few_of_want t.is_whole in (
+calls_law port width old new t is step =
+    let few = few_calls port width t.reading old t is.mid new.held.agent is.hears step in
+    let want = few_of_want t.is_whole is.mid.held.agent in (
       omega (arith, few, want),
-      λ whole. (let none : length (heard_of_want t.is_whole) ≡ 0 = ap (λ w. length (heard_of_want w)) whole in omega (arith, few, none)),
+      λ whole. (let none : length (heard_of_want t.is_whole is.mid.held.agent) ≡ 0 = ap (λ w. length (heard_of_want w is.mid.held.agent)) whole in omega (arith, few, none)),
     )

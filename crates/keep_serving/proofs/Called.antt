@@ -1,12 +1,20 @@
 -- Called: calls of the neighbours, one after another. For the parts of a turn, and for `run`.
-use Rattle.std.proofs.Common.{◌≡◌, ◌∙◌, ℕ, ◌+◌, ◌≤◌, Bool, true, false, List, [], ◌∷◌, ◌++◌, Result, Ok, Err, IsErr, is_ok, append_assoc, replicate, refl, sym, ap, subst, arith}
-use Rattle.std.proofs.lemmas.List.{replicate-append-replicate}
-use Rattle.keep_serving.specs.Neighbours.{AllCalled, Answer, AnswersAreHeardOf, AreCalled, AreCalledFor, Hear, NeighbourCall, calls_of_hearing, heard_of_time}
-use Rattle.keep_serving.specs.Turns.{ServingTurn}
+use Rattle.std.proofs.Common.{◌≡◌, ◌∙◌, ℕ, Bool, true, false, List, [], ◌∷◌, ◌++◌, Result, Ok, Err, IsErr, is_ok, refl, sym, subst, inl, inr}
+use Rattle.keep_serving.specs.Calls.{InStage, calls_in, calls_of, on_held}
+use Rattle.keep_serving.specs.Held.{Held, ServingSide, serving_side}
+use Rattle.keep_serving.specs.Neighbours.{AllCalled, NeighbourCall, WithCalls}
+use Rattle.keep_serving.specs.Runs.{AreTurns}
+use Rattle.keep_serving.specs.Stages.{Listed, OnHeld, Then, one_and_then}
+use Rattle.keep_serving.specs.Turns.{IsServingTurn, ServingTurn}
+use Rattle.keep_asking.specs.Sending.{Lanes}
 
 pub called_join : {N : Type 0} → (does : NeighbourCall → N → N → Type 0) (xs ys : List NeighbourCall) (a b c : N) → AllCalled does xs a b → AllCalled does ys b c → AllCalled does (xs ++ ys) a c
 called_join {N} does [] ys a b c h k = subst (λ (n : N). AllCalled does ys n c) h k
 called_join does (x ∷ xs) ys a b c h k = (h.0, (h.1.0, called_join does xs ys h.0 b c h.1.1 k))
+
+called_split : {N : Type 0} → (does : NeighbourCall → N → N → Type 0) (xs ys : List NeighbourCall) (a c : N) → AllCalled does (xs ++ ys) a c → (b : N) × (AllCalled does xs a b × AllCalled does ys b c)
+called_split does [] ys a c h = (a, (refl, h))
+called_split does (x ∷ xs) ys a c h = (let rest = called_split does xs ys h.0 c h.1.1 in (rest.0, ((h.0, (h.1.0, rest.1.0)), rest.1.1)))
 
 pub called_once : {N : Type 0} → (does : NeighbourCall → N → N → Type 0) (x : NeighbourCall) (a b : N) → does x a b → AllCalled does (x ∷ []) a b
 called_once does x a b h = (b, (h, refl))
@@ -18,35 +26,33 @@ pub not_ok : {T E : Type 0} → (r : Result T E) → IsErr r → is_ok r ≡ fal
 not_ok (Ok x) is = absurd (let e : false ≡ true = is in cc)
 not_ok (Err e) is = refl
 
--- ---- answers are heard of, and the time
+-- ---- stages, one after another
 
--- one answer more
-pub answers_on : {N : Type 0} → (does : NeighbourCall → N → N → Type 0) (n : ℕ) (a b c : N) → AllCalled does (replicate n (Hear Answer)) a b → does (Hear Answer) b c → AllCalled does (replicate (n + 1) (Hear Answer)) a c
-answers_on does n a b c h one =
-    subst (λ xs. AllCalled does xs a c) (replicate-append-replicate n 1 (Hear Answer)) (called_join does (replicate n (Hear Answer)) (Hear Answer ∷ []) a b c h (called_once does (Hear Answer) b c one))
+module _ {N : Type 0} (does : NeighbourCall → N → N → Type 0) where
+  pub held_with :
+      (stage : Held → Bool → Held → Type 0) (calls : (old : Held) (is_whole : Bool) (new : Held) → stage old is_whole new → List NeighbourCall) (old new : Held) (lanes : Lanes) (is_whole : Bool) (a b : N) →
+      WithCalls does (stage old is_whole new) (calls old is_whole new) a b → InStage does (OnHeld stage) (on_held stage calls) (serving_side old lanes) is_whole (serving_side new lanes) a b
+  held_with stage calls old new lanes is_whole a b h = record { is = (h.is, refl); called = h.called }
 
--- some answers, and then what is heard
-pub heard_more : {N : Type 0} → (does : NeighbourCall → N → N → Type 0) (n most total : ℕ) (is_whole : Bool) (a b c : N) → AllCalled does (replicate n (Hear Answer)) a b → AnswersAreHeardOf does most is_whole b c → n + most ≤ total → AnswersAreHeardOf does total is_whole a c
-heard_more does n most total is_whole a b c first h room =
-    let few = h.few in
-    let all = called_join does (replicate n (Hear Answer)) (calls_of_hearing h.answers h.is_handed) a b c first h.called in
-    let is = sym (append_assoc (replicate n (Hear Answer)) (replicate h.answers (Hear Answer)) (heard_of_time h.is_handed)) ∙ ap (λ xs. xs ++ heard_of_time h.is_handed) (replicate-append-replicate n h.answers (Hear Answer)) in
-    record { answers = n + h.answers; few = omega (arith, few, room); is_handed = h.is_handed; whole = h.whole; called = subst (λ xs. AllCalled does xs a c) is all }
+  module _ (first second : ServingSide → Bool → ServingSide → Type 0) (one : Listed NeighbourCall first) (more : Listed NeighbourCall second) where
+    pub both_with : (old mid new : ServingSide) (is_whole : Bool) (a b c : N) → InStage does first one old true mid a b → InStage does second more mid is_whole new b c → InStage does (Then first second) (one_and_then first second one more) old is_whole new a c
+    both_with old mid new is_whole a b c h k = record { is = inl (mid, (h.is, k.is)); called = called_join does (one old true mid h.is) (more mid is_whole new k.is) a b c h.called k.called }
 
--- nothing is heard where memory was wanting
-pub heard_none : {N : Type 0} → (does : NeighbourCall → N → N → Type 0) (most : ℕ) (is_whole : Bool) (a b : N) → is_whole ≡ false → b ≡ a → AnswersAreHeardOf does most is_whole a b
-heard_none does most is_whole a b not same = record { answers = 0; few = omega arith; is_handed = false; whole = λ is. absurd (let e = sym is ∙ not in cc); called = same }
+    -- memory was wanting in the first
+    pub first_with : (old new : ServingSide) (is_whole : Bool) (a b : N) → is_whole ≡ false → InStage does first one old false new a b → InStage does (Then first second) (one_and_then first second one more) old is_whole new a b
+    first_with old new is_whole a b not h = record { is = inr (h.is, not); called = h.called }
 
--- some answers were heard of, and then memory was wanting
-pub heard_some : {N : Type 0} → (does : NeighbourCall → N → N → Type 0) (n most : ℕ) (is_whole : Bool) (a b : N) → is_whole ≡ false → n ≤ most → AllCalled does (replicate n (Hear Answer)) a b → AnswersAreHeardOf does most is_whole a b
-heard_some does n most is_whole a b not few first = heard_more does n 0 most is_whole a b b first (heard_none does 0 is_whole b b not refl) (omega (arith, few))
+  -- ---- turns
 
--- the time alone
-pub heard_time : {N : Type 0} → (does : NeighbourCall → N → N → Type 0) (is_whole : Bool) (a b : N) → AllCalled does (heard_of_time true) a b → AnswersAreHeardOf does 0 is_whole a b
-heard_time does is_whole a b h = record { answers = 0; few = omega arith; is_handed = true; whole = λ is. refl; called = h }
-
--- ---- turns
-
-pub turns_called : {N : Type 0} → (does : NeighbourCall → N → N → Type 0) (width : ℕ) (ts : List ServingTurn) (t : ServingTurn) (a b c : N) → AreCalledFor does width ts a b → AreCalled does width t b c → AreCalledFor does width (ts ++ t ∷ []) a c
-turns_called {N} does width [] t a b c h one = (c, (subst (λ (n : N). AreCalled does width t n c) h one, refl))
-turns_called does width (x ∷ ts) t a b c h one = (h.0, (h.1.0, turns_called does width ts t h.0 b c h.1.1 one))
+  pub turns_on :
+      (port : ℕ) (ts : List ServingTurn) (t : ServingTurn) (old mid new : ServingSide) (a b c : N) → WithCalls does (AreTurns port old ts mid) (calls_of port old ts mid) a b →
+      WithCalls does (IsServingTurn port mid t new) (calls_in port mid t new) b c → WithCalls does (AreTurns port old (ts ++ t ∷ []) new) (calls_of port old (ts ++ t ∷ []) new) a c
+  turns_on port [] t old mid new a b c h one =
+      let from = subst (λ (n : N). WithCalls does (IsServingTurn port mid t new) (calls_in port mid t new) n c) h.called one in
+      let moved = subst (λ (s : ServingSide). WithCalls does (IsServingTurn port s t new) (calls_in port s t new) a c) h.is from in
+      record { is = (new, (moved.is, refl)); called = called_join does (calls_in port old t new moved.is) [] a c c moved.called refl }
+  turns_on port (x ∷ xs) t old mid new a b c h one =
+      let first = calls_in port old x h.is.0 h.is.1.0 in
+      let parts = called_split does first (calls_of port h.is.0 xs mid h.is.1.1) a b h.called in
+      let more = turns_on port xs t h.is.0 mid new parts.0 b c (record { is = h.is.1.1; called = parts.1.1 }) one in
+      record { is = (h.is.0, (h.is.1.0, more.is)); called = called_join does first (calls_of port h.is.0 (xs ++ t ∷ []) new more.is) a parts.0 c parts.1.0 more.called }

@@ -1,5 +1,5 @@
 -- Changed: a change is made, and leaves what is held in step with the lanes. For `make_change` and the turn.
-use Rattle.std.proofs.Common.{◌≡◌, ◌≢◌, ◌==◌, ◌∙◌, ℕ, ◌<◌, All, Bool, true, false, List, [], ◌++◌, Option, Some, None, Result, Ok, Err, append_assoc, eqb-true, length, map, refl, sym, ap, ap₂, subst, arith, inl, inr}
+use Rattle.std.proofs.Common.{◌≡◌, ◌≢◌, ◌==◌, ◌&&◌, ◌∙◌, ℕ, ◌<◌, All, Bool, true, false, List, [], ◌++◌, Option, Some, None, Result, Ok, Err, append_assoc, eqb-true, length, map, refl, sym, ap, ap₂, subst, arith, inl, inr}
 use Rattle.std.proofs.lemmas.List.{nil_from_length}
 use Rattle.std.proofs.lemmas.List.Elements.{All-nil}
 use Rattle.keep_agent.specs.Agent.{Agent}
@@ -36,9 +36,16 @@ served_already s old same = inl (same, refl)
 pub served_anew : (s : Inventory) (old new : ServingSide) → s ≢ old.held.agent.inventory → InventoryIsServed s old new → ServesInventory s old new
 served_anew s old new other served = inr (other, served)
 
--- a list of no length
-pub none_left : {X : Type 0} (xs : List X) (n : ℕ) → n ≡ length xs → (n == 0) ≡ true → xs ≡ []
-none_left xs n is none = nil_from_length xs (sym is ∙ eqb-true n 0 none)
+-- lists of no length
+none_left : {X : Type 0} (xs : List X) → (length xs == 0) ≡ true → xs ≡ []
+none_left xs none = nil_from_length xs (eqb-true (length xs) 0 none)
+
+pub both_none : {X Y : Type 0} (xs : List X) (ys : List Y) → (length xs == 0 && length ys == 0) ≡ true → (xs ≡ []) × (ys ≡ [])
+both_none xs ys none = by (length xs == 0) (length ys == 0) refl refl none where
+  by : (a b : Bool) → (length xs == 0) ≡ a → (length ys == 0) ≡ b → a && b ≡ true → (xs ≡ []) × (ys ≡ [])
+  by true true first second none = (none_left xs first, none_left ys second)
+  by true false first second none = absurd (let e : false ≡ true = none in cc)
+  by false b first second none = absurd (let e : false ≡ true = none in cc)
 
 -- as many requests are out after a change as before it
 pub as_many_out : (old new : Agent) (s : Inventory) → AgentIsChanged old s new → length new.machine.out ≡ length old.machine.out

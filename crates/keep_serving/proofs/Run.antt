@@ -4,15 +4,10 @@ use Rattle.std.proofs.lemmas.List.{length-append}
 use Rattle.keep_clock.specs.Seen.{AllMade, ClockSeen}
 use Rattle.keep_clock.proofs.Joined.{joined_law}
 use Rattle.keep_serving.specs.Changes.{AllGiven, given_by}
-use Rattle.keep_serving.specs.Held.{ServingSide}
-use Rattle.keep_serving.specs.Runs.{AreTurns, all_calls, all_changes}
-use Rattle.keep_serving.specs.Turns.{IsServingTurn, ServingTurn, calls_of_turn}
+use Rattle.keep_serving.specs.Runs.{all_calls, all_changes}
+use Rattle.keep_serving.specs.Turns.{ServingTurn, calls_of_turn}
 use Rattle.keep_serving.specs.declared.change.Change.{Change}
 use Rattle.keep_serving.proofs.Changed.{given_join}
-
-pub turns_on : (port : ℕ) (ts : List ServingTurn) (t : ServingTurn) (old mid new : ServingSide) → AreTurns port old ts mid → IsServingTurn port mid t new → AreTurns port old (ts ++ t ∷ []) new
-turns_on port [] t old mid new h one = (new, (subst (λ (s : ServingSide). IsServingTurn port s t new) h one, refl))
-turns_on port (x ∷ xs) t old mid new h one = (h.0, (h.1.0, turns_on port xs t h.0 mid new h.1.1 one))
 
 append_none : {T : Type 0} → (xs : List T) → xs ++ [] ≡ xs
 append_none [] = refl

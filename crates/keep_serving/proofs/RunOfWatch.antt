@@ -4,7 +4,7 @@ use Rattle.keep_agent.specs.Agent.{Agent, fresh}
 use Rattle.watch_machine.specs.declared.event.Event.{Event}
 use Rattle.watch_machine.specs.declared.event.Event.TheVariants as events
 use Rattle.watch_machine.specs.State.{opened}
-use Rattle.keep_serving.specs.Apart.{Ending, EndsBy, Spent, Unread, Over, Wanting, Changed}
+use Rattle.keep_serving.specs.Apart.{Ending, EndsBy, Spent, Unread, Over, Changed}
 use Rattle.keep_serving.specs.Happenings.{happenings_of}
 use Rattle.keep_serving.specs.Held.{Held, ServingSide}
 use Rattle.keep_serving.specs.Laws.{Lead}
@@ -39,13 +39,12 @@ wait_leads : (until : ℕ) (ending : Ending) (old new : ServingSide) (h : EndsBy
 wait_leads until Spent old new h = stays old new h
 wait_leads until Unread old new h = stays old new h
 wait_leads until (Over r) old new h = stays old new h.1
-wait_leads until (Wanting r) old new h = stays old new h.1
-wait_leads until (Changed r is_busy change) old new h = by_change change true old new h.1.1
+wait_leads until (Changed r shown is_busy change) old new h = by_change change true old new h.1.1
 
 -- ---- laws
 
 pub serving_law : ServingLaw
-serving_law port width until most known s agent start begun new w turns resumed is waited are =
+serving_law port width until most known s agent shown start begun new w turns resumed is waited are =
     let waits = happenings_of_wait until w.ending start begun waited.ends in
     let goes = happenings_of port begun turns new are in
     let later = and_then start.held.agent.machine begun.held.agent.machine new.held.agent.machine waits goes (wait_leads until w.ending start begun waited.ends) (stretch_law port begun new turns are) in

@@ -1,13 +1,10 @@
--- Staged: one stage after another; and that each leaves what is held in step with the lanes. For the parts of a turn.
+-- Staged: each stage leaves what is held in step with the lanes. For the parts of a turn.
 use Rattle.std.proofs.Common.{◌≡◌, ℕ, Bool, true, false, List, sym, subst, inl, inr}
 use Rattle.keep_clock.specs.declared.reading.Reading.{Reading}
 use Rattle.keep_lanes.specs.Out as lanes
 use Rattle.keep_serving.specs.Held.{IsInStep, ServingSide}
 use Rattle.keep_serving.specs.Stages.{AnswersCome, Commands, HandsInAnswers, LeftOverGoesFirst, OnHeld, SendsRequests, TakesAnswers, TakesReadings, TakesUp, Then}
 use Rattle.keep_serving.proofs.InStep.{in_step_come, in_step_gone, in_step_kept, in_step_read, in_step_taken}
-
-pub then_on : (first second : ServingSide → Bool → ServingSide → Type 0) (old mid new : ServingSide) (is_whole : Bool) → first old true mid → second mid is_whole new → Then first second old is_whole new
-then_on first second old mid new is_whole a b = inl (mid, (a, b))
 
 -- ---- in step
 

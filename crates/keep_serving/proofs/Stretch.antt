@@ -17,10 +17,10 @@ use Rattle.watch_machine.specs.State.{WatchState}
 use Rattle.keep_serving.specs.Changes.{ChangeIsMade, MadeChange, OneIsMade, ServesInventory}
 use Rattle.keep_serving.specs.Held.{Held, ServingSide}
 use Rattle.keep_serving.specs.Laws.{Lead, StretchLaw}
-use Rattle.keep_serving.specs.Stages.{AnswerIsTaken, AnswersAreTaken, AnswersCome, Commands, HandsInAnswers, LeftOverGoesFirst, OnHeld, SendsRequests, TakesAnswers, TakesReadings, TakesUp, Then}
+use Rattle.keep_serving.specs.Stages.{AnswerIsTaken, AnswersAreTaken, AnswersCome, Commands, HandsInAnswers, LeftOverGoesFirst, Listed, OnHeld, SendsRequests, TakesAnswers, TakesReadings, TakesUp, Then, nothing, one_and_then}
 use Rattle.keep_serving.specs.Turns as turns
 use Rattle.keep_serving.specs.Turns.{IsServingTurn, TurnHears}
-use Rattle.keep_serving.specs.Happenings.{HappeningsOf, nothing, one_and_then, happening_of_answer, handed, happenings_in, happenings_of, happenings_of_answers, happenings_of_change, happenings_of_hearing, happenings_of_one, happenings_of_readings, happenings_of_serving, happenings_of_stages, happenings_of_taking}
+use Rattle.keep_serving.specs.Happenings.{happening_of_answer, handed, happenings_in, happenings_of, happenings_of_answers, happenings_of_change, happenings_of_hearing, happenings_of_one, happenings_of_readings, happenings_of_serving, happenings_of_stages, happenings_of_taking}
 use Rattle.keep_serving.specs.declared.change.Change.{Change}
 use Rattle.keep_serving.specs.declared.change.Change.TheVariants.{Need, Begin, Known, Serve, Kept}
 use Rattle.keep_serving.proofs.InStep.{said_machine}
@@ -43,10 +43,10 @@ and_then old mid new first more h k =
 -- ---- by stage
 
 -- what happens in a stage leads from the Watch before it to that after it
-abbrev Leads : (stage : ServingSide → Bool → ServingSide → Type 0) → HappeningsOf stage → Type 0
+abbrev Leads : (stage : ServingSide → Bool → ServingSide → Type 0) → Listed Happening stage → Type 0
 Leads stage happenings = (old new : ServingSide) (is_whole : Bool) (h : stage old is_whole new) → Lead old.held.agent.machine (happenings old is_whole new h) new.held.agent.machine
 
-by_then : (first second : ServingSide → Bool → ServingSide → Type 0) (one : HappeningsOf first) (more : HappeningsOf second) → Leads first one → Leads second more → Leads (Then first second) (one_and_then first second one more)
+by_then : (first second : ServingSide → Bool → ServingSide → Type 0) (one : Listed Happening first) (more : Listed Happening second) → Leads first one → Leads second more → Leads (Then first second) (one_and_then first second one more)
 by_then first second one more a b old new is_whole (inl h) =
     and_then old.held.agent.machine h.0.held.agent.machine new.held.agent.machine (one old true h.0 h.1.0) (more h.0 is_whole new h.1.1) (a old h.0 true h.1.0) (b h.0 new is_whole h.1.1)
 by_then first second one more a b old new is_whole (inr h) = a old new false h.0

@@ -1,15 +1,19 @@
 -- Apart: a start that waits, so that agents that start together do not all ask at once. Nothing is asked meanwhile, and whoever looks is
 -- answered.
 -- Source: this project's own.
-use Rattle.std.specs.Prelude.{◌≡◌, ℕ, ◌-◌, ◌*◌, ◌<◌, ◌≤◌, Bool, true, false, not, ◌&&◌, ◌||◌, if◌then◌else◌, List, [], ◌∷◌, ◌++◌, Option, Some, None, length, min, nat_lt}
+use Rattle.std.specs.Prelude.{◌≡◌, ℕ, ◌-◌, ◌*◌, ◌<◌, ◌≤◌, Bool, true, false, not, ◌&&◌, ◌||◌, if◌then◌else◌, List, [], ◌∷◌, ◌++◌, Option, Some, None, Result, length, min, nat_lt}
 use Rattle.std.specs.List.{All, flat_map}
 use Rattle.keep_agent.specs.Agent.{Agent, standing_at}
+use Rattle.keep_agent.specs.Turns.{AgentTurn}
 use Rattle.keep_agent.specs.declared.standing.Told.{Told}
 use Rattle.keep_clock.specs.Seen.{read_call}
 use Rattle.keep_clock.specs.declared.call.Call.{Call}
 use Rattle.keep_clock.specs.declared.call.Call.TheVariants.{Wait}
 use Rattle.keep_clock.specs.declared.reading.Reading.{Reading}
 use Rattle.keep_tree.specs.Carried.{carried}
+use Rattle.watch_machine.specs.declared.command.Output.{Output}
+use Rattle.watch_machine.specs.declared.event.Event.TheVariants as events
+use Rattle.watch_machine.specs.declared.fault.WatchFault.{WatchFault}
 use Rattle.keep_serving.specs.Changes.{MadeChange, MakesChange, given_by, is_one_made}
 use Rattle.keep_serving.specs.Held.{ServingSide}
 use Rattle.keep_serving.specs.Neighbours.{GoOn, NeighbourCall, calls_for_change}
@@ -38,10 +42,11 @@ MayWait a wall until false = (i : ℕ) × ((i < length a.inventory.forest.entrie
 
 -- ---- how it waits
 
--- what a pause read; whether a neighbour could go on at once; the change that was given, and whether it was made; and for how long it
--- then waited, in milliseconds
+-- what a pause read; the agent that the neighbours then saw; whether one of them could go on at once; the change that was given, and whether
+-- it was made; and for how long it then waited, in milliseconds
 pub record Pause : Type 0 where
   pub reading : Reading
+  pub shown : Agent
   pub is_busy : Bool
   pub made : Option MadeChange
   pub millis : ℕ
@@ -67,33 +72,47 @@ pub record IsPause (until : ℕ) (p : Pause) : Type 0 where
   pub on : goes_on p.made ≡ true
   pub waits : p.millis ≡ pause_by (is_one_made p.made || p.is_busy) until p.reading
 
--- what ends it: there are no more pauses; the clocks could not be read; the moment has come; memory is wanting; or a change is made
+-- what ends it: there are no more pauses; the clocks could not be read; the moment has come; or a change is made
 pub data Ending : Type 0 where
   Spent : Ending
   Unread : Ending
   Over : Reading → Ending
-  Wanting : Reading → Ending
-  Changed : Reading → Bool → Change → Ending
+  Changed : Reading → Agent → Bool → Change → Ending
 
 -- nothing is sent, and nothing is another, but for that change
 abbrev pub EndsBy : ℕ → Ending → ServingSide → ServingSide → Type 0
 EndsBy until Spent old new = new ≡ old
 EndsBy until Unread old new = new ≡ old
 EndsBy until (Over r) old new = (until ≤ r.elapsed) × (new ≡ old)
-EndsBy until (Wanting r) old new = (r.elapsed < until) × (new ≡ old)
-EndsBy until (Changed r is_busy change) old new = (r.elapsed < until) × ((is_change_kept change ≡ false) × MakesChange change old new)
+EndsBy until (Changed r shown is_busy change) old new = (r.elapsed < until) × ((is_change_kept change ≡ false) × MakesChange change old new)
 
 -- after so many pauses of so many at most
 abbrev pub EndsAfter : ℕ → ℕ → Ending → Type 0
 EndsAfter pauses most Spent = pauses ≡ most
 EndsAfter pauses most ending = pauses < most
 
+-- the neighbours see an agent of their own, to which the time of each pause is handed in; where memory is wanting for that, it is as it was
+abbrev pub IsShown : Reading → Agent → Agent → Type 0
+IsShown r old new = (result : Result Output WatchFault) × AgentTurn old (events.Clock r.wall r.elapsed) result new
+
+abbrev pub AreShown : List Pause → Agent → Agent → Type 0
+AreShown [] old new = new ≡ old
+AreShown (p ∷ rest) old new = IsShown p.reading old p.shown × AreShown rest p.shown new
+
+abbrev pub IsShownAt : Ending → Agent → Type 0
+IsShownAt (Changed r shown is_busy change) old = IsShown r old shown
+IsShownAt ending old = Unit {0}
+
 pub record Waited : Type 0 where
   pub pauses : List Pause
   pub ending : Ending
 
-pub record IsWaitedApart (until most : ℕ) (old : ServingSide) (w : Waited) (new : ServingSide) : Type 0 where
+-- from the agent on that they see first
+pub record IsWaitedApart (until most : ℕ) (shown : Agent) (old : ServingSide) (w : Waited) (new : ServingSide) : Type 0 where
   pub pauses : All (IsPause until) w.pauses
+  pub last : Agent
+  pub shows : AreShown w.pauses shown last
+  pub shows_at : IsShownAt w.ending last
   pub after : EndsAfter (length w.pauses) most w.ending
   pub ends : EndsBy until w.ending old new
 
@@ -106,28 +125,42 @@ abbrev pub clocked_at : Ending → List Call
 clocked_at Spent = []
 clocked_at Unread = read_call None ∷ []
 clocked_at (Over r) = read_call (Some r) ∷ []
-clocked_at (Wanting r) = read_call (Some r) ∷ []
-clocked_at (Changed r is_busy change) = read_call (Some r) ∷ []
+clocked_at (Changed r shown is_busy change) = read_call (Some r) ∷ []
 
 abbrev pub all_clocked : Waited → List Call
 all_clocked w = flat_map clocked_in w.pauses ++ clocked_at w.ending
 
 -- ---- what the neighbours are called for: they go on once a pause, and are asked for one change
 
-abbrev pub called_in : Pause → List NeighbourCall
-called_in p = GoOn p.is_busy ∷ calls_for_change p.made
+-- where another inventory is served, or was to be, they are told so by the agent itself
+abbrev pub is_change_served : Change → Bool
+is_change_served (Need i until) = false
+is_change_served Begin = false
+is_change_served (Known i end renewable) = false
+is_change_served (Serve s) = true
+is_change_served Kept = false
 
-abbrev pub called_at : Ending → List NeighbourCall
-called_at (Changed r is_busy change) = GoOn is_busy ∷ calls_for_change (Some (record { change = change; is_made = true }))
-called_at ending = []
+abbrev pub told_by : Agent → Agent → Change → Agent
+told_by shown own change = if is_change_served change then own else shown
 
-abbrev pub all_called : Waited → List NeighbourCall
-all_called w = flat_map called_in w.pauses ++ called_at w.ending
+abbrev pub called_by : Agent → Agent → Reading → Bool → Option MadeChange → List NeighbourCall
+called_by shown own r is_busy made = GoOn shown r is_busy ∷ calls_for_change shown r (told_by shown own) made
+
+abbrev pub called_in : Agent → Pause → List NeighbourCall
+called_in own p = called_by p.shown own p.reading p.is_busy p.made
+
+abbrev pub called_at : Agent → Ending → List NeighbourCall
+called_at own (Changed r shown is_busy change) = called_by shown own r is_busy (Some (record { change = change; is_made = true }))
+called_at own ending = []
+
+-- by the agent as it was, and as it is after the wait
+abbrev pub all_called : Agent → Agent → Waited → List NeighbourCall
+all_called old new w = flat_map (called_in old) w.pauses ++ called_at new w.ending
 
 -- ---- the changes that they give
 
 abbrev pub given_at : Ending → List Change
-given_at (Changed r is_busy change) = change ∷ []
+given_at (Changed r shown is_busy change) = change ∷ []
 given_at ending = []
 
 abbrev pub all_given : Waited → List Change

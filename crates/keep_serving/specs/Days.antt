@@ -1,14 +1,14 @@
 -- Days: neighbours, and one more, who asks that everything is looked up anew before a day is over.
 -- Source: this project's own; docs/running.md, "A fleet".
-use Rattle.std.specs.Prelude.{◌≡◌, ◌⊎◌, ℕ, ◌+◌, ◌-◌, Bool, true, false, ◌&&◌, if◌then◌else◌, Option, Some, None, min, nat_le, nat_lt, Result, Ok, Err}
+use Rattle.std.specs.Prelude.{◌≡◌, ◌⊎◌, ℕ, ◌+◌, ◌-◌, Bool, true, false, ◌&&◌, if◌then◌else◌, IfOk, Option, Some, None, is_some, min, nat_le, nat_lt, Result, Ok, Err}
+use Rattle.std.specs.declared.alloc.AllocError.{AllocError}
 use Rattle.keep_agent.specs.Agent.{Agent}
 use Rattle.keep_clock.specs.Rests.{rest_until, shorter}
 use Rattle.keep_clock.specs.declared.reading.Reading.{Reading}
 use Rattle.watch_machine.specs.State.{WatchState}
-use Rattle.watch_machine.specs.declared.notes.Why.{Why}
 use Rattle.watch_machine.specs.Clocks.{second_of_wall}
 use Rattle.keep_serving.specs.Apart.{MayWait}
-use Rattle.keep_serving.specs.Neighbours.{Give, GoOn, Hear, NeighbourCall, Rest, Settle}
+use Rattle.keep_serving.specs.Neighbours.{Answer, End, Give, GoOn, Hear, NeighbourCall, Needs, Rest, Settle, Step, Thing, Time, Want}
 use Rattle.keep_serving.specs.declared.change.Change.{Change}
 use Rattle.keep_serving.specs.declared.change.Change.TheVariants.{Begin}
 use Rattle.keep_serving.specs.declared.day.EarlyDay.{EarlyDay}
@@ -16,10 +16,18 @@ use Rattle.keep_serving.specs.declared.day.TheConstants.{DAY}
 
 -- ---- when
 
+-- what is heard of is that everything is looked up anew from now on
+abbrev pub has_begun : Thing → Bool
+has_begun (Time notes requests next) = is_some notes.began
+has_begun (Answer entry operation said notes) = false
+has_begun (Needs shorts) = false
+has_begun (End entry end) = false
+has_begun (Step lead requests) = false
+has_begun Want = false
+
 -- the moment of the last beginning that was heard of, as the clock that never steps was handed in
-abbrev pub beginning_after : Option Why → WatchState → Option ℕ → Option ℕ
-beginning_after None m begun = begun
-beginning_after (Some why) m begun = Some (m.clocks.at - m.clocks.phase)
+abbrev pub beginning_by : Thing → WatchState → Option ℕ → Option ℕ
+beginning_by thing m begun = if has_begun thing then Some (m.clocks.at - m.clocks.phase) else begun
 
 -- a day less so many milliseconds has passed since; with none it never has
 abbrev pub day_has_passed : ℕ → Option ℕ → ℕ → Bool
@@ -47,25 +55,32 @@ AsksBy (Ok true) old change new = (change ≡ Some Begin) × (new ≡ record old
 AsksBy (Ok false) old change new = (change ≡ None) × (new ≡ old)
 AsksBy (Err e) old change new = (change ≡ None) × (new ≡ old)
 
--- ---- what a call does to the others
+-- ---- what a call does
 
--- they give the change, or give none and everything is to be looked up anew
-abbrev pub GivesToOthers : {N : Type 0} → (NeighbourCall → N → N → Type 0) → Option Change → EarlyDay N → EarlyDay N → Type 0
-GivesToOthers does None old new = does (Give None) old.others new.others
-GivesToOthers does (Some change) old new = ((new.is_own ≡ false) × does (Give (Some change)) old.others new.others) ⊎ ((change ≡ Begin) × ((new.is_own ≡ true) × does (Give None) old.others new.others))
+-- they give the change; or they give none, and everything is to be looked up anew, if it is time to
+abbrev pub GivesOthers : {N : Type 0} → (NeighbourCall → N → N → Type 0) → Agent → Reading → Option Change → EarlyDay N → EarlyDay N → Type 0
+GivesOthers does a now None old new = ⊥
+GivesOthers does a now (Some change) old new = does (Give a now (Some change)) old.others new.others × (new ≡ record old { others = new.others; is_own = false })
+
+pub record AsksAnew {N : Type 0} (does : NeighbourCall → N → N → Type 0) (a : Agent) (now : Reading) (change : Option Change) (old new : EarlyDay N) : Type 0 where
+  pub due : Result Bool AllocError
+  pub is_due : IfOk due (λ is. BeginningIsDue a now old is)
+  pub none : does (Give a now None) old.others new.others
+  pub asks : AsksBy due (record old { others = new.others }) change new
 
 -- they hear only of their own changes whether they were made
-abbrev pub SettlesOthers : {N : Type 0} → (NeighbourCall → N → N → Type 0) → Bool → Bool → N → N → Type 0
-SettlesOthers does true is_made old new = new ≡ old
-SettlesOthers does false is_made old new = does (Settle is_made) old new
+abbrev pub SettlesOthers : {N : Type 0} → (NeighbourCall → N → N → Type 0) → Bool → Agent → Bool → N → N → Type 0
+SettlesOthers does true a is_made old new = new ≡ old
+SettlesOthers does false a is_made old new = does (Settle a is_made) old new
 
 -- they may be left alone as long as they say, and no longer than until it is time to ask
 abbrev pub RestsWith : {N : Type 0} → (NeighbourCall → N → N → Type 0) → ℕ → Option ℕ → EarlyDay N → Type 0
 RestsWith does now rest day = (theirs : Option ℕ) × (does (Rest now theirs) day.others day.others × (rest ≡ shorter theirs (rest_until (day_due day.earlier day.begun) now)))
 
+-- nothing else of it changes
 abbrev pub PassesToOthers : {N : Type 0} → (NeighbourCall → N → N → Type 0) → NeighbourCall → EarlyDay N → EarlyDay N → Type 0
-PassesToOthers does (Hear thing) old new = does (Hear thing) old.others new.others
-PassesToOthers does (GoOn is_busy) old new = does (GoOn is_busy) old.others new.others
-PassesToOthers does (Give change) old new = GivesToOthers does change old new
-PassesToOthers does (Settle is_made) old new = SettlesOthers does old.is_own is_made old.others new.others
+PassesToOthers does (Hear a thing) old new = does (Hear a thing) old.others new.others × (new ≡ record old { others = new.others; begun = beginning_by thing a.machine old.begun })
+PassesToOthers does (GoOn a now is_busy) old new = does (GoOn a now is_busy) old.others new.others × (new ≡ record old { others = new.others })
+PassesToOthers does (Give a now change) old new = GivesOthers does a now change old new ⊎ AsksAnew does a now change old new
+PassesToOthers does (Settle a is_made) old new = SettlesOthers does old.is_own a is_made old.others new.others × (new ≡ record old { others = new.others })
 PassesToOthers does (Rest now rest) old new = (new ≡ old) × RestsWith does now rest old

@@ -19,7 +19,7 @@ use Rattle.watch_machine.specs.History.{Happening, Hands, Changes}
 use Rattle.keep_serving.specs.Changes.{ChangeIsMade, MadeChange, OneIsMade, ServesInventory}
 use Rattle.keep_serving.specs.Held.{ServingSide}
 use Rattle.keep_serving.specs.Runs.{AreTurns}
-use Rattle.keep_serving.specs.Stages.{AnswerIsTaken, AnswersAreTaken, AnswersCome, Commands, HandsInAnswers, LeftOverGoesFirst, OnHeld, SendsRequests, TakesAnswers, TakesReadings, TakesUp, Then}
+use Rattle.keep_serving.specs.Stages.{AnswerIsTaken, AnswersAreTaken, LeftOverGoesFirst, Listed, OnHeld, TakesAnswers, TakesReadings, of_stages}
 use Rattle.keep_serving.specs.Turns.{IsServingTurn, ServingTurn, TurnHears}
 use Rattle.keep_serving.specs.declared.change.Change.{Change}
 use Rattle.keep_serving.specs.declared.change.Change.TheVariants.{Need, Begin, Known, Serve, Kept}
@@ -40,35 +40,19 @@ happenings_of_answers (a ∷ rest) old new h = happening_of_answer a old h.0 h.1
 
 -- ---- stages
 
--- what happens in a stage
-abbrev pub HappeningsOf : (ServingSide → Bool → ServingSide → Type 0) → Type 0
-HappeningsOf stage = (old : ServingSide) (is_whole : Bool) (new : ServingSide) → stage old is_whole new → List Happening
-
-abbrev pub nothing : (stage : ServingSide → Bool → ServingSide → Type 0) → HappeningsOf stage
-nothing stage old is_whole new h = []
-
-abbrev pub one_and_then : (first second : ServingSide → Bool → ServingSide → Type 0) → HappeningsOf first → HappeningsOf second → HappeningsOf (Then first second)
-one_and_then first second one more old is_whole new (inl h) = one old true h.0 h.1.0 ++ more h.0 is_whole new h.1.1
-one_and_then first second one more old is_whole new (inr h) = one old false new h.0
-
 -- the answers that are handed in
-abbrev pub happenings_of_taking : HappeningsOf (OnHeld TakesAnswers)
+abbrev pub happenings_of_taking : Listed Happening (OnHeld TakesAnswers)
 happenings_of_taking old true new h = happenings_of_answers h.0.0.taken old.held.agent new.held.agent h.0.0.agent
 happenings_of_taking old false new h = happenings_of_answers h.0.0.taken old.held.agent new.held.agent h.0.0.agent
 
 -- the readings of the clocks
-abbrev pub happenings_of_readings : (r : Reading) → HappeningsOf (OnHeld (TakesReadings r))
+abbrev pub happenings_of_readings : (r : Reading) → Listed Happening (OnHeld (TakesReadings r))
 happenings_of_readings r old true new h = handed (events.Clock r.wall r.elapsed) (Ok (record { command = Go new.held.unsent h.0.until; notes = h.0.notes })) h.0.mid ∷ []
 happenings_of_readings r old false new h = []
 
 -- the answers that were left over, those that came, and the readings
-abbrev pub happenings_of_stages : (port : ℕ) (r : Reading) → HappeningsOf (LeftOverGoesFirst port r)
-happenings_of_stages port r =
-    one_and_then (SendsRequests port) (Then (OnHeld TakesAnswers) (TakesUp port r)) (nothing (SendsRequests port))
-    (one_and_then (OnHeld TakesAnswers) (TakesUp port r) happenings_of_taking
-    (one_and_then (AnswersCome r.elapsed) (HandsInAnswers port r) (nothing (AnswersCome r.elapsed))
-    (one_and_then (OnHeld TakesAnswers) (Commands port r) happenings_of_taking
-    (one_and_then (OnHeld (TakesReadings r)) (SendsRequests port) (happenings_of_readings r) (nothing (SendsRequests port))))))
+abbrev pub happenings_of_stages : (port : ℕ) (r : Reading) → Listed Happening (LeftOverGoesFirst port r)
+happenings_of_stages port r = of_stages port r happenings_of_taking (happenings_of_readings r)
 
 abbrev pub happenings_of_hearing : (port : ℕ) (reading : Option Reading) (old : ServingSide) (is_whole : Bool) (new : ServingSide) → TurnHears port reading old is_whole new → List Happening
 happenings_of_hearing port None old is_whole new h = []

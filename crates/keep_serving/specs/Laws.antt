@@ -1,14 +1,14 @@
 -- Laws: what holds of all turns. The contract of a public function without a body.
 -- Source: this project's own.
-use Rattle.std.specs.Prelude.{◌≡◌, ℕ, ◌+◌, ◌-◌, ◌≤◌, Bool, true, List, Some, IfSome, length}
+use Rattle.std.specs.Prelude.{◌≡◌, ℕ, ◌+◌, ◌-◌, ◌≤◌, true, List, Some, IfSome, length}
 use Rattle.std.specs.List.{All}
 use Rattle.keep_clock.specs.declared.reading.Reading.{Reading}
 use Rattle.watch_machine.specs.History.{AllHappen, Happening, state_after_all}
 use Rattle.watch_machine.specs.State.{WatchState}
 use Rattle.watch_machine.specs.declared.command.Request.{Request}
+use Rattle.keep_serving.specs.Calls.{calls_in}
 use Rattle.keep_serving.specs.Happenings.{happenings_of}
-use Rattle.keep_serving.specs.Held.{Held, ServingSide}
-use Rattle.keep_serving.specs.Neighbours.{calls_in}
+use Rattle.keep_serving.specs.Held.{Held, IsInStep, ServingSide}
 use Rattle.keep_serving.specs.Runs.{AreTurns}
 use Rattle.keep_serving.specs.Turns.{IsServingTurn, ServingTurn, longest_wait}
 use Rattle.keep_serving.specs.Words.{AllAreWordsOf, AllFollow, Suffices, Words}
@@ -42,8 +42,8 @@ TurnWaitLaw =
     × ((r : Reading) → t.reading ≡ Some r → t.is_whole ≡ true → (t.millis ≤ new.held.until - r.elapsed) × IfSome t.rest (λ rest. t.millis ≤ rest))
 
 -- and it calls its neighbours six times at most, and once more where memory was wanting, and once more for each answer of which they
--- hear
+-- hear, of which there is one for each lane at most
 abbrev pub CallsLaw : Type 0
 CallsLaw =
-    (answers : ℕ) (is_handed : Bool) (t : ServingTurn) →
-    (length (calls_in answers is_handed t) ≤ answers + 7) × (t.is_whole ≡ true → length (calls_in answers is_handed t) ≤ answers + 6)
+    (port width : ℕ) (old new : ServingSide) (t : ServingTurn) (is : IsServingTurn port old t new) → IsInStep width old.lanes.out old.held →
+    (length (calls_in port old t new is) ≤ width + 7) × (t.is_whole ≡ true → length (calls_in port old t new is) ≤ width + 6)

@@ -1,13 +1,14 @@
 pub mod Held
 pub mod Changes
 pub mod Resuming
+pub mod Outlook
 pub mod Stages
 pub mod Turns
-pub mod Outlook
 pub mod Neighbours
 pub mod Apart
 pub mod Days
 pub mod Runs
+pub mod Calls
 pub mod Words
 pub mod code
 pub mod Happenings

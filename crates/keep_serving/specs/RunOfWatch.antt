@@ -10,7 +10,7 @@ use Rattle.watch_machine.specs.declared.event.Event.{Event}
 use Rattle.watch_machine.specs.declared.event.Event.TheVariants as events
 use Rattle.watch_machine.specs.History.{Happening, Hands, Changes, IsRun, state_after_all}
 use Rattle.watch_machine.specs.State.{WatchState, opened}
-use Rattle.keep_serving.specs.Apart.{Ending, EndsBy, IsWaitedApart, Waited, Spent, Unread, Over, Wanting, Changed}
+use Rattle.keep_serving.specs.Apart.{Ending, EndsBy, IsWaitedApart, Waited, Spent, Unread, Over, Changed}
 use Rattle.keep_serving.specs.Happenings.{handed, happenings_of, happenings_of_change}
 use Rattle.keep_serving.specs.Held.{ServingSide, held_at_first}
 use Rattle.keep_serving.specs.Resuming.{AreResumed, IsResumed}
@@ -39,8 +39,7 @@ abbrev pub happenings_of_wait : (until : ℕ) (ending : Ending) (old new : Servi
 happenings_of_wait until Spent old new h = []
 happenings_of_wait until Unread old new h = []
 happenings_of_wait until (Over r) old new h = []
-happenings_of_wait until (Wanting r) old new h = []
-happenings_of_wait until (Changed r is_busy change) old new h = happenings_of_change change true old new h.1.1
+happenings_of_wait until (Changed r shown is_busy change) old new h = happenings_of_change change true old new h.1.1
 
 -- ---- laws
 
@@ -52,8 +51,8 @@ IsRunTo g width happenings now = IsRun g width happenings × (state_after_all (o
 -- after it: all that happens to the Watch of the agent, from its making on, is one run, whatever inventories are served one after another
 abbrev pub ServingLaw : Type 0
 ServingLaw =
-    (port width until most : ℕ) (known : List Event) (s : Inventory) (agent : Agent) (start begun new : ServingSide) (w : Waited) (turns : List ServingTurn) →
-    (resumed : AreResumed known (fresh s width) agent) → start.held ≡ held_at_first agent → (waited : IsWaitedApart until most start w begun) (are : AreTurns port begun turns new) →
+    (port width until most : ℕ) (known : List Event) (s : Inventory) (agent shown : Agent) (start begun new : ServingSide) (w : Waited) (turns : List ServingTurn) →
+    (resumed : AreResumed known (fresh s width) agent) → start.held ≡ held_at_first agent → (waited : IsWaitedApart until most shown start w begun) (are : AreTurns port begun turns new) →
     IsRunTo s.forest width (happenings_of_resuming known (fresh s width) agent resumed ++ (happenings_of_wait until w.ending start begun waited.ends ++ happenings_of port begun turns new are)) new.held.agent.machine
 
 -- the first events of it are those of all ends that the start was given

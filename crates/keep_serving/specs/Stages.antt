@@ -1,7 +1,8 @@
 -- Stages: the parts of a turn in which the time is handed in, one after another. Where memory is wanting in one, those after it
 -- are left out, and what is left over is held until the next turn.
 -- Source: this project's own.
-use Rattle.std.specs.Prelude.{◌≡◌, ◌⊎◌, ℕ, ◌-◌, ◌++◌, Bool, true, false, List, [], ◌∷◌, Some, Ok, IfSome}
+use Rattle.std.proofs.Common.{inl, inr}
+use Rattle.std.specs.Prelude.{◌≡◌, ◌⊎◌, ℕ, ◌-◌, ◌++◌, Bool, true, false, List, [], ◌∷◌, Option, Some, Ok, IfSome}
 use Rattle.keep_agent.specs.Agent.{Agent}
 use Rattle.keep_agent.specs.Shorts.{all_said}
 use Rattle.keep_agent.specs.Turns.{AgentTurn}
@@ -20,8 +21,10 @@ use Rattle.watch_machine.specs.declared.command.Request.{Request}
 use Rattle.watch_machine.specs.declared.event.Event.TheVariants.{Clock}
 use Rattle.watch_machine.specs.declared.lanes.Out.{Out}
 use Rattle.watch_machine.specs.declared.notes.Notes.{Notes}
+use Rattle.watch_machine.specs.declared.outlook.Next.{Next}
 use Rattle.watch_machine.specs.Clocks.{second_of_wall}
 use Rattle.keep_serving.specs.Held.{Held, ServingSide}
+use Rattle.keep_serving.specs.Outlook.{IsOutlook}
 
 -- ---- requests go out
 
@@ -92,13 +95,16 @@ TakesAnswers old false new = HaveTaken old new × (new.pending ≡ [] → ⊥)
 abbrev pub ShortsAreSaid : Agent → Agent → Type 0
 ShortsAreSaid old new = (new ≡ old) ⊎ (new ≡ all_said old)
 
--- the readings are handed in; what is commanded is to be sent
+-- the readings are handed in; what is commanded is to be sent. The next time is told where nothing is out then, unless memory is wanting
+-- for it
 pub record TimeIsHandedIn (r : Reading) (old new : Held) : Type 0 where
   pub none : old.unsent ≡ []
   pub until : ℕ
   pub notes : Notes
   pub mid : Agent
   pub turn : AgentTurn old.agent (Clock r.wall r.elapsed) (Ok (record { command = Go new.unsent until; notes = notes })) mid
+  pub next : Option (Option Next)
+  pub outlook : IfSome next (IsOutlook mid.machine)
   pub said : ShortsAreSaid mid new.agent
   pub held : new ≡ record { agent = new.agent; pending = old.pending; unsent = new.unsent; asked = r; until = until - mid.machine.clocks.phase }
 
@@ -131,3 +137,33 @@ TakesUp port r = Then (AnswersCome r.elapsed) (HandsInAnswers port r)
 -- what is left over from the turn before goes first: requests go out, and then answers are handed in
 abbrev pub LeftOverGoesFirst : ℕ → Reading → ServingSide → Bool → ServingSide → Type 0
 LeftOverGoesFirst port r = Then (SendsRequests port) (Then (OnHeld TakesAnswers) (TakesUp port r))
+
+-- ---- what is listed of them
+
+-- of each way in which a stage goes, a list
+abbrev pub Listed : Type 0 → (ServingSide → Bool → ServingSide → Type 0) → Type 0
+Listed X stage = (old : ServingSide) (is_whole : Bool) (new : ServingSide) → stage old is_whole new → List X
+
+abbrev pub nothing : {X : Type 0} → (stage : ServingSide → Bool → ServingSide → Type 0) → Listed X stage
+nothing stage old is_whole new h = []
+
+abbrev pub one_and_then : {X : Type 0} → (first second : ServingSide → Bool → ServingSide → Type 0) → Listed X first → Listed X second → Listed X (Then first second)
+one_and_then first second one more old is_whole new (inl h) = one old true h.0 h.1.0 ++ more h.0 is_whole new h.1.1
+one_and_then first second one more old is_whole new (inr h) = one old false new h.0
+
+-- where it is of answers that are handed in and of readings alone
+module _ {X : Type 0} (port : ℕ) (r : Reading) (answers : Listed X (OnHeld TakesAnswers)) (time : Listed X (OnHeld (TakesReadings r))) where
+  abbrev pub of_commands : Listed X (Commands port r)
+  of_commands = one_and_then (OnHeld (TakesReadings r)) (SendsRequests port) time (nothing (SendsRequests port))
+
+  abbrev pub of_answers : Listed X (HandsInAnswers port r)
+  of_answers = one_and_then (OnHeld TakesAnswers) (Commands port r) answers of_commands
+
+  abbrev pub of_coming : Listed X (TakesUp port r)
+  of_coming = one_and_then (AnswersCome r.elapsed) (HandsInAnswers port r) (nothing (AnswersCome r.elapsed)) of_answers
+
+  abbrev pub of_left : Listed X (Then (OnHeld TakesAnswers) (TakesUp port r))
+  of_left = one_and_then (OnHeld TakesAnswers) (TakesUp port r) answers of_coming
+
+  abbrev pub of_stages : Listed X (LeftOverGoesFirst port r)
+  of_stages = one_and_then (SendsRequests port) (Then (OnHeld TakesAnswers) (TakesUp port r)) (nothing (SendsRequests port)) of_left

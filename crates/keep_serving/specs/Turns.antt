@@ -1,11 +1,12 @@
 -- Turns: one round of the loop: the time is handed in, a change is taken, and one wait follows.
 -- Source: this project's own.
-use Rattle.std.specs.Prelude.{◌≡◌, ℕ, ◌-◌, ◌*◌, ◌/◌, Bool, false, ◌||◌, if◌then◌else◌, List, [], ◌∷◌, Option, Some, None, max, min}
+use Rattle.std.specs.Prelude.{◌≡◌, ℕ, ◌-◌, ◌*◌, ◌/◌, Bool, false, ◌||◌, if◌then◌else◌, List, [], ◌∷◌, Option, Some, None, IfSome, max, min}
 use Rattle.keep_clock.specs.Seen.{read_call}
 use Rattle.keep_clock.specs.declared.call.Call.{Call}
 use Rattle.keep_clock.specs.declared.call.Call.TheVariants.{Wait}
 use Rattle.keep_clock.specs.declared.reading.Reading.{Reading}
 use Rattle.keep_device.specs.Moments.{earlier}
+use Rattle.keep_lanes.specs.Out.{first_at}
 use Rattle.keep_serving.specs.Changes.{MadeChange, OneIsMade, is_one_made}
 use Rattle.keep_serving.specs.Held.{Held, ServingSide}
 use Rattle.keep_serving.specs.Stages.{LeftOverGoesFirst}
@@ -49,12 +50,18 @@ turn_wait_by is_more is_whole h due rest reading = if is_more then 0 else wait_a
 abbrev pub wait_of : ServingTurn → Held → ℕ
 wait_of t h = turn_wait_by (is_one_made t.made || t.is_busy) t.is_whole h t.due t.rest t.reading
 
+-- the moment by which a lane has to be looked at is known of lanes in memory: that at which the first answer is there, or the Watch's moment
+abbrev pub IsDue : Option Reading → ℕ → ServingSide → Type 0
+IsDue None due s = due ≡ 0
+IsDue (Some r) due s = IfSome s.lanes.behind (λ _. due ≡ earlier s.held.until (first_at s.lanes.out))
+
 -- ---- a turn
 
 pub record IsServingTurn (port : ℕ) (old : ServingSide) (t : ServingTurn) (new : ServingSide) : Type 0 where
   pub mid : ServingSide
   pub hears : TurnHears port t.reading old t.is_whole mid
   pub made : OneIsMade t.made mid new
+  pub due : IsDue t.reading t.due new
   pub waits : t.millis ≡ wait_of t new.held
 
 -- what is asked of the clock: one reading, and one wait

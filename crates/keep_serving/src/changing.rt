@@ -1,5 +1,5 @@
 //! A change is made.
-ghost use Rattle.std.specs.Prelude.{◌≡◌, ◌≤◌, [], OnErr, OnOk, Option, Result, length, map, true, vec_capacity};
+ghost use Rattle.std.specs.Prelude.{◌≡◌, ◌≤◌, ◌==◌, ◌&&◌, [], OnErr, OnOk, Option, Result, length, map, vec_capacity};
 ghost use Rattle.keep_agent.specs.Turns.{AgentTurn};
 ghost use Rattle.keep_serving.specs.Changes.{AllGiven, ChangeIsMade, InventoryIsServed, MadeChange, OneIsMade, given_by, is_one_made};
 ghost use Rattle.keep_serving.specs.Held.{serving_side};
@@ -29,7 +29,7 @@ impl Serving {
         lanes: &mut L,
         neighbours: &mut N,
     ) -> bool
-        ensures made { (made : Option MadeChange) × ((OneIsMade made (serving_side self.old (⟦<L as SeenLanes>⟧.seen lanes.old)) (serving_side self.new (⟦<L as SeenLanes>⟧.seen lanes.new))) × ((result ≡ is_one_made made) × (AllGiven (given_by made) (N.given neighbours.old) (N.given neighbours.new) × AllCalled N.does (calls_for_change made) neighbours.old neighbours.new))) }
+        ensures made { (made : Option MadeChange) × (OneIsMade made (serving_side self.old (⟦<L as SeenLanes>⟧.seen lanes.old)) (serving_side self.new (⟦<L as SeenLanes>⟧.seen lanes.new)) × ((result ≡ is_one_made made) × (AllGiven (given_by made) (N.given neighbours.old) (N.given neighbours.new) × AllCalled N.does (calls_for_change self.old.agent now (λ change. self.new.agent) made) neighbours.old neighbours.new))) }
         ensures width { L.width lanes.new ≡ L.width lanes.old }
         ensures port { L.host_port lanes.new ≡ L.host_port lanes.old }
     {
@@ -127,9 +127,8 @@ impl Serving {
     }
 
     /// Whether no answer waits to be handed in, and no request to be sent.
-    #[tactic(auto, using(crate::proofs::Changed::none_left))]
     fn is_idle(&self) -> bool
-        ensures { result ≡ true → (self.now.pending ≡ []) × (self.now.unsent ≡ []) }
+        ensures { result ≡ (length self.now.pending == 0 && length self.now.unsent == 0) }
     {
         self.pending.is_empty() && self.unsent.is_empty()
     }

@@ -1,7 +1,8 @@
 //! Everything is looked up anew before a day is over, so that agents which began together do not do so together for ever.
-ghost use Rattle.std.specs.Prelude.{◌≡◌, ◌-◌, Bool, IfOk, None, Option, Result, false};
+ghost use Rattle.std.specs.Prelude.{◌≡◌, ◌⊎◌, ◌-◌, Bool, IfOk, None, Option, Result, false};
 ghost use Rattle.std.specs.declared.alloc.AllocError.{AllocError};
-ghost use Rattle.keep_serving.specs.Days.{AsksBy, BeginningIsDue, GivesToOthers, RestsWith, SettlesOthers, beginning_after, day_due, day_has_passed};
+ghost use Rattle.keep_serving.specs.Days.{AsksAnew, AsksBy, BeginningIsDue, GivesOthers, RestsWith, SettlesOthers, beginning_by, day_due, day_has_passed, has_begun};
+ghost use Rattle.keep_serving.specs.Neighbours.{thing_of};
 
 use crate::apart::may_wait;
 use crate::change::Change;
@@ -9,7 +10,7 @@ use crate::neighbours::{Happened, Neighbours};
 use keep_agent::Agent;
 use keep_clock::{Reading, rest_until, shorter};
 use std::alloc::{AllocError, Global};
-use watch_machine::{Millis, Why};
+use watch_machine::Millis;
 
 /// A day, in milliseconds: after so long the Watch looks everything up by itself.
 pub const DAY: u64 = 86_400_000;
@@ -40,11 +41,11 @@ impl<N> EarlyDay<N> {
         }
     }
 
-    /// The time was handed in to the agent, and everything is looked up anew from then on, if there is a reason.
-    fn hear_begun(&mut self, agent: &Agent, began: Option<Why>)
-        ensures { self.new ≡ record self.old { begun = beginning_after began agent.now.machine self.old.begun } }
+    /// The time may have been handed in to the agent, and everything be looked up anew from then on.
+    fn hear_begun(&mut self, agent: &Agent, happened: &Happened<'_>)
+        ensures { self.new ≡ record self.old { begun = beginning_by (thing_of happened.now) agent.now.machine self.old.begun } }
     {
-        if began.is_some() {
+        if has_begun(happened) {
             let clocks = agent.watch().clocks();
             self.begun = Some(clocks.at.saturating_sub(u64::from(clocks.phase)));
         }
@@ -76,6 +77,21 @@ impl<N> EarlyDay<N> {
     }
 }
 
+/// Whether everything is looked up anew from now on.
+fn has_begun(happened: &Happened<'_>) -> bool
+    ensures { result ≡ has_begun (thing_of happened.now) }
+{
+    match happened {
+        Happened::Clocked { notes, .. } => notes.began.is_some(),
+        Happened::Shorts(_)
+        | Happened::Answered { .. }
+        | Happened::Ahead { .. }
+        | Happened::StepsIn { .. }
+        | Happened::Refused
+        | Happened::Wanting => false,
+    }
+}
+
 /// Whether a day less so many milliseconds has passed since the last beginning.
 fn has_come(earlier: Millis, begun: Option<Millis>, now: Millis) -> bool
     ensures { result ≡ day_has_passed earlier begun now }
@@ -101,7 +117,7 @@ fn day_due(earlier: Millis, begun: Option<Millis>) -> Option<Millis>
 impl<N: Neighbours> EarlyDay<N> {
     /// The others give a change, or everything is to be looked up anew.
     fn give(&mut self, alloc: Global, agent: &Agent, now: Reading) -> Option<Change>
-        ensures { GivesToOthers N.does result self.old self.new }
+        ensures { GivesOthers N.does agent.now now result self.old self.new ⊎ AsksAnew N.does agent.now now result self.old self.new }
     {
         if let Some(change) = self.others.change(alloc, agent, now) {
             self.is_own = false;
@@ -112,7 +128,8 @@ impl<N: Neighbours> EarlyDay<N> {
 
     /// The others are told of their own change whether it was made.
     fn tell(&mut self, alloc: Global, agent: &Agent, is_made: bool)
-        ensures { SettlesOthers N.does self.old.is_own is_made self.old.others self.new.others }
+        ensures settles { SettlesOthers N.does self.old.is_own agent.now is_made self.old.others self.new.others }
+        ensures rest { self.new ≡ record self.old { others = self.new.others } }
     {
         if !self.is_own {
             self.others.settle(alloc, agent, is_made);
@@ -139,9 +156,7 @@ impl<N: Neighbours> Neighbours for EarlyDay<N> {
     ghost does = { λ call old new. PassesToOthers N.does call old new };
 
     fn hear(&mut self, alloc: Global, agent: &Agent, happened: &Happened<'_>) {
-        if let Happened::Clocked { notes, .. } = happened {
-            self.hear_begun(agent, notes.began);
-        }
+        self.hear_begun(agent, happened);
         self.others.hear(alloc, agent, happened);
     }
 

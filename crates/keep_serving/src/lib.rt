@@ -6,8 +6,8 @@
 //! the readings, the answers and the changes alone (`specs/Stages`, `specs/Changes`), and from nothing else
 //! ([`nothing_else_is_heard`]); credentials change nothing of it ([`secrets_change_no_turn`]). Turns lead its Watch from one state to
 //! the next by what they say ([`a_stretch_is_a_run`]); and all that happens to it from a start on is one run of it, whatever
-//! inventories are served ([`a_serving_is_a_run`]), so each law of `watch_laws` holds of it. What a turn calls its neighbours for, and
-//! how often, is in `specs/Neighbours`, and that it is bounded ([`a_turn_is_bounded`]). Before the first turn an agent may wait, so
+//! inventories are served ([`a_serving_is_a_run`]), so each law of `watch_laws` holds of it. What a turn calls its neighbours for is in
+//! `specs/Calls`: what they are told is what happened; and it is bounded ([`a_turn_is_bounded`]). Before the first turn an agent may wait, so
 //! that agents which start together ask apart ([`may_wait`], [`Serving::wait_apart`], `specs/Apart`), and it may ask before a day is
 //! over that everything is looked up anew ([`EarlyDay`], `specs/Days`). Begin with `neighbours`, then `turn`.
 #![tactic(auto)]

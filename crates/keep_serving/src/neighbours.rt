@@ -67,22 +67,22 @@ pub trait Neighbours {
     fn hear(&mut self, alloc: Global, agent: &Agent, happened: &Happened<'_>)
         requires next { IsToldNext agent.now.machine happened.now }
         ensures given { Self.given self.new ≡ Self.given self.old }
-        ensures does { Self.does (Hear (thing_of happened.now)) self.old self.new };
+        ensures does { Self.does (Hear agent.now (thing_of happened.now)) self.old self.new };
 
     /// Goes on with clients and onlookers as far as it can without waiting. Whether more could be done at once.
     fn go_on(&mut self, alloc: Global, agent: &Agent, now: Reading) -> bool
         ensures given { Self.given self.new ≡ Self.given self.old }
-        ensures does { Self.does (GoOn result) self.old self.new };
+        ensures does { Self.does (GoOn agent.now now result) self.old self.new };
 
     /// The next change that is to be made, if there is one.
     fn change(&mut self, alloc: Global, agent: &Agent, now: Reading) -> Option<Change>
         ensures given { AllGiven (option_to_list result) (Self.given self.old) (Self.given self.new) }
-        ensures does { Self.does (Give result) self.old self.new };
+        ensures does { Self.does (Give agent.now now result) self.old self.new };
 
     /// Whether the change that was given last was made. Where memory was wanting it was not, and is to be given again.
     fn settle(&mut self, alloc: Global, agent: &Agent, is_made: bool)
         ensures given { Self.given self.new ≡ Self.given self.old }
-        ensures does { Self.does (Settle is_made) self.old self.new };
+        ensures does { Self.does (Settle agent.now is_made) self.old self.new };
 
     /// For how long they may be left alone, where nothing tells of one of them before, in milliseconds; `None` where as long as may be. It
     /// is asked at `now`, the moment of the clock that never steps at which they were called.

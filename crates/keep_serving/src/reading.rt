@@ -1,6 +1,7 @@
 //! The time is handed in.
 ghost use Rattle.std.specs.Prelude.{◌≡◌, ◌-◌, [], IfSome, is_ok};
-ghost use Rattle.keep_serving.specs.Neighbours.{AllCalled, Hear, Needs, heard_of_time};
+ghost use Rattle.keep_serving.specs.Calls.{calls_of_readings, needs_of};
+ghost use Rattle.keep_serving.specs.Neighbours.{Hear, WithCalls};
 ghost use Rattle.keep_serving.specs.Outlook.{IsOutlook};
 ghost use Rattle.keep_serving.specs.Stages.{ShortsAreSaid, TakesReadings};
 
@@ -22,9 +23,8 @@ impl Serving {
         neighbours: &mut N,
     ) -> Result<(), AllocError>
         requires none { self.old.unsent ≡ [] }
-        ensures reads { TakesReadings reading self.old (is_ok result) self.new }
+        ensures reads { WithCalls N.does (TakesReadings reading self.old (is_ok result) self.new) (calls_of_readings reading self.old (is_ok result) self.new) neighbours.old neighbours.new }
         ensures given { N.given neighbours.new ≡ N.given neighbours.old }
-        ensures heard { AllCalled N.does (heard_of_time (is_ok result)) neighbours.old neighbours.new }
     {
         let Reading { wall, elapsed } = reading;
         let Ok(output) = self.agent.turn(alloc, Event::Clock { wall, elapsed }) else {
@@ -56,10 +56,9 @@ impl Serving {
 
     /// Says what is short, unless memory is wanting for that.
     fn say_shorts<N: Neighbours>(&mut self, alloc: Global, neighbours: &mut N)
-        ensures said { ShortsAreSaid self.old.agent self.new.agent }
+        ensures said { (said : ShortsAreSaid self.old.agent self.new.agent) × N.does (Hear self.new.agent (needs_of self.old.agent self.new.agent said)) neighbours.old neighbours.new }
         ensures rest { self.new ≡ record self.old { agent = self.new.agent } }
         ensures given { N.given neighbours.new ≡ N.given neighbours.old }
-        ensures heard { N.does (Hear Needs) neighbours.old neighbours.new }
     {
         match self.agent.say_shorts(alloc) {
             Ok(shorts) => neighbours.hear(alloc, &self.agent, &Happened::Shorts(&shorts)),

@@ -4,7 +4,8 @@ ghost use Rattle.keep_agent.specs.Agent.{fresh};
 ghost use Rattle.keep_clock.specs.Seen.{AllMade};
 ghost use Rattle.keep_serving.specs.Changes.{AllGiven};
 ghost use Rattle.keep_serving.specs.Held.{IsInStep, held_at_first, serving_side};
-ghost use Rattle.keep_serving.specs.Neighbours.{AreCalledFor};
+ghost use Rattle.keep_serving.specs.Calls.{calls_of};
+ghost use Rattle.keep_serving.specs.Neighbours.{WithCalls};
 ghost use Rattle.keep_serving.specs.Runs.{AreTurns, all_calls, all_changes};
 ghost use Rattle.keep_serving.specs.Turns.{ServingTurn};
 
@@ -47,7 +48,7 @@ impl Serving {
         turns: u64,
     )
         requires in_step { IsInStep (L.width lanes.old) (L.out lanes.old) self.old }
-        ensures turns { (ts : List ServingTurn) × ((length ts ≡ turns) × (AreTurns (L.host_port lanes.old) (serving_side self.old (⟦<L as SeenLanes>⟧.seen lanes.old)) ts (serving_side self.new (⟦<L as SeenLanes>⟧.seen lanes.new)) × (AllMade (all_calls ts) (C.seen clock.old) (C.seen clock.new) × (AllGiven (all_changes ts) (N.given neighbours.old) (N.given neighbours.new) × AreCalledFor N.does (L.width lanes.old) ts neighbours.old neighbours.new)))) }
+        ensures turns { (ts : List ServingTurn) × ((length ts ≡ turns) × (WithCalls N.does (AreTurns (L.host_port lanes.old) (serving_side self.old (⟦<L as SeenLanes>⟧.seen lanes.old)) ts (serving_side self.new (⟦<L as SeenLanes>⟧.seen lanes.new))) (calls_of (L.host_port lanes.old) (serving_side self.old (⟦<L as SeenLanes>⟧.seen lanes.old)) ts (serving_side self.new (⟦<L as SeenLanes>⟧.seen lanes.new))) neighbours.old neighbours.new × (AllMade (all_calls ts) (C.seen clock.old) (C.seen clock.new) × AllGiven (all_changes ts) (N.given neighbours.old) (N.given neighbours.new)))) }
         ensures in_step { IsInStep (L.width lanes.new) (L.out lanes.new) self.new }
     {
         for _ in 0..turns {

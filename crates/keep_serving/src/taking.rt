@@ -1,11 +1,12 @@
 //! Answers are handed in.
-ghost use Rattle.std.specs.Prelude.{◌≡◌, ◌≢◌, ◌+◌, ◌<◌, OnErr, OnOk, ℕ, List, None, Some, is_ok, length, replicate};
+ghost use Rattle.std.specs.Prelude.{◌≡◌, ◌≢◌, ◌<◌, OnErr, OnOk, ℕ, List, None, Some, is_ok, length};
 ghost use Rattle.keep_asking.specs.Handing.{out_of};
 ghost use Rattle.keep_lanes.specs.Out as lanes;
 ghost use Rattle.keep_serving.specs.Held.{IsInStep};
-ghost use Rattle.keep_serving.specs.Neighbours.{AllCalled, Answer, Hear};
+ghost use Rattle.keep_serving.specs.Calls.{calls_of_taking};
+ghost use Rattle.keep_serving.specs.Neighbours.{WithCalls};
 ghost use Rattle.keep_serving.specs.Stages.{TakesAnswers};
-ghost use Rattle.keep_serving.specs.code.Firsts.{TakesFirst};
+ghost use Rattle.keep_serving.specs.code.Firsts.{TakesFirst, calls_of_first};
 
 use crate::neighbours::{Happened, Neighbours};
 use crate::serving::Serving;
@@ -21,9 +22,8 @@ impl Serving {
         neighbours: &mut N,
     ) -> Result<(), AllocError>
         requires in_step { (width : ℕ) × ((out : List lanes.Out) × IsInStep width out self.old) }
-        ensures takes { TakesAnswers self.old (is_ok result) self.new }
+        ensures takes { WithCalls N.does (TakesAnswers self.old (is_ok result) self.new) (calls_of_taking self.old (is_ok result) self.new) neighbours.old neighbours.new }
         ensures given { N.given neighbours.new ≡ N.given neighbours.old }
-        ensures heard { (answers : ℕ) × ((answers + length self.new.pending ≡ length self.old.pending) × AllCalled N.does (replicate answers (Hear Answer)) neighbours.old neighbours.new) }
     {
         for _ in 0..self.pending.len() {
             self.take_first(alloc, neighbours)?;
@@ -39,10 +39,9 @@ impl Serving {
     ) -> Result<(), AllocError>
         requires some { 0 < length self.old.pending }
         requires in_step { (width : ℕ) × ((out : List lanes.Out) × IsInStep width out self.old) }
-        ensures taken { OnOk result (TakesFirst self.old self.new) }
+        ensures taken { OnOk result (WithCalls N.does (TakesFirst self.old self.new) (calls_of_first self.old self.new) neighbours.old neighbours.new) }
         ensures kept { OnErr result (self.new ≡ self.old) }
         ensures given { N.given neighbours.new ≡ N.given neighbours.old }
-        ensures heard { OnOk result (N.does (Hear Answer) neighbours.old neighbours.new) }
         ensures unheard { OnErr result (neighbours.new ≡ neighbours.old) }
     {
         let answered = &self.pending[0];

@@ -1,10 +1,11 @@
 //! One turn: the time is handed in, a change is taken, and one wait follows.
-ghost use Rattle.std.specs.Prelude.{◌≡◌, ◌+◌, ◌||◌, [], Some, is_ok, length};
+ghost use Rattle.std.specs.Prelude.{◌≡◌, ◌||◌, [], Some, is_ok};
 ghost use Rattle.keep_clock.specs.Seen.{AllMade};
 ghost use Rattle.keep_serving.specs.Changes.{AllGiven, given_by};
 ghost use Rattle.keep_serving.specs.Held.{IsInStep, serving_side};
-ghost use Rattle.keep_serving.specs.Neighbours.{AllCalled, AnswersAreHeardOf, AreCalled, heard_of_want};
-ghost use Rattle.keep_serving.specs.Stages.{Commands, HandsInAnswers, LeftOverGoesFirst, OnHeld, TakesAnswers, TakesUp, Then};
+ghost use Rattle.keep_serving.specs.Calls.{InStage, calls_in, calls_of_answering, calls_of_reading, heard_of_want};
+ghost use Rattle.keep_serving.specs.Neighbours.{AllCalled, WithCalls};
+ghost use Rattle.keep_serving.specs.Stages.{Commands, HandsInAnswers, LeftOverGoesFirst, OnHeld, TakesAnswers, TakesUp, Then, of_answers, of_coming, of_commands, of_left, of_stages};
 ghost use Rattle.keep_serving.specs.Turns.{IsServingTurn, ServingTurn, calls_of_turn, longest_wait, turn_wait_by, wait_at};
 
 use crate::neighbours::{Happened, Neighbours};
@@ -33,7 +34,7 @@ impl Serving {
         neighbours: &mut N,
     )
         requires in_step { IsInStep (L.width lanes.old) (L.out lanes.old) self.old }
-        ensures turn { (t : ServingTurn) × (IsServingTurn (L.host_port lanes.old) (serving_side self.old (⟦<L as SeenLanes>⟧.seen lanes.old)) t (serving_side self.new (⟦<L as SeenLanes>⟧.seen lanes.new)) × (AllMade (calls_of_turn t) (C.seen clock.old) (C.seen clock.new) × (AllGiven (given_by t.made) (N.given neighbours.old) (N.given neighbours.new) × AreCalled N.does (L.width lanes.old) t neighbours.old neighbours.new))) }
+        ensures turn { (t : ServingTurn) × (WithCalls N.does (IsServingTurn (L.host_port lanes.old) (serving_side self.old (⟦<L as SeenLanes>⟧.seen lanes.old)) t (serving_side self.new (⟦<L as SeenLanes>⟧.seen lanes.new))) (calls_in (L.host_port lanes.old) (serving_side self.old (⟦<L as SeenLanes>⟧.seen lanes.old)) t (serving_side self.new (⟦<L as SeenLanes>⟧.seen lanes.new))) neighbours.old neighbours.new × (AllMade (calls_of_turn t) (C.seen clock.old) (C.seen clock.new) × AllGiven (given_by t.made) (N.given neighbours.old) (N.given neighbours.new))) }
         ensures in_step { IsInStep (L.width lanes.new) (L.out lanes.new) self.new }
         ensures width { L.width lanes.new ≡ L.width lanes.old }
         ensures port { L.host_port lanes.new ≡ L.host_port lanes.old }
@@ -56,7 +57,7 @@ impl Serving {
         neighbours: &mut N,
     ) -> u64
         requires in_step { IsInStep (L.width lanes.old) (L.out lanes.old) self.old }
-        ensures turn { (t : ServingTurn) × ((t.reading ≡ Some reading) × ((t.millis ≡ result) × (IsServingTurn (L.host_port lanes.old) (serving_side self.old (⟦<L as SeenLanes>⟧.seen lanes.old)) t (serving_side self.new (⟦<L as SeenLanes>⟧.seen lanes.new)) × (AllGiven (given_by t.made) (N.given neighbours.old) (N.given neighbours.new) × AreCalled N.does (L.width lanes.old) t neighbours.old neighbours.new)))) }
+        ensures turn { (t : ServingTurn) × ((t.reading ≡ Some reading) × ((t.millis ≡ result) × (WithCalls N.does (IsServingTurn (L.host_port lanes.old) (serving_side self.old (⟦<L as SeenLanes>⟧.seen lanes.old)) t (serving_side self.new (⟦<L as SeenLanes>⟧.seen lanes.new))) (calls_in (L.host_port lanes.old) (serving_side self.old (⟦<L as SeenLanes>⟧.seen lanes.old)) t (serving_side self.new (⟦<L as SeenLanes>⟧.seen lanes.new))) neighbours.old neighbours.new × AllGiven (given_by t.made) (N.given neighbours.old) (N.given neighbours.new)))) }
         ensures in_step { IsInStep (L.width lanes.new) (L.out lanes.new) self.new }
         ensures width { L.width lanes.new ≡ L.width lanes.old }
         ensures port { L.host_port lanes.new ≡ L.host_port lanes.old }
@@ -73,7 +74,7 @@ impl Serving {
     /// Tells the neighbours that memory was wanting, where it was.
     fn tell_want<N: Neighbours>(&self, alloc: Global, is_whole: bool, neighbours: &mut N)
         ensures given { N.given neighbours.new ≡ N.given neighbours.old }
-        ensures heard { AllCalled N.does (heard_of_want is_whole) neighbours.old neighbours.new }
+        ensures heard { AllCalled N.does (heard_of_want is_whole self.now.agent) neighbours.old neighbours.new }
     {
         if !is_whole {
             neighbours.hear(alloc, &self.agent, &Happened::Wanting);
@@ -90,11 +91,10 @@ impl Serving {
         neighbours: &mut N,
     ) -> Result<(), AllocError>
         requires in_step { IsInStep (L.width lanes.old) (L.out lanes.old) self.old }
-        ensures goes { LeftOverGoesFirst (L.host_port lanes.old) reading (serving_side self.old (⟦<L as SeenLanes>⟧.seen lanes.old)) (is_ok result) (serving_side self.new (⟦<L as SeenLanes>⟧.seen lanes.new)) }
+        ensures goes { InStage N.does (LeftOverGoesFirst (L.host_port lanes.old) reading) (of_stages (L.host_port lanes.old) reading calls_of_answering (calls_of_reading reading)) (serving_side self.old (⟦<L as SeenLanes>⟧.seen lanes.old)) (is_ok result) (serving_side self.new (⟦<L as SeenLanes>⟧.seen lanes.new)) neighbours.old neighbours.new }
         ensures width { L.width lanes.new ≡ L.width lanes.old }
         ensures port { L.host_port lanes.new ≡ L.host_port lanes.old }
         ensures given { N.given neighbours.new ≡ N.given neighbours.old }
-        ensures heard { AnswersAreHeardOf N.does (L.width lanes.old) (is_ok result) neighbours.old neighbours.new }
     {
         self.send_all(alloc, lanes)?;
         self.hand_in_left(alloc, reading, lanes, neighbours)
@@ -110,11 +110,10 @@ impl Serving {
     ) -> Result<(), AllocError>
         requires in_step { IsInStep (L.width lanes.old) (L.out lanes.old) self.old }
         requires sent { self.old.unsent ≡ [] }
-        ensures goes { Then (OnHeld TakesAnswers) (TakesUp (L.host_port lanes.old) reading) (serving_side self.old (⟦<L as SeenLanes>⟧.seen lanes.old)) (is_ok result) (serving_side self.new (⟦<L as SeenLanes>⟧.seen lanes.new)) }
+        ensures goes { InStage N.does (Then (OnHeld TakesAnswers) (TakesUp (L.host_port lanes.old) reading)) (of_left (L.host_port lanes.old) reading calls_of_answering (calls_of_reading reading)) (serving_side self.old (⟦<L as SeenLanes>⟧.seen lanes.old)) (is_ok result) (serving_side self.new (⟦<L as SeenLanes>⟧.seen lanes.new)) neighbours.old neighbours.new }
         ensures width { L.width lanes.new ≡ L.width lanes.old }
         ensures port { L.host_port lanes.new ≡ L.host_port lanes.old }
         ensures given { N.given neighbours.new ≡ N.given neighbours.old }
-        ensures heard { AnswersAreHeardOf N.does (length self.old.pending + length (L.out lanes.old)) (is_ok result) neighbours.old neighbours.new }
     {
         self.take_all(alloc, neighbours)?;
         self.take_up(alloc, reading, lanes, neighbours)
@@ -131,11 +130,10 @@ impl Serving {
         requires in_step { IsInStep (L.width lanes.old) (L.out lanes.old) self.old }
         requires sent { self.old.unsent ≡ [] }
         requires taken { self.old.pending ≡ [] }
-        ensures goes { TakesUp (L.host_port lanes.old) reading (serving_side self.old (⟦<L as SeenLanes>⟧.seen lanes.old)) (is_ok result) (serving_side self.new (⟦<L as SeenLanes>⟧.seen lanes.new)) }
+        ensures goes { InStage N.does (TakesUp (L.host_port lanes.old) reading) (of_coming (L.host_port lanes.old) reading calls_of_answering (calls_of_reading reading)) (serving_side self.old (⟦<L as SeenLanes>⟧.seen lanes.old)) (is_ok result) (serving_side self.new (⟦<L as SeenLanes>⟧.seen lanes.new)) neighbours.old neighbours.new }
         ensures width { L.width lanes.new ≡ L.width lanes.old }
         ensures port { L.host_port lanes.new ≡ L.host_port lanes.old }
         ensures given { N.given neighbours.new ≡ N.given neighbours.old }
-        ensures heard { AnswersAreHeardOf N.does (length (L.out lanes.old)) (is_ok result) neighbours.old neighbours.new }
     {
         self.come(alloc, lanes, reading.elapsed)?;
         self.hand_in_new(alloc, reading, lanes, neighbours)
@@ -151,11 +149,10 @@ impl Serving {
     ) -> Result<(), AllocError>
         requires in_step { IsInStep (L.width lanes.old) (L.out lanes.old) self.old }
         requires sent { self.old.unsent ≡ [] }
-        ensures goes { HandsInAnswers (L.host_port lanes.old) reading (serving_side self.old (⟦<L as SeenLanes>⟧.seen lanes.old)) (is_ok result) (serving_side self.new (⟦<L as SeenLanes>⟧.seen lanes.new)) }
+        ensures goes { InStage N.does (HandsInAnswers (L.host_port lanes.old) reading) (of_answers (L.host_port lanes.old) reading calls_of_answering (calls_of_reading reading)) (serving_side self.old (⟦<L as SeenLanes>⟧.seen lanes.old)) (is_ok result) (serving_side self.new (⟦<L as SeenLanes>⟧.seen lanes.new)) neighbours.old neighbours.new }
         ensures width { L.width lanes.new ≡ L.width lanes.old }
         ensures port { L.host_port lanes.new ≡ L.host_port lanes.old }
         ensures given { N.given neighbours.new ≡ N.given neighbours.old }
-        ensures heard { AnswersAreHeardOf N.does (length self.old.pending) (is_ok result) neighbours.old neighbours.new }
     {
         self.take_all(alloc, neighbours)?;
         self.command(alloc, reading, lanes, neighbours)
@@ -171,11 +168,10 @@ impl Serving {
     ) -> Result<(), AllocError>
         requires in_step { IsInStep (L.width lanes.old) (L.out lanes.old) self.old }
         requires sent { self.old.unsent ≡ [] }
-        ensures goes { Commands (L.host_port lanes.old) reading (serving_side self.old (⟦<L as SeenLanes>⟧.seen lanes.old)) (is_ok result) (serving_side self.new (⟦<L as SeenLanes>⟧.seen lanes.new)) }
+        ensures goes { InStage N.does (Commands (L.host_port lanes.old) reading) (of_commands (L.host_port lanes.old) reading calls_of_answering (calls_of_reading reading)) (serving_side self.old (⟦<L as SeenLanes>⟧.seen lanes.old)) (is_ok result) (serving_side self.new (⟦<L as SeenLanes>⟧.seen lanes.new)) neighbours.old neighbours.new }
         ensures width { L.width lanes.new ≡ L.width lanes.old }
         ensures port { L.host_port lanes.new ≡ L.host_port lanes.old }
         ensures given { N.given neighbours.new ≡ N.given neighbours.old }
-        ensures heard { AnswersAreHeardOf N.does 0 (is_ok result) neighbours.old neighbours.new }
     {
         self.read(alloc, reading, neighbours)?;
         self.send_all(alloc, lanes)

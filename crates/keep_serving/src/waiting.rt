@@ -1,15 +1,11 @@
 //! A start that waits, so that agents which start together do not all ask at once.
-ghost use Rattle.std.specs.Prelude.{◌≡◌, ◌||◌, List, Result, is_ok, not};
-ghost use Rattle.keep_agent.specs.Turns.{AgentTurn};
+ghost use Rattle.std.specs.Prelude.{◌≡◌, ◌||◌, Bool, List, not};
 ghost use Rattle.keep_clock.specs.Seen.{AllMade};
-ghost use Rattle.keep_serving.specs.Apart.{IsWaitedApart, Waited, all_called, all_clocked, all_given, is_change_kept, pause_by};
+ghost use Rattle.keep_serving.specs.Apart.{IsWaitedApart, Waited, all_called, all_clocked, all_given, is_change_kept, is_change_served, pause_by, told_by};
 ghost use Rattle.keep_serving.specs.Changes.{AllGiven, ChangeIsMade};
 ghost use Rattle.keep_serving.specs.Held.{IsInStep, serving_side};
 ghost use Rattle.keep_serving.specs.Neighbours.{AllCalled, Settle};
 ghost use Rattle.keep_serving.specs.code.Pauses.{Pauses};
-ghost use Rattle.watch_machine.specs.declared.command.Output.{Output};
-ghost use Rattle.watch_machine.specs.declared.event.Event.TheVariants as events;
-ghost use Rattle.watch_machine.specs.declared.fault.WatchFault.{WatchFault};
 
 use crate::change::Change;
 use crate::neighbours::Neighbours;
@@ -25,11 +21,11 @@ impl Serving {
     /// Waits before the first turn, until a moment of the clock that never steps, in milliseconds, by `most` pauses at most. Nothing is
     /// asked meanwhile. In each pause the neighbours go on and are asked for one change, and a wait of a second at most follows.
     ///
-    /// It ends at once where a change is made that counts now, where the clocks cannot be read, and where memory is wanting for the time.
-    /// A change for which memory is wanting does not end it: it is asked for again after a wait.
+    /// It ends at once where a change is made that counts now, and where the clocks cannot be read. A change for which memory is wanting
+    /// does not end it: it is asked for again after a wait.
     ///
     /// `shown` is what the neighbours see of the agent: it serves the same inventory and knows the same ends, and the time is handed in
-    /// to it. What it commands goes out nowhere.
+    /// to it, unless memory is wanting for that. What it commands goes out nowhere.
     pub fn wait_apart<C: Clock, L: Lanes, N: Neighbours>(
         &mut self,
         alloc: Global,
@@ -41,7 +37,7 @@ impl Serving {
         most: u64,
     )
         requires in_step { IsInStep (L.width lanes.old) (L.out lanes.old) self.old }
-        ensures waited { (w : Waited) × (IsWaitedApart until most (serving_side self.old (⟦<L as SeenLanes>⟧.seen lanes.old)) w (serving_side self.new (⟦<L as SeenLanes>⟧.seen lanes.new)) × (AllMade (all_clocked w) (C.seen clock.old) (C.seen clock.new) × (AllGiven (all_given w) (N.given neighbours.old) (N.given neighbours.new) × AllCalled N.does (all_called w) neighbours.old neighbours.new))) }
+        ensures waited { (w : Waited) × (IsWaitedApart until most shown.old.agent (serving_side self.old (⟦<L as SeenLanes>⟧.seen lanes.old)) w (serving_side self.new (⟦<L as SeenLanes>⟧.seen lanes.new)) × (AllMade (all_clocked w) (C.seen clock.old) (C.seen clock.new) × (AllGiven (all_given w) (N.given neighbours.old) (N.given neighbours.new) × AllCalled N.does (all_called self.old.agent self.new.agent w) neighbours.old neighbours.new))) }
         ensures in_step { IsInStep (L.width lanes.new) (L.out lanes.new) self.new }
         ensures width { L.width lanes.new ≡ L.width lanes.old }
         ensures port { L.host_port lanes.new ≡ L.host_port lanes.old }
@@ -65,7 +61,7 @@ impl Serving {
         neighbours: &mut N,
         until: u64,
     ) -> Option<u64>
-        ensures pauses { Pauses N.does until reading result (serving_side self.old (⟦<L as SeenLanes>⟧.seen lanes.old)) (serving_side self.new (⟦<L as SeenLanes>⟧.seen lanes.new)) (N.given neighbours.old) (N.given neighbours.new) neighbours.old neighbours.new }
+        ensures pauses { Pauses N.does until reading result shown.old.agent shown.new.agent (serving_side self.old (⟦<L as SeenLanes>⟧.seen lanes.old)) (serving_side self.new (⟦<L as SeenLanes>⟧.seen lanes.new)) (N.given neighbours.old) (N.given neighbours.new) neighbours.old neighbours.new }
         ensures width { L.width lanes.new ≡ L.width lanes.old }
         ensures port { L.host_port lanes.new ≡ L.host_port lanes.old }
     {
@@ -73,9 +69,8 @@ impl Serving {
         if reading.elapsed >= until {
             return None;
         }
-        if !shown.show(alloc, reading) {
-            return None;
-        }
+        let Reading { wall, elapsed } = reading;
+        shown.take(alloc, Event::Clock { wall, elapsed });
         let is_busy = neighbours.go_on(alloc, &shown.agent, reading);
         let Some(change) = neighbours.change(alloc, &shown.agent, reading) else {
             return Some(pause_by(false, is_busy, until, reading));
@@ -99,7 +94,7 @@ impl Serving {
         change: Change,
     ) -> bool
         ensures made { ChangeIsMade change result (serving_side self.old (⟦<L as SeenLanes>⟧.seen lanes.old)) (serving_side self.new (⟦<L as SeenLanes>⟧.seen lanes.new)) }
-        ensures settled { N.does (Settle result) neighbours.old neighbours.new }
+        ensures settled { N.does (Settle (told_by shown.now.agent self.new.agent change) result) neighbours.old neighbours.new }
         ensures given { N.given neighbours.new ≡ N.given neighbours.old }
         ensures width { L.width lanes.new ≡ L.width lanes.old }
         ensures port { L.host_port lanes.new ≡ L.host_port lanes.old }
@@ -109,17 +104,6 @@ impl Serving {
         let agent = if is_served { &self.agent } else { &shown.agent };
         neighbours.settle(alloc, agent, is_made);
         is_made
-    }
-
-    /// The time is handed in; what is commanded by it goes out nowhere. Whether memory sufficed.
-    fn show(&mut self, alloc: Global, reading: Reading) -> bool
-        ensures turned { (turned : Result Output WatchFault) × (AgentTurn self.old.agent (events.Clock reading.wall reading.elapsed) turned self.new.agent × (result ≡ is_ok turned)) }
-        ensures rest { self.new ≡ record self.old { agent = self.new.agent } }
-    {
-        let Reading { wall, elapsed } = reading;
-        self.agent
-            .turn(alloc, Event::Clock { wall, elapsed })
-            .is_ok()
     }
 }
 
@@ -134,7 +118,9 @@ fn is_kept(change: &Change) -> bool
 }
 
 /// Whether another inventory is to be served.
-fn is_served(change: &Change) -> bool {
+fn is_served(change: &Change) -> bool
+    ensures { result ≡ is_change_served change.now }
+{
     match change {
         Change::Need { .. } | Change::Begin | Change::Known { .. } | Change::Kept => false,
         Change::Serve(_) => true,

@@ -115,7 +115,7 @@ pub runs_so :
     {D I L S T O E C P : Type 0} → (does : NeighbourCall → EarlyDay (Behind (House S T O (Ledger D I L) E) L) → EarlyDay (Behind (House S T O (Ledger D I L) E) L) → Type 0) (given : EarlyDay (Behind (House S T O (Ledger D I L) E) L) → Option (List Change)) (calls : P → Option (List FileCall)) (known : Bool) (disk_seen : E → DiskState)
     (clock_seen : C → ClockSeen) (seen : L → Lanes) (port width : L → ℕ) (served : Served) (start : Start (Ledger D I L)) (parts : Parts S E L) (doors : P) (clock clock_read clock_after : C) (lanes lanes_after : L) (now : Reading) (begun : Begun S T O (Ledger D I L) E L)
     (after : EarlyDay (Behind (House S T O (Ledger D I L) E) L)) → ReadsFirst clock_seen now clock clock_read → IsBegun calls known disk_seen now served start parts doors (width lanes) begun →
-    RunsFrom does given clock_seen seen port width begun.wait begun.serving lanes clock_read begun.neighbours lanes_after clock_after after →
+    RunsFrom does given clock_seen seen port begun.wait begun.serving lanes clock_read begun.neighbours lanes_after clock_after after →
     IsRun does given calls known disk_seen clock_seen seen port width served start parts doors clock lanes clock_after lanes_after
 runs_so does given calls known disk_seen clock_seen seen port width served start parts doors clock clock_read clock_after lanes lanes_after now begun after reads begins runs =
     record { now = now; clock_read = clock_read; begun = begun; after = after; reads = reads; begins = begins; runs = runs }

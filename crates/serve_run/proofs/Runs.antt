@@ -6,9 +6,10 @@ use Rattle.keep_clock.proofs.Joined.{none_law}
 use Rattle.keep_clock.specs.Seen.{AllMade, ClockSeen}
 use Rattle.keep_serving.proofs.Turned.{given_none}
 use Rattle.keep_serving.specs.Apart.{IsPause, IsWaitedApart, Spent, Waited, all_called, all_clocked, all_given}
+use Rattle.keep_serving.specs.Calls.{calls_of}
 use Rattle.keep_serving.specs.Changes.{AllGiven}
 use Rattle.keep_serving.specs.Held.{Held, ServingSide, serving_side}
-use Rattle.keep_serving.specs.Neighbours.{AllCalled, AreCalledFor, NeighbourCall}
+use Rattle.keep_serving.specs.Neighbours.{AllCalled, NeighbourCall, WithCalls}
 use Rattle.keep_serving.specs.Runs.{AreTurns, all_calls, all_changes}
 use Rattle.keep_serving.specs.Turns.{ServingTurn}
 use Rattle.keep_serving.specs.declared.change.Change.{Change}
@@ -20,7 +21,7 @@ module _ {N : Type 0} (does : NeighbourCall → N → N → Type 0) (given : N �
   waits_not s clock n =
       record {
         waited = record { pauses = []; ending = Spent };
-        is = record { pauses = All-nil (IsPause 0); after = refl; ends = refl };
+        is = record { pauses = All-nil (IsPause 0); last = s.held.agent; shows = refl; shows_at = tt; after = refl; ends = refl };
         clocked = none_law clock;
         gives = given_none (given n);
         called = refl;
@@ -28,34 +29,31 @@ module _ {N : Type 0} (does : NeighbourCall → N → N → Type 0) (given : N �
 
   pub waits_so :
       (w : Wait) (old new : ServingSide) (clock later : ClockSeen) (before after : N) →
-      ((waited : Waited) × (IsWaitedApart w.until MOST old waited new × (AllMade (all_clocked waited) clock later × (AllGiven (all_given waited) (given before) (given after) × AllCalled does (all_called waited) before after)))) →
+      ((waited : Waited) × (IsWaitedApart w.until MOST w.shown.agent old waited new × (AllMade (all_clocked waited) clock later × (AllGiven (all_given waited) (given before) (given after) × AllCalled does (all_called old.held.agent new.held.agent waited) before after)))) →
       WaitsFirst does given (Some w) old new clock later before after
   waits_so w old new clock later before after h = record { waited = h.0; is = h.1.0; clocked = h.1.1.0; gives = h.1.1.1.0; called = h.1.1.1.1 }
 
-  turns_made :
-      (port width : ℕ) (old new : ServingSide) (clock later : ClockSeen) (before after : N) →
-      ((ts : List ServingTurn) × ((length ts ≡ MOST) × (AreTurns port old ts new × (AllMade (all_calls ts) clock later × (AllGiven (all_changes ts) (given before) (given after) × AreCalledFor does width ts before after))))) →
-      MakesTurns does given port width old new clock later before after
-  turns_made port width old new clock later before after h =
-      record { turns = h.0; count = h.1.0; are = h.1.1.0; clocked = h.1.1.1.0; gives = h.1.1.1.1.0; called = h.1.1.1.1.1 }
+  abbrev Turns : ℕ → ServingSide → ServingSide → ClockSeen → ClockSeen → N → N → Type 0
+  Turns port old new clock later before after =
+      (ts : List ServingTurn) × ((length ts ≡ MOST) × (WithCalls does (AreTurns port old ts new) (calls_of port old ts new) before after × (AllMade (all_calls ts) clock later × AllGiven (all_changes ts) (given before) (given after))))
+
+  turns_made : (port : ℕ) (old new : ServingSide) (clock later : ClockSeen) (before after : N) → Turns port old new clock later before after → MakesTurns does given port old new clock later before after
+  turns_made port old new clock later before after h = record { turns = h.0; count = h.1.0; are = h.1.1.0; clocked = h.1.1.1.0; gives = h.1.1.1.1 }
 
   pub runs_from :
-      {C L : Type 0} → (clock_seen : C → ClockSeen) (seen : L → Lanes) (port width : L → ℕ) (wait : Option Wait) (serving begun last : Held) (lanes lanes_begun lanes_after : L) (clock clock_begun clock_after : C) (before mid after : N) →
+      {C L : Type 0} → (clock_seen : C → ClockSeen) (seen : L → Lanes) (port : L → ℕ) (wait : Option Wait) (serving begun last : Held) (lanes lanes_begun lanes_after : L) (clock clock_begun clock_after : C) (before mid after : N) →
       WaitsFirst does given wait (serving_side serving (seen lanes)) (serving_side begun (seen lanes_begun)) (clock_seen clock) (clock_seen clock_begun) before mid →
-      width lanes_begun ≡ width lanes → port lanes_begun ≡ port lanes →
-      ((ts : List ServingTurn) × ((length ts ≡ MOST) × (AreTurns (port lanes_begun) (serving_side begun (seen lanes_begun)) ts (serving_side last (seen lanes_after)) × (AllMade (all_calls ts) (clock_seen clock_begun) (clock_seen clock_after)
-      × (AllGiven (all_changes ts) (given mid) (given after) × AreCalledFor does (width lanes_begun) ts mid after))))) →
-      RunsFrom does given clock_seen seen port width wait serving lanes clock before lanes_after clock_after after
-  runs_from clock_seen seen port width wait serving begun last lanes lanes_begun lanes_after clock clock_begun clock_after before mid after waits wide same turns =
+      port lanes_begun ≡ port lanes → Turns (port lanes_begun) (serving_side begun (seen lanes_begun)) (serving_side last (seen lanes_after)) (clock_seen clock_begun) (clock_seen clock_after) mid after →
+      RunsFrom does given clock_seen seen port wait serving lanes clock before lanes_after clock_after after
+  runs_from clock_seen seen port wait serving begun last lanes lanes_begun lanes_after clock clock_begun clock_after before mid after waits same turns =
       let old = serving_side begun (seen lanes_begun) in
       let new = serving_side last (seen lanes_after) in
-      let made = turns_made (port lanes_begun) (width lanes_begun) old new (clock_seen clock_begun) (clock_seen clock_after) mid after turns in
-      let ported = subst (λ p. MakesTurns does given p (width lanes_begun) old new (clock_seen clock_begun) (clock_seen clock_after) mid after) same made in
       record {
         begun = old;
         last = last;
         clock_begun = clock_seen clock_begun;
         mid = mid;
         waits = waits;
-        turns = subst (λ w. MakesTurns does given (port lanes) w old new (clock_seen clock_begun) (clock_seen clock_after) mid after) wide ported;
+        turns = subst (λ p. MakesTurns does given p old new (clock_seen clock_begun) (clock_seen clock_after) mid after) same
+            (turns_made (port lanes_begun) old new (clock_seen clock_begun) (clock_seen clock_after) mid after turns);
       }

@@ -91,7 +91,7 @@ pub record IsRun {D I L S T O E C P : Type 0} (does : NeighbourCall → EarlyDay
   pub after : EarlyDay (Behind (House S T O (Ledger D I L) E) L)
   pub reads : ReadsFirst clock_seen now clock clock_read
   pub begins : IsBegun calls known disk_seen now served start parts doors (width lanes) begun
-  pub runs : RunsFrom does given clock_seen seen port width begun.wait begun.serving lanes clock_read begun.neighbours lanes_after clock_after after
+  pub runs : RunsFrom does given clock_seen seen port begun.wait begun.serving lanes clock_read begun.neighbours lanes_after clock_after after
 
 -- an agent was put together of a start that these words demand, and has run, with this log, over lanes to the broker of which none was taken, with the time-out and the width
 -- of the words

@@ -20,7 +20,7 @@ pub(crate) fn run_from<C: Clock, L: Lanes, N: Neighbours>(
     neighbours: &mut N,
 )
     requires in_step { IsInStep (L.width lanes.old) (L.out lanes.old) serving }
-    ensures { RunsFrom N.does N.given C.seen ⟦<L as SeenLanes>⟧.seen L.host_port L.width wait serving lanes.old clock.old neighbours.old lanes.new clock.new neighbours.new }
+    ensures { RunsFrom N.does N.given C.seen ⟦<L as SeenLanes>⟧.seen L.host_port wait serving lanes.old clock.old neighbours.old lanes.new clock.new neighbours.new }
 {
     let mut serving = serving;
     wait_first(alloc, wait, &mut serving, clock, lanes, neighbours);

@@ -1,11 +1,13 @@
 -- Firsts: one request goes out, one answer is handed in. No public clause cites them.
 -- Source: this project's own.
-use Rattle.std.specs.Prelude.{◌≡◌, ℕ, ◌∷◌}
+use Rattle.std.specs.Prelude.{◌≡◌, ℕ, List, [], ◌∷◌}
 use Rattle.keep_asking.specs.Sending.{GoesOut}
 use Rattle.keep_lanes.specs.declared.lanes.Answered.{Answered}
 use Rattle.watch_machine.specs.declared.command.Request.{Request}
 use Rattle.watch_machine.specs.Clocks.{second_of_wall}
+use Rattle.keep_serving.specs.Calls.{call_of_answer}
 use Rattle.keep_serving.specs.Held.{Held, ServingSide}
+use Rattle.keep_serving.specs.Neighbours.{NeighbourCall}
 use Rattle.keep_serving.specs.Stages.{AnswerIsTaken}
 
 -- the first request that was not sent goes out
@@ -21,3 +23,6 @@ pub record TakesFirst (old new : Held) : Type 0 where
   pub first : old.pending ≡ answer ∷ new.pending
   pub agent : AnswerIsTaken answer old.agent new.agent
   pub held : new ≡ record old { agent = new.agent; pending = new.pending }
+
+abbrev pub calls_of_first : (old new : Held) → TakesFirst old new → List NeighbourCall
+calls_of_first old new h = call_of_answer h.answer old.agent new.agent h.agent ∷ []

@@ -5,28 +5,7 @@ use Rattle.keep_house.proofs.house.HouseNeighbours.go_on.Goals as goal
 
 pub returns-then-goes_on-clause-does : goal.returns-then-goes_on-clause-does
 returns-then-goes_on-clause-does g c =
-    let first = c.if-goes_on.true in (
-      c.args.agent.now,
-      (
-        c.args.now,
-        record {
-          kept = c.keep_ends.new.self;
-          looked = c.look-goes_on.new.self;
-          goes_on = c.look-goes_on.result;
-          is_more = c.attend-is_busy.result;
-          ends = c.keep_ends.ensures;
-          look = c.look-goes_on.ensures;
-          attend = c.attend-is_busy.ensures;
-          busy = first ∙ sym (ap (λ b. b || c.attend-is_busy.result) first);
-        },
-      ),
-    )
-
-pub returns-else-goes_on-clause-does : goal.returns-else-goes_on-clause-does
-returns-else-goes_on-clause-does g c = (
-  c.args.agent.now,
-  (
-    c.args.now,
+    let first = c.if-goes_on.true in
     record {
       kept = c.keep_ends.new.self;
       looked = c.look-goes_on.new.self;
@@ -35,7 +14,17 @@ returns-else-goes_on-clause-does g c = (
       ends = c.keep_ends.ensures;
       look = c.look-goes_on.ensures;
       attend = c.attend-is_busy.ensures;
-      busy = sym (ap (λ b. b || c.attend-is_busy.result) c.if-goes_on.false);
-    },
-  ),
-)
+      busy = first ∙ sym (ap (λ b. b || c.attend-is_busy.result) first);
+    }
+
+pub returns-else-goes_on-clause-does : goal.returns-else-goes_on-clause-does
+returns-else-goes_on-clause-does g c = record {
+  kept = c.keep_ends.new.self;
+  looked = c.look-goes_on.new.self;
+  goes_on = c.look-goes_on.result;
+  is_more = c.attend-is_busy.result;
+  ends = c.keep_ends.ensures;
+  look = c.look-goes_on.ensures;
+  attend = c.attend-is_busy.ensures;
+  busy = sym (ap (λ b. b || c.attend-is_busy.result) c.if-goes_on.false);
+}

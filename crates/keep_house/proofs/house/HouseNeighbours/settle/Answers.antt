@@ -18,21 +18,19 @@ pub returns-clause-does : goal.returns-clause-does
 returns-clause-does g c =
     let old = c.args.self.now in
     let new = c.if-is_made.self in
-    let is = c.args.is_made && is_served old.given in (
-      c.args.agent.now,
-      record {
-        heard = new;
-        settled = c.settle_given.new.self;
-        served = elim c.if-is_made.branch [
-          | then-is_made+then-is_served w ↦
-              heard is old new (ap (λ b. b && is_served old.given) w.if-is_made.true ∙ sym w.is_served.ensures ∙ w.if-is_served.true) (subst (λ h. HearsServed old h) (sym w.self-is) w.hear_served.ensures)
-          | else-is_made w ↦ elim w.else-is_made.branch [
-            | else-is_made-via-then-is_made+else-is_served x ↦ unheard is old new (ap (λ b. b && is_served old.given) x.if-is_made.true ∙ sym x.is_served.ensures ∙ x.if-is_served.false) w.self-is
-            | else-is_made-via-else-is_made x ↦ unheard is old new (ap (λ b. b && is_served old.given) x.if-is_made.false) w.self-is
-          ]
-        ];
-        settles = c.settle_given.ensures;
-        unmade = c.hear_unmade.ensures;
-        rest = refl;
-      },
-    )
+    let is = c.args.is_made && is_served old.given in
+    record {
+      heard = new;
+      settled = c.settle_given.new.self;
+      served = elim c.if-is_made.branch [
+        | then-is_made+then-is_served w ↦
+            heard is old new (ap (λ b. b && is_served old.given) w.if-is_made.true ∙ sym w.is_served.ensures ∙ w.if-is_served.true) (subst (λ h. HearsServed old h) (sym w.self-is) w.hear_served.ensures)
+        | else-is_made w ↦ elim w.else-is_made.branch [
+          | else-is_made-via-then-is_made+else-is_served x ↦ unheard is old new (ap (λ b. b && is_served old.given) x.if-is_made.true ∙ sym x.is_served.ensures ∙ x.if-is_served.false) w.self-is
+          | else-is_made-via-else-is_made x ↦ unheard is old new (ap (λ b. b && is_served old.given) x.if-is_made.false) w.self-is
+        ]
+      ];
+      settles = c.settle_given.ensures;
+      unmade = c.hear_unmade.ensures;
+      rest = refl;
+    }

@@ -1,6 +1,8 @@
 -- A change is made, or there was none.
-use Rattle.std.proofs.Common.{◌∷◌, List, Option, Some, None, [], refl, subst, sym}
+use Rattle.std.proofs.Common.{◌∷◌, List, Option, Some, None, [], ap, refl, subst, sym}
+use Rattle.keep_agent.specs.Agent.{Agent}
 use Rattle.keep_serving.specs.Changes.{AllGiven}
+use Rattle.keep_serving.specs.Held.{Held}
 use Rattle.keep_serving.specs.Neighbours.{Give, Settle}
 use Rattle.keep_serving.specs.declared.change.Change.{Change}
 use Rattle.keep_serving.proofs.Called.{called_once, called_twice}
@@ -17,11 +19,27 @@ returns-clause-made g c =
         c.make-is_made.ensures.made,
         (
           refl,
-          (given, called_twice g.N.Neighbours.does (Give (Some change)) (Settle is_made) c.args.neighbours.now c.change.new.self c.settle.new.self c.in-Some.ensures.does c.settle.ensures.does),
+          (
+            given,
+            called_twice g.N.Neighbours.does (Give c.args.self.now.agent c.args.now (Some change)) (Settle c.make-is_made.new.self.agent is_made) c.args.neighbours.now c.change.new.self c.settle.new.self (subst (λ (a : Agent). g.N.Neighbours.does (Give a c.args.now (Some change)) c.args.neighbours.now c.change.new.self) (ap (λ (h : Held). h.agent) c.self.view_is) c.in-Some.ensures.does)
+                (subst (λ (a : Agent). g.N.Neighbours.does (Settle a is_made) c.change.new.self c.settle.new.self) (ap (λ (h : Held). h.agent) c.self-2.view_is) c.settle.ensures.does),
+          ),
         ),
       ),
     )
 
 pub returns-in_default-clause-made : goal.returns-in_default-clause-made
-returns-in_default-clause-made g c =
-    (None, (refl, (refl, (c.in_default.ensures.given, called_once g.N.Neighbours.does (Give None) c.args.neighbours.now c.change.new.self c.in_default.ensures.does))))
+returns-in_default-clause-made g c = (
+  None,
+  (
+    refl,
+    (
+      refl,
+      (
+        c.in_default.ensures.given,
+        called_once g.N.Neighbours.does (Give c.args.self.now.agent c.args.now None) c.args.neighbours.now c.change.new.self
+            (subst (λ (a : Agent). g.N.Neighbours.does (Give a c.args.now None) c.args.neighbours.now c.change.new.self) (ap (λ (h : Held). h.agent) c.self.view_is) c.in_default.ensures.does),
+      ),
+    ),
+  ),
+)

@@ -1,11 +1,12 @@
 -- The time was handed in: what is commanded is to be sent, and what is short was said.
-use Rattle.std.proofs.Common.{◌∙◌, Ok, ap, subst, sym}
+use Rattle.std.proofs.Common.{◌∙◌, IfSome, List, Ok, ap, subst, sym}
 use Rattle.keep_agent.specs.Agent.{Agent}
 use Rattle.keep_agent.specs.Turns.{AgentTurn}
+use Rattle.watch_machine.specs.declared.command.Request.{Request}
 use Rattle.watch_machine.specs.declared.event.Event.TheVariants.{Clock}
 use Rattle.keep_serving.specs.Held.{Held}
-use Rattle.keep_serving.specs.Neighbours.{Hear, Needs, Time}
-use Rattle.keep_serving.proofs.Called.{called_twice}
+use Rattle.keep_serving.specs.Neighbours.{Hear, Time}
+use Rattle.keep_serving.specs.Outlook.{IsOutlook}
 use Rattle.keep_serving.proofs.Read.{read_whole, ready_is}
 use Rattle.keep_serving.proofs.serving.Serving.read.Goals as goal
 
@@ -15,11 +16,8 @@ returns-clause-reads g c =
     let between : Held = record { agent = mid; pending = c.self.inside.pending.items; unsent = c.from_vec.result.items; asked = c.args.reading; until = c.here-self-inside.result } in
     let made = ready_is c.args.reading c.args.self.now mid c.in-Go.requests c.in-Go.until c.here-self-inside.result c.self.inside.pending.items c.from_vec.result.items (ap (λ (h : Held). h.pending) c.self.view_is)
     (c.from_vec.ensures.items ∙ c.into_vec.ensures) c.here-self-inside.ensures in
-    read_whole c.args.reading c.args.self.now mid c.in-Go.requests c.in-Go.until c.in-Ok.output between c.say_shorts.new.self c.requires.none c.in-Go.is
+    read_whole g.N.Neighbours.does c.args.reading c.args.self.now mid c.in-Go.requests c.in-Go.until c.in-Ok.output c.outlook.result between c.say_shorts.new.self c.args.neighbours.now c.hear.new.self c.say_shorts.new.neighbours c.requires.none c.in-Go.is
     (subst (λ (a : Agent). AgentTurn c.args.self.now.agent (Clock c.args.reading.wall c.args.reading.elapsed) (Ok c.in-Ok.output) a) (sym c.outlook.ensures.unchanged)
     (subst (λ (a : Agent). AgentTurn a (Clock c.args.reading.wall c.args.reading.elapsed) (Ok c.in-Ok.output) c.turn.new.self) (ap (λ (h : Held). h.agent) c.self.view_is) c.in-Ok.ensures.turn))
-    made c.say_shorts.ensures.said c.say_shorts.ensures.rest
-
-pub returns-clause-heard : goal.returns-clause-heard
-returns-clause-heard g c =
-    called_twice g.N.Neighbours.does (Hear Time) (Hear Needs) c.args.neighbours.now c.hear.new.self c.say_shorts.new.neighbours c.hear.ensures.does c.say_shorts.ensures.heard
+    (subst (λ (a : Agent). IfSome c.outlook.result (IsOutlook a.machine)) (sym c.outlook.ensures.unchanged) c.outlook.ensures.next) made c.say_shorts.ensures.rest
+    (subst (λ (rs : List Request). g.N.Neighbours.does (Hear mid (Time c.in-Ok.output.notes rs c.outlook.result)) c.args.neighbours.now c.hear.new.self) c.list.ensures c.hear.ensures.does) c.say_shorts.ensures.said

@@ -2,17 +2,18 @@
 use Rattle.std.proofs.Common.{◌∙◌, ◌++◌, ◌∷◌, [], refl, subst}
 use Rattle.keep_asking.specs.Sending.{Lanes, lanes_of}
 use Rattle.keep_clock.proofs.Joined.{none_law}
+use Rattle.keep_serving.specs.Calls.{calls_in}
 use Rattle.keep_serving.specs.Held.{serving_side}
-use Rattle.keep_serving.specs.Neighbours.{AreCalled}
+use Rattle.keep_serving.specs.Neighbours.{WithCalls}
 use Rattle.keep_serving.specs.Turns.{IsServingTurn}
-use Rattle.keep_serving.proofs.Called.{turns_called}
-use Rattle.keep_serving.proofs.Run.{calls_on, changes_run, one_more, turns_on}
+use Rattle.keep_serving.proofs.Called.{turns_on}
+use Rattle.keep_serving.proofs.Run.{calls_on, changes_run, one_more}
 use Rattle.keep_serving.proofs.Turned.{given_none}
 use Rattle.keep_serving.proofs.serving.Serving.run.Goals as goal
 
 pub loop-init : goal.loop-init
 loop-init g c = record {
-  turns = ([], (refl, (refl, (none_law (g.C.Clock.seen c.args.clock.now), (given_none (g.N.Neighbours.given c.args.neighbours.now), refl)))));
+  turns = ([], (refl, (record { is = refl; called = refl }, (none_law (g.C.Clock.seen c.args.clock.now), given_none (g.N.Neighbours.given c.args.neighbours.now)))));
   in_step = c.requires.in_step;
   width = refl;
   port = refl;
@@ -26,21 +27,17 @@ loop-preserved g c =
     let port = g.L.Lanes.host_port c.args.lanes.now in
     let all = c.loop.invariant.turns in
     let one = c.turn.ensures.turn in
-    let turn = subst (λ p. IsServingTurn p (serving_side c.loop.self mid) one.0 (serving_side c.turn.new.self new)) c.loop.invariant.port one.1.0 in
-    let called = subst (λ w. AreCalled g.N.Neighbours.does w one.0 c.loop.neighbours c.turn.new.neighbours) c.loop.invariant.width one.1.1.1.1 in
+    let turn = subst (λ p. WithCalls g.N.Neighbours.does (IsServingTurn p (serving_side c.loop.self mid) one.0 (serving_side c.turn.new.self new)) (calls_in p (serving_side c.loop.self mid) one.0 (serving_side c.turn.new.self new)) c.loop.neighbours c.turn.new.neighbours) c.loop.invariant.port one.1.0 in
     record {
       turns = (
         all.0 ++ one.0 ∷ [],
         (
           one_more all.0 one.0 c.loop.counter all.1.0,
           (
-            turns_on port all.0 one.0 (serving_side c.args.self.now old) (serving_side c.loop.self mid) (serving_side c.turn.new.self new) all.1.1.0 turn,
+            turns_on g.N.Neighbours.does port all.0 one.0 (serving_side c.args.self.now old) (serving_side c.loop.self mid) (serving_side c.turn.new.self new) c.args.neighbours.now c.loop.neighbours c.turn.new.neighbours all.1.1.0 turn,
             (
               calls_on all.0 one.0 (g.C.Clock.seen c.args.clock.now) (g.C.Clock.seen c.loop.clock) (g.C.Clock.seen c.turn.new.clock) all.1.1.1.0 one.1.1.0,
-              (
-                changes_run all.0 one.0 (g.N.Neighbours.given c.args.neighbours.now) (g.N.Neighbours.given c.loop.neighbours) (g.N.Neighbours.given c.turn.new.neighbours) all.1.1.1.1.0 one.1.1.1.0,
-                turns_called g.N.Neighbours.does (g.L.Lanes.width c.args.lanes.now) all.0 one.0 c.args.neighbours.now c.loop.neighbours c.turn.new.neighbours all.1.1.1.1.1 called,
-              ),
+              changes_run all.0 one.0 (g.N.Neighbours.given c.args.neighbours.now) (g.N.Neighbours.given c.loop.neighbours) (g.N.Neighbours.given c.turn.new.neighbours) all.1.1.1.1 one.1.1.1,
             ),
           ),
         ),

@@ -4,7 +4,8 @@ use Rattle.keep_asking.specs.Sending.{lanes_of}
 use Rattle.keep_clock.specs.Seen.{AllMade}
 use Rattle.keep_serving.specs.Changes.{AllGiven}
 use Rattle.keep_serving.specs.Held.{IsInStep, serving_side}
-use Rattle.keep_serving.specs.Neighbours.{AreCalledFor}
+use Rattle.keep_serving.specs.Calls.{calls_of}
+use Rattle.keep_serving.specs.Neighbours.{WithCalls}
 use Rattle.keep_serving.specs.Runs.{AreTurns, all_calls, all_changes}
 use Rattle.keep_serving.specs.Turns.{ServingTurn}
 use Rattle.keep_serving.proofs.serving.Serving.run.Given as goal
@@ -13,9 +14,9 @@ abbrev pub invariant-loop : goal.invariant-loop
 invariant-loop g l = record {
   turns : (ts : List ServingTurn)
       × ((length ts ≡ l.counter)
-      × (AreTurns (g.L.Lanes.host_port l.fn.lanes) (serving_side l.fn.self (lanes_of (g.L.Lanes.behind l.fn.lanes) (g.L.Lanes.out l.fn.lanes) (g.L.Lanes.seconds l.fn.lanes))) ts (serving_side l.self (lanes_of (g.L.Lanes.behind l.lanes) (g.L.Lanes.out l.lanes) (g.L.Lanes.seconds l.lanes)))
+      × (WithCalls g.N.Neighbours.does (AreTurns (g.L.Lanes.host_port l.fn.lanes) (serving_side l.fn.self (lanes_of (g.L.Lanes.behind l.fn.lanes) (g.L.Lanes.out l.fn.lanes) (g.L.Lanes.seconds l.fn.lanes))) ts (serving_side l.self (lanes_of (g.L.Lanes.behind l.lanes) (g.L.Lanes.out l.lanes) (g.L.Lanes.seconds l.lanes)))) (calls_of (g.L.Lanes.host_port l.fn.lanes) (serving_side l.fn.self (lanes_of (g.L.Lanes.behind l.fn.lanes) (g.L.Lanes.out l.fn.lanes) (g.L.Lanes.seconds l.fn.lanes))) ts (serving_side l.self (lanes_of (g.L.Lanes.behind l.lanes) (g.L.Lanes.out l.lanes) (g.L.Lanes.seconds l.lanes)))) l.fn.neighbours l.neighbours
       × (AllMade (all_calls ts) (g.C.Clock.seen l.fn.clock) (g.C.Clock.seen l.clock)
-      × (AllGiven (all_changes ts) (g.N.Neighbours.given l.fn.neighbours) (g.N.Neighbours.given l.neighbours) × AreCalledFor g.N.Neighbours.does (g.L.Lanes.width l.fn.lanes) ts l.fn.neighbours l.neighbours))));
+      × AllGiven (all_changes ts) (g.N.Neighbours.given l.fn.neighbours) (g.N.Neighbours.given l.neighbours))));
   in_step : IsInStep (g.L.Lanes.width l.lanes) (g.L.Lanes.out l.lanes) l.self;
   width : g.L.Lanes.width l.lanes ≡ g.L.Lanes.width l.fn.lanes;
   port : g.L.Lanes.host_port l.lanes ≡ g.L.Lanes.host_port l.fn.lanes;

@@ -1,5 +1,5 @@
 -- What is out has room in the second list, too, and another inventory is served.
-use Rattle.std.proofs.Common.{◌≡◌, ◌∙◌, List, Option, ap, ap₂, arith, length, map}
+use Rattle.std.proofs.Common.{◌≡◌, ◌∙◌, List, Option, ap, ap₂, arith, length, map, sym}
 use Rattle.keep_asking.specs.InStep.{entries_out}
 use Rattle.keep_asking.specs.Sending.{Lanes, lanes_of}
 use Rattle.keep_lanes.specs.Out as lanes
@@ -8,7 +8,7 @@ use Rattle.keep_lanes.specs.Serving.{BehindLanes}
 use Rattle.watch_machine.specs.declared.lanes.Out.{Out}
 use Rattle.watch_machine.specs.State.{WatchState}
 use Rattle.keep_serving.specs.Held.{Held}
-use Rattle.keep_serving.proofs.Changed.{another_served, as_many_out}
+use Rattle.keep_serving.proofs.Changed.{another_served, as_many_out, both_none}
 use Rattle.keep_serving.proofs.serving.Serving.serve_another.Goals as goal
 
 pub entries_in-to-requires-clause-room : goal.entries_in-to-requires-clause-room
@@ -27,7 +27,7 @@ returns-clause-served g c =
     let l : Lanes = lanes_of (g.L.Lanes.behind c.args.lanes.now) (g.L.Lanes.out c.args.lanes.now) (g.L.Lanes.seconds c.args.lanes.now) in
     let m : Lanes = lanes_of (g.L.Lanes.behind c.rename.new.self) (g.L.Lanes.out c.rename.new.self) (g.L.Lanes.seconds c.rename.new.self) in
     let k : Held = record { agent = new; pending = w.pending.items; unsent = w.unsent.items; asked = w.asked; until = w.until } in
-    let idle = c.is_idle.ensures c.if-not-is_idle.false in
+    let idle = both_none h.pending h.unsent (sym c.is_idle.ensures ∙ c.if-not-is_idle.false) in
     let from : c.deref.result.now ≡ entries_out w.agent.machine =
     c.deref.ensures.value ∙ c.entries_in-from.ensures ∙ ap (map (λ (r : Out). r.entry)) (c.out.ensures ∙ ap (λ (s : WatchState). s.out) c.watch-2.ensures.value) in
     let to : c.deref-2.result.now ≡ entries_out new.machine =

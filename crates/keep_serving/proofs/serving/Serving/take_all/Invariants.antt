@@ -1,13 +1,13 @@
--- The answers so far were handed in.
-use Rattle.std.proofs.Common.{◌≡◌, ◌+◌, length, replicate}
-use Rattle.keep_serving.specs.Neighbours.{AllCalled, Answer, Hear}
+-- The answers so far were handed in, and heard of.
+use Rattle.std.proofs.Common.{◌≡◌, ◌+◌, length}
+use Rattle.keep_serving.specs.Calls.{calls_of_taken}
+use Rattle.keep_serving.specs.Neighbours.{WithCalls}
 use Rattle.keep_serving.specs.Stages.{HaveTaken}
 use Rattle.keep_serving.proofs.serving.Serving.take_all.Given as goal
 
 abbrev pub invariant-loop : goal.invariant-loop
 invariant-loop g l = record {
-  taken : HaveTaken l.fn.self l.self;
+  taken : WithCalls g.N.Neighbours.does (HaveTaken l.fn.self l.self) (calls_of_taken l.fn.self l.self) l.fn.neighbours l.neighbours;
   left : length l.self.pending + l.counter ≡ length l.fn.self.pending;
   given : g.N.Neighbours.given l.neighbours ≡ g.N.Neighbours.given l.fn.neighbours;
-  heard : AllCalled g.N.Neighbours.does (replicate l.counter (Hear Answer)) l.fn.neighbours l.neighbours;
 }

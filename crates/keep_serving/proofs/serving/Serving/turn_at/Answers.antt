@@ -1,14 +1,15 @@
 -- The time was handed in, and then a change was made.
-use Rattle.std.proofs.Common.{◌≡◌, ◌∙◌, ◌++◌, ◌∷◌, ◌||◌, List, [], Some, ap, is_ok, refl, subst, sym}
+use Rattle.std.proofs.Common.{◌≡◌, ◌∙◌, ◌||◌, Some, ap, is_ok, refl, subst, sym}
+use Rattle.keep_agent.specs.Agent.{Agent}
 use Rattle.keep_asking.specs.Sending.{Lanes, lanes_of}
+use Rattle.keep_serving.specs.Calls.{heard_of_want}
 use Rattle.keep_serving.specs.Changes.{AllGiven, given_by, is_one_made}
-use Rattle.keep_serving.specs.Held.{IsInStep, serving_side}
-use Rattle.keep_serving.specs.Neighbours.{AllCalled, GoOn, NeighbourCall, Rest, calls_for_change, calls_of_hearing, heard_of_want}
+use Rattle.keep_serving.specs.Held.{Held, IsInStep, serving_side}
+use Rattle.keep_serving.specs.Neighbours.{AllCalled, GoOn}
 use Rattle.keep_serving.specs.Turns.{turn_wait_by}
-use Rattle.keep_serving.proofs.Called.{called_join, called_once}
 use Rattle.keep_serving.proofs.Changed.{made_keeps}
 use Rattle.keep_serving.proofs.Staged.{goes_keeps}
-use Rattle.keep_serving.proofs.Turned.{turned, whole_turn}
+use Rattle.keep_serving.proofs.Turned.{due_known, turned, whole_turn}
 use Rattle.keep_serving.proofs.serving.Serving.turn_at.Goals as goal
 
 pub returns-clause-turn : goal.returns-clause-turn
@@ -22,14 +23,10 @@ returns-clause-turn g c =
     let busy = c.go_on-is_busy.result in
     let due = c.due-due.result in
     let rest = c.rest-rest.result in
-    let last = c.make_change-is_changed.new.neighbours in
-    let asks : List NeighbourCall = Rest r.elapsed rest ∷ [] in
-    let after : AllCalled g.N.Neighbours.does (calls_for_change made.0 ++ asks) c.go_on-is_busy.new.self last =
-    called_join g.N.Neighbours.does (calls_for_change made.0) asks c.go_on-is_busy.new.self last last made.1.1.1.1 (called_once g.N.Neighbours.does (Rest r.elapsed rest) last last c.rest-rest.ensures) in
     let held = c.make_change-is_changed.new.self in
-    let heard = c.hand_in.ensures.heard in
-    let told : AllCalled g.N.Neighbours.does (heard_of_want whole) c.hand_in.new.neighbours c.tell_want.new.neighbours =
-    subst (λ w. AllCalled g.N.Neighbours.does (heard_of_want w) c.hand_in.new.neighbours c.tell_want.new.neighbours) c.is_ok-is_whole.ensures.value c.tell_want.ensures.heard in
+    let told = subst (λ w. AllCalled g.N.Neighbours.does (heard_of_want w c.hand_in.new.self.agent) c.hand_in.new.neighbours c.tell_want.new.neighbours) c.is_ok-is_whole.ensures.value c.tell_want.ensures.heard in
+    let when = due_known (g.L.Lanes.behind c.make_change-is_changed.new.lanes) due c.self-2.inside.until (g.L.Lanes.out c.make_change-is_changed.new.lanes) (serving_side held new) r c.due-due.ensures.known refl (ap (λ (h : Held). h.until) c.self-2.view_is) refl in
+    let went = subst (λ (a : Agent). g.N.Neighbours.does (GoOn a r busy) c.tell_want.new.neighbours c.go_on-is_busy.new.self) (ap (λ (h : Held). h.agent) c.self.view_is) c.go_on-is_busy.ensures.does in
     let waits : c.wait_of.result ≡ turn_wait_by (is_one_made made.0 || busy) whole held due rest (Some r) =
     c.wait_of.ensures ∙ ap (λ b. turn_wait_by (b || busy) c.is_ok-is_whole.result held due rest (Some r)) made.1.1.0
     ∙ ap (λ w. turn_wait_by (is_one_made made.0 || busy) w held due rest (Some r)) c.is_ok-is_whole.ensures.value in (
@@ -39,18 +36,9 @@ returns-clause-turn g c =
         (
           refl,
           (
-            whole_turn (g.L.Lanes.host_port c.args.lanes.now) r whole busy made.0 due rest c.wait_of.result (serving_side c.args.self.now old) (serving_side c.hand_in.new.self mid) (serving_side held new) c.hand_in.ensures.goes made.1.0 waits,
-            (
-              subst (λ a. AllGiven (given_by made.0) a (g.N.Neighbours.given c.make_change-is_changed.new.neighbours)) (c.go_on-is_busy.ensures.given ∙ c.tell_want.ensures.given ∙ c.hand_in.ensures.given) made.1.1.1.0,
-              record {
-                answers = heard.answers;
-                few = heard.few;
-                is_handed = heard.is_handed;
-                whole = heard.whole;
-                called = called_join g.N.Neighbours.does (calls_of_hearing heard.answers heard.is_handed) (heard_of_want whole ++ GoOn busy ∷ (calls_for_change made.0 ++ asks)) c.args.neighbours.now c.hand_in.new.neighbours last heard.called
-                    (called_join g.N.Neighbours.does (heard_of_want whole) (GoOn busy ∷ (calls_for_change made.0 ++ asks)) c.hand_in.new.neighbours c.tell_want.new.neighbours last told (c.go_on-is_busy.new.self, (c.go_on-is_busy.ensures.does, after)));
-              },
-            ),
+            whole_turn g.N.Neighbours.does (g.L.Lanes.host_port c.args.lanes.now) r whole busy made.0 due rest c.wait_of.result (serving_side c.args.self.now old) (serving_side c.hand_in.new.self mid) (serving_side held new) c.args.neighbours.now c.hand_in.new.neighbours c.tell_want.new.neighbours
+                c.go_on-is_busy.new.self c.make_change-is_changed.new.neighbours c.hand_in.ensures.goes made.1.0 when waits told went made.1.1.1.1 c.rest-rest.ensures,
+            subst (λ a. AllGiven (given_by made.0) a (g.N.Neighbours.given c.make_change-is_changed.new.neighbours)) (c.go_on-is_busy.ensures.given ∙ c.tell_want.ensures.given ∙ c.hand_in.ensures.given) made.1.1.1.0,
           ),
         ),
       ),
@@ -62,7 +50,7 @@ returns-clause-in_step g c =
     let mid : Lanes = lanes_of (g.L.Lanes.behind c.hand_in.new.lanes) (g.L.Lanes.out c.hand_in.new.lanes) (g.L.Lanes.seconds c.hand_in.new.lanes) in
     let new : Lanes = lanes_of (g.L.Lanes.behind c.make_change-is_changed.new.lanes) (g.L.Lanes.out c.make_change-is_changed.new.lanes) (g.L.Lanes.seconds c.make_change-is_changed.new.lanes) in
     let width = g.L.Lanes.width c.args.lanes.now in
-    let gone = goes_keeps (g.L.Lanes.host_port c.args.lanes.now) c.args.reading width (serving_side c.args.self.now old) (serving_side c.hand_in.new.self mid) (is_ok c.hand_in.result) c.hand_in.ensures.goes c.requires.in_step in
+    let gone = goes_keeps (g.L.Lanes.host_port c.args.lanes.now) c.args.reading width (serving_side c.args.self.now old) (serving_side c.hand_in.new.self mid) (is_ok c.hand_in.result) c.hand_in.ensures.goes.is c.requires.in_step in
     let made = c.make_change-is_changed.ensures.made in
     let step = made_keeps width made.0 (serving_side c.hand_in.new.self mid) (serving_side c.make_change-is_changed.new.self new) made.1.0 gone in
     subst (λ w. IsInStep w (g.L.Lanes.out c.make_change-is_changed.new.lanes) c.make_change-is_changed.new.self) (sym (c.make_change-is_changed.ensures.width ∙ c.hand_in.ensures.width)) step
