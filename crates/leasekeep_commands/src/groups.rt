@@ -8,8 +8,7 @@ use std::alloc::{AllocError, Global};
 
 pub const ABOUT: &str = "Keeps Vault tokens and leases alive with the fewest wake-ups.";
 
-const OPTIONS: &str = "\
-
+const OPTIONS: &str = "\n\
 Options:
   -h, --help     Print help
   -V, --version  Print version
