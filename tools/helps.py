@@ -76,7 +76,7 @@ def _read(text: str, name: str) -> tuple[Command, list[Argument]]:
     """What one help says, and the commands that it lists."""
     command, listed = Command(name), []
     has_lists = False
-    for block in text.split("\n\n"):
+    for block in re.split(r"\n\n|\n(?=Options:\n)", text):
         first, _, rest = block.partition("\n")
         if first.lower().startswith("usage:"):
             command.usage = " ".join(block.split()[1:])
