@@ -75,7 +75,6 @@ fn called_at(alloc: Global, kind: &str, tables: &[Value], place: u32) -> Result<
     called(alloc, kind, place, name_in(item_at(tables, place)))
 }
 
-#[tactic(auto, using(crate::proofs::Names::got_item))]
 fn item_at(tables: &[Value], place: u32) -> Option<&Value>
     ensures { option_map (λ v. view v.now) result ≡ get_item place (items_view tables.now) }
 {
