@@ -288,6 +288,9 @@ fn compact_if<D: Disk>(state: &mut State<'_, D>)
     ensures lines { AreCompacted (lines_in (store_in state.old)) (lines_in (store_in state.new)) }
     ensures book { book_in state.new ≡ book_in state.old }
     ensures waiting { waiting_in state.new.keeper ≡ waiting_in state.old.keeper }
+    ensures path { path_of_store (store_in state.new) ≡ path_of_store (store_in state.old) }
+    ensures any_moment { IsTrue D.is_known → LeavesOnly (D.state state.old.disk) (D.state state.new.disk)
+        (CrashLeaves (path_of_store (store_in state.old)) (λ file. StandsFor file (compacted_lines (lines_in (store_in state.old)))) (D.state state.old.disk)) }
 {
     let _compacted = state.compact();
 }
