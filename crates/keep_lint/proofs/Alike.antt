@@ -1,5 +1,5 @@
 -- Alike: of two texts that differ in credentials alone, and whose lines begin the same, the same is said of the same fault.
-use Rattle.std.proofs.Common.{◌≡◌, ◌∙◌, ℕ, zero, suc, ◌-◌, List, ◌++◌, Option, Some, None, Result, Ok, ap, codes, if◌then◌else◌, nat_lt, option_map, refl, subst, sym}
+use Rattle.std.proofs.Common.{◌≡◌, ◌∙◌, ℕ, zero, suc, ◌-◌, List, ◌++◌, Option, Some, None, ap, codes, if◌then◌else◌, nat_lt, option_map, refl, subst, sym}
 use Rattle.toml.specs.Data.{Data, string, integer, float, boolean, datetime, array, table, Items, no_items, item, Members, get_item, get_member}
 use Rattle.keep_inventory.specs.Bare.{DocumentsAreAlike, bare_items, bare_members, bare_value, is_secret_key}
 use Rattle.keep_inventory.specs.Inventory.{document_tree}
@@ -91,34 +91,34 @@ called_alike bytes other h i =
 -- ---- words
 
 line_alike : (bytes other : List ℕ) (found : List Mark) (heads : List ℕ) (fault : InvFault) (n m : ℕ) → (fault ≡ faults.NotToml → ⊥) → IsLineOf bytes found heads fault n → IsLineOf other found heads fault m → m ≡ n
-line_alike bytes other found heads faults.NotToml n m no is also = absurd (no refl)
-line_alike bytes other found heads (faults.MissingKey i key) n m no is also = also ∙ sym is
-line_alike bytes other found heads (faults.UnknownKey None) n m no is also = also ∙ sym is
-line_alike bytes other found heads (faults.UnknownKey (Some i)) n m no is also = also ∙ sym is
-line_alike bytes other found heads (faults.BadValue entry key) n m no is also = also ∙ sym is
-line_alike bytes other found heads (faults.Tree i fault) n m no is also = also ∙ sym is
-line_alike bytes other found heads faults.OutOfMemory n m no is also = also ∙ sym is
+line_alike bytes other found heads faults.NotToml n m toml is also = absurd (toml refl)
+line_alike bytes other found heads (faults.MissingKey i key) n m toml is also = also ∙ sym is
+line_alike bytes other found heads (faults.UnknownKey None) n m toml is also = also ∙ sym is
+line_alike bytes other found heads (faults.UnknownKey (Some i)) n m toml is also = also ∙ sym is
+line_alike bytes other found heads (faults.BadValue entry key) n m toml is also = also ∙ sym is
+line_alike bytes other found heads (faults.Tree i fault) n m toml is also = also ∙ sym is
+line_alike bytes other found heads faults.OutOfMemory n m toml is also = also ∙ sym is
 
 abbrev with_entry : (bytes : List ℕ) (found : List Mark) (heads : List ℕ) (fault : InvFault) → List ℕ → List ℕ
 with_entry bytes found heads fault entry = said_words entry (fault_key found heads fault) (fault_problem bytes fault) (fault_mend bytes found heads fault)
 
 words_alike : (bytes other : List ℕ) (found : List Mark) (heads : List ℕ) (fault : InvFault) → (fault ≡ faults.NotToml → ⊥) → ((i : ℕ) → called_if (document_tree other) i ≡ called_if (document_tree bytes) i) →
     fault_words other found heads fault ≡ fault_words bytes found heads fault
-words_alike bytes other found heads faults.NotToml no same = absurd (no refl)
-words_alike bytes other found heads (faults.MissingKey i key) no same = ap (with_entry bytes found heads (faults.MissingKey i key)) (same i)
-words_alike bytes other found heads (faults.UnknownKey None) no same = refl
-words_alike bytes other found heads (faults.UnknownKey (Some i)) no same = ap (with_entry bytes found heads (faults.UnknownKey (Some i))) (same i)
-words_alike bytes other found heads (faults.BadValue None key) no same = refl
-words_alike bytes other found heads (faults.BadValue (Some i) key) no same = ap (with_entry bytes found heads (faults.BadValue (Some i) key)) (same i)
-words_alike bytes other found heads (faults.Tree i fault) no same = ap (with_entry bytes found heads (faults.Tree i fault)) (same i)
-words_alike bytes other found heads faults.OutOfMemory no same = refl
+words_alike bytes other found heads faults.NotToml toml same = absurd (toml refl)
+words_alike bytes other found heads (faults.MissingKey i key) toml same = ap (with_entry bytes found heads (faults.MissingKey i key)) (same i)
+words_alike bytes other found heads (faults.UnknownKey None) toml same = refl
+words_alike bytes other found heads (faults.UnknownKey (Some i)) toml same = ap (with_entry bytes found heads (faults.UnknownKey (Some i))) (same i)
+words_alike bytes other found heads (faults.BadValue None key) toml same = refl
+words_alike bytes other found heads (faults.BadValue (Some i) key) toml same = ap (with_entry bytes found heads (faults.BadValue (Some i) key)) (same i)
+words_alike bytes other found heads (faults.Tree i fault) toml same = ap (with_entry bytes found heads (faults.Tree i fault)) (same i)
+words_alike bytes other found heads faults.OutOfMemory toml same = refl
 
 pub said_alike : (bytes other : List ℕ) (fault : InvFault) (said more : List ℕ) → DocumentsAreAlike bytes other → marks_of other ≡ marks_of bytes → (fault ≡ faults.NotToml → ⊥) → IsSaidOf bytes fault said → IsSaidOf other fault more → more ≡ said
-said_alike bytes other fault said more alike marks no (n, (is, e)) also =
+said_alike bytes other fault said more alike marks toml (n, (is, e)) also =
     let Says : List Mark → Type 0 = λ found. (m : ℕ) × (IsLineOf other found (heads_of found) fault m × (more ≡ line_words m ++ fault_words other found (heads_of found) fault)) in
     let here : Says (marks_of bytes) = subst Says marks also in
     let found = marks_of bytes in
     here.1.1
-    ∙ ap (λ m. line_words m ++ fault_words other found (heads_of found) fault) (line_alike bytes other found (heads_of found) fault n here.0 no is here.1.0)
-    ∙ ap (λ w. line_words n ++ w) (words_alike bytes other found (heads_of found) fault no (called_alike bytes other alike))
+    ∙ ap (λ m. line_words m ++ fault_words other found (heads_of found) fault) (line_alike bytes other found (heads_of found) fault n here.0 toml is here.1.0)
+    ∙ ap (λ w. line_words n ++ w) (words_alike bytes other found (heads_of found) fault toml (called_alike bytes other alike))
     ∙ sym e
