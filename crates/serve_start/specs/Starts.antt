@@ -1,6 +1,6 @@
 -- Starts: what is served from the start on, and with what.
 -- Source: this project's own; docs/commands/serve.md, "Changes".
-use Rattle.std.specs.Prelude.{◌≡◌, Bool, true, false, List, [], ◌∷◌, Some, None, IfSome, Result, Ok, Err}
+use Rattle.std.specs.Prelude.{◌≡◌, Bool, true, false, List, [], ◌∷◌, None, IfSome, Result, Ok, Err}
 use Rattle.std.specs.List.{All}
 use Rattle.house_ledger.specs.declared.ledger.Ledger.{Ledger}
 use Rattle.house_words.specs.declared.demands.Demands.{Demands}

@@ -147,8 +147,8 @@ fn hold<D: Disk>(alloc: Global, disk: &mut D, paths: &Paths, folder: &str) -> Re
     }
 }
 
-/// Keeps what cannot be read in the journal in the file aside, and says so. Where it cannot be kept the folder cannot be used, since a change
-/// would be written over it.
+/// Keeps what cannot be read in the journal in the file aside, and says so. Where it cannot be kept the folder cannot be used, since a
+/// change would be written over it.
 fn keep_unread<D: Disk>(
     alloc: Global,
     disk: &mut D,
