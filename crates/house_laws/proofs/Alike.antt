@@ -148,10 +148,10 @@ said_of_none d bytes why faults whys reads (inr h) = absurd (let no : ◌≡◌ 
 
 pub faulty_alike : (d : Demands) (bytes other : List ℕ) (why : InvFault) (faults others : List StartFault) (whys more : List (List ℕ)) → DocumentsAreAlike bytes other → marks_of other ≡ marks_of bytes → (why ≡ NotToml → ⊥) →
     read_served bytes ≡ Err why → read_served other ≡ Err why → AreWhysNotServed d bytes faults whys → AreWhysNotServed d other others more → more ≡ whys
-faulty_alike d bytes other why faults others whys more alike marks no reads also h k =
+faulty_alike d bytes other why faults others whys more alike marks toml reads also h k =
     let one = said_of_none d bytes why faults whys reads h in
     let two = said_of_none d other why others more also k in
-    two.1.1 ∙ ap (λ (w : List ℕ). w ∷ []) (said_alike bytes other why one.0 two.0 alike marks no one.1.0 two.1.0) ∙ sym one.1.1
+    two.1.1 ∙ ap (λ (w : List ℕ). w ∷ []) (said_alike bytes other why one.0 two.0 alike marks toml one.1.0 two.1.0) ∙ sym one.1.1
 
 bare_alike : (v w : Served) → ServedAreAlike v w → (i : ℕ) (notes : List entries.Note) → bare_faults w i notes ≡ bare_faults v i notes
 bare_alike v w h i [] = refl

@@ -297,7 +297,7 @@ fn say_opened<D: Disk>(
     say_damaged(alloc, paths, opened.damaged, opened.aside, said)
 }
 
-/// Says whether the file is served, and why its copy could not be kept.
+/// Says whether the file is served, and why its copy could not be kept, or synced where it is served.
 fn say_folder(
     alloc: Global,
     is_good: bool,
@@ -308,12 +308,30 @@ fn say_folder(
         let text = Text::of(alloc, b"is not served: the last good copy is")?;
         push(said, Level::Alert, About::File, text)?;
     }
-    if let Some(fault) = unkept {
-        let mut text = Vec::from_slice(alloc, b"of the file could not be kept: ")?;
-        text.extend_from_slice(disk_words(fault))?;
-        push(said, Level::Warning, About::Copy, Text::from_vec(text))?;
+    match unkept {
+        None => Ok(()),
+        Some(fault) => say_copy(alloc, is_good, fault, said),
     }
-    Ok(())
+}
+
+/// Says why the copy of the file could not be kept; or synced, where it is served and the file is not.
+fn say_copy(
+    alloc: Global,
+    is_good: bool,
+    fault: DiskFault,
+    said: &mut Vec<Said>,
+) -> Result<(), AllocError> {
+    let (level, what): (Level, &[u8]) = if is_good {
+        (Level::Warning, b"of the file could not be kept: ")
+    } else {
+        (
+            Level::Alert,
+            b"could not be synced, and no change is taken: ",
+        )
+    };
+    let mut text = Vec::from_slice(alloc, what)?;
+    text.extend_from_slice(disk_words(fault))?;
+    push(said, level, About::Copy, Text::from_vec(text))
 }
 
 /// Says how many records of the journal are damaged, and where they are.
