@@ -17,7 +17,7 @@ from .plain_yaml import read
 from .test_image import DOCKERFILE, words_of
 from .test_package import TOP, VERSION
 
-MANIFEST = (TOP / "packaging" / "kubernetes" / "sidecar.yaml").read_text()
+MANIFEST, BEHIND = ((TOP / "packaging" / "kubernetes" / f"{name}.yaml").read_text() for name in ("sidecar", "behind"))
 
 TEXTS = {"*": str}
 AMOUNTS = {"cpu?": str, "memory?": str, "storage?": str}
@@ -33,7 +33,9 @@ VOLUME = {
     "name": str, "secret?": {"secretName": str, "defaultMode": int}, "persistentVolumeClaim?": {"claimName": str},
     "emptyDir?": {"medium": str}, "configMap?": {"name": str},
 }
+APART = {"topologyKey": str, "labelSelector": {"matchExpressions": [{"key": str, "operator": str, "values": [str]}]}}
 POD = {"automountServiceAccountToken": bool, "securityContext": {"fsGroup": int, "seccompProfile": {"type": str}},
+       "affinity?": {"podAntiAffinity": {"requiredDuringSchedulingIgnoredDuringExecution": [APART]}},
        "containers": [CONTAINER], "volumes": [VOLUME]}
 DEPLOYMENT = {
     "apiVersion": str, "kind": str, "metadata": {"name": str},
@@ -148,6 +150,33 @@ class Manifest(unittest.TestCase):
         users = [container["securityContext"]["runAsUser"] for container in (self.agent, self.proxy)]
         groups = {container["securityContext"]["runAsGroup"] for container in (self.agent, self.proxy)}
         self.assertEqual((len(set(users)), len(groups)), (2, 1))
+
+
+class Behind(unittest.TestCase):
+    """What behind.yaml says: the same agent and proxy, behind the one in front, on other nodes."""
+
+    def setUp(self) -> None:
+        first, _ = read(MANIFEST)
+        (behind,) = read(BEHIND)
+        self.first: Any = first
+        self.behind: Any = behind
+
+    def test_each_field_is_one_of_kubernetes(self) -> None:
+        self.assertEqual(list(faults(self.behind, DEPLOYMENT)), [])
+        self.assertEqual((self.behind["apiVersion"], self.behind["kind"]), ("apps/v1", "Deployment"))
+
+    def test_it_differs_from_the_one_in_front_in_these_alone(self) -> None:
+        first, behind = (one["spec"]["template"]["spec"] for one in (self.first, self.behind))
+        (apart,) = behind.pop("affinity")["podAntiAffinity"]["requiredDuringSchedulingIgnoredDuringExecution"]
+        self.assertEqual(behind["containers"][0]["args"].pop(), "--behind")
+        first["containers"] = first["containers"][1:]
+        for pod in (first, behind):
+            self.assertEqual([volume["name"] for volume in pod["volumes"]].index("state"), 1)
+            del pod["volumes"][1]
+        self.assertEqual(first, behind)
+        labels = [one["spec"]["template"]["metadata"]["labels"]["app"] for one in (self.first, self.behind)]
+        self.assertEqual(apart["labelSelector"]["matchExpressions"], [{"key": "app", "operator": "In", "values": labels}])
+        self.assertEqual(self.behind["spec"]["selector"]["matchLabels"], self.behind["spec"]["template"]["metadata"]["labels"])
 
 
 class Misspelt(unittest.TestCase):

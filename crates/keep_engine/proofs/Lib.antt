@@ -12,6 +12,7 @@ pub mod Renewals
 pub mod Margins
 pub mod Obeying
 mod Until
+mod Short
 mod SameRun
 pub mod Unheard
 mod SameRehearsal

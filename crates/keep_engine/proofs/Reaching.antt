@@ -1,12 +1,14 @@
 -- Reaching: what binds an entry by its parent, and the lines of `reach` one by one; and that they are told by the forest.
-use Rattle.std.proofs.Common.{◌≡◌, ◌∙◌, ℕ, zero, suc, ◌+◌, ◌++◌, Bool, true, false, List, Option, Some, None, refl, sym, ap, subst, arith, inl, inr}
+use Rattle.std.proofs.Common.{◌≡◌, ◌∙◌, ℕ, zero, suc, ◌+◌, ◌++◌, Bool, true, false, List, Option, Some, None, length, max, refl, sym, ap, subst, arith, inl, inr}
+use Rattle.std.proofs.lemmas.List.{append_assoc}
 use Rattle.keep_moment.proofs.Moments.{one_date_text}
+use Rattle.keep_tree.specs.declared.entry.Entry.{Entry}
 use Rattle.keep_tree.specs.Forest.{Forest, end_of, entry_at}
 use Rattle.keep_tree.proofs.Chains.{ParentsFirst, chain_child, chain_root}
 use Rattle.keep_rule.specs.Reach.{reach}
 use Rattle.keep_engine.specs.declared.bound.Bound.{Bound}
 use Rattle.keep_engine.specs.EndsText.{keeps_line}
-use Rattle.keep_engine.specs.ReachText.{AreReachLines, IsMomentWord, IsNeedWord, IsReachLine, IsUntilWord, OneReachText, SaysWhetherKept, binding, binding_reach, four_word_line, nearer}
+use Rattle.keep_engine.specs.ReachText.{AreReachLines, IsMomentWord, IsNeedWord, IsReachLine, IsReachText, IsUntilWord, OneReachText, SaysWhetherKept, binding, binding_reach, column, columns, head, is_short, nearer, short_at, widest, word_line}
 
 -- ---- what binds an entry
 
@@ -31,17 +33,42 @@ child_binds g s i p most over result first child is over_is made_is =
     made_is ∙ ap (λ (m : Option ℕ). nearer m i over.most over.by) is
     ∙ ap (λ (o : Bound). nearer (reach g.entries g.margin s (end_of g.entries) i) i o.most o.by) over_is ∙ sym (bound_child g s i p first child)
 
+-- ---- columns
+
+pub widest_none : (es : List Entry) → widest es 0 ≡ 4
+unfolding widest
+widest_none es = refl
+
+pub widest_more : (es : List Entry) (n : ℕ) → widest es (n + 1) ≡ max (widest es n) (length (entry_at es n).name)
+unfolding widest
+widest_more es n = let next : n + 1 ≡ suc n = omega arith in ap (widest es) next
+
+pub in_columns : (width : ℕ) (a b c d x1 x2 x3 x4 x5 : List ℕ) → x2 ≡ x1 ++ column width a → x3 ≡ x2 ++ column 20 b → x4 ≡ x3 ++ column width c → x5 ≡ x4 ++ d →
+    x5 ≡ x1 ++ columns width a b c d
+unfolding columns
+in_columns width a b c d x1 x2 x3 x4 x5 e2 e3 e4 e5 =
+    let front = x1 ++ column width a in
+    e5 ∙ ap (λ x. x ++ d) (e4 ∙ ap (λ x. x ++ column width c) (e3 ∙ ap (λ x. x ++ column 20 b) e2))
+    ∙ append_assoc (front ++ column 20 b) (column width c) d ∙ append_assoc front (column 20 b) (column width c ++ d)
+    ∙ append_assoc x1 (column width a) (column 20 b ++ (column width c ++ d))
+
 -- ---- the line of an entry
 
-pub line_of : (g : Forest) (s : ℕ) (dates : Bool) (i : ℕ) (b : Bound) (name until by need line : List ℕ) (needed : ℕ) → b ≡ binding_reach g s i → name ≡ (entry_at g.entries i).name →
-    by ≡ (entry_at g.entries b.by).name → needed ≡ (entry_at g.entries i).need → IsUntilWord dates b.most until → IsNeedWord dates needed need → line ≡ four_word_line name until by need → IsReachLine g s dates i line
-line_of g s dates i b name until by need line needed binds named by_named is_needed is_until is_need spelled = record {
-  until = until;
-  is_until = subst (λ (x : Bound). IsUntilWord dates x.most until) binds is_until;
-  need = need;
-  is_need = subst (λ n. IsNeedWord dates n need) is_needed is_need;
-  spelled = spelled ∙ ap (λ n. four_word_line n until by need) named ∙ ap (λ n. four_word_line (entry_at g.entries i).name until n need) (by_named ∙ ap (λ (x : Bound). (entry_at g.entries x.by).name) binds);
-}
+pub line_of : (g : Forest) (s : ℕ) (dates : Bool) (width i : ℕ) (b : Bound) (name until by need line : List ℕ) (needed needed' : ℕ) (short : Bool) →
+    width ≡ widest g.entries (length g.entries) → b ≡ binding_reach g s i → name ≡ (entry_at g.entries i).name →
+    by ≡ (entry_at g.entries b.by).name → needed ≡ (entry_at g.entries i).need → IsUntilWord dates b.most until → IsNeedWord dates needed need →
+    needed' ≡ (entry_at g.entries i).need → short ≡ is_short s b.most needed' → line ≡ word_line dates width short name until by need → IsReachLine g s dates i line
+line_of g s dates width i b name until by need line needed needed' short wide binds named by_named is_needed is_until is_need is_needed' is_short' spelled =
+    let same_short : short ≡ short_at g s i = is_short' ∙ ap (is_short s b.most) is_needed' ∙ ap (λ (x : Bound). is_short s x.most (entry_at g.entries i).need) binds in
+    record {
+      until = until;
+      is_until = subst (λ (x : Bound). IsUntilWord dates x.most until) binds is_until;
+      need = need;
+      is_need = subst (λ n. IsNeedWord dates n need) is_needed is_need;
+      spelled = spelled ∙ ap (λ w. word_line dates w short name until by need) wide ∙ ap (λ b. word_line dates (widest g.entries (length g.entries)) b name until by need) same_short
+          ∙ ap (λ n. word_line dates (widest g.entries (length g.entries)) (short_at g s i) n until by need) named
+          ∙ ap (λ n. word_line dates (widest g.entries (length g.entries)) (short_at g s i) (entry_at g.entries i).name until n need) (by_named ∙ ap (λ (x : Bound). (entry_at g.entries x.by).name) binds);
+    }
 
 -- ---- one line more
 
@@ -49,6 +76,18 @@ pub lines_more : (g : Forest) (s : ℕ) (dates : Bool) (n : ℕ) (front line tex
 lines_more g s dates n front line text before here is =
     let next : suc n ≡ n + 1 = omega arith in
     subst (λ k. AreReachLines g s dates k text) next (front, line, before, here, is)
+
+-- ---- the whole text
+
+pub text_of : (g : Forest) (s : ℕ) (dates : Bool) (width : ℕ) (lines text : List ℕ) (kept : Bool) → width ≡ widest g.entries (length g.entries) →
+    AreReachLines g s dates (length g.entries) lines → SaysWhetherKept g s kept → text ≡ head dates width ++ (lines ++ keeps_line kept) → IsReachText g s dates text
+text_of g s dates width lines text kept wide are_lines judged spelled = record {
+  lines = lines;
+  are_lines = are_lines;
+  kept = kept;
+  judged = judged;
+  spelled = spelled ∙ ap (λ w. head dates w ++ (lines ++ keeps_line kept)) wide;
+}
 
 -- ---- one text
 
@@ -73,10 +112,8 @@ module _ (g : Forest) (s : ℕ) (dates : Bool) where
       let until = one_until dates (binding_reach g s i).most a.until b.until a.is_until b.is_until in
       let need = one_need dates (entry_at g.entries i).need a.need b.need a.is_need b.is_need in
       let by = (entry_at g.entries (binding_reach g s i).by).name in
-      a.spelled
-      ∙ ap (λ w. four_word_line (entry_at g.entries i).name w by a.need) until
-      ∙ ap (four_word_line (entry_at g.entries i).name b.until by) need
-      ∙ sym b.spelled
+      let line : List ℕ → List ℕ → List ℕ = λ u n. word_line dates (widest g.entries (length g.entries)) (short_at g s i) (entry_at g.entries i).name u by n in
+      a.spelled ∙ ap (λ u. line u a.need) until ∙ ap (line b.until) need ∙ sym b.spelled
 
   one_lines : (n : ℕ) (text other : List ℕ) → AreReachLines g s dates n text → AreReachLines g s dates n other → text ≡ other
   one_lines zero text other a b = a ∙ sym b
@@ -91,5 +128,6 @@ module _ (g : Forest) (s : ℕ) (dates : Bool) where
 
 pub one_reach_text : OneReachText
 one_reach_text g s dates text other a b =
-    a.spelled ∙ ap (λ front. front ++ keeps_line a.kept) (one_lines g s dates _ a.lines b.lines a.are_lines b.are_lines)
-    ∙ ap (λ kept. b.lines ++ keeps_line kept) (one_kept g s dates a.kept b.kept a.judged b.judged) ∙ sym b.spelled
+    let first = head dates (widest g.entries (length g.entries)) in
+    a.spelled ∙ ap (λ front. first ++ (front ++ keeps_line a.kept)) (one_lines g s dates _ a.lines b.lines a.are_lines b.are_lines)
+    ∙ ap (λ kept. first ++ (b.lines ++ keeps_line kept)) (one_kept g s dates a.kept b.kept a.judged b.judged) ∙ sym b.spelled

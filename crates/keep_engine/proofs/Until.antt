@@ -26,7 +26,7 @@ one_of (Some r) i (Some o) by m is = by_test (nat_le o r) is where
   by_test true is = inr is
   by_test false is = inl is
 
-abbrev IsAtMost : Bound → ℕ → Type 0
+abbrev pub IsAtMost : Bound → ℕ → Type 0
 IsAtMost b r = (m : ℕ) × (b.most ≡ Some m) × (m ≤ r)
 
 own_at_most : (r i : ℕ) (over : Option ℕ) (by : ℕ) → IsAtMost (nearer (Some r) i over by) r
@@ -56,7 +56,7 @@ is_same : (a b : ℕ) → (a == b) ≡ true → a ≡ b
 is_same a b e = grind (arith, nat_tests)
 
 module _ (p : ℕ → Option ℕ) where
-  binding_has : (xs : List ℕ) (m : ℕ) → (binding p xs).most ≡ Some m → (a : ℕ) × (list_any (λ b. b == a) xs ≡ true) × (p a ≡ Some m)
+  pub binding_has : (xs : List ℕ) (m : ℕ) → (binding p xs).most ≡ Some m → (a : ℕ) × (list_any (λ b. b == a) xs ≡ true) × (p a ≡ Some m)
   binding_has [] m is = absurd cc
   binding_has (x ∷ xs) m is =
       elim (one_of (p x) x (binding p xs).most (binding p xs).by m is) [
@@ -64,7 +64,7 @@ module _ (p : ℕ → Option ℕ) where
         | inr over ↦ let rest = binding_has xs m over in (rest.0, or_right (x == rest.0) (list_any (λ b. b == rest.0) xs) rest.1, rest.2)
       ]
 
-  binding_least : (xs : List ℕ) (a r : ℕ) → list_any (λ b. b == a) xs ≡ true → p a ≡ Some r → IsAtMost (binding p xs) r
+  pub binding_least : (xs : List ℕ) (a r : ℕ) → list_any (λ b. b == a) xs ≡ true → p a ≡ Some r → IsAtMost (binding p xs) r
   binding_least [] a r here is = absurd cc
   binding_least (x ∷ xs) a r here is =
       elim (or_cases (x == a) (list_any (λ b. b == a) xs) here) [

@@ -1,5 +1,5 @@
--- Laws of what binds an entry: which entry it is, until when some plan keeps it, and that no need plays a part in it.
-use Rattle.std.specs.Prelude.{◌≡◌, ◌≢◌, ℕ, ◌<◌, ◌≤◌, Option, Some, None, length}
+-- Laws of what binds an entry: which entry it is, until when some plan keeps it, and that no need plays a part in it; and of what is short.
+use Rattle.std.specs.Prelude.{◌≡◌, ◌≢◌, ℕ, ◌<◌, ◌≤◌, Option, Some, None, true, false, length}
 use Rattle.keep_tree.specs.Forest.{Forest, end_of, entry_at}
 use Rattle.keep_tree.specs.Over.{Over}
 use Rattle.keep_tree.specs.Push.{IsForest}
@@ -7,7 +7,7 @@ use Rattle.keep_core.specs.Shorten.{least_reach}
 use Rattle.keep_rule.specs.Reach.{reach}
 use Rattle.keep_engine.specs.declared.bound.Bound.{Bound}
 use Rattle.keep_plan.specs.Decides.{NoneKeeps, SomeKeeps}
-use Rattle.keep_engine.specs.ReachText.{binding_reach}
+use Rattle.keep_engine.specs.ReachText.{binding_reach, short_at}
 
 -- the entry `by` is over i, its reach from s is the least reach of i, and none nearer the root has that reach; where nothing
 -- limits i, it is i itself
@@ -45,3 +45,9 @@ pub record DifferInNeeds (g other : Forest) : Type 0 where
 -- an entry is bound alike, whatever is needed
 abbrev pub WhateverIsNeeded : Type 0
 WhateverIsNeeded = (g other : Forest) (s i : ℕ) → IsForest g → DifferInNeeds g other → binding_reach other s i ≡ binding_reach g s i
+
+-- no plan keeps where some entry is short, and some plan keeps where none is
+abbrev pub ShortLaw : Type 0
+ShortLaw =
+    (g : Forest) (s : ℕ) → IsForest g →
+    ((i : ℕ) → i < length g.entries → short_at g s i ≡ true → NoneKeeps g s) × (((i : ℕ) → i < length g.entries → short_at g s i ≡ false) → SomeKeeps g s)

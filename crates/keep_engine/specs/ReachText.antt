@@ -1,9 +1,10 @@
 -- Reach: what the command `reach` writes about a forest.
 -- Source: this project's own; how far renewals lead is Vault, "Lease, renew, and revoke" (maximum TTL), and an entry ends with
 -- what it stands under by Vault, "Tokens".
-use Rattle.std.specs.Prelude.{◌≡◌, ◌⊎◌, ℕ, zero, suc, ◌≤◌, ◌<◌, Bool, true, false, if◌then◌else◌, nat_le, List, [], ◌∷◌, ◌++◌, Option, Some, None, codes, decimal, length}
+use Rattle.std.specs.Prelude.{◌≡◌, ◌⊎◌, ℕ, zero, suc, ◌-◌, ◌≤◌, ◌<◌, Bool, true, false, if◌then◌else◌, ◌&&◌, nat_le, nat_lt, List, [], ◌∷◌, ◌++◌, Option, Some, None, codes, decimal, length, max, replicate}
 use Rattle.keep_moment.specs.declared.moment.TheConstants.{LAST}
 use Rattle.keep_moment.specs.Rfc3339.{IsDateText}
+use Rattle.keep_tree.specs.declared.entry.Entry.{Entry}
 use Rattle.keep_tree.specs.Forest.{Forest, end_of, entry_at}
 use Rattle.keep_tree.specs.Over.{chain}
 use Rattle.keep_rule.specs.Reach.{reach}
@@ -46,13 +47,58 @@ IsNeedWord dates (suc n) word = IsMomentWord dates (suc n) word
 unfoldable pub four_word_line : List ℕ → List ℕ → List ℕ → List ℕ → List ℕ
 four_word_line a b c d = a ++ (32 ∷ (b ++ (32 ∷ (c ++ (32 ∷ (d ++ (10 ∷ [])))))))
 
--- `NAME UNTIL BY NEED` and a line feed
+-- whether a need comes after s and after the moment at which the entry ends at the latest; None is without limit
+abbrev pub is_short : ℕ → Option ℕ → ℕ → Bool
+is_short s None need = false
+is_short s (Some most) need = nat_lt s need && nat_lt most need
+
+-- whether that is so of the entry i
+abbrev pub short_at : Forest → ℕ → ℕ → Bool
+short_at g s i = is_short s (binding_reach g s i).most (entry_at g.entries i).need
+
+-- ---- lines in columns
+
+-- the length of the longest of the first n names, or of `NAME`
+unfoldable pub widest : List Entry → ℕ → ℕ
+widest es zero = 4
+widest es (suc n) = max (widest es n) (length (entry_at es n).name)
+
+-- a text with blanks after it, up to a width
+unfoldable pub padded : ℕ → List ℕ → List ℕ
+padded width text = text ++ replicate (width - length text) 32
+
+-- a text in its column, and the two blanks before the next one
+unfoldable pub column : ℕ → List ℕ → List ℕ
+column width text = padded width text ++ (32 ∷ 32 ∷ [])
+
+-- four words in columns: that of a moment is as wide as a date
+unfoldable pub columns : ℕ → List ℕ → List ℕ → List ℕ → List ℕ → List ℕ
+columns width a b c d = column width a ++ (column 20 b ++ (column width c ++ d))
+
+-- what ends a line in columns
+unfoldable pub line_end : Bool → List ℕ
+line_end true = codes "  SHORT\n"
+line_end false = codes "\n"
+
+-- with dates lines are in columns, and the first line names them
+abbrev pub head : Bool → ℕ → List ℕ
+head false width = []
+head true width = columns width (codes "NAME") (codes "UNTIL") (codes "BY") (codes "NEED") ++ line_end false
+
+-- the line of these words, in the form that goes with or without dates
+abbrev pub word_line : Bool → ℕ → Bool → List ℕ → List ℕ → List ℕ → List ℕ → List ℕ
+word_line false width short a b c d = four_word_line a b c d
+word_line true width short a b c d = columns width a b c d ++ line_end short
+
+-- ---- the whole text
+
+-- `NAME UNTIL BY NEED` and a line feed; with dates in columns, and `SHORT` where the entry ends before its need
 pub record IsReachLine (g : Forest) (s : ℕ) (dates : Bool) (i : ℕ) (line : List ℕ) : Type 0 where
   pub until : List ℕ
   pub is_until : IsUntilWord dates (binding_reach g s i).most until
   pub need : List ℕ
   pub is_need : IsNeedWord dates (entry_at g.entries i).need need
-  pub spelled : line ≡ four_word_line (entry_at g.entries i).name until (entry_at g.entries (binding_reach g s i).by).name need
+  pub spelled : line ≡ word_line dates (widest g.entries (length g.entries)) (short_at g s i) (entry_at g.entries i).name until (entry_at g.entries (binding_reach g s i).by).name need
 
 -- the lines of the first n entries, in order
 abbrev pub AreReachLines : Forest → ℕ → Bool → ℕ → List ℕ → Type 0
@@ -64,13 +110,13 @@ abbrev pub SaysWhetherKept : Forest → ℕ → Bool → Type 0
 SaysWhetherKept g s true = SomeKeeps g s
 SaysWhetherKept g s false = NoneKeeps g s
 
--- a line for each entry, and a line that says whether some plan from s keeps each entry until its need
+-- the head, a line for each entry, and a line that says whether some plan from s keeps each entry until its need
 pub record IsReachText (g : Forest) (s : ℕ) (dates : Bool) (text : List ℕ) : Type 0 where
   pub lines : List ℕ
   pub are_lines : AreReachLines g s dates (length g.entries) lines
   pub kept : Bool
   pub judged : SaysWhetherKept g s kept
-  pub spelled : text ≡ lines ++ keeps_line kept
+  pub spelled : text ≡ head dates (widest g.entries (length g.entries)) ++ (lines ++ keeps_line kept)
 
 -- a forest and a start have one such text: nothing else shows in it
 abbrev pub OneReachText : Type 0

@@ -2,7 +2,7 @@ ghost use Rattle.keep_engine.specs.EndsText.{OneEndsText};
 ghost use Rattle.keep_engine.specs.Laws.{OneCheckText, OnePlanText, OwnCertificateLaw, OwnTextLaw};
 ghost use Rattle.keep_engine.specs.MarginText.{OneMarginText};
 ghost use Rattle.keep_engine.specs.PlanDates.{OnePlanInDates};
-ghost use Rattle.keep_engine.specs.ReachLaws.{BoundLaw, UntilLaw, WhateverIsNeeded};
+ghost use Rattle.keep_engine.specs.ReachLaws.{BoundLaw, ShortLaw, UntilLaw, WhateverIsNeeded};
 ghost use Rattle.keep_engine.specs.ReachText.{OneReachText};
 ghost use Rattle.keep_engine.specs.Secrecy.{CheckSecrecy, EndsSecrecy, MarginSecrecy, PlanDatesSecrecy, PlanSecrecy, ReachSecrecy, RehearseSecrecy};
 
@@ -55,4 +55,9 @@ pub fn bound_law()
 pub fn until_law()
     ensures until { UntilLaw }
     ensures whatever { WhateverIsNeeded }
+{}
+
+/// The law of `SHORT`: `keeps no` is written exactly where some line has it, if there are dates.
+pub fn short_law()
+    ensures { ShortLaw }
 {}

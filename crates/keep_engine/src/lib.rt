@@ -38,7 +38,8 @@ pub use keep_plan::LIMIT;
 pub use keep_report::{Exit, PROGRAM, Stop, tell};
 pub use keep_run::{MOST_WAKES, Script, run_live, run_rehearse};
 pub use laws::{
-    bound_law, no_secret_shows, own_certificates_are_accepted, secrets_change_no_run, until_law,
+    bound_law, no_secret_shows, own_certificates_are_accepted, secrets_change_no_run, short_law,
+    until_law,
 };
 pub use live::keep_alive;
 pub use margin::{MarginQuery, run_margin};

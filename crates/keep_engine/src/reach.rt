@@ -11,7 +11,8 @@ use std::alloc::Global;
 /// UNTIL is the least reach over it, `always` where there is no limit; BY the lowest entry over it whose reach that is,
 /// itself where there is no limit; NEED its need, 0 for none. Then `keeps yes` where some plan from `start` on keeps every
 /// entry until its need, else `keeps no`. With `dates` moments are written as dates, where they have one; a need of 0 and
-/// what lies past [`LAST`](keep_moment::LAST) are numbers.
+/// what lies past [`LAST`](keep_moment::LAST) are numbers. Then lines are in columns, below a head, and a line ends with
+/// `SHORT` where the entry ends before its need.
 ///
 /// The inventory is judged first (exit 1). Exit 6 comes only where a write of `out` failed, 7 where memory was refused; no
 /// other but 0 comes. The whole text is made before the first write.
