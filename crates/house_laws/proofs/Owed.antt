@@ -18,7 +18,6 @@ use Rattle.keep_inventory.specs.declared.need.Need.{Need}
 use Rattle.keep_lanes.specs.declared.loss.Loss.{Loss}
 use Rattle.keep_proving.specs.declared.verdict.Verdict.{Verdict}
 use Rattle.keep_proving.specs.declared.verdict.Verdict.TheVariants as verdicts
-use Rattle.keep_serving.specs.Neighbours.{Give, NeighbourCall}
 use Rattle.keep_serving.specs.declared.change.Change.{Change}
 use Rattle.keep_serving.specs.declared.change.Change.TheVariants as changes
 use Rattle.house_log.specs.Lines.{Line}
@@ -31,13 +30,12 @@ use Rattle.house_ledger.specs.declared.keeping.LookedUp.{LookedUp}
 use Rattle.house_ledger.specs.declared.keeping.LookedUp.TheVariants as lookups
 use Rattle.keep_house.specs.Admitting.{AdmitsIf, FollowsLog, asking_in}
 use Rattle.keep_house.specs.Awaiting.{HearsFor, Judges, LooksUpFirst, LooksUpIf, Makes, VerdictIs, addressed}
-use Rattle.keep_house.specs.Commands.{AddsIf, AsksFor, AsksIf, CarriesIf, CarriesOut, GivesNeed, GoesOnIf, IsGivenWith, NeedIsKept, NeedsIf, ReadsRow, RereadBy, ServesClients, TellsReload}
+use Rattle.keep_house.specs.Commands.{AddsIf, AsksFor, AsksIf, CarriesIf, CarriesOut, GivesNeed, GoesOnIf, IsGivenWith, NeedIsKept, NeedsIf, ReadsRow, RereadBy, ServesClients, TellsReload, read_badly, read_well}
 use Rattle.keep_house.specs.Houses.{ClientIsAside, ClientsAsk, Concludes, WillRefuse, WillTell, bytes_sent}
 use Rattle.keep_house.specs.declared.given.Awaited.{Awaited}
 use Rattle.keep_house.specs.declared.given.Given.{Given}
 use Rattle.keep_house.specs.declared.given.Given.TheVariants as givens
 use Rattle.keep_house.specs.declared.house.House.{House}
-use Rattle.house_laws.specs.Acknowledged.{Asks}
 
 abbrev got : {X : Type 0} → X → Option X → X
 got d None = d
@@ -319,8 +317,11 @@ module _ {S T D K E : Type 0} (does : KeepCall → K → K → Type 0) (rows : K
     reload_told : (result : Option (Result Reread Whys)) (state : Option K) (old new : House S T D K E) → RereadBy does now result old.state state → TellsReload path agent now result (record old { state = state }) new → Answers (Done asked.Reload) old new
     reload_told None state old new asks h = from (Done asked.Reload) (record old { state = state }) old new refl refl (tell (Done asked.Reload) (Err h.why) now.elapsed (record old { state = state }) new h.will (λ done. absurd done))
     reload_told (Some (Ok r)) state old new asks h =
-        from (Done asked.Reload) _ old new refl refl (tell (Done asked.Reload) (Ok h.line) now.elapsed _ new h.will (λ done. reload_done r old.state state asks))
-    reload_told (Some (Err whys)) state old new asks h = from (Done asked.Reload) _ old new refl refl (refuse (Done asked.Reload) whys.items now.elapsed _ new h.will)
+        from (Done asked.Reload) (record old { state = state; desk = h.desk; file = read_well now }) old new refl refl
+        (tell (Done asked.Reload) (Ok h.line) now.elapsed (record old { state = state; desk = h.desk; file = read_well now }) new h.will (λ done. reload_done r old.state state asks))
+    reload_told (Some (Err whys)) state old new asks h = 
+        from (Done asked.Reload) (record old { state = state; desk = h.desk; file = read_badly now old.file }) old new refl refl
+        (refuse (Done asked.Reload) whys.items now.elapsed (record old { state = state; desk = h.desk; file = read_badly now old.file }) new h.will)
 
     admits_if : (id : Option ℕ) (alerts : Bool) (old new : House S T D K E) → old.given ≡ None → Waits old.awaited → AdmitsIf id alerts old new → Owing new
     admits_if None alerts old new none waits h = none_owed old new (ap (λ y. y.given) h) none (subst Waits (sym (ap (λ y. y.awaited) h)) waits)
