@@ -226,7 +226,7 @@ module _ {S T D K E : Type 0} (does : KeepCall → K → K → Type 0) (rows : K
     aside_some x number name w verdict old mid asked_it is none h =
         let all = judges name w (Done x) (λ u l m taken. so.taken x now.elapsed name w u l m is taken) verdict old mid h in record {
           given = subst (λ (g : Option Given). IsOwed Done has (asking_in mid.control) mid.state (addressed (Some number) g)) (sym all.given)
-          (λ ok id e. (x, (subst (λ (i : ℕ). has i x) (ap (got 0) e) asked_it, all.ok ok)));
+              (λ ok id e. (x, (subst (λ (i : ℕ). has i x) (ap (got 0) e) asked_it, all.ok ok)));
           waits = subst Waits (sym (all.awaited ∙ none)) tt;
         }
 
@@ -319,7 +319,7 @@ module _ {S T D K E : Type 0} (does : KeepCall → K → K → Type 0) (rows : K
     reload_told (Some (Ok r)) state old new asks h =
         from (Done asked.Reload) (record old { state = state; desk = h.desk; file = read_well now }) old new refl refl
         (tell (Done asked.Reload) (Ok h.line) now.elapsed (record old { state = state; desk = h.desk; file = read_well now }) new h.will (λ done. reload_done r old.state state asks))
-    reload_told (Some (Err whys)) state old new asks h = 
+    reload_told (Some (Err whys)) state old new asks h =
         from (Done asked.Reload) (record old { state = state; desk = h.desk; file = read_badly now old.file }) old new refl refl
         (refuse (Done asked.Reload) whys.items now.elapsed (record old { state = state; desk = h.desk; file = read_badly now old.file }) new h.will)
 
