@@ -111,36 +111,30 @@ record Tells {S T D K E : Type 0} (Told : Option ℕ → Option K → Type 0) (o
   awaited : new.awaited ≡ old.awaited
 
 module _ {S T D K E : Type 0} (does : KeepCall → K → K → Type 0) (reads : K → List ℕ → Result Row Why → Type 0) (Done : Asked → Option K → Type 0) (has : ℕ → Asked → Type 0) (agent : Agent) where
-  abbrev Told : Option ℕ → Option K → Type 0
-  Told who state = IsTold Done has who state
-
-  abbrev Owed : Option ℕ → Option K → Option Given → Type 0
-  Owed who state given = IsOwed Done has who state given
-
   -- the clients are as they were
-  same_tells : (old new : House S T D K E) → new.control ≡ old.control → new.given ≡ old.given → new.awaited ≡ old.awaited → Tells Told old new
+  same_tells : (old new : House S T D K E) → new.control ≡ old.control → new.given ≡ old.given → new.awaited ≡ old.awaited → Tells (IsTold Done has) old new
   same_tells old new control given awaited = record { told = λ t. absurd (nobody (guests_in old.control) (guests_in new.control) (ap guests_in control) t); given = given; awaited = awaited }
 
   -- a client is sent this
   sent_tells : (answer : List ℕ) (now : ℕ) (who : Option ℕ) (old new : House S T D K E)
-      → ((t : IsToldOk (guests_in old.control) (guests_in new.control)) → (answer ≡ codes "ok" ++ t.more) × (who ≡ Some t.before.id)) → ((more : List ℕ) → answer ≡ codes "ok" ++ more → Told who old.state)
-      → new.state ≡ old.state → new.given ≡ old.given → new.awaited ≡ old.awaited → Tells Told old new
+      → ((t : IsToldOk (guests_in old.control) (guests_in new.control)) → (answer ≡ codes "ok" ++ t.more) × (who ≡ Some t.before.id)) → ((more : List ℕ) → answer ≡ codes "ok" ++ more → IsTold Done has who old.state)
+      → new.state ≡ old.state → new.given ≡ old.given → new.awaited ≡ old.awaited → Tells (IsTold Done has) old new
   sent_tells answer now who old new told owed state given awaited = record {
-    told = λ t. (let it = told t in subst (λ (s : Option K). Told (Some t.before.id) s) (sym state) (subst (λ (w : Option ℕ). Told w old.state) it.1 (owed t.more it.0)));
+    told = λ t. (let it = told t in subst (λ (s : Option K). IsTold Done has (Some t.before.id) s) (sym state) (subst (λ (w : Option ℕ). IsTold Done has w old.state) it.1 (owed t.more it.0)));
     given = given;
     awaited = awaited;
   }
 
   -- nothing is sent
   closed_tells : (now : ℕ) (who : Option ℕ) (old new : House S T D K E) → ((t : IsToldOk (guests_in old.control) (guests_in new.control)) → ([] ≡ codes "ok" ++ t.more) × (who ≡ Some t.before.id))
-      → new.given ≡ old.given → new.awaited ≡ old.awaited → Tells Told old new
+      → new.given ≡ old.given → new.awaited ≡ old.awaited → Tells (IsTold Done has) old new
   closed_tells now who old new told given awaited = record {
     told = λ t. absurd (let first : 0 ≡ 111 = ap (λ (l : List ℕ). slice_index l 0) (told t).0 in omega (arith, first));
     given = given;
     awaited = awaited;
   }
 
-  settled_by : (is_made : Bool) (given : Option Given) (old new : House S T D K E) → Owed (asking_in old.control) old.state given → SettlesBy does agent is_made given old new → Tells Told old new
+  settled_by : (is_made : Bool) (given : Option Given) (old new : House S T D K E) → IsOwed Done has (asking_in old.control) old.state given → SettlesBy does agent is_made given old new → Tells (IsTold Done has) old new
   settled_by is_made None old new owed h = same_tells old new (ap (λ y. y.control) h) (ap (λ y. y.given) h) (ap (λ y. y.awaited) h)
   settled_by true (Some (givens.Need need)) old new owed h =
       let rest = h.sends.rest in
@@ -175,13 +169,13 @@ module _ {S T D K E : Type 0} (does : KeepCall → K → K → Type 0) (reads : 
     heard : IsServedNow old h.heard
     heard = served (is_made && is_served old.given) old h.heard h.served
 
-    owed_then : Owed (asking_in h.heard.control) h.heard.state h.heard.given
+    owed_then : IsOwed Done has (asking_in h.heard.control) h.heard.state h.heard.given
     owed_then =
         let it = owes.given in
-        subst (λ (g : Option Given). Owed (asking_in h.heard.control) h.heard.state g) (sym heard.given)
-        (subst (λ (s : Option K). Owed (asking_in h.heard.control) s old.given) (sym heard.state) (subst (λ (c : Option (Control T D)). Owed (asking_in c) old.state old.given) (sym heard.control) it))
+        subst (λ (g : Option Given). IsOwed Done has (asking_in h.heard.control) h.heard.state g) (sym heard.given)
+        (subst (λ (s : Option K). IsOwed Done has (asking_in h.heard.control) s old.given) (sym heard.state) (subst (λ (c : Option (Control T D)). IsOwed Done has (asking_in c) old.state old.given) (sym heard.control) it))
 
-    all : Tells Told (record h.heard { given = None }) h.settled
+    all : Tells (IsTold Done has) (record h.heard { given = None }) h.settled
     all = settled_by is_made h.heard.given (record h.heard { given = None }) h.settled owed_then h.settles
 
     pub none_then : new.given ≡ None
@@ -190,11 +184,11 @@ module _ {S T D K E : Type 0} (does : KeepCall → K → K → Type 0) (reads : 
     pub awaited_then : new.awaited ≡ old.awaited
     awaited_then = ap (λ y. y.awaited) h.rest ∙ all.awaited ∙ heard.awaited
 
-    told_settled : (t : IsToldOk (guests_in old.control) (guests_in h.settled.control)) → Told (Some t.before.id) h.settled.state
-    told_settled = subst (λ (c : Option (Control T D)). (t : IsToldOk (guests_in c) (guests_in h.settled.control)) → Told (Some t.before.id) h.settled.state) heard.control all.told
+    told_settled : (t : IsToldOk (guests_in old.control) (guests_in h.settled.control)) → IsTold Done has (Some t.before.id) h.settled.state
+    told_settled = subst (λ (c : Option (Control T D)). (t : IsToldOk (guests_in c) (guests_in h.settled.control)) → IsTold Done has (Some t.before.id) h.settled.state) heard.control all.told
 
-    told_then : (t : IsToldOk (guests_in old.control) (guests_in new.control)) → Told (Some t.before.id) new.state
-    told_then = subst (λ (n : House S T D K E). (t : IsToldOk (guests_in old.control) (guests_in n.control)) → Told (Some t.before.id) n.state) (sym h.rest) told_settled
+    told_then : (t : IsToldOk (guests_in old.control) (guests_in new.control)) → IsTold Done has (Some t.before.id) new.state
+    told_then = subst (λ (n : House S T D K E). (t : IsToldOk (guests_in old.control) (guests_in n.control)) → IsTold Done has (Some t.before.id) n.state) (sym h.rest) told_settled
 
     pub told_truly : (t : IsToldOk (guests_in old.control) (guests_in new.control)) → (a : Asked) × (has t.before.id a × Done a new.state)
     told_truly t = told_then t t.before.id refl

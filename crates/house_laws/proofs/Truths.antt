@@ -89,12 +89,14 @@ settled_at port None old t mid new h = tt
 settled_at port (Some r) old t mid new h =
     let heard = only_heard (of_stages port r calls_of_answering (calls_of_reading r) old t.is_whole mid h) (light_stages other (λ agent thing. refl) port r old t.is_whole mid h) in
     let want = only_heard (heard_of_want t.is_whole mid.held.agent) (light_want other (λ agent thing. refl) t.is_whole mid.held.agent) in
-    join _ _ heard (join _ _ want (change_settled mid.held.agent r (λ change. new) t.made r.elapsed t.rest))
+    let rest : List NeighbourCall = GoOn mid.held.agent r t.is_busy ∷ (calls_for_change mid.held.agent r (λ change. new) t.made ++ Rest r.elapsed t.rest ∷ []) in
+    join (of_stages port r calls_of_answering (calls_of_reading r) old t.is_whole mid h) (calls_after r t mid.held.agent new) heard
+    (join (heard_of_want t.is_whole mid.held.agent) rest want (change_settled mid.held.agent r (λ change. new) t.made r.elapsed t.rest))
 
 settled_run : (port : ℕ) (turns : List ServingTurn) (from to : ServingSide) (h : AreTurns port from turns to) → EachIsSettled (calls_of port from turns to h)
 settled_run port [] from to h = tt
 settled_run port (t ∷ turns) from to h =
-    join (calls_in port from t h.0 h.1.0) _ (settled_at port t.reading from t h.1.0.mid h.0.held.agent h.1.0.hears) (settled_run port turns h.0 to h.1.1)
+    join (calls_in port from t h.0 h.1.0) (calls_of port h.0 turns to h.1.1) (settled_at port t.reading from t h.1.0.mid h.0.held.agent h.1.0.hears) (settled_run port turns h.0 to h.1.1)
 
 -- ---- what each call does to a house by itself
 
