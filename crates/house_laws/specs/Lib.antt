@@ -1,3 +1,4 @@
 pub mod Tried
 pub mod Disks
 pub mod Alike
+pub mod Acknowledged

@@ -1,4 +1,5 @@
 //! Laws of what a house says.
+ghost use Rattle.house_laws.specs.Acknowledged.{AcknowledgedLaw};
 ghost use Rattle.house_laws.specs.Alike.{AnsweredAlike, CarriedAlike, ClockedAlike, NeedAlike, NextAlike, ShortsAlike};
 ghost use Rattle.house_laws.specs.Alike.{EndAlike, KeepsAlike, RefusedAlike, ReplacedAlike, ReplacedOfAlike};
 ghost use Rattle.house_laws.specs.Alike.{FaultyAlike, JudgedAlike, NewsAlike, NotesAlike, StartAlike, UnfilledAlike, WhysAlike, WrittenAlike};
@@ -90,4 +91,19 @@ pub fn a_turn_without_a_change_spares_disks<
     M: Lanes,
 >()
     ensures { SparesLaw S.written S.failures S.tries T.remaining T.written T.calls O.log D.is_known D.state I.calls ⟦<L as SeenLanes>⟧.seen L.host_port E.is_known E.state M.due_by }
+{}
+
+/// The law that in every run of turns whoever is told `ok` has asked for something before, and it is done. The record of a change is among
+/// those of the journal then, and on the disk: whatever a crash leaves has it. Where nothing keeps changes nothing is done but for a need.
+pub fn whoever_is_told_ok_has_it<
+    S: LogSink,
+    T: Talk,
+    O: Door<T>,
+    D: Disk,
+    I: Inputs + SecretFiles,
+    L: Lanes,
+    E: Disk,
+    M: Lanes,
+>()
+    ensures { AcknowledgedLaw S.written S.failures S.tries T.remaining T.written T.calls O.log D.is_known D.state I.calls ⟦<L as SeenLanes>⟧.seen L.host_port E.is_known E.state M.due_by }
 {}
