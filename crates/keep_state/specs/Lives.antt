@@ -39,7 +39,7 @@ rows_after f rows (Made c) = if is_as_then f.rows c then rows_or rows (rows_chan
 
 abbrev pub rows_if : replays.File → List Row → Option Record → List Row
 rows_if f rows None = rows
-rows_if f rows (Some record) = rows_after f rows record
+rows_if f rows (Some r) = rows_after f rows r
 
 -- after the record in a line
 abbrev pub rows_with : replays.File → List ℕ → List Row → List Row
