@@ -18,8 +18,8 @@ use Rattle.keep_inventory.specs.declared.fault.InvFault.{InvFault}
 use Rattle.keep_inventory.specs.Inventory.{read_served}
 use Rattle.keep_inventory.specs.Served.{Served}
 use Rattle.keep_journal.specs.Journals.{bytes_of_file}
+use Rattle.keep_journal.specs.Laws.{OneReading}
 use Rattle.keep_journal.specs.Records.{StandsFor}
-use Rattle.keep_journal.proofs.Readings.{stands_once}
 use Rattle.keep_journal.proofs.Runs.{rest_has}
 use Rattle.keep_store.specs.declared.fault.FileFault.{FileFault}
 use Rattle.keep_store.specs.Books.{IsFileOf, file_of}
@@ -109,11 +109,11 @@ same_served a b r e h = cc
 
 -- bytes are those of one file
 one_file : (bytes : List ℕ) (f g : replays.File) → IsFileOf bytes f → IsFileOf bytes g → g ≡ f
-one_file bytes f g (v, read, is) (w, again, same) = same ∙ ap (file_of bytes) (same_served w v (read_served bytes) again read) ∙ sym is
+one_file bytes f g (v, (read, is)) (w, (again, same)) = same ∙ ap (file_of bytes) (same_served w v (read_served bytes) again read) ∙ sym is
 
 -- ---- all of them
 
-module _ {D : Type 0} (state : D → DiskState) (counts : (disk : D) (t : ℕ) (c : Image) → t ≤ (state disk).moment → (state disk).may_leave c → (state disk).left_since t c) (first : Kept D) (safe : IsOnDisk state first) where
+module _ {D : Type 0} (state : D → DiskState) (counts : (disk : D) (t : ℕ) (c : Image) → t ≤ (state disk).moment → (state disk).may_leave c → (state disk).left_since t c) (once : OneReading) (first : Kept D) (safe : IsOnDisk state first) where
   abbrev f : replays.File
   f = (book_in first).file
 
@@ -137,7 +137,7 @@ module _ {D : Type 0} (state : D → DiskState) (counts : (disk : D) (t : ℕ) (
 
   by_lines : (changes : List Answered) (c : Image) (lines : List (List ℕ)) → StandsFor (bytes_of_file (c first.places.journal)) lines → Makes changes (replayed f (records_in lines)).rows → MakesAll changes c
   by_lines changes c lines stands so others reads =
-      subst (λ (ls : List (List ℕ)). Makes changes (replayed f (records_in ls)).rows) (stands_once (bytes_of_file (c first.places.journal)) lines others stands reads) so
+      subst (λ (ls : List (List ℕ)). Makes changes (replayed f (records_in ls)).rows) (once (bytes_of_file (c first.places.journal)) lines others stands reads) so
 
   as_before : (changes : List Answered) (c d : Image) → c first.places.journal ≡ d first.places.journal → MakesAll changes d → MakesAll changes c
   as_before changes c d same so lines reads = so lines (subst (λ (o : Option File). StandsFor (bytes_of_file o) lines) same reads)
@@ -263,9 +263,9 @@ module _ {D : Type 0} (state : D → DiskState) (counts : (disk : D) (t : ℕ) (
     call_holds (Change line) false is =
         let change : Answered = record { line = line; is_acknowledged = false } in
         plain (Change line) false is (s.changes ++ change ∷ []) refl (made_without f s.changes (book_in first).rows (book_in kept).rows change refl (subst (Makes s.changes) (sym is.done) so.held))
-    call_holds Compact yes is = plain Compact yes is s.changes refl (subst (Makes s.changes) (sym is.done) so.held)
-    call_holds (Reload bytes) yes is = plain (Reload bytes) yes is s.changes refl (subst (Makes s.changes) (sym is.done) so.held)
-    call_holds Alone yes is = plain Alone yes is s.changes refl (subst (Makes s.changes) (sym is.done) so.held)
+    call_holds Compact answered is = plain Compact answered is s.changes refl (subst (Makes s.changes) (sym is.done) so.held)
+    call_holds (Reload bytes) answered is = plain (Reload bytes) answered is s.changes refl (subst (Makes s.changes) (sym is.done) so.held)
+    call_holds Alone answered is = plain Alone answered is s.changes refl (subst (Makes s.changes) (sym is.done) so.held)
 
   end_holds : (s : Standing D) → Holds s → (e : End D) → IsEnd state s.kept e → Holds (record { changes = changes_at_end s.changes e.amid; kept = e.opened.state })
   end_holds s so e is =
@@ -315,5 +315,5 @@ module _ {D : Type 0} (state : D → DiskState) (counts : (disk : D) (t : ℕ) (
       let all = all_hold events (record { changes = []; kept = first }) at_first happened in
       record { held = all.held; left = λ c left. (all.left c left).rows; file = λ c left. (all.left c left).file }
 
-pub over_starts : {D : Type 0} (state : D → DiskState) → ((disk : D) (t : ℕ) (c : Image) → t ≤ (state disk).moment → (state disk).may_leave c → (state disk).left_since t c) → OverStarts state
-over_starts state counts first safe events happened = holds_after state counts first safe events happened
+pub over_starts : {D : Type 0} (state : D → DiskState) → ((disk : D) (t : ℕ) (c : Image) → t ≤ (state disk).moment → (state disk).may_leave c → (state disk).left_since t c) → OneReading → OverStarts state
+over_starts state counts once first safe events happened = holds_after state counts once first safe events happened

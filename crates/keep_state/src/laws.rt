@@ -1,6 +1,7 @@
 ghost use Rattle.keep_state.specs.Lives.{OverStarts};
 
 use keep_disk::Disk;
+use keep_journal::records_are_read_back;
 
 /// The law that what was acknowledged is served. Once a change was acknowledged, any number of changes, compactions, reloads of that
 /// FILE, kills and losses of power may follow, at any moment and in any order, also while a start is under way: the rows that are served
@@ -9,4 +10,7 @@ use keep_disk::Disk;
 /// `settle`, or another change of FILE.
 pub fn what_was_acknowledged_is_served<D: Disk>()
     ensures { OverStarts D.state }
-{}
+{
+    // What a crash leaves of the journal means one thing.
+    records_are_read_back();
+}
