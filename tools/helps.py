@@ -80,9 +80,8 @@ def _read(text: str, name: str) -> tuple[Command, list[Argument]]:
         first, _, rest = block.partition("\n")
         if first.lower().startswith("usage:"):
             command.usage = " ".join(block.split()[1:])
-        elif first.endswith(":") and first[:-1].lower() in _HEADS:
+        elif kind := _kind(first, command):
             has_lists = True
-            kind = _HEADS[first[:-1].lower()]
             items = list(_items(rest))
             if kind == "options":
                 command.options += [_option(*item) for item in items]
@@ -95,6 +94,14 @@ def _read(text: str, name: str) -> tuple[Command, list[Argument]]:
             command.purpose = " ".join(f"{command.purpose} {' '.join(block.split())}".split())
     command.arguments = [argument for argument in command.arguments if not (listed and argument.name == "COMMAND")]
     return command, listed
+
+
+def _kind(head: str, command: Command) -> str:
+    """What a list with this head has, "" where it is none. Of clap, each list before the options has commands, whatever its head."""
+    if not head.endswith(":"):
+        return ""
+    is_group = command.usage.endswith(" <COMMAND>") and not command.options
+    return _HEADS.get(head[:-1].lower(), "commands" if is_group else "")
 
 
 def _is_command(kind: str, word: str) -> bool:

@@ -126,18 +126,20 @@ class Help(unittest.TestCase):
         self.assertNotIn('.SS "help"', made[""])
 
     def completed(self, shell: str, *words: str) -> list[str]:
-        """What the shell offers for the last word."""
+        """What the shell offers for the last word. The programs in the folder are found before others."""
         file = self.folder / f"{shell}.completions"
-        file.write_text(written("leasekeep-inventory")[shell])
+        file.write_text(written(words[0])[shell])
         if shell == "bash":
-            script = (f"source {file}; COMP_WORDS=(\"$@\"); COMP_CWORD=$(($# - 1)); _leasekeep_inventory 2>/dev/null;"
+            function = "_" + words[0].replace("-", "_")
+            script = (f"source {file}; COMP_WORDS=(\"$@\"); COMP_CWORD=$(($# - 1)); {function} 2>/dev/null;"
                       " printf '%s\\n' \"${COMPREPLY[@]}\"")
-            ran = subprocess.run(["bash", "-c", script, "_", *words], capture_output=True, text=True, timeout=60 * SLOWER, cwd=self.folder)
+            command = ["bash", "-c", script, "_", *words]
         else:
-            ran = subprocess.run(["fish", "--no-config", "-c", f"source {file}; complete -C '{' '.join(words)}'"], capture_output=True,
-                                 text=True, timeout=60 * SLOWER, cwd=self.folder, env={**os.environ, "HOME": str(self.folder)})
+            command = ["fish", "--no-config", "-c", f"source {file}; complete -C '{' '.join(words)}'"]
+        ran = subprocess.run(command, capture_output=True, text=True, timeout=60 * SLOWER, cwd=self.folder,
+                             env={**os.environ, "HOME": str(self.folder), "PATH": f"{self.folder}:{os.environ['PATH']}"})
         self.assertEqual(ran.stderr, "")
-        return sorted(line.split("\t")[0] for line in ran.stdout.splitlines())
+        return sorted(line.split("\t")[0] for line in ran.stdout.splitlines() if line)
 
     def test_bash_and_fish(self) -> None:
         (self.folder / "web.toml").write_text("")
@@ -149,16 +151,45 @@ class Help(unittest.TestCase):
                 self.assertEqual(self.completed(shell, "leasekeep-inventory", "draft", "--ti"), ["--timeout"])
                 self.assertEqual(self.completed(shell, "leasekeep-inventory", "draft", "w"), ["web.toml"])
 
+    def test_names_of_entries(self) -> None:
+        """They come from the agent that is asked for its status; the words after a name are none."""
+        self.stand_in()
+        for shell in ("bash", "fish"):
+            if shutil.which(shell) is None:
+                continue
+            with self.subTest(shell=shell):
+                for command in ("need", "replace", "drop"):
+                    self.assertEqual(self.completed(shell, "leasekeep", command, "ap"), ["app", "app/db"])
+                self.assertEqual(self.asked(), "status")
+                self.assertEqual(self.completed(shell, "leasekeep", "drop", "--control", "./c.sock", "p"), ["pay"])
+                self.assertEqual(self.asked(), "status --control ./c.sock")
+                self.assertEqual(self.completed(shell, "leasekeep", "need", "app", "ap"), [])
+                self.assertEqual(self.completed(shell, "leasekeep", "status", "ap"), [])
+
+    def stand_in(self) -> None:
+        """A program in the place of `leasekeep`, with three entries. It writes what it was asked last into the file `asked`."""
+        program = self.folder / "leasekeep"
+        lines = "'standby first next-wake -' 'app kept end -' 'app/db kept end -' 'pay unknown end -'"
+        program.write_text(f"#!/bin/sh\necho \"$*\" >{self.folder}/asked\nprintf '%s\\n' {lines}\n")
+        program.chmod(0o755)
+
+    def asked(self) -> str:
+        return (self.folder / "asked").read_text().strip()
+
     @unittest.skipIf(shutil.which("zsh") is None, "zsh is not installed")
     def test_zsh(self) -> None:
-        (self.folder / "_leasekeep-inventory").write_text(written("leasekeep-inventory")["zsh"])
+        for name in ("leasekeep-inventory", "leasekeep"):
+            (self.folder / f"_{name}").write_text(written(name)["zsh"])
         self.assertIn("draft --timeout", self.typed_in_zsh("leasekeep-inventory draft --ti\t\t"))
+        self.stand_in()
+        self.assertIn("--control ./c.sock pay", self.typed_in_zsh("leasekeep drop --control ./c.sock p\t\t"))
+        self.assertEqual(self.asked(), "status --control=./c.sock")
 
     def typed_in_zsh(self, line: str) -> str:
         """What a zsh shows that has these completions, while that is typed."""
         child, terminal = pty.fork()
         if child == 0:
-            os.environ.update(TERM="dumb", PS1="", HOME=str(self.folder))
+            os.environ.update(TERM="dumb", PS1="", HOME=str(self.folder), PATH=f"{self.folder}:{os.environ['PATH']}")
             os.execvp("zsh", ["zsh", "-f", "-i"])
         try:
             set_up = f"PS1=''; fpath=({self.folder} $fpath); autoload -Uz compinit; compinit -u -D; stty columns 200; echo RE''ADY\n"

@@ -5,8 +5,8 @@ use crate::live::keep;
 use crate::serve::serve;
 use keep_command::{SystemFiles, words};
 use keep_device::{Counted, Sink, Streams};
-use keep_engine::{Command, Exit, PROGRAM, obey};
-use leasekeep_commands::{Job, read_command};
+use keep_engine::{Command, Exit, PROGRAM, Stop, obey};
+use leasekeep_commands::{Job, overview, read_command};
 use std::fs::File;
 use std::io::{self, Printer, Read, Stdout, Write};
 use std::net::Net;
@@ -24,7 +24,10 @@ where
         Ok(words) => words,
         Err(exit) => return exit.code(),
     };
-    match read_command(rt, &words, &mut errors) {
+    let Ok(overview) = overview(rt.alloc()) else {
+        return Stop::Memory.report(PROGRAM, &mut errors).code();
+    };
+    match read_command(rt, &overview, &words, &mut errors) {
         Ok(job) => do_job(rt, &job, input, output, errors),
         Err(exit) => exit.code(),
     }

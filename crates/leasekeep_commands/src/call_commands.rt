@@ -1,17 +1,16 @@
 //! The commands of a running agent: how the command line has them, and what its words ask.
 use crate::described::{Described, Takes, Value, Word};
 use crate::job::Called;
-use clap::{ArgMatches, Command};
+use clap::ArgMatches;
 use keep_calling::Ask;
-use std::alloc::{AllocError, Global};
 
 /// `need NAME WHEN [--control SOCKET]`
-const NEED: Described = Described {
+pub const NEED: Described = Described {
     name: "need",
     about: "Changes until when an entry is needed",
     after: "\
-WHEN is a moment in whole seconds since 1970-01-01T00:00:00Z, a date as 2026-11-22T09:00:00Z, a time from now as +90s, +30m, +6h
-or +2d, or always.
+WHEN is a moment in whole seconds since 1970-01-01T00:00:00Z, a date as 2026-11-22T09:00:00Z, a time
+from now as +90s, +30m, +6h or +2d, or always.
 
 Example:
   leasekeep need app-db +6h
@@ -29,12 +28,12 @@ Exit status: 0 done, 1 refused or no answer, 2 command line, 6 write, 7 memory",
 };
 
 /// `replace NAME [--control SOCKET]`
-const REPLACE: Described = Described {
+pub const REPLACE: Described = Described {
     name: "replace",
-    about: "Gives an entry a new secret or lease id, which is read from standard input",
+    about: "Gives an entry the secret or lease id on standard input",
     after: "\
-Standard input is read to its end; the white space around the credential does not count. It is sent to the agent alone, which
-looks it up at the broker and keeps the old one where the broker refuses it.
+Standard input is read to its end; white space around the credential is ignored. Only the agent gets
+it: it looks the credential up in Vault, and keeps the old one if Vault refuses it.
 
 Example:
   leasekeep replace app < new-secret
@@ -44,11 +43,12 @@ Exit status: 0 done, 1 refused or no answer, 2 command line, 6 read or write, 7 
 };
 
 /// `add [--control SOCKET]`
-const ADD: Described = Described {
+pub const ADD: Described = Described {
     name: "add",
-    about: "Adds the entry whose table is read from standard input",
+    about: "Adds the entry whose table is on standard input",
     after: "\
-Standard input is one table [[token]] or [[lease]] in TOML, as the inventory has it. It is sent to the agent alone.
+Standard input is one table [[token]] or [[lease]] in TOML, as in an inventory. Only the agent gets
+it, and looks its credential up in Vault first.
 
 Example:
   leasekeep add < job.toml
@@ -58,7 +58,7 @@ Exit status: 0 done, 1 refused or no answer, 2 command line, 6 read or write, 7 
 };
 
 /// `drop NAME [--control SOCKET]`
-const DROP: Described = Described {
+pub const DROP: Described = Described {
     name: "drop",
     about: "Stops keeping an entry",
     after: EXITS,
@@ -66,7 +66,7 @@ const DROP: Described = Described {
 };
 
 /// `status [--control SOCKET]`
-const STATUS: Described = Described {
+pub const STATUS: Described = Described {
     name: "status",
     about: "Shows how the agent and each entry stand",
     after: EXITS,
@@ -74,26 +74,31 @@ const STATUS: Described = Described {
 };
 
 /// `health [--control SOCKET]`
-const HEALTH: Described = Described {
+pub const HEALTH: Described = Described {
     name: "health",
     about: "Tells whether every needed entry is kept, for health checks",
     after: "\
-Prints `every needed entry is kept`, or a line for each entry that is not, and why.
+Prints `every needed entry is kept`, or a line for each needed entry that is not, and why.
 
 Exit status: 0 all are kept, 1 some are not or no agent answers, 2 command line, 6 write, 7 memory",
     words: &[CONTROL],
 };
 
 /// `settle [--control SOCKET]`
-const SETTLE: Described = Described {
+pub const SETTLE: Described = Described {
     name: "settle",
-    about: "Writes the inventory's file, with the changes since it was read, as one new file",
-    after: EXITS,
+    about: "Writes the inventory's file anew, with the changes since it was read",
+    after: "\
+The whole file is written anew. Comments are lost, dates and durations become numbers of seconds,
+and keys and tables get another order. To keep a file as you wrote it, make the changes in it by
+hand, and run `leasekeep reload`.
+
+Exit status: 0 done, 1 refused or no answer, 2 command line, 6 write, 7 memory",
     words: &[CONTROL],
 };
 
 /// `reload [--control SOCKET]`
-const RELOAD: Described = Described {
+pub const RELOAD: Described = Described {
     name: "reload",
     about: "Has the agent read the inventory's file again",
     after: EXITS,
@@ -101,12 +106,13 @@ const RELOAD: Described = Described {
 };
 
 /// `follow [--control SOCKET] [--alerts]`
-const FOLLOW: Described = Described {
+pub const FOLLOW: Described = Described {
     name: "follow",
     about: "Shows the agent's log as it comes",
     after: "\
-Shows each line that the agent says from now on, until the agent ends or the command is ended. Lines that it does not read in time
-are dropped, and `warning: log dropped N lines` stands in their place. At most 8 clients follow at a time.
+Shows each line that the agent logs from now on, until the agent ends or the command is stopped.
+Lines that it does not read in time are dropped, and `warning: log dropped N lines` replaces them.
+At most 8 clients can follow at a time.
 
 Examples:
   leasekeep follow
@@ -118,7 +124,7 @@ Exit status: 0 the agent ended, 1 refused or no answer, 2 command line, 6 write,
         Word {
             name: "alerts",
             takes: Takes::Flag,
-            help: "Warnings and alerts alone",
+            help: "Only warnings and alerts",
         },
     ],
 };
@@ -131,7 +137,8 @@ const CONTROL: Word = Word {
     name: "control",
     takes: Takes::Option("SOCKET", Value::Text),
     help: "\
-The agent's control socket [default: control.sock in $RUNTIME_DIRECTORY, else in $XDG_RUNTIME_DIR/leasekeep, else in /run/leasekeep]",
+The agent's control socket [default: control.sock in $RUNTIME_DIRECTORY,
+else in $XDG_RUNTIME_DIR/leasekeep, else in /run/leasekeep]",
 };
 
 /// The name of an entry.
@@ -140,19 +147,6 @@ const NAME: Word = Word {
     takes: Takes::Text,
     help: "The entry",
 };
-
-/// Appends the commands of a running agent.
-pub fn add_calls<'a>(alloc: Global, commands: &mut Vec<Command<'a>>) -> Result<(), AllocError> {
-    NEED.add_to(alloc, commands)?;
-    REPLACE.add_to(alloc, commands)?;
-    ADD.add_to(alloc, commands)?;
-    DROP.add_to(alloc, commands)?;
-    STATUS.add_to(alloc, commands)?;
-    HEALTH.add_to(alloc, commands)?;
-    SETTLE.add_to(alloc, commands)?;
-    RELOAD.add_to(alloc, commands)?;
-    FOLLOW.add_to(alloc, commands)
-}
 
 /// What is asked of a running agent, if this command asks something of one. `None` also where one of its words is not there, which
 /// the parser does not let happen.

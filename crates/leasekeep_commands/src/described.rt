@@ -53,6 +53,24 @@ pub enum Value {
     Number(i64, i64),
 }
 
+/// The inventory.
+pub const FILE: Word = Word {
+    name: "FILE",
+    takes: Takes::Text,
+    help: "\
+The inventory, at most 1 MiB; read first. `leasekeep lint FILE` shows what is
+wrong with it, with line and fix",
+};
+
+/// The start of a plan.
+pub const START: Word = Word {
+    name: "START",
+    takes: Takes::Moment,
+    help: "\
+The moment from which entries are kept, in whole seconds since
+1970-01-01T00:00:00Z; $(date +%s) is now",
+};
+
 impl Described {
     /// Appends it to these commands.
     pub fn add_to<'a>(

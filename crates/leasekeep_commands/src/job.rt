@@ -34,7 +34,7 @@ pub struct Called<'a> {
 pub struct Live<'a> {
     /// The path of the inventory.
     pub file: &'a str,
-    /// Where the broker listens.
+    /// Where Vault is reached.
     pub place: Place<'a>,
     /// The moment from which entries are kept.
     pub start: Moment,
@@ -47,7 +47,7 @@ pub struct Live<'a> {
 pub struct Served<'a> {
     /// The path of the inventory.
     pub file: &'a str,
-    /// Where the broker listens.
+    /// Where Vault is reached.
     pub place: Place<'a>,
     /// How long the connect, write and first read of a request may take, in seconds.
     pub patience: u64,
@@ -59,7 +59,7 @@ pub struct Served<'a> {
     pub form: Form,
     /// Where commands come in.
     pub control: Option<Socket<'a>>,
-    /// Where onlookers come in.
+    /// Where pages are served.
     pub listen: Option<Socket<'a>>,
     /// Where the ends are kept over a restart.
     pub room: Option<Room<'a>>,

@@ -1,7 +1,8 @@
 //! What the words of the command line ask.
+use crate::agent_commands::BROKER;
 use crate::call_commands::called;
 use crate::job::{Called, Job, Linted, Live, Room, Served, Socket};
-use crate::parser::{BROKER, mistake, parse};
+use crate::parser::{mistake, parse};
 use clap::error::ErrorKind;
 use clap::{ArgMatches, Error};
 use keep_clients::{Entrance, entrance_of};
@@ -15,18 +16,21 @@ use std::alloc::{AllocError, AllocFailed, Global};
 use std::io;
 use watch_machine::WIDTH;
 
-const PORT_MISTAKE: &str =
-    "invalid value for '<PORT|SOCKET>': a port is 1 to 65535, and the path of a UNIX socket has a `/` in it";
+const PORT_MISTAKE: &str = "\
+invalid value for '<PORT|SOCKET>': a port is 1 to 65535, and the path of a UNIX socket has a `/` in it and at most 107 bytes";
 
 const URL_MISTAKE: &str =
     "invalid value for '<PORT|SOCKET>': write the port alone, as 8200 for http://127.0.0.1:8200, or the path of a UNIX socket";
 
 const CONTROL_MISTAKE: &str =
-    "invalid value for '--control <SOCKET>': the path of a UNIX socket has a `/` in it";
+    "invalid value for '--control <SOCKET>': the path of a UNIX socket has a `/` in it and at most 107 bytes";
 
 const LISTEN_MISTAKE: &str = "\
-invalid value for '--listen <PLACE>': a place is PORT, ADDR:PORT with a number as 127.0.0.1 for ADDR, or the path of a UNIX socket, \
-which has a `/` in it";
+invalid value for '--listen <PLACE>': a place is PORT or ADDR:PORT, with a port from 1 to 65535 and a number as 127.0.0.1 for ADDR, \
+or the path of a UNIX socket, which has a `/` in it and at most 107 bytes";
+
+/// The bytes of a socket's path at most. Linux has room for one more, which is 0 (unix(7)).
+const MOST_PATH: usize = 107;
 
 // What a moment is, after clap's own text: a date there is a common mistake.
 const MOMENT_TIP: &[u8] =
@@ -37,13 +41,13 @@ const UNREADABLE: &[u8] = b"error: a value of the command line is unreadable\n";
 /// A value that says a place.
 #[derive(Clone, Copy, Debug)]
 enum PlaceWord {
-    /// Where the broker listens.
+    /// Where Vault is reached.
     Port,
     /// The same, written as a URL.
     Url,
     /// Where commands come in.
     Control,
-    /// Where onlookers come in.
+    /// Where pages are served.
     Listen,
 }
 
@@ -82,14 +86,16 @@ impl<T: Drop> From<AllocFailed<T>> for Unread {
     }
 }
 
-/// What the words of the command line ask; or the exit, once it was told or shown why they ask nothing.
+/// What the words of the command line ask; or the exit, once it was told or shown why they ask nothing. The program's own help is
+/// `overview`, as [`overview`](crate::overview) gives it.
 pub fn read_command<'a, R: AllocGlobal + Print, E: Sink>(
     rt: &R,
+    overview: &'a str,
     words: &'a [String],
     errors: &mut E,
 ) -> Result<Job<'a>, Exit> {
     let alloc = rt.alloc();
-    let matches = match parse(alloc, words) {
+    let matches = match parse(alloc, overview, words) {
         Ok(matches) => matches,
         Err(error) => return Err(show_with_tip(rt, &error, errors)),
     };
@@ -154,7 +160,7 @@ fn is_of_a_moment(alloc: Global, error: &Error) -> bool {
 
 /// What is asked, with all its values.
 fn job_of<'a>(alloc: Global, matches: &ArgMatches<'a>) -> Result<Job<'a>, Unread> {
-    if let Some(called) = call_of(matches) {
+    if let Some(called) = call_of(matches)? {
         return Ok(Job::Call(called));
     }
     match matches.subcommand() {
@@ -211,7 +217,7 @@ fn control<'a>(matches: &ArgMatches<'a>) -> Result<Option<Socket<'a>>, Unread> {
         return Ok(None);
     };
     match entrance_of(word) {
-        Some(Entrance::Path(path)) => Ok(Some(Socket {
+        Some(Entrance::Path(path)) if has_room(path) => Ok(Some(Socket {
             word,
             entrance: Entrance::Path(path),
         })),
@@ -227,21 +233,48 @@ fn room<'a>(matches: &ArgMatches<'a>) -> Option<Room<'a>> {
     }
 }
 
-/// Where onlookers come in, if a socket for them is asked for.
+/// Where pages are served, if a socket for them is asked for. At port 0 the system would choose one that nobody knows.
 fn listen<'a>(matches: &ArgMatches<'a>) -> Result<Option<Socket<'a>>, Unread> {
     let Some(word) = matches.get_str("listen") else {
         return Ok(None);
     };
     match entrance_of(word) {
-        Some(entrance) => Ok(Some(Socket { word, entrance })),
-        None => Err(Unread::Place(PlaceWord::Listen)),
+        Some(entrance) if is_place(entrance) => Ok(Some(Socket { word, entrance })),
+        _ => Err(Unread::Place(PlaceWord::Listen)),
     }
 }
 
+/// Whether it is one place, of which clients can know.
+fn is_place(entrance: Entrance<'_>) -> bool {
+    match entrance {
+        Entrance::Address(address) => address.port() != 0,
+        Entrance::Path(path) => has_room(path),
+    }
+}
+
+/// Whether a socket can have this path.
+fn has_room(path: &str) -> bool {
+    path.len() <= MOST_PATH
+}
+
 /// What is asked of a running agent, if one is asked.
-fn call_of<'a>(matches: &ArgMatches<'a>) -> Option<Called<'a>> {
-    let (command, matches) = matches.subcommand()?;
-    called(command, matches)
+fn call_of<'a>(matches: &ArgMatches<'a>) -> Result<Option<Called<'a>>, Unread> {
+    let Some((command, matches)) = matches.subcommand() else {
+        return Ok(None);
+    };
+    let called = called(command, matches);
+    if let Some(
+        Called {
+            control: Some(path),
+            ..
+        },
+    ) = called
+    {
+        if !has_room(path) {
+            return Err(Unread::Place(PlaceWord::Control));
+        }
+    }
+    Ok(called)
 }
 
 /// How the lines of a log are to be written: as text unless JSON is asked for.
@@ -252,13 +285,17 @@ fn form(matches: &ArgMatches<'_>) -> Form {
     }
 }
 
-/// Where the broker listens. A URL would be taken for a path, since it has a slash in it, and nobody would ever listen there.
+/// Where Vault is reached. A URL would be taken for a path, since it has a slash in it, and nobody would ever listen there.
 fn place<'a>(matches: &ArgMatches<'a>) -> Result<Place<'a>, Unread> {
     let word = matches.get_str(BROKER).ok_or(Unread::Value)?;
     if word.contains("://") {
         return Err(Unread::Place(PlaceWord::Url));
     }
-    place_to_ask(word).ok_or(Unread::Place(PlaceWord::Port))
+    match place_to_ask(word) {
+        Some(Place::Path(path)) if !has_room(path) => Err(Unread::Place(PlaceWord::Port)),
+        Some(place) => Ok(place),
+        None => Err(Unread::Place(PlaceWord::Port)),
+    }
 }
 
 /// The command of this name, with all its values. After this nothing asks for a value by its name.
