@@ -1,7 +1,7 @@
 //! The state folder of `serve`: what is served by it, and what is said of it.
 ghost use Rattle.std.specs.Prelude.{◌≡◌, IfErr, IfOk, None, OnOk, is_some, true};
 ghost use Rattle.serve_start.specs.Refusals.{RefusesStart};
-ghost use Rattle.serve_start.specs.Starts.{Begins, IsFreshLedger, IsLedgerAtStart, IsOfFolder, IsStart};
+ghost use Rattle.serve_start.specs.Starts.{Begins, IsFreshLedger, IsLedgerAtStart, IsOfFolder, IsServedBy, IsStart};
 ghost use Rattle.serve_start.specs.declared.folder.NotBegun.TheVariants as nots;
 
 use crate::aside::set_aside;
@@ -250,6 +250,7 @@ fn filled<D: Disk, I: Inputs, L: Lanes>(
 ) -> Result<Inventories, AllocError>
     requires fresh { IsFreshLedger ledger.old }
     ensures at_start { OnOk result (IsLedgerAtStart ledger.old.demands ledger.new) }
+    ensures served { IfOk result (λ i. IsServedBy ledger.new i.served) }
     ensures alone { IfOk result (λ i. ledger.old.demands.earlier ≡ 0 → i.again ≡ None) }
 {
     push_each(
@@ -271,7 +272,8 @@ fn inventories_of<D: Disk, I: Inputs, L: Lanes>(
     alloc: Global,
     ledger: &Ledger<'_, D, I, L>,
 ) -> Result<Inventories, AllocError>
-    ensures { IfOk result (λ i. ledger.now.demands.earlier ≡ 0 → i.again ≡ None) }
+    ensures served { IfOk result (λ i. IsServedBy ledger.now i.served) }
+    ensures alone { IfOk result (λ i. ledger.now.demands.earlier ≡ 0 → i.again ≡ None) }
 {
     let served = ledger.inventory(alloc)?;
     let again = if ledger.demands.earlier == 0 {
