@@ -12,3 +12,4 @@ pub mod Owed
 pub mod Truly
 pub mod Reaching
 pub mod Truths
+pub mod Heard

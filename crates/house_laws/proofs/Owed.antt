@@ -1,5 +1,5 @@
 -- Owed: where a house owes its client an `ok`, the client has asked for it, and it is done. For `whoever_is_told_ok_has_it`.
-use Rattle.std.proofs.Common.{◌≡◌, ◌∙◌, ◌⊎◌, ℕ, zero, suc, Bool, true, false, inl, inr, List, [], ◌∷◌, ◌++◌, Option, Some, None, Result, Ok, Err, ap, arith, codes, refl, slice_get, slice_index, slice_set, subst, sym}
+use Rattle.std.proofs.Common.{◌≡◌, ◌∙◌, ◌⊎◌, ℕ, Bool, true, false, inl, inr, List, [], ◌∷◌, ◌++◌, Option, Some, None, Result, Ok, Err, ap, arith, codes, refl, slice_index, subst, sym}
 use Rattle.std.specs.Prelude.{Vec}
 use Rattle.std.specs.declared.alloc.AllocError.{AllocError}
 use Rattle.std.specs.declared.alloc.Global.{Global}
@@ -19,7 +19,6 @@ use Rattle.keep_lanes.specs.declared.loss.Loss.{Loss}
 use Rattle.keep_proving.specs.declared.verdict.Verdict.{Verdict}
 use Rattle.keep_proving.specs.declared.verdict.Verdict.TheVariants as verdicts
 use Rattle.keep_serving.specs.declared.change.Change.{Change}
-use Rattle.keep_serving.specs.declared.change.Change.TheVariants as changes
 use Rattle.house_log.specs.Lines.{Line}
 use Rattle.house_log.specs.declared.mark.Mark.{Mark}
 use Rattle.house_words.specs.Outcomes.{Outcome, Why, Whys}
@@ -30,7 +29,7 @@ use Rattle.house_ledger.specs.declared.keeping.LookedUp.{LookedUp}
 use Rattle.house_ledger.specs.declared.keeping.LookedUp.TheVariants as lookups
 use Rattle.keep_house.specs.Admitting.{AdmitsIf, FollowsLog, asking_in}
 use Rattle.keep_house.specs.Awaiting.{HearsFor, Judges, LooksUpFirst, LooksUpIf, Makes, VerdictIs, addressed}
-use Rattle.keep_house.specs.Commands.{AddsIf, AsksFor, AsksIf, CarriesIf, CarriesOut, GivesNeed, GoesOnIf, IsGivenWith, NeedIsKept, NeedsIf, ReadsRow, RereadBy, ServesClients, TellsReload, read_badly, read_well}
+use Rattle.keep_house.specs.Commands.{AddsIf, AsksFor, AsksIf, CarriesIf, CarriesOut, GivesNeed, GoesOnIf, IsGivenWith, NeedIsKept, NeedsIf, ReadsRow, RereadBy, TellsReload, read_badly, read_well}
 use Rattle.keep_house.specs.Houses.{ClientIsAside, ClientsAsk, Concludes, WillRefuse, WillTell, bytes_sent}
 use Rattle.keep_house.specs.declared.given.Awaited.{Awaited}
 use Rattle.keep_house.specs.declared.given.Given.{Given}

@@ -1,5 +1,5 @@
 -- Reaching: what the calls of the loop do to a house that stands behind others. For `whoever_is_told_ok_has_it`.
-use Rattle.std.proofs.Common.{◌≡◌, ◌∙◌, ◌⊎◌, ℕ, Bool, true, false, inl, inr, List, Option, Some, None, ap, refl, subst}
+use Rattle.std.proofs.Common.{◌≡◌, ◌∙◌, ◌⊎◌, ℕ, Bool, true, false, inl, inr, List, Option, Some, None, ap, subst}
 use Rattle.keep_agent.specs.Agent.{Agent}
 use Rattle.keep_behind.specs.Behinds.{PassesBehind, SettlesBy, StepsBy, StepsIf, giver_of, lead_ahead, renews, requests_at}
 use Rattle.keep_behind.specs.declared.behind.Behind.{Behind}

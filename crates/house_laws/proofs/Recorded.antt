@@ -1,5 +1,5 @@
 -- Recorded: a change that was taken is on the disk, whatever a crash leaves. For `whoever_is_told_ok_has_it`.
-use Rattle.std.proofs.Common.{◌≡◌, ◌∙◌, ◌⊎◌, ℕ, suc, ◌<◌, ◌≤◌, Bool, true, false, ◌&&◌, IsTrue, inl, inr, List, [], ◌∷◌, ◌++◌, length, option_to_list, slice_index, Option, Some, None, Result, Ok, ap, append-nil, arith, refl, subst, sym}
+use Rattle.std.proofs.Common.{◌≡◌, ◌∙◌, ℕ, suc, ◌≤◌, Bool, true, false, ◌&&◌, IsTrue, inl, inr, List, [], ◌∷◌, ◌++◌, length, option_to_list, slice_index, Option, Some, None, Result, Ok, ap, append-nil, arith, refl, subst, sym}
 use Rattle.std.proofs.lemmas.List.Elements.{Contains-push}
 use Rattle.std.specs.List.{Contains}
 use Rattle.keep_answering.specs.declared.asked.Asked.{Asked}
@@ -24,7 +24,7 @@ use Rattle.keep_state.specs.States.{Kept, book_in, store_in}
 use Rattle.keep_store.specs.Books.{Book}
 use Rattle.keep_store.specs.Compacted.{compacted_lines}
 use Rattle.keep_store.specs.Entering.{line_for_change}
-use Rattle.keep_store.specs.Records.{record_in, records_in}
+use Rattle.keep_store.specs.Records.{records_in}
 use Rattle.keep_store.specs.Stores.{journal_of, lines_in, path_of_store}
 use Rattle.keep_store.proofs.Lists.{records_push}
 use Rattle.house_words.specs.Outcomes.{Why}

@@ -1,6 +1,6 @@
 -- Truths: in a run of turns each change that is given is settled at once, and so whoever is told `ok` has asked for it, and it is done. For
 -- `whoever_is_told_ok_has_it`.
-use Rattle.std.proofs.Common.{◌≡◌, ◌∙◌, ◌⊎◌, ℕ, ◌+◌, Bool, true, false, inl, inr, List, [], ◌∷◌, ◌++◌, Option, Some, None, Result, ap, arith, refl, subst, sym}
+use Rattle.std.proofs.Common.{◌≡◌, ◌∙◌, ◌⊎◌, ℕ, Bool, inl, inr, List, [], ◌∷◌, ◌++◌, Option, Some, None, Result, ap, arith, refl, subst, sym}
 use Rattle.std.specs.declared.alloc.AllocError.{AllocError}
 use Rattle.keep_agent.specs.Agent.{Agent}
 use Rattle.keep_answering.specs.declared.asked.Asked.{Asked}

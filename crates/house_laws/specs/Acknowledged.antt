@@ -1,7 +1,7 @@
 -- Acknowledged: whoever is told `ok` in a run of a house has asked for it, and the change is on the disk that it has asked for. The law is
 -- the contract of a public function without a body.
 -- Source: docs/running.md, "What holds after a crash".
-use Rattle.std.specs.Prelude.{◌≡◌, ◌⊎◌, ℕ, Bool, IsTrue, List, [], ◌∷◌, ◌++◌, Option, Some, None, Result, Ok, codes, slice_get}
+use Rattle.std.specs.Prelude.{◌≡◌, ◌⊎◌, ℕ, Bool, IsTrue, List, [], ◌∷◌, ◌++◌, Option, Some, None, Ok, codes, slice_get}
 use Rattle.std.specs.List.{Contains}
 use Rattle.keep_answering.specs.declared.asked.Asked.{Asked}
 use Rattle.keep_answering.specs.declared.asked.Asked.TheVariants as asked

@@ -2,3 +2,4 @@ pub mod Tried
 pub mod Disks
 pub mod Alike
 pub mod Acknowledged
+pub mod Heard
