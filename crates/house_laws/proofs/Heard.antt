@@ -1,11 +1,14 @@
 -- Heard: what a house does follows from the machine, the forest, the standings and the beginnings of its agent. For
 -- `a_house_shows_no_credential`.
-use Rattle.std.proofs.Common.{◌≡◌, ◌∙◌, ℕ, Bool, true, false, inl, inr, List, [], ◌∷◌, Option, Some, None, Result, ap, map, refl, subst, sym}
+use Rattle.std.proofs.Common.{◌≡◌, ◌∙◌, ℕ, Bool, true, false, inl, inr, List, [], ◌∷◌, Option, Some, None, Result, ap, map, refl, subst, sym, Ok, Err, option_map}
+use Rattle.std.specs.Prelude.{Vec}
 use Rattle.std.specs.declared.alloc.AllocError.{AllocError}
+use Rattle.std.specs.declared.alloc.Global.{Global}
 use Rattle.keep_agent.specs.Agent.{Agent}
 use Rattle.keep_agent.specs.declared.standing.Standing.{Standing}
 use Rattle.keep_answering.specs.Controlling.{FirstIsReplied, RepliesTo, ShownIf}
 use Rattle.keep_answering.specs.Onlooking.{FirstIsSent, IsSentIf, OneIsSent, question_of}
+use Rattle.keep_answering.specs.declared.asked.Asked.{Asked}
 use Rattle.keep_answering.specs.declared.control.Control.{Control}
 use Rattle.keep_answering.specs.declared.heads.Heads.{Heads}
 use Rattle.keep_answering.specs.declared.lines.RequestLines.{RequestLines}
@@ -28,7 +31,8 @@ use Rattle.keep_onlook.specs.Answers.{IsAnswer, IsTold}
 use Rattle.keep_onlook.specs.Naming.{Around, named_by}
 use Rattle.keep_onlook.specs.declared.asked.Page.{Page}
 use Rattle.keep_onlook.specs.declared.board.Board.{Board}
-use Rattle.keep_serving.specs.Neighbours.{Answer, End, Needs, Step, Thing, Time, Want}
+use Rattle.keep_serving.specs.Neighbours.{AllCalled, Answer, End, Needs, NeighbourCall, Step, Thing, Time, Want}
+use Rattle.keep_proving.specs.declared.verdict.Verdict.{Verdict}
 use Rattle.keep_tree.specs.Forest.{Forest}
 use Rattle.watch_machine.specs.Outlook.{broker_now}
 use Rattle.watch_machine.specs.State.{WatchState}
@@ -48,16 +52,20 @@ use Rattle.house_words.specs.Moments.{now_of}
 use Rattle.house_words.specs.Outcomes.{Why}
 use Rattle.house_ledger.specs.Keeping.{KeepCall}
 use Rattle.keep_house.specs.Behind.{stepped}
-use Rattle.keep_house.specs.Commands.{SettlesBy, TellsNeed}
-use Rattle.keep_house.specs.Doing.{HearsOf, HouseGoesOn, SettlesChange}
+use Rattle.keep_house.specs.Awaiting.{HearsFor, VerdictIs}
+use Rattle.keep_house.specs.Commands.{AsksFor, AsksIf, CarriesIf, GoesOnIf, GoesOnWithClients, LacksMemory, SettlesBy, TellsNeed}
+use Rattle.keep_house.specs.Doing.{HearsOf, HearsServedIf, HouseGoesOn, SettlesChange}
 use Rattle.keep_house.specs.Ends.{EndsGoOn, KeepsEnds}
 use Rattle.keep_house.specs.Houses.{Attends, ClientIsSent, ClientsGoOn, OnlookersGoOn, SendsAside}
 use Rattle.keep_house.specs.Looks.{LooksAround}
 use Rattle.keep_house.specs.Nexts.{HearsNext, next_there}
+use Rattle.keep_house.specs.declared.given.Awaited.{Awaited}
 use Rattle.keep_house.specs.declared.given.Given.{Given}
 use Rattle.keep_house.specs.declared.given.Given.TheVariants as givens
 use Rattle.keep_house.specs.declared.house.House.{House}
 use Rattle.house_laws.specs.Alike.{AgentsAreAlike}
+use Rattle.house_laws.specs.Heard.{AreBothAlike, Both, BothGoOn, BothHear, BothRest, BothSettle, Does, IsBothAlike, NeitherGives, of_one, of_other}
+use Rattle.house_laws.proofs.Asks.{asked_for, settled_given}
 use Rattle.house_laws.proofs.Alike.{answered_alike, bare, carried_alike, clocked_alike, marks_alike, next_alike, same, shorts_alike}
 
 module _ (a b : Agent) (alike : AgentsAreAlike a b) where
@@ -165,6 +173,47 @@ module _ (a b : Agent) (alike : AgentsAreAlike a b) where
         unmade = unmade is_made x.settled.desk new.desk x.unmade;
         rest = x.rest;
       }
+
+-- ---- where no change is given
+
+module _ (a b : Agent) (alike : AgentsAreAlike a b) {S T D K E : Type 0} (does : KeepCall → K → K → Type 0) (rows : K → List Row) (path : K → List ℕ) (reads : K → List ℕ → Result Row Why → Type 0)
+    (gives : ℕ → Result (Option Inventory) AllocError → K → Type 0) (now : Reading) where
+  abbrev Lacks : Agent → House S T D K E → House S T D K E → Type 0
+  Lacks agent old new = LacksMemory does rows path reads gives agent now None old new
+
+  lacks_memory : (old new : House S T D K E) → Lacks a old new → Lacks b old new
+  lacks_memory old new h = (h.0, (says_so a b alike (memory_line ∷ []) old.desk.marks old.desk new.desk h.1.0, h.1.1))
+
+  verdict_none : (w : Awaited) (verdict : Result (Option Verdict) AllocError) (old new : House S T D K E) → VerdictIs does rows a now w verdict false old new → VerdictIs does rows b now w verdict false old new
+  verdict_none w (Ok None) old new h = h
+  verdict_none w (Ok (Some verdict)) old new h = absurd (let clash : false ≡ true = h.0 in cc)
+  verdict_none w (Err e) old new h = absurd (let clash : false ≡ true = h.0 in cc)
+
+  hears_none : (awaited : Option Awaited) (old new : House S T D K E) → HearsFor does rows a now awaited false old new → HearsFor does rows b now awaited false old new
+  hears_none None old new h = h
+  hears_none (Some w) old new h = record { verdict = h.verdict; state = h.state; proves = h.proves; then = verdict_none w h.verdict (record old { awaited = None; state = h.state }) new h.then }
+
+  carries_none : (asked : Result (Option Asked) AllocError) (old new : House S T D K E) → CarriesIf does rows path reads gives a now asked None old new → CarriesIf does rows path reads gives b now asked None old new
+  carries_none (Ok None) old new h = h
+  carries_none (Ok (Some it)) old new h = absurd h
+  carries_none (Err e) old new h = lacks_memory old new h
+
+  goes_on_none : (is : Bool) (old mid new : House S T D K E) → HearsFor does rows a now old.awaited is old mid → GoesOnIf does rows path reads gives a now is None mid new → GoesOnWithClients does rows path reads gives b now None old new
+  goes_on_none true old mid new hears h = absurd (let clash = h.0 in cc)
+  goes_on_none false old mid new hears h = record {
+    heard = false;
+    mid = mid;
+    hears = hears_none old.awaited old mid hears;
+    then = record { asked = h.asked; control = h.control; clients = h.clients; then = carries_none h.asked (record mid { control = h.control }) new h.then };
+  }
+
+  asks_none : (due : Result (Option (Inventory × Vec Mark Global)) AllocError) (old new : House S T D K E) → AsksIf does rows path reads gives a now due None old new → AsksIf does rows path reads gives b now due None old new
+  asks_none (Ok None) old new h = goes_on_none h.heard old h.mid new h.hears h.then
+  asks_none (Ok (Some p)) old new h = absurd (let clash = h.0 in cc)
+  asks_none (Err e) old new h = lacks_memory old new h
+
+  pub none_given_alike : (old new : House S T D K E) → AsksFor does rows path reads gives a now None old new → AsksFor does rows path reads gives b now None old new
+  none_given_alike old new h = (h.0, (h.1.0, asks_none h.0 old new h.1.1))
 
 -- ---- what is shown
 
@@ -281,3 +330,57 @@ module _ (a b : Agent) (alike : AgentsAreAlike a b) (begun : b.beginnings ≡ a.
       attend = attended h.is_more h.looked new h.attend;
       busy = h.busy;
     }
+
+-- ---- a stretch
+
+none_mapped : {E : Type 0} (f : EndsFile E → EndsFile E) (o : Option (EndsFile E)) → o ≡ None → option_map f o ≡ None
+none_mapped f None none = refl
+none_mapped f (Some x) none = absurd cc
+
+ends_none : {E : Type 0} (known : Bool) (state : E → DiskState) (agent : Agent) (now : ℕ) (tried : Option (Result (Unit {0}) DiskFault)) (old new : Option (EndsFile E)) → old ≡ None → EndsGoOn known state agent now tried old new → new ≡ None
+ends_none known state agent now tried None new none h = h.1
+ends_none known state agent now tried (Some old) new none h = absurd cc
+
+-- a house without a file of the ends stays one
+module _ {S T D K E : Type 0} where
+  next_ends : (agent : Agent) (next : Option (Option Next)) (old new : House S T D K E) → HearsNext agent next old new → new.ends ≡ old.ends
+  next_ends agent None old new h = ap (λ x. x.ends) h
+  next_ends agent (Some next) old new h = ap (λ x. x.ends) h.rest
+
+  heard_ends : (agent : Agent) (thing : Thing) (old new : House S T D K E) → old.ends ≡ None → HearsOf agent thing old new → new.ends ≡ None
+  heard_ends agent (Time notes requests next) old new none h = next_ends agent next (record old { desk = h.desk }) new h.then ∙ none
+  heard_ends agent (Needs (Some shorts)) old new none h = ap (λ x. x.ends) h.1 ∙ none
+  heard_ends agent (Needs None) old new none h = ap (λ x. x.ends) h.1 ∙ none
+  heard_ends agent (Answer entry operation said notes) old new none h = ap (λ x. x.ends) h.1 ∙ none_mapped _ old.ends none
+  heard_ends agent (End entry end) old new none h = ap (λ x. x.ends) h.1 ∙ none_mapped _ old.ends none
+  heard_ends agent (Step lead requests) old new none h = ap (λ x. x.ends) h.1 ∙ none
+  heard_ends agent Want old new none h = ap (λ x. x.ends) h.1 ∙ none
+
+  served_ends : (is : Bool) (old new : House S T D K E) → old.ends ≡ None → HearsServedIf is old new → new.ends ≡ None
+  served_ends true old new none h = ap (λ x. x.ends) h ∙ none_mapped _ old.ends none
+  served_ends false old new none h = ap (λ x. x.ends) h ∙ none
+
+module _ {S T D K E : Type 0} (given : S → Option (List ℕ)) (failures tries : S → ℕ) (remaining written : T → Option (List ℕ)) (calls : T → Option (List Call)) (log : D → Option (DoorLog T))
+    (does : KeepCall → K → K → Type 0) (rows : K → List Row) (path : K → List ℕ) (reads : K → List ℕ → Result Row Why → Type 0) (gives : ℕ → Result (Option Inventory) AllocError → K → Type 0)
+    (known : Bool) (state : E → DiskState) where
+  abbrev Makes : NeighbourCall → House S T D K E → House S T D K E → Type 0
+  Makes call old new = Does given failures tries remaining written calls log does rows path reads gives known state call old new
+
+  makes_alike : (call : Both) (old new : House S T D K E) → IsBothAlike call → old.ends ≡ None → Makes (of_one call) old new → Makes (of_other call) old new
+  makes_alike (BothHear a b thing) old new alike none h = heard a b alike thing old new h
+  makes_alike (BothGoOn a b now is_busy) old new alike none h = went_on a b alike.0 alike.1 given failures tries remaining written calls log does rows path reads gives known state now is_busy old new none h
+  makes_alike (NeitherGives a b now) old new alike none h = none_given_alike a b alike does rows path reads gives now old new h
+  makes_alike (BothSettle a b is_made) old new alike none h = settled a b alike does is_made old new h
+  makes_alike (BothRest now rest) old new alike none h = h
+
+  makes_none : (call : Both) (old new : House S T D K E) → old.ends ≡ None → Makes (of_one call) old new → new.ends ≡ None
+  makes_none (BothHear a b thing) old new none h = heard_ends a thing old new none h
+  makes_none (BothGoOn a b now is_busy) old new none h =
+      ap (λ x. x.ends) h.attend.rest ∙ ap (λ x. x.ends) h.look.rest ∙ ends_none known state a now.elapsed h.ends.tried old.ends h.kept.ends none h.ends.ends
+  makes_none (NeitherGives a b now) old new none h = (asked_for does rows path reads gives a now h.0 None old new h.1.1).ends ∙ none
+  makes_none (BothSettle a b is_made) old new none h = ap (λ x. x.ends) h.rest ∙ (settled_given does a is_made h.heard h.settled h.settles).ends ∙ served_ends _ old h.heard none h.served
+  makes_none (BothRest now rest) old new none h = ap (λ x. x.ends) h.0 ∙ none
+
+  pub stretch_alike : (made : List Both) (old new : House S T D K E) → AreBothAlike made → old.ends ≡ None → AllCalled Makes (map of_one made) old new → AllCalled Makes (map of_other made) old new
+  stretch_alike [] old new alike none run = run
+  stretch_alike (call ∷ made) old new alike none run = (run.0, (makes_alike call old run.0 alike.0 none run.1.0, stretch_alike made run.0 new alike.1 (makes_none call old run.0 none run.1.0) run.1.1))

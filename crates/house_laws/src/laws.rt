@@ -4,7 +4,7 @@ ghost use Rattle.house_laws.specs.Alike.{AnsweredAlike, CarriedAlike, ClockedAli
 ghost use Rattle.house_laws.specs.Alike.{EndAlike, KeepsAlike, RefusedAlike, ReplacedAlike, ReplacedOfAlike};
 ghost use Rattle.house_laws.specs.Alike.{FaultyAlike, JudgedAlike, NewsAlike, NotesAlike, StartAlike, UnfilledAlike, WhysAlike, WrittenAlike};
 ghost use Rattle.house_laws.specs.Disks.{AsksLittleLaw, EndsLaw, LedgerLaw, SparesLaw};
-ghost use Rattle.house_laws.specs.Heard.{AttendedAlike, GoesOnAlike, HeardAlike, SettledAlike};
+ghost use Rattle.house_laws.specs.Heard.{AttendedAlike, GoesOnAlike, HeardAlike, NoneGivenAlike, SettledAlike, StretchAlike};
 ghost use Rattle.house_laws.specs.Tried.{BehindTriesLaw, DayTriesLaw, TriesLaw};
 
 use house_ledger::Keeping;
@@ -51,13 +51,15 @@ pub fn no_credential_of_a_file_is_said()
 {}
 
 /// The law that a house shows no credential: beside two agents that differ in credentials alone it may do the same, so its log, those who
-/// follow that, the onlookers and the clients are told the same, whatever is heard, while it goes on, and where a change is settled. (The
-/// file of the ends has a fingerprint of each credential.)
+/// follow that, the onlookers and the clients are told the same, whatever is heard, while it goes on, where a change is settled and where
+/// none is given, and so in each stretch of these. (The file of the ends has a fingerprint of each credential.)
 pub fn a_house_shows_no_credential<S: LogSink, T: Talk, D: Door<T>, K: Keeping, E: Disk>()
     ensures heard { HeardAlike S.written S.failures S.tries T.remaining T.written T.calls D.log K.does K.rows K.path K.reads K.gives E.is_known E.state }
     ensures attended { AttendedAlike S.written S.failures S.tries T.remaining T.written T.calls D.log K.does K.rows K.path K.reads K.gives E.is_known E.state }
     ensures goes_on { GoesOnAlike S.written S.failures S.tries T.remaining T.written T.calls D.log K.does K.rows K.path K.reads K.gives E.is_known E.state }
     ensures settled { SettledAlike S.written S.failures S.tries T.remaining T.written T.calls D.log K.does K.rows K.path K.reads K.gives E.is_known E.state }
+    ensures none_given { NoneGivenAlike S.written S.failures S.tries T.remaining T.written T.calls D.log K.does K.rows K.path K.reads K.gives E.is_known E.state }
+    ensures stretch { StretchAlike S.written S.failures S.tries T.remaining T.written T.calls D.log K.does K.rows K.path K.reads K.gives E.is_known E.state }
 {}
 
 /// The law that in a turn of the loop the log's reader is tried 16 times at most, whether the loop calls a house, an
