@@ -421,9 +421,15 @@ int fchmod(int fd, mode_t mode) {
     return done;
 }
 
+/* (A folder that is there is found before it matters that nothing can be written.) */
 int mkdir(const char *path, mode_t mode) {
     int turn = is_turn("folder");
-    if (stops(turn, 1)) return -1;
+    struct stat seen;
+    if (stops(turn, 1)) {
+        int error = errno;
+        errno = (error == EROFS || error == ENOSPC) && stat(path, &seen) == 0 ? EEXIST : error;
+        return -1;
+    }
     int done = syscall(SYS_mkdirat, AT_FDCWD, path, mode);
     int error = errno;
     ended(turn);

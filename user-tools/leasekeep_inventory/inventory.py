@@ -165,7 +165,7 @@ def entry_text(entry: Entry, is_served: bool = False) -> str:
         lines.append(f"max_ttl = {entry.max_ttl}")
     if entry.explicit_max_ttl:
         lines.append(f"explicit_max_ttl = {entry.explicit_max_ttl}")
-    if is_served and entry.reissued:
+    if entry.reissued:
         lines.append("reissued = true")
     if entry.need:
         lines.append('need = "always"' if is_served and entry.need == ALWAYS else f"need = {entry.need}")

@@ -151,7 +151,7 @@ class Texts(unittest.TestCase):
 
     def test_an_inventory_is_read_back_from_its_text(self) -> None:
         inventory = Inventory((
-            TOKEN, Entry("pay", Kind.TOKEN, "web", 900, 1060, False, None, 60, None, 200, 1100, 'a"\\b'),
+            TOKEN, Entry("pay", Kind.TOKEN, "web", 900, 1060, False, None, 60, None, 200, 1100, 'a"\\b', reissued=True),
             Entry("db", Kind.LEASE, "pay", 1000, 1060, True, 60, 0, 9000, 0, 1200, "db/creds/app/1"),
         ), 10, 5000)
         self.assertEqual(read_inventory(inventory_text(inventory).encode()).inventory, inventory)

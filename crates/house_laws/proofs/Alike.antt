@@ -5,7 +5,10 @@ use Rattle.std.specs.List.{find, flat_map}
 use Rattle.std.specs.Prelude.{◌-◌, not, ◌&&◌, if◌then◌else◌, bytes_eq, codes, is_none, is_some, nat_lt, slice_get}
 use Rattle.keep_agent.specs.Agent.{Agent}
 use Rattle.keep_agent.specs.Status.{status_of_entry}
+use Rattle.keep_agent.specs.declared.shorts.Short.{Short}
 use Rattle.keep_agent.specs.declared.standing.Standing.{Standing}
+use Rattle.keep_agent.specs.declared.standing.Trouble.{Trouble}
+use Rattle.keep_asking.specs.declared.told.Said.{Said}
 use Rattle.keep_change.specs.Rows.{is_lease_if, is_row_named, named}
 use Rattle.keep_change.specs.declared.change.Record.{Record}
 use Rattle.keep_change.specs.declared.change.Record.TheVariants.{Made, Settling}
@@ -35,6 +38,15 @@ use Rattle.keep_store.specs.declared.secret.Secret.{Secret}
 use Rattle.keep_tree.specs.Forest.{Forest, index_named}
 use Rattle.keep_tree.specs.Push.{is_lease}
 use Rattle.watch_machine.specs.State.{WatchState}
+use Rattle.watch_machine.specs.declared.command.Request.{Request}
+use Rattle.watch_machine.specs.declared.event.Operation.{Operation}
+use Rattle.watch_machine.specs.declared.notes.Notes.{Notes}
+use Rattle.watch_machine.specs.declared.outlook.Next.{Next}
+use Rattle.house_log.specs.LinesOfAnswers.{answered_lines}
+use Rattle.house_log.specs.LinesOfClocks.{clocked_lines, marks_anew, marks_clocked, short_log_lines}
+use Rattle.house_log.specs.LinesOfNexts.{next_lines}
+use Rattle.house_log.specs.declared.mark.Mark.{Mark}
+use Rattle.keep_house.specs.Nexts.{next_there}
 use Rattle.house_laws.specs.Alike.{AgentsAreAlike, FilesAreAlike, IsRecordBut, JudgedAlike, RecordsAreAlike, RowsAreAlike, SecretsAreAlike, ServedAreAlike}
 use Rattle.keep_house.specs.Commands.{end_known_at, end_named}
 use Rattle.house_words.specs.Filling.{AreUnfilled, CannotFill, FillsFrom, FillsRow, IsFaultOfRow}
@@ -61,6 +73,31 @@ end_same a b h (Some i) = same (λ m f xs. (status_of_entry (bare m f xs) i).end
 
 pub end_alike : (a b : Agent) → AgentsAreAlike a b → (name : List ℕ) → end_named b name ≡ end_named a name
 end_alike a b h name = ap (λ (g : Forest). end_known_at b (index_named g.entries name)) h.forest ∙ end_same a b h (index_named a.inventory.forest.entries name)
+
+-- ---- what is said of them
+
+pub clocked_alike : (a b : Agent) → AgentsAreAlike a b → (notes : Notes) (requests : List Request) (marks : List Mark) → clocked_lines b notes requests marks ≡ clocked_lines a notes requests marks
+unfolding clocked_lines
+clocked_alike a b h notes requests marks = same (λ m f xs. clocked_lines (bare m f xs) notes requests marks) a b h
+
+pub marks_alike : (a b : Agent) → AgentsAreAlike a b → (marks : List Mark) → marks_clocked b marks ≡ marks_clocked a marks
+unfolding marks_clocked
+marks_alike a b h marks = same (λ m f xs. marks_clocked (bare m f xs) marks) a b h
+
+pub next_alike : (a b : Agent) → AgentsAreAlike a b → (last : Option (Option Next)) (next : Option Next) → next_lines b last (next_there b.machine next) ≡ next_lines a last (next_there a.machine next)
+next_alike a b h last next = same (λ m f xs. next_lines (bare m f xs) last (next_there m next)) a b h
+
+pub shorts_alike : (a b : Agent) → AgentsAreAlike a b → (shorts : List Short) → short_log_lines b shorts ≡ short_log_lines a shorts
+unfolding short_log_lines
+shorts_alike a b h shorts = same (λ m f xs. short_log_lines (bare m f xs) shorts) a b h
+
+pub answered_alike : (a b : Agent) → AgentsAreAlike a b → (i : ℕ) (operation : Operation) (said : Said) (notes : Notes) (before : Option Trouble) → answered_lines b i operation said notes before ≡ answered_lines a i operation said notes before
+unfolding answered_lines
+answered_alike a b h i operation said notes before = same (λ m f xs. answered_lines (bare m f xs) i operation said notes before) a b h
+
+pub carried_alike : (a b : Agent) → AgentsAreAlike a b → (count : ℕ) → marks_anew b count ≡ marks_anew a count
+unfolding marks_anew
+carried_alike a b h count = same (λ m f xs. marks_anew (bare m f xs) count) a b h
 
 -- ---- changes
 
@@ -148,10 +185,10 @@ said_of_none d bytes why faults whys reads (inr h) = absurd (let no : ◌≡◌ 
 
 pub faulty_alike : (d : Demands) (bytes other : List ℕ) (why : InvFault) (faults others : List StartFault) (whys more : List (List ℕ)) → DocumentsAreAlike bytes other → marks_of other ≡ marks_of bytes → (why ≡ NotToml → ⊥) →
     read_served bytes ≡ Err why → read_served other ≡ Err why → AreWhysNotServed d bytes faults whys → AreWhysNotServed d other others more → more ≡ whys
-faulty_alike d bytes other why faults others whys more alike marks no reads also h k =
+faulty_alike d bytes other why faults others whys more alike marks toml reads also h k =
     let one = said_of_none d bytes why faults whys reads h in
     let two = said_of_none d other why others more also k in
-    two.1.1 ∙ ap (λ (w : List ℕ). w ∷ []) (said_alike bytes other why one.0 two.0 alike marks no one.1.0 two.1.0) ∙ sym one.1.1
+    two.1.1 ∙ ap (λ (w : List ℕ). w ∷ []) (said_alike bytes other why one.0 two.0 alike marks toml one.1.0 two.1.0) ∙ sym one.1.1
 
 bare_alike : (v w : Served) → ServedAreAlike v w → (i : ℕ) (notes : List entries.Note) → bare_faults w i notes ≡ bare_faults v i notes
 bare_alike v w h i [] = refl

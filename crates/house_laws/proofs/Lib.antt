@@ -7,3 +7,9 @@ pub mod Asks
 pub mod Spared
 pub mod Stamped
 pub mod Alike
+pub mod Recorded
+pub mod Owed
+pub mod Truly
+pub mod Reaching
+pub mod Truths
+pub mod Heard

@@ -83,13 +83,13 @@ module _ (w : NeighbourCall → ℕ) (light : (agent : Agent) (thing : Thing) �
     light_left : IsLight (Then (OnHeld TakesAnswers) (TakesUp port r)) (of_left port r calls_of_answering (calls_of_reading r))
     light_left = light_then (OnHeld TakesAnswers) (TakesUp port r) calls_of_answering (of_coming port r calls_of_answering (calls_of_reading r)) light_taking light_coming
 
-    light_stages : IsLight (LeftOverGoesFirst port r) (of_stages port r calls_of_answering (calls_of_reading r))
+    pub light_stages : IsLight (LeftOverGoesFirst port r) (of_stages port r calls_of_answering (calls_of_reading r))
     light_stages =
         light_then (SendsRequests port) (Then (OnHeld TakesAnswers) (TakesUp port r)) (nothing (SendsRequests port)) (of_left port r calls_of_answering (calls_of_reading r)) (light_nothing (SendsRequests port)) light_left
 
   -- ---- turns
 
-  light_want : (is_whole : Bool) (agent : Agent) → weight w (heard_of_want is_whole agent) ≡ 0
+  pub light_want : (is_whole : Bool) (agent : Agent) → weight w (heard_of_want is_whole agent) ≡ 0
   light_want true agent = refl
   light_want false agent = (let want = light agent Want in omega (arith, want))
 

@@ -1,3 +1,5 @@
 pub mod Tried
 pub mod Disks
 pub mod Alike
+pub mod Acknowledged
+pub mod Heard

@@ -1,8 +1,10 @@
 //! Laws of what a house says.
+ghost use Rattle.house_laws.specs.Acknowledged.{AcknowledgedLaw};
 ghost use Rattle.house_laws.specs.Alike.{AnsweredAlike, CarriedAlike, ClockedAlike, NeedAlike, NextAlike, ShortsAlike};
 ghost use Rattle.house_laws.specs.Alike.{EndAlike, KeepsAlike, RefusedAlike, ReplacedAlike, ReplacedOfAlike};
 ghost use Rattle.house_laws.specs.Alike.{FaultyAlike, JudgedAlike, NewsAlike, NotesAlike, StartAlike, UnfilledAlike, WhysAlike, WrittenAlike};
 ghost use Rattle.house_laws.specs.Disks.{AsksLittleLaw, EndsLaw, LedgerLaw, SparesLaw};
+ghost use Rattle.house_laws.specs.Heard.{AttendedAlike, GoesOnAlike, HeardAlike, NoneGivenAlike, SettledAlike, StretchAlike};
 ghost use Rattle.house_laws.specs.Tried.{BehindTriesLaw, DayTriesLaw, TriesLaw};
 
 use house_ledger::Keeping;
@@ -48,6 +50,18 @@ pub fn no_credential_of_a_file_is_said()
     ensures judged { JudgedAlike }
 {}
 
+/// The law that a house shows no credential: beside two agents that differ in credentials alone it may do the same, so its log, those who
+/// follow that, the onlookers and the clients are told the same, whatever is heard, while it goes on, where a change is settled and where
+/// none is given, and so in each stretch of these. (The file of the ends has a fingerprint of each credential.)
+pub fn a_house_shows_no_credential<S: LogSink, T: Talk, D: Door<T>, K: Keeping, E: Disk>()
+    ensures heard { HeardAlike S.written S.failures S.tries T.remaining T.written T.calls D.log K.does K.rows K.path K.reads K.gives E.is_known E.state }
+    ensures attended { AttendedAlike S.written S.failures S.tries T.remaining T.written T.calls D.log K.does K.rows K.path K.reads K.gives E.is_known E.state }
+    ensures goes_on { GoesOnAlike S.written S.failures S.tries T.remaining T.written T.calls D.log K.does K.rows K.path K.reads K.gives E.is_known E.state }
+    ensures settled { SettledAlike S.written S.failures S.tries T.remaining T.written T.calls D.log K.does K.rows K.path K.reads K.gives E.is_known E.state }
+    ensures none_given { NoneGivenAlike S.written S.failures S.tries T.remaining T.written T.calls D.log K.does K.rows K.path K.reads K.gives E.is_known E.state }
+    ensures stretch { StretchAlike S.written S.failures S.tries T.remaining T.written T.calls D.log K.does K.rows K.path K.reads K.gives E.is_known E.state }
+{}
+
 /// The law that in a turn of the loop the log's reader is tried 16 times at most, whether the loop calls a house, an
 /// [`EarlyDay`](keep_serving::EarlyDay) before it, or one with a lookout between them ([`Behind`](keep_behind::Behind)).
 pub fn a_turn_tries_the_reader_little<
@@ -90,4 +104,19 @@ pub fn a_turn_without_a_change_spares_disks<
     M: Lanes,
 >()
     ensures { SparesLaw S.written S.failures S.tries T.remaining T.written T.calls O.log D.is_known D.state I.calls ⟦<L as SeenLanes>⟧.seen L.host_port E.is_known E.state M.due_by }
+{}
+
+/// The law that in every run of turns whoever is told `ok` has asked for something before, and it is done. The record of a change is among
+/// those of the journal then, and on the disk: whatever a crash leaves has it. Where nothing keeps changes nothing is done but for a need.
+pub fn whoever_is_told_ok_has_it<
+    S: LogSink,
+    T: Talk,
+    O: Door<T>,
+    D: Disk,
+    I: Inputs + SecretFiles,
+    L: Lanes,
+    E: Disk,
+    M: Lanes,
+>()
+    ensures { AcknowledgedLaw S.written S.failures S.tries T.remaining T.written T.calls O.log D.is_known D.state I.calls ⟦<L as SeenLanes>⟧.seen L.host_port E.is_known E.state M.due_by }
 {}

@@ -10,11 +10,12 @@ use Rattle.keep_change.specs.declared.row.Row.{Row}
 use Rattle.keep_clock.specs.Rests.{rest_until, shorter}
 use Rattle.keep_clock.specs.declared.reading.Reading.{Reading}
 use Rattle.keep_clock.specs.declared.rest.TheConstants.{TRY_AGAIN}
-use Rattle.keep_disk.specs.State.{DiskState}
+use Rattle.keep_disk.specs.State.{DiskState, LeavesOnly}
 use Rattle.keep_disk.specs.declared.fault.DiskFault.{DiskFault}
 use Rattle.keep_files.specs.Files.{Files}
 use Rattle.keep_inventory.specs.Inventories.{Inventory}
-use Rattle.keep_journal.specs.Journals.{JournalIsWhole}
+use Rattle.keep_journal.specs.Journals.{CrashLeaves, JournalIsWhole}
+use Rattle.keep_journal.specs.Records.{StandsFor}
 use Rattle.keep_proving.specs.declared.candidate.Candidate.{Candidate}
 use Rattle.keep_state.specs.Settles.{IsCopied, IsSettledState, IsWhyUnsettledState}
 use Rattle.keep_state.specs.States.{Kept, book_in, store_in}
@@ -23,7 +24,7 @@ use Rattle.keep_state.specs.declared.fault.TableFault.{TableFault}
 use Rattle.keep_store.specs.Books.{HasSecrets, IsBookIf}
 use Rattle.keep_store.specs.Compacted.{compacted_lines, is_worth}
 use Rattle.keep_store.specs.Records.{records_in}
-use Rattle.keep_store.specs.Stores.{ChangeIsTaken, IsWhyUntaken, journal_of, lines_in}
+use Rattle.keep_store.specs.Stores.{ChangeIsTaken, IsWhyUntaken, journal_of, lines_in, path_of_store}
 use Rattle.keep_store.specs.declared.secret.Secret.{Secret}
 use Rattle.keep_waiting.specs.Keepers.{InventoryIsGiven, waiting_in}
 use Rattle.keep_secrets.specs.Looking.{begun_anew}
@@ -56,7 +57,8 @@ SaysWhy {F} Is words (Some why) = (fault : F) × (Is fault × (why ≡ words fau
 abbrev pub AreCompacted : List (List ℕ) → List (List ℕ) → Type 0
 AreCompacted old new = (new ≡ old) ⊎ ((is_worth old ≡ true) × (new ≡ compacted_lines old))
 
--- the change is taken, and then its record is on the disk; afterwards records may go that are void, which changes nothing of what is kept
+-- the change is taken, and then its record is on the disk; afterwards records may go that are void, which changes nothing of what is kept, and
+-- a crash meanwhile leaves all lines or those that stay
 pub record IsTakenOn {D : Type 0} (known : Bool) (seen : D → DiskState) (now : ℕ) (name : List ℕ) (w : What) (old new : Kept D) : Type 0 where
   pub mid : Kept D
   pub need : Bool
@@ -64,6 +66,8 @@ pub record IsTakenOn {D : Type 0} (known : Bool) (seen : D → DiskState) (now :
   pub waiting : waiting_in mid.keeper ≡ (if need then waiting_in old.keeper else changed (waiting_in old.keeper) now)
   pub acknowledged : IsTrue known → JournalIsWhole (journal_of (store_in mid)) (seen mid.disk)
   pub lines : AreCompacted (lines_in (store_in mid)) (lines_in (store_in new))
+  pub left : IsTrue known → LeavesOnly (seen mid.disk) (seen new.disk) (CrashLeaves (path_of_store (store_in mid)) (λ file. StandsFor file (compacted_lines (lines_in (store_in mid)))) (seen mid.disk))
+  pub path : path_of_store (store_in new) ≡ path_of_store (store_in mid)
   pub book : book_in new ≡ book_in mid
   pub still : waiting_in new.keeper ≡ waiting_in mid.keeper
 

@@ -1,15 +1,19 @@
 //! The state of an agent on a disk.
-ghost use Rattle.std.specs.Prelude.{◌≡◌, ◌++◌, ◌||◌, ℕ, List, IfErr, IfOk, IfSome, None, OnErr, OnOk, Ok, Option, Some, false, nat_le, take, true};
+ghost use Rattle.std.specs.Prelude.{◌≡◌, ◌++◌, ◌||◌, ℕ, List, IfErr, IfOk, IfSome, IsTrue, None, OnErr, OnOk, Ok, Option, Some, false, nat_le, take, true};
 ghost use Rattle.keep_agent.specs.Waiting.{changed};
 ghost use Rattle.keep_change.specs.declared.replaying.Note.{Note};
 ghost use Rattle.keep_inventory.specs.Inventories.{Inventory};
 ghost use Rattle.keep_served.specs.ForGood.{inventory_for_good};
+ghost use Rattle.keep_disk.specs.State.{LeavesOnly};
 ghost use Rattle.keep_disk.specs.declared.fault.DiskFault.{DiskFault};
+ghost use Rattle.keep_journal.specs.Journals.{CrashLeaves};
+ghost use Rattle.keep_journal.specs.Records.{StandsFor};
 ghost use Rattle.keep_state.specs.Settles.{IsCopied};
 ghost use Rattle.keep_state.specs.States.{book_in, store_in};
 ghost use Rattle.keep_store.specs.Books.{IsBookIf};
+ghost use Rattle.keep_store.specs.Compacted.{compacted_lines};
 ghost use Rattle.keep_store.specs.Records.{records_in};
-ghost use Rattle.keep_store.specs.Stores.{IsWhyUntaken, lines_in};
+ghost use Rattle.keep_store.specs.Stores.{IsWhyUntaken, lines_in, path_of_store};
 ghost use Rattle.keep_waiting.specs.Keepers.{waiting_in};
 ghost use Rattle.house_ledger.specs.Ledgers.{AreCompacted, FilledWith, IsFilledOn, IsTakenOn, ReloadsOn, StaysOnDisk, apart_line, ledger_rest, rest_while};
 ghost use Rattle.house_words.specs.Noting.{left_lines, said_notes};
@@ -288,6 +292,9 @@ fn compact_if<D: Disk>(state: &mut State<'_, D>)
     ensures lines { AreCompacted (lines_in (store_in state.old)) (lines_in (store_in state.new)) }
     ensures book { book_in state.new ≡ book_in state.old }
     ensures waiting { waiting_in state.new.keeper ≡ waiting_in state.old.keeper }
+    ensures path { path_of_store (store_in state.new) ≡ path_of_store (store_in state.old) }
+    ensures any_moment { IsTrue D.is_known → LeavesOnly (D.state state.old.disk) (D.state state.new.disk)
+        (CrashLeaves (path_of_store (store_in state.old)) (λ file. StandsFor file (compacted_lines (lines_in (store_in state.old)))) (D.state state.old.disk)) }
 {
     let _compacted = state.compact();
 }

@@ -46,7 +46,7 @@ written_words settling.OutOfMemory = codes "out of memory"
 
 -- why a change of the entry of that name is not taken
 abbrev pub take_words : ℕ → List ℕ → What → TakeFault → List ℕ
-take_words margin name w takes.Unread = codes "the file may have been written by a settle that failed: reload it first"
+take_words margin name w takes.Unread = codes "a restart may read another file: reload it first"
 take_words margin name w takes.NoRecord = codes "no journal can write it"
 take_words margin name w (takes.Refused fault) = change_fault_text margin name w fault
 take_words margin name w (takes.Unwritten fault) = written_words fault

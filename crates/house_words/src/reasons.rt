@@ -32,10 +32,7 @@ pub fn take_words(
     ensures { IfOk result (λ text. text ≡ take_words margin name.now what.now fault) }
 {
     match fault {
-        TakeFault::Unread => Text::of(
-            alloc,
-            b"the file may have been written by a settle that failed: reload it first",
-        ),
+        TakeFault::Unread => Text::of(alloc, b"a restart may read another file: reload it first"),
         TakeFault::NoRecord => Text::of(alloc, b"no journal can write it"),
         TakeFault::Refused(fault) => why(alloc, margin, name, what, fault),
         TakeFault::Unwritten(fault) => written_words(alloc, b"", fault),

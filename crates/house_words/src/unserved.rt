@@ -1,6 +1,6 @@
 //! Why a file is not served, in words.
-ghost use Rattle.std.specs.Prelude.{◌≡◌, ◌++◌, ◌∷◌, [], IfOk, OnOk, map, take};
-ghost use Rattle.house_words.specs.Noting.{AreWhysNotServed, more_faults, said_faults};
+ghost use Rattle.std.specs.Prelude.{◌≡◌, ◌++◌, IfOk, OnOk, map, take};
+ghost use Rattle.house_words.specs.Noting.{AreWhysNotServed, IsAlone, more_faults, said_faults};
 ghost use Rattle.house_words.specs.Reasons.{file_words, more_words};
 ghost use Rattle.house_words.specs.Rereading.{SaysIfFaulty};
 
@@ -48,16 +48,16 @@ fn words_of(
     match read_served(alloc, bytes) {
         Ok(served) => said_faults(alloc, demands, served.inventory().forest(), faults),
         Err(InvFault::OutOfMemory) => Err(AllocError),
-        Err(fault) => alone(alloc, words_of_fault(alloc, bytes, fault)?),
+        Err(fault) => alone(alloc, bytes, fault),
     }
 }
 
-// One line.
-fn alone(alloc: Global, why: Text) -> Result<Vec<Text>, AllocError>
-    ensures { IfOk result (λ whys. whys.items ≡ why ∷ []) }
+// The one line of a text that is no inventory.
+fn alone(alloc: Global, bytes: &[u8], fault: InvFault) -> Result<Vec<Text>, AllocError>
+    ensures { IfOk result (λ whys. IsAlone bytes.now fault whys.items) }
 {
     let mut whys = Vec::new(alloc);
-    whys.push(why)?;
+    whys.push(words_of_fault(alloc, bytes, fault)?)?;
     Ok(whys)
 }
 

@@ -159,6 +159,7 @@ fn is_news(margin: u64, last: Option<u64>, reach: u64) -> bool
 /// How long before its reach an entry has to be issued again.
 ///
 /// Source: Vault, "Vault Agent" (auto-auth, templates): what it obtains it obtains again with a twentieth of its life left at the least.
+#[tactic(auto, unfolding(crate::specs::Shorts::notice_of))]
 fn notice_of(margin: u64, step: u64) -> u64
     ensures { result ≡ notice_of margin step }
 {

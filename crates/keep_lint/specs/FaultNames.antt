@@ -1,10 +1,11 @@
 -- FaultNames: what an entry of a text that is no inventory is called.
 -- Source: this project's own; docs/commands/lint.md.
-use Rattle.std.specs.Prelude.{ℕ, zero, ◌+◌, ◌-◌, ◌==◌, ◌&&◌, Bool, not, nat_le, nat_lt, if◌then◌else◌, List, ◌++◌, Option, Some, None, Result, Ok, Err, codes, decimal, length}
+use Rattle.std.specs.Prelude.{ℕ, ◌+◌, ◌-◌, ◌==◌, ◌&&◌, Bool, not, nat_le, nat_lt, if◌then◌else◌, List, ◌++◌, Option, Some, None, Result, Ok, Err, codes, decimal, length}
 use Rattle.std.specs.Char.{is_ascii_graphic}
 use Rattle.std.specs.List.{list_all}
-use Rattle.toml.specs.Data.{Data, array, string, table, Items, no_items, item, Members, get_item, get_member}
+use Rattle.toml.specs.Data.{Data, array, string, table, Items, no_items, Members, get_item, get_member}
 use Rattle.keep_inventory.specs.Keys.{key_text}
+use Rattle.keep_inventory.specs.Written.{count_of}
 use Rattle.keep_inventory.specs.declared.fault.InvFault.{InvFault}
 use Rattle.keep_inventory.specs.declared.key.Key.{Key}
 use Rattle.keep_inventory.specs.declared.key.Key.TheVariants.{Name, Token, Lease}
@@ -17,10 +18,6 @@ items_in other = no_items
 -- the tables at a key of a document
 abbrev pub tables_at : Key → Members → Items
 tables_at key ms = items_in (get_member (key_text key) ms)
-
-abbrev pub count : Items → ℕ
-count no_items = 0
-count (item d ds) = count ds + 1
 
 abbrev pub text_in : Option Data → Option (List ℕ)
 text_in (Some (string s)) = Some s
@@ -54,7 +51,7 @@ called_at kind tables place = called kind place (name_in (get_item place tables)
 -- the entry at an index of a document: all tokens first
 unfoldable pub called_in : Members → ℕ → List ℕ
 called_in ms i =
-    let tokens = count (tables_at Token ms) in
+    let tokens = count_of (tables_at Token ms) in
     if nat_lt i tokens then called_at (codes "token") (tables_at Token ms) i else called_at (codes "lease") (tables_at Lease ms) (i - tokens)
 
 abbrev pub called_if : Result Members InvFault → ℕ → List ℕ

@@ -1,7 +1,7 @@
 -- FaultPlaces: the lines of keys and tables, counted from 1; 0 where none is found. `found` is what each line begins, `heads` the lines of the
 -- tables of entries.
 -- Source: this project's own; docs/commands/lint.md.
-use Rattle.std.specs.Prelude.{◌≡◌, ◌⊎◌, ℕ, ◌+◌, ◌-◌, ◌==◌, Bool, false, if◌then◌else◌, List, [], ◌∷◌, Option, Some, None, drop, filter, is_some, length, slice_get, take}
+use Rattle.std.specs.Prelude.{◌≡◌, ◌⊎◌, ℕ, ◌+◌, ◌-◌, ◌==◌, Bool, true, false, if◌then◌else◌, List, [], ◌∷◌, Option, Some, None, drop, filter, is_some, length, slice_get, take}
 use Rattle.keep_inventory.specs.declared.key.Key.{Key}
 use Rattle.keep_tree.specs.declared.entry.Kind.{Kind}
 use Rattle.keep_lint.specs.Places.{first_in}
@@ -63,11 +63,15 @@ has_key_under found key (Some head) = is_some (first_in (soughts.Key key) head (
 abbrev pub has_key : List Mark → List ℕ → ℕ → Key → Bool
 has_key found heads i key = has_key_under found key (slice_get heads i)
 
--- the first of these lines, which are those from this one on, counted from 0, that begins a table which no inventory has
+-- a line that begins a table which no inventory has
+abbrev pub is_other : Mark → Bool
+is_other marks.Other = true
+is_other mark = false
+
+-- the first of these lines, which are those from this one on, counted from 0, that does
 abbrev pub first_other : ℕ → List Mark → ℕ
 first_other at [] = 0
-first_other at (marks.Other ∷ later) = at + 1
-first_other at (mark ∷ later) = first_other (at + 1) later
+first_other at (mark ∷ later) = if is_other mark then at + 1 else first_other (at + 1) later
 
 abbrev pub line_unless_0 : ℕ → ℕ → ℕ
 line_unless_0 line other = if line == 0 then other else line

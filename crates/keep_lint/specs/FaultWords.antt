@@ -38,6 +38,7 @@ expected keys.Issued = codes "whole seconds since 1970, or a date in quotes such
 expected keys.End = codes "whole seconds since 1970, or a date in quotes such as \"2027-01-31T08:00:00Z\""
 expected keys.Need = codes "whole seconds since 1970, a date in quotes such as \"2027-01-31T08:00:00Z\", or \"always\""
 expected keys.Renewable = codes "true or false, without quotes"
+expected keys.Reissued = codes "true or false, without quotes"
 expected keys.Secret = codes "1 to 256 printable ASCII characters without blanks, in quotes, and each entry once"
 expected keys.LeaseId = codes "1 to 256 printable ASCII characters without blanks, in quotes, and each entry once"
 expected keys.SecretFile = codes "the path of a file, in quotes, or the credential itself, one of the two"
@@ -50,19 +51,28 @@ expected_at (Some i) key = expected key
 
 -- which keys a table of that kind has
 unfoldable pub keys_words : Option Kind → List ℕ
-keys_words (Some kinds.Lease) = codes "look for a misspelling; the keys are name, token, issued, end, renewable, increment, max_ttl, need, lease_id and lease_id_file"
-keys_words kind = codes "look for a misspelling; the keys are name, parent, issued, end, renewable, increment, period, max_ttl, explicit_max_ttl, need, secret and secret_file"
+keys_words (Some kinds.Lease) = codes "look for a misspelling; the keys are name, token, issued, end, renewable, increment, max_ttl, reissued, need, lease_id and lease_id_file"
+keys_words kind = codes "look for a misspelling; the keys are name, parent, issued, end, renewable, increment, period, max_ttl, explicit_max_ttl, reissued, need, secret and secret_file"
 
 -- ---- a value
 
-unfoldable pub value_problem : Option ℕ → Key → List ℕ
-value_problem None keys.Token = codes "is not an array of tables"
-value_problem None keys.Lease = codes "is not an array of tables"
-value_problem entry keys.Secret = codes "is none, or another entry of this kind has it"
-value_problem entry keys.LeaseId = codes "is none, or another entry of this kind has it"
-value_problem entry keys.SecretFile = codes "is no path, or stands beside the credential itself"
-value_problem entry keys.LeaseIdFile = codes "is no path, or stands beside the credential itself"
-value_problem entry key = codes "is of the wrong type or out of range"
+-- at a key of the top level
+unfoldable pub problem_of_top : Key → List ℕ
+problem_of_top keys.Token = codes "is not an array of tables"
+problem_of_top keys.Lease = codes "is not an array of tables"
+problem_of_top key = codes "is of the wrong type or out of range"
+
+-- at a key of an entry
+unfoldable pub problem_of_entry : Key → List ℕ
+problem_of_entry keys.Secret = codes "is none, or another entry of this kind has it"
+problem_of_entry keys.LeaseId = codes "is none, or another entry of this kind has it"
+problem_of_entry keys.SecretFile = codes "is no path, or stands beside the credential itself"
+problem_of_entry keys.LeaseIdFile = codes "is no path, or stands beside the credential itself"
+problem_of_entry key = codes "is of the wrong type or out of range"
+
+abbrev pub value_problem : Option ℕ → Key → List ℕ
+value_problem None key = problem_of_top key
+value_problem (Some i) key = problem_of_entry key
 
 -- ---- the tree of entries
 

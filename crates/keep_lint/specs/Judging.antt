@@ -57,7 +57,7 @@ facts_of s whole i =
       margin = written_margin s;
       whole = whole;
       is_token_like = is_token_like e.name;
-      is_open = is_open s.open.items i;
+      is_open = is_open s.open_files.items i;
       is_told = is_told s.served.notes i;
       lacks_step = (t.period == 0) && not (writes_increment s.places.marks.items s.places.heads.items i);
       end = e.end;

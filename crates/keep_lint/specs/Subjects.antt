@@ -13,7 +13,7 @@ pub record IsSubject (text : List ℕ) (open_files : List Bool) (now timeout : �
   pub reads : read_served text ≡ Ok s.served
   pub for_good : s.inventory ≡ served_for_good s.served
   pub carries : IsCarried s.inventory.forest 0 s.carried
-  pub files : s.open.items ≡ open_files
+  pub files : s.open_files.items ≡ open_files
   pub marks : s.places.marks.items ≡ marks_of text
   pub heads : s.places.heads.items ≡ heads_of (marks_of text)
   pub at_now : s.at ≡ now

@@ -6,7 +6,8 @@ ghost use Rattle.toml.specs.Data.{get_item, get_member};
 ghost use Rattle.toml.specs.View.{items_view, table_view, view};
 ghost use Rattle.keep_inventory.specs.Inventory.{document_tree};
 ghost use Rattle.keep_inventory.specs.Keys.{key_text};
-ghost use Rattle.keep_lint.specs.FaultNames.{called, called_at, called_if, called_in, count, is_shown_name, items_in, name_in, numbered, tables_at, text_in};
+ghost use Rattle.keep_inventory.specs.Written.{count_of};
+ghost use Rattle.keep_lint.specs.FaultNames.{called, called_at, called_if, called_in, is_shown_name, items_in, name_in, numbered, tables_at, text_in};
 
 use crate::naming::label_of;
 use keep_inventory::{InvFault, Key, read_document};
@@ -64,7 +65,7 @@ fn items_in(value: Option<&Value>) -> &[Value]
 
 #[tactic(auto, using(crate::proofs::Names::counted))]
 fn count(tables: &[Value]) -> usize
-    ensures { result ≡ count (items_view tables.now) }
+    ensures { result ≡ count_of (items_view tables.now) }
 {
     tables.len()
 }
@@ -75,7 +76,6 @@ fn called_at(alloc: Global, kind: &str, tables: &[Value], place: u32) -> Result<
     called(alloc, kind, place, name_in(item_at(tables, place)))
 }
 
-#[tactic(auto, using(crate::proofs::Names::got_item))]
 fn item_at(tables: &[Value], place: u32) -> Option<&Value>
     ensures { option_map (λ v. view v.now) result ≡ get_item place (items_view tables.now) }
 {

@@ -1,10 +1,10 @@
 //! What is said of a text that is no inventory: its first fault, with its place and what helps. No part of a value is in it, since that
 //! may be a credential; the name of an entry is, unless it may be a token's value.
-ghost use Rattle.std.specs.Prelude.{◌≡◌, ◌≤◌, ◌++◌, IfOk, codes, length, string_bytes};
+ghost use Rattle.std.specs.Prelude.{◌≡◌, ◌≤◌, ◌++◌, IfOk, codes, filter, length, string_bytes};
 ghost use Rattle.std.specs.Str.{is_utf8};
 ghost use Rattle.keep_inventory.specs.Keys.{key_text};
-ghost use Rattle.keep_lint.specs.FaultPlaces.{IsSomeLine, line_at};
-ghost use Rattle.keep_lint.specs.FaultWords.{IsLineOf, IsSaidOf, called_of, entry_of, expected, expected_at, expected_of_top, fault_entry, fault_key, fault_mend, fault_problem, keys_words, over_key, syntax_mend, syntax_problem, tree_key, tree_key_text, tree_mend, tree_problem, unknown_mend, unknown_problem, value_problem};
+ghost use Rattle.keep_lint.specs.FaultPlaces.{IsSomeLine, is_line_feed, line_at};
+ghost use Rattle.keep_lint.specs.FaultWords.{IsLineOf, IsSaidOf, called_of, entry_of, expected, expected_at, expected_of_top, fault_entry, fault_key, fault_mend, fault_problem, keys_words, over_key, problem_of_entry, problem_of_top, syntax_mend, syntax_problem, tree_key, tree_key_text, tree_mend, tree_problem, unknown_mend, unknown_problem, value_problem};
 
 use crate::fault_names::called_if;
 use crate::finding::{Finding, Severity};
@@ -102,8 +102,14 @@ fn line_at(bytes: &[u8], at: usize) -> u64
     requires { at ≤ length bytes.now }
     ensures { result ≡ line_at bytes.now at }
 {
-    let before = &bytes[..at];
-    before.iter().filter(|byte| **byte == b'\n').count() as u64 + 1
+    line_feeds(&bytes[..at]) as u64 + 1
+}
+
+fn line_feeds(bytes: &[u8]) -> usize
+    ensures counted { result ≡ length (filter is_line_feed bytes.now) }
+    ensures within { result ≤ length bytes.now }
+{
+    bytes.iter().filter(|byte| **byte == b'\n').count()
 }
 
 // The index of the entry of a fault.
@@ -218,16 +224,34 @@ fn unknown_problem(entry: Option<u32>) -> &'static str
     }
 }
 
-#[tactic(auto, unfolding(crate::specs::FaultWords::value_problem))]
 fn value_problem(entry: Option<u32>, key: Key) -> &'static str
     ensures { result.now ≡ value_problem entry key }
 {
-    match (entry, key) {
-        (None, Key::Token | Key::Lease) => "is not an array of tables",
-        (_, Key::Secret | Key::LeaseId) => "is none, or another entry of this kind has it",
-        (_, Key::SecretFile | Key::LeaseIdFile) => {
-            "is no path, or stands beside the credential itself"
-        }
+    match entry {
+        None => problem_of_top(key),
+        Some(_) => problem_of_entry(key),
+    }
+}
+
+// What is wrong with the value at a key of the top level.
+#[tactic(auto, unfolding(crate::specs::FaultWords::problem_of_top))]
+fn problem_of_top(key: Key) -> &'static str
+    ensures { result.now ≡ problem_of_top key }
+{
+    match key {
+        Key::Token | Key::Lease => "is not an array of tables",
+        _ => "is of the wrong type or out of range",
+    }
+}
+
+// What is wrong with the value at a key of an entry.
+#[tactic(auto, unfolding(crate::specs::FaultWords::problem_of_entry))]
+fn problem_of_entry(key: Key) -> &'static str
+    ensures { result.now ≡ problem_of_entry key }
+{
+    match key {
+        Key::Secret | Key::LeaseId => "is none, or another entry of this kind has it",
+        Key::SecretFile | Key::LeaseIdFile => "is no path, or stands beside the credential itself",
         _ => "is of the wrong type or out of range",
     }
 }

@@ -26,7 +26,7 @@ pub(crate) fn facts_of(subject: &Subject, whole: Option<Whole>, index: u32) -> F
         margin: written_margin(subject),
         whole,
         is_token_like: is_token_like(entry.name.list()),
-        is_open: is_open(&subject.open, index as usize),
+        is_open: is_open(&subject.open_files, index as usize),
         is_told: is_told(subject, index),
         lacks_step: terms.period == 0 && !writes_increment(subject, index as usize),
         end: entry.end,
@@ -59,10 +59,10 @@ fn written_margin(subject: &Subject) -> Option<u32>
     }
 }
 
-fn is_open(open: &[bool], index: usize) -> bool
-    ensures { result ≡ is_open open.now index }
+fn is_open(open_files: &[bool], index: usize) -> bool
+    ensures { result ≡ is_open open_files.now index }
 {
-    match open.get(index) {
+    match open_files.get(index) {
         None => false,
         Some(is_open) => *is_open,
     }

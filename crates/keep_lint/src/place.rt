@@ -1,6 +1,6 @@
 //! The lines of entries, keys and faults, counted from 1.
 ghost use Rattle.std.specs.Prelude.{◌≡◌, slice_get};
-ghost use Rattle.keep_lint.specs.FaultPlaces.{first_other, has_key, kind_at, kind_if, kind_in, kind_of, line_from, line_of, line_unless_0, sought_line, unknown_line, unknown_top_line};
+ghost use Rattle.keep_lint.specs.FaultPlaces.{first_other, has_key, is_other, kind_at, kind_if, kind_in, kind_of, line_from, line_of, line_unless_0, sought_line, unknown_line, unknown_top_line};
 
 use crate::mark::Mark;
 use crate::places::{Sought, first_in};
@@ -89,11 +89,17 @@ fn first_other(marks: &[Mark]) -> u64
     ensures { result ≡ first_other 0 marks.now }
 {
     for at in 0..marks.len() {
-        if matches!(marks[at], Mark::Other) {
+        if is_other(marks[at]) {
             return (at + 1) as u64;
         }
     }
     0
+}
+
+fn is_other(mark: Mark) -> bool
+    ensures { result ≡ is_other mark }
+{
+    matches!(mark, Mark::Other)
 }
 
 // The line of what is sought in the table of an entry, else its head; before all tables, where there is no entry.

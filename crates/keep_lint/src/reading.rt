@@ -16,18 +16,18 @@ use keep_served::read_for_good;
 use keep_tree::Forest;
 use std::alloc::{AllocError, Global};
 
-/// What these bytes write, to be judged at a moment by a time-out; `open` says whose files others may read or write. The only error is
+/// What these bytes write, to be judged at a moment by a time-out; `open_files` says whose files others may read or write. The only error is
 /// lack of memory.
 pub fn subject_of(
     alloc: Global,
     bytes: &[u8],
     served: Served,
-    open: Vec<bool>,
+    open_files: Vec<bool>,
     now: Moment,
     timeout: Span,
 ) -> Result<Subject, AllocError>
     requires { read_served bytes.now ≡ Ok served }
-    ensures { IfOk result (λ s. IsSubject bytes.now open.items now timeout s) }
+    ensures { IfOk result (λ s. IsSubject bytes.now open_files.items now timeout s) }
 {
     let inventory = inventory_for_good(alloc, bytes)?;
     let carried = carried_of_all(alloc, inventory.forest())?;
@@ -36,7 +36,7 @@ pub fn subject_of(
         served,
         inventory,
         carried,
-        open,
+        open_files,
         places,
         at: now,
         timeout,

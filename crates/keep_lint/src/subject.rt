@@ -15,7 +15,7 @@ pub struct Subject {
     /// What each entry carries of all needs.
     pub carried: Carried,
     /// Whether others may read or write the file of each entry's credential; of an entry that is not here they may not.
-    pub open: Vec<bool>,
+    pub open_files: Vec<bool>,
     /// Where the text has what.
     pub places: Places,
     /// The moment of the judgement.

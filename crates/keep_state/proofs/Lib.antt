@@ -7,3 +7,4 @@ pub mod Tabled
 pub mod Renewed
 pub mod Served
 pub mod Filed
+pub mod Lives

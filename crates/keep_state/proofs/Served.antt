@@ -26,6 +26,9 @@ of_folder known places s disks.OutOfMemory = tt
 pub copy_elsewhere : (copy : List ℕ) (file : File) (s t : DiskState) → LeavesOnly s t (IsAfter (MovesFile copy file) s) → LeavesOnly s t (IsAfter (SameElsewhere copy) s)
 copy_elsewhere copy file s t run = weaker s t (IsAfter (MovesFile copy file) s) (IsAfter (SameElsewhere copy) s) run (λ c left. (left.0, left.1, moves_elsewhere copy file left.0 c left.2))
 
+pub synced_elsewhere : (copy : List ℕ) (s t : DiskState) → LeavesOnly s t s.may_leave → LeavesOnly s t (IsAfter (SameElsewhere copy) s)
+synced_elsewhere copy s t run = weaker s t s.may_leave (IsAfter (SameElsewhere copy) s) run (λ c left. (c, left, (λ other apart. refl)))
+
 pub nothing_copied : (copy : List ℕ) (s : DiskState) → ((c : Image) → s.left_since s.moment c → s.may_leave c) → LeavesOnly s s (IsAfter (SameElsewhere copy) s)
 nothing_copied copy s only = started s (IsAfter (SameElsewhere copy) s) only (λ c left. (c, left, (λ other apart. refl)))
 

@@ -6,3 +6,4 @@ pub mod Noted
 pub mod Tables
 pub mod Recovers
 pub mod Opens
+pub mod Lives

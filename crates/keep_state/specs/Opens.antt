@@ -1,7 +1,7 @@
 -- Opens: what is kept from a start on.
 -- Source: this project's own.
-use Rattle.std.specs.Prelude.{◌≡◌, ◌≢◌, ℕ, List, Option, Some, None, Bool, true, false, IsTrue}
-use Rattle.keep_disk.specs.State.{DiskState, LeavesOnly}
+use Rattle.std.specs.Prelude.{◌≡◌, ◌≢◌, ℕ, List, Option, Some, None, is_none, Bool, true, false, ◌||◌, IsTrue}
+use Rattle.keep_disk.specs.State.{DiskKeeps, DiskState, LeavesOnly}
 use Rattle.keep_disk.specs.declared.fault.DiskFault.{DiskFault}
 use Rattle.keep_disk.specs.declared.fault.DiskFault.TheVariants as disks
 use Rattle.keep_journal.specs.Journals.{bytes_of_file}
@@ -10,7 +10,7 @@ use Rattle.keep_store.specs.declared.fault.FileFault.{FileFault}
 use Rattle.keep_store.specs.declared.fault.FileFault.TheVariants as files
 use Rattle.keep_store.specs.Books.{IsFileFaultOf}
 use Rattle.keep_store.specs.Records.{records_in}
-use Rattle.keep_store.specs.Stores.{BookIsFrom, lines_in}
+use Rattle.keep_store.specs.Stores.{BookIsFrom, is_sure, lines_in}
 use Rattle.keep_waiting.specs.Keepers.{waiting_in}
 use Rattle.keep_state.specs.declared.fault.OpenFault.{OpenFault}
 use Rattle.keep_state.specs.declared.fault.OpenFault.TheVariants.{Held, Disk, File, OutOfMemory}
@@ -42,10 +42,23 @@ IsWhyUnopened known file places s (Disk fault) = Unit {0}
 IsWhyUnopened known file places s (File fault) = IsFileFaultOf file fault
 IsWhyUnopened known file places s OutOfMemory = Unit {0}
 
--- the file that is served is the last good copy, unless this says why not
+-- the last good copy is on the disk as it is seen, where no call on it has failed; unless this says why it could not be synced
+abbrev pub IsSyncedTo : Bool → List ℕ → Option DiskFault → DiskState → Type 0
+IsSyncedTo known path None s = IsTrue known → s.is_sound path ≡ true → DiskKeeps path s
+IsSyncedTo known path (Some fault) s = Unit {0}
+
+abbrev pub IsCopiedIf : Bool → List ℕ → Option (List ℕ) → Option DiskFault → DiskState → Type 0
+IsCopiedIf known path None copy s = copy ≡ None
+IsCopiedIf known path (Some bytes) copy s = IsCopiedTo known path bytes copy s
+
+-- the file that is served is the last good copy, unless this says why not; or that copy is served, and was synced, unless this says why not
 abbrev pub IsCopyOf : Bool → List ℕ → Option (List ℕ) → Option FileFault → Option DiskFault → DiskState → Type 0
-IsCopyOf known path (Some bytes) None copy s = IsCopiedTo known path bytes copy s
-IsCopyOf known path file fault copy s = copy ≡ None
+IsCopyOf known path file None copy s = IsCopiedIf known path file copy s
+IsCopyOf known path file (Some fault) copy s = IsSyncedTo known path copy s
+
+-- changes are taken, unless the copy that is served could not be synced
+abbrev pub takes_changes : Option FileFault → Option DiskFault → Bool
+takes_changes fault copy = is_none fault || is_none copy
 
 -- over a folder whose journal's file stands for these lines
 pub record IsOpenedOver (lines : List (List ℕ)) {D : Type 0} (known : Bool) (file copy : Option (List ℕ)) (places : Places) (s t : DiskState) (o : Opened D) : Type 0 where
@@ -54,6 +67,7 @@ pub record IsOpenedOver (lines : List (List ℕ)) {D : Type 0} (known : Bool) (f
   pub aside : IsAside lines o.aside (lines_in (store_in o.state))
   pub put : IsTrue known → o.aside ≡ None → o.damaged ≢ 0 → IsPutAside lines places s t
   pub copied : IsCopyOf known places.copy file o.fault o.copy t
+  pub sure : is_sure (store_in o.state) ≡ takes_changes o.fault o.copy
   pub waiting : waiting_in o.state.keeper ≡ None
   pub places_are : o.state.places ≡ places
 

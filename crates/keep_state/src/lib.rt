@@ -7,6 +7,7 @@
 #![tactic(auto)]
 
 mod fault;
+mod laws;
 mod noting;
 mod opening;
 mod paths;
@@ -17,6 +18,7 @@ mod state;
 mod table;
 
 pub use fault::{OpenFault, PathsFault, ReadFault, SettleWhy, TableFault};
+pub use laws::what_was_acknowledged_is_served;
 pub use opening::{Opened, Unopened};
 pub use paths::Paths;
 pub use reading::{FileRead, read_file};

@@ -1,10 +1,10 @@
-ghost use Rattle.std.specs.Prelude.{◌≡◌, IsTrue, false, option_copied};
+ghost use Rattle.std.specs.Prelude.{◌≡◌, IsTrue, false, option_copied, true};
 ghost use Rattle.std.specs.Str.{bytes_eq};
 ghost use Rattle.keep_disk.specs.Image.{SameElsewhere};
 ghost use Rattle.keep_disk.specs.State.{IsAfter, LeavesOnly};
 ghost use Rattle.keep_journal.specs.Journals.{JournalHolds, KeepsOthers};
-ghost use Rattle.keep_store.specs.Stores.{journal_of, path_of_store};
-ghost use Rattle.keep_state.specs.Opens.{IsCopyOf};
+ghost use Rattle.keep_store.specs.Stores.{IsReplayed, book_of, is_kept, is_sure, journal_of, path_of_store};
+ghost use Rattle.keep_state.specs.Opens.{IsCopyOf, takes_changes};
 
 use crate::fault::OpenFault;
 use crate::paths::Paths;
@@ -31,7 +31,8 @@ pub struct Opened<'a, D: Disk> {
     pub damaged: usize,
     /// Why those are in the journal still; `None` where they are aside, or there were none.
     pub aside: Option<DiskFault>,
-    /// Why FILE's good copy could not be kept; `None` where it is, or FILE is not served.
+    /// Why FILE's good copy could not be kept, or synced, where it is served: no change is taken then until FILE is read anew. `None` where
+    /// it was.
     pub copy: Option<DiskFault>,
 }
 
@@ -54,7 +55,7 @@ impl<'a, D: Disk> State<'a, D> {
 
     /// What is kept from a start on, by the journal of the folder, which is held from then on: the file with these bytes and every
     /// change of the journal in order; or, where the file cannot be had or is not served, its last good copy with them. Lines of the
-    /// journal that no command has made go aside first. The file that is served is the last good copy then.
+    /// journal that no command has made go aside first. The file that is served is the last good copy then, and that copy is on the disk.
     ///
     /// # Errors
     ///
@@ -92,11 +93,11 @@ impl<'a, D: Disk> State<'a, D> {
             }
         };
         let keep_store::Opened {
-            store,
+            mut store,
             notes,
             fault,
         } = opened;
-        let copy = keep_good(&mut disk, &store, paths.copy(), fault, file);
+        let copy = keep_good(&mut disk, &mut store, paths.copy(), fault, file);
         Ok(Opened {
             lock,
             state: State {
@@ -114,19 +115,27 @@ impl<'a, D: Disk> State<'a, D> {
     }
 }
 
-// Makes the file with these bytes, where it is served, the last good copy at that path; why it could not be kept.
-#[tactic(auto, using(crate::proofs::Served::copy_elsewhere, crate::proofs::Served::nothing_copied, keep_store::proofs::Taken::others_stay))]
+// Makes the file with these bytes, where it is served, the last good copy at that path; or syncs that copy, which is served in its place.
+// Why that could not be done; where that copy could not be synced, no change is taken.
+#[tactic(auto, using(crate::proofs::Served::copy_elsewhere, crate::proofs::Served::synced_elsewhere, crate::proofs::Served::nothing_copied, keep_store::proofs::Taken::others_stay))]
 fn keep_good<D: Disk>(
     disk: &mut D,
-    store: &Store<'_>,
+    store: &mut Store<'_>,
     copy: &str,
     fault: Option<FileFault>,
     file: Option<&[u8]>,
 ) -> Option<DiskFault>
-    requires apart { bytes_eq (path_of_store store.now) copy.now ≡ false }
-    requires held { JournalHolds D.is_known (journal_of store.now) (D.state disk.old) }
+    requires apart { bytes_eq (path_of_store store.old) copy.now ≡ false }
+    requires held { JournalHolds D.is_known (journal_of store.old) (D.state disk.old) }
+    requires replayed { IsReplayed store.old }
+    requires sure { is_sure store.old ≡ true }
     ensures copied { IsCopyOf D.is_known copy.now (option_copied file.entry) fault result (D.state disk.new) }
-    ensures held { JournalHolds D.is_known (journal_of store.now) (D.state disk.new) }
+    ensures sure { is_sure store.new ≡ takes_changes fault result }
+    ensures book { book_of store.new ≡ book_of store.old }
+    ensures journal { journal_of store.new ≡ journal_of store.old }
+    ensures kept { is_kept store.new ≡ is_kept store.old }
+    ensures held { JournalHolds D.is_known (journal_of store.new) (D.state disk.new) }
+    ensures replayed { IsReplayed store.new }
 
     ensures others { IsTrue D.is_known → KeepsOthers copy.now (D.state disk.old) (D.state disk.new) }
 
@@ -134,7 +143,8 @@ fn keep_good<D: Disk>(
     ensures any_moment { IsTrue D.is_known → LeavesOnly (D.state disk.old) (D.state disk.new) (IsAfter (SameElsewhere copy.now) (D.state disk.old)) }
 {
     match (fault, file) {
+        (Some(_), _) => store.sync_copy(disk, copy).err(),
         (None, Some(bytes)) => store.keep_copy(disk, copy, bytes).err(),
-        _ => None,
+        (None, None) => None,
     }
 }

@@ -159,6 +159,7 @@ impl<'a, D: Disk> State<'a, D> {
         ensures refused { OnErr result (lines_in (store_in self.new) ≡ lines_in (store_in self.old)) }
         ensures book { book_in self.new ≡ book_in self.old }
         ensures waiting { waiting_in self.new.keeper ≡ waiting_in self.old.keeper }
+        ensures path { path_of_store (store_in self.new) ≡ path_of_store (store_in self.old) }
         ensures places { self.new.places ≡ self.old.places }
 
         // A crash at any moment leaves the lines, or those that stay.

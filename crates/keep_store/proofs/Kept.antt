@@ -2,7 +2,7 @@
 use Rattle.std.proofs.Common.{◌≡◌, ℕ, ◌≤◌, List, Bool, true, false, IsTrue, IfErr, Result, Ok, Err, sym, ap, ◌∙◌}
 use Rattle.std.specs.Str.{bytes_eq}
 use Rattle.keep_disk.specs.Image.{Image}
-use Rattle.keep_disk.specs.State.{DiskState, Elapses, LeavesAlone, LeavesOnly}
+use Rattle.keep_disk.specs.State.{DiskKeeps, DiskState, Elapses, LeavesAlone, LeavesOnly}
 use Rattle.keep_disk.proofs.Moments.{and_then, goes_on, started, weaker}
 use Rattle.keep_journal.specs.declared.journal.Journal.{Journal}
 use Rattle.keep_journal.specs.Journals.{CrashLeaves, JournalHolds, JournalIsAtRest, KeepsOthers, lines_of_journal, path_of_journal}
@@ -80,4 +80,12 @@ pub held_synced : (known : Bool) (journal : Journal) (target : List ℕ) (s t : 
 held_synced known journal target s t apart seen sound crash held = record {
   are_lines = held.are_lines;
   whole = λ is yes. rest_synced (path_of_journal journal) target apart s t (seen is) (sound is) (crash is) (lines_of_journal journal) journal.size (held.whole is yes);
+}
+
+-- a sync that went well, where no call on the file failed before
+pub synced_keeps : (path : List ℕ) (s t : DiskState) → (s.is_sound path ≡ true → (c : Image) → t.may_leave c → c path ≡ s.seen path) → t.is_sound ≡ s.is_sound → t.seen ≡ s.seen
+    → t.is_sound path ≡ true → DiskKeeps path t
+synced_keeps path s t durable same seen sound = record {
+  sound = sound;
+  durable = λ c left. durable (ap (λ (f : List ℕ → Bool). f path) (sym same) ∙ sound) c left ∙ ap (λ (image : Image). image path) (sym seen);
 }

@@ -35,7 +35,7 @@ lines_in store = lines_of_journal store.journal
 abbrev pub path_of_store : Store → List ℕ
 path_of_store store = path_of_journal store.journal
 
--- the file is the one that was read, as far as the store has changed it
+-- the file is the one that a start reads, as far as the store has changed it, or has synced its copy
 abbrev pub is_sure : Store → Bool
 is_sure store = store.is_sure
 

@@ -31,8 +31,8 @@ pub enum FileFault {
 /// Why a change is not taken: the first that applies, in this order. None of them holds a credential.
 #[derive(Clone, Copy, Debug, PartialEq, Eq, Error)]
 pub enum TakeFault {
-    /// The file may not be the one that was read: a settling has failed. It has to be read anew first.
-    #[error("the file may have been written: read it anew first")]
+    /// A start may read another file than the one that is served, since a settling or a sync has failed. It has to be read anew first.
+    #[error("a start may read another file: read it anew first")]
     Unread,
     /// No line of a journal can write it, as where a credential has a space.
     #[error("no journal can write it")]

@@ -22,7 +22,7 @@ pub struct Store<'a> {
     pub(crate) alloc: Global,
     pub(crate) journal: Journal<'a>,
     pub(crate) book: Book,
-    // The book's file is the one that stands at its place, as far as this store has changed it.
+    // The book's file is the one that a start reads, as far as this store has changed it, or has synced its copy.
     pub(crate) is_sure: bool,
     // It is on the disk: it was synced since it was read, or this store has put it there.
     pub(crate) is_kept: bool,
@@ -43,7 +43,7 @@ impl<'a> Store<'a> {
     ghost use Rattle.std.specs.Prelude.{◌≡◌, ◌∷◌, [], ◌++◌, ℕ, List, Ok, Err, IfErr, IfOk, OnErr, OnOk, IsTrue, true, false, option_copied};
     ghost use Rattle.std.specs.Str.{bytes_eq};
     ghost use Rattle.keep_disk.specs.Image.{Image};
-    ghost use Rattle.keep_disk.specs.State.{IsAfter, LeavesOnly, OutcomesFollow, TellsFailure};
+    ghost use Rattle.keep_disk.specs.State.{DiskKeeps, IsAfter, LeavesOnly, OutcomesFollow, TellsFailure};
     ghost use Rattle.keep_disk.specs.Torn.{MovesFile};
     ghost use Rattle.keep_journal.specs.Journals.{CrashLeaves, FileIsThere, JournalHolds, JournalIsWhole, KeepsOthers};
     ghost use Rattle.keep_journal.specs.Records.{IsBeforeOrAfter, IsRecordLine, StandsFor};
@@ -266,6 +266,34 @@ impl<'a> Store<'a> {
         ensures cause { TellsFailure (D.state disk.old) (D.state disk.new) result }
     {
         replace(disk, copy, FILE_MODE, bytes)
+    }
+
+    /// Syncs the last good copy, which is served in the place of the file. Where that fails, a start may read another one: no change is
+    /// taken then, until the file is read anew.
+    #[tactic(auto, using(crate::proofs::Kept::seen_once))]
+    pub fn sync_copy<D: Disk>(&mut self, disk: &mut D, copy: &str) -> Result<(), DiskFault>
+        requires apart { bytes_eq (path_of_store self.old) copy.now ≡ false }
+        requires held { JournalHolds D.is_known (journal_of self.old) (D.state disk.old) }
+        requires replayed { IsReplayed self.old }
+        ensures durable { OnOk result (IsTrue D.is_known → (D.state disk.new).is_sound copy.now ≡ true → DiskKeeps copy.now (D.state disk.new)) }
+        ensures sure { OnOk result (is_sure self.new ≡ is_sure self.old) }
+        ensures unsure { OnErr result (is_sure self.new ≡ false) }
+        ensures book { book_of self.new ≡ book_of self.old }
+        ensures journal { journal_of self.new ≡ journal_of self.old }
+        ensures kept { is_kept self.new ≡ is_kept self.old }
+        ensures held { JournalHolds D.is_known (journal_of self.new) (D.state disk.new) }
+        ensures replayed { IsReplayed self.new }
+        ensures others { IsTrue D.is_known → KeepsOthers copy.now (D.state disk.old) (D.state disk.new) }
+        ensures any_moment { IsTrue D.is_known → LeavesOnly (D.state disk.old) (D.state disk.new) (D.state disk.old).may_leave }
+        ensures cause { TellsFailure (D.state disk.old) (D.state disk.new) result }
+    {
+        match disk.sync(copy) {
+            Ok(()) => Ok(()),
+            Err(fault) => {
+                self.is_sure = false;
+                Err(fault)
+            }
+        }
     }
 
     /// The inventory that is to be served. The only error is lack of memory.

@@ -27,23 +27,23 @@ pub struct Doubted {
 }
 
 /// The faults for which `serve` refuses these bytes of an inventory, all that can be told beside each other, and the doubts about it at a
-/// moment; `open` says of which entries others may read or write the file. The only error is lack of memory.
+/// moment; `open_files` says of which entries others may read or write the file. The only error is lack of memory.
 pub fn judge<I: Inputs>(
     alloc: Global,
     bytes: &[u8],
     demands: Demands,
     folder: &str,
     inputs: &mut I,
-    open: Vec<bool>,
+    open_files: Vec<bool>,
     now: Moment,
 ) -> Result<Judged, AllocError>
     ensures all { IfOk result (λ judged. AreFaults demands (I.bytes_at inputs.old) folder.now bytes.now judged.faults.items) }
     ensures first { IfOk result (λ judged. FirstIsWhy demands (I.bytes_at inputs.old) folder.now bytes.now judged.faults.items) }
-    ensures doubts { IfOk result (λ judged. AreDoubts bytes.now open.items now demands.timeout judged.doubted) }
+    ensures doubts { IfOk result (λ judged. AreDoubts bytes.now open_files.items now demands.timeout judged.doubted) }
     ensures same { (path : List ℕ) → I.bytes_at inputs.new path ≡ I.bytes_at inputs.old path }
 {
     let faults = faults_to_serve(alloc, bytes, demands, folder, inputs)?;
-    let doubted = doubted_of(alloc, bytes, open, now, demands.timeout)?;
+    let doubted = doubted_of(alloc, bytes, open_files, now, demands.timeout)?;
     Ok(Judged { faults, doubted })
 }
 
@@ -52,15 +52,15 @@ pub fn judge<I: Inputs>(
 fn doubted_of(
     alloc: Global,
     bytes: &[u8],
-    open: Vec<bool>,
+    open_files: Vec<bool>,
     now: Moment,
     timeout: u32,
 ) -> Result<Option<Doubted>, AllocError>
-    ensures { IfOk result (λ doubted. AreDoubts bytes.now open.items now timeout doubted) }
+    ensures { IfOk result (λ doubted. AreDoubts bytes.now open_files.items now timeout doubted) }
 {
     match read_served(alloc, bytes) {
         Ok(served) => {
-            let subject = subject_of(alloc, bytes, served, open, now, timeout)?;
+            let subject = subject_of(alloc, bytes, served, open_files, now, timeout)?;
             let doubts = doubts(alloc, &subject)?;
             Ok(Some(Doubted { subject, doubts }))
         }

@@ -131,7 +131,7 @@ where
     E: Sink,
 {
     match open_files(rt, read.bytes, read.folder) {
-        Ok(open) => lint_bytes(rt.alloc(), linted, read, open, inputs, out, errors),
+        Ok(open_files) => lint_bytes(rt.alloc(), linted, read, open_files, inputs, out, errors),
         Err(AllocError) => Stop::Memory.report(PROGRAM, errors),
     }
 }
@@ -145,7 +145,7 @@ fn now_of<R: Clock>(rt: &R) -> Moment {
     Moment::new(seconds.min(LAST)).unwrap()
 }
 
-/// Writes every fault of an inventory that was read and every doubt about it, and counts them on `errors`; `open` says of which entries
+/// Writes every fault of an inventory that was read and every doubt about it, and counts them on `errors`; `open_files` says of which entries
 /// others may read or write the file.
 ///
 /// Exit 1: `serve` refuses it. Exit 0: `serve` takes it. Exit 6: a write failed. Exit 7: memory was refused.
@@ -154,7 +154,7 @@ pub fn lint_bytes<I: Inputs, W: Sink, E: Sink>(
     alloc: Global,
     linted: Linted<'_>,
     read: &Read<'_>,
-    open: Vec<bool>,
+    open_files: Vec<bool>,
     inputs: &mut I,
     out: &mut W,
     errors: &mut E,
@@ -168,7 +168,7 @@ pub fn lint_bytes<I: Inputs, W: Sink, E: Sink>(
         demands,
         read.folder,
         inputs,
-        open,
+        open_files,
         read.at,
     ) else {
         return Stop::Memory.report(PROGRAM, errors);

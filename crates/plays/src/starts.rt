@@ -172,8 +172,9 @@ fn of_state<'a>(
     failing: Failing,
     refused: Fault,
 ) -> Result<Start<MemoryLedger<'a>>, Fault> {
+    let copy = setting.state.bytes_at(alloc, paths.copy())?;
     let disk = setting.state.disk(alloc, failing);
-    let Ok(opened) = State::open(alloc, disk, paths, Some(&setting.file), None) else {
+    let Ok(opened) = State::open(alloc, disk, paths, Some(&setting.file), copy.as_deref()) else {
         return Err(refused);
     };
     let drawer = mem::replace(&mut setting.drawer, Drawer::new(alloc));

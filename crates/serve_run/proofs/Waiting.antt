@@ -1,7 +1,7 @@
 -- Waiting: the agent of a start, and why it waits or does not. For `resumed`, `wait_of` and their parts.
-use Rattle.std.proofs.Common.{◌≡◌, ◌≢◌, ℕ, Bool, true, false, List, Option, Some, None, Result, Ok, Err, arith, inl, inr, refl, subst, sym}
+use Rattle.std.proofs.Common.{◌≡◌, ◌≢◌, ◌∙◌, ◌↔◌, ℕ, Bool, true, false, List, Option, Some, None, Result, Ok, Err, ap, arith, inl, inr, refl, subst, sym, true≢false}
 use Rattle.std.proofs.lemmas.Bool.Decides.{nat_tests}
-use Rattle.std.specs.Prelude.{IfOk, codes, nat_eq}
+use Rattle.std.specs.Prelude.{IfOk, IsTrue, codes, nat_eq}
 use Rattle.std.specs.declared.alloc.AllocError.{AllocError}
 use Rattle.house_log.specs.LogDesk.{Desk, HearsAtStart}
 use Rattle.keep_agent.specs.Agent.{Agent, fresh}
@@ -37,7 +37,11 @@ some_part a b now part until (Err e) some same at h = tt
 -- ---- why it does not, or does
 
 pub not_again : (now : Reading) (part : ℕ) (a : Agent) (again : Option Inventory) (old new : Desk) → again ≡ None → new ≡ old → IsNoWait now part a again old new
-not_again now part a again old new none silent = record { why = inl none; silent = silent }
+not_again now part a again old new none silent = record { why = inl (λ is. let e : Some a.inventory ≡ None = sym is ∙ none in cc); silent = silent }
+
+pub not_same : (now : Reading) (part : ℕ) (a : Agent) (inventory : Inventory) (again : Option Inventory) (serves : Bool) (old new : Desk) → again ≡ Some inventory → IsTrue serves ↔ (inventory ≡ a.inventory) → serves ≡ false → new ≡ old → IsNoWait now part a again old new
+not_same now part a inventory again serves old new some same is_not silent =
+    record { why = inl (λ is. let e : Some inventory ≡ Some a.inventory = sym some ∙ is in let same_is : inventory ≡ a.inventory = cc in true≢false (sym (same.1 same_is) ∙ is_not)); silent = silent }
 
 pub not_now : (now : Reading) (part : ℕ) (a : Agent) (again : Option Inventory) (is : Bool) (old new : Desk) → IsToWait a now part is → is ≡ false → new ≡ old → IsNoWait now part a again old new
 not_now now part a again is old new to_wait is_not silent = record { why = inr (subst (IsToWait a now part) is_not to_wait); silent = silent }
@@ -46,7 +50,14 @@ pub says_wait : (now : Reading) (part : ℕ) (text : List ℕ) (old new : Desk) 
 says_wait now part text old new is hears = subst (λ t. HearsAtStart now Info (codes "start") t old new) is hears
 
 pub is_wait :
-    (known : List Event) (width : ℕ) (now : Reading) (part : ℕ) (a : Agent) (inventory : Inventory) (again : Option Inventory) (is : Bool) (w : Wait) (old new : Desk) → again ≡ Some inventory → IsToWait a now part is → is ≡ true → w.until ≡ until_of now part →
+    (known : List Event) (width : ℕ) (now : Reading) (part : ℕ) (a : Agent) (inventory : Inventory) (again : Option Inventory) (serves is : Bool) (w : Wait) (old new : Desk) → again ≡ Some inventory → IsTrue serves ↔ (inventory ≡ a.inventory) → serves ≡ true → IsToWait a now part is → is ≡ true → w.until ≡ until_of now part →
     IsResumedFrom known inventory width w.shown → SaysWait now part old new → IsWait known width now part a again w old new
-is_wait known width now part a inventory again is w old new some to_wait is_so until shown said =
-    record { inventory = inventory; is = some; to_wait = subst (IsToWait a now part) is_so to_wait; until = until; shown = shown; said = said }
+is_wait known width now part a inventory again serves is w old new some same serves_it to_wait is_so until shown said =
+    let its = same.0 serves_it in
+    record {
+      is = some ∙ ap (λ s. Some s) its;
+      to_wait = subst (IsToWait a now part) is_so to_wait;
+      until = until;
+      shown = subst (λ s. IsResumedFrom known s width w.shown) its shown;
+      said = said;
+    }

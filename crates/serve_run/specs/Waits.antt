@@ -1,6 +1,6 @@
 -- Waits: the agent of a start, and its wait for its part of a spread.
 -- Source: this project's own; docs/running.md, "A fleet".
-use Rattle.std.specs.Prelude.{◌≡◌, ◌⊎◌, ℕ, ◌+◌, ◌*◌, Bool, true, false, List, ◌++◌, Option, Some, None, codes, decimal, min, nat_eq}
+use Rattle.std.specs.Prelude.{◌≡◌, ◌≢◌, ◌⊎◌, ℕ, ◌+◌, ◌*◌, Bool, true, false, List, ◌++◌, Option, Some, None, codes, decimal, min, nat_eq}
 use Rattle.house_log.specs.LogDesk.{Desk, HearsAtStart}
 use Rattle.keep_agent.specs.Agent.{Agent, fresh}
 use Rattle.keep_clock.specs.declared.reading.Reading.{Reading}
@@ -41,18 +41,17 @@ IsToWaitBy false a now part is = MayWait a (second_of_wall now.wall) (until_of n
 abbrev pub IsToWait : Agent → Reading → ℕ → Bool → Type 0
 IsToWait a now part is = IsToWaitBy (nat_eq part 0) a now part is
 
--- it waits, which is said, and this inventory is shown meanwhile
+-- it waits, which is said; meanwhile the inventory that it serves is shown, and no other
 pub record IsWait (known : List Event) (width : ℕ) (now : Reading) (part : ℕ) (a : Agent) (again : Option Inventory) (w : Wait) (old new : Desk) : Type 0 where
-  pub inventory : Inventory
-  pub is : again ≡ Some inventory
+  pub is : again ≡ Some a.inventory
   pub to_wait : IsToWait a now part true
   pub until : w.until ≡ until_of now part
-  pub shown : IsResumedFrom known inventory width w.shown
+  pub shown : IsResumedFrom known a.inventory width w.shown
   pub said : SaysWait now part old new
 
--- it does not where there is nothing to show meanwhile
+-- it does not where that is not there to be shown
 pub record IsNoWait (now : Reading) (part : ℕ) (a : Agent) (again : Option Inventory) (old new : Desk) : Type 0 where
-  pub why : (again ≡ None) ⊎ IsToWait a now part false
+  pub why : (again ≢ Some a.inventory) ⊎ IsToWait a now part false
   pub silent : new ≡ old
 
 abbrev pub WaitsFor : List Event → ℕ → Reading → ℕ → Agent → Option Inventory → Option Wait → Desk → Desk → Type 0

@@ -41,8 +41,9 @@ pub(crate) fn resumed<L: Lanes>(
 }
 
 /// The wait of a start for this agent's part of a spread, in seconds, which the log says; `None` where it has no part, or where an entry
-/// may be due by then. Meanwhile the second inventory is shown. The only error is lack of memory.
-#[tactic(auto, using(crate::proofs::Waiting::not_again, crate::proofs::Waiting::not_now, crate::proofs::Waiting::is_wait))]
+/// may be due by then. Meanwhile what is served is shown, of which this may be a second reading; where it is none, nothing is waited for.
+/// The only error is lack of memory.
+#[tactic(auto, using(crate::proofs::Waiting::not_again, crate::proofs::Waiting::not_same, crate::proofs::Waiting::not_now, crate::proofs::Waiting::is_wait))]
 pub(crate) fn wait_of<L: Lanes>(
     alloc: Global,
     serving: &Serving,
@@ -59,6 +60,10 @@ pub(crate) fn wait_of<L: Lanes>(
     let Some(again) = again else {
         return Ok(None);
     };
+    // A file that it names may have been written between the two readings.
+    if !serving.agent().serves(&again) {
+        return Ok(None);
+    }
     if !is_to_wait(alloc, serving, now, part)? {
         return Ok(None);
     }

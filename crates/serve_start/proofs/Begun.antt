@@ -7,7 +7,7 @@ use Rattle.house_words.specs.declared.demands.Demands.{Demands}
 use Rattle.keep_report.specs.declared.exit.Exit.{Exit}
 use Rattle.keep_secrets.specs.Looking.{IsBegun}
 use Rattle.keep_waiting.specs.Keepers.{waiting_in}
-use Rattle.serve_start.specs.Starts.{AddsUnheld, Begins, IsFreshLedger, IsLedgerAtStart, IsReason, IsSaidAlone, IsStart, IsStartAlone, IsWhyNotBegun, SaysUnused, StartsBy, is_unused}
+use Rattle.serve_start.specs.Starts.{AddsUnheld, Begins, IsFreshLedger, IsLedgerAtStart, IsReason, IsSaidAlone, IsServedBy, IsStart, IsStartAlone, IsWhyNotBegun, SaysUnused, StartsBy, is_unused}
 use Rattle.serve_start.specs.declared.folder.NotBegun.{NotBegun}
 use Rattle.serve_start.specs.declared.folder.NotBegun.TheVariants as nots
 use Rattle.serve_start.specs.declared.reading.Inventories.{Inventories}
@@ -35,16 +35,16 @@ alone_is_start {D} {I} {L} d has_folder why s not_begun is =
     let alone : IsStartAlone d has_folder s = subst (λ has. IsStartAlone d has s) (same_folder has_folder why not_begun) is in
     record {
       spread = alone.spread;
-      ledger = subst (λ (l : Option (Ledger D I L)). IfSome l (λ k. (has_folder ≡ true) × IsLedgerAtStart d k)) (sym alone.none) tt;
+      ledger = subst (λ (l : Option (Ledger D I L)). IfSome l (λ k. (has_folder ≡ true) × (IsLedgerAtStart d k × IsServedBy k s.inventories.served))) (sym alone.none) tt;
       without = λ _. (alone.said, alone.good);
     }
 
 pub with_ledger :
-    {D I L : Type 0} → (d : Demands) (s : Start (Ledger D I L)) (l : Ledger D I L) → s.ledger ≡ Some l → IsLedgerAtStart d l → s.part ≡ d.earlier → s.behind ≡ d.behind → (d.earlier ≡ 0 → s.inventories.again ≡ None) → IsStart d true s
-with_ledger {D} {I} {L} d s l is at_start part behind alone =
+    {D I L : Type 0} → (d : Demands) (s : Start (Ledger D I L)) (l : Ledger D I L) → s.ledger ≡ Some l → IsLedgerAtStart d l → IsServedBy l s.inventories.served → s.part ≡ d.earlier → s.behind ≡ d.behind → (d.earlier ≡ 0 → s.inventories.again ≡ None) → IsStart d true s
+with_ledger {D} {I} {L} d s l is at_start served part behind alone =
     record {
       spread = record { part = part; behind = behind; alone = alone };
-      ledger = subst (λ (k : Option (Ledger D I L)). IfSome k (λ m. (true ≡ true) × IsLedgerAtStart d m)) (sym is) (refl, at_start);
+      ledger = subst (λ (k : Option (Ledger D I L)). IfSome k (λ m. (true ≡ true) × (IsLedgerAtStart d m × IsServedBy m s.inventories.served))) (sym is) (refl, (at_start, served));
       without = λ none. absurd (let e : Some l ≡ None = sym is ∙ none in cc);
     }
 

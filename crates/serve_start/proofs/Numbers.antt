@@ -1,5 +1,5 @@
 -- Numbers: the name by which an agent has its number. For `own_number`.
-use Rattle.std.proofs.Common.{◌≡◌, ◌∙◌, ℕ, List, [], ◌∷◌, ◌++◌, ap, subst}
+use Rattle.std.proofs.Common.{◌≡◌, ◌∙◌, ℕ, List, [], ◌∷◌, ◌++◌, ap}
 use Rattle.std.specs.Prelude.{codes}
 use Rattle.keep_spread.specs.Parts.{number_of}
 use Rattle.serve_start.specs.Numbers.{IsOwnName, IsOwnNumber}

@@ -1,11 +1,15 @@
 -- Starts: what is served from the start on, and with what.
 -- Source: this project's own; docs/commands/serve.md, "Changes".
-use Rattle.std.specs.Prelude.{◌≡◌, Bool, true, false, List, [], ◌∷◌, Some, None, IfSome, Result, Ok, Err}
+use Rattle.std.specs.Prelude.{◌≡◌, Bool, true, false, List, [], ◌∷◌, None, IfSome, Result, Ok, Err}
 use Rattle.std.specs.List.{All}
 use Rattle.house_ledger.specs.declared.ledger.Ledger.{Ledger}
+use Rattle.house_words.specs.Reading.{IsWide}
 use Rattle.house_words.specs.declared.demands.Demands.{Demands}
+use Rattle.keep_inventory.specs.Inventories.{Inventory}
 use Rattle.keep_log.specs.declared.level.Level.TheVariants.{Alert}
 use Rattle.keep_secrets.specs.Looking.{IsBegun}
+use Rattle.keep_served.specs.ForGood.{inventory_for_good}
+use Rattle.keep_state.specs.States.{book_in}
 use Rattle.keep_waiting.specs.Keepers.{waiting_in}
 use Rattle.serve_start.specs.Saying.{AddsSaid, IsSaidAs}
 use Rattle.serve_start.specs.declared.folder.NotBegun.{NotBegun}
@@ -70,6 +74,10 @@ pub record IsLedgerAtStart {D I L : Type 0} (d : Demands) (l : Ledger D I L) : T
   pub still : waiting_in l.state.keeper ≡ None
   pub fresh : IsFreshLedger l
 
+-- what a ledger has served: the inventory of its book, with the margin that is demanded
+abbrev pub IsServedBy : {D I L : Type 0} → Ledger D I L → Inventory → Type 0
+IsServedBy l inventory = (narrow : Inventory) × ((inventory_for_good (book_in l.state).text ≡ Ok narrow) × IsWide l.demands (book_in l.state).text narrow inventory)
+
 -- the part of a spread is the one that is demanded, and so is the number behind another; without a part nothing is shown while a start waits
 pub record IsSpread {K : Type 0} (d : Demands) (s : Start K) : Type 0 where
   pub part : s.part ≡ d.earlier
@@ -83,10 +91,10 @@ pub record IsStartAlone {K : Type 0} (d : Demands) (has_folder : Bool) (s : Star
   pub said : IsSaidAlone has_folder s.said.items
   pub good : s.is_good ≡ true
 
--- a ledger is there only where there is a folder; and where there is a folder and no ledger, that is said
+-- a ledger is there only where there is a folder, and what it has served is served; and where there is a folder and no ledger, that is said
 pub record IsStart {D I L : Type 0} (d : Demands) (has_folder : Bool) (s : Start (Ledger D I L)) : Type 0 where
   pub spread : IsSpread d s
-  pub ledger : IfSome s.ledger (λ l. (has_folder ≡ true) × IsLedgerAtStart d l)
+  pub ledger : IfSome s.ledger (λ l. (has_folder ≡ true) × (IsLedgerAtStart d l × IsServedBy l s.inventories.served))
   pub without : s.ledger ≡ None → IsSaidAlone has_folder s.said.items × (s.is_good ≡ true)
 
 -- there is one; or why it has not begun

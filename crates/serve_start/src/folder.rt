@@ -1,7 +1,7 @@
 //! The state folder of `serve`: what is served by it, and what is said of it.
 ghost use Rattle.std.specs.Prelude.{◌≡◌, IfErr, IfOk, None, OnOk, is_some, true};
 ghost use Rattle.serve_start.specs.Refusals.{RefusesStart};
-ghost use Rattle.serve_start.specs.Starts.{Begins, IsFreshLedger, IsLedgerAtStart, IsOfFolder, IsStart};
+ghost use Rattle.serve_start.specs.Starts.{Begins, IsFreshLedger, IsLedgerAtStart, IsOfFolder, IsServedBy, IsStart};
 ghost use Rattle.serve_start.specs.declared.folder.NotBegun.TheVariants as nots;
 
 use crate::aside::set_aside;
@@ -147,8 +147,8 @@ fn hold<D: Disk>(alloc: Global, disk: &mut D, paths: &Paths, folder: &str) -> Re
     }
 }
 
-/// Keeps what cannot be read in the journal in the file aside, and says so. Where it cannot be kept the folder cannot be used, since a change
-/// would be written over it.
+/// Keeps what cannot be read in the journal in the file aside, and says so. Where it cannot be kept the folder cannot be used, since a
+/// change would be written over it.
 fn keep_unread<D: Disk>(
     alloc: Global,
     disk: &mut D,
@@ -250,6 +250,7 @@ fn filled<D: Disk, I: Inputs, L: Lanes>(
 ) -> Result<Inventories, AllocError>
     requires fresh { IsFreshLedger ledger.old }
     ensures at_start { OnOk result (IsLedgerAtStart ledger.old.demands ledger.new) }
+    ensures served { IfOk result (λ i. IsServedBy ledger.new i.served) }
     ensures alone { IfOk result (λ i. ledger.old.demands.earlier ≡ 0 → i.again ≡ None) }
 {
     push_each(
@@ -271,7 +272,8 @@ fn inventories_of<D: Disk, I: Inputs, L: Lanes>(
     alloc: Global,
     ledger: &Ledger<'_, D, I, L>,
 ) -> Result<Inventories, AllocError>
-    ensures { IfOk result (λ i. ledger.now.demands.earlier ≡ 0 → i.again ≡ None) }
+    ensures served { IfOk result (λ i. IsServedBy ledger.now i.served) }
+    ensures alone { IfOk result (λ i. ledger.now.demands.earlier ≡ 0 → i.again ≡ None) }
 {
     let served = ledger.inventory(alloc)?;
     let again = if ledger.demands.earlier == 0 {
@@ -297,7 +299,7 @@ fn say_opened<D: Disk>(
     say_damaged(alloc, paths, opened.damaged, opened.aside, said)
 }
 
-/// Says whether the file is served, and why its copy could not be kept.
+/// Says whether the file is served, and why its copy could not be kept, or synced where it is served.
 fn say_folder(
     alloc: Global,
     is_good: bool,
@@ -308,12 +310,30 @@ fn say_folder(
         let text = Text::of(alloc, b"is not served: the last good copy is")?;
         push(said, Level::Alert, About::File, text)?;
     }
-    if let Some(fault) = unkept {
-        let mut text = Vec::from_slice(alloc, b"of the file could not be kept: ")?;
-        text.extend_from_slice(disk_words(fault))?;
-        push(said, Level::Warning, About::Copy, Text::from_vec(text))?;
+    match unkept {
+        None => Ok(()),
+        Some(fault) => say_copy(alloc, is_good, fault, said),
     }
-    Ok(())
+}
+
+/// Says why the copy of the file could not be kept; or synced, where it is served and the file is not.
+fn say_copy(
+    alloc: Global,
+    is_good: bool,
+    fault: DiskFault,
+    said: &mut Vec<Said>,
+) -> Result<(), AllocError> {
+    let (level, what): (Level, &[u8]) = if is_good {
+        (Level::Warning, b"of the file could not be kept: ")
+    } else {
+        (
+            Level::Alert,
+            b"could not be synced, and no change is taken: ",
+        )
+    };
+    let mut text = Vec::from_slice(alloc, what)?;
+    text.extend_from_slice(disk_words(fault))?;
+    push(said, level, About::Copy, Text::from_vec(text))
 }
 
 /// Says how many records of the journal are damaged, and where they are.

@@ -2,6 +2,7 @@
 use Rattle.std.proofs.Common.{◌≡◌, ◌∙◌, ◌++◌, ℕ, List, ap, arith, flat_map, length}
 use Rattle.std.specs.List.{range_with_len}
 use Rattle.keep_inventory.specs.Inventories.{terms_at}
+use Rattle.keep_inventory.specs.declared.terms.Terms.{Terms}
 use Rattle.keep_tree.specs.Forest.{Forest}
 use Rattle.keep_agent.specs.declared.shorts.Short.{Short}
 use Rattle.keep_agent.specs.Shorts.{news_in, short_at, shorts_in}
@@ -13,8 +14,10 @@ pub loop-entry-preserved : goal.loop-entry-preserved
 loop-entry-preserved c =
     let f : ℕ → List Short = λ i. short_at i (terms_at c.args.inventory.now.terms i).reissued (news_in c.args.watch.now c.args.inventory.now.terms i (standing_in c.args.standings.now i).short) in
     let k = c.loop-entry.entry in
-    c.in_ok-push_short.ensures ∙ ap (λ xs. xs ++ short_at k (terms_at c.args.inventory.now.terms k).reissued c.news_in-news.result) c.loop-entry.invariant
-    ∙ ap (λ o. flat_map f (range_with_len 0 k) ++ short_at k (terms_at c.args.inventory.now.terms k).reissued o) c.news_in-news.ensures ∙ news_more f k
+    let news = news_in c.args.watch.now c.args.inventory.now.terms k (standing_in c.args.standings.now k).short in
+    c.in_ok-push_short.ensures ∙ ap (λ xs. xs ++ short_at k c.terms-reissued.result.reissued c.news_in-news.result) c.loop-entry.invariant
+    ∙ ap (λ o. flat_map f (range_with_len 0 k) ++ short_at k c.terms-reissued.result.reissued o) c.news_in-news.ensures
+    ∙ ap (λ (t : Terms). flat_map f (range_with_len 0 k) ++ short_at k t.reissued news) c.terms-reissued.ensures.value ∙ news_more f k
 
 pub returns : goal.returns
 unfolding shorts_in

@@ -1,5 +1,5 @@
 -- The doubts of one entry more are appended.
-use Rattle.std.proofs.Common.{◌≡◌, ◌∙◌, ◌++◌, ap, append_assoc, sym}
+use Rattle.std.proofs.Common.{◌∙◌, ◌++◌, ap, append_assoc, sym}
 use Rattle.keep_lint.specs.Doubts.{doubts_of_first, entry_doubts}
 use Rattle.keep_lint.proofs.Steps.{doubts_more}
 use Rattle.keep_lint.proofs.all_doubts.push_entries.Goals as goal

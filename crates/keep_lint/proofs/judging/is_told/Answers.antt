@@ -1,5 +1,5 @@
 -- The note that is read is that of the entry.
-use Rattle.std.proofs.Common.{◌≡◌, ◌∙◌, ◌<◌, List, ap, arith, get_or, length, sym}
+use Rattle.std.proofs.Common.{◌∙◌, ◌<◌, List, ap, arith, get_or, length, sym}
 use Rattle.std.proofs.lemmas.List.{get_or_read}
 use Rattle.keep_inventory.specs.Served.{no_note, note_at}
 use Rattle.keep_inventory.specs.declared.note.Note.{Note}

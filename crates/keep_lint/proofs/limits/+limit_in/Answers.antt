@@ -1,5 +1,5 @@
 -- The first limit is the entry's own, else that of its parent and of those over it.
-use Rattle.std.proofs.Common.{◌≡◌, ◌∙◌, Option, Some, None, ap, sym}
+use Rattle.std.proofs.Common.{◌≡◌, ◌∙◌, Some, None, ap, sym}
 use Rattle.keep_tree.proofs.Placed.{parents_first}
 use Rattle.keep_tree.specs.Forest.{Forest, entry_at}
 use Rattle.keep_tree.specs.declared.entry.Entry.{Entry}

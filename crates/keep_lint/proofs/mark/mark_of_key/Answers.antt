@@ -3,7 +3,6 @@ use Rattle.std.proofs.Common.{◌≡◌, ◌≢◌, ◌∙◌, ℕ, List, [], �
 use Rattle.keep_words.specs.Pieces.{pieces}
 use Rattle.keep_words.proofs.Cutting.{has_piece}
 use Rattle.keep_lint.specs.Marks.{is_key_word, mark_of_pieces, mark_of_word}
-use Rattle.keep_lint.specs.declared.mark.Mark.{Mark}
 use Rattle.keep_lint.specs.declared.mark.Mark.TheVariants as marks
 use Rattle.keep_lint.proofs.mark.mark_of_key.Goals as goal
 

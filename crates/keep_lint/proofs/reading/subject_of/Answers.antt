@@ -1,5 +1,5 @@
 -- What is read twice is the same, and there is a note and a load for each entry.
-use Rattle.std.proofs.Common.{◌≡◌, ◌∙◌, ap, arith, length, refl, subst}
+use Rattle.std.proofs.Common.{◌∙◌, ap, arith, length, refl, subst}
 use Rattle.keep_inventory.specs.Inventories.{Inventory}
 use Rattle.keep_inventory.specs.Served.{Served}
 use Rattle.keep_needs.specs.Carried.{IsCarried}

@@ -1,5 +1,5 @@
 -- The gate and the line feed are two bytes beside the line.
-use Rattle.std.proofs.Common.{◌∙◌, List, ℕ, ap, drop}
+use Rattle.std.proofs.Common.{◌∙◌, ap, drop}
 use Rattle.serve_start.proofs.SetAside.{after_block}
 use Rattle.serve_start.proofs.aside.after_record.Goals as goal
 

@@ -7,9 +7,9 @@ use Rattle.keep_journal.specs.declared.journal.Journal.{Journal}
 use Rattle.keep_journal.specs.Journals.{KeepsOthers, bytes_of_file, lines_of_journal}
 use Rattle.keep_journal.specs.Records.{lines_taken_out}
 use Rattle.keep_store.specs.Compacted.{damages}
-use Rattle.keep_store.specs.declared.store.Store.{Store}
+use Rattle.keep_store.specs.Books.{Book}
 use Rattle.keep_store.specs.Records.{records_in}
-use Rattle.keep_store.specs.Stores.{BookIsFrom, book_of, lines_in}
+use Rattle.keep_store.specs.Stores.{BookIsFrom, book_of, is_sure, journal_of}
 use Rattle.keep_state.specs.Opens.{IsCopyOf}
 use Rattle.keep_state.specs.Recovers.{IsAside}
 use Rattle.keep_state.proofs.Served.{aside_records, put_past}
@@ -34,13 +34,14 @@ returns-clause-opened g c =
       free = r.free;
       read = r.read;
       over = record {
-        book = subst (λ (st : Store). BookIsFrom file copy c.in-Ok-open.opened.fault (records_in r.lines) (book_of st) c.in-Ok-open.opened.notes.items) (sym c.new.ensures.store)
+        book = subst (λ (b : Book). BookIsFrom file copy c.in-Ok-open.opened.fault (records_in r.lines) b c.in-Ok-open.opened.notes.items) (sym (ap book_of c.new.ensures.store ∙ c.keep_good-copy.ensures.book))
             (subst (λ (rs : List Record). BookIsFrom file copy c.in-Ok-open.opened.fault rs (book_of c.in-Ok-open.opened.store) c.in-Ok-open.opened.notes.items) (aside_records r.lines _ _ r.aside) o.book);
         damaged = r.damaged;
-        aside = subst (λ (st : Store). IsAside r.lines c.in-Ok.recovered.aside (lines_in st)) (sym c.new.ensures.store) (subst (λ (j : Journal). IsAside r.lines c.in-Ok.recovered.aside (lines_of_journal j)) (sym o.journal_is) r.aside);
+        aside = subst (λ (j : Journal). IsAside r.lines c.in-Ok.recovered.aside (lines_of_journal j)) (sym (ap journal_of c.new.ensures.store ∙ c.keep_good-copy.ensures.journal ∙ o.journal_is)) r.aside;
         put = λ known none some. put_past p.copy p.aside (record { mode = 384; bytes = _ }) t u c.copy.ensures.apart.copy_aside
             (subst (λ (q : List ℕ). KeepsOthers q t u) c.copy.ensures.value (c.keep_good-copy.ensures.others known)) (run known) (g.met.D.Disk.counts_now c.keep_good-copy.new.disk) (r.put known none some);
         copied = subst (λ (q : List ℕ). IsCopyOf g.D.Disk.is_known q file c.in-Ok-open.opened.fault c.keep_good-copy.result u) c.copy.ensures.value c.keep_good-copy.ensures.copied;
+        sure = ap is_sure c.new.ensures.store ∙ c.keep_good-copy.ensures.sure;
         waiting = c.new.ensures.waiting;
         places_are = refl;
       };
