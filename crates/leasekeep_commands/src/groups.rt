@@ -8,7 +8,8 @@ use std::alloc::{AllocError, Global};
 
 pub const ABOUT: &str = "Keeps Vault tokens and leases alive with the fewest wake-ups.";
 
-const OPTIONS: &str = "\n\
+const OPTIONS: &str = "\
+
 Options:
   -h, --help     Print help
   -V, --version  Print version
