@@ -66,4 +66,4 @@ def _read(file: Path) -> Spec:
 
 def _joined(comment: list[str]) -> str:
     """The words of a comment; a line of dashes with a heading is none of it."""
-    return " ".join(line.strip(" -") if line.lstrip().startswith("-- ") else "" for line in comment if "-- ----" not in line).strip()
+    return " ".join(word for line in comment if "-- ----" not in line for word in line.strip().removeprefix("--").split())
