@@ -125,7 +125,7 @@ pub record IsWideText (d : Demands) (text wide : List ℕ) : Type 0 where
   pub settled : Served
   pub is_settled : TextIsSettled (Some (margin_for d v)) None (rows_of_served v) wide settled
 
--- a text in which there is no room for a margin of more digits: one has four at most
+-- a text in which there is no room for a margin of more digits: it has four at most
 abbrev pub is_full : List ℕ → Bool
 is_full text = nat_lt MOST_INVENTORY (length text + 3)
 

@@ -20,7 +20,7 @@ use keep_settle::settle;
 use keep_spread::{margin_by, margin_with};
 use std::alloc::{AllocError, Global};
 
-/// How many digits a margin may have more than another: the greatest is 3,600.
+/// How much longer a margin may be written than another: it has four digits at most, and a unit.
 const MORE_DIGITS: usize = 3;
 
 /// What is served by the text of an inventory: its entries, with what the files of their credentials hold, where a need that is
