@@ -59,6 +59,8 @@ impl<'a> Journal<'a> {
         ensures any_moment { IsTrue D.is_known → LeavesOnly (D.state disk.old) (D.state disk.new) (Exchanging (path_of_journal self.old) aside.now
             (record { mode = 384; bytes = bytes_of_file ((D.state disk.old).seen aside.now) ++ lines_taken_out (lines_of_journal self.old) is_damaged.now })
             (λ file. StandsFor file (lines_kept (lines_of_journal self.old) is_damaged.now)) (D.state disk.old)) }
+        ensures others { IsTrue D.is_known → (other : List ℕ) → bytes_eq (path_of_journal self.old) other ≡ false → bytes_eq aside.now other ≡ false
+            → ((D.state disk.new).seen other ≡ (D.state disk.old).seen other) × ((D.state disk.new).is_sound other ≡ (D.state disk.old).is_sound other) }
         ensures cause { TellsFailure (D.state disk.old) (D.state disk.new) result }
     {
         let before = bytes_at(self.alloc, disk, aside)?;
