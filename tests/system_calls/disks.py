@@ -105,7 +105,7 @@ def keeps_changes(stage: Stage) -> None:
             stage.check("settle", b"ok\none.toml holds every change\n", agent.asked("settle"))
             stage.check("the file is on the disk before", REPLACED, replaced(before_ok(agent.recording.calls()), "one.toml"))
             stage.check("who may read it stays", 0o640, stat.S_IMODE((stage.room / name).stat().st_mode))
-            stage.check("it holds the change", True, f"need = {NEEDED}\n" in (stage.room / name).read_text())
+            stage.check("it holds the change", True, f'need = "{DATE.decode()}"\n' in (stage.room / name).read_text())
         left = [path.name for path in (*stage.room.iterdir(), *state.iterdir()) if path.name.endswith(".new")]
         stage.check("nothing is left beside", [], left)
 

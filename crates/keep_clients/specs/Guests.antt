@@ -182,21 +182,22 @@ module _ {T : Type 0} (remaining written : T → Option (List ℕ)) (calls : T �
   abbrev pub GuestGoesOn : (List ℕ → Bool → Type 0) → ℕ → ℕ → Guest T → Guest T → Type 0
   GuestGoesOn tells most now old new = GoesOnFrom tells most now old.stage old new
 
--- it is lost for lack of memory, after one read: it was told nothing
+-- it is lost for lack of memory, after one read by which something came: it was told nothing
 pub record GuestIsLost {T : Type 0} (written : T → Option (List ℕ)) (calls : T → Option (List Call)) (old new : Guest T) : Type 0 where
   pub tried : Tried
+  pub some : 0 < count tried
   pub logged : Logs (calls old.talk) (calls new.talk) (Got tried)
   pub silent : Keeps (written old.talk) (written new.talk)
   pub over : new.stage ≡ Over
 
 -- ---- what a guest is given whose answer goes on
 
--- nothing where something is left, and else what one call writes; where memory was wanting, nothing
+-- nothing where something is left, and else what one call writes; where memory was wanting for that, nothing
 abbrev pub AddsFront : {E : Type 0} → List ℕ → Result Fed E → List ℕ → List ℕ → Type 0
 AddsFront bytes (Ok Gone) old new = ⊥
 AddsFront bytes (Ok Full) old new = (old ≢ []) × (new ≡ old)
 AddsFront bytes (Ok (Taken n)) old new = (old ≡ []) × ((new ≡ take 4096 bytes) × (n ≡ length new))
-AddsFront bytes (Err e) old new = new ≡ old
+AddsFront bytes (Err e) old new = (old ≡ []) × (new ≡ old)
 
 -- where this is left of what it was given
 abbrev pub FeedsOn : {T E : Type 0} → List ℕ → List ℕ → Result Fed E → Guest T → Guest T → Type 0

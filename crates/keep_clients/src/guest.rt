@@ -109,8 +109,8 @@ impl<T> Guest<T> {
 }
 
 impl<T: Talk> Guest<T> {
-    /// Goes on by one call of its connection at most. `room` is what a read is offered. The only error is out of memory: its
-    /// connection is to be closed.
+    /// Goes on by one call of its connection at most. `room` is what a read is offered. The only error is out of memory, where
+    /// something came: its connection is to be closed.
     pub(crate) fn go_on<F: Framing>(
         &mut self,
         room: &mut [u8],
@@ -211,10 +211,11 @@ impl<T: Talk> Guest<T> {
     }
 }
 
-/// Adds so many bytes from the front of the room.
+/// Adds so many bytes from the front of the room. The only error is out of memory, and only where there are some.
 fn add(bytes: &mut Vec<u8>, room: &[u8], count: usize) -> Result<(), AllocError>
     requires { count ≤ length room.now }
-    ensures { OnOk result (bytes.new.items ≡ bytes.old.items ++ take count room.now) }
+    ensures added { OnOk result (bytes.new.items ≡ bytes.old.items ++ take count room.now) }
+    ensures some { OnErr result (0 < count) }
 {
     bytes.extend_from_slice(&room[..count])
 }

@@ -1,7 +1,7 @@
 //! The file that says what rows say: what `settle` writes, and what is served after a change.
 //!
 //! The contract for the layers above: [`settle`] gives the text of a file with an inventory, and the inventory that is read of
-//! that text has just those rows, tokens before leases; [`settled_rows_stay`] says that settling changes nothing. Begin with `settling`, then `table`.
+//! that text has just those rows, tokens before leases; [`settled_rows_stay`] says that settling changes nothing. Begin with `settling`, then `text`.
 #![tactic(auto)]
 
 mod fault;
@@ -9,7 +9,7 @@ mod laws;
 mod order;
 mod same;
 mod settling;
-mod table;
+mod text;
 
 pub use fault::SettleFault;
 pub use laws::settled_rows_stay;

@@ -6,12 +6,11 @@ ghost use Rattle.keep_settle.specs.Settled.{TextIsSettled};
 use crate::fault::SettleFault;
 use crate::order::in_order;
 use crate::same::{are_same, is_same_span};
-use crate::table::document;
+use crate::text::{Form, file_text};
 use keep_change::{Row, listed_rows};
 use keep_inventory::{InvFault, MOST_INVENTORY, Served, read_served};
 use keep_moment::Span;
 use std::alloc::Global;
-use toml::Table;
 
 /// The text of a file, and the inventory that is read of it. It has no `Debug`: the text holds credentials.
 #[derive(Drop)]
@@ -36,8 +35,7 @@ pub fn settle(
     ensures { IfOk result (λ s. TextIsSettled margin system_max rows.now (string_bytes s.text) s.served) }
 {
     let ordered = in_order(alloc, rows)?;
-    let table = document(alloc, margin, system_max, &ordered)?;
-    let text = print(alloc, &table)?;
+    let text = print(alloc, margin, system_max, &ordered)?;
     let served = read_back(alloc, margin, system_max, text.as_bytes())?;
     let listed = listed_rows(alloc, &served)?;
     if !are_same(&listed, &ordered) {
@@ -46,15 +44,20 @@ pub fn settle(
     Ok(Settled { text, served })
 }
 
-// The text of a document, where it is not too long.
-fn print(alloc: Global, table: &Table) -> Result<String, SettleFault>
+// The text of a file that is not too long: in words, or in seconds where only that fits.
+fn print(
+    alloc: Global,
+    margin: Option<u32>,
+    system_max: Option<Span>,
+    rows: &[Row],
+) -> Result<String, SettleFault>
     ensures { IfOk result (λ text. length (string_bytes text) ≤ MOST_INVENTORY) }
 {
-    let text = match toml::table_to_string(alloc, table) {
-        Ok(text) => text,
-        Err(toml::ser::Error::OutOfMemory) => return Err(SettleFault::OutOfMemory),
-        Err(toml::ser::Error::DateInvalid) => return Err(SettleFault::Differs),
-    };
+    let text = file_text(alloc, Form::Words, margin, system_max, rows)?;
+    if text.len() <= MOST_INVENTORY {
+        return Ok(text);
+    }
+    let text = file_text(alloc, Form::Seconds, margin, system_max, rows)?;
     if text.len() > MOST_INVENTORY {
         return Err(SettleFault::TooLong);
     }

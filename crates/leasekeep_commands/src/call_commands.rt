@@ -89,9 +89,9 @@ pub const SETTLE: Described = Described {
     name: "settle",
     about: "Writes the inventory's file anew, with the changes since it was read",
     after: "\
-The whole file is written anew. Comments are lost, dates and durations become numbers of seconds,
-and keys and tables get another order. To keep a file as you wrote it, make the changes in it by
-hand, and run `leasekeep reload`.
+The whole file is written anew: tokens, then leases, with dates, and durations such as 90m.
+Comments are lost. To keep a file as you wrote it, make the changes in it by hand, and run
+`leasekeep reload`.
 
 Exit status: 0 done, 1 refused or no answer, 2 command line, 6 write, 7 memory",
     words: &[CONTROL],

@@ -1,40 +1,6 @@
-//! How the agent of a play ends before it is started again.
-use crate::fault::Fault;
+//! The agent of a play ends, and is started again.
 use crate::play::Play;
-use crate::settings::Setting;
-use crate::steps::Step;
-use crate::words::number;
-use keep_disk::{MemoryDisk, Stored};
-use std::alloc::{AllocError, Global};
-
-/// How it ends.
-#[derive(Clone, Copy)]
-pub enum Ending {
-    /// All that it has done is on the disk.
-    AtRest,
-    /// It is killed: all that it has done is seen, and of what is not synced the seed says what is on the disk.
-    Killed(u64),
-    /// The machine loses its power: of what is not synced the seed says what is left.
-    Lost(u64),
-}
-
-impl Ending {
-    /// What decides what is left, where power is lost.
-    pub fn left(self) -> Option<u64> {
-        match self {
-            Ending::Lost(seed) => Some(seed),
-            Ending::AtRest | Ending::Killed(_) => None,
-        }
-    }
-
-    /// What decides what is on the disk, where that is not all that is seen.
-    pub fn kept(self) -> Option<u64> {
-        match self {
-            Ending::Killed(seed) => Some(seed),
-            Ending::AtRest | Ending::Lost(_) => None,
-        }
-    }
-}
+use play_cases::{Ending, Fault, Setting, Step, number};
 
 impl<'a> Play<'a> {
     /// The agent ends as these words of a step say, and is started again over the same disks, of which no call fails from now on.
@@ -55,25 +21,4 @@ impl<'a> Play<'a> {
         setting.ends.ending = ending;
         self.restart(setting, step.refused())
     }
-}
-
-/// The files that stand on a disk at these paths: those that are seen, or those that a loss of power may leave by a seed.
-pub fn files_of(
-    alloc: Global,
-    disk: &MemoryDisk,
-    paths: &[&str],
-    seed: Option<u64>,
-) -> Result<Vec<Stored>, AllocError> {
-    let mut files = Vec::new(alloc);
-    for path in paths {
-        let found = match seed {
-            None => disk.file(alloc, path)?,
-            Some(seed) => disk.left(alloc, path, seed)?,
-        };
-        if let Some(file) = found {
-            let path = Vec::from_slice(alloc, path.as_bytes())?;
-            files.push(Stored { path, file })?;
-        }
-    }
-    Ok(files)
 }

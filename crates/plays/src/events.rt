@@ -1,13 +1,10 @@
 //! What happens in a play.
-use crate::fault::Fault;
 use crate::guests::{Peer, guest_named};
 use crate::play::{Play, Told};
 use crate::running::Running;
-use crate::settings::{Setting, put_file};
-use crate::steps::Step;
-use crate::words::{lane_fault, number};
 use keep_tree::Forest;
 use keep_words::push_number;
+use play_cases::{Fault, Setting, Step, lane_fault, number, put_file};
 use std::alloc::{AllocError, Global};
 use watch_machine::{Operation, Out};
 

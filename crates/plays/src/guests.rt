@@ -1,14 +1,12 @@
 //! Guests of a play, and the door that lets them in: what each does is said beforehand, and what it was sent is seen after it.
 ghost use Rattle.std.specs.Prelude.{◌≤◌, ◌≡◌, length};
 
-use crate::fault::Fault;
-use crate::steps::Step;
-use crate::words::number;
 use keep_clients::{Door, Entrance, Talk};
 use keep_device::{InputFault, Tried};
 use keep_files::Inputs;
 use keep_moment::Text;
 use keep_secrets::{FileStamp, SecretFiles};
+use play_cases::{Fault, Step, number};
 use serve_run::Doors;
 use std::alloc::{AllocError, Global};
 use std::cell::Cell;

@@ -8,22 +8,15 @@
 
 use std::process::ExitCode;
 
-mod drawers;
 mod endings;
 mod events;
-mod fault;
 mod guests;
 mod outcomes;
-mod places;
 mod play;
 mod run;
 mod running;
-mod settings;
 mod starts;
-mod steps;
 mod sweeps;
-mod texts;
-mod words;
 
 fn main(rt: HostRuntime) -> ExitCode {
     match run::run(&rt, rt.stdin()) {

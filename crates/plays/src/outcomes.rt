@@ -1,5 +1,4 @@
 //! What came of a play.
-use crate::fault::Fault;
 use crate::guests::guest_named;
 use crate::play::Play;
 use crate::running::Running;
@@ -7,6 +6,7 @@ use crate::starts::MemoryHouse;
 use keep_agent::Agent;
 use keep_clock::Call;
 use keep_words::push_number;
+use play_cases::Fault;
 use std::alloc::{AllocError, Global};
 use std::mem;
 use watch_machine::End;

@@ -1,10 +1,7 @@
 //! A play, from its start on.
-use crate::fault::Fault;
 use crate::guests::{Guest, guests_of};
 use crate::running::{MemoryLanes, Running};
-use crate::settings::{FILE, Setting};
 use crate::starts::{MemoryDay, lanes_of};
-use crate::steps::Step;
 use crate::sweeps::Disturbance;
 use keep_behind::Behind;
 use keep_clock::MemoryClock;
@@ -13,6 +10,7 @@ use keep_log::MemorySink;
 use keep_onlook::{FileReading, Standby};
 use keep_serving::EarlyDay;
 use keep_state::Paths;
+use play_cases::{FILE, Fault, Setting, Step};
 use std::alloc::Global;
 use std::mem;
 

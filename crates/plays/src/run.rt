@@ -1,8 +1,7 @@
-use crate::fault::Fault;
 use crate::play::outcomes_of;
-use crate::steps::{Case, read_case};
 use crate::sweeps::{Disturbance, swept};
 use keep_device::{Counted, read_all};
+use play_cases::{Case, Fault, read_case};
 use std::alloc::Global;
 use std::io::{self, Read, Write as _};
 

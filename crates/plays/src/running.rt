@@ -1,9 +1,7 @@
 //! An agent beside its lanes to the broker, in step with them between two turns.
 ghost use Rattle.std.specs.Prelude.{◌≡◌, []};
 
-use crate::fault::Fault;
 use crate::guests::PeerDoors;
-use crate::places::put;
 use crate::starts::{MemoryDay, MemoryLedger, MemoryParts};
 pub use broker_lanes::MemoryLanes;
 use keep_agent::Agent;
@@ -11,6 +9,7 @@ use keep_clock::{Clock, Reading};
 use keep_lanes::{LaneFault, Lanes};
 use keep_serving::{Neighbours, Serving};
 use leasekeep_commands::Served;
+use play_cases::{Fault, put};
 use serve_run::{Begun, begin};
 use serve_start::Start;
 use std::alloc::{AllocError, Global};

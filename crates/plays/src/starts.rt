@@ -1,13 +1,9 @@
 //! How the agent of a play is started: as `leasekeep serve` starts one, over what the disks hold.
 ghost use Rattle.std.specs.Prelude.{◌≡◌, [], IfOk, max, min};
 
-use crate::drawers::Drawer;
-use crate::fault::Fault;
 use crate::guests::{Peer, PeerDoor, PeerDoors};
-use crate::places::put;
 use crate::play::Play;
 use crate::running::MemoryLanes;
-use crate::settings::{BOOT, ENDS, FILE, Setting};
 use broker_table::Table;
 use house_words::wide;
 use keep_behind::Behind;
@@ -23,6 +19,7 @@ use keep_proving::Proving;
 use keep_serving::EarlyDay;
 use keep_state::{Paths, State};
 use leasekeep_commands::{Served, Socket};
+use play_cases::{BOOT, Drawer, ENDS, FILE, Fault, Setting, put};
 use serve_run::Parts;
 use serve_start::{Inventories, Start, start_with};
 use std::alloc::{AllocError, Global};

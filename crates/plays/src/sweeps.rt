@@ -1,12 +1,9 @@
 //! A case that is played again and again, where each time another call fails, and how its outcomes then differ.
-use crate::fault::Fault;
 use crate::play::outcomes_of;
-use crate::settings::Setting;
-use crate::steps::Case;
-use crate::words::{answer, number};
 use keep_disk::Failing;
 use keep_log::Answer;
 use keep_words::push_number;
+use play_cases::{Case, Fault, Setting, answer, number};
 use std::alloc::{AllocError, Global};
 
 /// What goes wrong beside what the case says.

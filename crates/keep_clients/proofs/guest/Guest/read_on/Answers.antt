@@ -17,7 +17,7 @@ returns-clause-on g c =
     let many : length came ≡ count tried = counted tried c.get-tried.new.buf c.get-tried.ensures.bound in
     let bound = within_room tried c.get-tried.new.buf c.get-tried.ensures.bound in
     let long : length c.get-tried.new.buf ≡ 4096 = c.get-tried.ensures.room ∙ c.requires.room in
-    let all : c.add.new.bytes.items ≡ c.args.bytes.items ++ came = c.in_ok-add.ensures ∙ ap (λ n. c.args.bytes.items ++ take n c.get-tried.new.buf) c.count-came.ensures in
+    let all : c.add.new.bytes.items ≡ c.args.bytes.items ++ came = c.in_ok-add.ensures.added ∙ ap (λ n. c.args.bytes.items ++ take n c.get-tried.new.buf) c.count-came.ensures in
     let here : 0 < length came → 0 < c.count-came.result = λ some. let same = c.count-came.ensures in omega arith in record {
       tried = tried;
       came = came;

@@ -1,6 +1,6 @@
 //! What a play begins with.
 use crate::drawers::{Drawer, Stamping};
-use crate::endings::{Ending, files_of};
+use crate::ending::{Ending, files_of};
 use crate::fault::Fault;
 use crate::places::put;
 use crate::steps::Step;
