@@ -7,4 +7,5 @@ pub mod Tabled
 pub mod Renewed
 pub mod Served
 pub mod Filed
+pub mod Stepping
 pub mod Lives

@@ -1,4 +1,4 @@
--- Lives: what is kept beside one FILE from one process to the next, through kills and losses of power.
+-- Lives: what is kept from one process to the next, through changes, settles, kills and losses of power.
 -- Source: this project's own.
 use Rattle.std.specs.Prelude.{◌≡◌, ◌⊎◌, ℕ, Bool, true, false, if◌then◌else◌, List, [], ◌∷◌, ◌++◌, Option, Some, None, Result, Ok, Err, bytes_eq}
 use Rattle.std.proofs.Common.{inl, inr}
@@ -10,15 +10,20 @@ use Rattle.keep_change.specs.declared.row.Row.{Row}
 use Rattle.keep_change.specs.Changes.{rows_changed}
 use Rattle.keep_change.specs.Records.{record_of}
 use Rattle.keep_change.specs.Replay.{is_as_then, replayed}
+use Rattle.keep_change.specs.Words.{fingerprint}
 use Rattle.keep_disk.specs.Image.{File, Image}
 use Rattle.keep_disk.specs.State.{DiskKeeps, DiskState, IsAfter, LeavesOnly}
 use Rattle.keep_disk.specs.Torn.{MovesFile}
-use Rattle.keep_journal.specs.Journals.{CrashLeaves, JournalIsWhole, bytes_of_file}
+use Rattle.keep_inventory.specs.Served.{Served}
+use Rattle.keep_journal.specs.Journals.{CrashLeaves, Exchanging, FileIsThere, JournalIsWhole, bytes_of_file}
 use Rattle.keep_journal.specs.Records.{IsBeforeOrAfter, StandsFor}
-use Rattle.keep_store.specs.Books.{IsFileOf}
+use Rattle.keep_settle.specs.Order.{in_order}
+use Rattle.keep_settle.specs.Settled.{TextIsSettled}
+use Rattle.keep_store.specs.Books.{IsFileOf, file_of}
 use Rattle.keep_store.specs.Compacted.{compacted_lines, is_worth}
+use Rattle.keep_store.specs.Moved.{SaysAllKept, SaysByItself, mark_line}
 use Rattle.keep_store.specs.Records.{records_in}
-use Rattle.keep_store.specs.Stores.{journal_of, lines_in, path_of_store}
+use Rattle.keep_store.specs.Stores.{is_sure, journal_of, lines_in, path_of_store}
 use Rattle.keep_state.specs.declared.opening.Opened.{Opened}
 use Rattle.keep_state.specs.Opens.{IsOpenedState}
 use Rattle.keep_state.specs.Places.{Places, PlacesAreApart}
@@ -26,7 +31,7 @@ use Rattle.keep_state.specs.Recovers.{LeftByStart}
 use Rattle.keep_state.specs.Settles.{copy_with}
 use Rattle.keep_state.specs.States.{IsKeeping, Kept, book_in, store_in}
 
--- ---- changes
+-- ---- changes and settlings
 
 abbrev pub rows_or : List Row → Result (List Row) ChangeFault → List Row
 rows_or rows (Ok new) = new
@@ -45,24 +50,50 @@ rows_if f rows (Some r) = rows_after f rows r
 abbrev pub rows_with : replays.File → List ℕ → List Row → List Row
 rows_with f line rows = rows_if f rows (record_of line)
 
--- a change, by the line that keeps it, and whether it was acknowledged
+-- what is done: a change, by the line that keeps it, which was given beside this file; or FILE becomes what is kept, with this text, which
+-- is read as that inventory
+pub data Deed : Type 0 where
+  Changed : replays.File → List ℕ → Deed
+  Settled : List ℕ → Served → Deed
+
+-- what it makes of FILE, and of the rows
+abbrev pub file_by : Deed → replays.File → replays.File
+file_by (Changed g line) f = f
+file_by (Settled text v) f = file_of text v
+
+abbrev pub rows_by : Deed → replays.File → List Row → List Row
+rows_by (Changed g line) f rows = rows_with f line rows
+rows_by (Settled text v) f rows = in_order rows
+
+-- a change that was acknowledged is made beside the very file that it was given beside; and FILE becomes a text that says all the rows
+abbrev pub MayBeDone : Deed → Bool → replays.File → List Row → Type 0
+MayBeDone (Changed g line) true f rows = f ≡ g
+MayBeDone (Changed g line) false f rows = Unit {0}
+MayBeDone (Settled text v) is_acknowledged f rows = TextIsSettled (Some f.margin) f.system_max rows text v
+
 pub record Answered : Type 0 where
-  pub line : List ℕ
+  pub deed : Deed
   pub is_acknowledged : Bool
 
--- the first rows are made the second ones by these changes in their order: by each that was acknowledged, and with or without each other
-abbrev pub ChangesMake : replays.File → List Answered → List Row → List Row → Type 0
-ChangesMake f [] from rows = rows ≡ from
-ChangesMake f (change ∷ changes) from rows = ChangesMake f changes (rows_with f change.line from) rows ⊎ ((change.is_acknowledged ≡ false) × ChangesMake f changes from rows)
+-- the first FILE and rows are made the second ones by these deeds in their order: by each that was acknowledged, and with or without each
+-- other
+abbrev pub DeedsMake : List Answered → replays.File → List Row → replays.File → List Row → Type 0
+DeedsMake [] from rows file now = (file ≡ from) × (now ≡ rows)
+DeedsMake (a ∷ more) from rows file now = (MayBeDone a.deed a.is_acknowledged from rows × DeedsMake more (file_by a.deed from) (rows_by a.deed from rows) file now)
+    ⊎ ((a.is_acknowledged ≡ false) × DeedsMake more from rows file now)
 
 -- ---- calls
 
--- what a call is for: a change, by its line; a compaction that is worth while; a reload of FILE, which has these bytes; or what leaves
--- the disk alone
+-- what a call, or a step of one, is for: a change, by its line; a compaction that is worth while; a reload of FILE, which has these bytes;
+-- the three steps of a settling, by the text that FILE is to have: its mark is put in the journal, FILE gets it with this mode, and then
+-- the copy, and the journal is emptied; or what leaves all files alone
 pub data Aim : Type 0 where
   Change : List ℕ → Aim
   Compact : Aim
   Reload : List ℕ → Aim
+  Mark : List ℕ → Served → Aim
+  Place : ℕ → List ℕ → Served → Aim
+  HandOver : List ℕ → Aim
   Alone : Aim
 
 -- a call: whether it was acknowledged, and what is kept then
@@ -77,19 +108,113 @@ LeavesAmid state (Change line) old c = CrashLeaves (path_of_store (store_in old)
 LeavesAmid state Compact old c = (is_worth (lines_in (store_in old)) ≡ true)
     × CrashLeaves (path_of_store (store_in old)) (λ bytes. StandsFor bytes (compacted_lines (lines_in (store_in old)))) (state old.disk) c
 LeavesAmid state (Reload bytes) old c = IsAfter (MovesFile old.places.copy (copy_with bytes)) (state old.disk) c
+LeavesAmid state (Mark text v) old c = CrashLeaves (path_of_store (store_in old)) (IsBeforeOrAfter (lines_in (store_in old)) (mark_line text)) (state old.disk) c
+LeavesAmid state (Place mode text v) old c = IsAfter (MovesFile old.places.file (record { mode = mode; bytes = text })) (state old.disk) c
+LeavesAmid state (HandOver text) old c = Exchanging (path_of_store (store_in old)) old.places.copy (copy_with text) (λ bytes. StandsFor bytes []) (state old.disk) c
 LeavesAmid state Alone old c = (state old.disk).may_leave c
 
--- a change that is acknowledged is in the journal, which is on the disk; every other call leaves the rows as they are
+-- the lines of the journal, what was read of FILE, and the rows are as they were
+pub record IsStill {D : Type 0} (old new : Kept D) : Type 0 where
+  pub lines : lines_in (store_in new) ≡ lines_in (store_in old)
+  pub file : (book_in new).file ≡ (book_in old).file
+  pub rows : (book_in new).rows ≡ (book_in old).rows
+
+-- a line more is in the journal, which is on the disk
+pub record IsTaken {D : Type 0} (state : D → DiskState) (line : List ℕ) (old new : Kept D) : Type 0 where
+  pub lines : lines_in (store_in new) ≡ lines_in (store_in old) ++ line ∷ []
+  pub file : (book_in new).file ≡ (book_in old).file
+  pub whole : JournalIsWhole (journal_of (store_in new)) (state new.disk)
+
+-- the rows are as they were, over these lines
+pub record IsOver {D : Type 0} (lines : List (List ℕ)) (old new : Kept D) : Type 0 where
+  pub lines_are : lines_in (store_in new) ≡ lines
+  pub file : (book_in new).file ≡ (book_in old).file
+  pub rows : (book_in new).rows ≡ (book_in old).rows
+
+-- FILE is read anew, as it is seen
+pub record IsReread {D : Type 0} (state : D → DiskState) (bytes : List ℕ) (old new : Kept D) : Type 0 where
+  pub there : (file : File) × ((state old.disk).seen old.places.file ≡ Some file) × (file.bytes ≡ bytes)
+  pub file : IsFileOf bytes (book_in new).file
+  pub lines : lines_in (store_in new) ≡ lines_in (store_in old)
+
+-- FILE may get this text: it says all that is kept, and the journal is on the disk with its mark
+pub record IsReady {D : Type 0} (state : D → DiskState) (text : List ℕ) (v : Served) (old : Kept D) : Type 0 where
+  pub says : SaysAllKept (book_in old) text v
+  pub marked : (before : List (List ℕ)) × (lines_in (store_in old) ≡ before ++ mark_line text ∷ [])
+  pub whole : JournalIsWhole (journal_of (store_in old)) (state old.disk)
+
+-- FILE has it, and is on the disk
+pub record IsPlaced {D : Type 0} (state : D → DiskState) (mode : ℕ) (text : List ℕ) (v : Served) (old new : Kept D) : Type 0 where
+  pub there : FileIsThere old.places.file (record { mode = mode; bytes = text }) (state new.disk)
+  pub file : (book_in new).file ≡ file_of text v
+  pub rows : (book_in new).rows ≡ in_order (book_in old).rows
+  pub lines : lines_in (store_in new) ≡ lines_in (store_in old)
+
+-- the journal may be emptied: FILE is the one that was read, it is on the disk, and gives the rows by itself
+pub record IsAllInFile {D : Type 0} (state : D → DiskState) (old : Kept D) : Type 0 where
+  pub by_itself : SaysByItself (store_in old)
+  pub sure : is_sure (store_in old) ≡ true
+  pub durable : DiskKeeps old.places.file (state old.disk)
+
+-- what a call has done. A change counts as acknowledged where FILE is on the disk too: where no call on it has failed
 abbrev pub IsDone : {D : Type 0} → (D → DiskState) → Aim → Bool → Kept D → Kept D → Type 0
-IsDone state (Change line) true old new = (lines_in (store_in new) ≡ lines_in (store_in old) ++ line ∷ []) × JournalIsWhole (journal_of (store_in new)) (state new.disk)
-IsDone state aim is_acknowledged old new = (book_in new).rows ≡ (book_in old).rows
+IsDone state (Change line) true old new = IsTaken state line old new × (is_sure (store_in old) ≡ true) × DiskKeeps old.places.file (state new.disk)
+IsDone state (Change line) false old new = IsStill old new ⊎ IsTaken state line old new
+IsDone state Compact is_acknowledged old new = IsStill old new ⊎ ((is_worth (lines_in (store_in old)) ≡ true) × IsOver (compacted_lines (lines_in (store_in old))) old new)
+IsDone state (Reload bytes) true old new = IsReread state bytes old new
+IsDone state (Reload bytes) false old new = IsStill old new
+IsDone state (Mark text v) is_acknowledged old new = SaysAllKept (book_in old) text v × (IsStill old new ⊎ IsOver (lines_in (store_in old) ++ mark_line text ∷ []) old new)
+IsDone state (Place mode text v) true old new = IsReady state text v old × IsPlaced state mode text v old new
+IsDone state (Place mode text v) false old new = IsReady state text v old × IsStill old new
+IsDone state (HandOver text) is_acknowledged old new = IsAllInFile state old × (IsStill old new ⊎ IsOver [] old new)
+IsDone state Alone is_acknowledged old new = IsStill old new
+
+-- the store is not sure where it was not; but where FILE was read, or is in its place. Where it could not be put there the store is sure
+-- only of the one that was there
+abbrev pub IsSureStill : {D : Type 0} → (D → DiskState) → Aim → Bool → Kept D → Kept D → Type 0
+IsSureStill state (Reload bytes) true old new = Unit {0}
+IsSureStill state (Place mode text v) true old new = Unit {0}
+IsSureStill state (Place mode text v) false old new = is_sure (store_in new) ≡ true
+    → (is_sure (store_in old) ≡ true) × (bytes_of_file ((state new.disk).seen old.places.file) ≡ bytes_of_file ((state old.disk).seen old.places.file))
+IsSureStill state aim is_acknowledged old new = is_sure (store_in new) ≡ true → is_sure (store_in old) ≡ true
+
+-- FILE is seen as before, but where it is put in its place
+abbrev pub IsSeen : {D : Type 0} → (D → DiskState) → Aim → Kept D → Kept D → Type 0
+IsSeen state (Place mode text v) old new = MovesFile old.places.file (record { mode = mode; bytes = text }) (state old.disk).seen (state new.disk).seen
+IsSeen state aim old new = (state new.disk).seen old.places.file ≡ (state old.disk).seen old.places.file
 
 pub record IsCall {D : Type 0} (state : D → DiskState) (old : Kept D) (call : Call D) : Type 0 where
   pub done : IsDone state call.aim call.is_acknowledged old call.kept
-  pub file : (book_in call.kept).file ≡ (book_in old).file
+  pub sure : IsSureStill state call.aim call.is_acknowledged old call.kept
+  pub seen : IsSeen state call.aim old call.kept
   pub places : call.kept.places ≡ old.places
   pub keeping : IsKeeping true call.kept.keeper call.kept.places (state call.kept.disk)
   pub any_moment : LeavesOnly (state old.disk) (state call.kept.disk) (LeavesAmid state call.aim old)
+
+-- no FILE that is seen, or that a loss of power may leave, has the fingerprint of another text that it is to have (SHA-256)
+abbrev pub HasNoTwin : {D : Type 0} → (D → DiskState) → Aim → Kept D → Type 0
+HasNoTwin state (Mark text v) old = (c : Image) → (state old.disk).may_leave c ⊎ (c ≡ (state old.disk).seen)
+    → (file : File) → c old.places.file ≡ Some file → fingerprint file.bytes ≡ fingerprint text → file.bytes ≡ text
+HasNoTwin state aim old = Unit {0}
+
+-- ---- a settling
+
+-- FILE has its text, or may have; and then the copy may have it, and the journal may be empty
+abbrev pub PlacesInSteps : {D : Type 0} → (D → DiskState) → ℕ → List ℕ → Served → Kept D → Kept D → Type 0
+PlacesInSteps {D} state mode text v old new = (is_placed : Bool) × (IsCall state old (record { aim = Place mode text v; is_acknowledged = is_placed; kept = new })
+    ⊎ ((placed : Kept D) × IsCall state old (record { aim = Place mode text v; is_acknowledged = is_placed; kept = placed })
+    × IsCall state placed (record { aim = HandOver text; is_acknowledged = true; kept = new })))
+
+-- the journal has the mark, or may have; and then FILE
+abbrev pub MarksInSteps : {D : Type 0} → (D → DiskState) → Kept D → Kept D → Type 0
+MarksInSteps {D} state old new = (mode : ℕ) × (text : List ℕ) × (v : Served) × (IsCall state old (record { aim = Mark text v; is_acknowledged = true; kept = new })
+    ⊎ ((marked : Kept D) × IsCall state old (record { aim = Mark text v; is_acknowledged = true; kept = marked }) × PlacesInSteps state mode text v marked new))
+
+-- A settling is these steps, each from where the one before it ended: FILE is read; and then, where there is something to settle, the
+-- journal gets the mark, FILE its text, the copy FILE's, and the journal is emptied. Any of them may be the last.
+abbrev pub SettlesInSteps : {D : Type 0} → (D → DiskState) → Kept D → Kept D → Type 0
+SettlesInSteps {D} state old new = IsCall state old (record { aim = Alone; is_acknowledged = true; kept = new })
+    ⊎ ((read : Kept D) × IsCall state old (record { aim = Alone; is_acknowledged = true; kept = read }) × MarksInSteps state read new)
 
 -- ---- the end of a process, and the next one
 
@@ -121,7 +246,7 @@ pub record End (D : Type 0) : Type 0 where
 -- what a loss of power might have left at that end
 abbrev pub LeftAtEnd : {D : Type 0} → (D → DiskState) → Kept D → Option (Call D) → Image → Type 0
 LeftAtEnd state old None c = (state old.disk).may_leave c
-LeftAtEnd state old (Some call) c = IsCall state old call × (state call.kept.disk).left_since (state old.disk).moment c
+LeftAtEnd state old (Some call) c = IsCall state old call × HasNoTwin state call.aim old × (state call.kept.disk).left_since (state old.disk).moment c
 
 pub record IsEnd {D : Type 0} (state : D → DiskState) (old : Kept D) (e : End D) : Type 0 where
   pub left : IsLeft (LeftAtEnd state old e.amid) (state e.found)
@@ -136,27 +261,31 @@ pub record IsEnd {D : Type 0} (state : D → DiskState) (old : Kept D) (e : End 
 abbrev pub Event : Type 0 → Type 0
 Event D = Call D ⊎ End D
 
--- what is kept, and the changes that this process and those before it have taken, in order
+-- what is kept, and what this process and those before it have done, in order
 pub record Standing (D : Type 0) : Type 0 where
-  pub changes : List Answered
+  pub deeds : List Answered
   pub kept : Kept D
 
 abbrev pub Happens : {D : Type 0} → (D → DiskState) → Standing D → Event D → Type 0
-Happens state old (inl call) = IsCall state old.kept call
+Happens state old (inl call) = IsCall state old.kept call × HasNoTwin state call.aim old.kept
 Happens state old (inr e) = IsEnd state old.kept e
 
-abbrev pub changes_with : List Answered → Aim → Bool → List Answered
-changes_with changes (Change line) is_acknowledged = changes ++ record { line = line; is_acknowledged = is_acknowledged } ∷ []
-changes_with changes aim is_acknowledged = changes
+-- a settling is among them when its mark is put, as one that may be made or not; and when FILE is put in its place, as one that is made
+-- where that went well
+abbrev pub deeds_with : List Answered → replays.File → Aim → Bool → List Answered
+deeds_with deeds f (Change line) is_acknowledged = deeds ++ record { deed = Changed f line; is_acknowledged = is_acknowledged } ∷ []
+deeds_with deeds f (Mark text v) is_acknowledged = deeds ++ record { deed = Settled text v; is_acknowledged = false } ∷ []
+deeds_with deeds f (Place mode text v) is_acknowledged = deeds ++ record { deed = Settled text v; is_acknowledged = is_acknowledged } ∷ []
+deeds_with deeds f aim is_acknowledged = deeds
 
--- a change that its process did not live to see answered is one that was not acknowledged
-abbrev pub changes_at_end : {D : Type 0} → List Answered → Option (Call D) → List Answered
-changes_at_end changes None = changes
-changes_at_end changes (Some call) = changes_with changes call.aim false
+-- what its process did not live to see answered is one that was not acknowledged
+abbrev pub deeds_at_end : {D : Type 0} → List Answered → replays.File → Option (Call D) → List Answered
+deeds_at_end deeds f None = deeds
+deeds_at_end deeds f (Some call) = deeds_with deeds f call.aim false
 
 abbrev pub standing_after : {D : Type 0} → Standing D → Event D → Standing D
-standing_after old (inl call) = record { changes = changes_with old.changes call.aim call.is_acknowledged; kept = call.kept }
-standing_after old (inr e) = record { changes = changes_at_end old.changes e.amid; kept = e.opened.state }
+standing_after old (inl call) = record { deeds = deeds_with old.deeds (book_in old.kept).file call.aim call.is_acknowledged; kept = call.kept }
+standing_after old (inr e) = record { deeds = deeds_at_end old.deeds (book_in old.kept).file e.amid; kept = e.opened.state }
 
 abbrev pub AllHappen : {D : Type 0} → (D → DiskState) → Standing D → List (Event D) → Type 0
 AllHappen state old [] = Unit {0}
@@ -176,15 +305,18 @@ pub record IsOnDisk {D : Type 0} (state : D → DiskState) (kept : Kept D) : Typ
   pub durable : DiskKeeps kept.places.file (state kept.disk)
   pub file : (file : File) × ((state kept.disk).seen kept.places.file ≡ Some file) × IsFileOf file.bytes (book_in kept).file
 
--- The rows that are served are what the changes since have made of the first ones; and so are those that a start reads of whatever a
--- loss of power may leave.
-pub record AllHold {D : Type 0} (state : D → DiskState) (first : Kept D) (s : Standing D) : Type 0 where
-  pub held : ChangesMake (book_in first).file s.changes (book_in first).rows (book_in s.kept).rows
-  pub left : (c : Image) → (state s.kept.disk).may_leave c → (lines : List (List ℕ)) → StandsFor (bytes_of_file (c first.places.journal)) lines
-      → ChangesMake (book_in first).file s.changes (book_in first).rows (replayed (book_in first).file (records_in lines)).rows
-  pub file : (c : Image) → (state s.kept.disk).may_leave c → c first.places.file ≡ (state first.disk).seen first.places.file
+-- such a file is there, and says this
+abbrev pub IsIn : Option File → replays.File → Type 0
+IsIn there f = (file : File) × (there ≡ Some file) × IsFileOf file.bytes f
 
--- it is so after any number of changes, compactions, reloads of that FILE, kills and losses of power, in any order
+-- What was read of FILE, and the rows that are served, are what the deeds since have made of the first ones; and so are those that a start
+-- reads of whatever a loss of power may leave: of its FILE, which is a good one, and of its journal.
+pub record AllHold {D : Type 0} (state : D → DiskState) (first : Kept D) (s : Standing D) : Type 0 where
+  pub held : DeedsMake s.deeds (book_in first).file (book_in first).rows (book_in s.kept).file (book_in s.kept).rows
+  pub left : (c : Image) → (state s.kept.disk).may_leave c → (lines : List (List ℕ)) → StandsFor (bytes_of_file (c first.places.journal)) lines
+      → (f : replays.File) × IsIn (c first.places.file) f × DeedsMake s.deeds (book_in first).file (book_in first).rows f (replayed f (records_in lines)).rows
+
+-- it is so after any number of changes, compactions, reloads, settlings, kills and losses of power, in any order
 abbrev pub OverStarts : {D : Type 0} → (D → DiskState) → Type 0
-OverStarts {D} state = (first : Kept D) → IsOnDisk state first → (events : List (Event D)) → AllHappen state (record { changes = []; kept = first }) events
-    → AllHold state first (standing_after_all (record { changes = []; kept = first }) events)
+OverStarts {D} state = (first : Kept D) → IsOnDisk state first → (events : List (Event D)) → AllHappen state (record { deeds = []; kept = first }) events
+    → AllHold state first (standing_after_all (record { deeds = []; kept = first }) events)

@@ -1,6 +1,7 @@
 -- Opens: what is kept from a start on.
 -- Source: this project's own.
 use Rattle.std.specs.Prelude.{◌≡◌, ◌≢◌, ℕ, List, Option, Some, None, is_none, Bool, true, false, ◌||◌, IsTrue}
+use Rattle.std.specs.Str.{bytes_eq}
 use Rattle.keep_disk.specs.State.{DiskKeeps, DiskState, LeavesOnly}
 use Rattle.keep_disk.specs.declared.fault.DiskFault.{DiskFault}
 use Rattle.keep_disk.specs.declared.fault.DiskFault.TheVariants as disks
@@ -71,11 +72,13 @@ pub record IsOpenedOver (lines : List (List ℕ)) {D : Type 0} (known : Bool) (f
   pub waiting : waiting_in o.state.keeper ≡ None
   pub places_are : o.state.places ≡ places
 
--- and over a disk, with the lock of the folder, which no other process held; a crash at any moment of the start leaves the same records
+-- and over a disk, with the lock of the folder, which no other process held; FILE, and all but the journal, the file aside and the copy, is
+-- seen as before; a crash at any moment of the start leaves the same records
 pub record IsOpenedState {D : Type 0} (known : Bool) (file copy : Option (List ℕ)) (places : Places) (s t : DiskState) (o : Opened D) : Type 0 where
   pub lines : List (List ℕ)
   pub locked : o.lock ≡ places.lock
   pub free : IsTrue known → s.taken places.lock ≡ false
   pub read : IsTrue known → StandsFor (bytes_of_file (s.seen places.journal)) lines
   pub over : IsOpenedOver lines known file copy places s t o
+  pub others : IsTrue known → (other : List ℕ) → bytes_eq places.journal other ≡ false → bytes_eq places.aside other ≡ false → bytes_eq places.copy other ≡ false → t.seen other ≡ s.seen other
   pub any_moment : IsTrue known → LeavesOnly s t (LeftByStart lines places s)

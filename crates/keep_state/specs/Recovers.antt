@@ -25,6 +25,10 @@ IsAside lines (Some fault) now = now ≡ lines
 abbrev pub IsPutAside : List (List ℕ) → Places → DiskState → DiskState → Type 0
 IsPutAside lines places s t = FileIsThere places.aside (record { mode = 384; bytes = bytes_of_file (s.seen places.aside) ++ lines_taken_out lines (damages lines) }) t
 
+-- all files but the journal and the one aside are seen as before
+abbrev pub SeesOthers : Places → DiskState → DiskState → Type 0
+SeesOthers places s t = (other : List ℕ) → bytes_eq places.journal other ≡ false → bytes_eq places.aside other ≡ false → t.seen other ≡ s.seen other
+
 -- the journal of a folder whose journal's file stands for these lines, and whose lock is held from then on
 pub record IsRecovered (known : Bool) (places : Places) (s t : DiskState) (r : Recovered) : Type 0 where
   pub lines : List (List ℕ)

@@ -3,7 +3,7 @@ ghost use Rattle.keep_disk.specs.State.{LeavesOnly};
 ghost use Rattle.keep_journal.specs.Journals.{bytes_of_file};
 ghost use Rattle.keep_journal.specs.Records.{StandsFor};
 ghost use Rattle.keep_state.specs.Opens.{IsOfFolder};
-ghost use Rattle.keep_state.specs.Recovers.{IsRecovered, LeftByStart};
+ghost use Rattle.keep_state.specs.Recovers.{IsRecovered, LeftByStart, SeesOthers};
 
 use crate::fault::OpenFault;
 use crate::paths::Paths;
@@ -40,6 +40,7 @@ pub fn recover<'a, D: Disk>(
     ensures recovered { IfOk result (IsRecovered D.is_known paths.now (D.state disk.old) (D.state disk.new)) }
 
     ensures refused { IfErr result (IsOfFolder D.is_known paths.now (D.state disk.old)) }
+    ensures others { IsTrue D.is_known → SeesOthers paths.now (D.state disk.old) (D.state disk.new) }
 
     // A crash at any moment leaves the journal as it might have been left before, or the same records.
     ensures any_moment { IsTrue D.is_known → (lines : List (List ℕ)) → StandsFor (bytes_of_file ((D.state disk.old).seen paths.now.journal)) lines

@@ -12,6 +12,7 @@ impl<'a, D: Disk> State<'a, D> {
     ghost use Rattle.keep_store.specs.Moved.{HasMarkAtMost};
     ghost use Rattle.keep_store.specs.Stores.{is_sure};
     ghost use Rattle.keep_waiting.specs.Keepers.{waiting_in};
+    ghost use Rattle.keep_state.specs.Lives.{SettlesInSteps};
     ghost use Rattle.keep_state.specs.Settles.{IsSettledState, IsWhyUnsettledState, LeftBySettling};
     ghost use Rattle.keep_state.specs.States.{book_in, store_in};
 
@@ -35,6 +36,9 @@ impl<'a, D: Disk> State<'a, D> {
 
         // A crash at any moment leaves what gives the same inventory.
         ensures any_moment { IsTrue D.is_known → LeavesOnly (D.state self.old.disk) (D.state self.new.disk) (LeftBySettling (store_in self.old) self.old.places (D.state self.old.disk)) }
+
+        // Step by step, each from where the one before it ended: `what_was_acknowledged_is_served` goes on from each of them.
+        ensures steps { IsTrue D.is_known → SettlesInSteps D.state self.old self.new }
     {
         let FileRead { bytes, mode } = read_file(self.alloc, &mut self.disk, self.paths.file())?;
         let mode = mode & NOT_OTHERS;

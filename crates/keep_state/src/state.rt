@@ -123,6 +123,7 @@ impl<'a, D: Disk> State<'a, D> {
         // A crash at any moment leaves the old copy, or the new one whole.
         ensures any_moment { IsTrue D.is_known → LeavesOnly (D.state self.old.disk) (D.state self.new.disk)
             (IsAfter (MovesFile self.old.places.copy (copy_with bytes.now)) (D.state self.old.disk)) }
+        ensures others { IsTrue D.is_known → KeepsOthers self.old.places.copy (D.state self.old.disk) (D.state self.new.disk) }
     {
         let notes = self.keeper.reload(now, Some(bytes))?;
         let kept = self
@@ -143,6 +144,7 @@ impl<'a, D: Disk> State<'a, D> {
         ensures waiting { OnOk result (waiting_in self.new.keeper ≡ changed (waiting_in self.old.keeper) now) }
         ensures book { OnErr result (book_in self.new ≡ book_in self.old) }
         ensures unchanged { OnErr result (waiting_in self.new.keeper ≡ waiting_in self.old.keeper) }
+        ensures sure { is_sure (store_in self.new) ≡ is_sure (store_in self.old) }
         ensures journal { journal_of (store_in self.new) ≡ journal_of (store_in self.old) }
         ensures disk { self.new.disk ≡ self.old.disk }
         ensures places { self.new.places ≡ self.old.places }
@@ -158,6 +160,7 @@ impl<'a, D: Disk> State<'a, D> {
         ensures lines { IfOk result (λ done. lines_in (store_in self.new) ≡ (if done then compacted_lines (lines_in (store_in self.old)) else lines_in (store_in self.old))) }
         ensures refused { OnErr result (lines_in (store_in self.new) ≡ lines_in (store_in self.old)) }
         ensures book { book_in self.new ≡ book_in self.old }
+        ensures sure { is_sure (store_in self.new) ≡ is_sure (store_in self.old) }
         ensures waiting { waiting_in self.new.keeper ≡ waiting_in self.old.keeper }
         ensures path { path_of_store (store_in self.new) ≡ path_of_store (store_in self.old) }
         ensures places { self.new.places ≡ self.old.places }

@@ -12,4 +12,5 @@ pub mod Digits
 pub mod Marked
 pub mod MovedOn
 pub mod Marking
+pub mod Stepping
 pub mod Undamaged

@@ -12,17 +12,19 @@ use Rattle.keep_change.specs.Words.{fingerprint}
 use Rattle.keep_change.proofs.ReadBack.{line_law, written_is_read}
 use Rattle.keep_change.proofs.Settling.{unsettled}
 use Rattle.keep_journal.specs.Records.{IsRecordLine}
+use Rattle.keep_inventory.specs.Served.{Served}
+use Rattle.keep_settle.specs.Laws.{GivesRows}
 use Rattle.keep_settle.proofs.Staying.{stays}
 use Rattle.keep_store.specs.Laws.{MovedLaw}
-use Rattle.keep_store.specs.Moved.{mark_line}
-use Rattle.keep_store.specs.Books.{file_of}
+use Rattle.keep_store.specs.Moved.{SaysAllKept, mark_line}
+use Rattle.keep_store.specs.Books.{Book, file_of}
 use Rattle.keep_store.specs.Records.{records_in}
 use Rattle.keep_store.specs.Stores.{book_of, lines_in}
 use Rattle.keep_store.proofs.Entered.{lacking}
 use Rattle.keep_store.proofs.Lists.{records_none, records_push}
 use Rattle.keep_store.proofs.Digits.{mark_is_word}
 
-mark_read : (text : List ℕ) → record_of (mark_line text) ≡ Some (Settling (fingerprint text))
+pub mark_read : (text : List ℕ) → record_of (mark_line text) ≡ Some (Settling (fingerprint text))
 mark_read text = written_is_read (Settling (fingerprint text)) (mark_is_word text)
 
 pub mark_is_line : (text : List ℕ) → IsRecordLine (mark_line text)
@@ -31,12 +33,17 @@ mark_is_line text = lacking (mark_line text) (line_law (Settling (fingerprint te
 records_marked : (lines : List (List ℕ)) (text : List ℕ) → records_in (lines ++ mark_line text ∷ []) ≡ records_in lines ++ Settling (fingerprint text) ∷ []
 records_marked lines text = records_push lines (mark_line text) ∙ ap (λ (o : Option Record). records_in lines ++ option_to_list o) (mark_read text)
 
+-- a file with the text that says all, and the mark of it last in the journal
+pub marked_gives : (lines : List (List ℕ)) (b : Book) (text : List ℕ) (v : Served) → SaysAllKept b text v → GivesRows (file_of text v) b.rows (records_in (lines ++ mark_line text ∷ []))
+marked_gives lines b text v says =
+    ap (replayed (file_of text v)) (records_marked lines text) ∙ (stays (Some b.file.margin) b.file.system_max b.rows text v says (file_of text v) refl refl (records_in lines)).0
+
 pub moved_law : MovedLaw
 moved_law store so text v says =
     let b = book_of store in
     let rs = records_in (lines_in store) in
     let gives = stays (Some b.file.margin) _ b.rows text v says (file_of text v) refl refl rs in (
-      ap (replayed (file_of text v)) (records_marked (lines_in store) text) ∙ gives.0,
+      marked_gives (lines_in store) b text v says,
       ap (replayed (file_of text v)) records_none ∙ gives.1,
       λ other. ap (λ (s : ReplayState). s.rows) (ap (replayed b.file) (records_marked (lines_in store) text) ∙ unsettled b.file rs (fingerprint text) other) ∙ so,
     )

@@ -20,7 +20,7 @@ from_last f (first ∷ rs) r at s =
     let same : (at + 1) + length rs ≡ at + length (first ∷ rs) = omega arith in
     from_last f rs r (at + 1) (replay_step f at s first) ∙ ap (λ (k : ℕ). replay_step f k (replay_from f (at + 1) (replay_step f at s first) rs) r) same
 
-replayed_last : (f : File) (rs : List Record) (r : Record) → replayed f (rs ++ r ∷ []) ≡ replay_step f (0 + length rs) (replayed f rs) r
+pub replayed_last : (f : File) (rs : List Record) (r : Record) → replayed f (rs ++ r ∷ []) ≡ replay_step f (0 + length rs) (replayed f rs) r
 unfolding replayed
 replayed_last f rs r = from_last f rs r 0 (replay_begun f)
 

@@ -6,7 +6,8 @@ use Rattle.keep_change.specs.declared.change.Record.TheVariants.{Settling}
 use Rattle.keep_change.specs.Records.{record_text}
 use Rattle.keep_change.specs.Words.{fingerprint}
 use Rattle.keep_disk.specs.Image.{File, Image}
-use Rattle.keep_disk.specs.State.{DiskState}
+use Rattle.keep_disk.specs.State.{DiskState, IsAfter, LeavesOnly}
+use Rattle.keep_disk.specs.Torn.{MovesFile}
 use Rattle.keep_inventory.specs.Served.{Served}
 use Rattle.keep_journal.specs.Journals as journals
 use Rattle.keep_journal.specs.Records.{IsBeforeOrAfter, StandsFor}
@@ -17,7 +18,7 @@ use Rattle.keep_store.specs.declared.fault.Unsettled.TheVariants.{Changed, Unwri
 use Rattle.keep_store.specs.declared.store.Store.{Store}
 use Rattle.keep_store.specs.Books.{Book, IsBook, file_of}
 use Rattle.keep_change.specs.Replay.{replayed}
-use Rattle.keep_store.specs.Stores.{book_of, is_sure, journal_of, lines_in, path_of_store}
+use Rattle.keep_store.specs.Stores.{FileHolds, IsReplayed, book_of, is_sure, journal_of, lines_in, path_of_store}
 
 -- the text of a file that says all that is kept, with the margin and the maximum TTL of the system of the one that was read, and what is
 -- read of it
@@ -90,3 +91,54 @@ abbrev pub LeftByMove : Store → List ℕ → ℕ → DiskState → Image → T
 LeftByMove store target mode s c = s.may_leave c
     ⊎ ((text : List ℕ) × (v : Served) × SaysAllKept (book_of store) text v
     × Marking (path_of_store store) target (record { mode = mode; bytes = text }) (lines_in store) (mark_line text) s c)
+
+-- ---- a settling, step by step
+
+-- the first step: the mark of this text is put in the journal, or is not; the file at the target, and all else, is as it was
+pub record PutsMark {D : Type 0} (known : Bool) (state : D → DiskState) (old : Store) (target text : List ℕ) (s : D) (new : Store) (t : D) : Type 0 where
+  pub book : book_of new ≡ book_of old
+  pub sure : is_sure new ≡ is_sure old
+  pub path : path_of_store new ≡ path_of_store old
+  pub lines : (lines_in new ≡ lines_in old) ⊎ (lines_in new ≡ lines_in old ++ mark_line text ∷ [])
+  pub held : journals.JournalHolds known (journal_of new) (state t)
+  pub replayed : IsReplayed new
+  pub file : FileHolds known new target (state t)
+  pub others : journals.KeepsOthers (path_of_store old) (state s) (state t)
+  pub any_moment : LeavesOnly (state s) (state t) (journals.CrashLeaves (path_of_store old) (IsBeforeOrAfter (lines_in old) (mark_line text)) (state s))
+
+-- the file is in its place, and the book is that of it
+pub record IsInPlace (target : List ℕ) (file : File) (v : Served) (old new : Store) (t : DiskState) : Type 0 where
+  pub there : journals.FileIsThere target file t
+  pub book : IsMovedBook (book_of old) file.bytes v (book_of new)
+  pub by_itself : SaysByItself new
+  pub sure : is_sure new ≡ true
+
+-- or it may not be, and the book is as it was; the store is sure of the old one only where that can be read still
+pub record IsNotInPlace (target present : List ℕ) (old new : Store) (t : DiskState) : Type 0 where
+  pub book : book_of new ≡ book_of old
+  pub sure : is_sure new ≡ true → (is_sure old ≡ true) × (journals.bytes_of_file (t.seen target) ≡ present)
+
+-- the second step: once the journal is on the disk with the mark of the file, that file is put in the place of the one with the bytes
+-- that are present, or is not; the journal is left alone
+pub record PutsFile {D : Type 0} (state : D → DiskState) (old : Store) (target : List ℕ) (file : File) (v : Served) (present : List ℕ) (s : D) (new : Store) (t : D) : Type 0 where
+  pub marked : (before : List (List ℕ)) × (lines_in old ≡ before ++ mark_line file.bytes ∷ [])
+  pub whole : journals.JournalIsWhole (journal_of old) (state s)
+  pub journal : journal_of new ≡ journal_of old
+  pub seen : MovesFile target file (state s).seen (state t).seen
+  pub any_moment : LeavesOnly (state s) (state t) (IsAfter (MovesFile target file) (state s))
+  pub outcome : IsInPlace target file v old new (state t) ⊎ IsNotInPlace target present old new (state t)
+
+-- both steps are taken, the second one from where the first one ended
+abbrev pub TakesSteps : {D : Type 0} → Bool → (D → DiskState) → Store → List ℕ → ℕ → List ℕ → Served → List ℕ → D → Store → D → Type 0
+TakesSteps {D} known state old target mode text v present s new t =
+    (marked : Store) × (mid : D) × PutsMark known state old target text s marked mid × PutsFile state marked target (record { mode = mode; bytes = text }) v present mid new t
+
+-- so the file gets this text; or it had it, and nothing is done
+abbrev pub MovesInSteps : {D : Type 0} → Bool → (D → DiskState) → Store → List ℕ → ℕ → List ℕ → D → Option (List ℕ) → Store → D → Type 0
+MovesInSteps known state old target mode present s (Some text) new t = (v : Served) × SaysAllKept (book_of old) text v × TakesSteps known state old target mode text v present s new t
+MovesInSteps known state old target mode present s None new t = (new ≡ old) × (t ≡ s)
+
+-- where that fails, nothing is begun, or one step is, or both are
+abbrev pub FailsInSteps : {D : Type 0} → Bool → (D → DiskState) → Store → List ℕ → ℕ → List ℕ → D → Store → D → Type 0
+FailsInSteps known state old target mode present s new t = ((new ≡ old) × (t ≡ s))
+    ⊎ ((text : List ℕ) × (v : Served) × SaysAllKept (book_of old) text v × (PutsMark known state old target text s new t ⊎ TakesSteps known state old target mode text v present s new t))

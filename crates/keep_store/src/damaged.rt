@@ -1,4 +1,4 @@
-ghost use Rattle.std.specs.Prelude.{◌≡◌, ◌-◌, ◌++◌, IfOk, IsTrue, OnErr, OnOk, false, length, is_none};
+ghost use Rattle.std.specs.Prelude.{◌≡◌, ◌-◌, ◌++◌, ℕ, List, IfOk, IsTrue, OnErr, OnOk, false, length, is_none};
 ghost use Rattle.std.specs.Str.{bytes_eq};
 ghost use Rattle.keep_change.specs.Records.{record_of};
 ghost use Rattle.keep_disk.specs.State.{LeavesOnly, TellsFailure};
@@ -48,6 +48,8 @@ pub fn set_damaged_aside<D: Disk>(
     ensures any_moment { IsTrue D.is_known → LeavesOnly (D.state disk.old) (D.state disk.new) (Exchanging (path_of_journal journal.old) aside.now
         (record { mode = 384; bytes = bytes_of_file ((D.state disk.old).seen aside.now) ++ lines_taken_out (lines_of_journal journal.old) (damages (lines_of_journal journal.old)) })
         (λ file. StandsFor file (undamaged (lines_of_journal journal.old))) (D.state disk.old)) }
+    ensures others { IsTrue D.is_known → (other : List ℕ) → bytes_eq (path_of_journal journal.old) other ≡ false → bytes_eq aside.now other ≡ false
+        → ((D.state disk.new).seen other ≡ (D.state disk.old).seen other) × ((D.state disk.new).is_sound other ≡ (D.state disk.old).is_sound other) }
     ensures cause { TellsFailure (D.state disk.old) (D.state disk.new) result }
 {
     let damages = damages(alloc, journal.records())?;

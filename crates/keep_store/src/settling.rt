@@ -33,7 +33,7 @@ impl<'a> Store<'a> {
     ghost use Rattle.keep_disk.specs.Torn.{MovesFile};
     ghost use Rattle.keep_journal.specs.Journals.{Exchanging, FileIsThere, JournalHolds, JournalIsWhole, bytes_of_file};
     ghost use Rattle.keep_journal.specs.Records.{StandsFor};
-    ghost use Rattle.keep_store.specs.Moved.{HasMarkAtMost, IsMovedIf, IsStillThere, IsWhyUnsettled, LeftByMove, SaysByItself};
+    ghost use Rattle.keep_store.specs.Moved.{FailsInSteps, HasMarkAtMost, IsMovedIf, IsStillThere, IsWhyUnsettled, LeftByMove, MovesInSteps, SaysByItself};
     ghost use Rattle.keep_store.specs.Stores.{FileHolds, IsReplayed, book_of, is_kept, is_sure, journal_of, lines_in, path_of_store};
 
     /// Makes the file at `target`, whose bytes are `present`, one that says all that is kept, with this mode. It gives the text that the
@@ -67,6 +67,10 @@ impl<'a> Store<'a> {
 
         // A crash at any moment leaves what gives the same inventory: `a_crash_while_settling_changes_nothing`.
         ensures any_moment { IsTrue D.is_known → LeavesOnly (D.state disk.old) (D.state disk.new) (LeftByMove self.old target.now mode (D.state disk.old)) }
+
+        // Step by step: the file is left alone until the journal is on the disk with its mark.
+        ensures steps { IfOk result (λ text. IsTrue D.is_known → MovesInSteps D.is_known D.state self.old target.now mode present.now disk.old (option_map string_bytes text) self.new disk.new) }
+        ensures begun { OnErr result (IsTrue D.is_known → FailsInSteps D.is_known D.state self.old target.now mode present.now disk.old self.new disk.new) }
     {
         refuse_changed(self.alloc, &self.book, present)?;
         let Some(moving) = next_file(self.alloc, &self.book)? else {
@@ -126,6 +130,7 @@ impl<'a> Store<'a> {
         ensures sure { OnErr result (is_sure self.new ≡ true → (is_sure self.old ≡ true) × (IsTrue D.is_known → bytes_of_file ((D.state disk.new).seen target.now) ≡ present.now)) }
         ensures rest { self.new ≡ record self.old { is_sure = self.new.is_sure; is_kept = self.new.is_kept } }
         ensures file { FileHolds D.is_known self.new target.now (D.state disk.new) }
+        ensures seen { IsTrue D.is_known → MovesFile target.now (record { mode = mode; bytes = bytes.now }) (D.state disk.old).seen (D.state disk.new).seen }
         ensures whole { IsTrue D.is_known → JournalIsWhole (journal_of self.old) (D.state disk.new) }
         ensures any_moment { IsTrue D.is_known → LeavesOnly (D.state disk.old) (D.state disk.new)
             (IsAfter (MovesFile target.now (record { mode = mode; bytes = bytes.now })) (D.state disk.old)) }

@@ -27,7 +27,7 @@ impl<'a> Keeper<'a> {
     ghost use Rattle.keep_store.specs.Compacted.{compacted_lines, is_worth};
     ghost use Rattle.keep_store.specs.declared.fault.TakeFault.TheVariants.{Unread};
     ghost use Rattle.keep_store.specs.Entering.{line_for_change, may_hold};
-    ghost use Rattle.keep_store.specs.Moved.{HasMarkAtMost, IsMovedIf, IsStillThere, IsWhyUnsettled, LeftByMove, SaysByItself};
+    ghost use Rattle.keep_store.specs.Moved.{FailsInSteps, HasMarkAtMost, IsMovedIf, IsStillThere, IsWhyUnsettled, LeftByMove, MovesInSteps, SaysByItself};
     ghost use Rattle.keep_waiting.specs.Keepers.{InventoryIsGiven, store_of, waiting_in};
     ghost use Rattle.keep_store.specs.Records.{records_in};
     ghost use Rattle.keep_store.specs.Stores.{ChangeIsTaken, FileHolds, IsKeptOrNone, IsReplayed, IsWhyUntaken, KeepsAllBut, book_of, is_kept, is_sure, journal_of, lines_in, path_of_store};
@@ -151,6 +151,8 @@ impl<'a> Keeper<'a> {
         ensures replayed { IsReplayed (store_of self.new) }
         ensures file { FileHolds D.is_known (store_of self.new) target.now (D.state disk.new) }
         ensures any_moment { IsTrue D.is_known → LeavesOnly (D.state disk.old) (D.state disk.new) (LeftByMove (store_of self.old) target.now mode (D.state disk.old)) }
+        ensures steps { IfOk result (λ text. IsTrue D.is_known → MovesInSteps D.is_known D.state (store_of self.old) target.now mode present.now disk.old (option_map string_bytes text) (store_of self.new) disk.new) }
+        ensures begun { OnErr result (IsTrue D.is_known → FailsInSteps D.is_known D.state (store_of self.old) target.now mode present.now disk.old (store_of self.new) disk.new) }
     {
         self.store.settle(disk, target, mode, present)
     }

@@ -1,6 +1,7 @@
 -- The journal is opened, and its damaged lines go aside.
-use Rattle.std.proofs.Common.{◌≡◌, ℕ, List, ◌++◌, false, sym, subst, ◌∙◌}
-use Rattle.keep_disk.specs.Image.{File}
+use Rattle.std.proofs.Common.{◌≡◌, ℕ, List, ◌++◌, false, sym, ap, subst, ◌∙◌}
+use Rattle.std.specs.Str.{bytes_eq}
+use Rattle.keep_disk.specs.Image.{File, Image}
 use Rattle.keep_journal.specs.Journals.{bytes_of_file, lines_of_journal, path_of_journal}
 use Rattle.keep_journal.specs.Records.{StandsFor, lines_taken_out}
 use Rattle.keep_store.specs.Compacted.{damages}
@@ -53,3 +54,18 @@ returns-clause-any_moment g c known lines stands =
     let same : read ≡ lines = c.records_are_read_back.ensures.one (bytes_of_file ((s c.args.disk.now).seen p.journal)) read lines is stands in
     then_aside lines p (s c.args.disk.now) (s c.open.new.disk) (s c.set_damaged_aside.new.disk) run (g.met.D.Disk.counts_now c.open.new.disk) (path_of_journal c.in_ok-journal.journal) c.aside.result.now read (c.in_ok-journal.ensures.path ∙ c.journal.ensures.value) c.aside.ensures.value same file
     (c.set_damaged_aside.ensures.any_moment known)
+
+pub returns-in_err-journal-clause-others : goal.returns-in_err-journal-clause-others
+returns-in_err-journal-clause-others g c known other a b = ap (λ (image : Image). image other) ((c.open.ensures.alone known).seen ∙ (c.lock-2.ensures.alone known).seen)
+
+pub returns-in_err-damaged-clause-others : goal.returns-in_err-damaged-clause-others
+returns-in_err-damaged-clause-others g c known other a b = ap (λ (image : Image). image other) ((c.open.ensures.alone known).seen ∙ (c.lock-2.ensures.alone known).seen)
+
+pub returns-then-damaged-eq0-clause-others : goal.returns-then-damaged-eq0-clause-others
+returns-then-damaged-eq0-clause-others g c known other a b = ap (λ (image : Image). image other) ((c.open.ensures.alone known).seen ∙ (c.lock-2.ensures.alone known).seen)
+
+pub returns-clause-others : goal.returns-clause-others
+returns-clause-others g c known other a b =
+    let journal = c.in_ok-journal.ensures.path ∙ c.journal.ensures.value in
+    (c.set_damaged_aside.ensures.others known other (ap (λ (p : List ℕ). bytes_eq p other) journal ∙ a) (ap (λ (p : List ℕ). bytes_eq p other) c.aside.ensures.value ∙ b)).0
+    ∙ ap (λ (image : Image). image other) ((c.open.ensures.alone known).seen ∙ (c.lock-2.ensures.alone known).seen)

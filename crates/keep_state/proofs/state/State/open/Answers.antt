@@ -45,5 +45,7 @@ returns-clause-opened g c =
         waiting = c.new.ensures.waiting;
         places_are = refl;
       };
+      others = λ known other a b e.
+          (subst (λ (q : List ℕ). KeepsOthers q t u) c.copy.ensures.value (c.keep_good-copy.ensures.others known)).seen other e ∙ c.recover.ensures.others known other a b;
       any_moment = λ known. copied r.lines p old t u (c.recover.ensures.any_moment known r.lines (r.read known)) (g.met.D.Disk.counts_now c.recover.new.disk) c.copy.ensures.apart.journal_copy (run known);
     }

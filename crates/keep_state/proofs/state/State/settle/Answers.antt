@@ -1,5 +1,5 @@
 -- FILE becomes what is kept; then the copy is FILE, and the journal empty.
-use Rattle.std.proofs.Common.{◌≡◌, ℕ, IsTrue, List, [], ◌∷◌, ◌++◌, true, false, Option, Some, OnOk, refl, sym, ap, subst, ◌∙◌}
+use Rattle.std.proofs.Common.{◌≡◌, inl, ℕ, IsTrue, List, [], ◌∷◌, ◌++◌, true, false, Option, Some, OnOk, refl, sym, ap, subst, ◌∙◌}
 use Rattle.std.specs.Prelude.{option_map, string_bytes}
 use Rattle.std.specs.Str.{bytes_eq}
 use Rattle.keep_change.specs.Replay.{replayed}
@@ -8,14 +8,18 @@ use Rattle.keep_disk.specs.State.{LeavesOnly}
 use Rattle.keep_journal.specs.Journals.{Exchanging, FileIsThere, JournalIsAtRest, bytes_of_file}
 use Rattle.keep_journal.specs.Records.{StandsFor}
 use Rattle.keep_store.specs.Books.{Book}
-use Rattle.keep_store.specs.Moved.{IsMoved, IsMovedBook, IsMovedIf, LeftByMove, mark_line}
+use Rattle.keep_store.specs.Moved.{IsMoved, IsMovedBook, FailsInSteps, IsMovedIf, LeftByMove, MovesInSteps, mark_line}
 use Rattle.keep_store.specs.Stores.{FileHolds, book_of, is_sure, journal_of, lines_in, path_of_store}
 use Rattle.keep_waiting.specs.Keepers.{store_of}
+use Rattle.keep_state.specs.Lives.{SettlesInSteps}
 use Rattle.keep_state.specs.Settles.{IsSettledState, LeftBySettling, copy_with, mode_of}
 use Rattle.keep_state.specs.States.{Kept, store_in}
 use Rattle.keep_journal.proofs.Steps.{on_refused}
+use Rattle.keep_store.proofs.Copied.{on_ok}
 use Rattle.keep_state.proofs.Filed.{holds_alone, keeps_at, keeps_handed}
-use Rattle.keep_state.proofs.Renewed.{file_past, handed_so, not_copied, on_err, then_handed}
+use Rattle.keep_state.proofs.Others.{apart_back}
+use Rattle.keep_state.proofs.Renewed.{file_is_other, file_past, handed_so, not_copied, on_err, then_handed}
+use Rattle.keep_state.proofs.Stepping.{hand_call, not_settled, nothing_moved, read_call, settled}
 use Rattle.keep_state.proofs.state.State.settle.Goals as goal
 
 pub returns-in_err-moved-clause-any_moment : goal.returns-in_err-moved-clause-any_moment
@@ -133,3 +137,65 @@ invariant_of-self-2 g c =
     (λ is. subst (λ (q : List ℕ). LeavesOnly u v (Exchanging q places.copy (copy_with bytes) (λ f. StandsFor f []) u)) at
     (subst (λ (q : List ℕ). LeavesOnly u v (Exchanging p q (copy_with bytes) (λ f. StandsFor f []) u)) c.copy.ensures.value (c.hand_over-left.ensures.any_moment is)))
     (g.met.D.Disk.counts_now c.hand_over-left.new.disk) c.hand_over-left.ensures.kept
+
+pub returns-in_err-bytes-clause-steps : goal.returns-in_err-bytes-clause-steps
+returns-in_err-bytes-clause-steps g c known =
+    let s = g.D.Disk.state in
+    let keeper = c.self.inside.keeper in
+    let places = c.self.inside.paths.now in
+    let new : Kept g.row.D.Denot = record { keeper = keeper; disk = c.read_file.new.disk; places = places } in
+    subst (λ (k : Kept g.row.D.Denot). SettlesInSteps s k new) c.self.view_is
+    (inl (read_call g.D.Disk.is_known known s places keeper keeper c.self.inside.disk c.read_file.new.disk c.self.invariant refl (c.read_file.ensures.alone known) (c.read_file.ensures.any_moment known)))
+
+pub returns-in_err-moved-clause-steps : goal.returns-in_err-moved-clause-steps
+returns-in_err-moved-clause-steps g c known =
+    let s = g.D.Disk.state in
+    let keeper = c.self.inside.keeper in
+    let places = c.self.inside.paths.now in
+    let mode = mode_of c.in_ok-bytes.field-0.mode in
+    let present = c.list.result.now in
+    let mid = c.settle.new.self in
+    let file : File = record { mode = c.in_ok-bytes.field-0.mode; bytes = c.in_ok-bytes.field-0.bytes } in
+    let seen : (s c.self.inside.disk).seen places.file ≡ Some file = cc (c.in_ok-bytes.ensures.read known, c.file.ensures.value) in
+    let there : bytes_of_file ((s c.read_file.new.disk).seen places.file) ≡ present =
+    ap (λ (image : Image). bytes_of_file (image places.file)) (c.read_file.ensures.alone known).seen ∙ ap bytes_of_file seen ∙ sym c.list.ensures in
+    let new : Kept g.row.D.Denot = record { keeper = mid; disk = c.settle.new.disk; places = places } in
+    let now = keeps_at g.D.Disk.is_known keeper mid places (s c.self.inside.disk) (s c.settle.new.disk) c.self.invariant c.settle.ensures.held c.settle.ensures.replayed c.settle.ensures.path c.file-2.result.now c.file-2.ensures.value c.settle.ensures.file in
+    subst (λ (k : Kept g.row.D.Denot). SettlesInSteps s k new) c.self.view_is
+    (not_settled g.D.Disk.is_known known s places keeper mid c.self.inside.disk c.read_file.new.disk c.settle.new.disk mode present c.self.invariant (c.read_file.ensures.alone known) (c.read_file.ensures.any_moment known) there
+    (subst (λ (q : List ℕ). FailsInSteps g.D.Disk.is_known s (store_of keeper) q mode present c.read_file.new.disk (store_of mid) c.settle.new.disk) c.file-2.ensures.value (c.in_err-moved.ensures.begun known)) now)
+
+pub returns-clause-steps : goal.returns-clause-steps
+returns-clause-steps g c known =
+    let s = g.D.Disk.state in
+    let keeper = c.self.inside.keeper in
+    let places = c.self.inside.paths.now in
+    let mode = mode_of c.in_ok-bytes.field-0.mode in
+    let present = c.list.result.now in
+    let text = string_bytes c.in-Some.text in
+    let mid = c.settle.new.self in
+    let last = c.hand_over-left.new.self in
+    let r = c.read_file.new.disk in
+    let u = c.settle.new.disk in
+    let v = c.hand_over-left.new.disk in
+    let file : File = record { mode = c.in_ok-bytes.field-0.mode; bytes = c.in_ok-bytes.field-0.bytes } in
+    let seen : (s c.self.inside.disk).seen places.file ≡ Some file = cc (c.in_ok-bytes.ensures.read known, c.file.ensures.value) in
+    let there : bytes_of_file ((s r).seen places.file) ≡ present =
+    ap (λ (image : Image). bytes_of_file (image places.file)) (c.read_file.ensures.alone known).seen ∙ ap bytes_of_file seen ∙ sym c.list.ensures in
+    let new : Kept g.row.D.Denot = record { keeper = last; disk = v; places = places } in
+    let now = keeps_at g.D.Disk.is_known keeper mid places (s c.self.inside.disk) (s u) c.self.invariant c.settle.ensures.held c.settle.ensures.replayed c.settle.ensures.path c.file-2.result.now c.file-2.ensures.value c.settle.ensures.file in
+    let at = c.settle.ensures.path ∙ c.self.invariant.path in
+    let p = path_of_store (store_of mid) in
+    let moved = subst (λ (q : List ℕ). IsMovedIf g.D.Disk.is_known (store_of keeper) q mode (Some text) (store_of mid) (s u)) c.file-2.ensures.value
+    (subst (λ (o : Option _). IsMovedIf g.D.Disk.is_known (store_of keeper) c.file-2.result.now mode (option_map string_bytes o) (store_of mid) (s u)) c.in-Some.is c.in_ok-moved.ensures.settled) in
+    let steps = subst (λ (q : List ℕ). MovesInSteps g.D.Disk.is_known s (store_of keeper) q mode present r (Some text) (store_of mid) u) c.file-2.ensures.value
+    (subst (λ (o : Option _). MovesInSteps g.D.Disk.is_known s (store_of keeper) c.file-2.result.now mode present r (option_map string_bytes o) (store_of mid) u) c.in-Some.is (c.in_ok-moved.ensures.steps known)) in
+    let run : LeavesOnly (s u) (s v) (Exchanging p places.copy (copy_with text) (λ f. StandsFor f []) (s u)) =
+    subst (λ (q : List ℕ). LeavesOnly (s u) (s v) (Exchanging p q (copy_with text) (λ f. StandsFor f []) (s u))) c.copy.ensures.value
+    (subst (λ (b : List ℕ). LeavesOnly (s u) (s v) (Exchanging p c.copy.result.now (copy_with b) (λ f. StandsFor f []) (s u))) c.as_bytes.ensures.value (c.hand_over-left.ensures.any_moment known)) in
+    let same = (c.hand_over-left.ensures.others known places.file (ap (λ (q : List ℕ). bytes_eq q places.file) at ∙ c.self.invariant.apart)
+    (ap (λ (q : List ℕ). bytes_eq q places.file) c.copy.ensures.value ∙ apart_back places.file places.copy (file_is_other places c.file.ensures.apart))).0 in
+    let hand = hand_call g.D.Disk.is_known known s places mid last u v (record { mode = mode; bytes = text }) text c.hand_over-left.result moved.by_itself moved.sure (moved.there known)
+    (on_ok c.hand_over-left.result (λ emptied. emptied.0) c.hand_over-left.ensures.emptied) c.hand_over-left.ensures.refused c.hand_over-left.ensures.book c.hand_over-left.ensures.sure same (invariant_of-self-2 g c) run in
+    subst (λ (k : Kept g.row.D.Denot). SettlesInSteps s k new) c.self.view_is
+    (settled g.D.Disk.is_known known s places keeper mid c.self.inside.disk r u mode present c.self.invariant (c.read_file.ensures.alone known) (c.read_file.ensures.any_moment known) there text steps now last v hand)

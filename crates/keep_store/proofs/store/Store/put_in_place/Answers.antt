@@ -1,5 +1,5 @@
 -- The file is in its place; or it is looked at which one is there. The journal is left alone.
-use Rattle.std.proofs.Common.{sym, ap, ◌∙◌}
+use Rattle.std.proofs.Common.{sym, ap, subst, ◌∙◌}
 use Rattle.std.proofs.lemmas.Bool.{and_parts, true≢false}
 use Rattle.keep_disk.specs.Image.{File, Image}
 use Rattle.keep_disk.specs.State.{IsAfter}
@@ -55,3 +55,9 @@ returns-in-Ok-clause-file g c known kept sound left now = (c.in-Ok.ensures.repla
 
 pub returns-in-Err-clause-file : goal.returns-in-Err-clause-file
 returns-in-Err-clause-file g c known kept = absurd (true≢false (sym kept))
+
+pub returns-in-Err-clause-seen : goal.returns-in-Err-clause-seen
+returns-in-Err-clause-seen g c known =
+    let s = g.D.Disk.state in
+    let file : File = record { mode = c.args.mode; bytes = c.args.bytes.now } in
+    subst (MovesFile c.args.target.now file (s c.args.disk.now).seen) (sym (c.has_still.ensures.alone known).seen) (c.replace.ensures.seen known)

@@ -10,12 +10,13 @@ use Rattle.keep_journal.specs.Journals.{CrashLeaves, FileIsThere, JournalHolds, 
 use Rattle.keep_journal.specs.Records.{IsBeforeOrAfter}
 use Rattle.keep_store.specs.declared.store.Store.{Store}
 use Rattle.keep_store.specs.Moved.{LeftByMove, SaysAlready, mark_line}
-use Rattle.keep_store.specs.Stores.{IsReplayed, journal_of, lines_in, path_of_store}
+use Rattle.keep_store.specs.Stores.{IsReplayed, book_of, journal_of, lines_in, path_of_store}
 use Rattle.keep_store.specs.code.Moving.{IsMoving}
 use Rattle.keep_journal.proofs.Steps.{on_refused}
 use Rattle.keep_store.proofs.Kept.{holds_past}
 use Rattle.keep_store.proofs.Marking.{first_marked}
 use Rattle.keep_store.proofs.MovedOn.{marked_replays, marked_then, moved_replays, says_by_itself}
+use Rattle.keep_store.proofs.Stepping.{puts_file, puts_mark}
 use Rattle.keep_store.proofs.store.Store.settle.Goals as goal
 
 pub returns-in_err-put-clause-replayed : goal.returns-in_err-put-clause-replayed
@@ -116,3 +117,48 @@ returns-in_err-put-clause-file g c =
     let new : Store = record { alloc = old.alloc; journal = c.put.new.self; book = old.book; is_sure = old.is_sure; is_kept = old.is_kept } in
     holds_past g.D.Disk.is_known old new (path_of_store old) c.args.target.now (IsBeforeOrAfter (lines_in old) c.in-Some.moving.line) (s c.args.disk.now) (s c.put.new.disk) c.requires.apart c.put.ensures.others
     c.put.ensures.any_moment (g.met.D.Disk.counts_now c.put.new.disk) refl c.requires.file
+
+pub returns-in_err-put-clause-begun : goal.returns-in_err-put-clause-begun
+returns-in_err-put-clause-begun g c = on_refused c.from_residual-in_err-put.result (λ known.
+    let s = g.D.Disk.state in
+    let old = c.args.self.now in
+    let is = MatchOption-at_some (SaysAlready old.book) (IsMoving old.book) c.in-Some.moving c.in-Some.is c.in_ok-moving.ensures in
+    let new : Store = record { alloc = old.alloc; journal = c.put.new.self; book = old.book; is_sure = old.is_sure; is_kept = old.is_kept } in
+    inr (string_bytes c.in-Some.moving.text, is.served, is.says, inl (puts_mark g.D.Disk.is_known s old c.in-Some.moving is c.args.target.now c.args.disk.now c.put.new.disk new c.requires.replayed refl refl c.put.ensures.path
+    (inl c.in_err-put.ensures.refused) c.put.ensures.held (returns-in_err-put-clause-file g c) (c.put.ensures.others known) (c.put.ensures.any_moment known))))
+
+pub returns-in_err-put_in_place-clause-begun : goal.returns-in_err-put_in_place-clause-begun
+returns-in_err-put_in_place-clause-begun g c = on_refused c.from_residual-in_err-put_in_place.result (λ known.
+    let s = g.D.Disk.state in
+    let old = c.args.self.now in
+    let is = MatchOption-at_some (SaysAlready old.book) (IsMoving old.book) c.in-Some.moving c.in-Some.is c.in_ok-moving.ensures in
+    let marked : Store = record { alloc = old.alloc; journal = c.put.new.self; book = old.book; is_sure = old.is_sure; is_kept = old.is_kept } in
+    let new = c.put_in_place.new.self in
+    let first = puts_mark g.D.Disk.is_known s old c.in-Some.moving is c.args.target.now c.args.disk.now c.put.new.disk marked c.requires.replayed refl refl c.put.ensures.path
+    (inr c.in_ok-put.ensures.acknowledged.0) c.put.ensures.held
+    (holds_past g.D.Disk.is_known old marked (path_of_store old) c.args.target.now (IsBeforeOrAfter (lines_in old) c.in-Some.moving.line) (s c.args.disk.now) (s c.put.new.disk) c.requires.apart c.put.ensures.others
+    c.put.ensures.any_moment (g.met.D.Disk.counts_now c.put.new.disk) refl c.requires.file)
+    (c.put.ensures.others known) (c.put.ensures.any_moment known) in
+    let second = puts_file g.D.Disk.is_known s old c.in-Some.moving is c.args.target.now c.put.new.disk c.put_in_place.new.disk c.args.mode c.args.present.now c.as_bytes.result.now marked new c.in_ok-put.ensures.acknowledged.0
+    (c.in_ok-put.ensures.acknowledged.1 known) (ap journal_of c.put_in_place.ensures.rest) c.as_bytes.ensures.value (c.put_in_place.ensures.seen known) (c.put_in_place.ensures.any_moment known)
+    (inr (record { book = ap book_of c.put_in_place.ensures.rest; sure = λ sure. let is = c.in_err-put_in_place.ensures.sure sure in (is.0, is.1 known) })) in
+    inr (string_bytes c.in-Some.moving.text, is.served, is.says, inr (marked, c.put.new.disk, first, second)))
+
+pub returns-clause-steps : goal.returns-clause-steps
+returns-clause-steps g c known =
+    let s = g.D.Disk.state in
+    let old = c.args.self.now in
+    let is = MatchOption-at_some (SaysAlready old.book) (IsMoving old.book) c.in-Some.moving c.in-Some.is c.in_ok-moving.ensures in
+    let marked : Store = record { alloc = old.alloc; journal = c.put.new.self; book = old.book; is_sure = old.is_sure; is_kept = old.is_kept } in
+    let put = c.put_in_place.new.self in
+    let new : Store = record { alloc = put.alloc; journal = put.journal; book = c.in-Some.moving.book; is_sure = put.is_sure; is_kept = put.is_kept } in
+    let first = puts_mark g.D.Disk.is_known s old c.in-Some.moving is c.args.target.now c.args.disk.now c.put.new.disk marked c.requires.replayed refl refl c.put.ensures.path
+    (inr c.in_ok-put.ensures.acknowledged.0) c.put.ensures.held
+    (holds_past g.D.Disk.is_known old marked (path_of_store old) c.args.target.now (IsBeforeOrAfter (lines_in old) c.in-Some.moving.line) (s c.args.disk.now) (s c.put.new.disk) c.requires.apart c.put.ensures.others
+    c.put.ensures.any_moment (g.met.D.Disk.counts_now c.put.new.disk) refl c.requires.file)
+    (c.put.ensures.others known) (c.put.ensures.any_moment known) in
+    let moved = returns-clause-settled g c in
+    let second = puts_file g.D.Disk.is_known s old c.in-Some.moving is c.args.target.now c.put.new.disk c.put_in_place.new.disk c.args.mode c.args.present.now c.as_bytes.result.now marked new c.in_ok-put.ensures.acknowledged.0
+    (c.in_ok-put.ensures.acknowledged.1 known) (ap journal_of c.put_in_place.ensures.rest) c.as_bytes.ensures.value (c.put_in_place.ensures.seen known) (c.put_in_place.ensures.any_moment known)
+    (inl (record { there = moved.there known; book = moved.book; by_itself = moved.by_itself; sure = moved.sure })) in
+    (is.served, is.says, (marked, c.put.new.disk, first, second))
