@@ -145,6 +145,7 @@ returns-in_err-put_in_place-clause-begun g c = on_refused c.from_residual-in_err
     inr (string_bytes c.in-Some.moving.text, is.served, is.says, inr (marked, c.put.new.disk, first, second)))
 
 pub returns-clause-steps : goal.returns-clause-steps
+unfolding returns-clause-settled
 returns-clause-steps g c known =
     let s = g.D.Disk.state in
     let old = c.args.self.now in
