@@ -196,7 +196,7 @@ module _ {D : Type 0} (state : D → DiskState) (counts : (disk : D) (t : ℕ) (
           let here = subst (λ (p : List ℕ). StandsFor (bytes_of_file (d p)) lines) (sym at_journal) reads in
           ⊎_elim
           (λ same. still f lines (so.fits.cross left.0 right.0 left.1 right.1 f was lines
-            (subst (λ (p : List ℕ). StandsFor (bytes_of_file (right.0 p)) lines) at_journal (subst (λ (x : Option File). StandsFor (bytes_of_file x) lines) same here))))
+          (subst (λ (p : List ℕ). StandsFor (bytes_of_file (right.0 p)) lines) at_journal (subst (λ (x : Option File). StandsFor (bytes_of_file x) lines) same here))))
           (λ has. new left.0 left.1 f was (bytes_of_file (d path_now)) has lines here)
           right.3;
     }
@@ -240,14 +240,14 @@ module _ {D : Type 0} (state : D → DiskState) (counts : (disk : D) (t : ℕ) (
         subst (Makes (s.deeds ++ a ∷ []) f) (sym (marked_rows f lines_now text))
         (⊎_elim
         (λ same.
-          let prints : fingerprint file.bytes ≡ fingerprint text = sym (same_texts (fingerprint text) f.mark same ∙ ap (λ (g : replays.File). g.mark) is) in
-          let bytes : file.bytes ≡ text = twin file there prints in
-          let f_is : f ≡ file_of text v = is ∙ ap (λ (b : List ℕ). file_of b w) bytes ∙ ap (file_of text) (same_served w v (read_served text) (subst (λ (b : List ℕ). read_served b ≡ Ok w) bytes read) says.read) in
-          let rows : f.rows ≡ in_order (book_in old).rows = ap (λ (g : replays.File). g.rows) f_is ∙ says.listed in
-          subst (Makes (s.deeds ++ a ∷ []) f) (sym (cond-true (bytes_eq (fingerprint text) f.mark) f.rows (replayed f (records_in lines_now)).rows same ∙ rows))
-          (subst (λ (g : replays.File). Makes (s.deeds ++ a ∷ []) g (in_order (book_in old).rows)) (sym f_is) (settle_makes text v false says)))
+        let prints : fingerprint file.bytes ≡ fingerprint text = sym (same_texts (fingerprint text) f.mark same ∙ ap (λ (g : replays.File). g.mark) is) in
+        let bytes : file.bytes ≡ text = twin file there prints in
+        let f_is : f ≡ file_of text v = is ∙ ap (λ (b : List ℕ). file_of b w) bytes ∙ ap (file_of text) (same_served w v (read_served text) (subst (λ (b : List ℕ). read_served b ≡ Ok w) bytes read) says.read) in
+        let rows : f.rows ≡ in_order (book_in old).rows = ap (λ (g : replays.File). g.rows) f_is ∙ says.listed in
+        subst (Makes (s.deeds ++ a ∷ []) f) (sym (cond-true (bytes_eq (fingerprint text) f.mark) f.rows (replayed f (records_in lines_now)).rows same ∙ rows))
+        (subst (λ (g : replays.File). Makes (s.deeds ++ a ∷ []) g (in_order (book_in old).rows)) (sym f_is) (settle_makes text v false says)))
         (λ other. subst (Makes (s.deeds ++ a ∷ []) f) (sym (cond-false (bytes_eq (fingerprint text) f.mark) f.rows (replayed f (records_in lines_now)).rows other))
-          (made_without s.deeds (book_in first).file f (book_in first).rows (replayed f (records_in lines_now)).rows a refl reads))
+        (made_without s.deeds (book_in first).file f (book_in first).rows (replayed f (records_in lines_now)).rows a refl reads))
         (cases_Bool (bytes_eq (fingerprint text) f.mark)))
 
     -- the text with its mark gives what is kept
@@ -331,9 +331,9 @@ module _ {D : Type 0} (state : D → DiskState) (counts : (disk : D) (t : ℕ) (
             (subst (λ (x : Option File). StandsFor (bytes_of_file x) lines) (subst (λ (p : List ℕ). d p ≡ other.was p) at_journal e) reads) in
             ⊎_elim (λ none. same none.1)
             (λ copied. ⊎_elim same
-              (λ empty. by_lines s.deeds f (bytes_of_file (d first.places.journal)) [] lines (subst (λ (p : List ℕ). StandsFor (bytes_of_file (d p)) []) at_journal empty) reads
-                (emptied_reads f (alone_there one.was one.before f was)))
-              copied.1)
+            (λ empty. by_lines s.deeds f (bytes_of_file (d first.places.journal)) [] lines (subst (λ (p : List ℕ). StandsFor (bytes_of_file (d p)) []) at_journal empty) reads
+            (emptied_reads f (alone_there one.was one.before f was)))
+            copied.1)
             other.both;
       }
 
@@ -520,9 +520,9 @@ module _ {D : Type 0} (state : D → DiskState) (counts : (disk : D) (t : ℕ) (
           (λ c left f there. place_with mode text v false ready refl c (amid c left) f there)
           shown
           (λ now.
-            let still = is.sure now in
-            let bytes = subst (λ (p : Places). bytes_of_file ((state kept.disk).seen p.file) ≡ bytes_of_file ((state old.disk).seen p.file)) so.places still.1 in
-            in_bytes ((state old.disk).seen first.places.file) ((state kept.disk).seen first.places.file) so.shown.says bytes shown.says so.shown.is shown.is ∙ so.sure still.0 ∙ sym done.file)
+          let still = is.sure now in
+          let bytes = subst (λ (p : Places). bytes_of_file ((state kept.disk).seen p.file) ≡ bytes_of_file ((state old.disk).seen p.file)) so.places still.1 in
+          in_bytes ((state old.disk).seen first.places.file) ((state kept.disk).seen first.places.file) so.shown.says bytes shown.says so.shown.is shown.is ∙ so.sure still.0 ∙ sym done.file)
           (subst (λ (g : replays.File). Reads deeds g lines_now) (sym done.file) (weak (book_in old).file reads_now))
 
       call_holds : (aim : Aim) (is_acknowledged : Bool) → IsCall state old (record { aim = aim; is_acknowledged = is_acknowledged; kept = kept }) → HasNoTwin state aim old
@@ -536,19 +536,19 @@ module _ {D : Type 0} (state : D → DiskState) (counts : (disk : D) (t : ℕ) (
           λ f reads. made_without s.deeds (book_in first).file f (book_in first).rows (replayed f (records_in lines_now)).rows a refl reads in
           ⊎_elim
           (λ still. holds_still (Change line) false is deeds lines_now still.lines is.seen is.sure still.file fits
-            (put_with deeds lines_now (IsBeforeOrAfter lines_now line) (λ c left f there. weak f (so.now c left f there))) (weak so.shown.says so.shown.reads) (weak (book_in old).file reads_now))
+          (put_with deeds lines_now (IsBeforeOrAfter lines_now line) (λ c left f there. weak f (so.now c left f there))) (weak so.shown.says so.shown.reads) (weak (book_in old).file reads_now))
           (λ done. holds_still (Change line) false is deeds (lines_now ++ line ∷ []) done.lines is.seen is.sure done.file fits
-            (put_with deeds (lines_now ++ line ∷ []) (IsBeforeOrAfter lines_now line) (change_with line)) (change_reads line so.shown.says so.shown.reads) (change_reads line (book_in old).file reads_now))
+          (put_with deeds (lines_now ++ line ∷ []) (IsBeforeOrAfter lines_now line) (change_with line)) (change_reads line so.shown.says so.shown.reads) (change_reads line (book_in old).file reads_now))
           is.done
       call_holds Compact is_acknowledged is twin =
           let fits = amid_call Compact is_acknowledged kept is.done twin in
           let P : List ℕ → Type 0 = λ bytes. StandsFor bytes (compacted_lines lines_now) in
           ⊎_elim
           (λ still. holds_still Compact is_acknowledged is s.deeds lines_now still.lines is.seen is.sure still.file fits
-            (λ c left f there. put_with s.deeds lines_now P so.now c left.1 f there) so.shown.reads reads_now)
+          (λ c left f there. put_with s.deeds lines_now P so.now c left.1 f there) so.shown.reads reads_now)
           (λ (worth, over). holds_still Compact is_acknowledged is s.deeds (compacted_lines lines_now) over.lines_are is.seen is.sure over.file fits
-            (λ c left f there. put_with s.deeds (compacted_lines lines_now) P (λ d was g has. compacted_reads worth g (so.now d was g has)) c left.1 f there)
-            (compacted_reads worth so.shown.says so.shown.reads) (compacted_reads worth (book_in old).file reads_now))
+          (λ c left f there. put_with s.deeds (compacted_lines lines_now) P (λ d was g has. compacted_reads worth g (so.now d was g has)) c left.1 f there)
+          (compacted_reads worth so.shown.says so.shown.reads) (compacted_reads worth (book_in old).file reads_now))
           is.done
       call_holds (Reload bytes) true is twin = reread_holds bytes is
       call_holds (Reload bytes) false is twin =
@@ -564,15 +564,15 @@ module _ {D : Type 0} (state : D → DiskState) (counts : (disk : D) (t : ℕ) (
           let none = subst (λ (p : Places). (file : File) → (state old.disk).seen p.file ≡ Some file → fingerprint file.bytes ≡ fingerprint text → file.bytes ≡ text) so.places (twin (state old.disk).seen (inr refl)) in
           ⊎_elim
           (λ still. holds_still (Mark text v) is_acknowledged is deeds lines_now still.lines is.seen is.sure still.file fits
-            (put_with deeds lines_now (IsBeforeOrAfter lines_now line) (λ c left f there. weak f (so.now c left f there))) (weak so.shown.says so.shown.reads) (weak (book_in old).file reads_now))
+          (put_with deeds lines_now (IsBeforeOrAfter lines_now line) (λ c left f there. weak f (so.now c left f there))) (weak so.shown.says so.shown.reads) (weak (book_in old).file reads_now))
           (λ over.
-            let rows : (replayed (book_in old).file (records_in (lines_now ++ line ∷ []))).rows ≡ (book_in old).rows =
-            ap (λ (ls : List (List ℕ)). (replayed (book_in old).file (records_in ls)).rows) (sym over.lines_are)
-            ∙ ap (λ (f : replays.File). (replayed f (records_in (lines_in (store_in kept)))).rows) (sym over.file) ∙ is.keeping.replayed ∙ over.rows in
-            holds_still (Mark text v) is_acknowledged is deeds (lines_now ++ line ∷ []) over.lines_are is.seen is.sure over.file fits
-            (put_with deeds (lines_now ++ line ∷ []) (IsBeforeOrAfter lines_now line) (mark_with text v says twin))
-            (mark_reads text v says ((state old.disk).seen first.places.file) none so.shown.says so.shown.is so.shown.reads)
-            (subst (Makes deeds (book_in old).file) (sym rows) (made_without s.deeds (book_in first).file (book_in old).file (book_in first).rows (book_in old).rows a refl so.held)))
+          let rows : (replayed (book_in old).file (records_in (lines_now ++ line ∷ []))).rows ≡ (book_in old).rows =
+          ap (λ (ls : List (List ℕ)). (replayed (book_in old).file (records_in ls)).rows) (sym over.lines_are)
+          ∙ ap (λ (f : replays.File). (replayed f (records_in (lines_in (store_in kept)))).rows) (sym over.file) ∙ is.keeping.replayed ∙ over.rows in
+          holds_still (Mark text v) is_acknowledged is deeds (lines_now ++ line ∷ []) over.lines_are is.seen is.sure over.file fits
+          (put_with deeds (lines_now ++ line ∷ []) (IsBeforeOrAfter lines_now line) (mark_with text v says twin))
+          (mark_reads text v says ((state old.disk).seen first.places.file) none so.shown.says so.shown.is so.shown.reads)
+          (subst (Makes deeds (book_in old).file) (sym rows) (made_without s.deeds (book_in first).file (book_in old).file (book_in first).rows (book_in old).rows a refl so.held)))
           is.done.1
       call_holds (Place mode text v) true is twin = placed_holds mode text v is
       call_holds (Place mode text v) false is twin = unplaced_holds mode text v is
@@ -582,8 +582,8 @@ module _ {D : Type 0} (state : D → DiskState) (counts : (disk : D) (t : ℕ) (
           ⊎_elim
           (λ still. holds_still (HandOver text) is_acknowledged is s.deeds lines_now still.lines is.seen is.sure still.file fits (hand_with text all lines_now so.now) so.shown.reads reads_now)
           (λ over. holds_still (HandOver text) is_acknowledged is s.deeds [] over.lines_are is.seen is.sure over.file fits
-            (hand_with text all [] (λ c left f there. emptied_reads text all f (alone_there text all c left f there)))
-            (emptied_reads text all so.shown.says (so.sure all.sure)) (emptied_reads text all (book_in old).file refl))
+          (hand_with text all [] (λ c left f there. emptied_reads text all f (alone_there text all c left f there)))
+          (emptied_reads text all so.shown.says (so.sure all.sure)) (emptied_reads text all (book_in old).file refl))
           is.done.1
       call_holds Alone is_acknowledged is twin = holds_still Alone is_acknowledged is s.deeds lines_now is.done.lines is.seen is.sure is.done.file so.fits so.now so.shown.reads reads_now
 
@@ -612,7 +612,7 @@ module _ {D : Type 0} (state : D → DiskState) (counts : (disk : D) (t : ℕ) (
       there = λ c left. subst (λ (x : Option File). (f : replays.File) × IsIn x f) (sym (start_there c left)) (fits.there left.was (inl left.before));
       cross = λ c d one other f is others reads. ⊎_elim
           (λ same. fits.cross one.was other.was (inl one.before) (inl other.before) f (subst (λ (x : Option File). IsIn x f) (start_there c one) is) others
-            (subst (λ (x : Option File). StandsFor (bytes_of_file x) others) same reads))
+          (subst (λ (x : Option File). StandsFor (bytes_of_file x) others) same reads))
           (λ (now, stands, same). by_lines deeds f (bytes_of_file (d first.places.journal)) now others stands reads (start_with now same c one f is))
           other.journal;
     }

@@ -79,22 +79,28 @@ module _ {D : Type 0} (known : Bool) (is : IsTrue known) (state : D → DiskStat
         let keeping = known_keeping known new places (state t) is now in
         let lines : lines_in (store_of new) ≡ lines_in (store_of keeper) = ap lines_of_journal put.journal in
         ⊎_elim
-        (λ placed. (true, record {
-          done = (ready, record { there = placed.there; file = placed.book.file; rows = placed.book.rows; lines = lines });
-          sure = tt;
-          seen = put.seen;
-          places = refl;
-          keeping = keeping;
-          any_moment = run;
-        }))
-        (λ not. (false, record {
-          done = (ready, record { lines = lines; file = ap (λ (b : Book). b.file) not.book; rows = ap (λ (b : Book). b.rows) not.book });
-          sure = λ sure. ((not.sure sure).0, (not.sure sure).1 ∙ sym there);
-          seen = put.seen;
-          places = refl;
-          keeping = keeping;
-          any_moment = run;
-        }))
+        (λ placed. (
+          true,
+          record {
+            done = (ready, record { there = placed.there; file = placed.book.file; rows = placed.book.rows; lines = lines });
+            sure = tt;
+            seen = put.seen;
+            places = refl;
+            keeping = keeping;
+            any_moment = run;
+          },
+        ))
+        (λ not. (
+          false,
+          record {
+            done = (ready, record { lines = lines; file = ap (λ (b : Book). b.file) not.book; rows = ap (λ (b : Book). b.rows) not.book });
+            sure = λ sure. ((not.sure sure).0, (not.sure sure).1 ∙ sym there);
+            seen = put.seen;
+            places = refl;
+            keeping = keeping;
+            any_moment = run;
+          },
+        ))
         put.outcome
 
   -- the copy is FILE, and the journal is emptied, or not

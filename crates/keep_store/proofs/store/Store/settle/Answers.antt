@@ -124,8 +124,13 @@ returns-in_err-put-clause-begun g c = on_refused c.from_residual-in_err-put.resu
     let old = c.args.self.now in
     let is = MatchOption-at_some (SaysAlready old.book) (IsMoving old.book) c.in-Some.moving c.in-Some.is c.in_ok-moving.ensures in
     let new : Store = record { alloc = old.alloc; journal = c.put.new.self; book = old.book; is_sure = old.is_sure; is_kept = old.is_kept } in
-    inr (string_bytes c.in-Some.moving.text, is.served, is.says, inl (puts_mark g.D.Disk.is_known s old c.in-Some.moving is c.args.target.now c.args.disk.now c.put.new.disk new c.requires.replayed refl refl c.put.ensures.path
-    (inl c.in_err-put.ensures.refused) c.put.ensures.held (returns-in_err-put-clause-file g c) (c.put.ensures.others known) (c.put.ensures.any_moment known))))
+    inr (
+      string_bytes c.in-Some.moving.text,
+      is.served,
+      is.says,
+      inl (puts_mark g.D.Disk.is_known s old c.in-Some.moving is c.args.target.now c.args.disk.now c.put.new.disk new c.requires.replayed refl refl c.put.ensures.path
+          (inl c.in_err-put.ensures.refused) c.put.ensures.held (returns-in_err-put-clause-file g c) (c.put.ensures.others known) (c.put.ensures.any_moment known)),
+    ))
 
 pub returns-in_err-put_in_place-clause-begun : goal.returns-in_err-put_in_place-clause-begun
 returns-in_err-put_in_place-clause-begun g c = on_refused c.from_residual-in_err-put_in_place.result (λ known.
