@@ -3,6 +3,7 @@
 from __future__ import annotations
 
 import json
+import os
 import socket
 import subprocess
 import tempfile
@@ -79,10 +80,10 @@ def seconds_of(moment: object) -> int:
 class Agent:
     """`leasekeep serve` in a folder, over a broker that is not there, so that it has nothing to do but changes."""
 
-    def __init__(self, program: Path, folder: Path, more: dict[str, str]) -> None:
+    def __init__(self, program: Path, folder: Path, more: dict[str, str], *, is_logged: bool = False) -> None:
         self._socket, self._log = folder / SOCKET, folder / "log"
         self._socket.unlink(missing_ok=True)
-        with self._log.open("wb") as log:
+        with (self._log if is_logged else Path(os.devnull)).open("wb") as log:
             self._process = subprocess.Popen(
                 [program, "serve", FILE_NAME, "./none.sock", "--state", "./state", "--runtime", "./run", "--control", f"./{SOCKET}"],
                 cwd=folder, stdout=log, stderr=subprocess.STDOUT, env=more)
@@ -138,5 +139,5 @@ class Agent:
         return answer[: answer.rfind(b"\n") + 1].decode().splitlines()
 
     def log(self) -> list[str]:
-        """The lines of its log up to now."""
+        """The lines of its log up to now, where it has one."""
         return self._log.read_text().splitlines()

@@ -10,7 +10,7 @@ from pathlib import Path
 from trying import WEB, Ran
 
 from .clocks import sleeps
-from .stage import OK, PATIENCE, Stage, until
+from .stage import IN_PIECES, OK, PATIENCE, Stage, until
 
 LONGEST = "150000"
 """The milliseconds for which an agent is waited for."""
@@ -96,9 +96,10 @@ def full_queue(stage: Stage) -> None:
 
 
 def reads_files(stage: Stage) -> None:
-    """A file is read by its path; why one cannot be read is told; a pipe is read once, and not opened again to say more of it."""
+    """A file is read by its path, whole though each read gives a piece; why one cannot be read is told; a pipe is read once, and not
+    opened again to say more of it."""
     (stage.room / "one.toml").write_bytes(WEB)
-    ran, _ = stage.run("ends", "one.toml", "1000")
+    ran, _ = stage.run("ends", "one.toml", "1000", told=IN_PIECES)
     stage.check("a file is read", Ran(0, b"web 1060\nkeeps no\n", b""), ran)
     ran, _ = stage.run("ends", "none.toml", "1000")
     stage.check("why it cannot be read", Ran(6, b"", b"leasekeep: read\nleasekeep: none.toml: No such file or directory\n"), ran)

@@ -9,11 +9,11 @@ from collections.abc import Callable
 from trying import SLOWER, Peer, Ran
 
 from .clocks import LONGEST
-from .stage import TIMEOUT, Serving, Stage, inventory, until
+from .stage import IN_PIECES, TIMEOUT, Serving, Stage, inventory, until
 
 LOOKED_AT = 10 + LONGEST / 1000
 """Seconds between two looks at a file's stamp: ten, and as long as a turn waits."""
-FIRST, SECOND = "s.one", "s.two"
+FIRST, SECOND = f"s.{1:030}", f"s.{2:030}"
 """Two credentials of one length."""
 HELD = 'secret_file = "held"'
 """How the inventory names the file, which is a link to `web.token`."""
@@ -30,13 +30,14 @@ def opened(agent: Serving) -> int:
 
 
 def follows_files(stage: Stage) -> None:
-    """A file is read at the start and when it has changed, also where only the moment of its last change says so; it is not opened
-    between; what is no regular file is not opened at all."""
+    """A file is read, whole though each read gives a piece, at the start and when it has changed, also where only the moment of its last
+    change says so; it is not opened between; what is no regular file is not opened at all."""
     stage.write("web.token", FIRST)
     (stage.room / "held").symlink_to("web.token")
     name = stage.write("one.toml", inventory(HELD))
     token = stage.room / "web.token"
-    with stage.broker() as broker, stage.serve(name, broker.word, "--state", "./state", "--control", "./control.sock") as agent:
+    words = (name, "./vault.sock", "--state", "./state", "--control", "./control.sock")
+    with stage.broker() as broker, stage.serve(*words, told=IN_PIECES) as agent:
         stage.check("the first credential is sent", True, until(sends(broker, FIRST)))
         time.sleep((2 * LOOKED_AT + 1) * SLOWER)
         before = opened(agent)

@@ -10,13 +10,15 @@ from pathlib import Path
 from trying import Ran
 
 from .recording import CREATE, EXCLUSIVE, EXCLUSIVE_LOCK_AT_ONCE, Call
-from .stage import Serving, Stage, inventory, until
+from .stage import IN_PIECES, Serving, Stage, inventory, until
 
 WORDS = ("./vault.sock", "--control", "./control.sock", "--state", "./state")
 NEEDED = 4_000_000_000
 """A moment until which an entry is needed, with its date: it is served so after a restart."""
 NEED = ("need", "web", str(NEEDED))
 DATE = b"2096-10-02T07:06:40Z"
+UNKEPT = b"ok\nweb has no need\nthis holds until a restart: the agent keeps no changes\n"
+"""What is answered to a need that nothing keeps (docs/commands/serve.md, Commands)."""
 
 
 def place_of(call: Call) -> str:
@@ -82,11 +84,12 @@ def modes(folder: Path) -> dict[str, str]:
 
 
 def keeps_changes(stage: Stage) -> None:
-    """What is acknowledged is on the disk, in files for their user alone, and is there after a kill."""
+    """What is acknowledged is on the disk, whole though each call moves a piece, in files for their user alone, and is there after a
+    kill."""
     name = stage.write("one.toml", inventory(), 0o640)
     state = stage.room / "state"
     with stage.broker():
-        with stage.serve(name, *WORDS, umask=0) as agent:
+        with stage.serve(name, *WORDS, umask=0, told=IN_PIECES) as agent:
             stage.check("it answers", True, agent.answers())
             calls = agent.recording.calls()
             made = [call for call in calls if call.name == "mkdir"]
@@ -99,7 +102,7 @@ def keeps_changes(stage: Stage) -> None:
             stage.check("it is on the disk before", True, synced_after(before_ok(agent.recording.calls()), "state/journal", "pwrite"))
             stage.check("modes", {each: "0o700" if each == "state" else "0o600" for each in modes(state)}, modes(state))
             stage.check("the file of the ends", "0o600", oct(stat.S_IMODE((stage.room / "ends").stat().st_mode)))
-        with stage.serve(name, *WORDS, umask=0o077) as agent:
+        with stage.serve(name, *WORDS, umask=0o077, told=IN_PIECES) as agent:
             stage.check("it answers again", True, agent.answers())
             stage.check("what was acknowledged holds", True, until(lambda: DATE in agent.asked("status")))
             stage.check("settle", b"ok\none.toml holds every change\n", agent.asked("settle"))
@@ -138,12 +141,17 @@ def holds_its_folder(stage: Stage) -> None:
             stage.check("after the first one it is free", True, agent.answers())
 
 
+def need_in(path: Path) -> str:
+    """The need that the one table of an inventory writes."""
+    return next(line.split()[2] for line in path.read_text().splitlines() if line.startswith("need"))
+
+
 def mends_a_journal(stage: Stage) -> None:
     """A start reads a journal with a torn record after its last one, and writes nothing; the first change makes the journal anew."""
     name = stage.write("one.toml", inventory())
     state = stage.room / "state"
     state.mkdir(0o700)
-    was = next(line.split()[2] for line in (stage.room / name).read_text().splitlines() if line.startswith("need"))
+    was = need_in(stage.room / name)
     record, torn = f"+need web {was} {NEEDED}\n", f"-need web {was} 7"
     stage.write("state/journal", record + torn)
     with stage.broker(), stage.serve(name, *WORDS) as agent:
@@ -198,8 +206,26 @@ def tells_of_failures(stage: Stage) -> None:
             stage.check(f"{call} fails no more", True, agent.asked(*words).startswith(b"ok\n"))
 
 
+def loses_no_journal(stage: Stage) -> None:
+    """Where the journal cannot be opened or read, or the lock cannot be had, the folder is not used; what stands in it holds once it is."""
+    name = stage.write("one.toml", inventory())
+    (stage.room / "state").mkdir(0o700)
+    was = need_in(stage.room / name)
+    stage.write("state/journal", record := f"+need web {was} {NEEDED}\n-")
+    with stage.broker():
+        for call in ("open journal", "read journal", "flock"):
+            with stage.serve(name, *WORDS, told=stage.failing(call)) as agent:
+                stage.check(f"{call} fails: it answers", True, agent.answers())
+                stage.check(f"{call} fails: that is said", True, agent.says("alert: folder ./state cannot be used (the disk failed)"))
+                stage.check(f"{call} fails: no change is kept", UNKEPT, agent.asked("need", "web", "0"))
+            stage.check(f"{call} fails: the journal is as it was", record, (stage.room / "state/journal").read_text())
+        with stage.serve(name, *WORDS) as agent:
+            stage.check("it answers", True, agent.answers())
+            stage.check("what stood there holds", True, DATE in agent.asked("status"))
+
+
 def tells_of_open_files(stage: Stage) -> None:
-    """What others may read is told of; a file with more than it may hold, and one that cannot be read, are told of too."""
+    """What others may read is told of; a file that can be neither read nor written is told of too."""
     name = stage.write("one.toml", inventory())
     with stage.broker():
         with stage.serve(name, *WORDS) as agent:

@@ -7,11 +7,14 @@
    It does what the environment says besides:
      BOOT_AHEAD    CLOCK_BOOTTIME is ahead by so many seconds, as where the machine was suspended for so long
      SHORT_WRITES  a write to a socket or a pipe takes so many bytes at most
-     FAILS         names a file: each call whose name stands in it fails (EIO), of those that ask `fails` */
+     SHORT_FILES   a read or a write of a file moves so many bytes at most
+     FAILS         names a file: each call whose name stands in it fails (EIO), of those that ask `fails`. Behind the name of `open` and
+                   of `read` stands that of the file, without its folder */
 #define _GNU_SOURCE
 #include <arpa/inet.h>
 #include <errno.h>
 #include <fcntl.h>
+#include <limits.h>
 #include <poll.h>
 #include <signal.h>
 #include <stdarg.h>
@@ -33,11 +36,11 @@
 #define LOG_FD 500 /* above all that a program opens, so that its own numbers are as without this library */
 
 static int log_fd = -1;
-static long boot_ahead, short_writes;
+static long boot_ahead, short_writes, short_files;
 static const char *failing;
 
 __attribute__((constructor)) static void begin(void) {
-    const char *name = getenv("CALLS"), *ahead = getenv("BOOT_AHEAD"), *most = getenv("SHORT_WRITES");
+    const char *name = getenv("CALLS"), *ahead = getenv("BOOT_AHEAD"), *most = getenv("SHORT_WRITES"), *piece = getenv("SHORT_FILES");
     if (!name) return;
     int fd = syscall(SYS_openat, AT_FDCWD, name, O_WRONLY | O_CREAT | O_APPEND | O_CLOEXEC, 0600);
     log_fd = fd < 0 ? -1 : syscall(SYS_fcntl, fd, F_DUPFD_CLOEXEC, LOG_FD);
@@ -45,6 +48,7 @@ __attribute__((constructor)) static void begin(void) {
     syscall(SYS_close, fd);
     boot_ahead = ahead ? atol(ahead) : 0;
     short_writes = most ? atol(most) : 0;
+    short_files = piece ? atol(piece) : 0;
     failing = getenv("FAILS");
 }
 
@@ -77,7 +81,7 @@ static long of(long result) { return result < 0 ? -errno : result; }
 
 /* Whether calls of that name fail now. */
 static int fails(const char *name) {
-    char word[32];
+    char word[300];
     int fd = failing ? syscall(SYS_openat, AT_FDCWD, failing, O_RDONLY | O_CLOEXEC, 0) : -1;
     ssize_t count = fd < 0 ? 0 : syscall(SYS_read, fd, word, sizeof word - 1);
     if (fd >= 0) syscall(SYS_close, fd);
@@ -85,6 +89,22 @@ static int fails(const char *name) {
     if (strcmp(word, name) != 0) return 0;
     errno = EIO;
     return 1;
+}
+
+/* Whether calls of that name fail now of the file at this path. */
+static int fails_at(const char *name, const char *path) {
+    const char *slash = strrchr(path, '/');
+    char word[300];
+    return failing && snprintf(word, sizeof word, "%s %s", name, slash ? slash + 1 : path) < (int)sizeof word && fails(word);
+}
+
+/* Whether they do of the file with this number. */
+static int fails_of(const char *name, int fd) {
+    char number[32], path[PATH_MAX];
+    snprintf(number, sizeof number, "/proc/self/fd/%d", fd);
+    ssize_t size = failing ? syscall(SYS_readlinkat, AT_FDCWD, number, path, sizeof path - 1) : -1;
+    path[size > 0 ? size : 0] = 0;
+    return fails_at(name, path);
 }
 
 static char kind_of(int fd) {
@@ -104,12 +124,13 @@ static char waits(int fd) {
     return flags >= 0 && flags & O_NONBLOCK ? 'N' : 'B';
 }
 
+static size_t at_most(long most, size_t count) { return most > 0 && count > (size_t)most ? (size_t)most : count; }
+
+/* Of so many bytes, those that a read of such a kind gives at most. */
+static size_t given(char kind, size_t count) { return kind == 'f' ? at_most(short_files, count) : count; }
+
 /* Of so many bytes, those that a write there takes. */
-static size_t taken(int fd, size_t count) {
-    char kind = kind_of(fd);
-    int is_stream = kind == 's' || kind == 'p';
-    return is_stream && short_writes > 0 && count > (size_t)short_writes ? (size_t)short_writes : count;
-}
+static size_t taken(char kind, size_t count) { return kind == 's' || kind == 'p' ? at_most(short_writes, count) : given(kind, count); }
 
 /* The text of an address; it is the same room each time. */
 static const char *text_of(const struct sockaddr *address, socklen_t size) {
@@ -185,7 +206,8 @@ int epoll_ctl(int place, int what, int fd, struct epoll_event *event) {
 
 ssize_t read(int fd, void *bytes, size_t count) {
     char kind = kind_of(fd), waiting = waits(fd);
-    SAID(syscall(SYS_read, fd, bytes, count), "read %d %c%c %zu", fd, kind, waiting, count);
+    ssize_t done = fails_of("read", fd) ? -1 : syscall(SYS_read, fd, bytes, given(kind, count));
+    SAID(done, "read %d %c%c %zu", fd, kind, waiting, count);
 }
 
 ssize_t recv(int fd, void *bytes, size_t count, int flags) {
@@ -195,7 +217,7 @@ ssize_t recv(int fd, void *bytes, size_t count, int flags) {
 
 ssize_t write(int fd, const void *bytes, size_t count) {
     char kind = kind_of(fd), waiting = waits(fd);
-    SAID(syscall(SYS_write, fd, bytes, taken(fd, count)), "write %d %c%c %zu", fd, kind, waiting, count);
+    SAID(syscall(SYS_write, fd, bytes, taken(kind, count)), "write %d %c%c %zu", fd, kind, waiting, count);
 }
 
 ssize_t __write(int fd, const void *bytes, size_t count) { return write(fd, bytes, count); }
@@ -204,12 +226,12 @@ ssize_t writev(int fd, const struct iovec *parts, int count) { return count > 0 
 
 ssize_t send(int fd, const void *bytes, size_t count, int flags) {
     char waiting = flags & MSG_DONTWAIT ? 'N' : waits(fd);
-    SAID(syscall(SYS_sendto, fd, bytes, taken(fd, count), flags, NULL, 0), "write %d s%c %zu", fd, waiting, count);
+    SAID(syscall(SYS_sendto, fd, bytes, taken('s', count), flags, NULL, 0), "write %d s%c %zu", fd, waiting, count);
 }
 
 ssize_t pwrite(int fd, const void *bytes, size_t count, off_t at) {
     char kind = kind_of(fd), waiting = waits(fd);
-    ssize_t done = fails("pwrite") ? -1 : syscall(SYS_pwrite64, fd, bytes, count, at);
+    ssize_t done = fails("pwrite") ? -1 : syscall(SYS_pwrite64, fd, bytes, taken(kind, count), at);
     SAID(done, "pwrite %d %c%c %zu %ld", fd, kind, waiting, count, (long)at);
 }
 
@@ -218,7 +240,8 @@ ssize_t pwrite64(int fd, const void *bytes, size_t count, off_t at) { return pwr
 /* ---- files */
 
 static int open_at(int folder, const char *path, int flags, mode_t mode) {
-    SAID(syscall(SYS_openat, folder, path, flags, mode), "open %s %o %o", path, flags & ~(O_CLOEXEC | __O_LARGEFILE), mode);
+    int fd = fails_at("open", path) ? -1 : syscall(SYS_openat, folder, path, flags, mode);
+    SAID(fd, "open %s %o %o", path, flags & ~(O_CLOEXEC | __O_LARGEFILE), mode);
 }
 
 static mode_t mode_of(int flags, va_list words) { return flags & (O_CREAT | __O_TMPFILE) ? va_arg(words, mode_t) : 0; }
@@ -290,7 +313,7 @@ int chmod(const char *path, mode_t mode) { SAID(syscall(SYS_fchmodat, AT_FDCWD, 
 
 int fchmod(int fd, mode_t mode) { SAID(syscall(SYS_fchmod, fd, mode), "fchmod %d %o", fd, mode); }
 
-int flock(int fd, int how) { SAID(syscall(SYS_flock, fd, how), "flock %d %d", fd, how); }
+int flock(int fd, int how) { SAID(fails("flock") ? -1 : syscall(SYS_flock, fd, how), "flock %d %d", fd, how); }
 
 /* ---- sockets */
 

@@ -23,6 +23,8 @@ MARGIN = 4 * TIMEOUT
 PATIENCE = 20 * SLOWER
 """Seconds within which something happens that is due at once, or within a second or two."""
 OK = b"ok\nevery needed entry is kept\n"
+IN_PIECES = {"SHORT_FILES": "20"}
+"""What record_calls.c is told so that a read or a write of a file moves 20 bytes: fewer than each file has that is read or kept here."""
 
 
 def until(holds: Callable[[], bool], seconds: float = PATIENCE) -> bool:

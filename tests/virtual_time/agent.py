@@ -4,10 +4,12 @@ from __future__ import annotations
 
 import json
 import os
+import re
 import signal
 import socket
 import subprocess
 from dataclasses import dataclass
+from datetime import datetime
 from pathlib import Path
 from typing import Any
 
@@ -19,6 +21,7 @@ from .world import World
 MOST = 65536
 CONTROL, PAGES, STATE, ENDS = "control.sock", "pages.sock", "state", "ends"
 """What stands in its folder."""
+DATE = re.compile(r"\d{4}-\d\d-\d\dT\d\d:\d\d:\d\dZ")
 PLAIN = {**os.environ, "ASAN_OPTIONS": "quarantine_size_mb=0"}
 """For a build under a sanitizer, which would keep what was freed."""
 
@@ -36,6 +39,18 @@ class Line:
     def __str__(self) -> str:
         level = "" if self.level == "info" else f"{self.level}: "
         return f"{self.moment / NANOSECONDS:12.3f} {level}{self.event} {' '.join(self.words)}".rstrip()
+
+
+def words_of(told: dict[str, Any]) -> tuple[str, ...]:
+    """What an object of the log says of its event, word by word, with moments in seconds."""
+    said = {key: value for key, value in told.items() if key not in ("moment", "level", "event")}
+    parts = [part for value in said.values() for part in (value if isinstance(value, list) else [value])]
+    return tuple(word for part in parts for word in in_seconds(str(part)).split())
+
+
+def in_seconds(word: str) -> str:
+    """A date as its seconds since 1970, and any other word as it is."""
+    return str(int(datetime.fromisoformat(word).timestamp())) if DATE.fullmatch(word) else word
 
 
 class Client:
@@ -229,8 +244,7 @@ class Agent:
             *whole, self._unread = (self._unread + piece).split(b"\n")
             for text in whole:
                 told = json.loads(text)
-                words = tuple(part for word in told["words"] for part in word.split())
-                self.lines.append(Line(self.world.now, self.run, told["level"], told["event"], words))
+                self.lines.append(Line(self.world.now, self.run, told["level"], told["event"], words_of(told)))
 
     def said(self, event: str, *words: str, level: str | None = None) -> list[Line]:
         """The lines of that event that begin with these words."""

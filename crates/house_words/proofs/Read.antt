@@ -1,4 +1,4 @@
--- Read: what a start comes to, step by step. For `read_to_serve`, `serve_text` and `filled_text`.
+-- Read: what a start comes to, step by step. For `read_to_serve`, `serve_text`, `filled_text` and `wide`.
 use Rattle.std.proofs.Common.{◌≡◌, ◌∙◌, ◌⊎◌, List, ℕ, Bool, true, false, Option, Some, None, Result, Ok, Err, IfErr, IfOk, IsErr, IsErrAnd, inl, inr, refl, sym, ap, subst}
 use Rattle.keep_change.specs.Listed.{rows_of_served}
 use Rattle.keep_change.specs.declared.row.Row.{Row}
@@ -14,7 +14,7 @@ use Rattle.keep_settle.specs.declared.fault.SettleFault.{SettleFault}
 use Rattle.keep_settle.specs.declared.fault.SettleFault.TheVariants as settling
 use Rattle.house_words.specs.Faults.{start_of_inventory, start_of_settling}
 use Rattle.house_words.specs.Filling.{AreFilled}
-use Rattle.house_words.specs.Reading.{IsFilledText, IsToServe, IsUnfilled, NotTogether, is_as_written}
+use Rattle.house_words.specs.Reading.{IsFilledText, IsToServe, IsUnfilled, IsWide, IsWideText, NotTogether, is_as_written, is_full, keeps_margin}
 use Rattle.house_words.specs.Starts.{first_start_fault}
 use Rattle.house_words.specs.declared.demands.Demands.{Demands}
 use Rattle.house_words.specs.declared.fault.StartFault.{StartFault}
@@ -91,3 +91,16 @@ not_together known folder v filled settling.OutOfMemory are = inl refl
 not_together known folder v filled settling.TooLong are = inr (inr (settling.TooLong, (refl, (filled, are))))
 not_together known folder v filled (settling.Refused why) are = inr (inr (settling.Refused why, (refl, (filled, are))))
 not_together known folder v filled settling.Differs are = inr (inr (settling.Differs, (refl, (filled, are))))
+
+-- ---- the margin that is demanded
+
+-- nothing is
+pub stays_narrow : (d : Demands) (text : List ℕ) (narrow : Inventory) → keeps_margin d ≡ true → IsWide d text narrow narrow
+stays_narrow d text narrow keeps = inl (inl keeps, refl)
+
+-- or there is no room for it
+pub stays_full : (d : Demands) (text : List ℕ) (narrow : Inventory) → is_full text ≡ true → IsWide d text narrow narrow
+stays_full d text narrow full = inl (inr full, refl)
+
+pub widens : (d : Demands) (text wide : List ℕ) (narrow inventory : Inventory) → IsWideText d text wide → inventory_for_good wide ≡ Ok inventory → IsWide d text narrow inventory
+widens d text wide narrow inventory is reads = inr (wide, (is, reads))

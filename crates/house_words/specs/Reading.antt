@@ -1,12 +1,13 @@
 -- Reading: what is served by the text of an inventory, or the fault of the start.
 -- Source: this project's own; docs/commands/serve.md.
-use Rattle.std.specs.Prelude.{◌≡◌, ◌⊎◌, ◌&&◌, ℕ, ◌∷◌, ◌++◌, Bool, true, false, is_none, nat_eq, List, [], Option, Some, None, Result, Ok, Err, codes}
+use Rattle.std.specs.Prelude.{◌≡◌, ◌⊎◌, ◌&&◌, ℕ, ◌+◌, ◌∷◌, ◌++◌, Bool, true, false, is_none, length, nat_eq, nat_lt, List, [], Option, Some, None, Result, Ok, Err, codes}
 use Rattle.keep_change.specs.Listed.{rows_of_served}
 use Rattle.keep_change.specs.declared.row.Row.{Row}
 use Rattle.keep_files.specs.Files.{Files}
 use Rattle.keep_inventory.specs.Inventories.{Inventory}
 use Rattle.keep_inventory.specs.Inventory.{read_served}
 use Rattle.keep_inventory.specs.Served.{Served}
+use Rattle.keep_inventory.specs.declared.limits.TheConstants.{MOST_INVENTORY}
 use Rattle.keep_inventory.specs.declared.note.Note.{Note}
 use Rattle.keep_inventory.specs.declared.fault.InvFault.{InvFault}
 use Rattle.keep_served.specs.ForGood.{inventory_for_good}
@@ -124,6 +125,14 @@ pub record IsWideText (d : Demands) (text wide : List ℕ) : Type 0 where
   pub settled : Served
   pub is_settled : TextIsSettled (Some (margin_for d v)) None (rows_of_served v) wide settled
 
--- the inventory of such a text; or as it was, where nothing is demanded, or no text says that
+-- a text in which there is no room for a margin of more digits: it has four at most
+abbrev pub is_full : List ℕ → Bool
+is_full text = nat_lt MOST_INVENTORY (length text + 3)
+
+-- nothing else is demanded of it; or its text has no room for that
+abbrev pub StaysNarrow : Demands → List ℕ → Type 0
+StaysNarrow d text = (keeps_margin d ≡ true) ⊎ (is_full text ≡ true)
+
+-- the inventory of such a text; or as it was, where that may be
 abbrev pub IsWide : Demands → List ℕ → Inventory → Inventory → Type 0
-IsWide d text narrow inventory = (inventory ≡ narrow) ⊎ ((wide : List ℕ) × (IsWideText d text wide × (inventory_for_good wide ≡ Ok inventory)))
+IsWide d text narrow inventory = (StaysNarrow d text × (inventory ≡ narrow)) ⊎ ((wide : List ℕ) × (IsWideText d text wide × (inventory_for_good wide ≡ Ok inventory)))

@@ -5,7 +5,7 @@ ghost use Rattle.keep_inventory.specs.Inventory.{read_served};
 ghost use Rattle.keep_inventory.specs.Served.{Served};
 ghost use Rattle.keep_served.specs.ForGood.{inventory_for_good};
 ghost use Rattle.house_words.specs.Filling.{names_no_file};
-ghost use Rattle.house_words.specs.Reading.{IsFilledText, IsToServe, IsUnfilled, IsWide, IsWideText, NotTogether, is_as_written, keeps_margin, margin_for};
+ghost use Rattle.house_words.specs.Reading.{IsFilledText, IsToServe, IsUnfilled, IsWide, IsWideText, NotTogether, is_as_written, is_full, keeps_margin, margin_for};
 ghost use Rattle.house_words.specs.declared.fault.StartFault.TheVariants.{OutOfMemory};
 
 use crate::demands::Demands;
@@ -14,11 +14,14 @@ use crate::first_fault::first_fault;
 use crate::secret_files::fill_all;
 use keep_change::listed_rows;
 use keep_files::Inputs;
-use keep_inventory::{Inventory, Note, Served, read_served};
+use keep_inventory::{Inventory, MOST_INVENTORY, Note, Served, read_served};
 use keep_served::{read_for_good, served_for_good};
 use keep_settle::settle;
 use keep_spread::{margin_by, margin_with};
 use std::alloc::{AllocError, Global};
+
+/// How much longer a margin may be written than another: it has four digits at most, and a unit.
+const MORE_DIGITS: usize = 3;
 
 /// What is served by the text of an inventory: its entries, with what the files of their credentials hold, where a need that is
 /// `always` lasts to the last moment. A path of a file that does not begin with `/` starts at `folder`, which ends in one, or is
@@ -112,8 +115,9 @@ fn filled_text<I: Inputs>(
     Ok(settled.text)
 }
 
-/// The inventory of a text, with a margin as much wider as it is demanded that the agent wakes up earlier, or that of an agent behind
-/// another; where no text says that, as it is. The only error is out of memory.
+/// The inventory of a text that was settled, with a margin as much wider as it is demanded that the agent wakes up earlier, or that of an
+/// agent behind another; as it is, where the text has no room for that. The only error is out of memory.
+#[tactic(auto, using(crate::proofs::Read::stays_narrow, crate::proofs::Read::stays_full, crate::proofs::Read::widens))]
 pub fn wide(
     alloc: Global,
     demands: Demands,
@@ -131,8 +135,17 @@ pub fn wide(
             Err(_) => Err(AllocError),
         },
         Err(StartFault::OutOfMemory) => Err(AllocError),
-        Err(_) => Ok(inventory),
+        Err(_) if is_full(text) => Ok(inventory),
+        // A settled text that has room for another margin is settled with that, too.
+        Err(_) => Err(AllocError),
     }
+}
+
+// Whether a text has no room for a margin of more digits.
+fn is_full(text: &str) -> bool
+    ensures { result ≡ is_full text.now }
+{
+    text.len() > MOST_INVENTORY - MORE_DIGITS
 }
 
 // A text that says the same, but for the margin.

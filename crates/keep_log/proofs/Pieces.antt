@@ -42,3 +42,19 @@ said_then new pushed old start all said rest e p q = grind (arith, common_steps)
 -- three pieces, one after the other
 pub three_pushed : (o b c d x y z : List ℕ) → b ≡ o ++ x → c ≡ b ++ y → d ≡ c ++ z → d ≡ o ++ (x ++ (y ++ z))
 three_pushed o b c d x y z e f g = grind (arith, common_steps)
+
+-- two
+pub two_pushed : (o b c x y : List ℕ) → b ≡ o ++ x → c ≡ b ++ y → c ≡ o ++ (x ++ y)
+two_pushed o b c x y e f = grind (arith, common_steps)
+
+-- four
+pub four_pushed : (o b c d k x y z v : List ℕ) → b ≡ o ++ x → c ≡ b ++ y → d ≡ c ++ z → k ≡ d ++ v → k ≡ o ++ (x ++ (y ++ (z ++ v)))
+four_pushed o b c d k x y z v e f g h = grind (arith, common_steps)
+
+-- and five of which the first begins
+pub five_pieces : (a b c d k x y z v w : List ℕ) → a ≡ x → b ≡ a ++ y → c ≡ b ++ z → d ≡ c ++ v → k ≡ d ++ w → k ≡ x ++ (y ++ (z ++ (v ++ w)))
+five_pieces a b c d k x y z v w e f g h i = grind (arith, common_steps)
+
+-- what was said of a word stands after what separates it from the one before, and before what is said of the others
+pub each_then : (new pushed old start all between said rest : List ℕ) → new ≡ pushed ++ said → pushed ≡ old ++ between → old ++ (between ++ (said ++ rest)) ≡ start ++ all → new ++ rest ≡ start ++ all
+each_then new pushed old start all between said rest e p q = grind (arith, common_steps)

@@ -1,12 +1,16 @@
 -- Forms: a line of the log as text for people, and as JSON.
 -- Source: docs/running.md, "What the operator sees"; RFC 8259, section 7, for the strings of JSON: of the ways that it leaves,
 -- the one in which all is ASCII.
-use Rattle.std.specs.Prelude.{◌≡◌, ℕ, ◌+◌, ◌/◌, ◌%◌, ◌==◌, ◌&&◌, ◌||◌, if◌then◌else◌, List, [], ◌∷◌, ◌++◌, flat_map, nat_le, chars, codes, decimal}
+use Rattle.std.specs.Prelude.{◌≡◌, ℕ, ◌+◌, ◌/◌, ◌%◌, ◌==◌, ◌&&◌, ◌||◌, if◌then◌else◌, List, [], ◌∷◌, ◌++◌, flat_map, length, nat_le, chars, codes, decimal, Option, Some, None}
 use Rattle.std.specs.Char.Escape.{encode_utf16}
 use Rattle.std.specs.Str.Lossy.{utf8_lossy}
 use Rattle.keep_moment.specs.Rfc3339.{IsDateText}
 use Rattle.keep_words.specs.Texts.{hex_digit}
 use Rattle.keep_log.specs.Lines.{level_mark, level_name}
+use Rattle.keep_log.specs.Keys.{key_name, key_of, shape_of}
+use Rattle.keep_log.specs.declared.keys.Key.{Key}
+use Rattle.keep_log.specs.declared.keys.Rest.{Rest}
+use Rattle.keep_log.specs.declared.keys.Rest.TheVariants.{Names, Message, One}
 use Rattle.keep_log.specs.declared.level.Level.{Level}
 use Rattle.keep_log.specs.declared.line.Word.{Word}
 use Rattle.keep_log.specs.declared.line.Word.TheVariants as words
@@ -56,37 +60,72 @@ json_char c =
 abbrev pub json_text : List ℕ → List ℕ
 json_text text = flat_map json_char (chars (utf8_lossy text))
 
--- a word is a string, a moment its seconds
-abbrev pub json_inside : Word → List ℕ
-json_inside (words.Text w) = json_text w
-json_inside (words.Number n) = decimal n
-json_inside (words.Moment m) = decimal m
+-- a word between quotes: a moment is a date
+abbrev pub SaysInside : Word → List ℕ → Type 0
+SaysInside (words.Text w) text = text ≡ json_text w
+SaysInside (words.Number n) text = text ≡ decimal n
+SaysInside (words.Moment m) text = IsDateText text m
 
-abbrev pub json_word : Word → List ℕ
-json_word w = 34 ∷ (json_inside w ++ 34 ∷ [])
+-- a text between quotes
+abbrev pub quoted : List ℕ → List ℕ
+quoted inside = 34 ∷ (inside ++ 34 ∷ [])
 
--- words, each after a comma and a space
-abbrev pub json_more : List Word → List ℕ
-json_more [] = []
-json_more (w ∷ ws) = 44 ∷ 32 ∷ (json_word w ++ json_more ws)
+-- a word as a value: a number as it is, all else as a string
+abbrev pub SaysValue : Word → List ℕ → Type 0
+SaysValue (words.Text w) text = text ≡ quoted (json_text w)
+SaysValue (words.Number n) text = text ≡ decimal n
+SaysValue (words.Moment m) text = (date : List ℕ) × IsDateText date m × (text ≡ quoted date)
 
-abbrev pub json_words : List Word → List ℕ
-json_words [] = []
-json_words (w ∷ ws) = json_word w ++ json_more ws
+-- words, each after this
+abbrev pub SayEach : List ℕ → List Word → List ℕ → Type 0
+SayEach between [] text = text ≡ []
+SayEach between (w ∷ ws) text = (first others : List ℕ) × SaysInside w first × SayEach between ws others × (text ≡ between ++ (first ++ others))
 
--- the last member, the end of the object, and a line feed
-abbrev pub json_list : List Word → List ℕ
-json_list ws = codes "\", \"words\": [" ++ (json_words ws ++ codes "]}\n")
+-- one word and others with this between them
+abbrev pub SayJoined : List ℕ → Word → List Word → List ℕ → Type 0
+SayJoined between w ws text = (first others : List ℕ) × SaysInside w first × SayEach between ws others × (text ≡ first ++ others)
 
--- the event and what follows it
-abbrev pub json_event : List ℕ → List Word → List ℕ
-json_event event ws = codes "\", \"event\": \"" ++ (json_text event ++ json_list ws)
+-- ---- members, each after a comma
 
--- the level and what follows it
-abbrev pub json_tail : Level → List ℕ → List Word → List ℕ
-json_tail level event ws = codes "\", \"level\": \"" ++ (level_name level ++ json_event event ws)
+abbrev pub member : List ℕ → List ℕ → List ℕ
+member key value = codes ", \"" ++ (key ++ (codes "\": " ++ value))
 
--- an object of four members, and a line feed
+abbrev pub SaysMember : Key → Word → List ℕ → Type 0
+SaysMember key w text = (value : List ℕ) × SaysValue w value × (text ≡ member (key_name (key_of key w)) value)
+
+-- names, as an array of strings
+abbrev pub SaysNames : List Word → List ℕ → Type 0
+SaysNames [] text = text ≡ codes ", \"entries\": []"
+SaysNames (w ∷ ws) text = (names : List ℕ) × SayJoined (codes "\", \"") w ws names × (text ≡ codes ", \"entries\": [\"" ++ (names ++ codes "\"]"))
+
+-- words for people, as one string with spaces between them
+abbrev pub SaysMessage : List Word → List ℕ → Type 0
+SaysMessage [] text = text ≡ []
+SaysMessage (w ∷ ws) text = (said : List ℕ) × SayJoined (codes " ") w ws said × (text ≡ codes ", \"message\": \"" ++ (said ++ codes "\""))
+
+abbrev pub SaysRest : Rest → List Word → List ℕ → Type 0
+SaysRest Names ws text = SaysNames ws text
+SaysRest Message ws text = SaysMessage ws text
+SaysRest (One key) [] text = text ≡ []
+SaysRest (One key) (w ∷ ws) text = (first others : List ℕ) × SaysMember key w first × SaysMessage ws others × (text ≡ first ++ others)
+
+abbrev pub SayMembers : Option Key → Rest → List Word → List ℕ → Type 0
+SayMembers None rest ws text = SaysRest rest ws text
+SayMembers (Some key) rest [] text = SaysRest rest [] text
+SayMembers (Some key) rest (w ∷ ws) text = (first others : List ℕ) × SaysMember key w first × SaysRest rest ws others × (text ≡ first ++ others)
+
+-- all that is said of an event
+abbrev pub SaysEvent : List ℕ → List Word → List ℕ → Type 0
+SaysEvent event ws text = SayMembers (shape_of event (length ws)).lead (shape_of event (length ws)).rest ws text
+
+abbrev pub json_event : List ℕ → List ℕ
+json_event event = codes "\", \"event\": \"" ++ (json_text event ++ codes "\"")
+
+abbrev pub json_level : Level → List ℕ → List ℕ
+json_level level event = codes "\", \"level\": \"" ++ (level_name level ++ json_event event)
+
+-- an object of the moment as a date, the level, the event and what is said of it, and a line feed
 abbrev pub IsLineJson : ℕ → Level → List ℕ → List Word → List ℕ → Type 0
 IsLineJson moment level event ws text =
-    (date : List ℕ) × IsDateText date moment × (text ≡ codes "{\"moment\": \"" ++ (date ++ json_tail level event ws))
+    (date said : List ℕ) × IsDateText date moment × SaysEvent event ws said
+    × (text ≡ codes "{\"moment\": \"" ++ (date ++ (json_level level event ++ (said ++ codes "}\n"))))

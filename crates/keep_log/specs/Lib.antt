@@ -3,4 +3,5 @@ pub mod Waiting
 pub mod Sinks
 pub mod Turns
 pub mod Following
+pub mod Keys
 pub mod Forms

@@ -8,6 +8,7 @@
 mod follower;
 mod form;
 mod json_form;
+mod keys;
 mod level;
 mod line;
 mod memory;

@@ -5,10 +5,10 @@ use Rattle.std.specs.Prelude.{codes}
 use Rattle.keep_log.proofs.Pieces.{three_pushed}
 use Rattle.keep_log.specs.Forms.{json_event}
 use Rattle.keep_log.specs.Lines.{level_name}
-use Rattle.keep_log.proofs.json_form.push_tail.Goals as goal
+use Rattle.keep_log.proofs.json_form.push_level.Goals as goal
 
 pub returns : goal.returns
 returns c =
     three_pushed c.args.text.now.items c.extend_from_slice.new.self.items c.extend_from_slice-2.new.self.items c.push_event.new.text.items
-    (codes "\", \"level\": \"") (level_name c.args.line.now.level) (json_event c.args.line.now.event.now c.args.line.now.words.items)
+    (codes "\", \"level\": \"") (level_name c.args.line.now.level) (json_event c.args.line.now.event.now)
     c.in_ok-extend_from_slice.ensures.items (grind (arith, common_steps)) (grind (arith, common_steps))
