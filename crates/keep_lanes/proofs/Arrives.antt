@@ -2,6 +2,7 @@
 use Rattle.std.proofs.Common.{◌≡◌, ℕ, zero, suc, ◌<◌, ◌++◌, List, [], ◌∷◌, length, take, arith, append_assoc, refl, ap, subst, sym, ◌∙◌, Option, None, Some, IfSome, Ok, Err}
 use Rattle.std.specs.Io.KnownBytes.{Consumes, IsAtEnd}
 use Rattle.std.proofs.KnownBytes.{Consumes-trans}
+use Rattle.keep_lanes.specs.Failing.{AreCut}
 use Rattle.keep_lanes.specs.Lanes.{AnswerIsTold, NothingFollowsEnd, ReplyIsHeard, TellsAnswer}
 use Rattle.keep_lanes.specs.Losses.{Answer, loss_of}
 use Rattle.keep_lanes.specs.declared.loss.Loss.TheVariants as losses
@@ -48,14 +49,28 @@ pub record Came (old new : List ℕ) (before now : Option (List ℕ)) : Type 0 w
   pub consumed : Consumes before now came
   pub kept : new ≡ old ++ came
 
+-- a read of no bytes
+no_bytes : (n : ℕ) (buf : List ℕ) → 0 < length buf → take n buf ≡ [] → n ≡ 0
+no_bytes zero buf room none = refl
+no_bytes (suc n) [] room none = absurd (omega arith)
+no_bytes (suc n) (b ∷ bs) room none = cc
+
 -- an answer by a read of n bytes
 pub heard_read : (old last buf : List ℕ) (before mid now : Option (List ℕ)) (n : ℕ) (got : Option Answer) (a : Answer) (new : List ℕ) → Came old last before mid
     → Consumes mid now (take n buf) × (n ≡ 0 → 0 < length buf → IsAtEnd now) → 0 < length buf → AnswerIsTold last (take n buf) got new → got ≡ Some a → ReplyIsHeard old (Some a) new before now
 heard_read old last buf before mid now n got a new h read room told is =
-    heard_answer old h.came (take n buf) before mid now a last new h.consumed read.0 (λ none. read.1 (nothing n buf room none) room) h.kept
+    heard_answer old h.came (take n buf) before mid now a last new h.consumed read.0 (λ none. read.1 (no_bytes n buf room none) room) h.kept
     (subst (λ g. AnswerIsTold last (take n buf) g new) is told)
+
+-- a reply that is cut by a read of n bytes
+pub cut_read : (old last buf : List ℕ) (before mid now : Option (List ℕ)) (n : ℕ) (got : Option Answer) (new : List ℕ) → Came old last before mid
+    → Consumes mid now (take n buf) × (n ≡ 0 → 0 < length buf → IsAtEnd now) → 0 < length buf → AnswerIsTold last (take n buf) got new → got ≡ Some (Err losses.Closed) → AreCut old before
+cut_read old last buf before mid now n got new h read room told is =
+    let told' : AnswerIsTold (old ++ h.came) (take n buf) (Some (Err losses.Closed)) new =
+    subst (λ l. AnswerIsTold l (take n buf) (Some (Err losses.Closed)) new) h.kept (subst (λ g. AnswerIsTold last (take n buf) g new) is told) in
+    with_fault before told'.0 told'.1.0
+    (whole (λ bytes. IsDatedReply MOST_MESSAGE bytes (Err told'.0)) old h.came (take n buf) before mid now h.consumed read.0 (λ none. read.1 (no_bytes n buf room none) room) told'.1.1)
   where
-    nothing : (n : ℕ) (buf : List ℕ) → 0 < length buf → take n buf ≡ [] → n ≡ 0
-    nothing zero buf room none = refl
-    nothing (suc n) [] room none = absurd (omega arith)
-    nothing (suc n) (b ∷ bs) room none = cc
+    with_fault : (b : Option (List ℕ)) (fault : HttpFault) → loss_of fault ≡ losses.Closed → IfSome b (λ bytes. IsDatedReply MOST_MESSAGE (old ++ bytes) (Err fault)) → AreCut old b
+    with_fault None fault e h = tt
+    with_fault (Some bytes) fault e h = (fault, (e, h))

@@ -11,15 +11,15 @@ use Rattle.keep_lanes.specs.declared.way.Way.{Way}
 use Rattle.keep_lanes.specs.declared.way.Way.TheVariants.{Out, Over}
 
 -- those that went on have their deadlines ahead
-moved_ahead : {L : Type 0} (written remaining : L → Option (List ℕ)) (now : ℕ) (old new : List (Seat (Way L))) → Move written remaining now old new → AreAhead now new
-moved_ahead written remaining now [] new h = subst (λ l. AreAhead now l) (sym h) tt
-moved_ahead written remaining now (o ∷ os) [] h = absurd h
-moved_ahead written remaining now (o ∷ os) (x ∷ xs) h = (h.0.1.1, moved_ahead written remaining now os xs h.1)
+moved_ahead : {L : Type 0} (written remaining : L → Option (List ℕ)) (failures : L → Option ℕ) (now : ℕ) (old new : List (Seat (Way L))) → Move written remaining failures now old new → AreAhead now new
+moved_ahead written remaining failures now [] new h = subst (λ l. AreAhead now l) (sym h) tt
+moved_ahead written remaining failures now (o ∷ os) [] h = absurd h
+moved_ahead written remaining failures now (o ∷ os) (x ∷ xs) h = (h.0.1.1, moved_ahead written remaining failures now os xs h.1)
 
-pub back_ahead : {L X E : Type 0} (written remaining : L → Option (List ℕ)) (now : ℕ) (r : Result X E) (old new back : List (Seat (Way L))) → back ≡ new → OnOk r (Move written remaining now old new)
+pub back_ahead : {L X E : Type 0} (written remaining : L → Option (List ℕ)) (failures : L → Option ℕ) (now : ℕ) (r : Result X E) (old new back : List (Seat (Way L))) → back ≡ new → OnOk r (Move written remaining failures now old new)
     → OnOk r (AreAhead now back)
-back_ahead written remaining now (Ok x) old new back is h = subst (λ l. AreAhead now l) (sym is) (moved_ahead written remaining now old new h)
-back_ahead written remaining now (Err e) old new back is h = tt
+back_ahead written remaining failures now (Ok x) old new back is h = subst (λ l. AreAhead now l) (sym is) (moved_ahead written remaining failures now old new h)
+back_ahead written remaining failures now (Err e) old new back is h = tt
 
 module _ {L : Type 0} (restless : L → Bool) (now : ℕ) where
   -- a moment that is no later

@@ -1,4 +1,5 @@
 pub mod Lost
+pub mod Failed
 pub mod Arrives
 pub mod Parted
 pub mod Seated

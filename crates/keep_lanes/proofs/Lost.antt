@@ -31,8 +31,8 @@ module _ (old piece : List ℕ) (ended : Bool) (is : ended ≡ (length piece == 
   told_as : (read : Result DatedReply HttpFault) (said : Answer) (new : List ℕ) → ReplyIsRead read said
       → ((more : List ℕ) → NothingFollowsEnd piece more → UnlessMemory read (IsDatedReply MOST_MESSAGE ((old ++ piece) ++ more) read)) → AnswerIsTold old piece (Some said) new
   told_as (Ok dated) said new is h = subst (λ a. AnswerIsTold old piece (Some a) new) (sym is) h
-  told_as (Err https.Truncated) said new is h = subst (λ a. AnswerIsTold old piece (Some a) new) (sym is) tt
-  told_as (Err https.ReadFailed) said new is h = subst (λ a. AnswerIsTold old piece (Some a) new) (sym is) tt
+  told_as (Err https.Truncated) said new is h = subst (λ a. AnswerIsTold old piece (Some a) new) (sym is) (https.Truncated, (refl, h))
+  told_as (Err https.ReadFailed) said new is h = subst (λ a. AnswerIsTold old piece (Some a) new) (sym is) (https.ReadFailed, (refl, h))
   told_as (Err https.BadHead) said new is h = subst (λ a. AnswerIsTold old piece (Some a) new) (sym is) (https.BadHead, (refl, h))
   told_as (Err https.BadLength) said new is h = subst (λ a. AnswerIsTold old piece (Some a) new) (sym is) (https.BadLength, (refl, h))
   told_as (Err https.BadChunk) said new is h = subst (λ a. AnswerIsTold old piece (Some a) new) (sym is) (https.BadChunk, (refl, h))

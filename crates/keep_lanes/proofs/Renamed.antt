@@ -3,7 +3,7 @@ use Rattle.std.proofs.Common.{◌≡◌, ◌∙◌, ◌==◌, ℕ, ◌+◌, ◌<
 use Rattle.std.proofs.lemmas.Bool.{cond-false, cond-true}
 use Rattle.std.proofs.lemmas.List.{append-nil, append_assoc, drop_all, drop_more, get_or_at, length-map, length-take, map-append, set_at, take_all, take_more}
 use Rattle.keep_lanes.specs.Out.{index_in, renamed}
-use Rattle.keep_lanes.specs.Seats.{out_of_seat, outs}
+use Rattle.keep_lanes.specs.Seats.{out_of_seat, outs, under}
 use Rattle.keep_lanes.specs.declared.coming.Coming.{Coming}
 use Rattle.keep_lanes.specs.declared.seats.Seat.{Seat}
 
@@ -32,10 +32,6 @@ pub in_both :
 in_both from to k index one other = ap₂ (λ xs ys. index_in xs ys index) (drop_more from k 0 one) (drop_more to k 0 other)
 
 module _ {T : Type 0} where
-  -- a seat under another index
-  abbrev pub under : List ℕ → List ℕ → Seat T → Seat T
-  under from to seat = record seat { index = index_in from to seat.index }
-
   pub renamed_outs : (comes : T → Option Coming) (from to : List ℕ) (seats : List (Seat T)) → outs comes (map (under from to) seats) ≡ renamed from to (outs comes seats)
   renamed_outs comes from to [] = refl
   renamed_outs comes from to (s ∷ ss) = ap (λ os. out_of_seat comes (under from to s) ∷ os) (renamed_outs comes from to ss)
@@ -60,9 +56,10 @@ module _ {T : Type 0} where
   is_under from to x y index one same = ap₂ seat_of (one ∙ ap (λ (s : Seat T). index_in from to s.index) (sym same)) (ap (λ (s : Seat T). s.standing) (sym same))
 
   -- and all of them
+  pub under_all : (from to : List ℕ) (old now : List (Seat T)) (k : ℕ) → length old ≤ k → now ≡ map (under from to) (take k old) ++ drop k old → now ≡ map (under from to) old
+  under_all from to old now k past is =
+      is ∙ ap₂ (λ (xs : List (Seat T)) (ys : List (Seat T)). map (under from to) xs ++ ys) (take_all k old past) (drop_all k old past) ∙ append-nil (map (under from to) old)
+
   pub renamed_all :
       (comes : T → Option Coming) (from to : List ℕ) (old now : List (Seat T)) (k : ℕ) → length old ≤ k → now ≡ map (under from to) (take k old) ++ drop k old → outs comes now ≡ renamed from to (outs comes old)
-  renamed_all comes from to old now k past is =
-      let whole : now ≡ map (under from to) old =
-      is ∙ ap₂ (λ (xs : List (Seat T)) (ys : List (Seat T)). map (under from to) xs ++ ys) (take_all k old past) (drop_all k old past) ∙ append-nil (map (under from to) old) in
-      ap (outs comes) whole ∙ renamed_outs comes from to old
+  renamed_all comes from to old now k past is = ap (outs comes) (under_all from to old now k past is) ∙ renamed_outs comes from to old

@@ -80,4 +80,5 @@ abbrev pub AnswerIsTold : List ℕ → List ℕ → Option Answer → List ℕ �
 AnswerIsTold old piece None new = (new ≡ old ++ piece) × (piece ≡ [] → ⊥)
 AnswerIsTold old piece (Some (Ok dated)) new = (more : List ℕ) → NothingFollowsEnd piece more → IsDatedReply MOST_MESSAGE ((old ++ piece) ++ more) (Ok dated)
 AnswerIsTold old piece (Some (Err losses.Reply)) new = (fault : HttpFault) × ((loss_of fault ≡ losses.Reply) × ((more : List ℕ) → NothingFollowsEnd piece more → IsDatedReply MOST_MESSAGE ((old ++ piece) ++ more) (Err fault)))
+AnswerIsTold old piece (Some (Err losses.Closed)) new = (fault : HttpFault) × ((loss_of fault ≡ losses.Closed) × ((more : List ℕ) → NothingFollowsEnd piece more → IsDatedReply MOST_MESSAGE ((old ++ piece) ++ more) (Err fault)))
 AnswerIsTold old piece (Some (Err loss)) new = Unit {0}

@@ -1,8 +1,10 @@
 pub mod Losses
 pub mod Allowed
 pub mod Stages
+pub mod Failing
 pub mod Lanes
 pub mod Out
+pub mod Calls
 pub mod Serving
 pub mod Seats
 pub mod Heard

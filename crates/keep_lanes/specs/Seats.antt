@@ -1,7 +1,7 @@
 -- Those that are out, as the code has them.
-use Rattle.std.specs.Prelude.{◌≡◌, List, Bool, Option, None, Some, IfSome, filter, map, not}
+use Rattle.std.specs.Prelude.{◌≡◌, ℕ, List, [], ◌∷◌, ◌++◌, Bool, Option, None, Some, IfSome, filter, map, not}
 use Rattle.keep_lanes.specs.Losses.{Answer}
-use Rattle.keep_lanes.specs.Out.{Out}
+use Rattle.keep_lanes.specs.Out.{Out, index_in}
 use Rattle.keep_lanes.specs.declared.coming.Coming.{Coming}
 use Rattle.keep_lanes.specs.declared.lanes.Answered.{Answered}
 use Rattle.keep_lanes.specs.declared.seats.Seat.{Seat}
@@ -21,3 +21,23 @@ AnswerIsWhatComes comes (Some a) = IfSome comes (λ c. a ≡ c.answer)
 pub record AreTakenOut {T : Type 0} (there : T → Bool) (old new : List (Seat T)) (answers : List Answered) : Type 0 where
   pub left : new ≡ filter (λ seat. not (there seat.standing)) old
   pub indices : map (λ (a : Answered). a.index) answers ≡ map (λ (seat : Seat T). seat.index) (filter (λ seat. there seat.standing) old)
+
+-- one more is among them, and the others are as they were
+pub record SeatIsPut {T : Type 0} (seat : Seat T) (old new : List (Seat T)) : Type 0 where
+  pub before : List (Seat T)
+  pub behind : List (Seat T)
+  pub old_is : old ≡ before ++ behind
+  pub new_is : new ≡ before ++ seat ∷ behind
+
+-- one for another index
+abbrev pub under : {T : Type 0} → List ℕ → List ℕ → Seat T → Seat T
+under from to seat = record seat { index = index_in from to seat.index }
+
+-- the answers of those that have one, each under its index
+abbrev pub answer_at : ℕ → Option Answer → List Answered
+answer_at index None = []
+answer_at index (Some a) = record { index = index; answer = a } ∷ []
+
+abbrev pub answers_of : {T : Type 0} → (T → Option Answer) → List (Seat T) → List Answered
+answers_of said [] = []
+answers_of said (s ∷ ss) = answer_at s.index (said s.standing) ++ answers_of said ss

@@ -18,6 +18,8 @@ impl Standing for Coming {
 
     ghost there = { λ moment coming. nat_le coming.at moment };
 
+    ghost said = { λ coming. Some coming.answer };
+
     fn is_there(&self, moment: u64) -> bool {
         self.at <= moment
     }

@@ -1,7 +1,8 @@
 //! One request over one connection.
-ghost use Rattle.std.specs.Prelude.{◌≡◌, ◌<◌, ◌≤◌, [], IfOk, length, take};
+ghost use Rattle.std.specs.Prelude.{◌≡◌, ◌<◌, ◌≤◌, [], IfOk, IsTrue, if◌then◌else◌, length, take};
 ghost use Rattle.std.specs.Io.KnownBytes.{Appends, Keeps};
 ghost use Rattle.keep_lanes.specs.Allowed.{deadline};
+ghost use Rattle.keep_lanes.specs.Failing.{FailsAs, FailsMore, answer_of_sending};
 ghost use Rattle.keep_lanes.specs.Lanes.{AnswerIsTold, FrontIsWritten, IsCounted, IsPatient, ReplyIsHeard, ReplyIsRead, RequestIsSettled};
 ghost use Rattle.keep_lanes.specs.declared.stage.Stage.TheVariants.{Connecting};
 
@@ -58,6 +59,7 @@ impl<L: Line> Lane<L> {
         self.course.allowance.deadline(self.course.stage)
     }
 
+    #[tactic(auto, using(crate::proofs::Failed::fails_none, crate::proofs::Failed::kept_all))]
     /// Goes as far as it can at this moment: writes what is left of the request, and reads what has come of the reply. It gives
     /// what came of the request, or `None` where it waits on. `room` is what each read is offered.
     ///
@@ -74,6 +76,7 @@ impl<L: Line> Lane<L> {
         ensures written { FrontIsWritten self.old.unsent.items self.new.unsent.items (L.written self.old.line) (L.written self.new.line) }
         ensures heard { IfOk result (λ answer. ReplyIsHeard self.old.course.arriving answer self.new.course.arriving (L.remaining self.old.line) (L.remaining self.new.line)) }
         ensures settled { IfOk result (λ answer. RequestIsSettled self.new.course.allowance now self.new.course.stage self.new.unsent.items answer) }
+        ensures failing { IfOk result (λ answer. FailsAs self.old.course.arriving (L.remaining self.old.line) answer (L.failures self.old.line) (L.failures self.new.line)) }
     {
         if !self.unsent.is_empty() {
             if let Err(loss) = self.write_on(now) {
@@ -86,6 +89,7 @@ impl<L: Line> Lane<L> {
         read_on(alloc, &mut self.line, &mut self.course, room, now)
     }
 
+    #[tactic(auto, using(crate::proofs::Failed::failed_as, crate::proofs::Failed::waits_as))]
     /// Writes what is left of the request, as far as it is taken. It takes no memory: what was written is never written again.
     fn write_on(&mut self, now: u64) -> Result<(), Loss>
         requires unsent { 0 < length self.old.unsent.items }
@@ -94,6 +98,7 @@ impl<L: Line> Lane<L> {
         ensures written { FrontIsWritten self.old.unsent.items self.new.unsent.items (L.written self.old.line) (L.written self.new.line) }
         ensures remaining { Keeps (L.remaining self.old.line) (L.remaining self.new.line) }
         ensures patient { IsPatient self.new.course.allowance now self.new.course.stage self.new.unsent.items result }
+        ensures failing { FailsAs self.old.course.arriving (L.remaining self.old.line) (answer_of_sending result) (L.failures self.old.line) (L.failures self.new.line) }
     {
         let written = write(&mut self.line, &self.unsent);
         self.unsent.drain(..written.taken);
@@ -116,10 +121,13 @@ struct Written {
 }
 
 /// Writes a text as far as it is taken.
+#[tactic(auto, using(crate::proofs::Failed::fails_none, crate::proofs::Failed::kept_then))]
 fn write<L: Line>(line: &mut L, text: &[u8]) -> Written
     ensures within { result.taken ≤ length text.now }
     ensures appended { Appends (L.written line.old) (L.written line.new) (take result.taken text.now) }
     ensures remaining { Keeps (L.remaining line.old) (L.remaining line.new) }
+    ensures failed { IsTrue result.has_failed → result.taken < length text.now }
+    ensures failures { FailsMore (if result.has_failed then 1 else 0) (L.failures line.old) (L.failures line.new) }
 {
     let mut taken = 0;
     while taken < text.len() {
@@ -146,6 +154,7 @@ fn write<L: Line>(line: &mut L, text: &[u8]) -> Written
 }
 
 /// Reads what has come of the reply to a request that was sent.
+#[tactic(auto, using(crate::proofs::Failed::fails_none, crate::proofs::Failed::kept_then, crate::proofs::Failed::failed_as, crate::proofs::Failed::waits_as))]
 fn read_on<L: Line>(
     alloc: Global,
     line: &mut L,
@@ -159,6 +168,7 @@ fn read_on<L: Line>(
     ensures written { Keeps (L.written line.old) (L.written line.new) }
     ensures heard { IfOk result (λ answer. ReplyIsHeard course.old.arriving answer course.new.arriving (L.remaining line.old) (L.remaining line.new)) }
     ensures settled { IfOk result (λ answer. RequestIsSettled course.new.allowance now course.new.stage [] answer) }
+    ensures failing { IfOk result (λ answer. FailsAs course.old.arriving (L.remaining line.old) answer (L.failures line.old) (L.failures line.new)) }
 {
     course.stage = course.stage.sent();
     for _ in 0..course.allowance.most_reads() {

@@ -1,6 +1,7 @@
 ghost use Rattle.std.specs.Prelude.{◌≡◌, ℕ, ◌-◌, ◌<◌, ◌≤◌, List, [], Option, IfOk, IfSome, OnErr, OnOk, length};
 ghost use Rattle.keep_exchange.specs.Requests.{IsShortRequest};
 ghost use Rattle.keep_device.specs.Moments.{earlier};
+ghost use Rattle.keep_lanes.specs.Calls.{LanesCall, Renamed, Sent, Unsent, WentOn};
 ghost use Rattle.keep_lanes.specs.Out.{AreThereAt, IsDueAfter, IsParted, Out, first_at, renamed};
 ghost use Rattle.keep_lanes.specs.Serving.{BehindLanes, BrokerIsLeft, RequestIsSent};
 ghost use Rattle.vault_http.specs.RoundTripRequest.{IsWritable};
@@ -36,7 +37,7 @@ pub struct Answered {
 /// Lanes to a broker: so many requests may be out at once, each in a lane of its own.
 ///
 /// To contracts they are the requests that are out, by rising index unless they were renamed. Of lanes in memory contracts know the
-/// broker's table too, and what comes of each request and when; of those over sockets they know nothing of that.
+/// broker's table too, and what comes of each request and when; of those over connections how each request goes on.
 pub trait Lanes {
     /// The table, the faults to come and the count of requests, where they are known.
     ghost behind: { Self → Option BehindLanes };
@@ -56,6 +57,10 @@ pub trait Lanes {
     /// From a moment on and up to another, the one by which something that is out has to be looked at again.
     ghost due_by: { ℕ → ℕ → Self → ℕ };
 
+    /// What else is known of a call: what it was for, what they were before it, and what they are after it. Of lanes over
+    /// connections it says how each request goes on.
+    ghost does: { LanesCall → Self → Self → Type 0 } = { λ _ _ _. Unit {0} };
+
     /// The port that requests to its broker name in `Host`: the broker's own, and 8200 where it has none.
     fn port(&self) -> u16
         ensures { result ≡ host_port self.now };
@@ -73,6 +78,8 @@ pub trait Lanes {
         requires writable { IsWritable ask.now.request }
         requires short { IsShortRequest ask.now.request }
         ensures sent { OnOk result (RequestIsSent (Self.seconds self.old) t now ask.now (Self.behind self.old) (Self.out self.old) (Self.behind self.new) (Self.out self.new)) }
+        ensures does { OnOk result (Self.does (Sent now ask.now) self.old self.new) }
+        ensures undone { OnErr result (Self.does Unsent self.old self.new) }
         ensures kept { OnErr result (Self.out self.new ≡ Self.out self.old) }
         ensures left { OnErr result (IfSome (Self.behind self.old) (λ old. BrokerIsLeft t ask.now.request old (Self.behind self.new))) }
         ensures width { Self.width self.new ≡ Self.width self.old }
@@ -87,6 +94,7 @@ pub trait Lanes {
     fn go_on(&mut self, alloc: Global, now: u64) -> Result<Vec<Answered>, AllocError>
         ensures parted { IfOk result (λ answers. IsParted (Self.out self.old) answers.items (Self.out self.new)) }
         ensures there { IfSome (Self.behind self.old) (λ _. IfOk result (λ answers. AreThereAt now (Self.out self.old) answers.items (Self.out self.new))) }
+        ensures does { IfOk result (λ answers. Self.does (WentOn now answers.items) self.old self.new) }
         ensures settled { OnOk result (IsDueAfter now (λ by. Self.due_by now by self.new)) }
         ensures kept { OnErr result (Self.out self.new ≡ Self.out self.old) }
         ensures behind { Self.behind self.new ≡ Self.behind self.old }
@@ -105,6 +113,7 @@ pub trait Lanes {
     /// where its own stands in none. Nothing else of it changes, nor their order.
     fn rename(&mut self, from: &[u32], to: &[u32])
         ensures renamed { Self.out self.new ≡ renamed from.now to.now (Self.out self.old) }
+        ensures does { Self.does (Renamed from.now to.now) self.old self.new }
         ensures behind { Self.behind self.new ≡ Self.behind self.old }
         ensures width { Self.width self.new ≡ Self.width self.old }
         ensures seconds { Self.seconds self.new ≡ Self.seconds self.old }

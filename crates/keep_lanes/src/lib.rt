@@ -2,10 +2,11 @@
 //! that one which is silent costs nobody else.
 //!
 //! The contract for the layers above: [`Lanes`] sends a request and hands each answer back with the index that it is for
-//! (`specs/Out.antt`); where the broker's table is known the answer is that of the Broker step (`specs/Serving.antt`). What a
-//! lane may take is one definition (`specs/Allowed.antt`). Begin with `lanes`, then `allowance` and `stage`: a lane's clock and
-//! what it has reached, as values. `line` is a connection, `lane` is one request over it, `seats` those that are out, `running`
-//! all of them over any connections, and `sockets` those of the system. Lanes in memory stand in `broker_lanes`.
+//! (`specs/Out.antt`); where the broker's table is known the answer is that of the Broker step (`specs/Serving.antt`), and over
+//! connections each request goes on as `specs/Lanes.antt` and `specs/Failing.antt` say. What a lane may take is one definition
+//! (`specs/Allowed.antt`). Begin with `lanes`, then `allowance` and `stage`: a lane's clock and what it has reached, as values.
+//! `line` is a connection, `lane` is one request over it, `seats` those that are out, `running` all of them over any connections,
+//! and `sockets` those of the system. Lanes in memory stand in `broker_lanes`.
 #![tactic(auto)]
 
 mod allowance;

@@ -2,6 +2,7 @@
 ghost use Rattle.std.specs.Prelude.{◌≡◌, ℕ, ◌<◌, ◌≤◌, List, [], ◌∷◌, ◌++◌, length, take, Option, None, Some, Bool, IfSome, false};
 ghost use Rattle.std.specs.Io.KnownBytes.{Appends, Consumes, IsAtEnd, Keeps};
 ghost use Rattle.keep_device.specs.Tries.{IfTryDone, MatchTried};
+ghost use Rattle.keep_lanes.specs.Failing.{FailsMore, failures_in};
 
 use keep_device::Tried;
 
@@ -15,6 +16,9 @@ pub trait Line {
     /// The bytes that it was given, where they are known.
     ghost written: { Self → Option (List ℕ) } = { λ _. None };
 
+    /// How many of its calls have failed, where that is known.
+    ghost failures: { Self → Option ℕ } = { λ _. None };
+
     /// Whether nothing tells when it can go on, so that it has to be tried again and again.
     ghost restless: { Self → Bool } = { λ _. false };
 
@@ -23,7 +27,8 @@ pub trait Line {
         ensures bound { IfTryDone result (λ n. (n ≤ length piece.now) × (0 < length piece.now → 0 < n)) }
         ensures bytes { MatchTried result (λ n. Appends (Self.written self.old) (Self.written self.new) (take n piece.now))
             (Keeps (Self.written self.old) (Self.written self.new)) }
-        ensures remaining { Keeps (Self.remaining self.old) (Self.remaining self.new) };
+        ensures remaining { Keeps (Self.remaining self.old) (Self.remaining self.new) }
+        ensures failures { FailsMore (failures_in result) (Self.failures self.old) (Self.failures self.new) };
 
     /// Reads some bytes into the front of `buf`, none only at the end of the input or where `buf` is empty.
     fn get(&mut self, buf: &mut [u8]) -> Tried
@@ -32,7 +37,8 @@ pub trait Line {
             (λ n. Consumes (Self.remaining self.old) (Self.remaining self.new) (take n buf.new)
             × (n ≡ 0 → 0 < length buf.new → IsAtEnd (Self.remaining self.new)))
             (Keeps (Self.remaining self.old) (Self.remaining self.new)) }
-        ensures written { Keeps (Self.written self.old) (Self.written self.new) };
+        ensures written { Keeps (Self.written self.old) (Self.written self.new) }
+        ensures failures { FailsMore (failures_in result) (Self.failures self.old) (Self.failures self.new) };
 
     /// Whether nothing tells when it can go on.
     fn is_restless(&self) -> bool

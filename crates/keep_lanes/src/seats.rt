@@ -2,7 +2,8 @@
 ghost use Rattle.std.specs.Prelude.{◌≡◌, ℕ, ◌<◌, ◌≤◌, All, Bool, List, Option, IfOk, IsTrue, OnErr, drop, filter, length, map, not, take, vec_capacity, vec_len};
 ghost use Rattle.keep_lanes.specs.Out.{IsBelow, IsParted, OutIsPut, index_in, renamed};
 ghost use Rattle.keep_lanes.specs.declared.coming.Coming.{Coming};
-ghost use Rattle.keep_lanes.specs.Seats.{AnswerIsWhatComes, AreTakenOut, out_of_seat, outs};
+ghost use Rattle.keep_lanes.specs.Losses.{Answer};
+ghost use Rattle.keep_lanes.specs.Seats.{AnswerIsWhatComes, AreTakenOut, SeatIsPut, answers_of, out_of_seat, outs, under};
 
 use crate::lanes::Answered;
 use crate::loss::Loss;
@@ -24,12 +25,16 @@ pub trait Standing: Drop {
     /// Whether its answer is there at a moment.
     ghost there: { ℕ → Self → Bool };
 
+    /// Its answer, where it is there.
+    ghost said: { Self → Option Answer };
+
     fn is_there(&self, moment: u64) -> bool
         ensures { result ≡ there moment self.now };
 
     /// The answer, where it is there.
     fn into_answer(self) -> Option<Result<DatedReply, Loss>>
-        ensures { (moment : ℕ) → IsTrue (there moment self) → AnswerIsWhatComes (comes self) result };
+        ensures comes { (moment : ℕ) → IsTrue (there moment self) → AnswerIsWhatComes (comes self) result }
+        ensures said { result ≡ said self };
 }
 
 /// The place before the first with a greater index.
@@ -48,7 +53,8 @@ fn place_for<T>(out: &[Seat<T>], index: u32) -> usize
 /// Puts one more among those that are out, before the first with a greater index.
 pub fn put<T: Standing>(out: &mut Vec<Seat<T>>, seat: Seat<T>)
     requires { vec_len out.old < vec_capacity out.old }
-    ensures { OutIsPut (out_of_seat T.comes seat) (outs T.comes out.old.items) (outs T.comes out.new.items) }
+    ensures put { OutIsPut (out_of_seat T.comes seat) (outs T.comes out.old.items) (outs T.comes out.new.items) }
+    ensures seat { SeatIsPut seat out.old.items out.new.items }
 {
     let place = place_for(out, seat.index);
     out.insert(place, seat).unwrap();
@@ -70,7 +76,8 @@ fn index_in(from: &[u32], to: &[u32], index: u32) -> u32
 
 /// Each is for another index from now on: for that in `to` which stands where its own stands in `from`.
 pub fn rename<T: Standing>(out: &mut [Seat<T>], from: &[u32], to: &[u32])
-    ensures { outs T.comes out.new ≡ renamed from.now to.now (outs T.comes out.old) }
+    ensures renamed { outs T.comes out.new ≡ renamed from.now to.now (outs T.comes out.old) }
+    ensures seats { out.new ≡ map (under from.now to.now) out.old }
 {
     for seat in out.iter_mut() {
         seat.index = index_in(from, to, seat.index);
@@ -85,6 +92,7 @@ pub fn take_out<T: Standing>(
 ) -> Result<Vec<Answered>, AllocError>
     ensures parted { IfOk result (λ answers. IsParted (outs T.comes out.old.items) answers.items (outs T.comes out.new.items)) }
     ensures there { IfOk result (λ answers. AreTakenOut (T.there moment) out.old.items out.new.items answers.items) }
+    ensures said { IfOk result (λ answers. answers.items ≡ answers_of T.said (filter (λ s. T.there moment s.standing) out.old.items)) }
     ensures kept { OnErr result (out.new ≡ out.old) }
 {
     let mut answers = Vec::with_capacity(alloc, out.len())?;

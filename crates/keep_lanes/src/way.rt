@@ -1,6 +1,6 @@
 //! A request that is on its way over a connection, or over.
 ghost use Rattle.std.specs.Prelude.{◌≡◌, ◌<◌, None, OnOk, length};
-ghost use Rattle.keep_lanes.specs.code.Ways.{DeadlineIsAhead, WayMoves, is_way_over, sooner};
+ghost use Rattle.keep_lanes.specs.code.Ways.{DeadlineIsAhead, WayMoves, answer_of_way, is_way_over, sooner};
 
 use crate::lane::Lane;
 use crate::line::Line;
@@ -23,6 +23,8 @@ impl<L: Drop> Standing for Way<L> {
     ghost comes = { λ _. None };
 
     ghost there = { λ _ way. is_way_over way };
+
+    ghost said = { λ way. answer_of_way way };
 
     fn is_there(&self, _moment: u64) -> bool {
         self.is_over()
@@ -71,7 +73,7 @@ impl<L: Line + Drop> Way<L> {
     ) -> Result<(), AllocError>
         requires room { 0 < length room.old }
         ensures room { length room.new ≡ length room.old }
-        ensures moves { OnOk result (WayMoves L.written L.remaining now self.old self.new) }
+        ensures moves { OnOk result (WayMoves L.written L.remaining L.failures now self.old self.new) }
         ensures ahead { OnOk result (DeadlineIsAhead now self.new) }
     {
         if let Way::Out(lane) = self {

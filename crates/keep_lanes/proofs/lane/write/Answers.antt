@@ -5,6 +5,7 @@ use Rattle.std.proofs.Math.Seq.{take-add}
 use Rattle.std.proofs.lemmas.Grind.{common_steps}
 use Rattle.std.proofs.KnownBytes.{Appends-trans, Keeps-trans}
 use Rattle.std.specs.Io.KnownBytes.{Appends}
+use Rattle.keep_lanes.proofs.Failed.{kept_then}
 use Rattle.keep_lanes.proofs.lane.write.Goals as goal
 
 next_piece : (a b c : Option (List ℕ)) (bs : List ℕ) (at n : ℕ) → Appends a b (take at bs) → Appends b c (take n (take (length bs - at) (drop at bs)))
@@ -20,4 +21,5 @@ loop-taken-preserved g c =
       within = grind (arith, common_steps);
       written = next_piece _ _ _ _ _ _ i.written e.bytes;
       remaining = Keeps-trans _ _ _ i.remaining e.remaining;
+      failures = kept_then 0 _ _ _ i.failures e.failures;
     }

@@ -11,10 +11,10 @@ loop-seat-preserved g c =
     let next = record (get_or c.loop-seat.out c.loop-seat.seat-index c.seat-item.result) { standing = c.go_on.new.self } in record {
       room = c.go_on.ensures.room ∙ i.room;
       many = length-set _ _ _ ∙ i.many;
-      moved = move_next g.L.Line.written g.L.Line.remaining c.args.now c.args.out.now c.loop-seat.out c.loop-seat.seat-index c.seat-item.result next within i.rest i.moved
+      moved = move_next g.L.Line.written g.L.Line.remaining g.L.Line.failures c.args.now c.args.out.now c.loop-seat.out c.loop-seat.seat-index c.seat-item.result next within i.rest i.moved
           c.in_ok-go_on.ensures.moves c.in_ok-go_on.ensures.ahead refl;
       same = outs_set c.loop-seat.out c.loop-seat.seat-index c.seat-item.result _ refl ∙ i.same;
-      rest = rest_next g.L.Line.written g.L.Line.remaining c.args.now c.args.out.now c.loop-seat.out c.loop-seat.seat-index _ i.rest;
+      rest = rest_next g.L.Line.written g.L.Line.remaining g.L.Line.failures c.args.now c.args.out.now c.loop-seat.out c.loop-seat.seat-index _ i.rest;
     }
 
 pub returns-in_err-go_on-clause-out : goal.returns-in_err-go_on-clause-out

@@ -1,6 +1,6 @@
 -- Those so far are under other indices, and the others are as they were.
 use Rattle.std.proofs.Common.{◌≡◌, ◌++◌, drop, map, take}
-use Rattle.keep_lanes.proofs.Renamed.{under}
+use Rattle.keep_lanes.specs.Seats.{under}
 use Rattle.keep_lanes.proofs.seats.rename.Given as goal
 
 abbrev pub invariant-loop-seat : goal.invariant-loop-seat

@@ -8,7 +8,7 @@ abbrev pub invariant-loop-at : goal.invariant-loop-at
 invariant-loop-at g l = record {
   within : l.at ≤ vec_len l.out;
   room : vec_len l.answers + vec_len l.out ≤ vec_capacity l.answers;
-  so_far : SoFar g.T.Standing.comes (g.T.Standing.there l.moment) l.fn.out.items l.out.items l.at l.answers.items;
+  so_far : SoFar g.T.Standing.comes (g.T.Standing.there l.moment) g.T.Standing.said l.fn.out.items l.out.items l.at l.answers.items;
 }
 
 abbrev pub decreases-loop-at : goal.decreases-loop-at

@@ -29,5 +29,5 @@ returns-clause-sent c =
     (sent_with c.self.inside.seconds c.args.t c.args.now c.args.ask.now old (outs (λ (coming : Coming). Some coming) c.self.inside.out.items) (outs (λ (coming : Coming). Some coming) c.put.new.out.items)
     c.in_ok-standing.standing c.serve.new.exchange.table c.saturating_add-number.result c.fault_at-fault.result c.deref.result.now c.new-allowance.result
     (subst (λ l. OutIsPut (record { index = c.args.ask.now.index; comes = Some c.in_ok-standing.standing }) (outs (λ (coming : Coming). Some coming) l) (outs (λ (coming : Coming). Some coming) c.put.new.out.items))
-    c.reserve.ensures.items c.put.ensures)
+    c.reserve.ensures.items c.put.ensures.put)
     c.in_ok-standing.ensures.comes c.saturating_add-number.ensures c.fault_at-fault.ensures c.deref.ensures.value c.new-allowance.ensures)
