@@ -8,7 +8,7 @@ from pathlib import Path
 
 TOP = Path(__file__).resolve().parent.parent
 _GHOST = re.compile(r"ghost use Rattle\.(\w+)\.specs\.([\w.]+)\.\{([^}]*)\};")
-_NO_BODY = re.compile(r" ?(?:Each(?: law)? is|The laws? (?:is|are)|The) (?:the )?contract of a public function without a body\.")
+_NO_BODY = re.compile(r" ?(?:Each(?: law)? is|The laws? (?:is|are)|The) (?:the )?contract of (?:a public function|public functions) without a body\.")
 _PUBLIC = re.compile(r"(?:(?:abbrev|unfoldable|opaque|irreducible) pub|pub (?:record|data)) ([A-Za-z_◌]\S*)")
 
 Name = tuple[str, str, str]

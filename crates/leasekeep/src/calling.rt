@@ -1,7 +1,7 @@
 //! A command of a running agent: it is sent over the agent's control socket.
 use keep_calling::{Call, Ended, connect, follow, request_for, talk, tell_unreached};
 use keep_device::{Counted, Sink};
-use keep_engine::{PROGRAM, Stop};
+use keep_report::{PROGRAM, Stop};
 use leasekeep_commands::Called;
 use std::alloc::{AllocError, Global};
 use std::env::{self, VarError};

@@ -2,11 +2,13 @@
 use crate::calling::call;
 use crate::linting::lint;
 use crate::live::keep;
+use crate::rehearsing::rehearse;
 use crate::serve::serve;
 use keep_command::{SystemFiles, words};
 use keep_device::{Counted, Sink, Streams};
-use keep_engine::{Command, Exit, PROGRAM, Stop, obey};
+use keep_report::{Exit, PROGRAM, Stop};
 use leasekeep_commands::{Job, overview, read_command};
+use plan_commands::{Command, obey};
 use std::fs::File;
 use std::io::{self, Printer, Read, Stdout, Write};
 use std::net::Net;
@@ -46,7 +48,8 @@ where
         Job::Live(live) => keep(rt, live, &mut streams_of(rt, input, errors)).code(),
         Job::Serve(served) => serve(rt, served, output, &mut errors).code(),
         Job::Lint(linted) => lint(rt, linted, &mut errors).code(),
-        Job::Offline(command) => do_offline(rt, command, &mut errors).code(),
+        Job::Rehearse(rehearsed) => rehearse(rt, rehearsed, &mut errors).code(),
+        Job::Plans(command) => do_plans(rt, command, &mut errors).code(),
     }
 }
 
@@ -63,8 +66,8 @@ fn streams_of<R: Print, I: Read, E: Write>(
     }
 }
 
-/// Does what a command over files asks.
-fn do_offline<R: Files + AllocGlobal + Print, E: Sink>(
+/// Does what a command about plans asks.
+fn do_plans<R: Files + AllocGlobal + Print, E: Sink>(
     rt: &R,
     command: &Command,
     errors: &mut E,

@@ -1,6 +1,6 @@
 use keep_device::{Counted, Sink};
-use keep_engine::Exit;
 use keep_house::Demands;
+use keep_report::Exit;
 use leasekeep_commands::Linted;
 use lint_run::run_lint;
 use serve_start::{SystemSecrets, folder_of};

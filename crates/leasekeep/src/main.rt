@@ -1,6 +1,6 @@
-//! `leasekeep`: keeps Vault tokens and leases alive with the fewest wake-ups. The program over `keep_engine`, of the agent over
-//! `keep_house`, and of its commands over `keep_calling`: files, standard streams and the exit status. What its words ask is read in
-//! `leasekeep_commands`.
+//! `leasekeep`: keeps Vault tokens and leases alive with the fewest wake-ups. The program over `plan_commands` and `tick_commands`, of
+//! the agent over `keep_house`, and of its commands over `keep_calling`: files, standard streams and the exit status. What its words
+//! ask is read in `leasekeep_commands`.
 #![tactic(auto)]
 
 use std::process::ExitCode;
@@ -9,6 +9,7 @@ mod calling;
 mod commands;
 mod linting;
 mod live;
+mod rehearsing;
 mod running;
 mod serve;
 mod system_doors;

@@ -1,6 +1,6 @@
 //! The commands over files alone, with their help.
 use crate::described::{Described, FILE, START, Takes, Value, Word};
-use keep_engine::LIMIT;
+use plan_commands::LIMIT;
 
 /// `ends FILE START [MOMENT..]`
 pub const ENDS: Described = Described {

@@ -3,7 +3,7 @@ use crate::agent_commands::{RUN, SERVE};
 use crate::call_commands::{ADD, DROP, FOLLOW, HEALTH, NEED, RELOAD, REPLACE, SETTLE, STATUS};
 use crate::file_commands::{CHECK, ENDS, LINT, MARGIN, PLAN, REACH, REHEARSE};
 use clap::Command;
-use keep_engine::PROGRAM;
+use keep_report::PROGRAM;
 use std::alloc::{AllocError, Global};
 
 pub const ABOUT: &str = "Keeps Vault tokens and leases alive with the fewest wake-ups.";

@@ -2,15 +2,17 @@
 use keep_calling::Ask;
 use keep_clients::Entrance;
 use keep_device::Place;
-use keep_engine::Command;
 use keep_log::Form;
-use keep_moment::Moment;
+use keep_moment::{Moment, Text};
+use plan_commands::Command;
 
 /// What the words of the command line ask.
 #[derive(Debug, Drop)]
 pub enum Job<'a> {
-    /// A command over files alone.
-    Offline(Command),
+    /// A command about plans.
+    Plans(Command),
+    /// `rehearse`, which plays a plan against a broker of its own.
+    Rehearse(Rehearsed<'a>),
     /// A command of a running agent.
     Call(Called<'a>),
     /// `run`, the agent.
@@ -40,6 +42,17 @@ pub struct Live<'a> {
     pub start: Moment,
     /// How long one connect, read or write may take, in seconds.
     pub patience: u64,
+}
+
+/// What the words of `rehearse` ask.
+#[derive(Debug, Drop)]
+pub struct Rehearsed<'a> {
+    /// The path of the inventory.
+    pub file: &'a str,
+    /// The moment of the first plan.
+    pub start: Moment,
+    /// The FAULT words, as they were given.
+    pub faults: Vec<Text>,
 }
 
 /// What the words of `serve` ask.

@@ -2,7 +2,7 @@
 use crate::groups::{ABOUT, commands};
 use clap::error::ErrorKind;
 use clap::{ArgMatches, Command, Error};
-use keep_engine::PROGRAM;
+use keep_report::PROGRAM;
 use keep_version::VERSION;
 use std::alloc::{AllocError, Global};
 

@@ -1,17 +1,18 @@
 //! What the words of the command line ask.
 use crate::agent_commands::BROKER;
 use crate::call_commands::called;
-use crate::job::{Called, Job, Linted, Live, Room, Served, Socket};
+use crate::job::{Called, Job, Linted, Live, Rehearsed, Room, Served, Socket};
 use crate::parser::{mistake, parse};
 use clap::error::ErrorKind;
 use clap::{ArgMatches, Error};
 use keep_clients::{Entrance, entrance_of};
 use keep_command::{number_or, place_to_ask, show};
 use keep_device::{Counted, Place, Sink};
-use keep_engine::{Command, Exit, MarginQuery, PROGRAM, Stop, tell};
 use keep_exchange::PATIENCE;
 use keep_log::Form;
 use keep_moment::{Moment, Text};
+use keep_report::{Exit, PROGRAM, Stop, tell};
+use plan_commands::{Command, MarginQuery};
 use std::alloc::{AllocError, AllocFailed, Global};
 use std::io;
 use watch_machine::WIDTH;
@@ -167,7 +168,8 @@ fn job_of<'a>(alloc: Global, matches: &ArgMatches<'a>) -> Result<Job<'a>, Unread
         Some(("run", matches)) => live(matches),
         Some(("serve", matches)) => served(matches),
         Some(("lint", matches)) => linted(matches),
-        Some((command, matches)) => Ok(Job::Offline(command_of(alloc, command, matches)?)),
+        Some(("rehearse", matches)) => rehearsed(alloc, matches),
+        Some((command, matches)) => Ok(Job::Plans(command_of(alloc, command, matches)?)),
         None => Err(Unread::Value),
     }
 }
@@ -208,6 +210,15 @@ fn linted<'a>(matches: &ArgMatches<'a>) -> Result<Job<'a>, Unread> {
         json: matches.get_flag("json"),
         patience: number_or(matches, "timeout", PATIENCE).ok_or(Unread::Value)?,
         names_are_secrets: matches.get_flag("names-are-secrets"),
+    }))
+}
+
+/// What `rehearse` asks.
+fn rehearsed<'a>(alloc: Global, matches: &ArgMatches<'a>) -> Result<Job<'a>, Unread> {
+    Ok(Job::Rehearse(Rehearsed {
+        file: matches.get_str("FILE").ok_or(Unread::Value)?,
+        start: start(matches)?,
+        faults: faults(alloc, matches)?,
     }))
 }
 
@@ -298,14 +309,13 @@ fn place<'a>(matches: &ArgMatches<'a>) -> Result<Place<'a>, Unread> {
     }
 }
 
-/// The command of this name, with all its values. After this nothing asks for a value by its name.
+/// The command about plans of this name, with all its values. After this nothing asks for a value by its name.
 fn command_of(alloc: Global, command: &str, matches: &ArgMatches<'_>) -> Result<Command, Unread> {
     match command {
         "ends" => ends(alloc, matches),
         "plan" => plan(alloc, matches),
         "margin" => margin(alloc, matches),
         "reach" => reach(alloc, matches),
-        "rehearse" => rehearse(alloc, matches),
         "check" => check(alloc, matches),
         _ => Err(Unread::Value),
     }
@@ -343,14 +353,6 @@ fn reach(alloc: Global, matches: &ArgMatches<'_>) -> Result<Command, Unread> {
         file: word(alloc, matches, "FILE")?,
         start: start(matches)?,
         dates: matches.get_flag("dates"),
-    })
-}
-
-fn rehearse(alloc: Global, matches: &ArgMatches<'_>) -> Result<Command, Unread> {
-    Ok(Command::Rehearse {
-        file: word(alloc, matches, "FILE")?,
-        start: start(matches)?,
-        words: faults(alloc, matches)?,
     })
 }
 

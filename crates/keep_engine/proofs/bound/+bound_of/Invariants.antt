@@ -1,5 +1,0 @@
--- The search for what binds an entry ends, since each parent has a lower index.
-use Rattle.keep_engine.proofs.bound.+bound_of.Given as goal
-
-abbrev pub decreases-bound_of : goal.decreases-bound_of
-decreases-bound_of l = l.index

@@ -1,8 +1,0 @@
--- The exit, the text and the fault line of `check` are what its text, once delivered, calls for.
-use Rattle.keep_engine.specs.CheckRun.{CheckTexts}
-use Rattle.keep_engine.specs.Running.{NoHalts}
-use Rattle.keep_engine.proofs.Delivered.{run_delivered}
-use Rattle.keep_engine.proofs.check.run_check.Goals as goal
-
-pub returns : goal.returns
-returns g c = run_delivered (CheckTexts c.args.asked c.args.certificate.now) NoHalts _ c.check_text.result c.deliver.result _ _ c.check_text.ensures c.deliver.ensures

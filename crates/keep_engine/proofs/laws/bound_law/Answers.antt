@@ -1,6 +1,0 @@
--- The entry that `reach` names is the lowest over the given one that has the least reach.
-use Rattle.keep_engine.proofs.Bounding as bounding
-use Rattle.keep_engine.proofs.laws.bound_law.Goals as goal
-
-pub returns : goal.returns
-returns c = bounding.bound_law

@@ -1,8 +1,0 @@
--- The exit, the text and the fault line of `reach` are what its text, once delivered, calls for.
-use Rattle.keep_engine.specs.ReachRun.{ReachTexts}
-use Rattle.keep_engine.specs.Running.{NoHalts}
-use Rattle.keep_engine.proofs.Delivered.{run_delivered}
-use Rattle.keep_engine.proofs.reach.run_reach.Goals as goal
-
-pub returns : goal.returns
-returns g c = run_delivered (ReachTexts c.args.start c.args.dates) NoHalts _ c.reach_text.result c.deliver.result _ _ c.reach_text.ensures c.deliver.ensures

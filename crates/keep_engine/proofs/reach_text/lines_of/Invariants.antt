@@ -1,6 +1,0 @@
--- The text so far is the lines of the entries before the index, with what binds them.
-use Rattle.keep_engine.specs.ReachText.{AreReachLines}
-use Rattle.keep_engine.proofs.reach_text.lines_of.Given as goal
-
-abbrev pub invariant-loop-index : goal.invariant-loop-index
-invariant-loop-index l = AreReachLines l.forest l.start l.layout.dates l.index l.lines.items

@@ -1,7 +1,0 @@
--- The width so far is that of the names before the index.
-use Rattle.std.proofs.Common.{◌≡◌}
-use Rattle.keep_engine.specs.ReachText.{widest}
-use Rattle.keep_engine.proofs.reach_text.names_width.Given as goal
-
-abbrev pub invariant-loop-index : goal.invariant-loop-index
-invariant-loop-index l = l.width ≡ widest l.forest.entries l.index

@@ -1,0 +1,28 @@
+-- The run `margin`: which text goes with which exit, and when there is none.
+-- Source: this project's own.
+use Rattle.std.specs.Prelude.{◌≡◌, ℕ, List, Option, Some, None}
+use Rattle.keep_device.specs.Seen.{Change}
+use Rattle.keep_tree.specs.Forest.{Forest}
+use Rattle.keep_plan.specs.Decides.{PlanIsTooLong}
+use Rattle.keep_report.specs.declared.exit.Exit.{Exit}
+use Rattle.keep_report.specs.declared.stop.Stop.{Stop}
+use Rattle.keep_report.specs.declared.stop.Stop.TheVariants as stops
+use Rattle.plan_commands.specs.declared.margin.MarginQuery.{MarginQuery}
+use Rattle.plan_commands.specs.MarginText.{IsMarginText, asked_about}
+use Rattle.keep_start.specs.Start.{inventory_at}
+use Rattle.plan_commands.specs.Running.{Halts, RunOf, Texts}
+
+abbrev pub MarginTexts : MarginQuery → Texts
+MarginTexts q g exit text = IsMarginText (asked_about q g) q.start q.most_wakes exit text
+
+-- WAKES is not given, and no plan that keeps with the forest's own margin is short enough
+abbrev pub HasNoCount : Forest → ℕ → Option ℕ → Stop → Type 0
+HasNoCount g s None stop = (stop ≡ stops.TooLong) × PlanIsTooLong g s
+HasNoCount g s (Some most) stop = ⊥
+
+abbrev pub MarginHalts : MarginQuery → Halts
+MarginHalts q g stop = HasNoCount (asked_about q g) q.start q.most_wakes stop
+
+-- `margin` over the bytes of an inventory, from its start on
+abbrev pub MarginRun : List ℕ → MarginQuery → Exit → Change → Change → Type 0
+MarginRun bytes q exit out errors = RunOf (MarginTexts q) (MarginHalts q) (inventory_at q.start bytes) exit out errors

@@ -1,0 +1,2 @@
+pub mod Unheard
+mod SameRehearsal

@@ -1,0 +1,3 @@
+pub mod RehearseFrom
+pub mod LiveFrom
+pub mod Secrecy
