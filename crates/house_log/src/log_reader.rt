@@ -15,8 +15,8 @@ use std::alloc::Global;
 pub const MOST_GIVEN: usize = 65_536;
 
 impl Desk {
-    /// Gives the log's reader what it takes without waiting, in as many tries as [`LogRoom::give`] makes. Where it took something, lines that were dropped are told of, if there
-    /// is room for that. Whether more could be given at once.
+    /// Gives the log's reader what it takes without waiting, in as many tries as [`LogRoom::give`] makes. Where it took something,
+    /// lines that were dropped are told of, if there is room for that. Whether more could be given at once.
     #[tactic(auto, using(crate::proofs::Deciding::tells_by))]
     pub fn give<S: LogSink>(&mut self, alloc: Global, sink: &mut S, now: Reading) -> bool
         ensures given { ReaderIsGiven self.old.form (second_of now.wall) self.old.room.log self.new.room.log (S.written sink.old) (S.written sink.new) (S.failures sink.old) (S.failures sink.new) result }
