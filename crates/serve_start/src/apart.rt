@@ -13,7 +13,7 @@ use std::alloc::{AllocError, Global};
 
 /// What is taken of these, one after another, and a line for each that is not, since another entry of the kind has that credential:
 /// the inventory writes it there, or a file before has it. The only error is lack of memory.
-#[tactic(auto, using(crate::proofs::Parting::parted_none, crate::proofs::Parting::parted_all))]
+#[tactic(auto, using(crate::proofs::Parting::parted_none, crate::proofs::Parting::parted_more, crate::proofs::Parting::parted_all))]
 pub(crate) fn apart(alloc: Global, rows: &Rows, secrets: &[Secret]) -> Result<Gathered, AllocError>
     ensures { IfOk result (λ g. parted_in g ≡ parted rows.now nothing_yet secrets.now) }
 {
