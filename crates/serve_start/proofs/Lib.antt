@@ -1,6 +1,7 @@
 mod Begun
 mod Mounted
 mod Numbers
+mod Parting
 mod Refusals
 mod Saying
 mod SetAside

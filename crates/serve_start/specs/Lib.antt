@@ -1,3 +1,4 @@
+pub mod Apart
 pub mod Descriptors
 pub mod Mounts
 pub mod Numbers
