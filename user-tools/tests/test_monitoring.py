@@ -112,7 +112,7 @@ class Rules(unittest.TestCase):
         up = {WRITTEN: "0+15x100"}
         needed = {**up, NEED: "10000x100"}
         tests = [
-            case({WRITTEN: "0+15x4 60x40"}, ("LeasekeepAgentDown", "105", 0), ("LeasekeepAgentDown", "135", 1)),
+            case({WRITTEN: "0+15x4 60x40"}, ("LeasekeepAgentDown", "210", 0), ("LeasekeepAgentDown", "225", 1)),
             case({}, ("LeasekeepAgentDown", "15", 1)),
             case({WRITTEN + '{job="a",instance="1"}': "0+15x4 stale", WRITTEN + '{job="a",instance="2"}': "0+15x100",
                   'up{job="a",instance="1"}': "1x4 0x40", 'up{job="a",instance="2"}': "1x4 0x2 1x100", 'up{job="b",instance="1"}': "0x100"},
