@@ -1,6 +1,6 @@
 -- Commands: what clients ask for is carried out, and what comes of it.
 -- Source: this project's own; docs/running.md, "Changes while it runs".
-use Rattle.std.specs.Prelude.{◌≡◌, ◌≢◌, ◌/◌, ◌⊎◌, ℕ, Bool, true, false, List, [], ◌∷◌, Option, Some, None, IfSome, Vec, Result, Ok, Err, codes, is_some, length, replicate}
+use Rattle.std.specs.Prelude.{◌≡◌, ◌≢◌, ◌/◌, ℕ, Bool, true, false, List, [], ◌∷◌, Option, Some, None, IfSome, Vec, Result, Ok, Err, codes, is_some, length, replicate}
 use Rattle.std.specs.declared.alloc.AllocError.{AllocError}
 use Rattle.std.specs.declared.alloc.Global.{Global}
 use Rattle.keep_agent.specs.Agent.{Agent}
@@ -175,10 +175,9 @@ pub record Reloads {S T D K E : Type 0} (does : KeepCall → K → K → Type 0)
 
 -- ---- each of them, and an inventory that is due
 
--- an inventory is given where one is due, with marks for its entries; memory may be wanting for it, or for them
+-- an inventory is given where one is due, with marks for its entries
 abbrev pub InventoryIsDue : {K : Type 0} → (ℕ → Result (Option Inventory) AllocError → K → Type 0) → Reading → Result (Option (Inventory × Vec Mark Global)) AllocError → Option K → Type 0
-InventoryIsDue gives now (Err e) None = ⊥
-InventoryIsDue gives now (Err e) (Some k) = gives now.elapsed (Err e) k ⊎ ((inventory : Inventory) × gives now.elapsed (Ok (Some inventory)) k)
+InventoryIsDue gives now (Err e) state = Unit {0}
 InventoryIsDue gives now (Ok None) None = Unit {0}
 InventoryIsDue gives now (Ok (Some p)) None = ⊥
 InventoryIsDue gives now (Ok None) (Some k) = gives now.elapsed (Ok None) k
