@@ -1,7 +1,6 @@
 mod Begun
 mod Mounted
 mod Numbers
-mod Parting
 mod Refusals
 mod Saying
 mod SetAside

@@ -1,7 +1,7 @@
 -- Saying: what is to be said at a start is put in a list, and then said one after another. For `push_each`, `say_each`, `say_behind` and `warn`.
 use Rattle.std.proofs.Common.{◌≡◌, ◌∙◌, ℕ, ◌+◌, ◌<◌, List, [], ◌∷◌, ◌++◌, ap, append-nil, append_assoc, get_or, inl, inr, length, take, refl, sym, subst}
 use Rattle.std.proofs.lemmas.List.{take_more}
-use Rattle.std.proofs.lemmas.List.Elements.{All-append, All-nil, All-push}
+use Rattle.std.proofs.lemmas.List.Elements.{All-nil, All-push}
 use Rattle.house_log.specs.LogDesk.{Desk, HearsAtStart}
 use Rattle.keep_clock.specs.declared.reading.Reading.{Reading}
 use Rattle.keep_log.specs.declared.level.Level.{Level}
@@ -30,11 +30,6 @@ adds_none level about ss = record { more = []; all = All-nil (IsSaidAs level abo
 pub adds_one : (level : Level) (about : About) (old mid new : List Said) (s : Said) → AddsSaid level about old mid → new ≡ mid ++ s ∷ [] → IsSaidAs level about s → AddsSaid level about old new
 adds_one level about old mid new s h is so =
     record { more = h.more ++ s ∷ []; all = All-push (IsSaidAs level about) h.more s h.all so; is = is ∙ (ap (λ l. l ++ s ∷ []) h.is ∙ append_assoc old h.more (s ∷ [])) }
-
--- and then some more
-pub adds_both : (level : Level) (about : About) (old mid new : List Said) → AddsSaid level about old mid → AddsSaid level about mid new → AddsSaid level about old new
-adds_both level about old mid new h then =
-    record { more = h.more ++ then.more; all = All-append (IsSaidAs level about) h.more then.more h.all then.all; is = then.is ∙ (ap (λ l. l ++ then.more) h.is ∙ append_assoc old h.more then.more) }
 
 -- ---- words for which memory may be wanting
 

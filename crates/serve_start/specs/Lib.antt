@@ -1,4 +1,3 @@
-pub mod Apart
 pub mod Descriptors
 pub mod Mounts
 pub mod Numbers

@@ -45,7 +45,7 @@ abbrev pub IsWhyNotBegun : Bool → NotBegun → Type 0
 IsWhyNotBegun false why = why ≡ nots.NoFolder
 IsWhyNotBegun true why = IsOfFolder why
 
--- an entry is left out whose file holds no credential, or what another entry has
+-- an entry is left out whose file holds no credential
 abbrev pub SaysUnheld : Said → Type 0
 SaysUnheld s = IsSaidAs Alert SecretFile s
 

@@ -4,14 +4,12 @@
 //! The contract for the layers above: [`make_start`] gives what is served from the start on, or the exit once it was told why nothing is
 //! (`specs/Refusals`). Of files and folders of the system, from which all the rest comes, nothing is known. Begin with `start`: `reading`
 //! has what is served of the file alone, `folder` what is served with a state folder, `found` and `modes` what is found there, `aside`
-//! what is kept of a journal that cannot be read (`specs/SettingAside`), and `unkept` what is served where that folder cannot be used, by what files of
-//! credentials hold `apart` (`specs/Apart`).
+//! what is kept of a journal that cannot be read (`specs/SettingAside`), and `unkept` what is served where that folder cannot be used.
 //! `secrets` are the files of credentials, `descriptors` how many guests are let in, `spread` the number of the agent's own name, and
 //! `stalls` what is said of files for which the loop waits. [`desk_of`] is the log with what is said at a start (`specs/Saying`), and
 //! [`take_over`] gives the file that keeps the ends, and what it kept (`specs/TakingOver`).
 #![tactic(auto)]
 
-mod apart;
 mod aside;
 mod descriptors;
 mod ends;

@@ -3,7 +3,6 @@ ghost use Rattle.std.specs.Prelude.{◌≡◌, IfOk, IfSome, None, OnOk};
 ghost use Rattle.serve_start.specs.Refusals.{GivesOrRefuses};
 ghost use Rattle.serve_start.specs.Starts.{AddsUnheld};
 
-use crate::apart::apart;
 use crate::folder::folder_of;
 use crate::reading::{Inventories, read_bytes, refuse_bytes, serve_bytes};
 use crate::said::{About, Said, push_each};
@@ -22,7 +21,7 @@ use std::fs::File;
 use std::rt::Files;
 
 /// What is served of the file, with what the files hold that it names; or the exit, once it was told why the start is refused. As with
-/// a folder, an entry whose file holds no credential, or what another entry has, waits with all under it, and that is said.
+/// a folder, an entry whose file holds no credential waits with all under it, and that is said.
 pub(crate) fn read_with_held<R, E>(
     rt: &R,
     file: &str,
@@ -69,9 +68,9 @@ where
     }
 }
 
-/// What is served of these bytes with what the files hold that they name, and then it is said which hold none, or what another entry
-/// has; `None` where that does not go together. The only error is lack of memory.
-#[tactic(auto, using(crate::proofs::Saying::adds_none, crate::proofs::Saying::adds_both))]
+/// What is served of these bytes with what the files hold that they name, and then it is said which hold none; `None` where that does
+/// not go together. The only error is lack of memory.
+#[tactic(auto, using(crate::proofs::Saying::adds_none))]
 fn held<I: Inputs>(
     alloc: Global,
     bytes: &[u8],
@@ -86,16 +85,14 @@ fn held<I: Inputs>(
     let Some(mut book) = book_of(alloc, bytes)? else {
         return Ok(None);
     };
-    let found = gather(alloc, book.rows().list(), folder.as_bytes(), files)?;
     let Gathered {
         secrets,
-        said: doubled,
-    } = apart(alloc, book.rows(), &found.secrets)?;
+        said: unheld,
+    } = gather(alloc, book.rows().list(), folder.as_bytes(), files)?;
     if !takes(alloc, &mut book, secrets)? {
         return Ok(None);
     }
-    push_each(said, Level::Alert, About::SecretFile, found.said)?;
-    push_each(said, Level::Alert, About::SecretFile, doubled)?;
+    push_each(said, Level::Alert, About::SecretFile, unheld)?;
     Ok(Some(inventories_of(alloc, demands, &book)?))
 }
 
