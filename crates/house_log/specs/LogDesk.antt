@@ -7,8 +7,6 @@ use Rattle.keep_agent.specs.Agent.{Agent}
 use Rattle.keep_agent.specs.declared.shorts.Short.{Short}
 use Rattle.keep_asking.specs.declared.told.Said.{Said}
 use Rattle.keep_clock.specs.declared.reading.Reading.{Reading}
-use Rattle.keep_device.specs.declared.tried.Tried.{Tried}
-use Rattle.keep_log.specs.Turns.{TurnIsMade}
 use Rattle.keep_log.specs.Waiting.{Waiting, after_turn, closed_if, giving, with_notice}
 use Rattle.keep_log.specs.declared.level.Level.{Level}
 use Rattle.keep_log.specs.declared.line.Word.TheVariants as words
@@ -108,8 +106,3 @@ pub record ReaderIsGiven (form : Form) (moment : ℕ) (old new : Waiting) (befor
   pub failures : failures_after ≡ after_turn failed failures_before
   pub room : TellsIf (nat_lt 0 taken && not failed) form moment (closed_if failed (giving taken old)) new
   pub more : goes_on ≡ (nat_eq taken MOST_GIVEN && not failed)
-
--- and its sink was tried until it had taken all that it may have in a turn, would have had to wait, or failed; or as often as it may be
-pub record ReaderHasItsTurn (form : Form) (moment : ℕ) (old new : Waiting) (before after : Option (List ℕ)) (failures_before failures_after : ℕ) (tried_before tried_after : Option (List Tried)) (goes_on : Bool) : Type 0 where
-  pub is_given : ReaderIsGiven form moment old new before after failures_before failures_after goes_on
-  pub turn : TurnIsMade (min MOST_GIVEN (length old.bytes)) is_given.taken is_given.failed tried_before tried_after

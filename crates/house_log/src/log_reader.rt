@@ -1,7 +1,7 @@
 //! The log's reader is given what it takes.
 ghost use Rattle.std.specs.Prelude.{◌≡◌, ◌+◌, ◌≤◌, ◌&&◌, nat_eq, nat_lt, not};
 ghost use Rattle.keep_log.specs.declared.writing.TheConstants.{MOST_TRIES};
-ghost use Rattle.house_log.specs.LogDesk.{MayTell, ReaderHasItsTurn, ReaderIsGiven, TellsIf};
+ghost use Rattle.house_log.specs.LogDesk.{MayTell, ReaderIsGiven, TellsIf};
 ghost use Rattle.house_words.specs.Moments.{second_of};
 
 use crate::desk::Desk;
@@ -15,12 +15,11 @@ use std::alloc::Global;
 pub const MOST_GIVEN: usize = 65_536;
 
 impl Desk {
-    /// Gives the log's reader what it takes without waiting, in as many tries as [`LogRoom::give`] makes. Where it took something,
-    /// lines that were dropped are told of, if there is room for that. Whether more could be given at once.
+    /// Gives the log's reader what it takes without waiting. Where it took something, lines that were dropped are told of, if there
+    /// is room for that. Whether more could be given at once.
     #[tactic(auto, using(crate::proofs::Deciding::tells_by))]
     pub fn give<S: LogSink>(&mut self, alloc: Global, sink: &mut S, now: Reading) -> bool
         ensures given { ReaderIsGiven self.old.form (second_of now.wall) self.old.room.log self.new.room.log (S.written sink.old) (S.written sink.new) (S.failures sink.old) (S.failures sink.new) result }
-        ensures turn { ReaderHasItsTurn self.old.form (second_of now.wall) self.old.room.log self.new.room.log (S.written sink.old) (S.written sink.new) (S.failures sink.old) (S.failures sink.new) (S.tried sink.old) (S.tried sink.new) result }
         ensures tries { S.tries sink.new ≤ S.tries sink.old + MOST_TRIES }
         ensures rest { self.new ≡ record self.old { room = record self.old.room { log = self.new.room.log } } }
     {
