@@ -9,7 +9,7 @@ pub returns : goal.returns
 returns g c = (
   c.in-Some.inventory,
   (
-    subst (InventoryIsGiven (waiting_in c.args.self.now.state.keeper) c.args.now (book_in c.args.self.now.state).text) c.in-Some.is (c.in_ok-inventory.ensures.given tt),
-    subst (λ text. IsWide c.args.self.now.demands text c.in-Some.inventory c.in_ok-wide.field-0) c.text.ensures (c.in_ok-wide.ensures tt),
+    subst (InventoryIsGiven (waiting_in c.args.self.now.state.keeper) c.args.now (book_in c.args.self.now.state).text) c.in-Some.is c.in_ok-inventory.ensures.given,
+    subst (λ text. IsWide c.args.self.now.demands text c.in-Some.inventory c.in_ok-wide.field-0) c.text.ensures c.in_ok-wide.ensures,
   ),
 )
