@@ -2,3 +2,4 @@ pub mod TakenUp
 pub mod Compacting
 pub mod WhyUnserved
 pub mod Asking
+pub mod Due

@@ -167,9 +167,9 @@ ReadsTable most table (Err (Some why)) =
     ((fault : TableFault) × ((row_of_table most table ≡ Err fault) × (why ≡ table_words fault)))
     ⊎ ((row : Row) × ((row_of_table most table ≡ Ok row) × ((is_bare_row row ≡ true) × (why ≡ bare_words row))))
 
--- what is served from a moment on, where that is due
+-- what is served from a moment on, where that is due; memory may be wanting only there
 abbrev pub GivesLedger : {D I L : Type 0} → ℕ → Result (Option Inventory) AllocError → Ledger D I L → Type 0
 GivesLedger now (Ok None) l = is_change_due (waiting_in l.state.keeper) now ≡ false
 GivesLedger now (Ok (Some inventory)) l =
     (narrow : Inventory) × (InventoryIsGiven (waiting_in l.state.keeper) now (book_in l.state).text (Some narrow) × IsWide l.demands (book_in l.state).text narrow inventory)
-GivesLedger now (Err e) l = Unit {0}
+GivesLedger now (Err e) l = is_change_due (waiting_in l.state.keeper) now ≡ true

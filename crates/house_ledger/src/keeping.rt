@@ -90,7 +90,7 @@ pub trait Keeping {
     fn read_row(&self, alloc: Global, table: &[u8]) -> Result<Row, Option<Text>>
         ensures { Self.reads self.now table.now result };
 
-    /// The inventory that is to be served from now on, where one is due. The only error is out of memory.
+    /// The inventory that is to be served from now on, where one is due. The only error is out of memory, and only there.
     fn due(&self, alloc: Global, now: u64) -> Result<Option<Inventory>, AllocError>
         ensures { Self.gives now result self.now };
 

@@ -438,6 +438,7 @@ impl<'a, D: Disk, I: Inputs + SecretFiles, L: Lanes> Keeping for Ledger<'a, D, I
         }
     }
 
+    #[tactic(auto, using(crate::proofs::Due::due_where_wanting))]
     fn due(&self, alloc: Global, now: u64) -> Result<Option<Inventory>, AllocError> {
         let Some(inventory) = self.state.due(now)? else {
             return Ok(None);

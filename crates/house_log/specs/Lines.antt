@@ -1,6 +1,6 @@
 -- Lines: what is said of an agent, and what becomes of it in the room of its log, and in the room of each of those who follow it.
 -- Source: docs/running.md, "What the operator sees".
-use Rattle.std.specs.Prelude.{◌≡◌, ◌⊎◌, ℕ, Bool, true, false, List, [], ◌∷◌, codes, Option, Some, None}
+use Rattle.std.specs.Prelude.{◌≡◌, ◌⊎◌, ◌<◌, ℕ, Bool, true, false, List, [], ◌∷◌, codes, Option, Some, None}
 use Rattle.keep_lanes.specs.declared.loss.Loss.{Loss}
 use Rattle.keep_lanes.specs.declared.loss.Loss.TheVariants as losses
 use Rattle.keep_log.specs.Following.{put_if_heard}
@@ -47,16 +47,17 @@ dropped_line n = said_line Warning (codes "log") (words.Text (codes "dropped") �
 abbrev pub TellsDropped : Form → ℕ → ℕ → List ℕ → Type 0
 TellsDropped form moment untold notice = (untold ≡ 0) ⊎ LineIsWritten form moment (dropped_line untold) notice
 
--- the text of a line is put where there is room for it, and before it the line that tells of those that were dropped; where memory is
--- wanting for that one, it is dropped and counted
+-- the text of a line is put where there is room for it, and before it the line that tells of those that were dropped; where some were, and
+-- memory is wanting for that one, it is dropped and counted
 abbrev pub TextIsPut : Form → ℕ → List ℕ → Waiting → Waiting → Type 0
 TextIsPut form moment text old new =
-    ((notice : List ℕ) × (TellsDropped form moment old.untold notice × (new ≡ with_line notice text old))) ⊎ (new ≡ dropping 1 old)
+    ((notice : List ℕ) × (TellsDropped form moment old.untold notice × (new ≡ with_line notice text old))) ⊎ ((0 < old.untold) × (new ≡ dropping 1 old))
 
 -- one who follows the log is told of it in the same way, where it is told of that level
 abbrev pub FollowerIsTold : Form → ℕ → Level → List ℕ → Follower → Follower → Type 0
 FollowerIsTold form moment level text old new =
-    ((notice : List ℕ) × (TellsDropped form moment old.room.untold notice × (new ≡ record old { room = put_if_heard old.alerts_alone level notice text old.room }))) ⊎ (new ≡ misses level old)
+    ((notice : List ℕ) × (TellsDropped form moment old.room.untold notice × (new ≡ record old { room = put_if_heard old.alerts_alone level notice text old.room })))
+    ⊎ ((0 < old.room.untold) × (new ≡ misses level old))
 
 abbrev pub EachIsTold : Form → ℕ → Level → List ℕ → List Follower → List Follower → Type 0
 EachIsTold form moment level text [] new = new ≡ []

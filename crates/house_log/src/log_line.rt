@@ -1,5 +1,5 @@
 //! A line is said: written, and put into the room of the log, and that of each of those who follow it.
-ghost use Rattle.std.specs.Prelude.{◌≡◌, ◌∷◌, [], IfOk, codes};
+ghost use Rattle.std.specs.Prelude.{◌≡◌, ◌<◌, ◌∷◌, [], IfOk, OnErr, codes};
 ghost use Rattle.keep_log.specs.declared.line.Word.TheVariants as words;
 ghost use Rattle.house_log.specs.Lines.{AreSaid, IsSaid, LineIsSaid, LineIsWritten, TellsDropped, dropped_line, said_line};
 
@@ -42,7 +42,8 @@ pub(crate) fn say(
 
 /// The line that tells how many were dropped; nothing where none were. The only error is lack of memory.
 pub(crate) fn notice_of(alloc: Global, stamp: &Stamp, untold: u64) -> Result<Vec<u8>, AllocError>
-    ensures { IfOk result (λ notice. TellsDropped stamp.now.form stamp.now.moment untold notice.items) }
+    ensures told { IfOk result (λ notice. TellsDropped stamp.now.form stamp.now.moment untold notice.items) }
+    ensures due { OnErr result (0 < untold) }
 {
     if untold == 0 {
         return Ok(Vec::new(alloc));
