@@ -87,7 +87,6 @@ class Agent:
             self._process = subprocess.Popen(
                 [program, "serve", FILE_NAME, "./none.sock", "--state", "./state", "--runtime", "./run", "--control", f"./{SOCKET}"],
                 cwd=folder, stdout=log, stderr=subprocess.STDOUT, env=more)
-        self._by = time.monotonic() + SECONDS
 
     def __enter__(self) -> Agent:
         return self
@@ -113,7 +112,8 @@ class Agent:
 
     def _connected(self) -> socket.socket | None:
         """A connection, as soon as it takes one; none where it has ended."""
-        while self.status is None and time.monotonic() < self._by:
+        by = time.monotonic() + SECONDS
+        while self.status is None and time.monotonic() < by:
             client = socket.socket(socket.AF_UNIX)
             try:
                 client.connect(str(self._socket))
