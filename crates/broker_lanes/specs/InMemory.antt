@@ -1,11 +1,11 @@
 -- Lanes with a broker's table in memory.
 -- Source: this project's own.
 use Rattle.std.specs.Prelude.{◌≡◌, ℕ, List, Result, Ok, Err}
-use Rattle.keep_exchange.specs.declared.fault.ExchangeFault.{ExchangeFault}
-use Rattle.keep_exchange.specs.declared.fault.ExchangeFault.TheVariants as exchange
-use Rattle.keep_lanes.specs.Losses.{Answer}
-use Rattle.keep_lanes.specs.Out.{Out}
-use Rattle.keep_lanes.specs.Serving.{BehindLanes, answer_in}
+use Rattle.vault_exchange.specs.declared.fault.ExchangeFault.{ExchangeFault}
+use Rattle.vault_exchange.specs.declared.fault.ExchangeFault.TheVariants as exchange
+use Rattle.vault_lanes.specs.Losses.{Answer}
+use Rattle.vault_lanes.specs.Out.{Out}
+use Rattle.vault_lanes.specs.Serving.{BehindLanes, answer_in}
 use Rattle.vault_http.specs.declared.reply.Reply.{Reply}
 
 -- what stands in lanes in memory: what is behind them, what is out, how many lanes there are, and the time-out in seconds

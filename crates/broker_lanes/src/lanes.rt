@@ -1,23 +1,23 @@
 ghost use Rattle.std.specs.Prelude.{◌≡◌, ◌++◌, ◌∷◌, [], None, Some, IfOk, OnErr, OnOk, max, min, Ok, Err};
 ghost use Rattle.broker_lanes.specs.InMemory.{AnswersFor};
-ghost use Rattle.keep_exchange.specs.Requests.{IsShortRequest};
-ghost use Rattle.keep_device.specs.Moments.{earlier};
-ghost use Rattle.keep_lanes.specs.Out.{first_at};
-ghost use Rattle.keep_lanes.specs.Serving.{ComesOfRequest, IsTableLeft, RequestIsServed, lane_fault_at, later};
-ghost use Rattle.keep_lanes.specs.Seats.{outs};
+ghost use Rattle.vault_exchange.specs.Requests.{IsShortRequest};
+ghost use Rattle.base_device.specs.Moments.{earlier};
+ghost use Rattle.vault_lanes.specs.Out.{first_at};
+ghost use Rattle.vault_lanes.specs.Serving.{ComesOfRequest, IsTableLeft, RequestIsServed, lane_fault_at, later};
+ghost use Rattle.vault_lanes.specs.Seats.{outs};
 ghost use Rattle.vault_http.specs.RoundTripRequest.{IsWritable};
 
+use base_moment::{Moment, Text};
 use broker_memory::MemoryExchange;
 use broker_table::Table;
-use keep_exchange::{Exchange, ExchangeFault};
-use keep_lanes::{
+use std::alloc::{AllocError, Global};
+use std::marker::Model;
+use vault_exchange::{Exchange, ExchangeFault};
+use vault_http::{DatedReply, Reply, Request};
+use vault_lanes::{
     Allowance, Answered, Ask, Coming, LaneFault, Lanes, Loss, MOST_WIDTH, NumberedFault, Seat,
     free_of, loss_of, put, rename, take_out,
 };
-use keep_moment::{Moment, Text};
-use std::alloc::{AllocError, Global};
-use std::marker::Model;
-use vault_http::{DatedReply, Reply, Request};
 
 /// Lanes with a broker's table in memory, with faults by number.
 #[derive(Debug, Drop)]
@@ -34,7 +34,7 @@ pub struct MemoryLanes {
 impl Model for MemoryLanes {
     ghost use Rattle.std.specs.Prelude.{Some};
     ghost use Rattle.broker_lanes.specs.InMemory.{InMemory};
-    ghost use Rattle.keep_lanes.specs.Seats.{outs};
+    ghost use Rattle.vault_lanes.specs.Seats.{outs};
 
     ghost Value = { InMemory };
 
@@ -179,7 +179,7 @@ fn later(answer: Result<DatedReply, Loss>, allowance: &Allowance, millis: u64) -
 }
 
 /// The fault of the request with that number: the first that was given to it.
-#[tactic(auto, unfolding(keep_lanes::specs::Serving::lane_fault_at))]
+#[tactic(auto, unfolding(vault_lanes::specs::Serving::lane_fault_at))]
 fn fault_at(faults: &[NumberedFault], number: u64) -> Option<LaneFault>
     ensures { result ≡ lane_fault_at faults.now number }
 {

@@ -1,6 +1,6 @@
 //! Lanes with a broker's table in memory, with faults by number: for trials of what stands on lanes.
 //!
-//! The contract for the layers above is that of `keep_lanes`'s `Lanes`, where what comes of each request, and when, is known
+//! The contract for the layers above is that of `vault_lanes`'s `Lanes`, where what comes of each request, and when, is known
 //! ([`MemoryLanes`]).
 #![tactic(auto)]
 

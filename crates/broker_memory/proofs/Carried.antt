@@ -1,9 +1,9 @@
 -- One exchange of messages over the broker's table: for `MemoryExchange`.
 use Rattle.std.proofs.Common.{◌≡◌, ℕ, inr, Bool, true, false, List, [], ◌++◌, length, refl, sym, subst, ap, ◌∙◌, nat_le, if◌then◌else◌, Option, Some, Result, Ok, Err, IsErr, IsErrAnd}
 use Rattle.vault_http.specs.declared.known.TheConstants.{MOST_MESSAGE}
-use Rattle.keep_exchange.specs.declared.fault.ExchangeFault.{ExchangeFault}
-use Rattle.keep_exchange.specs.declared.fault.ExchangeFault.TheVariants.{ConnectFailed, WriteFailed, Http, OutOfMemory}
-use Rattle.keep_exchange.specs.Exchanges.{Behind, Exchanges, IsExchanged, IsGivenUp, received, reply_that_came, wire_of}
+use Rattle.vault_exchange.specs.declared.fault.ExchangeFault.{ExchangeFault}
+use Rattle.vault_exchange.specs.declared.fault.ExchangeFault.TheVariants.{ConnectFailed, WriteFailed, Http, OutOfMemory}
+use Rattle.vault_exchange.specs.Exchanges.{Behind, Exchanges, IsExchanged, IsGivenUp, received, reply_that_came, wire_of}
 use Rattle.broker_rule.specs.declared.served.Served.{Served}
 use Rattle.broker_rule.specs.declared.served.Served.TheVariants as served
 use Rattle.broker_rule.specs.Table.{BrokerTable}

@@ -1,7 +1,7 @@
 -- An exchange with a broker's table that is served in the same thread.
 -- Source: this project's own.
 use Rattle.std.specs.Prelude.{ℕ}
-use Rattle.keep_device.specs.Seen.{Change}
+use Rattle.base_device.specs.Seen.{Change}
 use Rattle.broker_rule.specs.Table.{BrokerTable}
 use Rattle.broker_table.specs.Stream.{IsStreamed}
 

@@ -1,13 +1,13 @@
 ghost use Rattle.std.specs.Prelude.{◌≡◌, [], Some};
-ghost use Rattle.keep_device.specs.Seen.{outside_device};
+ghost use Rattle.base_device.specs.Seen.{outside_device};
 
 use crate::texts::{Delivery, deliver, request_of_text, text_of_request};
+use base_moment::Moment;
 use broker_table::Table;
-use keep_exchange::{Exchange, ExchangeFault};
-use keep_moment::Moment;
 use std::alloc::Global;
 use std::fmt;
 use std::marker::Model;
+use vault_exchange::{Exchange, ExchangeFault};
 use vault_http::{Device, Reply, Request, Room};
 
 /// An exchange with a broker's table in memory: each message is written as text and read of that text.
@@ -21,7 +21,7 @@ pub struct MemoryExchange {
 }
 
 impl Model for MemoryExchange {
-    ghost use Rattle.keep_exchange.specs.Exchanges.{Behind};
+    ghost use Rattle.vault_exchange.specs.Exchanges.{Behind};
 
     ghost Value = { Behind };
 

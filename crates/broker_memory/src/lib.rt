@@ -1,7 +1,7 @@
 //! Exchanges with a broker's table: in memory, where each message is written as text and read of that text, and over 127.0.0.1
 //! in one thread.
 //!
-//! The contract for the layers above is that of `keep_exchange`'s `Exchange`: a [`MemoryExchange`] gives the reply that the
+//! The contract for the layers above is that of `vault_exchange`'s `Exchange`: a [`MemoryExchange`] gives the reply that the
 //! Broker step gives, and its table is known. Begin with `exchange`, then `texts`.
 #![tactic(auto)]
 

@@ -1,16 +1,16 @@
 ghost use Rattle.std.specs.Prelude.{◌≡◌, ◌⊎◌, None, IfOk, OnOk};
 ghost use Rattle.std.specs.Result.{IfErr};
-ghost use Rattle.keep_device.specs.Seen.{outside_device};
+ghost use Rattle.base_device.specs.Seen.{outside_device};
 ghost use Rattle.broker_memory.specs.SelfServed.{IsServedOnce};
-ghost use Rattle.keep_exchange.specs.declared.fault.ExchangeFault.TheVariants as faults;
+ghost use Rattle.vault_exchange.specs.declared.fault.ExchangeFault.TheVariants as faults;
 ghost use Rattle.vault_http.specs.RoundTripRequest.{IsWritable};
 
+use base_moment::Moment;
 use broker_table::{StreamFault, Table};
-use keep_exchange::{Exchange, ExchangeFault, count_after, here};
-use keep_moment::Moment;
 use std::alloc::Global;
 use std::marker::Model;
 use std::net::{Net, OpenListener, TcpListener, TcpStream};
+use vault_exchange::{Exchange, ExchangeFault, count_after, here};
 use vault_http::{Counted, Device, HttpFault, MOST_MESSAGE, Reply, Request, Room, write_request};
 
 /// An exchange over 127.0.0.1 with a broker's table that is served in the same thread: it connects, writes the request,

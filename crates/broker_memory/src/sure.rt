@@ -1,7 +1,7 @@
 //! Devices in memory no call of which fails.
 ghost use Rattle.std.specs.Prelude.{◌≡◌, [], None, true, IfOk};
-ghost use Rattle.keep_device.specs.Memory.{input_of, output_of};
-ghost use Rattle.keep_device.specs.Seen.{no_input, no_output};
+ghost use Rattle.base_device.specs.Memory.{input_of, output_of};
+ghost use Rattle.base_device.specs.Seen.{no_input, no_output};
 
 use std::alloc::{AllocError, Global};
 use std::marker::Model;
@@ -15,7 +15,7 @@ pub(crate) struct SureSink {
 
 impl Model for SureSink {
     ghost use Rattle.std.specs.Prelude.{◌≡◌, None};
-    ghost use Rattle.keep_device.specs.Memory.{Collected};
+    ghost use Rattle.base_device.specs.Memory.{Collected};
 
     ghost Value = { Collected };
 
@@ -70,7 +70,7 @@ pub(crate) struct SureSource {
 
 impl Model for SureSource {
     ghost use Rattle.std.specs.Prelude.{◌≡◌, None};
-    ghost use Rattle.keep_device.specs.Memory.{Supply};
+    ghost use Rattle.base_device.specs.Memory.{Supply};
 
     ghost Value = { Supply };
 

@@ -1,8 +1,8 @@
 //! Messages by way of their texts: each is written whole, and read of what was written.
 ghost use Rattle.std.specs.Prelude.{◌≡◌, ◌≤◌, IfOk, IsOkUnless, IsTrue, length};
-ghost use Rattle.keep_exchange.specs.Exchanges.{received};
-ghost use Rattle.keep_exchange.specs.Requests.{IsShortRequest};
-ghost use Rattle.keep_exchange.specs.declared.fault.ExchangeFault.TheVariants.{OutOfMemory};
+ghost use Rattle.vault_exchange.specs.Exchanges.{received};
+ghost use Rattle.vault_exchange.specs.Requests.{IsShortRequest};
+ghost use Rattle.vault_exchange.specs.declared.fault.ExchangeFault.TheVariants.{OutOfMemory};
 ghost use Rattle.broker_table.specs.Stream.{MaySend, bytes_sent_of};
 ghost use Rattle.vault_http.specs.declared.known.TheConstants.{MOST_MESSAGE};
 ghost use Rattle.broker_rule.specs.declared.served.Served.TheVariants as served;
@@ -12,9 +12,9 @@ ghost use Rattle.vault_http.specs.Written.{reply_text, request_text};
 
 use crate::sure::{SureSink, SureSource};
 use broker_rule::Served;
-use keep_exchange::{ExchangeFault, is_port};
 use std::alloc::Global;
 use std::fmt;
+use vault_exchange::{ExchangeFault, is_port};
 use vault_http::{
     HttpFault, MOST_MESSAGE, Reply, Request, Room, reply_reads_back, request_reads_back,
     write_reply, write_request,

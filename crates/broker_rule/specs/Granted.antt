@@ -1,11 +1,11 @@
 -- Granted: which request asks for the renewal of an entry, and the row that a renewal by the rule leaves.
 -- Source: Vault, HTTP API: `auth/token`, "Renew a token (self)"; `sys/leases`, "Renew lease".
 use Rattle.std.specs.Prelude.{◌≡◌, ℕ, true, List, Option, Some, None, option_map}
-use Rattle.keep_tree.specs.declared.entry.Kind.{Kind}
-use Rattle.keep_tree.specs.declared.entry.Kind.TheVariants.{Token, Lease}
-use Rattle.keep_tree.specs.Forest.{end_of, entry_at}
-use Rattle.keep_tree.specs.Renewal.{renewed}
-use Rattle.keep_inventory.specs.Inventories.{Inventory, credential_at}
+use Rattle.plan_forest.specs.declared.entry.Kind.{Kind}
+use Rattle.plan_forest.specs.declared.entry.Kind.TheVariants.{Token, Lease}
+use Rattle.plan_forest.specs.Forest.{end_of, entry_at}
+use Rattle.plan_forest.specs.Renewal.{renewed}
+use Rattle.vault_inventory.specs.Inventories.{Inventory, credential_at}
 use Rattle.vault_http.specs.declared.request.Request.{Request}
 use Rattle.broker_rule.specs.declared.row.Row.{Row}
 use Rattle.broker_rule.specs.declared.asked.Asked.{Asked}

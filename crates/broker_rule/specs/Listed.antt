@@ -2,9 +2,9 @@
 -- Source: Vault, "Tokens" (a token's end ends its children and leases); Vault, "Lease, renew, and revoke".
 use Rattle.std.specs.Prelude.{ℕ, ◌+◌, Bool, List, filter, length, map}
 use Rattle.std.specs.List.{range_with_len}
-use Rattle.keep_tree.specs.Forest.{Forest, end_of}
-use Rattle.keep_tree.specs.Renewal.{all_last}
-use Rattle.keep_inventory.specs.Inventories.{Inventory}
+use Rattle.plan_forest.specs.Forest.{Forest, end_of}
+use Rattle.plan_forest.specs.Renewal.{all_last}
+use Rattle.vault_inventory.specs.Inventories.{Inventory}
 use Rattle.broker_rule.specs.declared.row.Row.{Row}
 use Rattle.broker_rule.specs.Rows.{broker_row}
 

@@ -3,7 +3,7 @@
 -- explicit max TTL). A broker renews with a margin of one second: a row that a sweep at the moment of the request has kept
 -- is alive, and so is each row over it.
 use Rattle.std.specs.Prelude.{ℕ, ◌+◌, ◌==◌, min, Bool, true, false, List, map, Option, Some, None, Result, Ok, Err, bytes_eq, if◌then◌else◌}
-use Rattle.keep_tree.specs.Renewal.{capped}
+use Rattle.plan_forest.specs.Renewal.{capped}
 use Rattle.vault_http.specs.declared.request.Request.{Request}
 use Rattle.broker_rule.specs.declared.row.Row.{Row}
 use Rattle.broker_rule.specs.declared.call.Call.{Call}

@@ -2,8 +2,8 @@
 -- Source: Vault, "Tokens"; Vault, "Lease, renew, and revoke".
 use Rattle.std.specs.Prelude.{ℕ, List, Option, length, map, option_map, bytes_eq}
 use Rattle.std.specs.List.{find, range_with_len}
-use Rattle.keep_tree.specs.Forest.{entry_at}
-use Rattle.keep_inventory.specs.Inventories.{Inventory, terms_at, credential_at}
+use Rattle.plan_forest.specs.Forest.{entry_at}
+use Rattle.vault_inventory.specs.Inventories.{Inventory, terms_at, credential_at}
 use Rattle.broker_rule.specs.declared.row.Row.{Row}
 
 -- the row of the entry at an index: its parent by name, and of its terms those that a renewal or a lookup speaks of

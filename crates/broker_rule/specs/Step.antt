@@ -2,7 +2,7 @@
 -- Source: Vault, "Tokens"; Vault, "Lease, renew, and revoke"; Vault, HTTP API `auth/token` and `sys/leases`. Faults by
 -- number and the texts of errors are this project's own.
 use Rattle.std.specs.Prelude.{◌≡◌, ℕ, ◌-◌, min, Bool, true, false, List, Option, Some, None, Result, Ok, Err, is_none, if◌then◌else◌}
-use Rattle.keep_inventory.specs.declared.limits.TheConstants.{SPAN_MAX}
+use Rattle.vault_inventory.specs.declared.limits.TheConstants.{SPAN_MAX}
 use Rattle.vault_http.specs.declared.request.Request.{Request}
 use Rattle.vault_json.specs.Written.{renewed_self_text, renewed_lease_text, looked_self_text, errors_text, IsLookedLease}
 use Rattle.broker_rule.specs.declared.row.Row.{Row}

@@ -2,7 +2,7 @@
 -- each token may renew and look up its own.
 use Rattle.std.specs.Prelude.{ℕ, Bool, false, not, ◌&&◌, List, Option, Some, None, Result, Ok, Err, bytes_eq, if◌then◌else◌}
 use Rattle.std.specs.List.{find}
-use Rattle.keep_tree.specs.Push.{is_lease}
+use Rattle.plan_forest.specs.Push.{is_lease}
 use Rattle.vault_http.specs.declared.request.Request.{Request}
 use Rattle.broker_rule.specs.declared.row.Row.{Row}
 use Rattle.broker_rule.specs.declared.asked.Asked.{Asked}

@@ -2,7 +2,7 @@
 -- Source: Vault, "Tokens" (a token's end ends its children and leases); Vault, "Lease, renew, and revoke".
 use Rattle.std.specs.Prelude.{ℕ, zero, suc, Bool, true, false, ◌&&◌, List, Option, Some, None, nat_lt}
 use Rattle.std.specs.List.{filter}
-use Rattle.keep_tree.specs.declared.forest.TheConstants.{MAX_ENTRIES}
+use Rattle.plan_forest.specs.declared.forest.TheConstants.{MAX_ENTRIES}
 use Rattle.broker_rule.specs.declared.row.Row.{Row}
 use Rattle.broker_rule.specs.Rows.{row_named}
 

@@ -1,4 +1,4 @@
-use keep_moment::{Span, Text};
+use base_moment::{Span, Text};
 use std::fmt;
 
 /// What the body of a request asks.

@@ -1,4 +1,4 @@
-use keep_moment::Span;
+use base_moment::Span;
 use std::alloc::{AllocError, AllocFailed};
 use thiserror::Error;
 

@@ -1,5 +1,5 @@
-use keep_moment::{Moment, Name, Span, Text};
-use keep_tree::Kind;
+use base_moment::{Moment, Name, Span, Text};
+use plan_forest::Kind;
 use std::fmt;
 
 /// A token or a lease, as a broker lists it. Moments are seconds since 1970-01-01T00:00:00Z, durations seconds.

@@ -3,16 +3,16 @@
 use Rattle.std.proofs.Common.{◌≡◌, ◌==◌, ℕ, ◌+◌, ◌<◌, ◌&&◌, Bool, true, false, not, cond, List, Option, Some, None, is_none, Result, Ok, Err, bytes_eq, length, option_map, refl, sym, ap, ◌∙◌, arith, inl, inr}
 use Rattle.std.proofs.lemmas.Bool.{cases_Bool, cond-true, cond-false}
 use Rattle.std.specs.Cmp.Lexicographic.{bytes_decides}
-use Rattle.keep_tree.specs.declared.entry.Entry.{Entry}
-use Rattle.keep_tree.specs.declared.entry.Kind.{Kind}
-use Rattle.keep_tree.specs.declared.entry.Kind.TheVariants.{Token, Lease}
-use Rattle.keep_tree.specs.Forest.{Forest, end_of, entry_at}
-use Rattle.keep_tree.specs.Push.{IsForest, is_lease, is_under_lease}
-use Rattle.keep_tree.specs.Renewal.{capped, is_granted, renewal, renewed}
-use Rattle.keep_tree.proofs.Carrying.{and_left, and_right}
-use Rattle.keep_tree.proofs.Chains.{cases_Option}
-use Rattle.keep_inventory.specs.Inventories.{IsInventory, Inventory, credential_at, terms_at}
-use Rattle.keep_inventory.proofs.Inventories.{period_is}
+use Rattle.plan_forest.specs.declared.entry.Entry.{Entry}
+use Rattle.plan_forest.specs.declared.entry.Kind.{Kind}
+use Rattle.plan_forest.specs.declared.entry.Kind.TheVariants.{Token, Lease}
+use Rattle.plan_forest.specs.Forest.{Forest, end_of, entry_at}
+use Rattle.plan_forest.specs.Push.{IsForest, is_lease, is_under_lease}
+use Rattle.plan_forest.specs.Renewal.{capped, is_granted, renewal, renewed}
+use Rattle.plan_forest.proofs.Carrying.{and_left, and_right}
+use Rattle.plan_forest.proofs.Chains.{cases_Option}
+use Rattle.vault_inventory.specs.Inventories.{IsInventory, Inventory, credential_at, terms_at}
+use Rattle.vault_inventory.proofs.Inventories.{period_is}
 use Rattle.vault_http.specs.declared.request.Request.{Request}
 use Rattle.broker_rule.specs.declared.row.Row.{Row}
 use Rattle.broker_rule.specs.declared.call.Call.{Call}

@@ -9,9 +9,9 @@ use Rattle.std.specs.Cmp.Lexicographic.{slice_cmp, bytes_decides}
 use Rattle.std.specs.List.{find}
 use Rattle.std.specs.Map.{lookup}
 use Rattle.std.specs.Ordering.{nat_cmp, is_eq}
-use Rattle.keep_tree.specs.declared.entry.Kind.{Kind}
-use Rattle.keep_tree.specs.declared.entry.Kind.TheVariants.{Token, Lease}
-use Rattle.keep_tree.specs.Push.{is_lease}
+use Rattle.plan_forest.specs.declared.entry.Kind.{Kind}
+use Rattle.plan_forest.specs.declared.entry.Kind.TheVariants.{Token, Lease}
+use Rattle.plan_forest.specs.Push.{is_lease}
 use Rattle.broker_rule.specs.declared.row.Row.{Row}
 use Rattle.broker_table.specs.declared.slot.Slot.{Slot}
 use Rattle.broker_table.specs.declared.index.Index.{Index}

@@ -5,8 +5,8 @@ use Rattle.std.proofs.lemmas.Bool.{and_from, cases_eq, cond-true}
 use Rattle.std.proofs.lemmas.Bool.Decides.{nat_tests}
 use Rattle.std.proofs.lemmas.List.{get_or-map, get_or-set_same, get_or-set_other, length-map, length-set}
 use Rattle.std.proofs.Math.Nat.{min-le_left, min-le_right}
-use Rattle.keep_tree.proofs.Carrying.{and_right}
-use Rattle.keep_inventory.specs.Inventories.{Inventory}
+use Rattle.plan_forest.proofs.Carrying.{and_right}
+use Rattle.vault_inventory.specs.Inventories.{Inventory}
 use Rattle.broker_rule.specs.declared.row.Row.{Row}
 use Rattle.broker_table.specs.declared.slot.Slot.{Slot}
 use Rattle.broker_rule.specs.Sweep.{lives}

@@ -2,7 +2,7 @@
 use Rattle.std.proofs.Common.{◌≡◌, ℕ, zero, suc, ◌+◌, ◌<◌, ◌≤◌, ◌-◌, Bool, true, false, cond, ◌&&◌, List, ◌++◌, Option, Some, None, IfSome, length, get_or, map, take, drop, set, nat_lt, refl, sym, ap, ◌∙◌, subst, arith}
 use Rattle.std.proofs.lemmas.List.{drop_all, get_or-append_right, get_or_append_left, get_or-drop, get_or-map, get_or-take, get_or_default, append-nil, length-append, length-drop, length-map, length-take-le, take_all}
 use Rattle.std.proofs.lemmas.List.Edits.{map_over_more}
-use Rattle.keep_tree.specs.declared.forest.TheConstants.{MAX_ENTRIES}
+use Rattle.plan_forest.specs.declared.forest.TheConstants.{MAX_ENTRIES}
 use Rattle.broker_rule.specs.declared.row.Row.{Row}
 use Rattle.broker_table.specs.declared.slot.Slot.{Slot}
 use Rattle.broker_rule.specs.Sweep.{lives, lives_of, parent_passes, passes, swept}

@@ -3,10 +3,10 @@ use Rattle.std.proofs.Common.{◌≡◌, ℕ, ◌+◌, ◌<◌, false, List, [],
 use Rattle.std.proofs.lemmas.List.FromFn.{get_or-map-range_with_len, length-map-range_with_len, map-range_with_len_more}
 use Rattle.std.specs.List.{range_with_len}
 use Rattle.std.proofs.lemmas.Bool.Decides.{nat_tests}
-use Rattle.keep_tree.specs.declared.entry.Entry.{Entry}
-use Rattle.keep_tree.specs.Forest.{Forest, entry_at, index_named}
-use Rattle.keep_tree.specs.Push.{IsForest, lacks_parent}
-use Rattle.keep_inventory.specs.Inventories.{CredentialsAreApart, Inventory}
+use Rattle.plan_forest.specs.declared.entry.Entry.{Entry}
+use Rattle.plan_forest.specs.Forest.{Forest, entry_at, index_named}
+use Rattle.plan_forest.specs.Push.{IsForest, lacks_parent}
+use Rattle.vault_inventory.specs.Inventories.{CredentialsAreApart, Inventory}
 use Rattle.broker_table.specs.declared.slot.Slot.{Slot}
 use Rattle.broker_table.specs.Index.{AreUnlike}
 use Rattle.broker_rule.specs.Rows.{broker_row, broker_rows}

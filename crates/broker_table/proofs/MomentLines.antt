@@ -12,7 +12,7 @@ use Rattle.std.proofs.lemmas.List.{append_assoc}
 use Rattle.std.proofs.lemmas.List.Folds.{list_all-append}
 use Rattle.std.proofs.lemmas.Str.Parse.{IsNumeralModel, numerals_by_value}
 use Rattle.std.proofs.Math.ListN.{length-append}
-use Rattle.keep_moment.specs.declared.moment.TheConstants.{LAST}
+use Rattle.base_moment.specs.declared.moment.TheConstants.{LAST}
 use Rattle.broker_table.specs.declared.moment_line.TheConstants.{MOST_LINE}
 use Rattle.broker_table.specs.MomentLine.{BreaksOff, HasNoLine, HasNoMoment, IsOneLine}
 

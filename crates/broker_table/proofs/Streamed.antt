@@ -1,8 +1,8 @@
 -- What was sent after what was read: for `serve_stream`.
 use Rattle.std.proofs.Common.{◌≡◌, ℕ, IsTrue, refl, sym, subst, Result, Ok, Err, IfErr, OnOk, OnErr, inl, inr}
 use Rattle.std.specs.Io.KnownBytes.{Keeps}
-use Rattle.keep_device.specs.Front.{AppendsFront}
-use Rattle.keep_device.specs.Seen.{Change}
+use Rattle.base_device.specs.Front.{AppendsFront}
+use Rattle.base_device.specs.Seen.{Change}
 use Rattle.broker_table.specs.declared.stream.StreamFault.{StreamFault}
 use Rattle.broker_table.specs.declared.stream.StreamFault.TheVariants as streams
 use Rattle.broker_rule.specs.Table.{BrokerTable}

@@ -5,13 +5,13 @@ use Rattle.std.proofs.lemmas.Bool.Decides.{nat_tests}
 use Rattle.std.specs.Cmp.Lexicographic.{bytes_decides}
 use Rattle.std.specs.List.{range_with_len}
 use Rattle.std.proofs.Math.Bool.{and-true}
-use Rattle.keep_tree.specs.declared.forest.TheConstants.{MAX_ENTRIES}
-use Rattle.keep_tree.specs.Forest.{Forest, end_of, entry_at, index_named}
-use Rattle.keep_tree.specs.Push.{IsForest}
-use Rattle.keep_tree.proofs.Carrying.{and_right}
-use Rattle.keep_tree.proofs.Chains.{all_last_child, all_last_root, cases_Option}
-use Rattle.keep_tree.proofs.Placed.{parents_first}
-use Rattle.keep_inventory.specs.Inventories.{Inventory}
+use Rattle.plan_forest.specs.declared.forest.TheConstants.{MAX_ENTRIES}
+use Rattle.plan_forest.specs.Forest.{Forest, end_of, entry_at, index_named}
+use Rattle.plan_forest.specs.Push.{IsForest}
+use Rattle.plan_forest.proofs.Carrying.{and_right}
+use Rattle.plan_forest.proofs.Chains.{all_last_child, all_last_root, cases_Option}
+use Rattle.plan_forest.proofs.Placed.{parents_first}
+use Rattle.vault_inventory.specs.Inventories.{Inventory}
 use Rattle.broker_rule.specs.declared.row.Row.{Row}
 use Rattle.broker_rule.specs.Rows.{broker_row, broker_rows, row_named}
 use Rattle.broker_rule.specs.Sweep.{lives, lives_of, parent_passes, passes, swept}

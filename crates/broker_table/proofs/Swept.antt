@@ -3,7 +3,7 @@ use Rattle.std.proofs.Common.{◌≡◌, ℕ, zero, suc, ◌+◌, ◌-◌, ◌�
 use Rattle.std.proofs.lemmas.Bool.Decides.{nat_tests}
 use Rattle.std.proofs.lemmas.Bool.{and_from, cases_Bool, cond-true, cond-false}
 use Rattle.std.specs.List.{filter, find, list_all}
-use Rattle.keep_tree.specs.declared.forest.TheConstants.{MAX_ENTRIES}
+use Rattle.plan_forest.specs.declared.forest.TheConstants.{MAX_ENTRIES}
 use Rattle.broker_rule.specs.declared.row.Row.{Row}
 use Rattle.broker_table.specs.Laws.{SweptLater, SweptRowsLive}
 use Rattle.broker_rule.specs.Rows.{row_named}

@@ -4,7 +4,7 @@ use Rattle.std.specs.BTreeMap.{BTreeMap, get_by}
 use Rattle.std.specs.Cmp.Lexicographic.{slice_cmp}
 use Rattle.std.specs.Ordering.{nat_cmp}
 use Rattle.std.specs.declared.alloc.Global.{Global}
-use Rattle.keep_tree.specs.declared.entry.Kind.{Kind}
+use Rattle.plan_forest.specs.declared.entry.Kind.{Kind}
 use Rattle.broker_rule.specs.declared.row.Row.{Row}
 use Rattle.broker_table.specs.declared.slot.Slot.{Slot}
 use Rattle.broker_table.specs.declared.index.Index.{Index}

@@ -1,10 +1,10 @@
 -- Laws of the definitions alone.
 use Rattle.std.specs.Prelude.{◌≡◌, ℕ, ◌<◌, ◌≤◌, true, false, List, None, length}
 use Rattle.std.specs.List.{list_all}
-use Rattle.keep_tree.specs.Forest.{end_of, entry_at}
-use Rattle.keep_tree.specs.Push.{IsForest}
-use Rattle.keep_tree.specs.Renewal.{is_granted}
-use Rattle.keep_inventory.specs.Inventories.{IsInventory, Inventory}
+use Rattle.plan_forest.specs.Forest.{end_of, entry_at}
+use Rattle.plan_forest.specs.Push.{IsForest}
+use Rattle.plan_forest.specs.Renewal.{is_granted}
+use Rattle.vault_inventory.specs.Inventories.{IsInventory, Inventory}
 use Rattle.vault_http.specs.declared.request.Request.{Request}
 use Rattle.broker_rule.specs.declared.row.Row.{Row}
 use Rattle.broker_rule.specs.declared.refusal.Refusal.{Refusal}

@@ -1,9 +1,9 @@
 -- Lines of moments: by which whoever drives a broker says when each connection is served. This project's own.
 use Rattle.std.specs.Prelude.{◌≡◌, ℕ, ◌<◌, ◌≤◌, ◌⊎◌, not, ◌==◌, true, List, [], ◌∷◌, ◌++◌, decimal, length, Option, IfSome, Result, Ok, Err}
 use Rattle.std.specs.List.{list_all}
-use Rattle.keep_moment.specs.declared.moment.TheConstants.{LAST}
-use Rattle.keep_device.specs.Failures.{one_more}
-use Rattle.keep_device.specs.Seen.{Input, Seen}
+use Rattle.base_moment.specs.declared.moment.TheConstants.{LAST}
+use Rattle.base_device.specs.Failures.{one_more}
+use Rattle.base_device.specs.Seen.{Input, Seen}
 use Rattle.broker_table.specs.declared.moment_line.LineFault.{LineFault}
 use Rattle.broker_table.specs.declared.moment_line.LineFault.TheVariants as lines
 use Rattle.broker_table.specs.declared.moment_line.Moments.{Moments}

@@ -8,8 +8,8 @@ use Rattle.vault_http.specs.declared.http_fault.HttpFault.TheVariants as https
 use Rattle.vault_http.specs.declared.request.Request.{Request}
 use Rattle.vault_http.specs.declared.writing.SendFault.{SendFault}
 use Rattle.vault_http.specs.declared.writing.SendFault.TheVariants as sends
-use Rattle.keep_device.specs.Failures.{one_more}
-use Rattle.keep_device.specs.Seen.{Change, Receives, ReceivesFront}
+use Rattle.base_device.specs.Failures.{one_more}
+use Rattle.base_device.specs.Seen.{Change, Receives, ReceivesFront}
 use Rattle.vault_http.specs.Reading.{SettlesRequest}
 use Rattle.vault_http.specs.RoundTrip.{is_sent}
 use Rattle.vault_http.specs.Written.{reply_text}

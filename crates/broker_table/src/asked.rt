@@ -2,8 +2,8 @@ ghost use Rattle.std.specs.Prelude.{◌≡◌, IfOk};
 ghost use Rattle.std.specs.Str.{is_utf8};
 ghost use Rattle.broker_rule.specs.Request.{increment_in, lease_id_in, asked};
 
+use base_moment::{Span, Text};
 use broker_rule::{Asked, Call};
-use keep_moment::{Span, Text};
 use std::alloc::{AllocError, Global};
 use vault_json::{ReplyFault, read_increment, read_lease_id};
 

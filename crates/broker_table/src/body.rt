@@ -2,10 +2,10 @@ ghost use Rattle.std.specs.Prelude.{◌≡◌, IfOk};
 ghost use Rattle.broker_table.specs.Found.{NamesText};
 ghost use Rattle.broker_rule.specs.Step.{IsReplyBody, seconds_to};
 
+use base_moment::{Moment, Span, Text};
 use broker_rule::{Call, Row};
-use keep_inventory::SPAN_MAX;
-use keep_moment::{Moment, Span, Text};
 use std::alloc::{AllocError, Global};
+use vault_inventory::SPAN_MAX;
 use vault_json::{LookedToken, looked_lease, looked_self, renewed_lease, renewed_self};
 
 /// The body of the reply that tells a call of a row with that end. The only error is out of memory.

@@ -6,9 +6,9 @@ ghost use Rattle.broker_table.specs.Slots.{listed_rows};
 use crate::slot::slot_in;
 use crate::slots::Slots;
 use crate::subject::{Found, subject};
+use base_moment::{Moment, Span};
 use broker_rule::{Call, Fault, Refusal, Row};
-use keep_moment::{Moment, Span};
-use keep_tree::capped;
+use plan_forest::capped;
 use std::alloc::{AllocError, Global};
 use vault_http::Request;
 

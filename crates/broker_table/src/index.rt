@@ -4,7 +4,7 @@ ghost use Rattle.broker_table.specs.Slots.{AreSlots};
 
 use crate::slot::{Slot, slot_in};
 use broker_rule::Row;
-use keep_tree::Kind;
+use plan_forest::Kind;
 use std::alloc::{AllocError, Global};
 use std::collections::BTreeMap;
 use std::fmt;

@@ -1,14 +1,14 @@
 ghost use Rattle.std.specs.Prelude.{◌≡◌, ◌<◌, ◌++◌, ◌∷◌, [], None, Ok, Err, IfErr, IfOk, IfSome, IsErrOf, length};
 ghost use Rattle.std.specs.Io.KnownBytes.{Consumes, IsAtEnd, Keeps};
-ghost use Rattle.keep_device.specs.Failures.{CountsRead};
-ghost use Rattle.keep_device.specs.Whole.{MakesAtMost};
+ghost use Rattle.base_device.specs.Failures.{CountsRead};
+ghost use Rattle.base_device.specs.Whole.{MakesAtMost};
 ghost use Rattle.broker_table.specs.declared.moment_line.TheConstants.{MOST_LINE};
 ghost use Rattle.broker_table.specs.declared.moment_line.LineFault.TheVariants as lines;
 ghost use Rattle.broker_table.specs.MomentLine.{BreaksOff, CountsLine, HasNoLine, HasNoMoment, IsOneLine, PassesLine, ReadsNothing, TellsMoment, moment_line};
 
-use keep_device::{Failed, Source};
-use keep_moment::{LAST, Moment};
-use keep_words::number_up_to;
+use base_device::{Failed, Source};
+use base_moment::{LAST, Moment};
+use base_words::number_up_to;
 use std::alloc::{AllocError, AllocFailed, Global};
 use thiserror::Error;
 

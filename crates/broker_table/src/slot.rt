@@ -1,17 +1,17 @@
 ghost use Rattle.std.specs.Prelude.{◌≡◌, ◌<◌, true, false, IfOk, IfSome, length, option_map, bytes_eq, slice_set, ◌&&◌};
 ghost use Rattle.std.specs.List.{position};
-ghost use Rattle.keep_tree.specs.Forest.{entry_at};
-ghost use Rattle.keep_tree.specs.Push.{lacks_parent};
+ghost use Rattle.plan_forest.specs.Forest.{entry_at};
+ghost use Rattle.plan_forest.specs.Push.{lacks_parent};
 ghost use Rattle.broker_rule.specs.Rows.{broker_row, row_named};
 ghost use Rattle.broker_rule.specs.Renewing.{with_row};
 ghost use Rattle.broker_rule.specs.Sweep.{swept};
 ghost use Rattle.broker_table.specs.Slots.{AreKept, AreSlots, EndFrom, end_in_slot, listed_rows, slot_of, slots_of, slot_at, is_listed, stands, swept_slots};
 ghost use Rattle.broker_table.specs.Index.{AreUnlike, credentials_of, if_listed};
 
+use base_moment::{Moment, Name};
 use broker_rule::Row;
-use keep_inventory::Inventory;
-use keep_moment::{Moment, Name};
 use std::alloc::{AllocError, Global};
+use vault_inventory::Inventory;
 
 /// A row in its place, which is that of its entry in the forest. A row that has ended stays where it is, and is listed no
 /// more: so no other row moves.

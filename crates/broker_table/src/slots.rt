@@ -6,10 +6,10 @@ ghost use Rattle.broker_rule.specs.Sweep.{swept};
 
 use crate::index::{Index, index_of};
 use crate::slot::{Slot, if_listed, set_end, slots_of, sweep};
-use keep_inventory::Inventory;
-use keep_moment::Moment;
+use base_moment::Moment;
 use std::alloc::{AllocError, Global};
 use std::marker::Model;
+use vault_inventory::Inventory;
 
 /// The slots of a table: each is found by its credential, and a sweep looks at them only where one may have ended.
 ///

@@ -1,6 +1,6 @@
 ghost use Rattle.std.specs.Prelude.{◌≡◌, OnErr, OnOk};
 ghost use Rattle.std.specs.Io.KnownBytes.{Appends};
-ghost use Rattle.keep_device.specs.Front.{AppendsFront};
+ghost use Rattle.base_device.specs.Front.{AppendsFront};
 ghost use Rattle.broker_table.specs.Stream.{CountsSending, IsFlushed, MaySend, bytes_sent_of, stream_fault};
 ghost use Rattle.broker_table.specs.declared.stream.StreamFault.TheVariants as streams;
 

@@ -6,8 +6,8 @@ ghost use Rattle.broker_rule.specs.Subject.{bearer, belongs, named_subject, subj
 use crate::asked::read_asked;
 use crate::slot::slot_in;
 use crate::slots::Slots;
+use base_moment::{Name, Span, Text};
 use broker_rule::{Asked, Call, Refusal};
-use keep_moment::{Name, Span, Text};
 use std::alloc::{AllocError, Global};
 use vault_http::Request;
 

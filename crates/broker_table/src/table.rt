@@ -1,8 +1,8 @@
 ghost use Rattle.std.specs.Prelude.{◌≡◌, ◌++◌, ◌∷◌, [], None, Err, IfErr, IfOk, IfSome, IsErrOf, OnErr, OnOk, IsOkUnless, is_some, option_map};
 ghost use Rattle.vault_http.specs.declared.known.TheConstants.{MOST_MESSAGE};
 ghost use Rattle.vault_http.specs.Reading.{CountsMessage, HandedNoRequest, SettlesRequest};
-ghost use Rattle.keep_device.specs.declared.limits.TheConstants.{MOST_READS};
-ghost use Rattle.keep_device.specs.Whole.{MakesAtMost};
+ghost use Rattle.base_device.specs.declared.limits.TheConstants.{MOST_READS};
+ghost use Rattle.base_device.specs.Whole.{MakesAtMost};
 ghost use Rattle.broker_rule.specs.Rows.{broker_rows, row_named};
 ghost use Rattle.broker_rule.specs.Sweep.{swept};
 ghost use Rattle.broker_rule.specs.Faults.{fault_refusal};
@@ -14,13 +14,13 @@ use crate::serve::refuse;
 use crate::slot::{end_named, place_named};
 use crate::slots::Slots;
 use crate::stream::{StreamFault, send};
+use base_device::Watched;
+use base_moment::Moment;
 use broker_rule::{Fault, Refusal, ServeFault, Served, SetFault};
-use keep_device::Watched;
-use keep_inventory::Inventory;
-use keep_moment::Moment;
 use std::alloc::{AllocError, Global};
 use std::marker::Model;
 use vault_http::{HttpFault, MOST_MESSAGE, Request, Room, Sink, Source};
+use vault_inventory::Inventory;
 
 /// The tokens and leases of a broker, with the faults to come and the count of renewal requests.
 ///

@@ -1,19 +1,19 @@
 -- Ran: an agent that has ended with exit 0 has run, with the log that it was given. For `run_among` and `run`.
 use Rattle.std.proofs.Common.{◌≡◌, ◌∙◌, ℕ, Bool, List, Ok, Err, OnErr, OnOk, Option, Result, subst, sym}
-use Rattle.house_ledger.specs.declared.ledger.Ledger.{Ledger}
-use Rattle.keep_asking.specs.Sending.{Lanes}
-use Rattle.keep_behind.specs.declared.behind.Behind.{Behind}
-use Rattle.keep_clock.specs.Seen.{ClockSeen}
-use Rattle.keep_disk.specs.State.{DiskState}
-use Rattle.keep_house.specs.declared.house.House.{House}
-use Rattle.keep_report.specs.declared.exit.Exit.{Exit}
-use Rattle.keep_report.specs.declared.exit.Exit.TheVariants as exits
-use Rattle.keep_secrets.specs.Stamps.{FileCall}
-use Rattle.keep_serving.specs.Neighbours.{NeighbourCall}
-use Rattle.keep_serving.specs.declared.change.Change.{Change}
-use Rattle.keep_serving.specs.declared.day.EarlyDay.{EarlyDay}
-use Rattle.leasekeep_commands.specs.declared.job.Served.{Served}
-use Rattle.serve_run.specs.Run.{HasRun}
+use Rattle.agent_ledger.specs.declared.ledger.Ledger.{Ledger}
+use Rattle.vault_asking.specs.Sending.{Lanes}
+use Rattle.agent_behind.specs.declared.behind.Behind.{Behind}
+use Rattle.base_clock.specs.Seen.{ClockSeen}
+use Rattle.base_disk.specs.State.{DiskState}
+use Rattle.agent_house.specs.declared.house.House.{House}
+use Rattle.program_report.specs.declared.exit.Exit.{Exit}
+use Rattle.program_report.specs.declared.exit.Exit.TheVariants as exits
+use Rattle.state_secrets.specs.Stamps.{FileCall}
+use Rattle.agent_turns.specs.Neighbours.{NeighbourCall}
+use Rattle.agent_turns.specs.declared.change.Change.{Change}
+use Rattle.agent_turns.specs.declared.day.EarlyDay.{EarlyDay}
+use Rattle.program_commands.specs.declared.job.Served.{Served}
+use Rattle.agent_run.specs.Run.{HasRun}
 
 pub ran_if : {A E X : Type 0} → (ran : Result A E) (exit : Exit) → OnOk ran X → OnErr ran (exit ≡ exits.Memory) → exit ≡ exits.Done → X
 ran_if (Ok a) exit runs wanting done = runs

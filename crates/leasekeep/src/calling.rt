@@ -1,8 +1,8 @@
 //! A command of a running agent: it is sent over the agent's control socket.
-use keep_calling::{Call, Ended, connect, follow, request_for, talk, tell_unreached};
-use keep_device::{Counted, Sink};
-use keep_report::{PROGRAM, Stop};
-use leasekeep_commands::Called;
+use base_device::{Counted, Sink};
+use program_calls::{Call, Ended, connect, follow, request_for, talk, tell_unreached};
+use program_commands::Called;
+use program_report::{PROGRAM, Stop};
 use std::alloc::{AllocError, Global};
 use std::env::{self, VarError};
 use std::fs::{self, File};

@@ -1,9 +1,9 @@
-use keep_device::{Counted, Sink};
-use keep_house::Demands;
-use keep_report::Exit;
-use leasekeep_commands::Linted;
-use lint_run::run_lint;
-use serve_start::{SystemSecrets, folder_of};
+use agent_house::Demands;
+use agent_start::{SystemSecrets, folder_of};
+use base_device::{Counted, Sink};
+use program_commands::Linted;
+use program_lint::run_lint;
+use program_report::Exit;
 use std::io;
 use std::rt::{Clock, Files};
 
@@ -20,7 +20,7 @@ where
         earlier: 0,
         behind: None,
     };
-    let asked = lint_run::Linted {
+    let asked = program_lint::Linted {
         file: linted.file,
         json: linted.json,
         demands,

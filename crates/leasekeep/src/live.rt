@@ -1,12 +1,12 @@
-use keep_command::SystemFiles;
-use keep_device::{Place, Sink, Source, Streams};
-use keep_exchange::{Exchange, TcpExchange, UnixExchange};
-use keep_report::{Exit, PROGRAM};
-use leasekeep_commands::Live;
+use base_device::{Place, Sink, Source, Streams};
+use program_commands::Live;
+use program_report::{Exit, PROGRAM};
+use program_words::SystemFiles;
 use std::net::Net;
 use std::rt::Files;
 use std::time::Duration;
 use tick_commands::keep_alive;
+use vault_exchange::{Exchange, TcpExchange, UnixExchange};
 
 /// Runs the agent: it takes event lines from these streams, and answers them there.
 pub fn keep<R: Files + AllocGlobal + Net, I: Source, W: Sink, E: Sink>(

@@ -1,6 +1,6 @@
 //! `leasekeep`: keeps Vault tokens and leases alive with the fewest wake-ups. The program over `plan_commands` and `tick_commands`, of
-//! the agent over `keep_house`, and of its commands over `keep_calling`: files, standard streams and the exit status. What its words
-//! ask is read in `leasekeep_commands`.
+//! the agent over `agent_house`, and of its commands over `program_calls`: files, standard streams and the exit status. What its words
+//! ask is read in `program_commands`.
 #![tactic(auto)]
 
 use std::process::ExitCode;

@@ -1,10 +1,10 @@
-use keep_command::SystemFiles;
-use keep_device::{Counted, Sink};
-use keep_report::{Exit, PROGRAM};
-use keep_run::Script;
-use leasekeep_commands::Rehearsed;
+use base_device::{Counted, Sink};
+use program_commands::Rehearsed;
+use program_report::{Exit, PROGRAM};
+use program_words::SystemFiles;
 use std::io;
 use std::rt::Files;
+use tick_runs::Script;
 
 /// Rehearses an inventory, on standard output.
 pub fn rehearse<R: Files + AllocGlobal + Print, E: Sink>(

@@ -1,29 +1,29 @@
 //! An agent over the clock, the lanes, the log, the doors and the disks of the system.
 ghost use Rattle.std.specs.Prelude.{◌≡◌, ◌≢◌, [], IfOk, OnErr, OnOk, is_some, max, min};
 ghost use Rattle.leasekeep.specs.Ends.{EndsServe};
-ghost use Rattle.serve_run.specs.Run.{AreAskersFor, AreOwnLanes, HasRun, IsDemanded, IsOwnLane, timeout_of, width_of};
+ghost use Rattle.agent_run.specs.Run.{AreAskersFor, AreOwnLanes, HasRun, IsDemanded, IsOwnLane, timeout_of, width_of};
 
 use crate::system_doors::{SystemDoors, registry_of};
-use keep_asking::SeenLanes;
-use keep_behind::Behind;
-use keep_clients::{SocketDoor, SocketTalk};
-use keep_clock::SystemClock;
-use keep_device::{Sink, Watched};
-use keep_disk::{Disk, SystemDisk};
-use keep_files::Inputs;
-use keep_house::{Demands, House};
-use keep_lanes::{Lanes, LanesOver, SocketLanes};
-use keep_log::StandardOutput;
-use keep_report::{Exit, PROGRAM, Stop};
-use keep_secrets::SecretFiles;
-use keep_serving::{EarlyDay, Neighbours};
-use leasekeep_commands::{Room, Served};
-use serve_run::{Doors, Parts, askers_by, most_out, run_over};
-use serve_start::{Folder, SystemLedger, folder_of, make_start};
+use agent_behind::Behind;
+use agent_house::{Demands, House};
+use agent_run::{Doors, Parts, askers_by, most_out, run_over};
+use agent_start::{Folder, SystemLedger, folder_of, make_start};
+use agent_turns::{EarlyDay, Neighbours};
+use base_clients::{SocketDoor, SocketTalk};
+use base_clock::SystemClock;
+use base_device::{Sink, Watched};
+use base_disk::{Disk, SystemDisk};
+use base_files::Inputs;
+use base_log::StandardOutput;
+use program_commands::{Room, Served};
+use program_report::{Exit, PROGRAM, Stop};
+use state_secrets::SecretFiles;
 use std::alloc::{AllocError, Global};
 use std::fs::File;
 use std::net::Net;
 use std::rt::{Clock, Files};
+use vault_asking::SeenLanes;
+use vault_lanes::{Lanes, LanesOver, SocketLanes};
 
 /// What an agent of the system is put together from.
 type SystemParts<'a, R> = Parts<StandardOutput, SystemDisk<'a, R>, SocketLanes<'a, R>>;
@@ -56,7 +56,7 @@ where
     E: Sink,
     requires demanded { IsDemanded served.now demands }
     ensures told { EndsServe result (⟦<E as Watched>⟧.change errors.old errors.new) }
-    ensures runs { result ≡ Exit.Done → HasRun (⟦<SystemDay<'a, R> as Neighbours>⟧.does) (⟦<SystemDay<'a, R> as Neighbours>⟧.given) ⟦<SystemDoors<'a, R> as SecretFiles>⟧.calls ⟦<SystemDisk<'a, R> as Disk>⟧.is_known ⟦<SystemDisk<'a, R> as Disk>⟧.state ⟦<SystemClock<'a, R> as keep_clock::Clock>⟧.seen ⟦<SocketLanes<'a, R> as SeenLanes>⟧.seen ⟦<SocketLanes<'a, R> as Lanes>⟧.host_port ⟦<SocketLanes<'a, R> as Lanes>⟧.width served.now log }
+    ensures runs { result ≡ Exit.Done → HasRun (⟦<SystemDay<'a, R> as Neighbours>⟧.does) (⟦<SystemDay<'a, R> as Neighbours>⟧.given) ⟦<SystemDoors<'a, R> as SecretFiles>⟧.calls ⟦<SystemDisk<'a, R> as Disk>⟧.is_known ⟦<SystemDisk<'a, R> as Disk>⟧.state ⟦<SystemClock<'a, R> as base_clock::Clock>⟧.seen ⟦<SocketLanes<'a, R> as SeenLanes>⟧.seen ⟦<SocketLanes<'a, R> as Lanes>⟧.host_port ⟦<SocketLanes<'a, R> as Lanes>⟧.width served.now log }
 {
     let Ok(mut clock) = SystemClock::new(rt.alloc(), rt) else {
         return ended(Err(AllocError), errors);
@@ -87,7 +87,7 @@ where
     R: Files<File = File> + AllocGlobal + Net + Clock,
     L: Lanes + Drop,
     P: Doors<SocketTalk, SocketDoor> + Inputs + SecretFiles + Drop,
-    C: keep_clock::Clock,
+    C: base_clock::Clock,
     E: Sink,
     requires demanded { IsDemanded served.now demands }
     requires free { L.out lanes.old ≡ [] }

@@ -1,41 +1,41 @@
 //! `serve`: an agent from its start on.
 ghost use Rattle.std.specs.Prelude.{◌≡◌, IfOk, option_copied};
 ghost use Rattle.leasekeep.specs.Ends.{EndsServe};
-ghost use Rattle.serve_run.specs.Run.{HasRunSo, demands_of};
-ghost use Rattle.serve_start.specs.Numbers.{IsNumber};
+ghost use Rattle.agent_run.specs.Run.{HasRunSo, demands_of};
+ghost use Rattle.agent_start.specs.Numbers.{IsNumber};
 
 use crate::running::{SystemDay, run};
 use crate::system_doors::SystemDoors;
-use keep_asking::SeenLanes;
-use keep_clock::SystemClock;
-use keep_command::SystemFiles;
-use keep_device::{Sink, Watched};
-use keep_disk::{Disk, SystemDisk};
-use keep_house::Demands;
-use keep_lanes::{Lanes, SocketLanes};
-use keep_log::StandardOutput;
-use keep_report::{Exit, PROGRAM, Stop};
-use keep_secrets::SecretFiles;
-use keep_serving::Neighbours;
-use keep_spread::part_by;
-use keep_tree::MARGIN_MAX;
-use leasekeep_commands::Served;
-use serve_start::own_number;
+use agent_house::Demands;
+use agent_start::own_number;
+use agent_turns::Neighbours;
+use base_clock::SystemClock;
+use base_device::{Sink, Watched};
+use base_disk::{Disk, SystemDisk};
+use base_log::StandardOutput;
+use plan_forest::MARGIN_MAX;
+use plan_spread::part_by;
+use program_commands::Served;
+use program_report::{Exit, PROGRAM, Stop};
+use program_words::SystemFiles;
+use state_secrets::SecretFiles;
 use std::alloc::AllocError;
 use std::fs::File;
 use std::io::Stdout;
 use std::net::Net;
 use std::rt::{Clock, Files};
+use vault_asking::SeenLanes;
+use vault_lanes::{Lanes, SocketLanes};
 
 /// Serves an inventory, with the log on standard output. It ends where the start is refused, which it tells; else after 2^64 - 1
 /// turns.
-#[tactic(auto, using(serve_run::proofs::Having::is_demanded, serve_run::proofs::Having::has_run_so))]
+#[tactic(auto, using(agent_run::proofs::Having::is_demanded, agent_run::proofs::Having::has_run_so))]
 pub fn serve<'a, R, E>(rt: &'a R, served: &Served<'a>, output: Stdout, errors: &mut E) -> Exit
 where
     R: Files<File = File> + AllocGlobal + Net + Clock,
     E: Sink,
     ensures told { EndsServe result (⟦<E as Watched>⟧.change errors.old errors.new) }
-    ensures runs { result ≡ Exit.Done → HasRunSo (⟦<SystemDay<'a, R> as Neighbours>⟧.does) (⟦<SystemDay<'a, R> as Neighbours>⟧.given) ⟦<SystemDoors<'a, R> as SecretFiles>⟧.calls ⟦<SystemDisk<'a, R> as Disk>⟧.is_known ⟦<SystemDisk<'a, R> as Disk>⟧.state ⟦<SystemClock<'a, R> as keep_clock::Clock>⟧.seen ⟦<SocketLanes<'a, R> as SeenLanes>⟧.seen ⟦<SocketLanes<'a, R> as Lanes>⟧.host_port ⟦<SocketLanes<'a, R> as Lanes>⟧.width served.now }
+    ensures runs { result ≡ Exit.Done → HasRunSo (⟦<SystemDay<'a, R> as Neighbours>⟧.does) (⟦<SystemDay<'a, R> as Neighbours>⟧.given) ⟦<SystemDoors<'a, R> as SecretFiles>⟧.calls ⟦<SystemDisk<'a, R> as Disk>⟧.is_known ⟦<SystemDisk<'a, R> as Disk>⟧.state ⟦<SystemClock<'a, R> as base_clock::Clock>⟧.seen ⟦<SocketLanes<'a, R> as SeenLanes>⟧.seen ⟦<SocketLanes<'a, R> as Lanes>⟧.host_port ⟦<SocketLanes<'a, R> as Lanes>⟧.width served.now }
 {
     // Before any file is opened, which would else take the number of a standard output that is closed.
     let log = StandardOutput::new(rt, output);

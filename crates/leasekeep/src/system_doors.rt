@@ -1,13 +1,13 @@
 //! The sockets of the system at which guests of `serve` come in, and the files of which a start says something.
-use keep_clients::{Entrance, SocketDoor, SocketTalk};
-use keep_clock::SystemClock;
-use keep_device::{InputFault, read_file};
-use keep_files::Inputs;
-use keep_moment::Text;
-use keep_secrets::{FileStamp, SecretFiles};
+use agent_run::Doors;
+use agent_start::SystemSecrets;
+use base_clients::{Entrance, SocketDoor, SocketTalk};
+use base_clock::SystemClock;
+use base_device::{InputFault, read_file};
+use base_files::Inputs;
+use base_moment::Text;
 use mio::Registry;
-use serve_run::Doors;
-use serve_start::SystemSecrets;
+use state_secrets::{FileStamp, SecretFiles};
 use std::alloc::{AllocError, Global};
 use std::io;
 use std::net::Net;

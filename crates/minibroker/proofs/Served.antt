@@ -1,7 +1,7 @@
 -- Connections are served one after another: one more after those that were, or one that stops the broker.
 use Rattle.std.proofs.Common.{◌≡◌, ℕ, ◌+◌, ◌<◌, ◌++◌, ◌∷◌, [], List, Option, Some, None, Err, IsErr, IsErrAnd, Ok, Result, ap, arith, inr, length, map, refl, subst, sym, ◌∙◌}
 use Rattle.std.proofs.lemmas.List.{append_assoc, length-append, map-append}
-use Rattle.keep_report.specs.declared.stop.Stop.{Stop}
+use Rattle.program_report.specs.declared.stop.Stop.{Stop}
 use Rattle.broker_table.specs.declared.moment_line.Moments.{Moments}
 use Rattle.minibroker.specs.Serving.{AreServed, Broker, Connection, HandsOut, ServesAll, Visit, Visits, visited}
 

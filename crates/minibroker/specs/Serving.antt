@@ -1,10 +1,10 @@
 -- Serving: what becomes of one connection, and of the broker's table.
 -- Source: this project's own; what is served is broker_table's `Stream`, and the moment its `MomentLine`.
 use Rattle.std.specs.Prelude.{◌≡◌, ℕ, ◌<◌, ◌⊎◌, Bool, true, false, List, [], ◌∷◌, ◌++◌, codes, decimal, length, map, Option, Some, IfSome, Result, Ok, Err}
-use Rattle.keep_device.specs.Seen.{Change, Seen}
-use Rattle.keep_report.specs.declared.stop.Stop.{Stop}
-use Rattle.keep_report.specs.declared.stop.Stop.TheVariants as stops
-use Rattle.keep_report.specs.Sent.{IsUntouched, SendsText}
+use Rattle.base_device.specs.Seen.{Change, Seen}
+use Rattle.program_report.specs.declared.stop.Stop.{Stop}
+use Rattle.program_report.specs.declared.stop.Stop.TheVariants as stops
+use Rattle.program_report.specs.Sent.{IsUntouched, SendsText}
 use Rattle.broker_table.specs.declared.moment_line.LineFault.{LineFault}
 use Rattle.broker_table.specs.declared.moment_line.LineFault.TheVariants as line_faults
 use Rattle.broker_table.specs.declared.moment_line.Moments.{Moments}

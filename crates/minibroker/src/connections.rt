@@ -2,8 +2,8 @@
 ghost use Rattle.std.specs.Prelude.{◌≡◌, List, Option, None, MatchResult, [], ◌∷◌};
 ghost use Rattle.minibroker.specs.Serving.{Connection, HandsOut, IsNoneHanded};
 
-use keep_device::{Sink, Source};
-use keep_report::Stop;
+use base_device::{Sink, Source};
+use program_report::Stop;
 
 /// A connection that has come.
 #[derive(Drop)]

@@ -1,6 +1,6 @@
+use base_version::VERSION;
 use clap::error::ErrorKind;
 use clap::{Arg, ArgAction, ArgMatches, Command, Error};
-use keep_version::VERSION;
 use std::alloc::{AllocError, Global};
 
 const ABOUT: &str =

@@ -1,16 +1,16 @@
 use crate::serving::tell_served;
 use crate::sockets::{serve_path, serve_port};
 use crate::words::{Command, PROGRAM, read_command};
+use base_device::{Counted, Place, Sink, Source};
+use base_files::Inputs;
 use broker_table::Table;
-use keep_command::{SystemFiles, words};
-use keep_device::{Counted, Place, Sink, Source};
-use keep_files::Inputs;
-use keep_inventory::{MOST_INVENTORY, read_known};
-use keep_report::{Exit, Stop};
+use program_report::{Exit, Stop};
+use program_words::{SystemFiles, words};
 use std::io;
 use std::io::{Read, Write};
 use std::net::Net;
 use std::rt::{Env, Files};
+use vault_inventory::{MOST_INVENTORY, read_known};
 
 /// Runs the program by the words of the command line, and gives the exit.
 pub fn run<R: Env + Files + AllocGlobal + Print + Net, I: Read + Drop, E: Write + Drop>(

@@ -2,9 +2,9 @@ ghost use Rattle.std.specs.Prelude.{◌≡◌};
 ghost use Rattle.minibroker.specs.Serving.{ServesAll, ServesOne, TellsServed, stop_of_line};
 
 use crate::connections::{Connections, Handed};
+use base_device::{Sink, Source, Watched};
 use broker_table::{LineFault, Moments, StreamFault, Table, next_moment};
-use keep_device::{Sink, Source, Watched};
-use keep_report::{Stop, send};
+use program_report::{Stop, send};
 use std::alloc::Global;
 
 /// Serves so many connections, one after another as they come, each as [`serve_one`] does. An error ends it, after those that

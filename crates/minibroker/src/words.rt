@@ -1,10 +1,10 @@
 use crate::parser::{mistake, parse};
+use base_device::{Counted, Place, Sink};
+use base_moment::Moment;
 use broker_table::Moments;
 use clap::ArgMatches;
-use keep_command::{number_or, place_to_listen, show};
-use keep_device::{Counted, Place, Sink};
-use keep_moment::Moment;
-use keep_report::{Exit, Stop};
+use program_report::{Exit, Stop};
+use program_words::{number_or, place_to_listen, show};
 use std::io;
 
 /// The program's name, in front of its fault lines.

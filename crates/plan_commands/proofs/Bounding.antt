@@ -2,16 +2,16 @@
 use Rattle.std.proofs.Common.{◌≡◌, ◌≢◌, ◌∙◌, ◌==◌, ◌||◌, ℕ, zero, suc, ◌<◌, ◌≤◌, Bool, true, false, cond, List, [], ◌∷◌, Option, Some, None, map, min, nat_le, refl, sym, ap, subst, arith, inl, inr, ◌⊎◌}
 use Rattle.std.proofs.lemmas.Bool.{or_cases}
 use Rattle.std.proofs.lemmas.Bool.Decides.{nat_tests}
-use Rattle.keep_tree.specs.Forest.{Forest, end_of, entry_at}
-use Rattle.keep_tree.specs.Over.{Over, chain, is_over}
-use Rattle.keep_tree.proofs.Chains.{ParentsFirst, cases_Option, chain_child, chain_root, over_child, over_root, over_self}
-use Rattle.keep_tree.proofs.Placed.{parents_first}
-use Rattle.keep_core.specs.Shorten.{least_of, least_reach, lesser}
-use Rattle.keep_rule.specs.Reach.{reach}
+use Rattle.plan_forest.specs.Forest.{Forest, end_of, entry_at}
+use Rattle.plan_forest.specs.Over.{Over, chain, is_over}
+use Rattle.plan_forest.proofs.Chains.{ParentsFirst, cases_Option, chain_child, chain_root, over_child, over_root, over_self}
+use Rattle.plan_forest.proofs.Placed.{parents_first}
+use Rattle.tick_keeper.specs.Shorten.{least_of, least_reach, lesser}
+use Rattle.plan_rule.specs.Reach.{reach}
 use Rattle.plan_commands.specs.declared.bound.Bound.{Bound}
 use Rattle.plan_commands.specs.ReachLaws.{Binds, BoundLaw}
 use Rattle.plan_commands.specs.ReachText.{binding_reach, nearer}
-use Rattle.keep_core.proofs.Shortening.{least_reach_most}
+use Rattle.tick_keeper.proofs.Shortening.{least_reach_most}
 use Rattle.plan_commands.proofs.Reaching.{bound_child, bound_root}
 
 same_index : (a b : ℕ) → (a == b) ≡ true → a ≡ b

@@ -1,19 +1,19 @@
 -- Dated: the lines of `plan --dates`, and that they are told by the forest.
 use Rattle.std.proofs.Common.{◌≡◌, ◌∙◌, ℕ, ◌+◌, ◌<◌, ◌≤◌, ◌++◌, true, List, [], ◌∷◌, Result, Ok, Err, codes, decimal, get_or, length, take, refl, sym, ap, subst}
 use Rattle.std.proofs.lemmas.List.{append_assoc, append-nil, take_all, take_more}
-use Rattle.keep_moment.specs.declared.text.Text.{Text}
-use Rattle.keep_tree.specs.declared.entry.Entry.{Entry}
-use Rattle.keep_tree.specs.Forest.{Forest}
-use Rattle.keep_rule.specs.declared.run.Run.{Run}
-use Rattle.keep_rule.specs.Runs.{wake_count}
-use Rattle.keep_plan.specs.declared.decision.Decision.{Decision}
-use Rattle.keep_plan.specs.declared.decision.Decision.TheVariants as decision
-use Rattle.keep_plan.specs.Decides.{Decides}
-use Rattle.keep_cert.specs.CertificateText.{end_line_text, line_text, name_of_entry, unkeepable_text}
-use Rattle.keep_report.specs.declared.exit.Exit.{Exit}
-use Rattle.keep_report.specs.declared.exit.Exit.TheVariants as exits
-use Rattle.keep_report.specs.declared.stop.Stop.{Stop}
-use Rattle.keep_report.specs.declared.stop.Stop.TheVariants as stops
+use Rattle.base_moment.specs.declared.text.Text.{Text}
+use Rattle.plan_forest.specs.declared.entry.Entry.{Entry}
+use Rattle.plan_forest.specs.Forest.{Forest}
+use Rattle.plan_rule.specs.declared.run.Run.{Run}
+use Rattle.plan_rule.specs.Runs.{wake_count}
+use Rattle.plan_search.specs.declared.decision.Decision.{Decision}
+use Rattle.plan_search.specs.declared.decision.Decision.TheVariants as decision
+use Rattle.plan_search.specs.Decides.{Decides}
+use Rattle.plan_certificate.specs.CertificateText.{end_line_text, line_text, name_of_entry, unkeepable_text}
+use Rattle.program_report.specs.declared.exit.Exit.{Exit}
+use Rattle.program_report.specs.declared.exit.Exit.TheVariants as exits
+use Rattle.program_report.specs.declared.stop.Stop.{Stop}
+use Rattle.program_report.specs.declared.stop.Stop.TheVariants as stops
 use Rattle.plan_commands.specs.code.Making.{DatesOf, MakesOf, decided_exit}
 use Rattle.plan_commands.specs.PlanDates.{AreRunLines, AreRunsInDates, IsInDates, IsNoneInDates, IsPairInDates, IsPlanInDates, IsRunLine, OnePlanInDates, PlanDatesTexts, run_line, start_line}
 use Rattle.plan_commands.specs.PlanRun.{PlanHalts}

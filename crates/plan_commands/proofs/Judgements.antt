@@ -1,26 +1,26 @@
 -- Judgements: from the line about a certificate to that about its text, for `run_check`.
 use Rattle.std.proofs.Common.{◌≡◌, ℕ, List, Option, Some, Result, Ok, Err, length, inl, inr, ◌⊎◌, subst, sym}
 use Rattle.std.proofs.lemmas.Bool.{cases_lt}
-use Rattle.keep_tree.specs.Forest.{Forest}
-use Rattle.keep_rule.specs.Runs.{all_wakes}
-use Rattle.keep_cert.specs.declared.cert.Body.{Body}
-use Rattle.keep_cert.specs.declared.cert.Body.TheVariants as body
-use Rattle.keep_cert.specs.declared.cert.Cert.{Cert}
-use Rattle.keep_cert.specs.declared.fault.CertFault.{CertFault}
-use Rattle.keep_cert.specs.declared.fault.CertFault.TheVariants as certs
-use Rattle.keep_cert.specs.Answers.{FailsWithCertFault}
-use Rattle.keep_cert.specs.CertificateText.{WritesCertificate}
-use Rattle.keep_cert.specs.Reading.{certificate_of}
-use Rattle.keep_check.specs.declared.answer.Answer.TheVariants.{No}
-use Rattle.keep_check.specs.declared.answer.Cause.{Cause}
-use Rattle.keep_check.specs.declared.answer.Cause.TheVariants as cause
-use Rattle.keep_check.specs.Answer.{IsBodyAnswer, IsCertificateAnswer}
-use Rattle.keep_check.proofs.Judged.{kept_past}
-use Rattle.keep_report.specs.declared.exit.Exit.{Exit}
-use Rattle.keep_report.specs.declared.exit.Exit.TheVariants as exits
+use Rattle.plan_forest.specs.Forest.{Forest}
+use Rattle.plan_rule.specs.Runs.{all_wakes}
+use Rattle.plan_certificate.specs.declared.cert.Body.{Body}
+use Rattle.plan_certificate.specs.declared.cert.Body.TheVariants as body
+use Rattle.plan_certificate.specs.declared.cert.Cert.{Cert}
+use Rattle.plan_certificate.specs.declared.fault.CertFault.{CertFault}
+use Rattle.plan_certificate.specs.declared.fault.CertFault.TheVariants as certs
+use Rattle.plan_certificate.specs.Answers.{FailsWithCertFault}
+use Rattle.plan_certificate.specs.CertificateText.{WritesCertificate}
+use Rattle.plan_certificate.specs.Reading.{certificate_of}
+use Rattle.plan_check.specs.declared.answer.Answer.TheVariants.{No}
+use Rattle.plan_check.specs.declared.answer.Cause.{Cause}
+use Rattle.plan_check.specs.declared.answer.Cause.TheVariants as cause
+use Rattle.plan_check.specs.Answer.{IsBodyAnswer, IsCertificateAnswer}
+use Rattle.plan_check.proofs.Judged.{kept_past}
+use Rattle.program_report.specs.declared.exit.Exit.{Exit}
+use Rattle.program_report.specs.declared.exit.Exit.TheVariants as exits
 use Rattle.plan_commands.specs.declared.outcome.Outcome.{Outcome}
-use Rattle.keep_report.specs.declared.stop.Stop.{Stop}
-use Rattle.keep_report.specs.declared.stop.Stop.TheVariants as stops
+use Rattle.program_report.specs.declared.stop.Stop.{Stop}
+use Rattle.program_report.specs.declared.stop.Stop.TheVariants as stops
 use Rattle.plan_commands.specs.code.CheckAnswers.{CauseIsNamed, IsStartVerdict, IsVerdict, StartTexts, VerdictTexts}
 use Rattle.plan_commands.specs.CheckRun.{CertificateIsUnreadable, CheckTexts, IsJudged, StartsAsAsked}
 use Rattle.plan_commands.specs.Running.{NoHalts}

@@ -4,11 +4,11 @@ use Rattle.std.proofs.lemmas.Grind.{flat_map-append}
 use Rattle.std.proofs.lemmas.List.{append-nil, map-append, map-id, take_more}
 use Rattle.std.proofs.lemmas.List.FromFn.{get_or-map-range_with_len, length-map-range_with_len, map-range_with_len_more}
 use Rattle.std.specs.List.{range_with_len}
-use Rattle.keep_tree.specs.declared.entry.Entry.{Entry}
-use Rattle.keep_tree.specs.Forest.{entry_at}
-use Rattle.keep_tree.proofs.Ranges.{range_more}
-use Rattle.keep_rule.specs.declared.wake.Wake.{Wake}
-use Rattle.keep_rule.specs.Ends.{ends_listed}
+use Rattle.plan_forest.specs.declared.entry.Entry.{Entry}
+use Rattle.plan_forest.specs.Forest.{entry_at}
+use Rattle.plan_forest.proofs.Ranges.{range_more}
+use Rattle.plan_rule.specs.declared.wake.Wake.{Wake}
+use Rattle.plan_rule.specs.Ends.{ends_listed}
 use Rattle.plan_commands.specs.code.Making.{at_index}
 use Rattle.plan_commands.specs.EndsText.{all_asked, end_lines, name_end_line}
 

@@ -1,13 +1,13 @@
 -- Obeying: from a run over the bytes of a file to one over the file, for `obey`.
 use Rattle.std.proofs.Common.{◌≡◌, ℕ, List, Option, Ok, String, Global, string_bytes, subst, sym, inl}
-use Rattle.keep_device.specs.Seen.{Change}
+use Rattle.base_device.specs.Seen.{Change}
 use Rattle.plan_commands.specs.declared.command.Command.{Command}
 use Rattle.plan_commands.specs.declared.command.Command.TheVariants as commands
-use Rattle.keep_cert.specs.declared.cert.TheConstants.{MOST_CERTIFICATE}
-use Rattle.keep_report.specs.declared.exit.Exit.{Exit}
+use Rattle.plan_certificate.specs.declared.cert.TheConstants.{MOST_CERTIFICATE}
+use Rattle.program_report.specs.declared.exit.Exit.{Exit}
 use Rattle.plan_commands.specs.CheckRun.{CheckRun}
 use Rattle.plan_commands.specs.From.{RunFrom}
-use Rattle.keep_files.specs.Files.{FileIsRead, Files}
+use Rattle.base_files.specs.Files.{FileIsRead, Files}
 use Rattle.plan_commands.specs.Obeys.{ObeysOver}
 
 pub run_read : (known : Option (List ℕ)) (max : ℕ) (Over : List ℕ → Exit → Change → Change → Type 0) (exit : Exit) (out errors : Change) (read bytes : List ℕ) → FileIsRead known max (Ok read) → bytes ≡ read → Over bytes exit out errors → RunFrom known max Over exit out errors

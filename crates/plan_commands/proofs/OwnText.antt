@@ -1,29 +1,29 @@
 -- Own texts: what `plan` writes is a certificate that gets Yes, and short enough to be read, so that `check` says `yes`.
 use Rattle.std.proofs.Common.{◌≡◌, ◌⊎◌, inl, inr, ℕ, ◌≤◌, List, Option, None, Some, Ok, ap, codes, length, refl, sym, subst, arith}
-use Rattle.keep_moment.specs.declared.moment.TheConstants.{LAST}
-use Rattle.keep_tree.specs.Forest.{Forest}
-use Rattle.keep_tree.specs.Push.{IsForest}
-use Rattle.keep_rule.specs.declared.run.Run.{Run}
-use Rattle.keep_plan.specs.declared.decision.Decision.TheVariants as decision
-use Rattle.keep_plan.specs.Decides.{AreBest}
-use Rattle.keep_cert.specs.declared.cert.Body.{Body}
-use Rattle.keep_cert.specs.declared.cert.Body.TheVariants as body
-use Rattle.keep_cert.specs.declared.cert.Cert.{Cert}
-use Rattle.keep_cert.specs.declared.cert.Version.TheVariants.{Two}
-use Rattle.keep_cert.specs.CertificateText.{IsCertificateBody, certificate_text}
-use Rattle.keep_cert.specs.Printing.{certified}
-use Rattle.keep_cert.specs.Reading.{certificate_of}
-use Rattle.keep_cert.proofs.Printing.{claim_is_body, counted_wakes, runs_within}
-use Rattle.keep_cert.proofs.ReadBackAll.{written_is_read}
-use Rattle.keep_cert.proofs.Stated.{start_stated}
-use Rattle.keep_check.specs.declared.answer.Answer.TheVariants.{Yes}
-use Rattle.keep_check.specs.Answer.{IsCertificateAnswer}
-use Rattle.keep_check.proofs.Answers.{yes_holds}
-use Rattle.keep_check.proofs.Written.{body_fits}
-use Rattle.keep_start.proofs.Started.{start_law}
-use Rattle.keep_report.specs.declared.exit.Exit.{Exit}
-use Rattle.keep_report.specs.declared.exit.Exit.TheVariants as exits
-use Rattle.keep_cert.specs.declared.cert.TheConstants.{MOST_CERTIFICATE}
+use Rattle.base_moment.specs.declared.moment.TheConstants.{LAST}
+use Rattle.plan_forest.specs.Forest.{Forest}
+use Rattle.plan_forest.specs.Push.{IsForest}
+use Rattle.plan_rule.specs.declared.run.Run.{Run}
+use Rattle.plan_search.specs.declared.decision.Decision.TheVariants as decision
+use Rattle.plan_search.specs.Decides.{AreBest}
+use Rattle.plan_certificate.specs.declared.cert.Body.{Body}
+use Rattle.plan_certificate.specs.declared.cert.Body.TheVariants as body
+use Rattle.plan_certificate.specs.declared.cert.Cert.{Cert}
+use Rattle.plan_certificate.specs.declared.cert.Version.TheVariants.{Two}
+use Rattle.plan_certificate.specs.CertificateText.{IsCertificateBody, certificate_text}
+use Rattle.plan_certificate.specs.Printing.{certified}
+use Rattle.plan_certificate.specs.Reading.{certificate_of}
+use Rattle.plan_certificate.proofs.Printing.{claim_is_body, counted_wakes, runs_within}
+use Rattle.plan_certificate.proofs.ReadBackAll.{written_is_read}
+use Rattle.plan_certificate.proofs.Stated.{start_stated}
+use Rattle.plan_check.specs.declared.answer.Answer.TheVariants.{Yes}
+use Rattle.plan_check.specs.Answer.{IsCertificateAnswer}
+use Rattle.plan_check.proofs.Answers.{yes_holds}
+use Rattle.plan_check.proofs.Written.{body_fits}
+use Rattle.vault_start.proofs.Started.{start_law}
+use Rattle.program_report.specs.declared.exit.Exit.{Exit}
+use Rattle.program_report.specs.declared.exit.Exit.TheVariants as exits
+use Rattle.plan_certificate.specs.declared.cert.TheConstants.{MOST_CERTIFICATE}
 use Rattle.plan_commands.specs.CheckRun.{IsAccepted, StartsAsAsked, or_zero, stated_start}
 use Rattle.plan_commands.specs.Laws.{IsOwnText, OwnTextLaw}
 use Rattle.plan_commands.specs.PlanRun.{IsCertified}

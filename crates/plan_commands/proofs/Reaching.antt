@@ -1,11 +1,11 @@
 -- Reaching: what binds an entry by its parent, and the lines of `reach` one by one; and that they are told by the forest.
 use Rattle.std.proofs.Common.{◌≡◌, ◌∙◌, ℕ, zero, suc, ◌+◌, ◌++◌, Bool, true, false, List, Option, Some, None, length, max, refl, sym, ap, subst, arith, inl, inr}
 use Rattle.std.proofs.lemmas.List.{append_assoc}
-use Rattle.keep_moment.proofs.Moments.{one_date_text}
-use Rattle.keep_tree.specs.declared.entry.Entry.{Entry}
-use Rattle.keep_tree.specs.Forest.{Forest, end_of, entry_at}
-use Rattle.keep_tree.proofs.Chains.{ParentsFirst, chain_child, chain_root}
-use Rattle.keep_rule.specs.Reach.{reach}
+use Rattle.base_moment.proofs.Moments.{one_date_text}
+use Rattle.plan_forest.specs.declared.entry.Entry.{Entry}
+use Rattle.plan_forest.specs.Forest.{Forest, end_of, entry_at}
+use Rattle.plan_forest.proofs.Chains.{ParentsFirst, chain_child, chain_root}
+use Rattle.plan_rule.specs.Reach.{reach}
 use Rattle.plan_commands.specs.declared.bound.Bound.{Bound}
 use Rattle.plan_commands.specs.EndsText.{keeps_line}
 use Rattle.plan_commands.specs.ReachText.{AreReachLines, IsMomentWord, IsNeedWord, IsReachLine, IsReachText, IsUntilWord, OneReachText, SaysWhetherKept, binding, binding_reach, column, columns, head, is_short, nearer, short_at, widest, word_line}

@@ -2,15 +2,15 @@
 use Rattle.std.proofs.Common.{◌≡◌, ◌∙◌, ◌&&◌, ℕ, ◌<◌, ◌≤◌, Bool, true, false, Option, Some, None, length, nat_lt, refl, sym, ap, subst, arith, inl, inr}
 use Rattle.std.proofs.lemmas.Bool.{cases_lt}
 use Rattle.std.proofs.lemmas.Bool.Decides.{nat_tests}
-use Rattle.keep_tree.specs.declared.entry.Entry.{Entry}
-use Rattle.keep_tree.specs.Forest.{Forest, end_of, entry_at}
-use Rattle.keep_tree.specs.Over.{chain, is_over}
-use Rattle.keep_tree.specs.Push.{IsForest}
-use Rattle.keep_tree.proofs.Chains.{cases_Option}
-use Rattle.keep_tree.proofs.Entries.{entry_at_past}
-use Rattle.keep_rule.specs.Reach.{reach}
-use Rattle.keep_plan.specs.Decides.{NoneKeeps, SomeKeeps}
-use Rattle.keep_plan.proofs.Deciding.{none_keeps, some_keeps}
+use Rattle.plan_forest.specs.declared.entry.Entry.{Entry}
+use Rattle.plan_forest.specs.Forest.{Forest, end_of, entry_at}
+use Rattle.plan_forest.specs.Over.{chain, is_over}
+use Rattle.plan_forest.specs.Push.{IsForest}
+use Rattle.plan_forest.proofs.Chains.{cases_Option}
+use Rattle.plan_forest.proofs.Entries.{entry_at_past}
+use Rattle.plan_rule.specs.Reach.{reach}
+use Rattle.plan_search.specs.Decides.{NoneKeeps, SomeKeeps}
+use Rattle.plan_search.proofs.Deciding.{none_keeps, some_keeps}
 use Rattle.plan_commands.specs.ReachLaws.{ShortLaw}
 use Rattle.plan_commands.specs.ReachText.{binding, binding_reach, is_short, short_at}
 use Rattle.plan_commands.proofs.Until.{binding_has, binding_least}

@@ -5,20 +5,20 @@ use Rattle.std.proofs.lemmas.Bool.{and_parts, cases_lt}
 use Rattle.std.proofs.lemmas.Fmt.{length-decimal-le}
 use Rattle.std.proofs.lemmas.List.{length-append}
 use Rattle.std.proofs.Math.Nat.{mul-le-mul_right}
-use Rattle.keep_moment.specs.declared.moment.TheConstants.{LAST}
-use Rattle.keep_tree.specs.Forest.{Forest, entry_at}
-use Rattle.keep_tree.specs.Push.{IsForest, is_name, is_name_byte}
-use Rattle.keep_tree.specs.declared.forest.TheConstants.{NAME_MAX}
-use Rattle.keep_rule.specs.declared.limit.TheConstants.{LIMIT}
-use Rattle.keep_rule.specs.declared.run.Run.{Run}
-use Rattle.keep_cert.specs.declared.cert.Body.{Body}
-use Rattle.keep_cert.specs.declared.cert.Body.TheVariants.{Runs, Unkeepable}
-use Rattle.keep_cert.specs.declared.cert.Version.TheVariants.{Two}
-use Rattle.keep_rule.specs.Runs.{wake_count}
-use Rattle.keep_cert.specs.CertificateText.{AreRunsOf, IsCertificateBody, IsRunOf, body_text, certificate_text, end_line_text, header_text, line_text, name_of_entry, run_text, start_text, unkeepable_text}
-use Rattle.keep_cert.specs.Printing.{certified}
-use Rattle.keep_cert.specs.declared.cert.TheConstants.{MOST_CERTIFICATE}
-use Rattle.keep_inventory.proofs.Entered.{within_test}
+use Rattle.base_moment.specs.declared.moment.TheConstants.{LAST}
+use Rattle.plan_forest.specs.Forest.{Forest, entry_at}
+use Rattle.plan_forest.specs.Push.{IsForest, is_name, is_name_byte}
+use Rattle.plan_forest.specs.declared.forest.TheConstants.{NAME_MAX}
+use Rattle.plan_rule.specs.declared.limit.TheConstants.{LIMIT}
+use Rattle.plan_rule.specs.declared.run.Run.{Run}
+use Rattle.plan_certificate.specs.declared.cert.Body.{Body}
+use Rattle.plan_certificate.specs.declared.cert.Body.TheVariants.{Runs, Unkeepable}
+use Rattle.plan_certificate.specs.declared.cert.Version.TheVariants.{Two}
+use Rattle.plan_rule.specs.Runs.{wake_count}
+use Rattle.plan_certificate.specs.CertificateText.{AreRunsOf, IsCertificateBody, IsRunOf, body_text, certificate_text, end_line_text, header_text, line_text, name_of_entry, run_text, start_text, unkeepable_text}
+use Rattle.plan_certificate.specs.Printing.{certified}
+use Rattle.plan_certificate.specs.declared.cert.TheConstants.{MOST_CERTIFICATE}
+use Rattle.vault_inventory.proofs.Entered.{within_test}
 
 -- the sizes of words, each with the byte after it
 abbrev sizes : List (List ℕ) → ℕ

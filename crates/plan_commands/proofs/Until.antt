@@ -4,14 +4,14 @@ use Rattle.std.proofs.Common.{◌≡◌, ◌∙◌, ◌==◌, ◌||◌, ℕ, suc
 use Rattle.std.proofs.lemmas.Bool.{cases_lt, or_cases}
 use Rattle.std.proofs.lemmas.Bool.Decides.{nat_tests}
 use Rattle.std.specs.List.{list_any}
-use Rattle.keep_tree.specs.declared.entry.Entry.{Entry}
-use Rattle.keep_tree.specs.Forest.{Forest, end_of, entry_at}
-use Rattle.keep_tree.specs.Over.{Over, chain, is_over}
-use Rattle.keep_tree.proofs.Chains.{cases_Option, chain_same}
-use Rattle.keep_tree.proofs.Placed.{parents_first}
-use Rattle.keep_rule.specs.Reach.{reach, reach_of}
-use Rattle.keep_plan.specs.Decides.{NoneKeeps}
-use Rattle.keep_plan.proofs.Deciding.{none_keeps, some_keeps}
+use Rattle.plan_forest.specs.declared.entry.Entry.{Entry}
+use Rattle.plan_forest.specs.Forest.{Forest, end_of, entry_at}
+use Rattle.plan_forest.specs.Over.{Over, chain, is_over}
+use Rattle.plan_forest.proofs.Chains.{cases_Option, chain_same}
+use Rattle.plan_forest.proofs.Placed.{parents_first}
+use Rattle.plan_rule.specs.Reach.{reach, reach_of}
+use Rattle.plan_search.specs.Decides.{NoneKeeps}
+use Rattle.plan_search.proofs.Deciding.{none_keeps, some_keeps}
 use Rattle.plan_commands.specs.declared.bound.Bound.{Bound}
 use Rattle.plan_commands.specs.ReachLaws.{DifferInNeeds, IsWithinReach, UntilLaw, WhateverIsNeeded}
 use Rattle.plan_commands.specs.ReachText.{binding, binding_reach, nearer}

@@ -1,12 +1,12 @@
 -- Check: what the command `check` writes about a certificate.
 -- Source: this project's own.
 use Rattle.std.specs.Prelude.{ℕ, List, [], ◌∷◌, ◌++◌, Option, Some, None, codes, decimal}
-use Rattle.keep_tree.specs.declared.entry.Entry.{Entry}
-use Rattle.keep_tree.specs.Forest.{entry_at}
-use Rattle.keep_cert.specs.declared.fault.CertFault.{CertFault}
-use Rattle.keep_cert.specs.declared.fault.CertFault.TheVariants.{BadHeader, BadLine, UnknownName, BadNumber, Truncated, Trailing, OutOfMemory}
-use Rattle.keep_check.specs.declared.answer.Cause.{Cause}
-use Rattle.keep_check.specs.declared.answer.Cause.TheVariants.{NotForced, NotKept, NotRising, NotUnkeepable}
+use Rattle.plan_forest.specs.declared.entry.Entry.{Entry}
+use Rattle.plan_forest.specs.Forest.{entry_at}
+use Rattle.plan_certificate.specs.declared.fault.CertFault.{CertFault}
+use Rattle.plan_certificate.specs.declared.fault.CertFault.TheVariants.{BadHeader, BadLine, UnknownName, BadNumber, Truncated, Trailing, OutOfMemory}
+use Rattle.plan_check.specs.declared.answer.Cause.{Cause}
+use Rattle.plan_check.specs.declared.answer.Cause.TheVariants.{NotForced, NotKept, NotRising, NotUnkeepable}
 
 -- words, a number and a line feed
 unfoldable pub numbered : List ℕ → ℕ → List ℕ

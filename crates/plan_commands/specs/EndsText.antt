@@ -2,12 +2,12 @@
 -- Source: this project's own; the ends are those of the Renewal rule (Vault, "Lease, renew, and revoke").
 use Rattle.std.specs.Prelude.{◌≡◌, ◌↔◌, ℕ, Bool, true, false, IsTrue, List, [], ◌∷◌, ◌++◌, None, codes, decimal, length, map, flat_map}
 use Rattle.std.specs.List.{range_with_len}
-use Rattle.keep_tree.specs.declared.entry.Entry.{Entry}
-use Rattle.keep_tree.specs.Forest.{Forest, end_of, entry_at}
-use Rattle.keep_rule.specs.declared.wake.Wake.{Wake}
-use Rattle.keep_rule.specs.Ends.{ends_after}
-use Rattle.keep_rule.specs.Keeps.{Keeps}
-use Rattle.keep_rule.specs.Plans.{wake_fault}
+use Rattle.plan_forest.specs.declared.entry.Entry.{Entry}
+use Rattle.plan_forest.specs.Forest.{Forest, end_of, entry_at}
+use Rattle.plan_rule.specs.declared.wake.Wake.{Wake}
+use Rattle.plan_rule.specs.Ends.{ends_after}
+use Rattle.plan_rule.specs.Keeps.{Keeps}
+use Rattle.plan_rule.specs.Plans.{wake_fault}
 
 -- wake-ups at these moments, each of which asks every one of n entries
 unfoldable pub all_asked : ℕ → List ℕ → List Wake

@@ -1,22 +1,22 @@
 -- Laws of the runs. Each is the contract of a public function without a body.
 use Rattle.std.specs.Prelude.{◌≡◌, ◌⊎◌, ℕ, ◌≤◌, List, Option, None, Some, Ok, codes, length}
-use Rattle.keep_moment.specs.declared.moment.TheConstants.{LAST}
-use Rattle.keep_tree.specs.Forest.{Forest}
-use Rattle.keep_tree.specs.Push.{IsForest}
-use Rattle.keep_plan.specs.declared.decision.Decision.{Decision}
-use Rattle.keep_plan.specs.Decides.{Decides}
-use Rattle.keep_cert.specs.declared.cert.Cert.{Cert}
-use Rattle.keep_cert.specs.Printing.{PrintsClaim, claim}
-use Rattle.keep_cert.specs.Reading.{certificate_of}
-use Rattle.keep_check.specs.declared.answer.Answer.{Answer}
-use Rattle.keep_check.specs.declared.answer.Answer.TheVariants.{Yes}
-use Rattle.keep_check.specs.Answer.{IsCertificateAnswer}
-use Rattle.keep_check.specs.Fit.{CanBeJudged}
-use Rattle.keep_inventory.specs.Inventories.{Inventory}
-use Rattle.keep_report.specs.declared.exit.Exit.{Exit}
-use Rattle.keep_report.specs.declared.exit.Exit.TheVariants as exits
-use Rattle.keep_cert.specs.declared.cert.TheConstants.{MOST_CERTIFICATE}
-use Rattle.keep_start.specs.Start.{inventory_at}
+use Rattle.base_moment.specs.declared.moment.TheConstants.{LAST}
+use Rattle.plan_forest.specs.Forest.{Forest}
+use Rattle.plan_forest.specs.Push.{IsForest}
+use Rattle.plan_search.specs.declared.decision.Decision.{Decision}
+use Rattle.plan_search.specs.Decides.{Decides}
+use Rattle.plan_certificate.specs.declared.cert.Cert.{Cert}
+use Rattle.plan_certificate.specs.Printing.{PrintsClaim, claim}
+use Rattle.plan_certificate.specs.Reading.{certificate_of}
+use Rattle.plan_check.specs.declared.answer.Answer.{Answer}
+use Rattle.plan_check.specs.declared.answer.Answer.TheVariants.{Yes}
+use Rattle.plan_check.specs.Answer.{IsCertificateAnswer}
+use Rattle.plan_check.specs.Fit.{CanBeJudged}
+use Rattle.vault_inventory.specs.Inventories.{Inventory}
+use Rattle.program_report.specs.declared.exit.Exit.{Exit}
+use Rattle.program_report.specs.declared.exit.Exit.TheVariants as exits
+use Rattle.plan_certificate.specs.declared.cert.TheConstants.{MOST_CERTIFICATE}
+use Rattle.vault_start.specs.Start.{inventory_at}
 use Rattle.plan_commands.specs.CheckRun.{IsAccepted, IsJudged, stated_start}
 use Rattle.plan_commands.specs.PlanRun.{IsCertified}
 

@@ -1,15 +1,15 @@
 -- The run `margin`: which text goes with which exit, and when there is none.
 -- Source: this project's own.
 use Rattle.std.specs.Prelude.{◌≡◌, ℕ, List, Option, Some, None}
-use Rattle.keep_device.specs.Seen.{Change}
-use Rattle.keep_tree.specs.Forest.{Forest}
-use Rattle.keep_plan.specs.Decides.{PlanIsTooLong}
-use Rattle.keep_report.specs.declared.exit.Exit.{Exit}
-use Rattle.keep_report.specs.declared.stop.Stop.{Stop}
-use Rattle.keep_report.specs.declared.stop.Stop.TheVariants as stops
+use Rattle.base_device.specs.Seen.{Change}
+use Rattle.plan_forest.specs.Forest.{Forest}
+use Rattle.plan_search.specs.Decides.{PlanIsTooLong}
+use Rattle.program_report.specs.declared.exit.Exit.{Exit}
+use Rattle.program_report.specs.declared.stop.Stop.{Stop}
+use Rattle.program_report.specs.declared.stop.Stop.TheVariants as stops
 use Rattle.plan_commands.specs.declared.margin.MarginQuery.{MarginQuery}
 use Rattle.plan_commands.specs.MarginText.{IsMarginText, asked_about}
-use Rattle.keep_start.specs.Start.{inventory_at}
+use Rattle.vault_start.specs.Start.{inventory_at}
 use Rattle.plan_commands.specs.Running.{Halts, RunOf, Texts}
 
 abbrev pub MarginTexts : MarginQuery → Texts

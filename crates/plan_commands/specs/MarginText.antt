@@ -1,15 +1,15 @@
 -- Margin: what the command `margin` writes about a forest.
 -- Source: this project's own.
 use Rattle.std.specs.Prelude.{◌≡◌, ◌⊎◌, ℕ, ◌≤◌, min, if◌then◌else◌, List, [], ◌∷◌, ◌++◌, Option, Some, None, codes, decimal}
-use Rattle.keep_tree.specs.Forest.{Forest}
-use Rattle.keep_rule.specs.declared.limit.TheConstants.{LIMIT}
-use Rattle.keep_plan.specs.declared.widest.Widest.{Widest}
-use Rattle.keep_plan.specs.Decides.{NoneKeeps, SomeKeeps}
-use Rattle.keep_plan.specs.Shortfall.{IsShortfall}
-use Rattle.keep_plan.specs.Widest.{IsFewest, IsWidest, NoneIsEnough}
-use Rattle.keep_cert.specs.CertificateText.{unkeepable_text}
-use Rattle.keep_report.specs.declared.exit.Exit.{Exit}
-use Rattle.keep_report.specs.declared.exit.Exit.TheVariants as exits
+use Rattle.plan_forest.specs.Forest.{Forest}
+use Rattle.plan_rule.specs.declared.limit.TheConstants.{LIMIT}
+use Rattle.plan_search.specs.declared.widest.Widest.{Widest}
+use Rattle.plan_search.specs.Decides.{NoneKeeps, SomeKeeps}
+use Rattle.plan_search.specs.Shortfall.{IsShortfall}
+use Rattle.plan_search.specs.Widest.{IsFewest, IsWidest, NoneIsEnough}
+use Rattle.plan_certificate.specs.CertificateText.{unkeepable_text}
+use Rattle.program_report.specs.declared.exit.Exit.{Exit}
+use Rattle.program_report.specs.declared.exit.Exit.TheVariants as exits
 use Rattle.plan_commands.specs.declared.margin.MarginQuery.{MarginQuery}
 use Rattle.plan_commands.specs.Renewed.{all_renewed}
 

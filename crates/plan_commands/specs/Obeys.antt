@@ -1,16 +1,16 @@
 -- Obeys: what each command of the program does with its files.
 -- Source: this project's own.
 use Rattle.std.specs.Prelude.{ℕ, Bool, true, false, List, string_bytes}
-use Rattle.keep_device.specs.Seen.{Change}
-use Rattle.keep_report.specs.declared.exit.Exit.{Exit}
+use Rattle.base_device.specs.Seen.{Change}
+use Rattle.program_report.specs.declared.exit.Exit.{Exit}
 use Rattle.plan_commands.specs.declared.command.Command.{Command}
 use Rattle.plan_commands.specs.declared.command.Command.TheVariants as commands
-use Rattle.keep_inventory.specs.declared.limits.TheConstants.{MOST_INVENTORY}
-use Rattle.keep_cert.specs.declared.cert.TheConstants.{MOST_CERTIFICATE}
+use Rattle.vault_inventory.specs.declared.limits.TheConstants.{MOST_INVENTORY}
+use Rattle.plan_certificate.specs.declared.cert.TheConstants.{MOST_CERTIFICATE}
 use Rattle.plan_commands.specs.CheckRun.{CheckRun}
 use Rattle.plan_commands.specs.EndsRun.{EndsRun}
 use Rattle.plan_commands.specs.From.{RunFrom}
-use Rattle.keep_files.specs.Files.{Files}
+use Rattle.base_files.specs.Files.{Files}
 use Rattle.plan_commands.specs.MarginRun.{MarginRun}
 use Rattle.plan_commands.specs.PlanDates.{PlanDatesRun}
 use Rattle.plan_commands.specs.PlanRun.{PlanRun}

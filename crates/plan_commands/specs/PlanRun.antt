@@ -1,18 +1,18 @@
 -- The run `plan`: which text goes with which exit, and when there is none.
 -- Source: this project's own, over Vault, "Lease, renew, and revoke", and Vault, "Tokens".
 use Rattle.std.specs.Prelude.{◌≡◌, ℕ, List}
-use Rattle.keep_device.specs.Seen.{Change}
-use Rattle.keep_tree.specs.Forest.{Forest}
-use Rattle.keep_rule.specs.declared.run.Run.{Run}
-use Rattle.keep_plan.specs.Decides.{AreBest, NoneKeeps, PlanIsTooLong}
-use Rattle.keep_plan.specs.Shortfall.{IsShortfall}
-use Rattle.keep_cert.specs.declared.cert.Body.TheVariants as body
-use Rattle.keep_cert.specs.CertificateText.{certificate_text}
-use Rattle.keep_cert.specs.Printing.{certified}
-use Rattle.keep_report.specs.declared.exit.Exit.{Exit}
-use Rattle.keep_report.specs.declared.exit.Exit.TheVariants as exits
-use Rattle.keep_report.specs.declared.stop.Stop.TheVariants as stops
-use Rattle.keep_start.specs.Start.{inventory_at}
+use Rattle.base_device.specs.Seen.{Change}
+use Rattle.plan_forest.specs.Forest.{Forest}
+use Rattle.plan_rule.specs.declared.run.Run.{Run}
+use Rattle.plan_search.specs.Decides.{AreBest, NoneKeeps, PlanIsTooLong}
+use Rattle.plan_search.specs.Shortfall.{IsShortfall}
+use Rattle.plan_certificate.specs.declared.cert.Body.TheVariants as body
+use Rattle.plan_certificate.specs.CertificateText.{certificate_text}
+use Rattle.plan_certificate.specs.Printing.{certified}
+use Rattle.program_report.specs.declared.exit.Exit.{Exit}
+use Rattle.program_report.specs.declared.exit.Exit.TheVariants as exits
+use Rattle.program_report.specs.declared.stop.Stop.TheVariants as stops
+use Rattle.vault_start.specs.Start.{inventory_at}
 use Rattle.plan_commands.specs.Running.{Halts, RunOf, Texts}
 
 -- the certificate of runs whose wake-ups are the forces from s on: their moments are least and latest, and with their Asks

@@ -1,10 +1,10 @@
 -- The run `reach`: which text goes with which exit.
 use Rattle.std.specs.Prelude.{◌≡◌, ℕ, Bool, List}
-use Rattle.keep_device.specs.Seen.{Change}
-use Rattle.keep_report.specs.declared.exit.Exit.{Exit}
-use Rattle.keep_report.specs.declared.exit.Exit.TheVariants as exits
+use Rattle.base_device.specs.Seen.{Change}
+use Rattle.program_report.specs.declared.exit.Exit.{Exit}
+use Rattle.program_report.specs.declared.exit.Exit.TheVariants as exits
 use Rattle.plan_commands.specs.ReachText.{IsReachText}
-use Rattle.keep_start.specs.Start.{inventory_at}
+use Rattle.vault_start.specs.Start.{inventory_at}
 use Rattle.plan_commands.specs.Running.{NoHalts, RunOf, Texts}
 
 abbrev pub ReachTexts : ℕ → Bool → Texts

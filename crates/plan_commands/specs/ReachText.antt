@@ -2,13 +2,13 @@
 -- Source: this project's own; how far renewals lead is Vault, "Lease, renew, and revoke" (maximum TTL), and an entry ends with
 -- what it stands under by Vault, "Tokens".
 use Rattle.std.specs.Prelude.{◌≡◌, ◌⊎◌, ℕ, zero, suc, ◌-◌, ◌≤◌, ◌<◌, Bool, true, false, if◌then◌else◌, ◌&&◌, nat_le, nat_lt, List, [], ◌∷◌, ◌++◌, Option, Some, None, codes, decimal, length, max, replicate}
-use Rattle.keep_moment.specs.declared.moment.TheConstants.{LAST}
-use Rattle.keep_moment.specs.Rfc3339.{IsDateText}
-use Rattle.keep_tree.specs.declared.entry.Entry.{Entry}
-use Rattle.keep_tree.specs.Forest.{Forest, end_of, entry_at}
-use Rattle.keep_tree.specs.Over.{chain}
-use Rattle.keep_rule.specs.Reach.{reach}
-use Rattle.keep_plan.specs.Decides.{NoneKeeps, SomeKeeps}
+use Rattle.base_moment.specs.declared.moment.TheConstants.{LAST}
+use Rattle.base_moment.specs.Rfc3339.{IsDateText}
+use Rattle.plan_forest.specs.declared.entry.Entry.{Entry}
+use Rattle.plan_forest.specs.Forest.{Forest, end_of, entry_at}
+use Rattle.plan_forest.specs.Over.{chain}
+use Rattle.plan_rule.specs.Reach.{reach}
+use Rattle.plan_search.specs.Decides.{NoneKeeps, SomeKeeps}
 use Rattle.plan_commands.specs.declared.bound.Bound.{Bound}
 use Rattle.plan_commands.specs.EndsText.{keeps_line}
 

@@ -2,17 +2,17 @@
 -- a forest.
 -- Source: this project's own.
 use Rattle.std.specs.Prelude.{◌≡◌, ◌⊎◌, ℕ, List, Result, Ok, Err}
-use Rattle.keep_device.specs.Seen.{Change}
-use Rattle.keep_tree.specs.Forest.{Forest}
-use Rattle.keep_inventory.specs.declared.fault.InvFault.{InvFault}
-use Rattle.keep_inventory.specs.Inventories.{Inventory}
-use Rattle.keep_report.specs.declared.exit.Exit.{Exit}
-use Rattle.keep_report.specs.declared.stop.Stop.{Stop}
-use Rattle.keep_report.specs.declared.stop.Stop.TheVariants as stops
-use Rattle.keep_report.specs.Exits.{exit_of}
-use Rattle.keep_report.specs.FaultLine.{line_of_stop}
-use Rattle.keep_report.specs.Sent.{IsAll, IsUntouched, SendsText}
-use Rattle.keep_report.specs.Told.{Reports}
+use Rattle.base_device.specs.Seen.{Change}
+use Rattle.plan_forest.specs.Forest.{Forest}
+use Rattle.vault_inventory.specs.declared.fault.InvFault.{InvFault}
+use Rattle.vault_inventory.specs.Inventories.{Inventory}
+use Rattle.program_report.specs.declared.exit.Exit.{Exit}
+use Rattle.program_report.specs.declared.stop.Stop.{Stop}
+use Rattle.program_report.specs.declared.stop.Stop.TheVariants as stops
+use Rattle.program_report.specs.Exits.{exit_of}
+use Rattle.program_report.specs.FaultLine.{line_of_stop}
+use Rattle.program_report.specs.Sent.{IsAll, IsUntouched, SendsText}
+use Rattle.program_report.specs.Told.{Reports}
 
 -- the texts that a command may write about a forest, each with its exit
 abbrev pub Texts : Type 1

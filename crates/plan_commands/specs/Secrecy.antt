@@ -1,17 +1,17 @@
 -- Secrecy: of two inventories that differ in their credentials alone a run writes the same.
 use Rattle.std.specs.Prelude.{◌≡◌, ◌⊎◌, ℕ, Bool, List, Option, Ok}
-use Rattle.keep_device.specs.Seen.{Change, Receives, ReceivesFront}
-use Rattle.keep_inventory.specs.Bare.{DocumentsAreAlike}
-use Rattle.keep_inventory.specs.Inventory.{read_known}
-use Rattle.keep_inventory.specs.Served.{Served}
-use Rattle.keep_report.specs.declared.exit.Exit.{Exit}
-use Rattle.keep_report.specs.declared.exit.Exit.TheVariants as exits
+use Rattle.base_device.specs.Seen.{Change, Receives, ReceivesFront}
+use Rattle.vault_inventory.specs.Bare.{DocumentsAreAlike}
+use Rattle.vault_inventory.specs.Inventory.{read_known}
+use Rattle.vault_inventory.specs.Served.{Served}
+use Rattle.program_report.specs.declared.exit.Exit.{Exit}
+use Rattle.program_report.specs.declared.exit.Exit.TheVariants as exits
 use Rattle.plan_commands.specs.CheckRun.{CheckRun}
 use Rattle.plan_commands.specs.EndsRun.{EndsRun}
 use Rattle.plan_commands.specs.declared.margin.MarginQuery.{MarginQuery}
 use Rattle.plan_commands.specs.MarginRun.{MarginRun}
-use Rattle.keep_report.specs.Told.{Reports}
-use Rattle.keep_report.specs.Sent.{IsUntouched}
+use Rattle.program_report.specs.Told.{Reports}
+use Rattle.program_report.specs.Sent.{IsUntouched}
 use Rattle.plan_commands.specs.PlanDates.{PlanDatesRun}
 use Rattle.plan_commands.specs.PlanRun.{PlanRun}
 use Rattle.plan_commands.specs.ReachRun.{ReachRun}

@@ -1,9 +1,9 @@
 ghost use Rattle.std.specs.Prelude.{◌≡◌, ◌⊎◌, ◌<◌, length};
 ghost use Rattle.plan_commands.specs.ReachText.{binding_reach, nearer};
 
-use keep_moment::Moment;
-use keep_rule::reach;
-use keep_tree::Forest;
+use base_moment::Moment;
+use plan_forest::Forest;
+use plan_rule::reach;
 
 /// Until when an entry can live, and what binds it.
 #[derive(Clone, Copy, Debug)]

@@ -2,9 +2,9 @@ ghost use Rattle.plan_commands.specs.CheckRun.{CheckRun};
 
 use crate::check_text::check_text;
 use crate::deliver::deliver;
-use keep_device::{Sink, Watched};
-use keep_moment::Moment;
-use keep_report::Exit;
+use base_device::{Sink, Watched};
+use base_moment::Moment;
+use program_report::Exit;
 use std::alloc::Global;
 
 /// The command `check`: judges a certificate, whoever wrote it, by the inventory's forest, from the certificate's own start.

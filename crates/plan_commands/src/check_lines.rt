@@ -2,13 +2,13 @@ ghost use Rattle.std.specs.Prelude.{◌≡◌, IfOk, Some, length};
 ghost use Rattle.std.specs.Result.{IfErr};
 ghost use Rattle.plan_commands.specs.CheckText.{no_line, not_kept, numbered, unreadable_line};
 ghost use Rattle.plan_commands.specs.code.CheckAnswers.{CauseIsNamed};
-ghost use Rattle.keep_report.specs.declared.stop.Stop.TheVariants.{Memory};
+ghost use Rattle.program_report.specs.declared.stop.Stop.TheVariants.{Memory};
 
-use keep_cert::CertFault;
-use keep_check::Cause;
-use keep_moment::{Name, Text};
-use keep_report::Stop;
-use keep_tree::Forest;
+use base_moment::{Name, Text};
+use plan_certificate::CertFault;
+use plan_check::Cause;
+use plan_forest::Forest;
+use program_report::Stop;
 use std::alloc::{AllocError, Global};
 
 /// The line of a certificate that does not hold: the first test that it fails.

@@ -1,22 +1,22 @@
-ghost use Rattle.keep_check.specs.Fit.{CanBeJudged};
+ghost use Rattle.plan_check.specs.Fit.{CanBeJudged};
 ghost use Rattle.std.specs.Prelude.{◌≡◌, ◌↔◌, IfOk, IsTrue};
 ghost use Rattle.std.specs.Result.{IfErr};
 ghost use Rattle.plan_commands.specs.code.CheckAnswers.{StartTexts, VerdictTexts};
 ghost use Rattle.plan_commands.specs.CheckRun.{CheckTexts, StartsAsAsked, stated_start};
 ghost use Rattle.plan_commands.specs.code.Making.{MakesOf, MakesOutcome};
 ghost use Rattle.plan_commands.specs.Running.{NoHalts};
-ghost use Rattle.keep_report.specs.declared.stop.Stop.TheVariants.{Memory};
-ghost use Rattle.keep_start.specs.Start.{inventory_at};
+ghost use Rattle.program_report.specs.declared.stop.Stop.TheVariants.{Memory};
+ghost use Rattle.vault_start.specs.Start.{inventory_at};
 
 use crate::check_lines::{no_line, unreadable_line};
 use crate::outcome::Outcome;
-use keep_cert::{Cert, CertFault, read_start};
-use keep_check::{Answer, CheckFault, check};
-use keep_moment::{Moment, Text};
-use keep_report::{Exit, Stop};
-use keep_start::read_at;
-use keep_tree::Forest;
+use base_moment::{Moment, Text};
+use plan_certificate::{Cert, CertFault, read_start};
+use plan_check::{Answer, CheckFault, check};
+use plan_forest::Forest;
+use program_report::{Exit, Stop};
 use std::alloc::Global;
+use vault_start::read_at;
 
 /// The line about a certificate over an inventory's forest with its exit, or why there is none.
 pub(crate) fn check_text(
@@ -46,7 +46,7 @@ fn stated_start(certificate: &[u8]) -> Result<Moment, Stop>
 }
 
 /// The line about a text over a forest, from its names and numbers alone.
-#[tactic(auto, using(crate::proofs::Judgements::text_judged, crate::proofs::Judgements::text_unreadable, keep_check::proofs::Written::written_fits))]
+#[tactic(auto, using(crate::proofs::Judgements::text_judged, crate::proofs::Judgements::text_unreadable, plan_check::proofs::Written::written_fits))]
 fn judge_text(
     alloc: Global,
     forest: &Forest,
@@ -55,7 +55,7 @@ fn judge_text(
 ) -> Result<Outcome, Stop>
     ensures { MakesOf (CheckTexts asked certificate.now) NoHalts forest.now result }
 {
-    match keep_cert::read(alloc, forest, certificate) {
+    match plan_certificate::read(alloc, forest, certificate) {
         Ok(cert) => judge_from(alloc, forest, &cert, asked),
         Err(fault) => Ok(Outcome {
             exit: Exit::No,

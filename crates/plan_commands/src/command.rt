@@ -1,7 +1,7 @@
 ghost use Rattle.std.specs.Prelude.{◌≡◌};
-ghost use Rattle.keep_report.specs.Exits.{exit_of, stop_of_input};
-ghost use Rattle.keep_report.specs.FaultLine.{line_of_stop};
-ghost use Rattle.keep_report.specs.Told.{Reports};
+ghost use Rattle.program_report.specs.Exits.{exit_of, stop_of_input};
+ghost use Rattle.program_report.specs.FaultLine.{line_of_stop};
+ghost use Rattle.program_report.specs.Told.{Reports};
 ghost use Rattle.plan_commands.specs.Obeys.{Obeys, ObeysOver, PlanIn, path_of_command};
 
 use crate::check::run_check;
@@ -10,13 +10,13 @@ use crate::margin::{MarginQuery, run_margin};
 use crate::plan::run_plan;
 use crate::plan_dates::run_plan_dates;
 use crate::reach::run_reach;
-use keep_cert::MOST_CERTIFICATE;
-use keep_device::{InputFault, Sink, Watched};
-use keep_files::Inputs;
-use keep_inventory::MOST_INVENTORY;
-use keep_moment::Moment;
-use keep_report::{Exit, PROGRAM, Stop};
+use base_device::{InputFault, Sink, Watched};
+use base_files::Inputs;
+use base_moment::Moment;
+use plan_certificate::MOST_CERTIFICATE;
+use program_report::{Exit, PROGRAM, Stop};
 use std::alloc::Global;
+use vault_inventory::MOST_INVENTORY;
 
 /// A command about plans, with the paths of the files that it reads.
 #[derive(Debug, Drop)]

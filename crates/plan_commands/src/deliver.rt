@@ -1,8 +1,8 @@
 ghost use Rattle.plan_commands.specs.code.Making.{Delivers};
 
 use crate::outcome::Outcome;
-use keep_device::{Sink, Watched};
-use keep_report::{Exit, PROGRAM, Stop, send};
+use base_device::{Sink, Watched};
+use program_report::{Exit, PROGRAM, Stop, send};
 
 /// Writes a text that was made and flushes, or tells why there is none, or why only a front of it went out.
 pub(crate) fn deliver<W: Sink, E: Sink>(

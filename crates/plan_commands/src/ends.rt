@@ -2,9 +2,9 @@ ghost use Rattle.plan_commands.specs.EndsRun.{EndsRun};
 
 use crate::deliver::deliver;
 use crate::ends_text::ends_text;
-use keep_device::{Sink, Watched};
-use keep_moment::Moment;
-use keep_report::Exit;
+use base_device::{Sink, Watched};
+use base_moment::Moment;
+use program_report::Exit;
 use std::alloc::Global;
 
 /// The command `ends`: asks every entry of the inventory at each of the moments, and writes the line `NAME END` for each

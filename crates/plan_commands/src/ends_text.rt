@@ -3,15 +3,15 @@ ghost use Rattle.std.specs.List.{range_with_len};
 ghost use Rattle.plan_commands.specs.EndsRun.{EndsHalts, EndsTexts};
 ghost use Rattle.plan_commands.specs.code.Making.{MakesOf, MakesOutcome, at_index};
 ghost use Rattle.plan_commands.specs.EndsText.{all_asked, end_lines, keeps_line, name_end_line};
-ghost use Rattle.keep_start.specs.Start.{inventory_at};
+ghost use Rattle.vault_start.specs.Start.{inventory_at};
 
 use crate::outcome::Outcome;
-use keep_moment::{Moment, Text};
-use keep_report::{Exit, Stop};
-use keep_rule::{Wake, ends_after, keeps};
-use keep_start::read_at;
-use keep_tree::{Entry, Forest, Indices};
+use base_moment::{Moment, Text};
+use plan_forest::{Entry, Forest, Indices};
+use plan_rule::{Wake, ends_after, keeps};
+use program_report::{Exit, Stop};
 use std::alloc::{AllocError, Global};
+use vault_start::read_at;
 
 /// The whole text of the command `ends`, or why there is none.
 pub(crate) fn ends_text(

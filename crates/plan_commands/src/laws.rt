@@ -7,9 +7,9 @@ ghost use Rattle.plan_commands.specs.ReachText.{OneReachText};
 ghost use Rattle.plan_commands.specs.Secrecy.{CheckSecrecy, EndsSecrecy, MarginSecrecy, PlanDatesSecrecy, PlanSecrecy, ReachSecrecy};
 
 /// The law that own certificates are accepted. What `print` writes of a decision as `plan` gave it, with the start it was
-/// planned from, is read back over the same forest, and `keep_check::check` can answer nothing but Yes. And what the command
+/// planned from, is read back over the same forest, and `plan_check::check` can answer nothing but Yes. And what the command
 /// `plan` writes of the bytes of an inventory, of exit 0 or 3, is a certificate of which the command `check` with the same
-/// bytes can say nothing but `yes`; it has at most [`MOST_CERTIFICATE`](keep_cert::MOST_CERTIFICATE) bytes, so that a file of it
+/// bytes can say nothing but `yes`; it has at most [`MOST_CERTIFICATE`](plan_certificate::MOST_CERTIFICATE) bytes, so that a file of it
 /// does not pass the limit.
 pub fn own_certificates_are_accepted()
     ensures printed { OwnCertificateLaw }

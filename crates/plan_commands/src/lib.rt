@@ -29,7 +29,6 @@ mod renewed;
 pub use check::run_check;
 pub use command::{Command, obey, tell_unread};
 pub use ends::run_ends;
-pub use keep_plan::LIMIT;
 pub use laws::{
     bound_law, no_secret_shows, own_certificates_are_accepted, secrets_change_no_run, short_law,
     until_law,
@@ -37,4 +36,5 @@ pub use laws::{
 pub use margin::{MarginQuery, run_margin};
 pub use plan::run_plan;
 pub use plan_dates::run_plan_dates;
+pub use plan_search::LIMIT;
 pub use reach::run_reach;

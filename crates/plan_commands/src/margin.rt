@@ -2,9 +2,9 @@ ghost use Rattle.plan_commands.specs.MarginRun.{MarginRun};
 
 use crate::deliver::deliver;
 use crate::margin_text::margin_text;
-use keep_device::{Sink, Watched};
-use keep_moment::Moment;
-use keep_report::Exit;
+use base_device::{Sink, Watched};
+use base_moment::Moment;
+use program_report::Exit;
 use std::alloc::Global;
 
 /// What `margin` is asked.
@@ -24,13 +24,13 @@ pub struct MarginQuery {
 /// is the greatest margin from 1 to 3600 seconds and less than each step with which the least plan has at most so many
 /// wake-ups. Without `most_wakes` two lines, that of the inventory's own margin, and that of the widest with which the least
 /// plan has no more wake-ups; with it the line of the widest with at most so many, where more than
-/// [`LIMIT`](keep_plan::LIMIT) count as that. With `renewed` the ends are those that one wake-up at the start leaves which
+/// [`LIMIT`](plan_search::LIMIT) count as that. With `renewed` the ends are those that one wake-up at the start leaves which
 /// asks every entry, each granted by the inventory's own margin.
 ///
 /// Exit 3, with a line `unkeepable ENTRY NEEDED`: no plan keeps with a margin of 1; or, without `most_wakes`, none does with
 /// the inventory's own, and then the pair is that of its own margin. Exit 3, with the line `none`: some plan keeps with a
 /// margin of 1, and with no margin by so few wake-ups. Exit 5, without `most_wakes`: some plan keeps with the inventory's
-/// own margin, and each that does has more than [`LIMIT`](keep_plan::LIMIT) wake-ups.
+/// own margin, and each that does has more than [`LIMIT`](plan_search::LIMIT) wake-ups.
 ///
 /// The inventory is judged first (exit 1). The whole text is made before the first write, so exits but 0, 3 and 6 leave
 /// `out` untouched; 7 does but for a sink in memory that itself wants memory. Exit 6 comes only where a write of `out`

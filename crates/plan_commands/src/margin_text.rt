@@ -1,26 +1,26 @@
 ghost use Rattle.std.specs.Prelude.{◌≡◌, ◌≤◌, ◌++◌, IfOk, None, OnOk, Some};
 ghost use Rattle.std.specs.Result.{IfErr};
-ghost use Rattle.keep_rule.specs.declared.limit.TheConstants.{LIMIT};
-ghost use Rattle.keep_plan.specs.Widest.{IsFewest, IsWidest};
-ghost use Rattle.keep_report.specs.declared.exit.Exit.TheVariants as exits;
-ghost use Rattle.keep_report.specs.declared.stop.Stop.TheVariants.{Memory};
+ghost use Rattle.plan_rule.specs.declared.limit.TheConstants.{LIMIT};
+ghost use Rattle.plan_search.specs.Widest.{IsFewest, IsWidest};
+ghost use Rattle.program_report.specs.declared.exit.Exit.TheVariants as exits;
+ghost use Rattle.program_report.specs.declared.stop.Stop.TheVariants.{Memory};
 ghost use Rattle.plan_commands.specs.code.Making.{MakesOf, MakesOutcome};
 ghost use Rattle.plan_commands.specs.code.MarginMaking.{HaltsFrom, TextsFrom};
 ghost use Rattle.plan_commands.specs.MarginRun.{MarginHalts, MarginTexts};
 ghost use Rattle.plan_commands.specs.MarginText.{AreOwnAndWidest, IsWidestLine, asked_about, margin_line};
-ghost use Rattle.keep_start.specs.Start.{inventory_at};
+ghost use Rattle.vault_start.specs.Start.{inventory_at};
 
 use crate::margin::MarginQuery;
 use crate::no_margin::{no_margin, unkeepable_line};
 use crate::outcome::Outcome;
 use crate::renewed::renew_all;
-use keep_moment::{Moment, Text};
-use keep_plan::{Decision, LIMIT, PlanFault, Shortfall, Widest, plan, widest_margin};
-use keep_report::{Exit, Stop};
-use keep_start::read_at;
-use keep_tree::Forest;
-use keep_words::push_number;
+use base_moment::{Moment, Text};
+use base_words::push_number;
+use plan_forest::Forest;
+use plan_search::{Decision, LIMIT, PlanFault, Shortfall, Widest, plan, widest_margin};
+use program_report::{Exit, Stop};
 use std::alloc::{AllocError, Global};
+use vault_start::read_at;
 
 /// The whole text of the command `margin`, or why there is none.
 pub(crate) fn margin_text(
@@ -68,7 +68,7 @@ fn answer(
 }
 
 /// The text where it is not said how many wake-ups may be spent.
-#[tactic(auto, using(keep_cert::proofs::Printing::decided_is_of))]
+#[tactic(auto, using(plan_certificate::proofs::Printing::decided_is_of))]
 fn own_and_widest(alloc: Global, forest: &mut Forest, start: Moment) -> Result<Outcome, Stop>
     ensures { MakesOf (TextsFrom start None) (HaltsFrom start None) forest.old result }
 {

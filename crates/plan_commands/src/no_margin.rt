@@ -1,17 +1,17 @@
 ghost use Rattle.std.specs.Prelude.{◌≡◌, ◌<◌, IfOk, MatchOption, length};
 ghost use Rattle.std.specs.Result.{IfErr};
-ghost use Rattle.keep_plan.specs.Decides.{SomeKeeps};
-ghost use Rattle.keep_cert.specs.CertificateText.{unkeepable_text};
-ghost use Rattle.keep_report.specs.declared.stop.Stop.TheVariants.{Memory};
+ghost use Rattle.plan_search.specs.Decides.{SomeKeeps};
+ghost use Rattle.plan_certificate.specs.CertificateText.{unkeepable_text};
+ghost use Rattle.program_report.specs.declared.stop.Stop.TheVariants.{Memory};
 ghost use Rattle.plan_commands.specs.code.MarginMaking.{IsPair, IsRefusal};
 ghost use Rattle.plan_commands.specs.MarginText.{with_least};
 
 use crate::outcome::Outcome;
-use keep_moment::{Moment, Text};
-use keep_needs::{NeedsFault, carry};
-use keep_plan::{Shortfall, shortfall};
-use keep_report::{Exit, Stop};
-use keep_tree::Forest;
+use base_moment::{Moment, Text};
+use plan_forest::Forest;
+use plan_needs::{NeedsFault, carry};
+use plan_search::{Shortfall, shortfall};
+use program_report::{Exit, Stop};
 use std::alloc::{AllocError, Global};
 
 /// The text for no margin: the pair that no plan keeps even with the least margin, or where there is none, the other text.
@@ -68,7 +68,7 @@ fn pair_of(alloc: Global, forest: &Forest, start: Moment) -> Result<Option<Short
 }
 
 /// `unkeepable ENTRY NEEDED` and a line feed.
-#[tactic(auto, unfolding(keep_cert::specs::CertificateText::unkeepable_text, keep_cert::specs::CertificateText::line_text, keep_cert::specs::CertificateText::name_of_entry))]
+#[tactic(auto, unfolding(plan_certificate::specs::CertificateText::unkeepable_text, plan_certificate::specs::CertificateText::line_text, plan_certificate::specs::CertificateText::name_of_entry))]
 pub(crate) fn unkeepable_line(
     alloc: Global,
     forest: &Forest,

@@ -1,5 +1,5 @@
-use keep_moment::Text;
-use keep_report::Exit;
+use base_moment::Text;
+use program_report::Exit;
 
 /// The whole text that a run writes, and its exit once it is written.
 #[derive(Debug, Drop)]

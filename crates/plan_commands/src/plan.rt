@@ -2,9 +2,9 @@ ghost use Rattle.plan_commands.specs.PlanRun.{PlanRun};
 
 use crate::deliver::deliver;
 use crate::plan_text::plan_text;
-use keep_device::{Sink, Watched};
-use keep_moment::Moment;
-use keep_report::Exit;
+use base_device::{Sink, Watched};
+use base_moment::Moment;
+use program_report::Exit;
 use std::alloc::Global;
 
 /// The command `plan`: writes the certificate of the inventory's decision from `start` on. Exit 0: the wake-ups are least
@@ -12,7 +12,7 @@ use std::alloc::Global;
 /// certificate names the pair.
 ///
 /// The inventory is judged first (exit 1). Exit 5: some plan keeps, and each that does has more than
-/// [`LIMIT`](keep_plan::LIMIT) wake-ups. The whole text is made before the first write, so these exits leave `out`
+/// [`LIMIT`](plan_search::LIMIT) wake-ups. The whole text is made before the first write, so these exits leave `out`
 /// untouched; so does 7, but for a sink in memory that itself wants memory. Exit 6 comes only where a write of `out`
 /// failed. The exits 2 and 4 never come.
 ///

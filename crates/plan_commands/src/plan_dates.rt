@@ -2,13 +2,13 @@ ghost use Rattle.plan_commands.specs.PlanDates.{PlanDatesRun};
 
 use crate::deliver::deliver;
 use crate::plan_dates_text::plan_dates_text;
-use keep_device::{Sink, Watched};
-use keep_moment::Moment;
-use keep_report::Exit;
+use base_device::{Sink, Watched};
+use base_moment::Moment;
+use program_report::Exit;
 use std::alloc::Global;
 
 /// The command `plan --dates`: writes what [`run_plan`](crate::run_plan) writes, for people: its lines after the first, with each
-/// moment as a date. `keep_check` reads no such text.
+/// moment as a date. `plan_check` reads no such text.
 ///
 /// Its exits are those of `run_plan`, and come where they come there.
 ///

@@ -1,10 +1,10 @@
 ghost use Rattle.std.specs.Prelude.{◌≡◌, ◌<◌, ◌++◌, ◌∷◌, [], All, IfOk, OnOk, decimal, length};
 ghost use Rattle.std.specs.Result.{IfErr};
-ghost use Rattle.keep_rule.specs.Runs.{IsAmong, wake_count};
-ghost use Rattle.keep_cert.specs.CertificateText.{end_line_text, name_of_entry, unkeepable_text};
-ghost use Rattle.keep_cert.specs.Printing.{IsDecisionOver};
-ghost use Rattle.keep_report.specs.declared.stop.Stop.TheVariants.{Memory};
-ghost use Rattle.keep_start.specs.Start.{inventory_at};
+ghost use Rattle.plan_rule.specs.Runs.{IsAmong, wake_count};
+ghost use Rattle.plan_certificate.specs.CertificateText.{end_line_text, name_of_entry, unkeepable_text};
+ghost use Rattle.plan_certificate.specs.Printing.{IsDecisionOver};
+ghost use Rattle.program_report.specs.declared.stop.Stop.TheVariants.{Memory};
+ghost use Rattle.vault_start.specs.Start.{inventory_at};
 ghost use Rattle.plan_commands.specs.code.Making.{DatesOf, MakesOf, MakesOutcome};
 ghost use Rattle.plan_commands.specs.PlanRun.{PlanHalts};
 ghost use Rattle.plan_commands.specs.PlanDates.{AreRunLines, AreRunsInDates, IsPairInDates, IsRunLine, PlanDatesTexts, run_line, start_line};
@@ -12,14 +12,14 @@ ghost use Rattle.plan_commands.specs.PlanDates.{AreRunLines, AreRunsInDates, IsP
 use crate::outcome::Outcome;
 use crate::plan_text::decided_exit;
 use crate::reach_text::moment_word;
-use keep_moment::{Moment, Text};
-use keep_plan::{Decision, PlanFault, plan};
-use keep_report::Stop;
-use keep_rule::Run;
-use keep_start::read_at;
-use keep_tree::Forest;
-use keep_words::push_number;
+use base_moment::{Moment, Text};
+use base_words::push_number;
+use plan_forest::Forest;
+use plan_rule::Run;
+use plan_search::{Decision, PlanFault, plan};
+use program_report::Stop;
 use std::alloc::{AllocError, Global};
+use vault_start::read_at;
 
 /// The whole text of the command `plan --dates` with its exit, or why there is none.
 pub(crate) fn plan_dates_text(
@@ -34,7 +34,7 @@ pub(crate) fn plan_dates_text(
 }
 
 /// The text of a forest's decision, from its names and numbers alone.
-#[tactic(auto, using(keep_cert::proofs::Printing::decided_is_of, crate::proofs::Dated::dated_text, crate::proofs::Dated::dated_stop))]
+#[tactic(auto, using(plan_certificate::proofs::Printing::decided_is_of, crate::proofs::Dated::dated_text, crate::proofs::Dated::dated_stop))]
 fn decision_in_dates(alloc: Global, forest: &Forest, start: Moment) -> Result<Outcome, Stop>
     ensures { MakesOf (PlanDatesTexts start) (PlanHalts start) forest.now result }
 {
@@ -53,7 +53,7 @@ fn decision_in_dates(alloc: Global, forest: &Forest, start: Moment) -> Result<Ou
 }
 
 /// The text of a decision, which has the indices of the forest. `TooLong`, where that is the decision; `Memory`.
-#[tactic(auto, using(keep_cert::proofs::Printing::counted_wakes))]
+#[tactic(auto, using(plan_certificate::proofs::Printing::counted_wakes))]
 fn dates_of(
     alloc: Global,
     forest: &Forest,
@@ -135,7 +135,7 @@ fn run_line(alloc: Global, forest: &Forest, run: Run) -> Result<Text, Stop>
     Ok(spell_run(alloc, forest, run, date.list())?)
 }
 
-#[tactic(auto, unfolding(crate::specs::PlanDates::start_line, keep_cert::specs::CertificateText::line_text, keep_cert::specs::CertificateText::end_line_text))]
+#[tactic(auto, unfolding(crate::specs::PlanDates::start_line, plan_certificate::specs::CertificateText::line_text, plan_certificate::specs::CertificateText::end_line_text))]
 fn spell_runs(alloc: Global, date: &[u8], lines: &[u8], count: u64) -> Result<Text, AllocError>
     ensures { IfOk result (λ text. text ≡ start_line date.now ++ (lines.now ++ end_line_text count)) }
 {
@@ -148,7 +148,7 @@ fn spell_runs(alloc: Global, date: &[u8], lines: &[u8], count: u64) -> Result<Te
     Ok(Text::from_vec(text))
 }
 
-#[tactic(auto, unfolding(keep_cert::specs::CertificateText::line_text, keep_cert::specs::CertificateText::unkeepable_text))]
+#[tactic(auto, unfolding(plan_certificate::specs::CertificateText::line_text, plan_certificate::specs::CertificateText::unkeepable_text))]
 fn spell_pair(
     alloc: Global,
     forest: &Forest,
@@ -167,7 +167,7 @@ fn spell_pair(
     Ok(Text::from_vec(text))
 }
 
-#[tactic(auto, unfolding(crate::specs::PlanDates::run_line, keep_cert::specs::CertificateText::line_text, keep_cert::specs::CertificateText::name_of_entry))]
+#[tactic(auto, unfolding(crate::specs::PlanDates::run_line, plan_certificate::specs::CertificateText::line_text, plan_certificate::specs::CertificateText::name_of_entry))]
 fn spell_run(alloc: Global, forest: &Forest, run: Run, date: &[u8]) -> Result<Text, AllocError>
     requires { IsAmong (length forest.now.entries) run }
     ensures { IfOk result (λ line. line ≡ run_line forest.now.entries run date.now) }
@@ -183,7 +183,7 @@ fn spell_run(alloc: Global, forest: &Forest, run: Run, date: &[u8]) -> Result<Te
 }
 
 /// Appends `start DATE` and a line feed.
-#[tactic(auto, unfolding(crate::specs::PlanDates::start_line, keep_cert::specs::CertificateText::line_text))]
+#[tactic(auto, unfolding(crate::specs::PlanDates::start_line, plan_certificate::specs::CertificateText::line_text))]
 fn push_start(date: &[u8], text: &mut Vec<u8>) -> Result<(), AllocError>
     ensures { OnOk result (text.new.items ≡ text.old.items ++ start_line date.now) }
 {
@@ -203,7 +203,7 @@ fn push_spaced(alloc: Global, number: u64, text: &mut Vec<u8>) -> Result<(), All
 }
 
 /// Appends two names, the last words of a line, and its line feed.
-#[tactic(auto, unfolding(keep_cert::specs::CertificateText::name_of_entry))]
+#[tactic(auto, unfolding(plan_certificate::specs::CertificateText::name_of_entry))]
 fn push_pair(forest: &Forest, entry: u32, needed: u32, text: &mut Vec<u8>) -> Result<(), AllocError>
     requires entry { entry < length forest.now.entries }
     requires needed { needed < length forest.now.entries }

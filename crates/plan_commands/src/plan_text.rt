@@ -1,16 +1,16 @@
 ghost use Rattle.std.specs.Prelude.{◌≡◌};
 ghost use Rattle.plan_commands.specs.code.Making.{MakesOf, MakesOutcome, decided_exit};
 ghost use Rattle.plan_commands.specs.PlanRun.{PlanHalts, PlanTexts};
-ghost use Rattle.keep_start.specs.Start.{inventory_at};
+ghost use Rattle.vault_start.specs.Start.{inventory_at};
 
 use crate::outcome::Outcome;
-use keep_cert::{PrintFault, print};
-use keep_moment::Moment;
-use keep_plan::{Decision, PlanFault, plan};
-use keep_report::{Exit, Stop};
-use keep_start::read_at;
-use keep_tree::Forest;
+use base_moment::Moment;
+use plan_certificate::{PrintFault, print};
+use plan_forest::Forest;
+use plan_search::{Decision, PlanFault, plan};
+use program_report::{Exit, Stop};
 use std::alloc::Global;
+use vault_start::read_at;
 
 /// The certificate of an inventory's decision with its exit, or why there is none.
 pub(crate) fn plan_text(alloc: Global, inventory: &[u8], start: Moment) -> Result<Outcome, Stop>
@@ -21,7 +21,7 @@ pub(crate) fn plan_text(alloc: Global, inventory: &[u8], start: Moment) -> Resul
 }
 
 /// The certificate of a forest's decision, from its names and numbers alone.
-#[tactic(auto, using(keep_cert::proofs::Printing::decided_is_of, crate::proofs::Delivered::decided_text, crate::proofs::Delivered::decided_long))]
+#[tactic(auto, using(plan_certificate::proofs::Printing::decided_is_of, crate::proofs::Delivered::decided_text, crate::proofs::Delivered::decided_long))]
 fn certificate(alloc: Global, forest: &Forest, start: Moment) -> Result<Outcome, Stop>
     ensures { MakesOf (PlanTexts start) (PlanHalts start) forest.now result }
 {

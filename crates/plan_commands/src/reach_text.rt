@@ -1,23 +1,23 @@
 ghost use Rattle.std.specs.Prelude.{◌≡◌, ◌<◌, ◌++◌, IfOk, OnOk, decimal, length, replicate};
 ghost use Rattle.std.specs.Result.{IfErr};
-ghost use Rattle.keep_report.specs.declared.stop.Stop.TheVariants.{Memory};
+ghost use Rattle.program_report.specs.declared.stop.Stop.TheVariants.{Memory};
 ghost use Rattle.plan_commands.specs.code.Making.{MakesOf, MakesOutcome};
 ghost use Rattle.plan_commands.specs.ReachRun.{ReachTexts};
 ghost use Rattle.plan_commands.specs.EndsText.{keeps_line};
 ghost use Rattle.plan_commands.specs.ReachText.{AreReachLines, IsMomentWord, IsNeedWord, IsReachLine, IsUntilWord, SaysWhetherKept, column, columns, four_word_line, head, is_short, line_end, padded, widest, word_line};
 ghost use Rattle.plan_commands.specs.Running.{NoHalts};
-ghost use Rattle.keep_start.specs.Start.{inventory_at};
+ghost use Rattle.vault_start.specs.Start.{inventory_at};
 
 use crate::bound::bound_of;
 use crate::ends_text::keeps_line;
 use crate::outcome::Outcome;
-use keep_moment::{Moment, Text, date_text};
-use keep_needs::{NeedsFault, carry};
-use keep_plan::shortfall;
-use keep_report::{Exit, Stop};
-use keep_start::read_at;
-use keep_tree::Forest;
+use base_moment::{Moment, Text, date_text};
+use plan_forest::Forest;
+use plan_needs::{NeedsFault, carry};
+use plan_search::shortfall;
+use program_report::{Exit, Stop};
 use std::alloc::{AllocError, Global};
+use vault_start::read_at;
 
 /// As wide as a date.
 const DATE_WIDTH: usize = 20;

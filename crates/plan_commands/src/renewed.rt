@@ -1,14 +1,14 @@
 ghost use Rattle.std.specs.Prelude.{◌≡◌, ◌<◌, ◌≤◌, ◌^◌, length};
-ghost use Rattle.keep_moment.specs.declared.moment.TheConstants.{LAST};
-ghost use Rattle.keep_tree.specs.declared.forest.TheConstants.{END_MAX};
-ghost use Rattle.keep_tree.specs.Forest.{end_of};
-ghost use Rattle.keep_tree.specs.Push.{IsForest};
-ghost use Rattle.keep_tree.specs.Renewal.{renewed};
+ghost use Rattle.base_moment.specs.declared.moment.TheConstants.{LAST};
+ghost use Rattle.plan_forest.specs.declared.forest.TheConstants.{END_MAX};
+ghost use Rattle.plan_forest.specs.Forest.{end_of};
+ghost use Rattle.plan_forest.specs.Push.{IsForest};
+ghost use Rattle.plan_forest.specs.Renewal.{renewed};
 ghost use Rattle.plan_commands.specs.Renewed.{all_renewed};
 
-use keep_moment::Moment;
-use keep_rule::granted_end;
-use keep_tree::Forest;
+use base_moment::Moment;
+use plan_forest::Forest;
+use plan_rule::granted_end;
 
 /// Gives every entry the end that a request for it at `at` leaves, all judged by the ends before. By falling index, what is
 /// over an entry has its old end when the entry's turn comes.

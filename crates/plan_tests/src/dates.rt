@@ -1,5 +1,5 @@
 use crate::rows::each;
-use keep_moment::{Moment, TimeFault, date_text, read_rfc3339};
+use base_moment::{Moment, TimeFault, date_text, read_rfc3339};
 use std::alloc::Global;
 use std::test::Fail;
 

@@ -1,6 +1,6 @@
 use crate::rows::{LEASE, Row, WEB, entry_of};
-use keep_moment::LAST;
-use keep_tree::{END_MAX, Ends, Forest, Indices, Kind, TreeFault};
+use base_moment::LAST;
+use plan_forest::{END_MAX, Ends, Forest, Indices, Kind, TreeFault};
 use std::alloc::{AllocError, Global};
 use std::test::Fail;
 

@@ -2,10 +2,10 @@
 //! order, and the forces of its plan.
 
 use crate::rows::{LEASE, Row, TOKEN, WEB, each, forest_of, moment};
-use keep_core::{Event, Keeper, Output, StepFault};
-use keep_tree::Forest;
+use plan_forest::Forest;
 use std::alloc::{AllocError, Global};
 use std::test::Fail;
+use tick_keeper::{Event, Keeper, Output, StepFault};
 
 // What is answered to an event.
 #[derive(Clone, Copy)]

@@ -1,5 +1,5 @@
 use crate::rows::{LEASE, Row, WEB, each, forest_of, moment};
-use keep_needs::carry;
+use plan_needs::carry;
 use std::alloc::Global;
 use std::test::Fail;
 

@@ -2,8 +2,8 @@
 
 ghost use Rattle.std.specs.Prelude.{◌≤◌};
 
-use keep_moment::{Moment, Name};
-use keep_tree::{Entry, Forest, Kind};
+use base_moment::{Moment, Name};
+use plan_forest::{Entry, Forest, Kind};
 use std::alloc::{AllocError, Global};
 use std::process::Abort;
 use std::test::Fail;

@@ -1,10 +1,10 @@
 ghost use Rattle.std.specs.Prelude.{◌≤◌};
 
 use crate::rows::{LEASE, Row, TOKEN, WEB, each, forest_of, moment};
-use keep_needs::carry;
-use keep_plan::shortfall;
-use keep_schedule::{QueueSchedule, ScanSchedule, Schedule};
-use keep_tree::Kind;
+use plan_forest::Kind;
+use plan_needs::carry;
+use plan_schedule::{QueueSchedule, ScanSchedule, Schedule};
+use plan_search::shortfall;
 use std::alloc::{AllocError, Global};
 use std::test::Fail;
 

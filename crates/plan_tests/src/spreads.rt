@@ -1,5 +1,5 @@
 use crate::rows::{Row, WEB, each, forest_of};
-use keep_spread::{margin_with, part_of};
+use plan_spread::{margin_with, part_of};
 use std::alloc::Global;
 use std::test::Fail;
 

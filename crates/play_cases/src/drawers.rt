@@ -1,10 +1,10 @@
 //! Files of credentials in memory, of which the calls are counted.
 ghost use Rattle.std.specs.Prelude.{◌≤◌, IfOk, length};
 
-use keep_device::InputFault;
-use keep_files::Inputs;
-use keep_moment::Text;
-use keep_secrets::{FileStamp, SecretFiles};
+use base_device::InputFault;
+use base_files::Inputs;
+use base_moment::Text;
+use state_secrets::{FileStamp, SecretFiles};
 use std::alloc::{AllocError, Global};
 
 /// A file of a credential.

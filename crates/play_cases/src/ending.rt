@@ -1,5 +1,5 @@
 //! How an agent ends before it is started again, and what its disk has then.
-use keep_disk::{MemoryDisk, Stored};
+use base_disk::{MemoryDisk, Stored};
 use std::alloc::{AllocError, Global};
 
 /// How it ends.

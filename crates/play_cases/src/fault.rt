@@ -1,4 +1,4 @@
-use keep_device::InputFault;
+use base_device::InputFault;
 use std::alloc::{AllocError, AllocFailed};
 use std::{fmt, io};
 

@@ -5,12 +5,12 @@ use crate::fault::Fault;
 use crate::places::put;
 use crate::steps::Step;
 use crate::words::{answer, failing, lane_fault, number, readings, small};
-use keep_clock::Reading;
-use keep_disk::{Failing, Held, MemoryDisk, Stored, Why};
-use keep_lanes::NumberedFault;
-use keep_log::{Answer, Form};
+use base_clock::Reading;
+use base_disk::{Failing, Held, MemoryDisk, Stored, Why};
+use base_log::{Answer, Form};
 use std::alloc::{AllocError, Global};
 use std::mem;
+use vault_lanes::NumberedFault;
 
 /// The inventory's file.
 pub const FILE: &str = "web.toml";

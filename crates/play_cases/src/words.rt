@@ -1,9 +1,9 @@
 //! What the words of steps say; each has the fault of a step of which it cannot be read.
 use crate::fault::Fault;
-use keep_clock::Reading;
-use keep_disk::Failing;
-use keep_lanes::LaneFault;
-use keep_log::Answer;
+use base_clock::Reading;
+use base_disk::Failing;
+use base_log::Answer;
+use vault_lanes::LaneFault;
 
 /// A number.
 pub fn number(word: &str, unread: Fault) -> Result<u64, Fault> {

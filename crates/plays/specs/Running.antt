@@ -1,7 +1,7 @@
 -- Running: an agent beside its lanes.
 -- Source: this project's own.
 use Rattle.broker_lanes.specs.InMemory.{InMemory}
-use Rattle.keep_serving.specs.Held.{Held}
+use Rattle.agent_turns.specs.Held.{Held}
 
 -- what the agent holds between two turns, and the lanes
 pub record Both : Type 0 where

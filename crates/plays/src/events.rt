@@ -2,8 +2,8 @@
 use crate::guests::{Peer, guest_named};
 use crate::play::{Play, Told};
 use crate::running::Running;
-use keep_tree::Forest;
-use keep_words::push_number;
+use base_words::push_number;
+use plan_forest::Forest;
 use play_cases::{Fault, Setting, Step, lane_fault, number, put_file};
 use std::alloc::{AllocError, Global};
 use watch_machine::{Operation, Out};

@@ -1,13 +1,13 @@
 //! Guests of a play, and the door that lets them in: what each does is said beforehand, and what it was sent is seen after it.
 ghost use Rattle.std.specs.Prelude.{◌≤◌, ◌≡◌, length};
 
-use keep_clients::{Door, Entrance, Talk};
-use keep_device::{InputFault, Tried};
-use keep_files::Inputs;
-use keep_moment::Text;
-use keep_secrets::{FileStamp, SecretFiles};
+use agent_run::Doors;
+use base_clients::{Door, Entrance, Talk};
+use base_device::{InputFault, Tried};
+use base_files::Inputs;
+use base_moment::Text;
 use play_cases::{Fault, Step, number};
-use serve_run::Doors;
+use state_secrets::{FileStamp, SecretFiles};
 use std::alloc::{AllocError, Global};
 use std::cell::Cell;
 use std::collections::VecDeque;

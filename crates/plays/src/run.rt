@@ -1,6 +1,6 @@
 use crate::play::outcomes_of;
 use crate::sweeps::{Disturbance, swept};
-use keep_device::{Counted, read_all};
+use base_device::{Counted, read_all};
 use play_cases::{Case, Fault, read_case};
 use std::alloc::Global;
 use std::io::{self, Read, Write as _};

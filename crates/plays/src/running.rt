@@ -3,17 +3,17 @@ ghost use Rattle.std.specs.Prelude.{◌≡◌, []};
 
 use crate::guests::PeerDoors;
 use crate::starts::{MemoryDay, MemoryLedger, MemoryParts};
+use agent_run::{Begun, begin};
+use agent_standing::Agent;
+use agent_start::Start;
+use agent_turns::{Neighbours, Serving};
+use base_clock::{Clock, Reading};
 pub use broker_lanes::MemoryLanes;
-use keep_agent::Agent;
-use keep_clock::{Clock, Reading};
-use keep_lanes::{LaneFault, Lanes};
-use keep_serving::{Neighbours, Serving};
-use leasekeep_commands::Served;
 use play_cases::{Fault, put};
-use serve_run::{Begun, begin};
-use serve_start::Start;
+use program_commands::Served;
 use std::alloc::{AllocError, Global};
 use std::marker::Model;
+use vault_lanes::{LaneFault, Lanes};
 
 /// Lanes to the broker, and the agent that has them, once it is started.
 #[derive(Drop)]
@@ -24,7 +24,7 @@ pub struct Running {
 
 impl Model for Running {
     ghost use Rattle.std.specs.Prelude.{IfSome, Option};
-    ghost use Rattle.keep_serving.specs.Held.{Held, IsInStep};
+    ghost use Rattle.agent_turns.specs.Held.{Held, IsInStep};
 
     ghost Value = { Option Held };
 

@@ -1,8 +1,8 @@
 //! A case that is played again and again, where each time another call fails, and how its outcomes then differ.
 use crate::play::outcomes_of;
-use keep_disk::Failing;
-use keep_log::Answer;
-use keep_words::push_number;
+use base_disk::Failing;
+use base_log::Answer;
+use base_words::push_number;
 use play_cases::{Case, Fault, Setting, answer, number};
 use std::alloc::{AllocError, Global};
 

@@ -1,7 +1,7 @@
 // What is shown of records and rows: their name, and never their credential.
 
-use keep_change::{Record, Rows, What, read_record};
-use keep_moment::Text;
+use base_moment::Text;
+use state_changes::{Record, Rows, What, read_record};
 use std::alloc::{AllocError, Global};
 use std::test::Fail;
 

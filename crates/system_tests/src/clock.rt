@@ -1,5 +1,5 @@
 //! The clocks of the system, and a wait that a neighbour ends.
-use keep_clock::{Clock, SystemClock};
+use base_clock::{Clock, SystemClock};
 use mio::net::UnixStream;
 use mio::{Interest, Token};
 use std::io::{Read, Write};

@@ -1,6 +1,6 @@
 //! The calls of the disks of the system, each once, in the folder in which the tests run.
 
-use keep_disk::{Disk, DiskFault, FILE_MODE, SystemDisk, Why, replace};
+use base_disk::{Disk, DiskFault, FILE_MODE, SystemDisk, Why, replace};
 use std::fs;
 use std::test::Fail;
 

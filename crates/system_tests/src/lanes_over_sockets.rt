@@ -1,14 +1,14 @@
 //! A lane over a real socket, whose peer listens in the same thread and answers nothing. (That answers come over sockets, and to whom,
 //! tests/end-to-end-serve shows.)
 use crate::renewals::{Comes, is, send};
-use keep_clock::{Clock, SystemClock};
-use keep_device::{Counted, Place, read_all};
-use keep_lanes::{Answered, Lanes, LanesOver, Loss};
+use base_clock::{Clock, SystemClock};
+use base_device::{Counted, Place, read_all};
 use std::alloc::Global;
 use std::io::Read;
 use std::net::{IpAddr, Ipv4Addr, OpenListener, SocketAddr, TcpListener};
 use std::process::Abort;
 use std::test::Fail;
+use vault_lanes::{Answered, Lanes, LanesOver, Loss};
 
 /// Somebody who listens at a port that the system chooses, and the port.
 fn listener(rt: &HostRuntime) -> Result<(TcpListener, u16), Fail> {

@@ -1,11 +1,11 @@
 //! Lanes over connections of a play: silent, slow, dripping and broken peers.
 use crate::renewals::{Comes, is, send, token_of};
 use crate::wires::{End, Part, Wired};
-use keep_lanes::{Answered, Lanes, LanesOver, Loss};
 use std::alloc::{AllocError, Global};
 use std::cell::Cell;
 use std::process::Abort;
 use std::test::Fail;
+use vault_lanes::{Answered, Lanes, LanesOver, Loss};
 
 /// A peer that answers the renewal for the index 4 at once.
 fn prompt() -> Part {

@@ -1,13 +1,13 @@
 //! How long exchanges wait, over a network that is none. (In real time, and where no connection is taken: tests/end-to-end-live.)
 use crate::network::{Books, Network, PORT, Peer};
 use crate::renewals::{renewal, token_of};
-use keep_exchange::{Exchange, ExchangeFault, TcpExchange, can_carry};
-use keep_moment::Moment;
+use base_moment::Moment;
 use std::alloc::{AllocError, Global};
 use std::process::Abort;
 use std::rc::Rc;
 use std::test::Fail;
 use std::time::Duration;
+use vault_exchange::{Exchange, ExchangeFault, TcpExchange, can_carry};
 use vault_http::{HttpFault, Request};
 
 #[derive(Clone, Copy)]

@@ -1,10 +1,10 @@
 //! Renewals of two tokens, and what may come of them.
+use base_moment::{Moment, Text};
 use http::Method;
-use keep_exchange::can_carry;
-use keep_lanes::{Answered, Ask, Lanes, Loss};
-use keep_moment::{Moment, Text};
 use std::alloc::{AllocError, Global};
+use vault_exchange::can_carry;
 use vault_http::Request;
+use vault_lanes::{Answered, Ask, Lanes, Loss};
 
 /// A token, the body that asks for its renewal, and the one that grants it; and the whole texts of both (docs/http.md).
 pub(crate) struct Token {

@@ -1,8 +1,8 @@
 //! Connections of a play, in the time of its clock.
-use keep_device::Tried;
-use keep_lanes::{Line, Wires};
+use base_device::Tried;
 use std::alloc::Global;
 use std::cell::Cell;
+use vault_lanes::{Line, Wires};
 
 /// What a peer does with one connection. Moments are milliseconds from the play's begin.
 #[derive(Clone, Copy, Debug)]

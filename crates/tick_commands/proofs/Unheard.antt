@@ -1,14 +1,14 @@
 -- Unheard: a rehearsal for whose exchange memory was wanting.
 use Rattle.std.proofs.Common.{◌≡◌, ◌∙◌, ℕ, List, [], ap, inl, subst, sym}
-use Rattle.keep_device.specs.Seen.{Change}
-use Rattle.keep_exchange.specs.Exchanges.{Behind}
-use Rattle.keep_report.specs.declared.exit.Exit.{Exit}
-use Rattle.keep_report.specs.declared.stop.Stop.{Stop}
-use Rattle.keep_report.specs.declared.stop.Stop.TheVariants as stops
-use Rattle.keep_report.specs.Exits.{exit_of}
-use Rattle.keep_report.specs.FaultLine.{line_of_stop}
-use Rattle.keep_report.specs.Sent.{IsUntouched}
-use Rattle.keep_report.specs.Told.{Reports}
+use Rattle.base_device.specs.Seen.{Change}
+use Rattle.vault_exchange.specs.Exchanges.{Behind}
+use Rattle.program_report.specs.declared.exit.Exit.{Exit}
+use Rattle.program_report.specs.declared.stop.Stop.{Stop}
+use Rattle.program_report.specs.declared.stop.Stop.TheVariants as stops
+use Rattle.program_report.specs.Exits.{exit_of}
+use Rattle.program_report.specs.FaultLine.{line_of_stop}
+use Rattle.program_report.specs.Sent.{IsUntouched}
+use Rattle.program_report.specs.Told.{Reports}
 use Rattle.tick_commands.specs.RehearseFrom.{Rehearses}
 
 nobody : Behind

@@ -1,12 +1,12 @@
 -- The command `rehearse` over its file: a rehearsal of the bytes of an inventory, over some exchange in memory.
 -- Source: this project's own.
 use Rattle.std.specs.Prelude.{ℕ, List, Option}
-use Rattle.keep_device.specs.Seen.{Change}
-use Rattle.keep_exchange.specs.Exchanges.{Behind}
-use Rattle.keep_inventory.specs.declared.limits.TheConstants.{MOST_INVENTORY}
-use Rattle.keep_report.specs.declared.exit.Exit.{Exit}
-use Rattle.keep_run.specs.Rehearse.{RehearseRun, RehearseTold}
-use Rattle.keep_start.specs.Start.{inventory_at}
+use Rattle.base_device.specs.Seen.{Change}
+use Rattle.vault_exchange.specs.Exchanges.{Behind}
+use Rattle.vault_inventory.specs.declared.limits.TheConstants.{MOST_INVENTORY}
+use Rattle.program_report.specs.declared.exit.Exit.{Exit}
+use Rattle.tick_runs.specs.Rehearse.{RehearseRun, RehearseTold}
+use Rattle.vault_start.specs.Start.{inventory_at}
 use Rattle.plan_commands.specs.From.{RunFrom}
 
 -- over the bytes, from a start on, with these FAULT words

@@ -1,7 +1,7 @@
 -- Secrecy: of two inventories that differ in their credentials alone a rehearsal writes the same.
 use Rattle.std.specs.Prelude.{ℕ, List}
-use Rattle.keep_device.specs.Seen.{Change}
-use Rattle.keep_report.specs.declared.exit.Exit.{Exit}
+use Rattle.base_device.specs.Seen.{Change}
+use Rattle.program_report.specs.declared.exit.Exit.{Exit}
 use Rattle.plan_commands.specs.Secrecy.{DifferInSecrets, RunAlike}
 use Rattle.tick_commands.specs.RehearseFrom.{Rehearses}
 

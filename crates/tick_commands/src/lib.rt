@@ -1,6 +1,6 @@
 //! The commands that go by ticks, over their files: `rehearse`, whose broker is a table in memory, and `run`, over any exchange.
 //!
-//! The contract for the program above: the file of an inventory is read, and then the command is the run of `keep_run` over its
+//! The contract for the program above: the file of an inventory is read, and then the command is the run of `tick_runs` over its
 //! bytes; a file that cannot be read is told. The law says that of two inventories that differ in credentials alone a rehearsal
 //! writes the same.
 //!

@@ -1,16 +1,16 @@
 ghost use Rattle.tick_commands.specs.LiveFrom.{LiveFrom};
 
-use keep_device::{Sink, Source, Streams, Watched};
-use keep_exchange::Exchange;
-use keep_files::Inputs;
-use keep_inventory::MOST_INVENTORY;
-use keep_moment::Moment;
-use keep_report::Exit;
-use keep_run::run_live;
+use base_device::{Sink, Source, Streams, Watched};
+use base_files::Inputs;
+use base_moment::Moment;
 use plan_commands::tell_unread;
+use program_report::Exit;
 use std::alloc::Global;
+use tick_runs::run_live;
+use vault_exchange::Exchange;
+use vault_inventory::MOST_INVENTORY;
 
-/// The command `run`: [`run_live`](keep_run::run_live) over the bytes of an inventory's file, from `start` on, with event lines
+/// The command `run`: [`run_live`](tick_runs::run_live) over the bytes of an inventory's file, from `start` on, with event lines
 /// from `streams.lines` and renewals over `exchange`.
 ///
 /// The file is read first, at most [`MOST_INVENTORY`] bytes. Exit 6, with the line of a read: it was not read to its end, or is

@@ -1,19 +1,19 @@
 ghost use Rattle.std.specs.Prelude.{◌≡◌};
 ghost use Rattle.std.specs.Result.{IfErr};
-ghost use Rattle.keep_report.specs.declared.stop.Stop.TheVariants as stops;
+ghost use Rattle.program_report.specs.declared.stop.Stop.TheVariants as stops;
 ghost use Rattle.tick_commands.specs.RehearseFrom.{RehearseFrom, Rehearses};
 
+use base_device::{Sink, Watched};
+use base_files::Inputs;
 use broker_memory::MemoryExchange;
 use broker_table::Table;
-use keep_device::{Sink, Watched};
-use keep_files::Inputs;
-use keep_inventory::{MOST_INVENTORY, read};
-use keep_report::{Exit, PROGRAM, Stop};
-use keep_run::{Script, run_rehearse};
 use plan_commands::tell_unread;
+use program_report::{Exit, PROGRAM, Stop};
 use std::alloc::Global;
+use tick_runs::{Script, run_rehearse};
+use vault_inventory::{MOST_INVENTORY, read};
 
-/// The command `rehearse`: [`run_rehearse`](keep_run::run_rehearse) by the script over the bytes of an inventory's file.
+/// The command `rehearse`: [`run_rehearse`](tick_runs::run_rehearse) by the script over the bytes of an inventory's file.
 ///
 /// The file is read first, at most [`MOST_INVENTORY`] bytes. Exit 6, with the line of a read: it was not read to its end, or is
 /// longer. Exit 7: memory for it was refused. Then `out` is untouched.

@@ -5,7 +5,7 @@ use Rattle.std.proofs.lemmas.List.{length-replicate, take-append-le, drop-append
 use Rattle.std.specs.List.{list_all}
 use Rattle.std.specs.Io.KnownBytes.{Consumes, Keeps, IsAtEnd}
 use Rattle.std.proofs.KnownBytes.{Consumes-kept}
-use Rattle.keep_device.specs.declared.limits.TheConstants.{MOST_READS}
+use Rattle.base_device.specs.declared.limits.TheConstants.{MOST_READS}
 use Rattle.vault_http.specs.declared.body.BodyFault.{BodyFault}
 use Rattle.vault_http.specs.declared.body.BodyFault.TheVariants.{TooLong, Truncated}
 use Rattle.vault_http.specs.declared.body.Partial.{Partial}

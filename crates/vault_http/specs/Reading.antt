@@ -1,11 +1,11 @@
 -- What reading a message from a source answers, and the count of failures over the reading.
 use Rattle.std.specs.Prelude.{◌≡◌, ℕ, ◌+◌, ◌≤◌, ◌⊎◌, List, Option, Some, IfSome, Result, Ok, Err}
 use Rattle.std.specs.Io.KnownBytes.{IsAtEnd}
-use Rattle.keep_device.specs.declared.one_read.MoreFault.{MoreFault}
-use Rattle.keep_device.specs.declared.one_read.MoreFault.TheVariants as more
+use Rattle.base_device.specs.declared.one_read.MoreFault.{MoreFault}
+use Rattle.base_device.specs.declared.one_read.MoreFault.TheVariants as more
 use Rattle.vault_http.specs.declared.http_fault.HttpFault.{HttpFault}
 use Rattle.vault_http.specs.declared.http_fault.HttpFault.TheVariants.{ReadFailed, TooLong, OutOfMemory}
-use Rattle.keep_device.specs.Failures.{one_more}
+use Rattle.base_device.specs.Failures.{one_more}
 use Rattle.httparse.specs.Grammar.{HasNoRequest, HasNoResponse}
 use Rattle.vault_http.specs.declared.dated_reply.DatedReply.{DatedReply}
 use Rattle.vault_http.specs.declared.reply.Reply.{Reply}
@@ -13,9 +13,9 @@ use Rattle.vault_http.specs.declared.request.Request.{Request}
 use Rattle.vault_http.specs.Dates.{IsDatedReply}
 use Rattle.vault_http.specs.Holding.{HoldsMessage, HandedNone}
 use Rattle.vault_http.specs.Messages.{IsHttpReply, IsHttpRequest}
-use Rattle.keep_device.specs.declared.limits.TheConstants.{MOST_READS}
-use Rattle.keep_device.specs.Seen.{Input}
-use Rattle.keep_device.specs.Whole.{PassesReads}
+use Rattle.base_device.specs.declared.limits.TheConstants.{MOST_READS}
+use Rattle.base_device.specs.Seen.{Input}
+use Rattle.base_device.specs.Whole.{PassesReads}
 
 -- a read that gave nothing, as the fault of the message
 abbrev pub more_fault : MoreFault → HttpFault

@@ -8,7 +8,7 @@ ghost use Rattle.vault_http.specs.Verdicts.{VerdictIsDone, IfDone, IfMore};
 use crate::chunk::judge_chunks;
 use crate::framing::Framing;
 use crate::verdict::Verdict;
-use keep_moment::Text;
+use base_moment::Text;
 use std::alloc::{AllocError, Global};
 
 /// Why a body was not read.

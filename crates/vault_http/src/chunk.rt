@@ -12,7 +12,7 @@ use crate::body::{BodyFault, Partial};
 use crate::first_bytes::front_of;
 use crate::framing::number_of;
 use crate::verdict::Verdict;
-use keep_moment::Text;
+use base_moment::Text;
 
 /// The most digits of a size.
 const MOST_DIGITS: usize = 8;

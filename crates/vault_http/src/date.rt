@@ -5,10 +5,10 @@ ghost use Rattle.vault_http.specs.Dates.{IsDateOfHead, date_in};
 
 use crate::found_head::MOST_FIELDS;
 use crate::named_field::{Lone, lone_value};
+use base_moment::Moment;
 use httparse::Status;
 use httparse::spans::{EMPTY_HEADER_SPAN, HeaderSpan, parse_response};
 use httpdate::HttpDate;
-use keep_moment::Moment;
 
 /// The moment that the field `Date` of the head at the front tells, if it tells one.
 pub(crate) fn date_of(front: &[u8]) -> Option<Moment>

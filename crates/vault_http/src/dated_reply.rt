@@ -11,7 +11,7 @@ use crate::framing::{Framing, LengthFault};
 use crate::message::{Head, Message};
 use crate::reply_message::found_reply;
 use crate::{HttpFault, Reply};
-use keep_moment::{Moment, Text};
+use base_moment::{Moment, Text};
 use std::alloc::Global;
 
 /// A reply of the broker, and when it says that it was made.

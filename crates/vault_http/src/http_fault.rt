@@ -5,7 +5,7 @@ ghost use Rattle.vault_http.specs.Reading.{more_fault};
 
 use crate::body::BodyFault;
 use crate::framing::LengthFault;
-use keep_device::MoreFault;
+use base_device::MoreFault;
 use std::alloc::AllocError;
 use thiserror::Error;
 

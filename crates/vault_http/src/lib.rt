@@ -1,4 +1,4 @@
-//! The messages of HTTP/1.1 over the devices of `keep_device`, whose names are given out here too.
+//! The messages of HTTP/1.1 over the devices of `base_device`, whose names are given out here too.
 //!
 //! The contract for the layers above: what [`write_request`] and [`write_reply`] append is one definition's text
 //! (`specs/Written.antt`), and what [`read_request`] and [`read_reply`] answer is one relation between all the bytes and
@@ -30,13 +30,13 @@ mod verdict;
 mod writing;
 
 pub use arriving::Arriving;
-pub use dated_reply::DatedReply;
-pub use found_head::MOST_FIELDS;
-pub use http_fault::HttpFault;
-pub use keep_device::{
+pub use base_device::{
     Counted, Device, Failed, InputFault, MemoryPair, MemorySink, MemorySource, Sink, SinkFault,
     Source, Watched, read_all, write_all,
 };
+pub use dated_reply::DatedReply;
+pub use found_head::MOST_FIELDS;
+pub use http_fault::HttpFault;
 pub use known::{MOST_MESSAGE, SMALL_HEAD};
 pub use receive::{read_dated_reply, read_reply, read_request};
 pub use reply::Reply;

@@ -7,7 +7,7 @@ ghost use Rattle.vault_http.specs.Known.{IsMessageHead};
 
 use crate::HttpFault;
 use crate::framing::Framing;
-use keep_moment::Text;
+use base_moment::Text;
 use std::alloc::Global;
 
 /// What stands at the front of the bytes of a message.

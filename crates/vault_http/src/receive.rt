@@ -1,7 +1,7 @@
 ghost use Rattle.std.specs.Prelude.{◌≡◌, [], length, IfSome, IsErrOf};
 ghost use Rattle.std.specs.Io.KnownBytes.{Keeps};
-ghost use Rattle.keep_device.specs.declared.limits.TheConstants.{MOST_READS, MOST_ROOM};
-ghost use Rattle.keep_device.specs.Whole.{MakesAtMost};
+ghost use Rattle.base_device.specs.declared.limits.TheConstants.{MOST_READS, MOST_ROOM};
+ghost use Rattle.base_device.specs.Whole.{MakesAtMost};
 ghost use Rattle.vault_http.specs.declared.http_fault.HttpFault.TheVariants as faults;
 ghost use Rattle.vault_http.specs.Holding.{HandedNone};
 ghost use Rattle.vault_http.specs.Known.{IsCurrent, StaysKnown};
@@ -12,7 +12,7 @@ use crate::message::Message;
 use crate::room::Room;
 use crate::verdict::Verdict;
 use crate::{DatedReply, HttpFault, Reply, Request, Source};
-use keep_device::{MOST_READS, read_more};
+use base_device::{MOST_READS, read_more};
 use std::alloc::Global;
 
 /// Reads one reply of at most `max` bytes, its head included. What stands after it is not looked at. It makes at most 4,096

@@ -1,7 +1,7 @@
 ghost use Rattle.std.specs.Prelude.{◌≡◌};
 ghost use Rattle.vault_http.specs.RoundTrip.{is_sent};
 
-use keep_moment::Text;
+use base_moment::Text;
 use std::fmt;
 
 /// A reply of the broker.

@@ -9,7 +9,7 @@ use crate::found_head::{ReplyHead, reply_head};
 use crate::framing::{Framing, LengthFault};
 use crate::message::{Head, Message};
 use crate::{HttpFault, Reply};
-use keep_moment::Text;
+use base_moment::Text;
 use std::alloc::Global;
 
 impl Message for Reply {

@@ -2,8 +2,8 @@ ghost use Rattle.std.specs.Prelude.{◌≡◌, ℕ, ◌<◌, ◌≤◌, List, �
 ghost use Rattle.std.specs.List.{list_all};
 ghost use Rattle.vault_http.specs.RoundTripRequest.{IsSentToken, IsWritable, is_path_byte, is_sent_method, is_token_value_byte};
 
+use base_moment::Text;
 use http::Method;
-use keep_moment::Text;
 use std::fmt;
 
 /// A request to the broker.

@@ -10,9 +10,9 @@ use crate::found_head::{RequestFront, Start, request_head};
 use crate::framing::{Framing, LengthFault};
 use crate::message::{Head, Message};
 use crate::{HttpFault, Request};
+use base_moment::Text;
 use http::Method;
 use http::method::MethodError;
-use keep_moment::Text;
 use std::alloc::Global;
 
 impl Message for Request {

@@ -1,8 +1,8 @@
 //! The room that reads are offered.
 ghost use Rattle.std.specs.Prelude.{◌≡◌, IfOk, vec_len};
-ghost use Rattle.keep_device.specs.declared.limits.TheConstants.{MOST_ROOM};
+ghost use Rattle.base_device.specs.declared.limits.TheConstants.{MOST_ROOM};
 
-use keep_device::{MOST_ROOM, zeros};
+use base_device::{MOST_ROOM, zeros};
 use std::alloc::{AllocError, Global};
 use std::fmt;
 

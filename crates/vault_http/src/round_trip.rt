@@ -47,7 +47,7 @@ pub fn held_is_read(max: usize)
     let _ = max;
 }
 
-/// The limits of messages as numbers; those of reads are in [`keep_device::limits_law`]. It does nothing.
+/// The limits of messages as numbers; those of reads are in [`base_device::limits_law`]. It does nothing.
 pub fn http_limits_law()
     ensures fields { MOST_FIELDS ≡ 64 }
     ensures small { SMALL_HEAD ≡ 4096 }

@@ -1,6 +1,6 @@
 ghost use Rattle.std.specs.Prelude.{◌≡◌, OnErr, OnOk, IfOk, IsTrue, string_bytes};
 ghost use Rattle.std.specs.Io.KnownBytes.{Keeps, Appends};
-ghost use Rattle.keep_device.specs.Front.{AppendsFront};
+ghost use Rattle.base_device.specs.Front.{AppendsFront};
 ghost use Rattle.vault_http.specs.declared.writing.SendFault.TheVariants.{OutOfMemory};
 ghost use Rattle.vault_http.specs.RoundTrip.{is_sent};
 ghost use Rattle.vault_http.specs.RoundTripRequest.{IsWritable};
@@ -8,8 +8,8 @@ ghost use Rattle.vault_http.specs.Sending.{send_fault, CountsSend};
 ghost use Rattle.vault_http.specs.Written.{host_lines, token_line, length_lines, last_lines, body_lines, request_text, phrase, status_line, reply_text};
 
 use crate::{Reply, Request, Sink, SinkFault, write_all};
+use base_moment::Text;
 use http::StatusCode;
-use keep_moment::Text;
 use std::alloc::{AllocError, Global};
 use thiserror::Error;
 

@@ -4,8 +4,8 @@ use Rattle.std.proofs.lemmas.Int.{ints}
 use Rattle.std.proofs.lemmas.Str.{IsUtf8-append}
 use Rattle.std.proofs.lemmas.Bool.Decides.{nat_tests}
 use Rattle.json.proofs.Printed.Utf8.{IsUtf8-are_ascii}
-use Rattle.keep_moment.specs.Rfc3339.{IsDateText, IsDateTime, two_digits_of, four_digits_of, face}
-use Rattle.keep_moment.specs.declared.stamp.Stamp.{Stamp}
+use Rattle.base_moment.specs.Rfc3339.{IsDateText, IsDateTime, two_digits_of, four_digits_of, face}
+use Rattle.base_moment.specs.declared.stamp.Stamp.{Stamp}
 
 two_utf8 : (n : ℕ) → n < 100 → IsUtf8 (two_digits_of n)
 two_utf8 n small =

@@ -1,7 +1,7 @@
 -- The laws of `specs/Laws.antt`: each tree is read back from its text, and the fields are found in it.
 use Rattle.std.proofs.Common.{◌≡◌, ℕ, ◌<◌, ◌≤◌, ◌^◌, ◌==◌, Bool, false, List, Ok, Some, IsUtf8, refl, sym, ap, ◌∙◌, arith, lt-ltb, le-leb, inl, inr, length, ◌≢◌, ne_eqb}
 use Rattle.std.proofs.lemmas.Bool.{cases_eq}
-use Rattle.keep_moment.specs.declared.moment.TheConstants.{LAST}
+use Rattle.base_moment.specs.declared.moment.TheConstants.{LAST}
 use Rattle.json.proofs.Printed.Utf8.{IsUtf8-are_ascii}
 use Rattle.json.specs.Tree as tree
 use Rattle.serde_json.specs.Data.{Data, object, Members}
@@ -17,8 +17,8 @@ use Rattle.vault_json.specs.Request.{increment_answer, lease_id_answer}
 use Rattle.vault_json.specs.Trees.{renew_tree, lease_tree, lookup_tree, renewed_self_tree, renewed_lease_tree, looked_plain_tree, looked_periodic_tree, looked_lease_tree}
 use Rattle.vault_json.specs.Written.{renew_text, lease_text, lookup_text, renewed_self_text, renewed_lease_text, looked_self_text, looked_lease_text}
 use Rattle.vault_json.specs.declared.lookup.Lookup.TheVariants.{Token, Lease}
-use Rattle.keep_moment.specs.MomentOf.{moment_of}
-use Rattle.keep_moment.specs.Rfc3339.{IsDateText}
+use Rattle.base_moment.specs.MomentOf.{moment_of}
+use Rattle.base_moment.specs.Rfc3339.{IsDateText}
 use Rattle.vault_json.proofs.Bodies.{tree_of_text}
 use Rattle.vault_json.proofs.Dates.{date_utf8}
 use Rattle.vault_json.proofs.Plain.{IsPlain, compact_utf8, read_compact}

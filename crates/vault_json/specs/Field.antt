@@ -2,8 +2,8 @@
 -- Vault, HTTP API `auth/token` and `sys/leases`: the names of the fields. Which are read, and that null is as good as
 -- absent, is this project's profile.
 use Rattle.std.specs.Prelude.{ℕ, List, codes, nat_le, if◌then◌else◌, Result, Ok, Err, Option, Some, None}
-use Rattle.keep_moment.specs.declared.moment.TheConstants.{LAST}
-use Rattle.keep_moment.specs.MomentOf.{moment_of}
+use Rattle.base_moment.specs.declared.moment.TheConstants.{LAST}
+use Rattle.base_moment.specs.MomentOf.{moment_of}
 use Rattle.std.specs.Result.{result_ok}
 use Rattle.serde_json.specs.Data.{Num, unsigned, negative, float, Data, null, boolean, number, string, array, object}
 use Rattle.serde_json.specs.Find.{get}
@@ -85,7 +85,7 @@ timestamp_of (string s) = None
 timestamp_of (array ds) = None
 timestamp_of (object ms) = None
 
--- a text by RFC 3339, section 5.6, as keep_moment reads it, of a moment from 1970 to the last
+-- a text by RFC 3339, section 5.6, as base_moment reads it, of a moment from 1970 to the last
 abbrev pub date_in_text : Data → Option ℕ
 date_in_text null = None
 date_in_text (boolean b) = None

@@ -1,6 +1,6 @@
 -- What one side writes, the other reads: laws of the definitions alone.
 use Rattle.std.specs.Prelude.{◌≡◌, ◌↔◌, ℕ, ◌<◌, ◌≤◌, ◌^◌, List, Bool, IsUtf8, Ok, Some}
-use Rattle.keep_moment.specs.declared.moment.TheConstants.{LAST}
+use Rattle.base_moment.specs.declared.moment.TheConstants.{LAST}
 use Rattle.serde_json.specs.Data.{Data}
 use Rattle.vault_json.specs.Duration.{duration_of_value, WritesDuration}
 use Rattle.vault_json.specs.Lookup.{lookup_self_answer, lookup_lease_answer}

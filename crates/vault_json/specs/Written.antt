@@ -3,7 +3,7 @@
 -- Vault, HTTP API `auth/token` and `sys/leases`: the names of the fields. A broker writes `period` only where it is not 0.
 use Rattle.std.specs.Prelude.{◌≡◌, ℕ, ◌==◌, List, [], ◌++◌, Bool, true, false, codes, decimal, if◌then◌else◌}
 use Rattle.json.specs.Print.{quoted}
-use Rattle.keep_moment.specs.Rfc3339.{IsDateText}
+use Rattle.base_moment.specs.Rfc3339.{IsDateText}
 
 abbrev pub flag_text : Bool → List ℕ
 flag_text true = codes "true"

@@ -4,7 +4,7 @@ ghost use Rattle.std.specs.List.{list_all};
 ghost use Rattle.serde_json.specs.View.{view};
 ghost use Rattle.vault_json.specs.Duration.{duration_of_value, seconds_of_text, without_unit};
 
-use keep_moment::Span;
+use base_moment::Span;
 use serde_json::Value;
 
 /// The duration that a value of a body is, `None` where it is none: a whole number of seconds up to 4294967295, or a

@@ -7,7 +7,7 @@ ghost use Rattle.vault_json.specs.Field.{key_of, present, member_of, required, o
 
 use crate::duration::duration;
 use crate::fault::ReplyFault;
-use keep_moment::{Moment, Span, Text, read_rfc3339};
+use base_moment::{Moment, Span, Text, read_rfc3339};
 use serde_json::Value;
 use std::alloc::Global;
 use std::fmt;

@@ -26,7 +26,7 @@ pub fn looked_self_is_read()
 pub fn looked_lease_is_read()
     ensures { LookedLeaseIsRead }
 {
-    keep_moment::dates_are_read_back();
+    base_moment::dates_are_read_back();
 }
 
 /// The step that `renew_body` writes, `read_increment` answers.

@@ -7,7 +7,7 @@ use crate::fault::ReplyFault;
 use crate::field::{
     Field, date, flag, member, object, object_or_itself, span, span_or_zero, text, timestamp,
 };
-use keep_moment::{Moment, Span, Text};
+use base_moment::{Moment, Span, Text};
 use serde_json::Value;
 use std::alloc::Global;
 use std::fmt;
@@ -105,7 +105,7 @@ pub fn never_ends(alloc: Global, bytes: &[u8]) -> Result<bool, ReplyFault>
 /// Reads the body of a reply to `sys/leases/lookup` (Vault, HTTP API `sys/leases`, "Read lease").
 ///
 /// The fields are, in the object `data`, or at the top level where `data` is absent or null, `id`, `issue_time` (a text
-/// by RFC 3339, section 5.6, as `keep_moment::read_rfc3339` reads it), `renewable` and `ttl`; an absent `renewable` is
+/// by RFC 3339, section 5.6, as `base_moment::read_rfc3339` reads it), `renewable` and `ttl`; an absent `renewable` is
 /// false. Faults come in the order NotJson, Wrapped, then Missing or BadField of the first field at fault.
 #[tactic(auto, unfolding(crate::specs::Lookup::lookup_lease_answer))]
 pub fn read_lookup_lease(alloc: Global, bytes: &[u8]) -> Result<Lookup, ReplyFault>

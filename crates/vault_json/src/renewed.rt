@@ -5,7 +5,7 @@ ghost use Rattle.vault_json.specs.Renewed.{renewed_in_object, renewed_lease_in, 
 use crate::body::reply;
 use crate::fault::ReplyFault;
 use crate::field::{Field, flag, object, span, text};
-use keep_moment::{Span, Text};
+use base_moment::{Span, Text};
 use serde_json::Value;
 use std::alloc::Global;
 use std::fmt;

@@ -4,7 +4,7 @@ ghost use Rattle.vault_json.specs.Trees.{renewed_self_tree, renewed_lease_tree, 
 ghost use Rattle.vault_json.specs.Written.{renewed_self_text, renewed_lease_text, looked_self_text, errors_text, IsLookedLease};
 
 use crate::write::{text_of, written};
-use keep_moment::{Moment, Span, Text, date_text};
+use base_moment::{Moment, Span, Text, date_text};
 use serde_json::{Value, json};
 use std::alloc::{AllocError, Global};
 

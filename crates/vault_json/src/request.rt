@@ -8,7 +8,7 @@ use crate::body::body;
 use crate::duration::duration;
 use crate::fault::ReplyFault;
 use crate::field::{Field, member, text};
-use keep_moment::{Span, Text};
+use base_moment::{Span, Text};
 use serde_json::Value;
 use std::alloc::Global;
 

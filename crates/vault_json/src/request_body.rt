@@ -4,7 +4,7 @@ ghost use Rattle.vault_json.specs.Trees.{renew_tree, lease_tree, lookup_tree};
 ghost use Rattle.vault_json.specs.Written.{renew_text, lease_text, lookup_text};
 
 use crate::write::{text_of, written};
-use keep_moment::{Span, Text};
+use base_moment::{Span, Text};
 use serde_json::{Value, json};
 use std::alloc::{AllocError, Global};
 

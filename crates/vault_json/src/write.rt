@@ -2,7 +2,7 @@ ghost use Rattle.std.specs.Prelude.{◌≡◌, false, IfOk, IsUtf8};
 ghost use Rattle.serde_json.specs.View.{view};
 ghost use Rattle.serde_json.specs.Written.{has_float, compact_text};
 
-use keep_moment::Text;
+use base_moment::Text;
 use serde_json::Value;
 use std::alloc::{AllocError, Global};
 

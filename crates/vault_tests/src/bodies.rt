@@ -1,5 +1,5 @@
 //! JSON bodies: what replies and requests are read as, and what is written.
-use keep_moment::{Moment, Text};
+use base_moment::{Moment, Text};
 use std::alloc::{AllocError, Global};
 use std::process::Abort;
 use std::test::Fail;

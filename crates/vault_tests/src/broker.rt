@@ -1,11 +1,11 @@
 //! The broker's table: faults by number, and what is left of an entry. (What it answers is tried with minibroker.)
+use base_moment::{Moment, Text};
 use broker_table::{Fault, Served, SetFault, Table};
 use http::Method;
-use keep_inventory::read;
-use keep_moment::{Moment, Text};
 use std::alloc::Global;
 use std::test::Fail;
 use vault_http::Request;
+use vault_inventory::read;
 use vault_json::renew_body;
 
 pub(crate) const WEB: &str =

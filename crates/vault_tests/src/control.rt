@@ -1,6 +1,6 @@
 //! Lines of the control protocol, as they are written and read back. (What is refused is tried with `leasekeep serve`.)
-use keep_control::{Lines, Reply, read_reply, read_request, write_reply, write_request};
-use keep_moment::Text;
+use agent_control::{Lines, Reply, read_reply, read_request, write_reply, write_request};
+use base_moment::Text;
 use std::alloc::Global;
 use std::test::Fail;
 

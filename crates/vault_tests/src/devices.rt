@@ -1,6 +1,6 @@
 //! Readers and writers that fail: the standard library promises nothing about a flush, so no contract could refuse a body that
 //! leaves it out.
-use keep_device::{Counted, Device, Failed, MemorySource, Sink, SinkFault, Source, write_all};
+use base_device::{Counted, Device, Failed, MemorySource, Sink, SinkFault, Source, write_all};
 use std::alloc::Global;
 use std::io;
 use std::io::{BufWriter, Error, ErrorKind, Read, Write};

@@ -3,10 +3,10 @@ use crate::broker::{WEB, moment, renewal, table};
 use crate::shown::{SECRET, hides};
 use broker_memory::{MemoryExchange, SelfServed};
 use broker_table::Fault;
-use keep_exchange::{Exchange, ExchangeFault, can_carry};
 use std::alloc::Global;
 use std::process::Abort;
 use std::test::Fail;
+use vault_exchange::{Exchange, ExchangeFault, can_carry};
 use vault_http::{Device as _, HttpFault};
 
 /// The first renewal of the web example and its reply.

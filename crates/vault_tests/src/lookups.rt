@@ -1,8 +1,8 @@
 //! What a lookup tells of an entry, applied to it or refused.
 use crate::broker::{WEB, moment};
-use keep_inventory::{Inventory, LookupFault, read};
 use std::alloc::Global;
 use std::test::Fail;
+use vault_inventory::{Inventory, LookupFault, read};
 use vault_json::Lookup;
 
 // A periodic token under an explicit max, with an increment beside its period.

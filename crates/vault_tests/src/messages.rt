@@ -1,6 +1,6 @@
 //! HTTP messages, as they are read: one reply however it is framed and cut, what is refused and why, requests, and dates.
 use crate::devices::source;
-use keep_moment::Moment;
+use base_moment::Moment;
 use std::alloc::{AllocError, Global};
 use std::process::Abort;
 use std::test::Fail;

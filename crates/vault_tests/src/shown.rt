@@ -1,12 +1,12 @@
 //! Tokens and ids of leases are secret: nothing that holds one shows it, neither as a text nor as the numbers of its bytes.
 use crate::devices::source;
+use agent_control::read_request;
+use base_moment::{Moment, Text};
 use broker_table::Table;
-use keep_control::read_request;
-use keep_inventory::{Inventory, read};
-use keep_moment::{Moment, Text};
 use std::process::Abort;
 use std::test::Fail;
 use vault_http::Room;
+use vault_inventory::{Inventory, read};
 use vault_json::{Lookup, RenewedLease};
 
 /// A token with a secret.

@@ -5,17 +5,17 @@ use Rattle.std.proofs.lemmas.Bool.Decides.{nat_tests}
 use Rattle.std.proofs.lemmas.List.{ext_get_or, length-set}
 use Rattle.std.proofs.lemmas.List.FromFn.{get_or-map-range_with_len, length-map-range_with_len}
 use Rattle.std.specs.List.{range_with_len}
-use Rattle.keep_moment.specs.declared.moment.TheConstants.{LAST}
-use Rattle.keep_tree.specs.declared.entry.Entry.{Entry}
-use Rattle.keep_tree.specs.declared.forest.TheConstants.{END_MAX}
-use Rattle.keep_tree.specs.Carried.{carried, carried_of}
-use Rattle.keep_tree.specs.Forest.{Forest, entry_at, no_entry}
-use Rattle.keep_tree.specs.Over.{Over, is_over, chain}
-use Rattle.keep_tree.specs.Push.{IsForest, is_too_high}
-use Rattle.keep_tree.proofs.Carrying.{carried_is_of, or_parts}
-use Rattle.keep_tree.proofs.Chains.{ParentsFirst, chain_same, cases_Option, over_child, over_root}
-use Rattle.keep_tree.proofs.Entries.{entry_at_past, entry_at_set_other, entry_at_set_same}
-use Rattle.keep_tree.proofs.Placed.{Replaces, parents_first, range_from_parts, replaced_is_forest}
+use Rattle.base_moment.specs.declared.moment.TheConstants.{LAST}
+use Rattle.plan_forest.specs.declared.entry.Entry.{Entry}
+use Rattle.plan_forest.specs.declared.forest.TheConstants.{END_MAX}
+use Rattle.plan_forest.specs.Carried.{carried, carried_of}
+use Rattle.plan_forest.specs.Forest.{Forest, entry_at, no_entry}
+use Rattle.plan_forest.specs.Over.{Over, is_over, chain}
+use Rattle.plan_forest.specs.Push.{IsForest, is_too_high}
+use Rattle.plan_forest.proofs.Carrying.{carried_is_of, or_parts}
+use Rattle.plan_forest.proofs.Chains.{ParentsFirst, chain_same, cases_Option, over_child, over_root}
+use Rattle.plan_forest.proofs.Entries.{entry_at_past, entry_at_set_other, entry_at_set_same}
+use Rattle.plan_forest.proofs.Placed.{Replaces, parents_first, range_from_parts, replaced_is_forest}
 use Rattle.watch_machine.specs.declared.clocks.Clocks.{Clocks}
 use Rattle.watch_machine.specs.Clocks.{of_wall, to_here}
 use Rattle.watch_machine.specs.State.{WatchState, second}

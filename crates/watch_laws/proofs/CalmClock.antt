@@ -4,26 +4,26 @@ use Rattle.std.proofs.lemmas.Bool.{cases_Bool, cases_lt, cond-false, cond-true}
 use Rattle.std.proofs.lemmas.Bool.Decides.{nat_tests}
 use Rattle.std.proofs.Math.Path.{fun_ext}
 use Rattle.std.specs.List.{list_any}
-use Rattle.keep_tree.specs.declared.entry.Entry.{Entry}
-use Rattle.keep_tree.specs.Carried.{carried}
-use Rattle.keep_tree.specs.Forest.{Forest, entry_at}
-use Rattle.keep_tree.specs.Push.{IsForest}
-use Rattle.keep_tree.specs.Renewal.{all_last, renewal}
-use Rattle.keep_tree.proofs.Carrying.{and_left, and_right}
-use Rattle.keep_rule.specs.declared.wake.Wake.{Wake}
-use Rattle.keep_rule.specs.Asks.{asking, first_of, is_to_be_asked as is_asked_now, with_asks}
-use Rattle.keep_rule.specs.Ends.{ends_after_wake_up, is_asked}
-use Rattle.keep_rule.specs.Forced.{bound, latest_end}
-use Rattle.keep_rule.specs.Least.{IsLeastAndLatest}
-use Rattle.keep_rule.specs.Schedule.{IsSchedule}
-use Rattle.keep_rule.specs.Unkeepable.{AllKeepable}
-use Rattle.keep_rule.proofs.Asking.{asked_end, asks_wanted, wanted_renewable}
-use Rattle.keep_rule.proofs.Covering.{after_unwanted, after_wanted}
-use Rattle.keep_rule.proofs.Enough.{enough as asks_enough}
-use Rattle.keep_rule.proofs.Keeping.{one_least}
-use Rattle.keep_rule.proofs.LaterStart.{later_start, same_asks}
-use Rattle.keep_rule.proofs.Next.{renewable_within}
-use Rattle.keep_rule.proofs.Tail.{tail}
+use Rattle.plan_forest.specs.declared.entry.Entry.{Entry}
+use Rattle.plan_forest.specs.Carried.{carried}
+use Rattle.plan_forest.specs.Forest.{Forest, entry_at}
+use Rattle.plan_forest.specs.Push.{IsForest}
+use Rattle.plan_forest.specs.Renewal.{all_last, renewal}
+use Rattle.plan_forest.proofs.Carrying.{and_left, and_right}
+use Rattle.plan_rule.specs.declared.wake.Wake.{Wake}
+use Rattle.plan_rule.specs.Asks.{asking, first_of, is_to_be_asked as is_asked_now, with_asks}
+use Rattle.plan_rule.specs.Ends.{ends_after_wake_up, is_asked}
+use Rattle.plan_rule.specs.Forced.{bound, latest_end}
+use Rattle.plan_rule.specs.Least.{IsLeastAndLatest}
+use Rattle.plan_rule.specs.Schedule.{IsSchedule}
+use Rattle.plan_rule.specs.Unkeepable.{AllKeepable}
+use Rattle.plan_rule.proofs.Asking.{asked_end, asks_wanted, wanted_renewable}
+use Rattle.plan_rule.proofs.Covering.{after_unwanted, after_wanted}
+use Rattle.plan_rule.proofs.Enough.{enough as asks_enough}
+use Rattle.plan_rule.proofs.Keeping.{one_least}
+use Rattle.plan_rule.proofs.LaterStart.{later_start, same_asks}
+use Rattle.plan_rule.proofs.Next.{renewable_within}
+use Rattle.plan_rule.proofs.Tail.{tail}
 use Rattle.watch_machine.specs.declared.command.Request.{Request}
 use Rattle.watch_machine.specs.declared.event.Operation.TheVariants.{Look, Renew}
 use Rattle.watch_machine.specs.declared.lanes.Out.{Out}

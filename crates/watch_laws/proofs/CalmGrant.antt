@@ -4,10 +4,10 @@ use Rattle.std.proofs.lemmas.Bool.{and_parts, cases_Bool, cases_eq, cases_lt, co
 use Rattle.std.proofs.lemmas.Bool.Decides.{nat_tests}
 use Rattle.std.proofs.lemmas.List.{get_or-set_other, get_or-set_same, length-set}
 use Rattle.std.specs.List.{find, list_any}
-use Rattle.keep_tree.specs.Forest.{Forest}
-use Rattle.keep_tree.specs.Renewal.{capped, renewal}
-use Rattle.keep_tree.proofs.Carrying.{or_parts}
-use Rattle.keep_rule.specs.declared.wake.Wake.{Wake}
+use Rattle.plan_forest.specs.Forest.{Forest}
+use Rattle.plan_forest.specs.Renewal.{capped, renewal}
+use Rattle.plan_forest.proofs.Carrying.{or_parts}
+use Rattle.plan_rule.specs.declared.wake.Wake.{Wake}
 use Rattle.watch_machine.specs.declared.event.Operation.TheVariants.{Look, Renew}
 use Rattle.watch_machine.specs.declared.event.Reply.TheVariants.{Told}
 use Rattle.watch_machine.specs.declared.lanes.Answer.{Answer}

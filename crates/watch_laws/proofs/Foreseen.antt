@@ -3,19 +3,19 @@
 use Rattle.std.proofs.Common.{◌≡◌, ◌∙◌, ℕ, ◌+◌, ◌-◌, ◌<◌, ◌≤◌, Bool, true, false, not, ◌&&◌, ◌||◌, List, [], ◌∷◌, Some, None, length, nat_lt, refl, sym, ap, arith, inl, inr}
 use Rattle.std.proofs.lemmas.Bool.{cases_Bool}
 use Rattle.std.proofs.lemmas.Bool.Decides.{nat_tests}
-use Rattle.keep_moment.specs.declared.moment.TheConstants.{LAST}
-use Rattle.keep_tree.specs.declared.entry.Entry.{Entry}
-use Rattle.keep_tree.specs.Carried.{carried}
-use Rattle.keep_tree.specs.Push.{IsForest}
-use Rattle.keep_tree.proofs.Carrying.{and_right, carried_is_of}
-use Rattle.keep_rule.specs.Asks.{first_of}
-use Rattle.keep_rule.specs.Forced.{bound, latest_end}
-use Rattle.keep_rule.specs.Schedule.{IsNextMoment, IsSchedule}
-use Rattle.keep_rule.specs.Unkeepable.{AllKeepable}
-use Rattle.keep_rule.proofs.Existence.{there_is_one}
-use Rattle.keep_rule.proofs.Lists.{need_within}
-use Rattle.keep_rule.proofs.Next.{CanBeLed, can_be_led, renewable_within}
-use Rattle.keep_rule.proofs.Schedule.{schedule_is_best}
+use Rattle.base_moment.specs.declared.moment.TheConstants.{LAST}
+use Rattle.plan_forest.specs.declared.entry.Entry.{Entry}
+use Rattle.plan_forest.specs.Carried.{carried}
+use Rattle.plan_forest.specs.Push.{IsForest}
+use Rattle.plan_forest.proofs.Carrying.{and_right, carried_is_of}
+use Rattle.plan_rule.specs.Asks.{first_of}
+use Rattle.plan_rule.specs.Forced.{bound, latest_end}
+use Rattle.plan_rule.specs.Schedule.{IsNextMoment, IsSchedule}
+use Rattle.plan_rule.specs.Unkeepable.{AllKeepable}
+use Rattle.plan_rule.proofs.Existence.{there_is_one}
+use Rattle.plan_rule.proofs.Lists.{need_within}
+use Rattle.plan_rule.proofs.Next.{CanBeLed, can_be_led, renewable_within}
+use Rattle.plan_rule.proofs.Schedule.{schedule_is_best}
 use Rattle.watch_machine.specs.declared.track.End.{End}
 use Rattle.watch_machine.specs.declared.track.End.TheVariants.{Unknown, At, Never}
 use Rattle.watch_machine.specs.History.{History, Turned}

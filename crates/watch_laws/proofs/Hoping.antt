@@ -4,21 +4,21 @@ use Rattle.std.proofs.lemmas.Bool.{cases_Bool, cases_lt, cond-false, cond-true}
 use Rattle.std.proofs.lemmas.Bool.Decides.{nat_tests}
 use Rattle.std.proofs.Math.Path.{fun_ext}
 use Rattle.std.specs.List.{list_all, list_any, range_with_len}
-use Rattle.keep_moment.specs.declared.moment.TheConstants.{LAST}
-use Rattle.keep_tree.specs.declared.entry.Entry.{Entry}
-use Rattle.keep_tree.specs.Carried.{carried}
-use Rattle.keep_tree.specs.Forest.{end_of, entry_at}
-use Rattle.keep_tree.specs.Over.{chain, is_over}
-use Rattle.keep_tree.specs.Push.{IsForest}
-use Rattle.keep_tree.specs.Renewal.{all_last, capped, is_granted, renewal, renewed}
-use Rattle.keep_tree.proofs.Carrying.{carried_is_of, or_left, or_right}
-use Rattle.keep_tree.proofs.Chains.{ParentsFirst}
-use Rattle.keep_tree.proofs.Entries.{entry_at_past}
-use Rattle.keep_tree.proofs.Placed.{parents_first}
-use Rattle.keep_rule.specs.Asks.{asks, is_end_due, is_to_be_asked as is_asked_now}
-use Rattle.keep_rule.specs.Forced.{bound, latest_end}
-use Rattle.keep_rule.proofs.Keeping.{end_below_bound}
-use Rattle.keep_rule.proofs.Lists.{need_within}
+use Rattle.base_moment.specs.declared.moment.TheConstants.{LAST}
+use Rattle.plan_forest.specs.declared.entry.Entry.{Entry}
+use Rattle.plan_forest.specs.Carried.{carried}
+use Rattle.plan_forest.specs.Forest.{end_of, entry_at}
+use Rattle.plan_forest.specs.Over.{chain, is_over}
+use Rattle.plan_forest.specs.Push.{IsForest}
+use Rattle.plan_forest.specs.Renewal.{all_last, capped, is_granted, renewal, renewed}
+use Rattle.plan_forest.proofs.Carrying.{carried_is_of, or_left, or_right}
+use Rattle.plan_forest.proofs.Chains.{ParentsFirst}
+use Rattle.plan_forest.proofs.Entries.{entry_at_past}
+use Rattle.plan_forest.proofs.Placed.{parents_first}
+use Rattle.plan_rule.specs.Asks.{asks, is_end_due, is_to_be_asked as is_asked_now}
+use Rattle.plan_rule.specs.Forced.{bound, latest_end}
+use Rattle.plan_rule.proofs.Keeping.{end_below_bound}
+use Rattle.plan_rule.proofs.Lists.{need_within}
 use Rattle.watch_machine.specs.Beginning.{is_pressed}
 use Rattle.watch_machine.specs.Round.{IsSecond, RoundAsks, is_hoped, plan_view}
 use Rattle.watch_machine.specs.State.{WatchState, second, track_at}

@@ -4,9 +4,9 @@ use Rattle.std.proofs.lemmas.Bool.{cases_Bool, eqb-true}
 use Rattle.std.proofs.lemmas.List.{get_or-set_other, length-set}
 use Rattle.std.specs.List.{list_any}
 use Rattle.std.specs.Prelude.{slice_set}
-use Rattle.keep_moment.specs.declared.moment.TheConstants.{LAST}
-use Rattle.keep_tree.specs.declared.entry.Entry.{Entry}
-use Rattle.keep_tree.specs.Forest.{Forest, entry_at, no_entry}
+use Rattle.base_moment.specs.declared.moment.TheConstants.{LAST}
+use Rattle.plan_forest.specs.declared.entry.Entry.{Entry}
+use Rattle.plan_forest.specs.Forest.{Forest, entry_at, no_entry}
 use Rattle.watch_machine.specs.declared.command.Output.{Output}
 use Rattle.watch_machine.specs.declared.command.Request.{Request}
 use Rattle.watch_machine.specs.declared.event.Event.{Event}

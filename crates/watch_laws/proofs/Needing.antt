@@ -4,15 +4,15 @@ use Rattle.std.proofs.lemmas.Bool.{and_from, cases_Bool, cases_lt, or_left, or_r
 use Rattle.std.proofs.lemmas.Bool.Decides.{nat_tests}
 use Rattle.std.proofs.lemmas.List.FromFn.{get_or-map-range_with_len, length-map-range_with_len}
 use Rattle.std.specs.List.{list_any, range_with_len}
-use Rattle.keep_moment.specs.declared.moment.TheConstants.{LAST}
-use Rattle.keep_tree.specs.declared.entry.Entry.{Entry}
-use Rattle.keep_tree.specs.declared.entry.Kind.TheVariants.{Token}
-use Rattle.keep_tree.specs.declared.forest.TheConstants.{END_MAX}
-use Rattle.keep_tree.specs.Carried.{carried}
-use Rattle.keep_tree.specs.Forest.{entry_at, no_entry}
-use Rattle.keep_tree.specs.Over.{Over, chain, chain_of, is_over}
-use Rattle.keep_tree.proofs.Carrying.{and_left, and_right, carried_at_least, carried_is_of, or_parts}
-use Rattle.keep_tree.proofs.Entries.{entry_at_past}
+use Rattle.base_moment.specs.declared.moment.TheConstants.{LAST}
+use Rattle.plan_forest.specs.declared.entry.Entry.{Entry}
+use Rattle.plan_forest.specs.declared.entry.Kind.TheVariants.{Token}
+use Rattle.plan_forest.specs.declared.forest.TheConstants.{END_MAX}
+use Rattle.plan_forest.specs.Carried.{carried}
+use Rattle.plan_forest.specs.Forest.{entry_at, no_entry}
+use Rattle.plan_forest.specs.Over.{Over, chain, chain_of, is_over}
+use Rattle.plan_forest.proofs.Carrying.{and_left, and_right, carried_at_least, carried_is_of, or_parts}
+use Rattle.plan_forest.proofs.Entries.{entry_at_past}
 use Rattle.watch_machine.specs.declared.clocks.Clocks.{Clocks}
 use Rattle.watch_machine.specs.declared.track.End.{End}
 use Rattle.watch_machine.specs.declared.track.End.TheVariants.{Unknown, At, Never}

@@ -6,21 +6,21 @@ use Rattle.std.proofs.lemmas.List.Folds.{list_any_at}
 use Rattle.std.proofs.lemmas.List.FromFn.{get_or-range_with_len, length-range_with_len}
 use Rattle.std.proofs.Math.Path.{fun_ext}
 use Rattle.std.specs.List.{list_any, range_with_len}
-use Rattle.keep_tree.specs.declared.entry.Entry.{Entry}
-use Rattle.keep_tree.specs.Carried.{carried}
-use Rattle.keep_tree.specs.Forest.{end_of, entry_at}
-use Rattle.keep_tree.specs.Over.{Over, is_over}
-use Rattle.keep_tree.specs.Push.{IsForest}
-use Rattle.keep_tree.specs.Renewal.{all_last, capped, is_granted, renewal, renewed}
-use Rattle.keep_tree.proofs.Carrying.{and_left, and_right, carried_up, or_parts}
-use Rattle.keep_tree.proofs.Chains.{ParentsFirst}
-use Rattle.keep_tree.proofs.Entries.{entry_at_past}
-use Rattle.keep_tree.proofs.Placed.{parents_first}
-use Rattle.keep_rule.specs.Asks.{asks, first_of, is_end_due, is_to_be_asked as is_asked_now}
-use Rattle.keep_rule.specs.Forced.{bound, latest_end}
-use Rattle.keep_rule.specs.Schedule.{IsNextMoment, IsSchedule}
-use Rattle.keep_rule.proofs.Asking.{short_over}
-use Rattle.keep_rule.proofs.Keeping.{end_below_bound}
+use Rattle.plan_forest.specs.declared.entry.Entry.{Entry}
+use Rattle.plan_forest.specs.Carried.{carried}
+use Rattle.plan_forest.specs.Forest.{end_of, entry_at}
+use Rattle.plan_forest.specs.Over.{Over, is_over}
+use Rattle.plan_forest.specs.Push.{IsForest}
+use Rattle.plan_forest.specs.Renewal.{all_last, capped, is_granted, renewal, renewed}
+use Rattle.plan_forest.proofs.Carrying.{and_left, and_right, carried_up, or_parts}
+use Rattle.plan_forest.proofs.Chains.{ParentsFirst}
+use Rattle.plan_forest.proofs.Entries.{entry_at_past}
+use Rattle.plan_forest.proofs.Placed.{parents_first}
+use Rattle.plan_rule.specs.Asks.{asks, first_of, is_end_due, is_to_be_asked as is_asked_now}
+use Rattle.plan_rule.specs.Forced.{bound, latest_end}
+use Rattle.plan_rule.specs.Schedule.{IsNextMoment, IsSchedule}
+use Rattle.plan_rule.proofs.Asking.{short_over}
+use Rattle.plan_rule.proofs.Keeping.{end_below_bound}
 use Rattle.watch_machine.specs.declared.command.Output.{Output}
 use Rattle.watch_machine.specs.declared.event.Event.{Event}
 use Rattle.watch_machine.specs.declared.event.Event.TheVariants.{Clock}

@@ -5,21 +5,21 @@ use Rattle.std.proofs.lemmas.List.{get_or_past}
 use Rattle.std.proofs.lemmas.List.Elements.{All-cons, All-head, All-map, All-nil, All-tail}
 use Rattle.std.proofs.lemmas.List.Folds.{list_any-append}
 use Rattle.std.specs.List.{All, list_any}
-use Rattle.keep_tree.specs.declared.entry.Entry.{Entry}
-use Rattle.keep_tree.specs.Carried.{carried}
-use Rattle.keep_tree.specs.Forest.{Forest, entry_at}
-use Rattle.keep_tree.specs.Push.{IsForest}
-use Rattle.keep_tree.specs.Renewal.{renewal}
-use Rattle.keep_tree.proofs.Carrying.{or_parts}
-use Rattle.keep_rule.specs.declared.wake.Wake.{Wake}
-use Rattle.keep_rule.specs.Asks.{first_of, with_asks}
-use Rattle.keep_rule.specs.Ends.{is_asked}
-use Rattle.keep_rule.specs.Least.{IsLeastAndLatest}
-use Rattle.keep_rule.specs.Schedule.{IsSchedule, RisesStrictly}
-use Rattle.keep_rule.specs.Unkeepable.{AllKeepable}
-use Rattle.keep_rule.proofs.Existence.{there_is_one}
-use Rattle.keep_rule.proofs.Keeping.{one_least, unkeepable}
-use Rattle.keep_rule.proofs.Schedule.{schedule_is_best}
+use Rattle.plan_forest.specs.declared.entry.Entry.{Entry}
+use Rattle.plan_forest.specs.Carried.{carried}
+use Rattle.plan_forest.specs.Forest.{Forest, entry_at}
+use Rattle.plan_forest.specs.Push.{IsForest}
+use Rattle.plan_forest.specs.Renewal.{renewal}
+use Rattle.plan_forest.proofs.Carrying.{or_parts}
+use Rattle.plan_rule.specs.declared.wake.Wake.{Wake}
+use Rattle.plan_rule.specs.Asks.{first_of, with_asks}
+use Rattle.plan_rule.specs.Ends.{is_asked}
+use Rattle.plan_rule.specs.Least.{IsLeastAndLatest}
+use Rattle.plan_rule.specs.Schedule.{IsSchedule, RisesStrictly}
+use Rattle.plan_rule.specs.Unkeepable.{AllKeepable}
+use Rattle.plan_rule.proofs.Existence.{there_is_one}
+use Rattle.plan_rule.proofs.Keeping.{one_least, unkeepable}
+use Rattle.plan_rule.proofs.Schedule.{schedule_is_best}
 use Rattle.watch_machine.specs.declared.command.Request.{Request}
 use Rattle.watch_machine.specs.declared.event.Operation.TheVariants.{Renew}
 use Rattle.watch_machine.specs.declared.lanes.Answer.{Answer}

@@ -2,7 +2,7 @@
 use Rattle.std.proofs.Common.{◌≡◌, ◌∙◌, ℕ, ◌+◌, ◌<◌, Bool, true, false, not, ◌&&◌, ◌||◌, ◌⊎◌, ◌==◌, if◌then◌else◌, List, Option, Some, None, Result, Ok, Err, length, max, nat_le, nat_lt, refl, sym, ap, subst, arith, inl, inr, true≢false}
 use Rattle.std.proofs.lemmas.Bool.{and_from, and_parts, cases_Bool, cases_lt, cond-false, cond-true, or_left, or_right}
 use Rattle.std.specs.List.{list_any}
-use Rattle.keep_tree.specs.declared.entry.Entry.{Entry}
+use Rattle.plan_forest.specs.declared.entry.Entry.{Entry}
 use Rattle.watch_machine.specs.declared.command.Output.{Output}
 use Rattle.watch_machine.specs.declared.command.Request.{Request}
 use Rattle.watch_machine.specs.declared.event.Event.{Event}

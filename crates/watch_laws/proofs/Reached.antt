@@ -1,6 +1,6 @@
 -- Reached: what a new watch has, and every turn and every change keeps, holds of each state that a run leads to. For every law over runs.
 use Rattle.std.proofs.Common.{ℕ, List, [], ◌∷◌, Result, subst}
-use Rattle.keep_tree.specs.Forest.{Forest}
+use Rattle.plan_forest.specs.Forest.{Forest}
 use Rattle.watch_machine.specs.declared.command.Output.{Output}
 use Rattle.watch_machine.specs.declared.event.Event.{Event}
 use Rattle.watch_machine.specs.declared.fault.WatchFault.{WatchFault}

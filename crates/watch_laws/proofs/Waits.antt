@@ -3,7 +3,7 @@ use Rattle.std.proofs.Common.{◌≡◌, ◌⊎◌, ◌∙◌, ℕ, zero, suc, �
 use Rattle.std.proofs.lemmas.Bool.{and_parts, cases_Bool, cases_lt, cond-false, cond-true}
 use Rattle.std.proofs.lemmas.Bool.Decides.{nat_tests}
 use Rattle.std.specs.List.{range_with_len}
-use Rattle.keep_tree.specs.declared.entry.Entry.{Entry}
+use Rattle.plan_forest.specs.declared.entry.Entry.{Entry}
 use Rattle.watch_machine.specs.declared.command.Command.{Command}
 use Rattle.watch_machine.specs.declared.command.Command.TheVariants.{Go, Taken}
 use Rattle.watch_machine.specs.declared.command.Output.{Output}

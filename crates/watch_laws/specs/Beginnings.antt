@@ -3,7 +3,7 @@
 -- Source: this project's own.
 use Rattle.std.specs.Prelude.{◌≡◌, ◌⊎◌, ◌==◌, ℕ, ◌+◌, ◌<◌, ◌≤◌, Bool, true, false, not, ◌&&◌, List, [], ◌∷◌, ◌++◌, Option, Some, None, Result, Ok, Err, filter, is_some, length, min}
 use Rattle.std.specs.List.{list_any}
-use Rattle.keep_tree.specs.declared.forest.TheConstants.{END_MAX}
+use Rattle.plan_forest.specs.declared.forest.TheConstants.{END_MAX}
 use Rattle.watch_machine.specs.declared.clocks.WallOffset.{WallOffset}
 use Rattle.watch_machine.specs.declared.command.Output.{Output}
 use Rattle.watch_machine.specs.declared.command.Request.{Request}

@@ -2,15 +2,15 @@
 -- Source: this project's own.
 use Rattle.std.specs.Prelude.{◌≡◌, ◌⊎◌, ℕ, ◌+◌, ◌-◌, ◌<◌, ◌≤◌, true, false, not, ◌&&◌, Bool, List, [], ◌∷◌, Option, Some, None, IfSome, Result, Ok, Err, is_none, length, map}
 use Rattle.std.specs.List.{All, range_with_len}
-use Rattle.keep_tree.specs.declared.entry.Entry.{Entry}
-use Rattle.keep_tree.specs.Forest.{Forest}
-use Rattle.keep_tree.specs.Push.{IsForest}
-use Rattle.keep_tree.specs.Renewal.{renewal}
-use Rattle.keep_rule.specs.declared.wake.Wake.{Wake}
-use Rattle.keep_rule.specs.Asks.{asks, first_of, with_asks}
-use Rattle.keep_rule.specs.Ends.{ends_after_wake_up, is_asked}
-use Rattle.keep_rule.specs.Least.{IsLeastAndLatest}
-use Rattle.keep_rule.specs.Unkeepable.{AllKeepable}
+use Rattle.plan_forest.specs.declared.entry.Entry.{Entry}
+use Rattle.plan_forest.specs.Forest.{Forest}
+use Rattle.plan_forest.specs.Push.{IsForest}
+use Rattle.plan_forest.specs.Renewal.{renewal}
+use Rattle.plan_rule.specs.declared.wake.Wake.{Wake}
+use Rattle.plan_rule.specs.Asks.{asks, first_of, with_asks}
+use Rattle.plan_rule.specs.Ends.{ends_after_wake_up, is_asked}
+use Rattle.plan_rule.specs.Least.{IsLeastAndLatest}
+use Rattle.plan_rule.specs.Unkeepable.{AllKeepable}
 use Rattle.watch_machine.specs.declared.command.Output.{Output}
 use Rattle.watch_machine.specs.declared.event.Event.{Event}
 use Rattle.watch_machine.specs.declared.event.Event.TheVariants.{Clock, Renewed}

@@ -1,7 +1,7 @@
 -- Dates: what the date of one reply makes of the broker's clock. The law is the contract of a public function without a body.
 -- Source: this project's own; a reply's date is RFC 9110, 5.6.7 and 6.6.1.
 use Rattle.std.specs.Prelude.{◌≡◌, ◌⊎◌, ℕ, ◌+◌, ◌<◌, true, false, [], ◌∷◌, Some, None, is_none, min}
-use Rattle.keep_moment.specs.declared.moment.TheConstants.{LAST}
+use Rattle.base_moment.specs.declared.moment.TheConstants.{LAST}
 use Rattle.watch_machine.specs.declared.clocks.BrokerOffset.{BrokerOffset}
 use Rattle.watch_machine.specs.declared.lanes.Answer.{Answer}
 use Rattle.watch_machine.specs.Clocks.{sec}

@@ -2,10 +2,10 @@
 -- Source: this project's own, over Vault, "Tokens" (a token's end ends its children and its leases).
 use Rattle.std.specs.Prelude.{◌≡◌, ◌⊎◌, ◌↔◌, ℕ, ◌+◌, ◌<◌, ◌≤◌, Bool, true, false, if◌then◌else◌, map, min, length}
 use Rattle.std.specs.List.{range_with_len}
-use Rattle.keep_moment.specs.declared.moment.TheConstants.{LAST}
-use Rattle.keep_tree.specs.declared.entry.Entry.{Entry}
-use Rattle.keep_tree.specs.Carried.{carried}
-use Rattle.keep_tree.specs.Over.{Over}
+use Rattle.base_moment.specs.declared.moment.TheConstants.{LAST}
+use Rattle.plan_forest.specs.declared.entry.Entry.{Entry}
+use Rattle.plan_forest.specs.Carried.{carried}
+use Rattle.plan_forest.specs.Over.{Over}
 use Rattle.watch_machine.specs.declared.clocks.Clocks.{Clocks}
 use Rattle.watch_machine.specs.declared.track.End.{End}
 use Rattle.watch_machine.specs.declared.track.End.TheVariants.{Unknown, At, Never}

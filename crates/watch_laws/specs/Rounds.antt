@@ -2,14 +2,14 @@
 -- Source: this project's own, over Vault, "Lease, renew, and revoke".
 use Rattle.std.specs.Prelude.{◌≡◌, ℕ, ◌<◌, ◌≤◌, Bool, true, false, not, ◌&&◌, ◌||◌, if◌then◌else◌, List, [], ◌∷◌, Option, Some, None, is_some, length, map}
 use Rattle.std.specs.List.{range_with_len}
-use Rattle.keep_tree.specs.declared.entry.Entry.{Entry}
-use Rattle.keep_tree.specs.Carried.{carried}
-use Rattle.keep_tree.specs.Forest.{Forest}
-use Rattle.keep_tree.specs.Push.{IsForest}
-use Rattle.keep_tree.specs.Renewal.{renewal}
-use Rattle.keep_rule.specs.Asks.{asks}
-use Rattle.keep_rule.specs.Forced.{bound}
-use Rattle.keep_rule.specs.Schedule.{IsNextMoment}
+use Rattle.plan_forest.specs.declared.entry.Entry.{Entry}
+use Rattle.plan_forest.specs.Carried.{carried}
+use Rattle.plan_forest.specs.Forest.{Forest}
+use Rattle.plan_forest.specs.Push.{IsForest}
+use Rattle.plan_forest.specs.Renewal.{renewal}
+use Rattle.plan_rule.specs.Asks.{asks}
+use Rattle.plan_rule.specs.Forced.{bound}
+use Rattle.plan_rule.specs.Schedule.{IsNextMoment}
 use Rattle.watch_machine.specs.Beginning.{is_pressed}
 use Rattle.watch_machine.specs.History.{History, Turned}
 use Rattle.watch_machine.specs.State.{WatchState, second, track_at}

@@ -1,7 +1,7 @@
 -- Time: nobody is renewed too early. Each law is the contract of a public function without a body.
 use Rattle.std.specs.Prelude.{◌≡◌, ◌==◌, ℕ, ◌+◌, ◌<◌, ◌≤◌, Bool, true, false, ◌&&◌, ◌||◌, if◌then◌else◌, List, [], ◌∷◌, Option, Some, None, Result, Ok, Err, IfSome, length}
 use Rattle.std.specs.List.{list_any}
-use Rattle.keep_tree.specs.Forest.{Forest}
+use Rattle.plan_forest.specs.Forest.{Forest}
 use Rattle.watch_machine.specs.declared.command.Output.{Output}
 use Rattle.watch_machine.specs.declared.command.Request.{Request}
 use Rattle.watch_machine.specs.declared.event.Event.{Event}

@@ -1,6 +1,6 @@
 -- ClockParts: the parts of a clock are together the step of the definitions. For `clock`.
 use Rattle.std.proofs.Common.{◌≡◌, ◌∙◌, ℕ, ◌-◌, ◌<◌, ◌++◌, Bool, List, [], Option, Some, None, length, map, sym, ap, subst}
-use Rattle.keep_tree.specs.Forest.{Forest, entry_at}
+use Rattle.plan_forest.specs.Forest.{Forest, entry_at}
 use Rattle.watch_machine.specs.declared.clocks.Clocks.{Clocks}
 use Rattle.watch_machine.specs.declared.command.Command.TheVariants.{Go}
 use Rattle.watch_machine.specs.declared.command.Request.{Request}

@@ -4,13 +4,13 @@ use Rattle.std.proofs.lemmas.Bool.{cases_Bool, cond-false, cond-true}
 use Rattle.std.proofs.lemmas.Bool.Decides.{nat_tests}
 use Rattle.std.proofs.lemmas.List.{length-set, set-set}
 use Rattle.std.proofs.lemmas.List.FromFn.{fill_by_all}
-use Rattle.keep_tree.specs.declared.entry.Entry.{Entry}
-use Rattle.keep_tree.specs.declared.forest.TheConstants.{END_MAX}
-use Rattle.keep_tree.specs.Forest.{Forest, entry_at, no_entry}
-use Rattle.keep_tree.specs.Push.{IsForest, is_lease, is_too_high}
-use Rattle.keep_tree.proofs.Carrying.{and_right}
-use Rattle.keep_tree.proofs.Entries.{entry_at_set_other, entry_at_set_same}
-use Rattle.keep_tree.proofs.Placed.{Replaces, orphaned_is_forest, range_from_parts, range_parts, replaced_is_forest}
+use Rattle.plan_forest.specs.declared.entry.Entry.{Entry}
+use Rattle.plan_forest.specs.declared.forest.TheConstants.{END_MAX}
+use Rattle.plan_forest.specs.Forest.{Forest, entry_at, no_entry}
+use Rattle.plan_forest.specs.Push.{IsForest, is_lease, is_too_high}
+use Rattle.plan_forest.proofs.Carrying.{and_right}
+use Rattle.plan_forest.proofs.Entries.{entry_at_set_other, entry_at_set_same}
+use Rattle.plan_forest.proofs.Placed.{Replaces, orphaned_is_forest, range_from_parts, range_parts, replaced_is_forest}
 use Rattle.watch_machine.specs.declared.change.Was.{Was}
 use Rattle.watch_machine.specs.declared.change.Was.TheVariants.{New, Same, Retold}
 use Rattle.watch_machine.specs.declared.event.Terms.{Terms}

@@ -5,7 +5,7 @@ use Rattle.std.proofs.lemmas.Bool.Decides.{nat_tests}
 use Rattle.std.proofs.lemmas.List.{get_or_past}
 use Rattle.std.proofs.lemmas.List.FromFn.{get_or-map-range_with_len}
 use Rattle.std.proofs.lemmas.List.Sums.{sum_by-cons}
-use Rattle.keep_tree.specs.Forest.{Forest, entry_at, no_entry}
+use Rattle.plan_forest.specs.Forest.{Forest, entry_at, no_entry}
 use Rattle.watch_machine.specs.declared.change.Was.{Was}
 use Rattle.watch_machine.specs.declared.change.Was.TheVariants.{New}
 use Rattle.watch_machine.specs.declared.event.Operation.{Operation}

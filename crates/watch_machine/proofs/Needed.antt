@@ -6,12 +6,12 @@ use Rattle.std.proofs.lemmas.List.{get_or_past}
 use Rattle.std.proofs.lemmas.List.Folds.{list_any_at}
 use Rattle.std.proofs.lemmas.List.FromFn.{get_or-map-range_with_len, length-map-range_with_len}
 use Rattle.std.specs.List.{list_any, range_with_len}
-use Rattle.keep_needs.specs.Carried.{CarriedNeed, IsCarried, load_at}
-use Rattle.keep_tree.specs.declared.entry.Entry.{Entry}
-use Rattle.keep_tree.specs.Carried.{carried, carried_of}
-use Rattle.keep_tree.specs.Forest.{Forest, entry_at, no_entry}
-use Rattle.keep_tree.specs.Over.{is_over}
-use Rattle.keep_tree.proofs.Entries.{entry_at_past, entry_at_set_other, entry_at_set_same}
+use Rattle.plan_needs.specs.Carried.{CarriedNeed, IsCarried, load_at}
+use Rattle.plan_forest.specs.declared.entry.Entry.{Entry}
+use Rattle.plan_forest.specs.Carried.{carried, carried_of}
+use Rattle.plan_forest.specs.Forest.{Forest, entry_at, no_entry}
+use Rattle.plan_forest.specs.Over.{is_over}
+use Rattle.plan_forest.proofs.Entries.{entry_at_past, entry_at_set_other, entry_at_set_same}
 use Rattle.watch_machine.specs.declared.clocks.Clocks.{Clocks}
 use Rattle.watch_machine.specs.declared.track.Track.{Track}
 use Rattle.watch_machine.specs.Clocks.{sec}

@@ -5,12 +5,12 @@ use Rattle.std.proofs.lemmas.Bool.Decides.{nat_tests}
 use Rattle.std.proofs.lemmas.List.{ext_get_or}
 use Rattle.std.proofs.lemmas.List.FromFn.{get_or-map-range_with_len, length-map-range_with_len}
 use Rattle.std.specs.List.{list_any, range_with_len}
-use Rattle.keep_tree.specs.declared.entry.Entry.{Entry}
-use Rattle.keep_tree.specs.Forest.{Forest, entry_at, no_entry}
-use Rattle.keep_tree.specs.Push.{IsForest}
-use Rattle.keep_tree.proofs.Placed.{parents_first}
-use Rattle.keep_tree.specs.Renewal.{capped}
-use Rattle.keep_tree.proofs.Entries.{entry_at_past, entry_at_set_other, entry_at_set_same}
+use Rattle.plan_forest.specs.declared.entry.Entry.{Entry}
+use Rattle.plan_forest.specs.Forest.{Forest, entry_at, no_entry}
+use Rattle.plan_forest.specs.Push.{IsForest}
+use Rattle.plan_forest.proofs.Placed.{parents_first}
+use Rattle.plan_forest.specs.Renewal.{capped}
+use Rattle.plan_forest.proofs.Entries.{entry_at_past, entry_at_set_other, entry_at_set_same}
 use Rattle.watch_machine.specs.declared.clocks.Clocks.{Clocks}
 use Rattle.watch_machine.specs.declared.track.Track.{Track}
 use Rattle.watch_machine.specs.Clocks.{sec}

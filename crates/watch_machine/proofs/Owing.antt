@@ -1,8 +1,8 @@
 -- Owing: by the loads that the entries carry, those are called who are called by the definition; and so with who is pressed. For the steps 3
 -- and 4 of a clock.
 use Rattle.std.proofs.Common.{◌≡◌, ◌∙◌, ℕ, ◌<◌, Bool, List, [], length, refl, sym, ap, ap₂, subst}
-use Rattle.keep_needs.specs.Carried.{CarriedNeed, IsCarried, load_at}
-use Rattle.keep_tree.specs.Forest.{Forest, entry_at}
+use Rattle.plan_needs.specs.Carried.{CarriedNeed, IsCarried, load_at}
+use Rattle.plan_forest.specs.Forest.{Forest, entry_at}
 use Rattle.watch_machine.specs.declared.clocks.Clocks.{Clocks}
 use Rattle.watch_machine.specs.declared.track.Track.{Track}
 use Rattle.watch_machine.specs.Beginning.{called_by, is_called, owing, owing_all}

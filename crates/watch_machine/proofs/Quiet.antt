@@ -2,7 +2,7 @@
 use Rattle.std.proofs.Common.{◌≡◌, ◌∙◌, ℕ, ◌/◌, ◌<◌, ◌≤◌, Bool, true, false, min, not, ◌&&◌, ◌||◌, if◌then◌else◌, Option, Some, None, nat_lt, refl, sym, ap, ap₂, subst, arith, inl, inr}
 use Rattle.std.proofs.lemmas.Bool.{and_from, and_parts, cases_Bool, cond-false, cond-true}
 use Rattle.std.proofs.lemmas.Bool.Decides.{nat_tests}
-use Rattle.keep_tree.specs.declared.entry.Entry.{Entry}
+use Rattle.plan_forest.specs.declared.entry.Entry.{Entry}
 use Rattle.watch_machine.specs.declared.lanes.Presence.{Presence}
 use Rattle.watch_machine.specs.declared.lull.TheConstants.{NEVER}
 use Rattle.watch_machine.specs.declared.reading.TheConstants.{READING_MAX}

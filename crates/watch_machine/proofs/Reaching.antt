@@ -2,10 +2,10 @@
 use Rattle.std.proofs.Common.{◌≡◌, ◌∙◌, ℕ, Bool, true, false, ◌||◌, List, Some, None, map, min, sym, ap}
 use Rattle.std.proofs.lemmas.Bool.{or_left}
 use Rattle.std.specs.List.{list_any}
-use Rattle.keep_tree.specs.declared.entry.Entry.{Entry}
-use Rattle.keep_tree.specs.Forest.{entry_at}
-use Rattle.keep_tree.specs.Over.{chain, chain_of}
-use Rattle.keep_tree.proofs.Chains.{ParentsFirst, chain_child, chain_root}
+use Rattle.plan_forest.specs.declared.entry.Entry.{Entry}
+use Rattle.plan_forest.specs.Forest.{entry_at}
+use Rattle.plan_forest.specs.Over.{chain, chain_of}
+use Rattle.plan_forest.proofs.Chains.{ParentsFirst, chain_child, chain_root}
 use Rattle.watch_machine.specs.Wanted.{least}
 
 module _ (es : List Entry) (i : ℕ) where

@@ -6,15 +6,15 @@ use Rattle.std.proofs.lemmas.Bool.{cases_Bool, cases_eq, cond-true, cond-false}
 use Rattle.std.proofs.lemmas.Bool.Decides.{nat_tests}
 use Rattle.std.proofs.lemmas.List.{ext_get_or, get_or-map, length-set, map-set, set-get_or, set-set}
 use Rattle.std.proofs.lemmas.List.FromFn.{get_or-map-range_with_len, length-map-range_with_len}
-use Rattle.keep_tree.specs.declared.entry.Entry.{Entry}
-use Rattle.keep_tree.specs.declared.forest.TheConstants.{END_MAX}
-use Rattle.keep_tree.specs.Forest.{Forest, entry_at, no_entry}
-use Rattle.keep_tree.specs.Over.{chain}
-use Rattle.keep_tree.specs.Carried.{carried_of}
-use Rattle.keep_tree.specs.Over.{is_over}
-use Rattle.keep_tree.specs.Push.{is_lease, is_too_high}
-use Rattle.keep_tree.proofs.Chains.{ParentsFirst, chain_child, chain_root}
-use Rattle.keep_tree.proofs.Entries.{entry_at_set_other, entry_at_set_same}
+use Rattle.plan_forest.specs.declared.entry.Entry.{Entry}
+use Rattle.plan_forest.specs.declared.forest.TheConstants.{END_MAX}
+use Rattle.plan_forest.specs.Forest.{Forest, entry_at, no_entry}
+use Rattle.plan_forest.specs.Over.{chain}
+use Rattle.plan_forest.specs.Carried.{carried_of}
+use Rattle.plan_forest.specs.Over.{is_over}
+use Rattle.plan_forest.specs.Push.{is_lease, is_too_high}
+use Rattle.plan_forest.proofs.Chains.{ParentsFirst, chain_child, chain_root}
+use Rattle.plan_forest.proofs.Entries.{entry_at_set_other, entry_at_set_same}
 use Rattle.watch_machine.specs.declared.event.Terms.{Terms}
 use Rattle.watch_machine.specs.declared.track.Track.{Track}
 use Rattle.watch_machine.specs.declared.clocks.Clocks.{Clocks}

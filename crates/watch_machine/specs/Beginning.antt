@@ -2,8 +2,8 @@
 -- Source: this project's own.
 use Rattle.std.specs.Prelude.{ℕ, ◌+◌, Bool, true, false, not, ◌&&◌, ◌||◌, if◌then◌else◌, List, Option, Some, None, is_none, max, min, nat_le, nat_lt}
 use Rattle.std.specs.List.{list_any}
-use Rattle.keep_tree.specs.Carried.{carried}
-use Rattle.keep_tree.specs.Forest.{Forest}
+use Rattle.plan_forest.specs.Carried.{carried}
+use Rattle.plan_forest.specs.Forest.{Forest}
 use Rattle.watch_machine.specs.declared.clocks.Clocks.{Clocks}
 use Rattle.watch_machine.specs.declared.event.Operation.TheVariants.{Look}
 use Rattle.watch_machine.specs.declared.notes.Why.{Why}

@@ -4,7 +4,7 @@ use Rattle.std.specs.Prelude.{ℕ, ◌+◌, ◌-◌, ◌*◌, ◌/◌, ◌%◌, 
 use Rattle.watch_machine.specs.declared.clocks.BrokerOffset.{BrokerOffset}
 use Rattle.watch_machine.specs.declared.clocks.Clocks.{Clocks}
 use Rattle.watch_machine.specs.declared.clocks.WallOffset.{WallOffset}
-use Rattle.keep_moment.specs.declared.moment.TheConstants.{LAST}
+use Rattle.base_moment.specs.declared.moment.TheConstants.{LAST}
 
 -- the second of a moment in milliseconds
 unfoldable pub sec : ℕ → ℕ

@@ -1,7 +1,7 @@
 -- History: what every list of events gives, and of changes of what is watched among them.
 -- Source: this project's own.
 use Rattle.std.specs.Prelude.{◌≡◌, ℕ, List, [], ◌∷◌, Option, Some, None, Result, Ok, Err, length}
-use Rattle.keep_tree.specs.Forest.{Forest}
+use Rattle.plan_forest.specs.Forest.{Forest}
 use Rattle.watch_machine.specs.declared.change.Was.{Was}
 use Rattle.watch_machine.specs.declared.command.Output.{Output}
 use Rattle.watch_machine.specs.declared.event.Event.{Event}

@@ -1,7 +1,7 @@
 -- Outlook: what a watch says of itself between two events: what the broker's clock shows, and when an entry is next due.
 -- Source: this project's own.
 use Rattle.std.specs.Prelude.{◌≡◌, ℕ, ◌<◌, ◌≤◌, Bool, true, false, ◌&&◌, Option, Some, None, length, min, nat_lt}
-use Rattle.keep_tree.specs.declared.forest.TheConstants.{END_MAX}
+use Rattle.plan_forest.specs.declared.forest.TheConstants.{END_MAX}
 use Rattle.watch_machine.specs.declared.outlook.Next.{Next}
 use Rattle.watch_machine.specs.declared.track.Track.{Track}
 use Rattle.watch_machine.specs.Clocks.{to_broker}

@@ -2,13 +2,13 @@
 -- Source: this project's own, over Vault, "Lease, renew, and revoke".
 use Rattle.std.specs.Prelude.{◌≡◌, ℕ, ◌+◌, ◌≤◌, Bool, true, false, not, ◌&&◌, ◌||◌, if◌then◌else◌, List, [], Option, Some, None, length, map}
 use Rattle.std.specs.List.{list_any, range_with_len}
-use Rattle.keep_tree.specs.declared.entry.Entry.{Entry}
-use Rattle.keep_tree.specs.Carried.{carried}
-use Rattle.keep_tree.specs.Forest.{Forest, end_of, entry_at}
-use Rattle.keep_tree.specs.Renewal.{capped}
-use Rattle.keep_rule.specs.Asks.{asks}
-use Rattle.keep_rule.specs.Forced.{bound}
-use Rattle.keep_rule.specs.Schedule.{IsNextMoment}
+use Rattle.plan_forest.specs.declared.entry.Entry.{Entry}
+use Rattle.plan_forest.specs.Carried.{carried}
+use Rattle.plan_forest.specs.Forest.{Forest, end_of, entry_at}
+use Rattle.plan_forest.specs.Renewal.{capped}
+use Rattle.plan_rule.specs.Asks.{asks}
+use Rattle.plan_rule.specs.Forced.{bound}
+use Rattle.plan_rule.specs.Schedule.{IsNextMoment}
 use Rattle.watch_machine.specs.declared.clocks.Clocks.{Clocks}
 use Rattle.watch_machine.specs.declared.track.Track.{Track}
 use Rattle.watch_machine.specs.Beginning.{is_pressed}

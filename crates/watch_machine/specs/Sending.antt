@@ -2,8 +2,8 @@
 -- Source: this project's own.
 use Rattle.std.specs.Prelude.{◌≡◌, ◌==◌, ℕ, ◌-◌, ◌*◌, ◌^◌, Bool, true, false, ◌&&◌, ◌||◌, if◌then◌else◌, List, ◌++◌, Option, Some, None, IsPermutation, IsSortedBy, filter, length, map, max, min, nat_lt, take}
 use Rattle.std.specs.List.{list_any, range_with_len}
-use Rattle.keep_tree.specs.declared.entry.Entry.{Entry}
-use Rattle.keep_tree.specs.Forest.{Forest, entry_at}
+use Rattle.plan_forest.specs.declared.entry.Entry.{Entry}
+use Rattle.plan_forest.specs.Forest.{Forest, entry_at}
 use Rattle.watch_machine.specs.declared.command.Patience.{Patience}
 use Rattle.watch_machine.specs.declared.command.Patience.TheVariants.{Full, AtMost}
 use Rattle.watch_machine.specs.declared.command.Request.{Request}

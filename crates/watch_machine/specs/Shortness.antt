@@ -4,9 +4,9 @@
 use Rattle.std.specs.Prelude.{ℕ, ◌==◌, Bool, not, ◌&&◌, ◌||◌, if◌then◌else◌, Option, Some, None, map, nat_lt, ◌+◌, true, nat_le}
 use Rattle.std.specs.List.{list_any}
 use Rattle.std.specs.Option.{unwrap_or}
-use Rattle.keep_rule.specs.Reach.{reach_of}
-use Rattle.keep_tree.specs.declared.forest.TheConstants.{END_MAX}
-use Rattle.keep_tree.specs.Over.{chain}
+use Rattle.plan_rule.specs.Reach.{reach_of}
+use Rattle.plan_forest.specs.declared.forest.TheConstants.{END_MAX}
+use Rattle.plan_forest.specs.Over.{chain}
 use Rattle.watch_machine.specs.declared.track.End.{End}
 use Rattle.watch_machine.specs.declared.track.End.TheVariants.{Unknown, At, Never}
 use Rattle.watch_machine.specs.Outlook.{broker_moment, broker_now}

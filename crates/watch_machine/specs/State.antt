@@ -2,8 +2,8 @@
 -- Source: this project's own.
 use Rattle.std.specs.Prelude.{ℕ, Bool, true, false, not, ◌&&◌, List, [], Option, None, length, map, slice_index_or}
 use Rattle.std.specs.List.{range_with_len}
-use Rattle.keep_tree.specs.declared.entry.Entry.{Entry}
-use Rattle.keep_tree.specs.Forest.{Forest, entry_at}
+use Rattle.plan_forest.specs.declared.entry.Entry.{Entry}
+use Rattle.plan_forest.specs.Forest.{Forest, entry_at}
 use Rattle.watch_machine.specs.declared.clocks.Clocks.{Clocks}
 use Rattle.watch_machine.specs.declared.lanes.Answer.{Answer}
 use Rattle.watch_machine.specs.declared.lanes.Out.{Out}

@@ -2,7 +2,7 @@
 -- Source: this project's own.
 use Rattle.std.specs.Prelude.{ℕ, ◌+◌, ◌*◌, not, ◌&&◌, if◌then◌else◌, Option, Some, None, length, map, max, min, nat_lt}
 use Rattle.std.specs.List.{range_with_len}
-use Rattle.keep_tree.specs.declared.entry.Entry.{Entry}
+use Rattle.plan_forest.specs.declared.entry.Entry.{Entry}
 use Rattle.watch_machine.specs.declared.lanes.Presence.{Presence}
 use Rattle.watch_machine.specs.declared.track.Track.{Track}
 use Rattle.watch_machine.specs.declared.track.Try.{Try}

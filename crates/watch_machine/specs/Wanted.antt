@@ -2,12 +2,12 @@
 -- Source: Vault, "Tokens" (a token's end ends its children and its leases); needs are this project's own.
 use Rattle.std.specs.Prelude.{ℕ, Bool, true, false, not, ◌&&◌, ◌||◌, ◌==◌, if◌then◌else◌, List, Option, filter, fold, length, map, max, min, option_map, nat_lt}
 use Rattle.std.specs.List.{range_with_len}
-use Rattle.keep_moment.specs.declared.moment.TheConstants.{LAST}
-use Rattle.keep_tree.specs.declared.entry.Entry.{Entry}
-use Rattle.keep_tree.specs.declared.forest.TheConstants.{END_MAX}
-use Rattle.keep_tree.specs.Carried.{carried}
-use Rattle.keep_tree.specs.Forest.{entry_at}
-use Rattle.keep_tree.specs.Over.{chain}
+use Rattle.base_moment.specs.declared.moment.TheConstants.{LAST}
+use Rattle.plan_forest.specs.declared.entry.Entry.{Entry}
+use Rattle.plan_forest.specs.declared.forest.TheConstants.{END_MAX}
+use Rattle.plan_forest.specs.Carried.{carried}
+use Rattle.plan_forest.specs.Forest.{entry_at}
+use Rattle.plan_forest.specs.Over.{chain}
 use Rattle.watch_machine.specs.declared.clocks.Clocks.{Clocks}
 use Rattle.watch_machine.specs.declared.track.End.{End}
 use Rattle.watch_machine.specs.declared.track.End.TheVariants.{Unknown, At, Never}

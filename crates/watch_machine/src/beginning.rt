@@ -2,7 +2,7 @@ ghost use Rattle.std.specs.Prelude.{◌≡◌, ◌≤◌, ◌<◌, ◌&&◌, ℕ
 ghost use Rattle.watch_machine.specs.code.Bounds.{IsTrack, IsTry};
 ghost use Rattle.std.specs.List.{All};
 ghost use Rattle.std.specs.List.{list_any};
-ghost use Rattle.keep_needs.specs.Carried.{load_at};
+ghost use Rattle.plan_needs.specs.Carried.{load_at};
 ghost use Rattle.watch_machine.specs.Beginning.{beginning, called_by, hastened, is_past, is_pressed, is_start, is_urgent, owed, owing, owing_lookup, owing_past, soon, untopped_track};
 ghost use Rattle.watch_machine.specs.State.{each};
 
@@ -12,7 +12,7 @@ use crate::notes::Why;
 use crate::reading::{Millis, second};
 use crate::track::{Track, Try, keeps_last_try};
 use crate::wanted::{is_alive, is_open};
-use keep_needs::Carried;
+use plan_needs::Carried;
 
 /// Whether the entry is to be kept alive by its try.
 pub(crate) fn is_pressed(track: Track) -> bool

@@ -1,7 +1,7 @@
 //! Another forest is watched from now on, and what is known of those of its entries that were watched before.
 ghost use Rattle.std.specs.Prelude.{◌≡◌, ◌+◌, ◌<◌, ◌≤◌, IfErr, IfOk, IfSome, IsTrue, OnErr, OnOk, length, slice_set};
 ghost use Rattle.std.specs.List.{All};
-ghost use Rattle.keep_tree.specs.Forest.{entry_at};
+ghost use Rattle.plan_forest.specs.Forest.{entry_at};
 ghost use Rattle.watch_machine.specs.Change.{IsChange, changed, entry_by, forest_after, former, is_former, moved_out, out_after, place_now, terms_left, track_by, tracks_after, was_at};
 ghost use Rattle.watch_machine.specs.code.Bounds.{IsTrack, WentOutAtReading};
 ghost use Rattle.watch_machine.specs.declared.fault.WatchFault.TheVariants.{OutOfMemory};
@@ -14,7 +14,7 @@ use crate::new_terms::take_terms;
 use crate::reading::Millis;
 use crate::track::Track;
 use crate::watch::{Watch, fresh_track};
-use keep_tree::{Entry, Forest};
+use plan_forest::{Entry, Forest};
 use std::alloc::{AllocError, Global};
 
 /// Where an entry of another forest was in the one that is watched.

@@ -29,8 +29,8 @@ use crate::settling::{dated_by_all, is_holding, pace_after, presence_after, sett
 use crate::track::Track;
 use crate::waiting::{latest, wait};
 use crate::watch::Watch;
-use keep_needs::carry;
-use keep_tree::{Forest, Indices};
+use plan_forest::{Forest, Indices};
+use plan_needs::carry;
 use std::alloc::Global;
 
 /// The clocks at later readings, whether the wall has jumped, and whether the broker's clock was set on since the last beginning.

@@ -1,6 +1,6 @@
 ghost use Rattle.std.specs.Prelude.{◌≡◌, ◌≤◌, ◌*◌, ◌+◌, IfSome, IsTrue};
-ghost use Rattle.keep_moment.specs.declared.moment.TheConstants.{LAST};
-ghost use Rattle.keep_tree.specs.declared.forest.TheConstants.{END_MAX};
+ghost use Rattle.base_moment.specs.declared.moment.TheConstants.{LAST};
+ghost use Rattle.plan_forest.specs.declared.forest.TheConstants.{END_MAX};
 ghost use Rattle.watch_machine.specs.Clocks.{dated_by, first_clocks, is_ahead, is_behind, is_stepped, of_wall, phase_of, to_broker, to_here, to_wall, unset, walled};
 ghost use Rattle.watch_machine.specs.Settling.{at_reading};
 ghost use Rattle.watch_machine.specs.Wanted.{ceiling_here, need_here};
@@ -9,8 +9,8 @@ ghost use Rattle.watch_machine.specs.code.Lull.{GoesOn};
 ghost use Rattle.watch_machine.specs.declared.reading.TheConstants.{READING_MAX};
 
 use crate::reading::{BrokerSeconds, Millis, WallMillis, reading, second};
-use keep_moment::LAST;
-use keep_tree::END_MAX;
+use base_moment::LAST;
+use plan_forest::END_MAX;
 
 /// How the broker's clock goes beside this one: it showed the moment `there` in the second of `here`.
 #[derive(Clone, Copy, Debug, PartialEq, Eq)]

@@ -1,4 +1,4 @@
-use keep_moment::Span;
+use base_moment::Span;
 
 /// What is asked of the broker.
 ///

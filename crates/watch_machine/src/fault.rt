@@ -1,7 +1,7 @@
 ghost use Rattle.std.specs.Prelude.{◌≡◌};
 ghost use Rattle.watch_machine.specs.declared.fault.WatchFault.TheVariants.{OutOfMemory};
 
-use keep_needs::NeedsFault;
+use plan_needs::NeedsFault;
 use std::alloc::{AllocError, AllocFailed};
 use thiserror::Error;
 

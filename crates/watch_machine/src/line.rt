@@ -25,7 +25,7 @@ use crate::reading::{Millis, Seconds, second};
 use crate::sending::{Place, requests_by};
 use crate::track::Track;
 use crate::wanted::wants;
-use keep_tree::{Entry, Forest};
+use plan_forest::{Entry, Forest};
 use std::alloc::{AllocError, Global};
 
 /// Those that wait for a lane, in the order in which they go out, and how long nothing else is to be done of any entry.

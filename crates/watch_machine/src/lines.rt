@@ -10,7 +10,7 @@ use crate::reading::Millis;
 use crate::refusal::is_same;
 use crate::track::{Track, Try};
 use crate::wanted::{believed, is_alive};
-use keep_tree::Entry;
+use plan_forest::Entry;
 
 /// The moment from which an entry may be asked again: a second after it was last asked.
 pub(crate) fn rested(last: Option<Millis>) -> Millis

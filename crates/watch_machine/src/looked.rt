@@ -1,7 +1,7 @@
 ghost use Rattle.std.specs.Prelude.{◌≡◌, ◌<◌, ◌&&◌, not, Some, is_some, length, ◌≤◌, IfSome};
 ghost use Rattle.watch_machine.specs.code.Bounds.{IsTrack, IsTry, WentOutAtReading};
 ghost use Rattle.watch_machine.specs.declared.reading.TheConstants.{READING_MAX};
-ghost use Rattle.keep_tree.specs.Push.{is_lease};
+ghost use Rattle.plan_forest.specs.Push.{is_lease};
 ghost use Rattle.watch_machine.specs.Answers.{with_track};
 ghost use Rattle.watch_machine.specs.Looked.{after_look, at_once, is_called_for, looked, refused_try, status_of, told_state, told_track, told_try, untold_track, untold_try, with_told_try};
 ghost use Rattle.watch_machine.specs.State.{entry_of, track_at};
@@ -17,7 +17,7 @@ use crate::reading::{Millis, second};
 use crate::track::{End, Track, Try};
 use crate::wanted::{is_alive, is_never, is_open, need_of, wants};
 use crate::watch::Watch;
-use keep_moment::Span;
+use base_moment::Span;
 
 /// A track as a lookup told it that went out at `since`, but for its try.
 #[tactic(auto, unfolding(crate::specs::Looked::told_track))]

@@ -19,7 +19,7 @@ use crate::outlook::{Next, first_time};
 use crate::reading::{Millis, Seconds, second};
 use crate::track::Track;
 use crate::wanted::{believed, is_alive, wants};
-use keep_tree::{Entry, Forest};
+use plan_forest::{Entry, Forest};
 
 /// Later than every moment.
 pub(crate) const NEVER: u64 = 18446744073709551615;

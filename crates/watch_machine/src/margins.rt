@@ -1,10 +1,10 @@
 ghost use Rattle.std.specs.Prelude.{◌≡◌, ◌*◌, ◌/◌, ◌≤◌, min};
 ghost use Rattle.watch_machine.specs.code.Bounds.{IsEnd};
-ghost use Rattle.keep_tree.specs.declared.forest.TheConstants.{END_MAX};
+ghost use Rattle.plan_forest.specs.declared.forest.TheConstants.{END_MAX};
 ghost use Rattle.watch_machine.specs.Margins.{asking_margin, has_come, is_in_plan, lead, own_by, own_margin, time};
 
 use crate::track::{End, Grant, Track, has_last_try};
-use keep_tree::{END_MAX, Entry};
+use plan_forest::{END_MAX, Entry};
 
 /// How far a renewal is taken to lead, in seconds: the lesser of the step and the last grant.
 pub(crate) fn lead(step: u32, grant: Option<Grant>) -> u32

@@ -11,8 +11,8 @@ use crate::fault::WatchFault;
 use crate::reading::{moment_at, second};
 use crate::track::{Track, has_last_try};
 use crate::wanted::{write_free, write_view};
-use keep_needs::{Carried, carry};
-use keep_tree::Forest;
+use plan_forest::Forest;
+use plan_needs::{Carried, carry};
 use std::alloc::{AllocError, Global};
 use std::marker::Model;
 

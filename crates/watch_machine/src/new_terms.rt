@@ -1,11 +1,11 @@
 ghost use Rattle.std.specs.Prelude.{◌≡◌, ◌<◌, ◌&&◌, not, is_some, slice_set, length};
-ghost use Rattle.keep_tree.specs.Forest.{entry_at};
-ghost use Rattle.keep_tree.specs.Push.{is_lease};
+ghost use Rattle.plan_forest.specs.Forest.{entry_at};
+ghost use Rattle.plan_forest.specs.Push.{is_lease};
 ghost use Rattle.watch_machine.specs.Looked.{by_terms, is_orphaned, orphaned, step_told};
 
 use crate::event::Terms;
 use crate::wanted::most;
-use keep_tree::{Entry, Forest, Kind};
+use plan_forest::{Entry, Forest, Kind};
 
 /// The step of an entry after one was told: that one where it is more than the margin.
 fn step_told(margin: u32, step: u32, told: Option<u32>) -> u32

@@ -1,7 +1,7 @@
 ghost use Rattle.std.specs.Prelude.{◌≡◌};
 ghost use Rattle.watch_machine.specs.Step.{nothing_noted};
 
-use keep_tree::Indices;
+use plan_forest::Indices;
 
 /// Why everything is looked up anew.
 #[derive(Clone, Copy, Debug, PartialEq, Eq)]

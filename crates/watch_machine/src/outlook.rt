@@ -1,6 +1,6 @@
 //! What a watch says of itself between two events.
 ghost use Rattle.std.specs.Prelude.{◌≡◌, ◌<◌, ◌≤◌, IfErr, IfOk, is_some, length};
-ghost use Rattle.keep_tree.specs.declared.forest.TheConstants.{END_MAX};
+ghost use Rattle.plan_forest.specs.declared.forest.TheConstants.{END_MAX};
 ghost use Rattle.watch_machine.specs.Outlook.{IsNextTime, broker_moment, is_timed, time_of};
 ghost use Rattle.watch_machine.specs.State.{track_at};
 ghost use Rattle.watch_machine.specs.Wanted.{is_wanted};
@@ -17,7 +17,7 @@ use crate::reading::{Seconds, second};
 use crate::track::{End, Track};
 use crate::wanted::{is_alive, need_of, wants};
 use crate::watch::Watch;
-use keep_tree::{END_MAX, Forest};
+use plan_forest::{END_MAX, Forest};
 use std::alloc::Global;
 
 /// The next time of an entry that is wanted.

@@ -3,7 +3,7 @@ ghost use Rattle.watch_machine.specs.code.Bounds.{IsTrack, IsTry};
 ghost use Rattle.watch_machine.specs.declared.reading.TheConstants.{READING_MAX};
 ghost use Rattle.std.specs.List.{All};
 ghost use Rattle.watch_machine.specs.code.View.{need_at};
-ghost use Rattle.keep_tree.specs.Forest.{entry_at};
+ghost use Rattle.plan_forest.specs.Forest.{entry_at};
 ghost use Rattle.watch_machine.specs.Press.{asked_track, dropped, is_fresh, press, pressed_track, track_asked_in};
 ghost use Rattle.watch_machine.specs.State.{each};
 
@@ -15,7 +15,7 @@ use crate::needs::Needs;
 use crate::reading::{Millis, second};
 use crate::track::{Track, Try};
 use crate::wanted::{is_alive, wants};
-use keep_tree::{Entry, Forest};
+use plan_forest::{Entry, Forest};
 
 /// Whether an entry with that need is wanted, its time has come, and it is neither pressed nor out.
 #[tactic(auto, unfolding(crate::specs::Press::is_fresh))]

@@ -1,9 +1,9 @@
 ghost use Rattle.std.specs.Prelude.{◌≡◌, ◌≤◌};
-ghost use Rattle.keep_moment.specs.declared.moment.TheConstants.{LAST};
+ghost use Rattle.base_moment.specs.declared.moment.TheConstants.{LAST};
 ghost use Rattle.watch_machine.specs.Clocks.{reading, sec};
 ghost use Rattle.watch_machine.specs.declared.reading.TheConstants.{READING_MAX};
 
-use keep_moment::Moment;
+use base_moment::Moment;
 
 /// The greatest reading of a clock: 9999-12-31T23:59:59.999Z, in milliseconds since 1970-01-01T00:00:00Z.
 pub const READING_MAX: u64 = 253402300799999;

@@ -1,7 +1,7 @@
 ghost use Rattle.std.specs.Prelude.{◌≡◌, ◌<◌, ◌+◌, length, min, ◌≤◌, IfSome};
 ghost use Rattle.watch_machine.specs.code.Bounds.{IsTrack, IsTry, WentOutAtReading};
 ghost use Rattle.watch_machine.specs.declared.reading.TheConstants.{READING_MAX};
-ghost use Rattle.keep_tree.specs.declared.forest.TheConstants.{END_MAX};
+ghost use Rattle.plan_forest.specs.declared.forest.TheConstants.{END_MAX};
 ghost use Rattle.watch_machine.specs.Clocks.{sec};
 ghost use Rattle.watch_machine.specs.Renewed.{after_renewal, end_at, from_base, from_try, granted, granted_from, granted_try, is_no_further, renewed_track, state_renewed, time_from, top_by, track_renewed, ungranted_track, ungranted_try};
 
@@ -14,7 +14,7 @@ use crate::reading::{Millis, Seconds, second};
 use crate::track::{End, Grant, Track, Try, keeps_last_try};
 use crate::wanted::is_alive;
 use crate::watch::Watch;
-use keep_moment::Span;
+use base_moment::Span;
 
 /// A grant as it is told: the margin and the step of its entry, its seconds, and the clocks at which it is taken and was asked for.
 #[derive(Clone, Copy, Debug)]

@@ -1,9 +1,9 @@
 ghost use Rattle.std.specs.Prelude.{◌≡◌, ℕ, ◌<◌, ◌&&◌, length, not, if◌then◌else◌, IfErr, IfOk, Some, slice_set};
 ghost use Rattle.watch_machine.specs.code.Bounds.{IsClocks};
-ghost use Rattle.keep_needs.specs.Carried.{IsCarried, load_at};
-ghost use Rattle.keep_rule.specs.Forced.{latest_end};
-ghost use Rattle.keep_tree.specs.Forest.{entry_at};
-ghost use Rattle.keep_tree.specs.Push.{IsForest};
+ghost use Rattle.plan_needs.specs.Carried.{IsCarried, load_at};
+ghost use Rattle.plan_rule.specs.Forced.{latest_end};
+ghost use Rattle.plan_forest.specs.Forest.{entry_at};
+ghost use Rattle.plan_forest.specs.Push.{IsForest};
 ghost use Rattle.watch_machine.specs.Round.{IsRound, IsSecond, is_hoped, opens, opens_some, plan_view, planned_by, step_in_plan};
 ghost use Rattle.watch_machine.specs.Wanted as wanted;
 ghost use Rattle.watch_machine.specs.code.Rounds.{IsFirstShort, first_with, is_sooner};
@@ -19,10 +19,10 @@ use crate::press::is_fresh;
 use crate::reading::{moment_at, second};
 use crate::track::Track;
 use crate::wanted::{is_alive, is_unknown, wants};
-use keep_moment::{LAST, Moment};
-use keep_needs::Carried;
-use keep_plan::asks_before;
-use keep_tree::{Entry, Forest, Indices, capped, renewal};
+use base_moment::{LAST, Moment};
+use plan_forest::{Entry, Forest, Indices, capped, renewal};
+use plan_needs::Carried;
+use plan_search::asks_before;
 use std::alloc::Global;
 
 /// Whether an entry that carries that need opens a round: it is pressed now, in the plan, and its end is ahead.
@@ -130,7 +130,7 @@ fn write_plan_view(
 }
 
 /// The latest end that the entry can have after a wake-up at `now`.
-#[tactic(auto, unfolding(keep_rule::specs::Forced::latest_end))]
+#[tactic(auto, unfolding(plan_rule::specs::Forced::latest_end))]
 fn bound(entry: &Entry, now: Moment) -> u64
     ensures { result ≡ latest_end entry.now entry.now.end (Some now) }
 {

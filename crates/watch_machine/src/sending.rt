@@ -19,7 +19,7 @@ use crate::lines::{is_due, is_first, part, rank};
 use crate::reading::{Millis, second};
 use crate::track::{Track, Try};
 use crate::wanted::is_open;
-use keep_tree::{Entry, Forest};
+use plan_forest::{Entry, Forest};
 use std::alloc::{AllocError, Global};
 
 /// Where an entry stands in the line.

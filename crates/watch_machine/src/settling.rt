@@ -3,7 +3,7 @@ ghost use Rattle.watch_machine.specs.code.Bounds.{IsClocks, IsTrack, IsTry};
 ghost use Rattle.watch_machine.specs.declared.reading.TheConstants.{READING_MAX};
 ghost use Rattle.std.specs.List.{All};
 ghost use Rattle.std.specs.List.{list_any};
-ghost use Rattle.keep_moment.specs.declared.moment.TheConstants.{LAST};
+ghost use Rattle.base_moment.specs.declared.moment.TheConstants.{LAST};
 ghost use Rattle.watch_machine.specs.Clocks.{is_ahead};
 ghost use Rattle.watch_machine.specs.Settling.{count_after, date_of, dated, dated_by_all, dated_on, held, held_back, held_by, hold_after, is_real, is_silent, is_step, pace_after, paced, presence_after, settled_track, settled_try, steps, took};
 ghost use Rattle.watch_machine.specs.State.{each};
@@ -16,7 +16,7 @@ use crate::lines::rested;
 use crate::pauses::{LONGEST, cap, doubled, pause};
 use crate::reading::{BrokerSeconds, Millis};
 use crate::track::{Track, Try};
-use keep_moment::LAST;
+use base_moment::LAST;
 use std::alloc::{AllocError, Global};
 
 /// The clocks after the answers since the last one, and whether one of their dates was ahead of a clock that a reply had told

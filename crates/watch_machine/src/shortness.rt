@@ -1,6 +1,6 @@
 //! Needs that are past what their entries reach.
 ghost use Rattle.std.specs.Prelude.{◌≡◌, ◌<◌, length, map};
-ghost use Rattle.keep_tree.specs.Over.{chain};
+ghost use Rattle.plan_forest.specs.Over.{chain};
 ghost use Rattle.watch_machine.specs.Shortness.{is_led, is_owed_over, is_untold, own_reach, short_of, there};
 ghost use Rattle.watch_machine.specs.Wanted.{least};
 
@@ -8,7 +8,7 @@ use crate::reading::second;
 use crate::track::End;
 use crate::wanted::{is_alive, is_fixed, is_never, is_unknown};
 use crate::watch::Watch;
-use keep_tree::END_MAX;
+use plan_forest::END_MAX;
 
 impl Watch {
     /// An end by the broker's clock, 0 where it is unknown, past every need where there is none.
@@ -43,7 +43,7 @@ impl Watch {
 
     /// How far renewals can lead an entry by itself, by the broker's clock, past every need where there is no limit, or where
     /// nothing is known of it.
-    #[tactic(auto, unfolding(crate::specs::Shortness::own_reach, keep_rule::specs::Reach::reach_of))]
+    #[tactic(auto, unfolding(crate::specs::Shortness::own_reach, plan_rule::specs::Reach::reach_of))]
     fn own_reach(&self, index: u32) -> u64
         requires { index < length self.now.forest.entries }
         ensures { result ≡ own_reach self.now index }

@@ -4,7 +4,7 @@ ghost use Rattle.watch_machine.specs.declared.reading.TheConstants.{READING_MAX}
 ghost use Rattle.std.specs.List.{All};
 ghost use Rattle.std.specs.List.{range_with_len};
 ghost use Rattle.watch_machine.specs.code.View.{need_at};
-ghost use Rattle.keep_tree.specs.Forest.{entry_at};
+ghost use Rattle.plan_forest.specs.Forest.{entry_at};
 ghost use Rattle.watch_machine.specs.State.{track_in};
 ghost use Rattle.watch_machine.specs.Wait.{latest, next_of, time_at, try_at};
 ghost use Rattle.watch_machine.specs.Wanted.{least};
@@ -17,7 +17,7 @@ use crate::needs::Needs;
 use crate::reading::Millis;
 use crate::track::Track;
 use crate::wanted::wants;
-use keep_tree::{Entry, Forest};
+use plan_forest::{Entry, Forest};
 
 /// The clocks are compared at least so often: every half minute, and four times a margin.
 #[tactic(auto, unfolding(crate::specs::Wait::latest))]

@@ -1,8 +1,8 @@
 ghost use Rattle.std.specs.Prelude.{◌≡◌, ℕ, ◌<◌, ◌≤◌, ◌&&◌, IfSome, length, if◌then◌else◌, max, min, nat_lt, option_map, slice_set};
 ghost use Rattle.watch_machine.specs.code.Bounds.{IsClocks, IsEnd, IsTrack};
 ghost use Rattle.std.specs.List.{All};
-ghost use Rattle.keep_tree.specs.declared.forest.TheConstants.{END_MAX};
-ghost use Rattle.keep_tree.specs.Forest.{entry_at};
+ghost use Rattle.plan_forest.specs.declared.forest.TheConstants.{END_MAX};
+ghost use Rattle.plan_forest.specs.Forest.{entry_at};
 ghost use Rattle.watch_machine.specs.Wanted.{believed, free_entry, is_alive, is_fixed, is_open, is_unknown, least_over, need_here, need_of, seen_entry, wants};
 ghost use Rattle.watch_machine.specs.Wanted as wanted;
 ghost use Rattle.watch_machine.specs.code.View.{IsView};
@@ -10,8 +10,8 @@ ghost use Rattle.watch_machine.specs.code.View.{IsView};
 use crate::clocks::Clocks;
 use crate::reading::{moment_at, second};
 use crate::track::{End, Track, has_last_try};
-use keep_moment::Moment;
-use keep_tree::{END_MAX, Forest};
+use base_moment::Moment;
+use plan_forest::{END_MAX, Forest};
 
 /// A ceiling, one past the greatest as the greatest.
 pub(crate) fn most(ceiling: Option<u64>) -> Option<u64>

@@ -1,7 +1,7 @@
 ghost use Rattle.std.specs.Prelude.{◌≡◌, ◌<◌, IfErr, IfOk, length, map, true};
 ghost use Rattle.watch_machine.specs.code.Bounds.{IsTrack};
 ghost use Rattle.std.specs.List.{All};
-ghost use Rattle.keep_moment.specs.declared.moment.TheConstants.{LAST};
+ghost use Rattle.base_moment.specs.declared.moment.TheConstants.{LAST};
 ghost use Rattle.watch_machine.specs.Answers.{with_track};
 ghost use Rattle.watch_machine.specs.declared.fault.WatchFault.TheVariants.{OutOfMemory};
 ghost use Rattle.watch_machine.specs.State.{broker_present, fresh_track, opened, track_at};
@@ -15,8 +15,8 @@ use crate::line::Line;
 use crate::lull::Lull;
 use crate::reading::{Millis, moment_at};
 use crate::track::{End, Track};
-use keep_moment::LAST;
-use keep_tree::{END_MAX, Entry, Forest};
+use base_moment::LAST;
+use plan_forest::{END_MAX, Entry, Forest};
 use std::alloc::{AllocError, Global};
 use std::marker::Model;
 

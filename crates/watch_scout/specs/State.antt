@@ -1,7 +1,7 @@
 -- State: what a scout holds between two steps.
 -- Source: this project's own.
 use Rattle.std.specs.Prelude.{ℕ, List, None, length, replicate, slice_index_or}
-use Rattle.keep_tree.specs.Forest.{Forest}
+use Rattle.plan_forest.specs.Forest.{Forest}
 use Rattle.watch_scout.specs.declared.scout.Seen.{Seen}
 
 -- the margin of the agent in front; the most lookups that are out at once; what was looked up of each entry; and how many are out

@@ -4,7 +4,7 @@ ghost use Rattle.watch_scout.specs.Hearing.{end_told, event_by, event_of, freed,
 
 use crate::scout::{Scout, Seen};
 use crate::second::second;
-use keep_moment::Span;
+use base_moment::Span;
 use watch_machine::{End, Event, Millis, Reply, Seconds, Watch};
 
 /// Whether an end is later than the believed one, where that is known.

@@ -3,7 +3,7 @@
 //! nothing.
 //!
 //! [`Scout::look`] gives the lookups that are to go out at a clock, [`Scout::next`] the moment at which one is next due, and
-//! [`Scout::answer`] what the Watch is to be told of an answer. The margin of such an agent is `keep_spread`'s `margin_behind`.
+//! [`Scout::answer`] what the Watch is to be told of an answer. The margin of such an agent is `plan_spread`'s `margin_behind`.
 //!
 //! Begin with `specs/Looking`.
 #![tactic(auto)]

@@ -2,7 +2,7 @@ ghost use Rattle.std.specs.Prelude.{◌≡◌, ◌<◌, ◌==◌, IfOk, length};
 ghost use Rattle.watch_scout.specs.Looking.{with_seen};
 ghost use Rattle.watch_scout.specs.State.{opened_scout, seen_at, unseen};
 
-use keep_tree::Forest;
+use plan_forest::Forest;
 use std::alloc::{AllocError, Global};
 use std::marker::Model;
 use watch_machine::{Millis, Seconds};

@@ -1,14 +1,14 @@
 -- Words for the parts of the run `check`. No public clause cites them.
 use Rattle.std.specs.Prelude.{◌≡◌, ◌⊎◌, ℕ, ◌<◌, List, Option, codes}
-use Rattle.keep_tree.specs.Forest.{Forest}
-use Rattle.keep_cert.specs.declared.cert.Cert.{Cert}
-use Rattle.keep_check.specs.declared.answer.Answer.TheVariants.{No, Yes}
-use Rattle.keep_check.specs.declared.answer.Cause.{Cause}
-use Rattle.keep_check.specs.declared.answer.Cause.TheVariants.{NotForced, NotKept, NotRising, NotUnkeepable}
-use Rattle.keep_check.specs.Answer.{IsCertificateAnswer}
-use Rattle.keep_check.specs.Laws.{ClaimHolds}
-use Rattle.keep_report.specs.declared.exit.Exit.{Exit}
-use Rattle.keep_report.specs.declared.exit.Exit.TheVariants as exits
+use Rattle.plan_forest.specs.Forest.{Forest}
+use Rattle.plan_certificate.specs.declared.cert.Cert.{Cert}
+use Rattle.plan_check.specs.declared.answer.Answer.TheVariants.{No, Yes}
+use Rattle.plan_check.specs.declared.answer.Cause.{Cause}
+use Rattle.plan_check.specs.declared.answer.Cause.TheVariants.{NotForced, NotKept, NotRising, NotUnkeepable}
+use Rattle.plan_check.specs.Answer.{IsCertificateAnswer}
+use Rattle.plan_check.specs.Laws.{ClaimHolds}
+use Rattle.program_report.specs.declared.exit.Exit.{Exit}
+use Rattle.program_report.specs.declared.exit.Exit.TheVariants as exits
 use Rattle.plan_commands.specs.CheckRun.{StartsAsAsked}
 use Rattle.plan_commands.specs.CheckText.{no_line}
 use Rattle.plan_commands.specs.Running.{Texts}

@@ -1,10 +1,10 @@
 -- Words for the parts of the run `margin`. No public clause cites them.
 use Rattle.std.specs.Prelude.{◌≡◌, ℕ, ◌<◌, List, Option, length}
-use Rattle.keep_tree.specs.Forest.{Forest}
-use Rattle.keep_plan.specs.Decides.{NoneKeeps}
-use Rattle.keep_plan.specs.Shortfall.{IsShortfall}
-use Rattle.keep_report.specs.declared.exit.Exit.{Exit}
-use Rattle.keep_report.specs.declared.exit.Exit.TheVariants as exits
+use Rattle.plan_forest.specs.Forest.{Forest}
+use Rattle.plan_search.specs.Decides.{NoneKeeps}
+use Rattle.plan_search.specs.Shortfall.{IsShortfall}
+use Rattle.program_report.specs.declared.exit.Exit.{Exit}
+use Rattle.program_report.specs.declared.exit.Exit.TheVariants as exits
 use Rattle.plan_commands.specs.MarginRun.{HasNoCount}
 use Rattle.plan_commands.specs.MarginText.{IsMarginText, IsNoMargin}
 use Rattle.plan_commands.specs.Running.{Halts, Texts}

@@ -1,8 +1,8 @@
 -- Bounds: what keeps the numbers of a watch small. No public clause cites it.
 -- Source: this project's own.
 use Rattle.std.specs.Prelude.{◌≤◌, IfSome}
-use Rattle.keep_moment.specs.declared.moment.TheConstants.{LAST}
-use Rattle.keep_tree.specs.declared.forest.TheConstants.{END_MAX}
+use Rattle.base_moment.specs.declared.moment.TheConstants.{LAST}
+use Rattle.plan_forest.specs.declared.forest.TheConstants.{END_MAX}
 use Rattle.watch_machine.specs.declared.clocks.Clocks.{Clocks}
 use Rattle.watch_machine.specs.declared.lanes.Out.{Out}
 use Rattle.watch_machine.specs.declared.reading.TheConstants.{READING_MAX}

@@ -1,7 +1,7 @@
 -- A place that is entered is found by its credential, and every other credential finds what it found before.
 use Rattle.std.proofs.Common.{List, ℕ, Some, cond, bytes_eq, ap, ◌∙◌}
 use Rattle.broker_table.specs.Index.{place_in}
-use Rattle.keep_tree.proofs.Names.{at_bytes-insert}
+use Rattle.plan_forest.proofs.Names.{at_bytes-insert}
 use Rattle.broker_table.proofs.index.enter.Goals as goal
 
 pub returns : goal.returns

@@ -1,7 +1,7 @@
 -- What was read so far is a front of the input without a line feed, a byte for each turn.
 use Rattle.std.proofs.Common.{◌≡◌, length}
 use Rattle.std.specs.Io.KnownBytes.{Consumes}
-use Rattle.keep_device.specs.Whole.{MakesAtMost}
+use Rattle.base_device.specs.Whole.{MakesAtMost}
 use Rattle.broker_table.specs.MomentLine.{IsOneLine}
 use Rattle.broker_table.proofs.moment_line.read_line.Given as goal
 

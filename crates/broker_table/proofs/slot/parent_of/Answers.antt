@@ -1,7 +1,7 @@
 -- A parent that the forest does not lack has a name to be read.
 use Rattle.std.proofs.Common.{◌<◌, length, subst, sym}
-use Rattle.keep_tree.specs.Forest.{Forest}
-use Rattle.keep_tree.proofs.Placed.{parent_below}
+use Rattle.plan_forest.specs.Forest.{Forest}
+use Rattle.plan_forest.proofs.Placed.{parent_below}
 use Rattle.broker_table.proofs.slot.parent_of.Goals as goal
 
 pub get-requires : goal.get-requires

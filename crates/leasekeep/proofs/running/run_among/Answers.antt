@@ -1,7 +1,7 @@
 -- What was started has run.
 use Rattle.std.proofs.Common.{◌∙◌, refl, subst}
-use Rattle.serve_start.specs.Starts.{IsStart}
-use Rattle.serve_run.proofs.Having.{has_run}
+use Rattle.agent_start.specs.Starts.{IsStart}
+use Rattle.agent_run.proofs.Having.{has_run}
 use Rattle.leasekeep.proofs.Ran.{ran_if}
 use Rattle.leasekeep.proofs.running.run_among.Goals as goal
 

@@ -1,7 +1,7 @@
 -- Each turn serves the connection that it was handed.
 use Rattle.std.proofs.Common.{List, Option, Result}
-use Rattle.keep_device.specs.Seen.{change}
-use Rattle.keep_report.specs.declared.stop.Stop.{Stop}
+use Rattle.base_device.specs.Seen.{change}
+use Rattle.program_report.specs.declared.stop.Stop.{Stop}
 use Rattle.minibroker.specs.Serving.{Broker, Connection, ServesAll, Visit}
 use Rattle.minibroker.proofs.Served.{handed_on, one_more_served, stopped_at}
 use Rattle.minibroker.proofs.serving.serve_all.Goals as goal

@@ -1,8 +1,8 @@
 -- Each command is obeyed by the run over the bytes of its files.
 use Rattle.std.proofs.Common.{List, Ok, subst, ℕ}
-use Rattle.keep_files.specs.Files.{FileIsRead}
+use Rattle.base_files.specs.Files.{FileIsRead}
 use Rattle.plan_commands.specs.Obeys.{ObeysOver}
-use Rattle.keep_inventory.specs.declared.limits.TheConstants.{MOST_INVENTORY}
+use Rattle.vault_inventory.specs.declared.limits.TheConstants.{MOST_INVENTORY}
 use Rattle.plan_commands.proofs.Obeying.{over_same, run_read}
 use Rattle.plan_commands.proofs.command.obey.Goals as goal
 

@@ -1,8 +1,8 @@
 -- What a command does over the bytes of its inventory is what it does over its files, once that is read.
 use Rattle.std.proofs.Common.{List, Ok, subst, ℕ}
 use Rattle.plan_commands.specs.CheckRun.{CheckRun}
-use Rattle.keep_files.specs.Files.{FileIsRead}
-use Rattle.keep_cert.specs.declared.cert.TheConstants.{MOST_CERTIFICATE}
+use Rattle.base_files.specs.Files.{FileIsRead}
+use Rattle.plan_certificate.specs.declared.cert.TheConstants.{MOST_CERTIFICATE}
 use Rattle.plan_commands.proofs.Obeying.{checks, run_read}
 use Rattle.plan_commands.proofs.command.obey_over.Goals as goal
 

@@ -1,6 +1,6 @@
 -- One index more is listed after those before it.
 use Rattle.std.proofs.Common.{◌∙◌, ◌++◌, ◌∷◌, [], ap, sym, arith}
-use Rattle.keep_tree.proofs.Ranges.{range_more}
+use Rattle.plan_forest.proofs.Ranges.{range_more}
 use Rattle.plan_commands.proofs.ends_text.every_index.Goals as goal
 
 pub loop-index-preserved : goal.loop-index-preserved

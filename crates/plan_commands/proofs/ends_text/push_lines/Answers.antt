@@ -1,7 +1,7 @@
 -- The line of one entry more, with its end, is appended.
 use Rattle.std.proofs.Common.{◌∙◌, ◌++◌, ap, sym}
 use Rattle.std.proofs.lemmas.List.{append-nil, append_assoc}
-use Rattle.keep_tree.specs.Forest.{entry_at}
+use Rattle.plan_forest.specs.Forest.{entry_at}
 use Rattle.plan_commands.specs.code.Making.{at_index}
 use Rattle.plan_commands.specs.EndsText.{end_lines, name_end_line}
 use Rattle.plan_commands.proofs.Lines.{end_lines_more, end_lines_none}

@@ -1,6 +1,6 @@
 -- The text about the ends as they are, or renewed, is the one that is asked for.
 use Rattle.std.proofs.Common.{subst}
-use Rattle.keep_tree.specs.Forest.{Forest}
+use Rattle.plan_forest.specs.Forest.{Forest}
 use Rattle.plan_commands.specs.code.Making.{MakesOf}
 use Rattle.plan_commands.specs.code.MarginMaking.{HaltsFrom, TextsFrom}
 use Rattle.plan_commands.proofs.Margins.{asked_makes}

@@ -1,8 +1,8 @@
 -- The plan for the forest's own margin, where it keeps, has the fewest wake-ups.
 use Rattle.std.proofs.Common.{subst, sym}
-use Rattle.keep_plan.specs.Decides.{Decides, IsBestPlan}
-use Rattle.keep_plan.specs.Widest.{IsFewest}
-use Rattle.keep_plan.proofs.Widening.{kept_fewest}
+use Rattle.plan_search.specs.Decides.{Decides, IsBestPlan}
+use Rattle.plan_search.specs.Widest.{IsFewest}
+use Rattle.plan_search.proofs.Widening.{kept_fewest}
 use Rattle.plan_commands.proofs.margin_text.own_and_widest.Goals as goal
 
 pub two_lines-requires-clause-fewest : goal.two_lines-requires-clause-fewest

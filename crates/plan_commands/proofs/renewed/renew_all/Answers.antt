@@ -1,7 +1,7 @@
 -- By falling index one entry more is renewed, while all over it still have their old ends.
 use Rattle.std.proofs.Common.{◌≡◌, ◌+◌, ◌-◌, ◌<◌, arith, length, subst, sym}
-use Rattle.keep_tree.specs.Forest.{Forest}
-use Rattle.keep_tree.proofs.Placed.{parents_first}
+use Rattle.plan_forest.specs.Forest.{Forest}
+use Rattle.plan_forest.proofs.Placed.{parents_first}
 use Rattle.plan_commands.proofs.Renewals.{IsRenewedFrom, renewed_none, renewed_turn, renewed_whole}
 use Rattle.plan_commands.proofs.renewed.renew_all.Goals as goal
 

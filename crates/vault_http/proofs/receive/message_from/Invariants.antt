@@ -2,7 +2,7 @@
 -- that were needed.
 use Rattle.std.proofs.Common.{◌≡◌, ◌+◌, ◌<◌, ◌≤◌, ◌⊎◌, IfSome, vec_len}
 use Rattle.std.specs.Io.KnownBytes.{Consumes, IsAtEnd}
-use Rattle.keep_device.specs.Whole.{MakesAtMost}
+use Rattle.base_device.specs.Whole.{MakesAtMost}
 use Rattle.vault_http.specs.Known.{IsCurrent, StaysKnown}
 use Rattle.vault_http.proofs.receive.message_from.Given as goal
 

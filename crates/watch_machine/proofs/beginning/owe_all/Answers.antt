@@ -1,7 +1,7 @@
 -- Each track is made anew after those before it, and in the end all are.
 use Rattle.std.proofs.Common.{◌≡◌, ◌∙◌, ℕ, ◌<◌, Bool, arith, length, refl}
 use Rattle.std.proofs.lemmas.List.Elements.{All-set}
-use Rattle.keep_needs.specs.Carried.{load_at}
+use Rattle.plan_needs.specs.Carried.{load_at}
 use Rattle.watch_machine.specs.declared.track.Track.{Track}
 use Rattle.watch_machine.specs.Beginning.{called_by, owing}
 use Rattle.watch_machine.specs.code.Bounds.{IsTrack}

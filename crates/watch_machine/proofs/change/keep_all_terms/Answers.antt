@@ -2,9 +2,9 @@
 use Rattle.std.proofs.Common.{◌≡◌, ◌∙◌, ◌<◌, ℕ, IfSome, ap, arith, length, set, subst, sym}
 use Rattle.std.proofs.lemmas.List.{length-set}
 use Rattle.std.proofs.lemmas.List.FromFn.{fill_by_all}
-use Rattle.keep_tree.specs.declared.entry.Entry.{Entry}
-use Rattle.keep_tree.specs.Forest.{Forest, entry_at, no_entry}
-use Rattle.keep_tree.proofs.Entries.{entry_at_set_other}
+use Rattle.plan_forest.specs.declared.entry.Entry.{Entry}
+use Rattle.plan_forest.specs.Forest.{Forest, entry_at, no_entry}
+use Rattle.plan_forest.proofs.Entries.{entry_at_set_other}
 use Rattle.watch_machine.specs.declared.change.Was.{Was}
 use Rattle.watch_machine.specs.Change.{entry_by, forest_after, former, former_at, was_at}
 use Rattle.watch_machine.proofs.Changing.{within_some}

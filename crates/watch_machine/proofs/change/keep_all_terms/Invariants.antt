@@ -1,6 +1,6 @@
 -- The entries before the index are written as lookups have told them; the others are as they were.
 use Rattle.std.proofs.Common.{◌≡◌, ◌<◌, ◌≤◌, ℕ, length}
-use Rattle.keep_tree.specs.Forest.{entry_at}
+use Rattle.plan_forest.specs.Forest.{entry_at}
 use Rattle.watch_machine.specs.Change.{entry_by, was_at}
 use Rattle.watch_machine.proofs.change.keep_all_terms.Given as goal
 

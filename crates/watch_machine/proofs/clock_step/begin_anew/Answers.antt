@@ -1,6 +1,6 @@
 -- By what the entries carry, everybody who is called owes a lookup.
 use Rattle.std.proofs.Common.{◌≡◌, ◌∙◌, List, ap, length, subst}
-use Rattle.keep_needs.specs.Carried.{CarriedNeed, IsCarried, load_at}
+use Rattle.plan_needs.specs.Carried.{CarriedNeed, IsCarried, load_at}
 use Rattle.watch_machine.specs.Beginning.{called_by, owing, owing_all}
 use Rattle.watch_machine.specs.State.{each}
 use Rattle.watch_machine.proofs.Owing.{owed_are, owed_sees}

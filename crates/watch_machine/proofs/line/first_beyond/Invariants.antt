@@ -1,6 +1,6 @@
 -- The moment is no later than that of each entry before the index that is due.
 use Rattle.std.proofs.Common.{◌≡◌, ℕ, ◌<◌, ◌≤◌, true}
-use Rattle.keep_tree.specs.Forest.{entry_at}
+use Rattle.plan_forest.specs.Forest.{entry_at}
 use Rattle.watch_machine.specs.Lines.{is_due}
 use Rattle.watch_machine.specs.State.{track_in}
 use Rattle.watch_machine.specs.code.Line.{left_at}

@@ -1,7 +1,7 @@
 -- The first moment is that of the entries before the index.
 use Rattle.std.proofs.Common.{◌≡◌, map}
 use Rattle.std.specs.List.{range_with_len}
-use Rattle.keep_tree.specs.Forest.{entry_at}
+use Rattle.plan_forest.specs.Forest.{entry_at}
 use Rattle.watch_machine.specs.declared.lull.TheConstants.{NEVER}
 use Rattle.watch_machine.specs.State.{track_in}
 use Rattle.watch_machine.specs.Wanted.{least}

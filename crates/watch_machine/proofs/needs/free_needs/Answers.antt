@@ -1,6 +1,6 @@
 -- What the entries would carry with no limit at all is carried by the view in which their needs are written so.
 use Rattle.std.proofs.Common.{◌≡◌, ◌∙◌, subst, sym}
-use Rattle.keep_needs.specs.Carried.{IsCarried}
+use Rattle.plan_needs.specs.Carried.{IsCarried}
 use Rattle.watch_machine.specs.Clocks.{sec}
 use Rattle.watch_machine.proofs.Needed.{is_free}
 use Rattle.watch_machine.proofs.needs.free_needs.Goals as goal

@@ -1,7 +1,7 @@
 -- What counts for the entries before the index is found.
 use Rattle.std.proofs.Common.{◌≡◌, map}
 use Rattle.std.specs.List.{range_with_len}
-use Rattle.keep_needs.specs.Carried.{load_at}
+use Rattle.plan_needs.specs.Carried.{load_at}
 use Rattle.watch_machine.specs.State.{track_in}
 use Rattle.watch_machine.specs.code.View.{need_by}
 use Rattle.watch_machine.proofs.needs.last_needs.Given as goal

@@ -1,6 +1,6 @@
 -- What the view carries, and what counts for each entry, are found.
 use Rattle.std.proofs.Common.{◌≡◌, ◌∙◌, subst}
-use Rattle.keep_needs.specs.Carried.{IsCarried}
+use Rattle.plan_needs.specs.Carried.{IsCarried}
 use Rattle.watch_machine.specs.Clocks.{sec}
 use Rattle.watch_machine.proofs.Needed.{sees_all}
 use Rattle.watch_machine.proofs.needs.needs_of.Goals as goal

@@ -1,7 +1,7 @@
 -- Where no token is told to be an orphan, the forest stays.
 use Rattle.std.proofs.Common.{◌≡◌, ◌∙◌, ◌&&◌, true, false, not, ap, set, sym}
-use Rattle.keep_tree.specs.Forest.{entry_at}
-use Rattle.keep_tree.specs.Push.{is_lease}
+use Rattle.plan_forest.specs.Forest.{entry_at}
+use Rattle.plan_forest.specs.Push.{is_lease}
 use Rattle.watch_machine.proofs.Tests.{not_false, not_true}
 use Rattle.watch_machine.proofs.View.{not_orphaned, now_orphaned}
 use Rattle.watch_machine.proofs.new_terms.take_orphan.Goals as goal

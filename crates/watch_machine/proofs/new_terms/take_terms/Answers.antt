@@ -1,8 +1,8 @@
 -- The terms that are told may be set, and the forest with them is that of the definitions.
 use Rattle.std.proofs.Common.{◌≡◌, ap, arith, set, ◌∙◌}
-use Rattle.keep_tree.specs.declared.entry.Entry.{Entry}
-use Rattle.keep_tree.specs.Forest.{entry_at}
-use Rattle.keep_tree.proofs.Placed.{read_step}
+use Rattle.plan_forest.specs.declared.entry.Entry.{Entry}
+use Rattle.plan_forest.specs.Forest.{entry_at}
+use Rattle.plan_forest.proofs.Placed.{read_step}
 use Rattle.watch_machine.specs.Looked.{by_terms, orphaned, step_told}
 use Rattle.watch_machine.proofs.Steps.{past_margin}
 use Rattle.watch_machine.proofs.View.{set_again}

@@ -1,8 +1,8 @@
 -- Each entry is pressed or let go after those before it, and in the end all are.
 use Rattle.std.proofs.Common.{◌≡◌, ◌∙◌, ℕ, ◌<◌, arith, length, refl}
 use Rattle.std.proofs.lemmas.List.Elements.{All-set}
-use Rattle.keep_tree.specs.declared.entry.Entry.{Entry}
-use Rattle.keep_tree.specs.Forest.{entry_at}
+use Rattle.plan_forest.specs.declared.entry.Entry.{Entry}
+use Rattle.plan_forest.specs.Forest.{entry_at}
 use Rattle.watch_machine.specs.declared.track.Track.{Track}
 use Rattle.watch_machine.specs.Press.{pressed_track}
 use Rattle.watch_machine.specs.code.Bounds.{IsTrack}

@@ -1,6 +1,6 @@
 -- The entries before the index are pressed or let go.
 use Rattle.std.specs.List.{All}
-use Rattle.keep_tree.specs.Forest.{entry_at}
+use Rattle.plan_forest.specs.Forest.{entry_at}
 use Rattle.watch_machine.specs.Press.{pressed_track}
 use Rattle.watch_machine.specs.code.Bounds.{IsTrack}
 use Rattle.watch_machine.specs.code.View.{need_at}

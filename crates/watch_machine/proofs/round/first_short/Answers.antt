@@ -1,7 +1,7 @@
 -- Each bound that falls short is compared with the first one before it; in the end that is the second moment.
 use Rattle.std.proofs.Common.{◌≡◌, ◌∙◌, ◌+◌, Some, length, subst, sym, ap, arith}
-use Rattle.keep_rule.specs.Forced.{latest_end}
-use Rattle.keep_tree.specs.declared.entry.Entry.{Entry}
+use Rattle.plan_rule.specs.Forced.{latest_end}
+use Rattle.plan_forest.specs.declared.entry.Entry.{Entry}
 use Rattle.watch_machine.specs.code.Rounds.{IsFirstShort, first_with}
 use Rattle.watch_machine.proofs.Shorting.{bounds, first_more, loads_of}
 use Rattle.watch_machine.proofs.round.first_short.Goals as goal

@@ -1,8 +1,8 @@
 -- Whether an entry opens a round is told of each after those before it.
 use Rattle.std.proofs.Common.{◌≡◌, ◌∙◌, ℕ, Bool, true, false, below_more, get_or, length, sym, arith}
 use Rattle.std.proofs.lemmas.List.{get_or_default}
-use Rattle.keep_tree.specs.declared.entry.Entry.{Entry}
-use Rattle.keep_tree.specs.Forest.{entry_at}
+use Rattle.plan_forest.specs.declared.entry.Entry.{Entry}
+use Rattle.plan_forest.specs.Forest.{entry_at}
 use Rattle.watch_machine.specs.declared.track.Track.{Track}
 use Rattle.watch_machine.specs.Round.{opens}
 use Rattle.watch_machine.specs.State.{no_track}

@@ -1,6 +1,6 @@
 -- Whether an entry before the index opens a round is known.
 use Rattle.std.proofs.Common.{◌≡◌, ◌<◌, ℕ, false, get_or}
-use Rattle.keep_tree.specs.Forest.{entry_at}
+use Rattle.plan_forest.specs.Forest.{entry_at}
 use Rattle.watch_machine.specs.Round.{opens}
 use Rattle.watch_machine.specs.State.{no_track}
 use Rattle.watch_machine.specs.code.View.{need_at}

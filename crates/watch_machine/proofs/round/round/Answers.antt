@@ -1,8 +1,8 @@
 -- A round opens where the definition says, and asks whom it says.
 use Rattle.std.proofs.Common.{◌≡◌, ◌∙◌, true, subst, sym, ap}
-use Rattle.keep_needs.specs.Carried.{IsCarried}
-use Rattle.keep_rule.specs.Asks.{asks}
-use Rattle.keep_tree.specs.Forest.{end_of}
+use Rattle.plan_needs.specs.Carried.{IsCarried}
+use Rattle.plan_rule.specs.Asks.{asks}
+use Rattle.plan_forest.specs.Forest.{end_of}
 use Rattle.watch_machine.specs.Clocks.{sec}
 use Rattle.watch_machine.specs.Round.{IsSecond, opens_some, plan_view}
 use Rattle.watch_machine.proofs.Opening.{plan_alike}

@@ -1,6 +1,6 @@
 -- The moment of the next round is that of the first bound that falls short.
 use Rattle.std.proofs.Common.{◌∙◌, ◌-◌, min, ap}
-use Rattle.keep_moment.specs.declared.moment.TheConstants.{LAST}
+use Rattle.base_moment.specs.declared.moment.TheConstants.{LAST}
 use Rattle.watch_machine.proofs.Shorting.{is_second, no_second}
 use Rattle.watch_machine.proofs.round.second_round.Goals as goal
 

@@ -1,6 +1,6 @@
 -- The entries before the index are written as they are planned.
 use Rattle.std.proofs.Common.{◌≡◌, ◌<◌, ℕ, length}
-use Rattle.keep_tree.specs.Forest.{entry_at}
+use Rattle.plan_forest.specs.Forest.{entry_at}
 use Rattle.watch_machine.specs.Wanted as wanted
 use Rattle.watch_machine.specs.code.View.{HasNeeds, IsView}
 use Rattle.watch_machine.proofs.Opening.{halfway}

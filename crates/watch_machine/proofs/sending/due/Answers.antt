@@ -1,7 +1,7 @@
 -- Each entry that is due is gathered after those before it.
 use Rattle.std.proofs.Common.{◌≡◌, ◌∙◌, ℕ, ◌<◌, Bool, ap, arith, length, map, sym}
 use Rattle.std.proofs.lemmas.List.{get_or_default}
-use Rattle.keep_tree.specs.declared.entry.Entry.{Entry}
+use Rattle.plan_forest.specs.declared.entry.Entry.{Entry}
 use Rattle.watch_machine.specs.declared.track.Track.{Track}
 use Rattle.watch_machine.specs.Lines.{is_due}
 use Rattle.watch_machine.specs.Sending.{place_of}

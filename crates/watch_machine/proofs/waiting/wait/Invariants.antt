@@ -1,7 +1,7 @@
 -- The wait is the least of the moments of the entries before the index.
 use Rattle.std.proofs.Common.{◌≡◌, map}
 use Rattle.std.specs.List.{range_with_len}
-use Rattle.keep_tree.specs.Forest.{entry_at}
+use Rattle.plan_forest.specs.Forest.{entry_at}
 use Rattle.watch_machine.specs.State.{track_in}
 use Rattle.watch_machine.specs.Wait.{latest, next_of}
 use Rattle.watch_machine.specs.Wanted.{least}

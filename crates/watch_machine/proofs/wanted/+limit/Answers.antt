@@ -1,8 +1,8 @@
 -- The limit of an entry is the least of its own and of those over it.
 use Rattle.std.proofs.Common.{◌≡◌, ◌∙◌, arith, None, Some, if◌then◌else◌, min, sym, ap}
 use Rattle.std.proofs.lemmas.List.{get_or_default}
-use Rattle.keep_tree.specs.Forest.{entry_at}
-use Rattle.keep_tree.proofs.Placed.{parents_first}
+use Rattle.plan_forest.specs.Forest.{entry_at}
+use Rattle.plan_forest.proofs.Placed.{parents_first}
 use Rattle.watch_machine.specs.State.{no_track}
 use Rattle.watch_machine.specs.Wanted.{believed, is_fixed}
 use Rattle.watch_machine.proofs.View.{limit_child, limit_root}

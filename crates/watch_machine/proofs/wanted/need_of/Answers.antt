@@ -1,7 +1,7 @@
 -- Each need that counts is compared with the greatest one before it; in the end that is the need of the definition.
 use Rattle.std.proofs.Common.{◌≡◌, ◌∙◌, ◌<◌, length, refl, sym, ap, arith}
 use Rattle.std.proofs.lemmas.List.{get_or_default}
-use Rattle.keep_tree.specs.Carried.{carried_of}
+use Rattle.plan_forest.specs.Carried.{carried_of}
 use Rattle.watch_machine.specs.Clocks.{sec}
 use Rattle.watch_machine.specs.State.{has_last_try, no_track, track_in}
 use Rattle.watch_machine.proofs.Needed.{counted, counted_all, counted_more, counted_need}

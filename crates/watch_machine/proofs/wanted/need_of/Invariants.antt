@@ -1,6 +1,6 @@
 -- The greatest need that counts of the entries before the index is found.
 use Rattle.std.proofs.Common.{◌≡◌}
-use Rattle.keep_tree.specs.Carried.{carried_of}
+use Rattle.plan_forest.specs.Carried.{carried_of}
 use Rattle.watch_machine.proofs.Needed.{counted}
 use Rattle.watch_machine.proofs.wanted.need_of.Given as goal
 

@@ -1,8 +1,8 @@
 -- Each need is written as it is on this clock, after those before it.
 use Rattle.std.proofs.Common.{◌∙◌, ◌<◌, length, refl, ap, arith}
-use Rattle.keep_tree.specs.declared.entry.Entry.{Entry}
-use Rattle.keep_tree.specs.Forest.{Forest, entry_at}
-use Rattle.keep_tree.proofs.Placed.{read_range}
+use Rattle.plan_forest.specs.declared.entry.Entry.{Entry}
+use Rattle.plan_forest.specs.Forest.{Forest, entry_at}
+use Rattle.plan_forest.proofs.Placed.{read_range}
 use Rattle.watch_machine.specs.Wanted.{need_here}
 use Rattle.watch_machine.proofs.Needed.{need_written}
 use Rattle.watch_machine.proofs.View.{view_set}

@@ -3,7 +3,7 @@ use Rattle.std.proofs.Common.{◌∙◌, ◌<◌, ◌++◌, ◌∷◌, [], ap, a
 use Rattle.std.proofs.lemmas.List.{map_more, take_all}
 use Rattle.std.proofs.lemmas.List.Elements.{All-push}
 use Rattle.std.specs.List.{All}
-use Rattle.keep_tree.specs.Forest.{entry_at, no_entry}
+use Rattle.plan_forest.specs.Forest.{entry_at, no_entry}
 use Rattle.watch_machine.specs.State.{fresh_track}
 use Rattle.watch_machine.specs.code.Bounds.{IsTrack}
 use Rattle.watch_machine.proofs.watch.fresh_tracks.Goals as goal

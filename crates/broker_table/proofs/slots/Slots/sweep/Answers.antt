@@ -3,7 +3,7 @@ use Rattle.std.proofs.Common.{◌≡◌, List, subst, sym}
 use Rattle.broker_table.specs.declared.slot.Slot.{Slot}
 use Rattle.broker_table.specs.Index.{IsIndexed, credentials_of}
 use Rattle.broker_table.specs.Slots.{AreKept}
-use Rattle.keep_device.proofs.Lent.{written_back}
+use Rattle.base_device.proofs.Lent.{written_back}
 use Rattle.broker_table.proofs.Indexed.{indexed_like, same_length}
 use Rattle.broker_table.proofs.slots.Slots.sweep.Goals as goal
 

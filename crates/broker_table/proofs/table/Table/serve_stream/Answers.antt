@@ -5,8 +5,8 @@ use Rattle.std.proofs.lemmas.Result.{err_from_is_err_and}
 use Rattle.std.specs.Io.KnownBytes.{Appends, Keeps}
 use Rattle.vault_http.specs.declared.known.TheConstants.{MOST_MESSAGE}
 use Rattle.vault_http.specs.Reading.{SettlesRequest}
-use Rattle.keep_device.specs.Front.{AppendsFront}
-use Rattle.keep_device.specs.Seen.{Change, Input, change}
+use Rattle.base_device.specs.Front.{AppendsFront}
+use Rattle.base_device.specs.Seen.{Change, Input, change}
 use Rattle.broker_table.specs.Stream.{Handles, IsFlushed, IsHandled, StreamFails, bytes_sent_of}
 use Rattle.broker_table.proofs.Streamed.{handled_sent, left_by_sending, left_unserved, of_both}
 use Rattle.broker_table.proofs.table.Table.serve_stream.Goals as goal

@@ -1,7 +1,7 @@
 -- What counts for an entry is read where it is noted, and else it is what the entry carries.
 use Rattle.std.proofs.Common.{◌∙◌, ◌<◌, ◌≤◌, ap, arith, length, sym}
 use Rattle.std.proofs.lemmas.List.{get_or_past, get_or_read}
-use Rattle.keep_needs.specs.Carried.{load_at}
+use Rattle.plan_needs.specs.Carried.{load_at}
 use Rattle.watch_machine.specs.code.View.{Loads, need_at}
 use Rattle.watch_machine.proofs.needs.Needs.need.Goals as goal
 

@@ -1,9 +1,9 @@
 -- A lookup is owed of an entry itself, or of one over its parent.
 use Rattle.std.proofs.Common.{◌≡◌, ◌∙◌, Some, sym, ap, subst}
-use Rattle.keep_tree.specs.declared.entry.Entry.{Entry}
-use Rattle.keep_tree.specs.Forest.{entry_at}
-use Rattle.keep_tree.proofs.Chains.{ParentsFirst}
-use Rattle.keep_tree.proofs.Placed.{parents_first}
+use Rattle.plan_forest.specs.declared.entry.Entry.{Entry}
+use Rattle.plan_forest.specs.Forest.{entry_at}
+use Rattle.plan_forest.proofs.Chains.{ParentsFirst}
+use Rattle.plan_forest.proofs.Placed.{parents_first}
 use Rattle.watch_machine.specs.declared.track.Track.{Track}
 use Rattle.watch_machine.specs.Shortness.{is_owed_over}
 use Rattle.watch_machine.specs.State.{WatchState, track_at}

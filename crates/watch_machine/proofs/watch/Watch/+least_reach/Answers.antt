@@ -1,10 +1,10 @@
 -- The least reach over an entry is the least of its own and of that over its parent.
 use Rattle.std.proofs.Common.{◌≡◌, ◌∙◌, None, Some, map, sym, ap, subst}
-use Rattle.keep_tree.specs.declared.entry.Entry.{Entry}
-use Rattle.keep_tree.specs.Forest.{entry_at}
-use Rattle.keep_tree.specs.Over.{chain}
-use Rattle.keep_tree.proofs.Chains.{ParentsFirst}
-use Rattle.keep_tree.proofs.Placed.{parents_first}
+use Rattle.plan_forest.specs.declared.entry.Entry.{Entry}
+use Rattle.plan_forest.specs.Forest.{entry_at}
+use Rattle.plan_forest.specs.Over.{chain}
+use Rattle.plan_forest.proofs.Chains.{ParentsFirst}
+use Rattle.plan_forest.proofs.Placed.{parents_first}
 use Rattle.watch_machine.specs.Shortness.{own_reach}
 use Rattle.watch_machine.specs.State.{WatchState}
 use Rattle.watch_machine.specs.Wanted.{least}

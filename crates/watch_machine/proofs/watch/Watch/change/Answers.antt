@@ -2,7 +2,7 @@
 -- more.
 use Rattle.std.proofs.Common.{◌≡◌, ◌∙◌, List, ap, arith, false, length, refl, subst, sym, true}
 use Rattle.std.specs.List.{All}
-use Rattle.keep_tree.specs.Forest.{Forest}
+use Rattle.plan_forest.specs.Forest.{Forest}
 use Rattle.watch_machine.specs.declared.lanes.Out.{Out}
 use Rattle.watch_machine.specs.declared.track.Track.{Track}
 use Rattle.watch_machine.specs.Change.{changed, out_after, tracks_after}

@@ -1,6 +1,6 @@
 -- An entry is called for where it is wanted and its time has come.
 use Rattle.std.proofs.Common.{◌≡◌, ◌∙◌, ℕ, sym, ap}
-use Rattle.keep_tree.specs.declared.entry.Entry.{Entry}
+use Rattle.plan_forest.specs.declared.entry.Entry.{Entry}
 use Rattle.watch_machine.specs.declared.track.Track.{Track}
 use Rattle.watch_machine.specs.Margins.{has_come}
 use Rattle.watch_machine.specs.State.{WatchState, entry_of, second, track_at}

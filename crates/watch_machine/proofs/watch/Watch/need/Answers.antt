@@ -1,7 +1,7 @@
 -- A new need leaves the forest and its view as they have to be.
 use Rattle.std.proofs.Common.{◌∙◌, ◌≡◌, ap, false, length, refl, sym, true}
 use Rattle.std.proofs.lemmas.List.{length-set}
-use Rattle.keep_tree.specs.Forest.{Forest}
+use Rattle.plan_forest.specs.Forest.{Forest}
 use Rattle.watch_machine.proofs.View.{view_of_set}
 use Rattle.watch_machine.proofs.watch.Watch.need.Goals as goal
 

@@ -2,7 +2,7 @@
 use Rattle.std.proofs.Common.{◌<◌, ◌∙◌, ◌≡◌, ap, false, length, set, subst, sym, true}
 use Rattle.std.proofs.lemmas.List.{length-set}
 use Rattle.std.proofs.lemmas.List.Elements.{All-set}
-use Rattle.keep_tree.specs.Forest.{Forest}
+use Rattle.plan_forest.specs.Forest.{Forest}
 use Rattle.watch_machine.specs.declared.track.Track.{Track}
 use Rattle.watch_machine.specs.Answers.{with_track}
 use Rattle.watch_machine.specs.Looked.{told_track, with_terms}

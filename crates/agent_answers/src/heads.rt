@@ -1,0 +1,37 @@
+//! When all has come of an onlooker that is needed.
+ghost use Rattle.std.specs.Prelude.{◌≡◌};
+ghost use Rattle.agent_answers.specs.Onlooking.{TellsHead, is_whole, question_of};
+
+use agent_pages::{Asked, Question, read_question};
+use base_clients::Framing;
+
+/// A request of an onlooker is whole once there is a head, or none can follow.
+#[derive(Clone, Copy, Debug, PartialEq, Eq)]
+pub struct Heads;
+
+impl Framing for Heads {
+    ghost tells = { λ _ bytes whole. TellsHead bytes whole };
+
+    fn is_whole(&self, bytes: &[u8]) -> bool {
+        is_whole(read_question(bytes))
+    }
+}
+
+fn is_whole(asked: Asked) -> bool
+    ensures { result ≡ is_whole asked }
+{
+    match asked {
+        Asked::Open => false,
+        Asked::Whole(_) => true,
+    }
+}
+
+/// What is answered where no more comes.
+pub(crate) fn question_of(asked: Asked) -> Question
+    ensures { result ≡ question_of asked }
+{
+    match asked {
+        Asked::Open => Question::Unread,
+        Asked::Whole(question) => question,
+    }
+}

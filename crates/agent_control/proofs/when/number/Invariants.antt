@@ -1,0 +1,7 @@
+-- The number so far is that of the digits that were passed.
+use Rattle.std.proofs.Common.{◌≡◌, take}
+use Rattle.std.specs.Str.Parse.{digits_value}
+use Rattle.agent_control.proofs.when.number.Given as goal
+
+abbrev pub invariant-loop-byte : goal.invariant-loop-byte
+invariant-loop-byte l = l.value ≡ digits_value 10 (take l.byte-index l.digits)

@@ -1,0 +1,265 @@
+-- Asks: what a house asks of whoever keeps changes, for a change and when that is settled, and that the ends are left alone. For the laws
+-- of disks.
+use Rattle.std.proofs.Common.{◌≡◌, ◌∙◌, ◌⊎◌, ℕ, ◌+◌, ◌≤◌, Bool, true, false, inl, inr, List, [], ◌∷◌, Option, Some, None, Result, Ok, Err, ap, arith, refl, subst, sym}
+use Rattle.std.specs.Prelude.{Vec}
+use Rattle.std.specs.declared.alloc.AllocError.{AllocError}
+use Rattle.std.specs.declared.alloc.Global.{Global}
+use Rattle.agent_standing.specs.Agent.{Agent}
+use Rattle.agent_answers.specs.declared.asked.Asked.{Asked}
+use Rattle.agent_answers.specs.declared.asked.Asked.TheVariants as asked
+use Rattle.state_changes.specs.declared.change.What.{What}
+use Rattle.state_changes.specs.declared.change.What.TheVariants as what
+use Rattle.state_changes.specs.declared.row.Row.{Row}
+use Rattle.base_clock.specs.declared.reading.Reading.{Reading}
+use Rattle.vault_inventory.specs.Inventories.{Inventory}
+use Rattle.vault_inventory.specs.declared.need.Need.{Need}
+use Rattle.vault_lanes.specs.declared.loss.Loss.{Loss}
+use Rattle.vault_proving.specs.declared.verdict.Verdict.{Verdict}
+use Rattle.vault_proving.specs.declared.verdict.Verdict.TheVariants as verdicts
+use Rattle.agent_turns.specs.declared.change.Change.{Change}
+use Rattle.agent_house.specs.Admitting.{AdmitsIf, FollowsLog, asking_in}
+use Rattle.agent_house.specs.Awaiting.{HearsFor, Judges, LooksUpBy, LooksUpFirst, LooksUpIf, Makes, ProvesBy, VerdictIs}
+use Rattle.agent_house.specs.Commands.{AddsIf, AsksIf, CarriesIf, CarriesOut, GivesNeed, GoesOnIf, LacksMemory, NeedIsKept, NeedsIf, RereadBy, ServesClients, SettlesBy, SettlesGiven, StateIsServed, TellsReload}
+use Rattle.agent_laws.specs.Disks.{IsAskedWithin, KeeperIsCalled, looks_of, makes_of}
+use Rattle.agent_house.specs.Houses.{ClientIsSent, Concludes, WillRefuse, WillTell}
+use Rattle.agent_ledger.specs.Keeping.{KeepCall, KeeperIsAsked, LookUp, MarkServed, Prove, Reload, Settle, Take}
+use Rattle.agent_words.specs.Outcomes.{Outcome, Why, Whys, done_of}
+use Rattle.agent_log.specs.Lines.{Line}
+use Rattle.agent_house.specs.declared.given.Awaited.{Awaited}
+use Rattle.agent_house.specs.declared.given.Given.{Given}
+use Rattle.agent_house.specs.declared.given.Given.TheVariants as givens
+use Rattle.agent_house.specs.declared.house.House.{House}
+use Rattle.agent_ledger.specs.declared.keeping.LookedUp.{LookedUp}
+use Rattle.agent_ledger.specs.declared.keeping.LookedUp.TheVariants as lookups
+use Rattle.agent_words.specs.declared.reread.Reread.{Reread}
+use Rattle.agent_log.specs.declared.mark.Mark.{Mark}
+use Rattle.agent_laws.proofs.Called.{within_join, within_more, within_none, within_one}
+
+-- ---- one question
+
+module _ {K : Type 0} (does : KeepCall → K → K → Type 0) where
+  keeper_asked : (call : Result (Unit {0}) Why → KeepCall) (Says : K → List ℕ → Type 0) (outcome : Outcome) (old new : Option K) → KeeperIsAsked does call Says outcome old new → KeeperIsCalled does (call (done_of outcome) ∷ []) old new
+  keeper_asked call Says outcome None new h = h.0
+  keeper_asked call Says outcome (Some old) None h = absurd h
+  keeper_asked call Says outcome (Some old) (Some new) h = (new, (h.0, refl))
+
+  need_kept : (agent : Agent) (now : Reading) (name : List ℕ) (need : Need) (result : Result (Unit {0}) Why) (old new : Option K) → NeedIsKept does agent now name need result old new →
+      KeeperIsCalled does (Take now.elapsed name (what.Need need) result ∷ []) old new
+  need_kept agent now name need result None new h = h.1
+  need_kept agent now name need result (Some old) None h = absurd h
+  need_kept agent now name need result (Some old) (Some new) h = (new, (h, refl))
+
+  looked_up_by : (now : Reading) (name : List ℕ) (w : What) (result : Result LookedUp AllocError) (old new : Option K) → LooksUpBy does now name w result old new → KeeperIsCalled does (LookUp now name w result ∷ []) old new
+  looked_up_by now name w result None new h = h.1
+  looked_up_by now name w result (Some old) None h = absurd h
+  looked_up_by now name w result (Some old) (Some new) h = (new, (h, refl))
+
+  proved_by : (now : ℕ) (result : Result (Option Verdict) AllocError) (old new : Option K) → ProvesBy does now result old new → KeeperIsCalled does (Prove now result ∷ []) old new
+  proved_by now result None new h = h.1
+  proved_by now result (Some old) None h = absurd h
+  proved_by now result (Some old) (Some new) h = (new, (h, refl))
+
+  reread_by : (now : Reading) (result : Option (Result Reread Whys)) (old new : Option K) → RereadBy does now result old new → IsAskedWithin does 0 1 old new
+  reread_by now None None new h = within_more does 0 0 0 1 None new (omega arith) (omega arith) (within_none does None new h)
+  reread_by now None (Some old) new h = absurd h
+  reread_by now (Some result) None new h = absurd h
+  reread_by now (Some result) (Some old) None h = absurd h
+  reread_by now (Some result) (Some old) (Some new) h = within_one does (Reload now.elapsed result) (Some old) (Some new) (new, (h, refl))
+
+  marked_by : (old new : Option K) → StateIsServed does old new → IsAskedWithin does 0 0 old new
+  marked_by None new h = within_none does None new h
+  marked_by (Some old) None h = absurd h
+  marked_by (Some old) (Some new) h = within_one does MarkServed (Some old) (Some new) (new, (h, refl))
+
+-- ---- what else is done leaves who keeps changes and the ends alone
+
+module _ {S T D K E : Type 0} where
+  record AreLeft (old new : House S T D K E) : Type 0 where
+    state : new.state ≡ old.state
+    ends : new.ends ≡ old.ends
+
+  left : (old new : House S T D K E) → new ≡ old → AreLeft old new
+  left old new is = record { state = ap (λ h. h.state) is; ends = ap (λ h. h.ends) is }
+
+  sent : (agent : Agent) (text : Option (List ℕ)) (now : ℕ) (old new : House S T D K E) → ClientIsSent agent text now old new → AreLeft old new
+  sent agent text now old new h = record { state = ap (λ x. x.state) h.rest; ends = ap (λ x. x.ends) h.rest }
+
+  will_tell : (outcome : Outcome) (now : ℕ) (old new : House S T D K E) → WillTell outcome now old new → AreLeft old new
+  will_tell outcome now old new h = record { state = ap (λ x. x.state) h.rest; ends = ap (λ x. x.ends) h.rest }
+
+  will_refuse : (whys : List (List ℕ)) (now : ℕ) (old new : House S T D K E) → WillRefuse whys now old new → AreLeft old new
+  will_refuse whys now old new h = record { state = ap (λ x. x.state) h.rest; ends = ap (λ x. x.ends) h.rest }
+
+  concluded : (agent : Agent) (l : Line) (outcome : Outcome) (now : ℕ) (old new : House S T D K E) → Concludes agent l outcome now old new → AreLeft old new
+  concluded agent l outcome now old new h = (let all = will_tell outcome now (record old { desk = h.desk }) new h.will in record { state = all.state; ends = all.ends })
+
+  need_given : (agent : Agent) (now : Reading) (name : List ℕ) (until : ℕ) (i : Option ℕ) (change : Change) (old new : House S T D K E) → GivesNeed agent now name until i change old new → AreLeft old new
+  need_given agent now name until (Some i) change old new h = record { state = ap (λ x. x.state) h.1; ends = ap (λ x. x.ends) h.1 }
+  need_given agent now name until None change old new h = concluded agent _ _ _ old new h.1.1.1
+
+  need_if : (agent : Agent) (now : Reading) (name : List ℕ) (until : ℕ) (result : Result (Unit {0}) Why) (change : Change) (old new : House S T D K E) → NeedsIf agent now name until result change old new → AreLeft old new
+  need_if agent now name until (Ok x) change old new h = need_given agent now name until _ change old new h
+  need_if agent now name until (Err why) change old new h = will_tell (Err why) now.elapsed old new h.1
+
+  reload_told : (path : K → List ℕ) (agent : Agent) (now : Reading) (result : Option (Result Reread Whys)) (old new : House S T D K E) → TellsReload path agent now result old new → AreLeft old new
+  reload_told path agent now None old new h = will_tell (Err h.why) now.elapsed old new h.will
+  reload_told path agent now (Some (Ok r)) old new h = (let all = will_tell (Ok h.line) now.elapsed _ new h.will in record { state = all.state; ends = all.ends })
+  reload_told path agent now (Some (Err whys)) old new h = (let all = will_refuse whys.items now.elapsed _ new h.will in record { state = all.state; ends = all.ends })
+
+  admitted : (id : Option ℕ) (alerts : Bool) (old new : House S T D K E) → AdmitsIf id alerts old new → AreLeft old new
+  admitted None alerts old new h = left old new h
+  admitted (Some id) alerts old new h = record { state = ap (λ x. x.state) h.rest; ends = ap (λ x. x.ends) h.rest }
+
+  admits : (now : Reading) (alerts : Bool) (old new : House S T D K E) → AdmitsIf (asking_in old.control) alerts old new ⊎ WillTell (Err None) now.elapsed old new → AreLeft old new
+  admits now alerts old new (inl h) = admitted (asking_in old.control) alerts old new h
+  admits now alerts old new (inr h) = will_tell (Err None) now.elapsed old new h
+
+  log_followed : (now : Reading) (alerts : Bool) (old new : House S T D K E) → FollowsLog now alerts old new → AreLeft old new
+  log_followed now alerts old new (inl h) = will_tell (Err h.why) now.elapsed old new h.will
+  log_followed now alerts old new (inr h) = admits now alerts old new h.admits
+
+-- ---- what a change asks for
+
+-- so many changes at most are asked for, and the ends are left alone
+pub record Spares {S T D K E : Type 0} (does : KeepCall → K → K → Type 0) (makes : ℕ) (old new : House S T D K E) : Type 0 where
+  pub asked : IsAskedWithin does 0 makes old.state new.state
+  pub ends : new.ends ≡ old.ends
+
+abbrev pub makes_if : Bool → ℕ
+makes_if true = 1
+makes_if false = 0
+
+abbrev pub makes_by : Option Change → ℕ
+makes_by None = 0
+makes_by (Some change) = 1
+
+module _ {S T D K E : Type 0} (does : KeepCall → K → K → Type 0) where
+  spares : (old new : House S T D K E) → AreLeft old new → Spares does 0 old new
+  spares old new h = record { asked = within_none does old.state new.state h.state; ends = h.ends }
+
+  spares_more : (i j : ℕ) (old new : House S T D K E) → i ≤ j → Spares does i old new → Spares does j old new
+  spares_more i j old new few h = record { asked = within_more does 0 i 0 j old.state new.state (omega arith) few h.asked; ends = h.ends }
+
+  -- from a house with another state
+  after : (i j most : ℕ) (state : Option K) (old new : House S T D K E) → i + j ≤ most → IsAskedWithin does 0 i old.state state → Spares does j (record old { state = state }) new → Spares does most old new
+  after i j most state old new few h k = record { asked = within_more does 0 (i + j) 0 most old.state new.state (omega arith) few (within_join does 0 i 0 j old.state state new.state h k.asked); ends = k.ends }
+
+  both : (i j most : ℕ) (old mid new : House S T D K E) → i + j ≤ most → Spares does i old mid → Spares does j mid new → Spares does most old new
+  both i j most old mid new few h k =
+      record { asked = within_more does 0 (i + j) 0 most old.state new.state (omega arith) few (within_join does 0 i 0 j old.state mid.state new.state h.asked k.asked); ends = k.ends ∙ h.ends }
+
+  -- one change is asked for, and concluded
+  concluded_after : (call : Result (Unit {0}) Why → KeepCall) (Says : K → List ℕ → Type 0) (agent : Agent) (l : Line) (outcome : Outcome) (now : ℕ) (state : Option K) (old new : House S T D K E) →
+      looks_of (call (done_of outcome)) ≡ 0 → makes_of (call (done_of outcome)) ≡ 1 →
+      KeeperIsAsked does call Says outcome old.state state → Concludes agent l outcome now (record old { state = state }) new → Spares does 1 old new
+  concluded_after call Says agent l outcome now state old new looks makes comes concludes =
+      let one = within_one does (call (done_of outcome)) old.state state (keeper_asked does call Says outcome old.state state comes) in
+      after 1 0 1 state old new (omega arith) (within_more does _ _ 0 1 old.state state (omega (arith, looks)) (omega (arith, makes)) one)
+      (spares (record old { state = state }) new (concluded agent l outcome now (record old { state = state }) new concludes))
+
+  module _ (rows : K → List Row) (agent : Agent) (now : Reading) where
+    made : (name : List ℕ) (w : What) (why : Option Loss) (old new : House S T D K E) → Makes does rows agent now name w why old new → Spares does 1 old new
+    made name (what.Need need) why old new h = spares_more 0 1 old new (omega arith) (spares old new (will_tell (Err None) now.elapsed old new h))
+    made name (what.Replace credential) why old new h = concluded_after (λ done. Take now.elapsed name (what.Replace credential) done) _ agent _ h.outcome now.elapsed h.state old new refl refl h.comes h.concludes
+    made name (what.Add row) why old new h = concluded_after (λ done. Take now.elapsed name (what.Add row) done) _ agent _ h.outcome now.elapsed h.state old new refl refl h.comes h.concludes
+    made name what.Drop why old new h = spares_more 0 1 old new (omega arith) (spares old new (will_tell (Err None) now.elapsed old new h))
+
+    judged : (name : List ℕ) (w : What) (verdict : Verdict) (old new : House S T D K E) → Judges does rows agent now name w verdict old new → Spares does 1 old new
+    judged name w verdicts.Good old new h = made name w None old new h
+    judged name w (verdicts.Refused status) old new h = spares_more 0 1 old new (omega arith) (spares old new (will_tell (Err h.0) now.elapsed old new h.1.1))
+    judged name w verdicts.Endless old new h = spares_more 0 1 old new (omega arith) (spares old new (will_tell (Err h.0) now.elapsed old new h.1.1))
+    judged name w (verdicts.Missing why) old new h = made name w (Some why) old new h
+
+    looked_if : (name : List ℕ) (w : What) (result : Result LookedUp AllocError) (old new : House S T D K E) → LooksUpIf does rows agent now name w result old new → Spares does 1 old new
+    looked_if name w (Ok lookups.Out) old new h = spares_more 0 1 old new (omega arith) (spares old new (record { state = ap (λ x. x.state) h.rest; ends = ap (λ x. x.ends) h.rest }))
+    looked_if name w (Ok lookups.Later) old new h = spares_more 0 1 old new (omega arith) (spares old new (will_tell (Err h.0) now.elapsed old new h.1.1))
+    looked_if name w (Ok lookups.Nothing) old new h = made name w None old new h
+    looked_if name w (Err e) old new h = spares_more 0 1 old new (omega arith) (spares old new (will_tell (Err None) now.elapsed old new h))
+
+    looked_up : (name : List ℕ) (w : What) (old new : House S T D K E) → LooksUpFirst does rows agent now name w old new → Spares does 1 old new
+    looked_up name w old new h =
+        after 0 1 1 h.state old new (omega arith) (within_one does (LookUp now name w h.looked_up) old.state h.state (looked_up_by does now name w h.looked_up old.state h.state h.asks))
+        (looked_if name w h.looked_up (record old { state = h.state }) new h.then)
+
+    given_left : (mid new : House S T D K E) (given : Option Given) → new ≡ record mid { given = given } → AreLeft mid new
+    given_left mid new given is = record { state = ap (λ x. x.state) is; ends = ap (λ x. x.ends) is }
+
+    -- a change that has waited is made at most where the broker's word is there
+    verdict_is : (a : Awaited) (verdict : Result (Option Verdict) AllocError) (heard : Bool) (old new : House S T D K E) → VerdictIs does rows agent now a verdict heard old new → Spares does (makes_if heard) old new
+    verdict_is a (Ok None) heard old new h = subst (λ b. Spares does (makes_if b) old new) (sym h.0) (spares old new (record { state = ap (λ x. x.state) h.1; ends = ap (λ x. x.ends) h.1 }))
+    verdict_is a (Ok (Some verdict)) heard old new h =
+        subst (λ b. Spares does (makes_if b) old new) (sym h.0) (both 1 0 1 old h.1.0 new (omega arith) (judged a.name a.what verdict old h.1.0 h.1.1.0) (spares h.1.0 new (given_left h.1.0 new _ h.1.1.1)))
+    verdict_is a (Err e) heard old new h =
+        subst (λ b. Spares does (makes_if b) old new) (sym h.0)
+        (both 0 0 1 old h.1.0 new (omega arith) (spares old h.1.0 (will_tell (Err None) now.elapsed old h.1.0 h.1.1.0)) (spares h.1.0 new (given_left h.1.0 new _ h.1.1.1)))
+
+    heard_for : (a : Option Awaited) (heard : Bool) (old new : House S T D K E) → HearsFor does rows agent now a heard old new → Spares does (makes_if heard) old new
+    heard_for None heard old new h = subst (λ b. Spares does (makes_if b) old new) (sym h.0) (spares old new (left old new h.1))
+    heard_for (Some a) heard old new h =
+        let all = verdict_is a h.verdict heard (record old { state = h.state; awaited = None }) new h.then in
+        let one = within_one does (Prove now.elapsed h.verdict) old.state h.state (proved_by does now.elapsed h.verdict old.state h.state h.proves) in
+        record { asked = within_more does 0 (0 + makes_if heard) 0 (makes_if heard) old.state new.state (omega arith) (omega arith) (within_join does 0 0 0 (makes_if heard) old.state h.state new.state one all.asked); ends = all.ends }
+
+    add_if : (read : Result Row Why) (old new : House S T D K E) → AddsIf does rows agent now read old new → Spares does 1 old new
+    add_if (Ok row) old new h = looked_up row.name (what.Add row) old new h
+    add_if (Err why) old new h = spares_more 0 1 old new (omega arith) (spares old new (will_tell (Err why) now.elapsed old new h))
+
+module _ {S T D K E : Type 0} (does : KeepCall → K → K → Type 0) (rows : K → List Row) (path : K → List ℕ) (reads : K → List ℕ → Result Row Why → Type 0)
+    (gives : ℕ → Result (Option Inventory) AllocError → K → Type 0) (agent : Agent) (now : Reading) where
+  carried_out : (a : Asked) (change : Change) (old new : House S T D K E) → CarriesOut does rows path reads gives agent now a change old new → Spares does 1 old new
+  carried_out (asked.Need name need) change old new h =
+      after does 1 0 1 h.state old new (omega arith) (within_one does (Take now.elapsed name (what.Need need) h.result) old.state h.state (need_kept does agent now name need h.result old.state h.state h.kept))
+      (spares does (record old { state = h.state }) new (need_if agent now name _ h.result change (record old { state = h.state }) new h.then))
+  carried_out (asked.Replace name credential) change old new h = looked_up does rows agent now name (what.Replace credential) old new h.1
+  carried_out (asked.Add table) change old new h = add_if does rows agent now h.1.read old new h.1.then
+  carried_out (asked.Drop name) change old new h = concluded_after does (λ done. Take now.elapsed name what.Drop done) _ agent _ h.1.outcome now.elapsed h.1.state old new refl refl h.1.comes h.1.concludes
+  carried_out asked.Settle change old new h = concluded_after does Settle _ agent _ h.1.outcome now.elapsed h.1.state old new refl refl h.1.comes h.1.concludes
+  carried_out asked.Reload change old new h =
+      after does 1 0 1 h.1.state old new (omega arith) (reread_by does now h.1.result old.state h.1.state h.1.asks)
+      (spares does (record old { state = h.1.state }) new (reload_told path agent now h.1.result (record old { state = h.1.state }) new h.1.tells))
+  carried_out (asked.Follow alerts) change old new h = spares_more does 0 1 old new (omega arith) (spares does old new (log_followed now alerts old new h.1))
+
+  lacked : (change : Option Change) (old new : House S T D K E) → LacksMemory does rows path reads gives agent now change old new → Spares does 0 old new
+  lacked change old new h = spares does old new (record { state = ap (λ x. x.state) h.1.1; ends = ap (λ x. x.ends) h.1.1 })
+
+  any : (change : Option Change) (old new : House S T D K E) → Spares does 0 old new → Spares does (makes_by change) old new
+  any change old new h = spares_more does 0 (makes_by change) old new (omega arith) h
+
+  carried_if : (a : Result (Option Asked) AllocError) (change : Option Change) (old new : House S T D K E) → CarriesIf does rows path reads gives agent now a change old new → Spares does (makes_by change) old new
+  carried_if (Ok None) change old new h = any change old new (spares does old new (left old new h.1))
+  carried_if (Ok (Some a)) None old new h = absurd h
+  carried_if (Ok (Some a)) (Some change) old new h = carried_out a change old new h
+  carried_if (Err e) change old new h = any change old new (lacked change old new h)
+
+  served_clients : (change : Option Change) (old new : House S T D K E) → ServesClients does rows path reads gives agent now change old new → Spares does (makes_by change) old new
+  served_clients change old new h = (let all = carried_if h.asked change (record old { control = h.control }) new h.then in record { asked = all.asked; ends = all.ends })
+
+  -- the change that has waited is one
+  goes_on_if : (heard : Bool) (change : Option Change) (old mid new : House S T D K E) → Spares does (makes_if heard) old mid → GoesOnIf does rows path reads gives agent now heard change mid new → Spares does (makes_by change) old new
+  goes_on_if true change old mid new all h =
+      subst (λ c. Spares does (makes_by c) old new) (sym h.0) (both does 1 0 1 old mid new (omega arith) all (spares does mid new (left mid new h.1)))
+  goes_on_if false change old mid new all h = both does 0 (makes_by change) (makes_by change) old mid new (omega arith) all (served_clients change mid new h)
+
+  pub asked_for : (due : Result (Option (Inventory × Vec Mark Global)) AllocError) (change : Option Change) (old new : House S T D K E) → AsksIf does rows path reads gives agent now due change old new → Spares does (makes_by change) old new
+  asked_for (Ok None) change old new h = goes_on_if h.heard change old h.mid new (heard_for does rows agent now old.awaited h.heard old h.mid h.hears) h.then
+  asked_for (Ok (Some p)) change old new h = any change old new (spares does old new (record { state = ap (λ x. x.state) h.1.1; ends = ap (λ x. x.ends) h.1.1 }))
+  asked_for (Err e) change old new h = any change old new (lacked change old new h)
+
+-- ---- what was given is settled
+
+module _ {S T D K E : Type 0} (does : KeepCall → K → K → Type 0) (agent : Agent) where
+  settled_by : (is_made : Bool) (given : Option Given) (old new : House S T D K E) → SettlesBy does agent is_made given old new → Spares does 0 old new
+  settled_by is_made None old new h = spares does old new (left old new h)
+  settled_by true (Some (givens.Need need)) old new h = (let all = sent agent h.sent need.at (record old { desk = h.desk }) new h.sends in spares does old new (record { state = all.state; ends = all.ends }))
+  settled_by false (Some (givens.Need need)) old new h = spares does old new (record { state = ap (λ x. x.state) h.1; ends = ap (λ x. x.ends) h.1 })
+  settled_by true (Some (givens.Answer text at)) old new h = spares does old new (sent agent text at old new h)
+  settled_by false (Some (givens.Answer text at)) old new h = spares does old new (record { state = ap (λ x. x.state) h.1; ends = ap (λ x. x.ends) h.1 })
+  settled_by true (Some (givens.Aside client text at)) old new h = spares does old new (record { state = ap (λ x. x.state) h.rest; ends = ap (λ x. x.ends) h.rest })
+  settled_by false (Some (givens.Aside client text at)) old new h = spares does old new (record { state = ap (λ x. x.state) h.1; ends = ap (λ x. x.ends) h.1 })
+  settled_by true (Some (givens.Served marks)) old new h = record { asked = marked_by does old.state new.state h.0; ends = ap (λ x. x.ends) h.1 }
+  settled_by false (Some (givens.Served marks)) old new h = spares does old new (left old new h)
+  settled_by true (Some givens.Unchanged) old new h = record { asked = marked_by does old.state new.state h.0; ends = ap (λ x. x.ends) h.1 }
+  settled_by false (Some givens.Unchanged) old new h = spares does old new (left old new h)
+
+  pub settled_given : (is_made : Bool) (old new : House S T D K E) → SettlesGiven does agent is_made old new → Spares does 0 old new
+  settled_given is_made old new h = (let all = settled_by is_made old.given (record old { given = None }) new h in record { asked = all.asked; ends = all.ends })

@@ -1,0 +1,174 @@
+-- Recorded: a change that was taken is on the disk, whatever a crash leaves. For `whoever_is_told_ok_has_it`.
+use Rattle.std.proofs.Common.{◌≡◌, ◌∙◌, ℕ, suc, ◌≤◌, Bool, true, false, ◌&&◌, IsTrue, inl, inr, List, [], ◌∷◌, ◌++◌, length, option_to_list, slice_index, Option, Some, None, Result, Ok, ap, append-nil, arith, refl, subst, sym}
+use Rattle.std.proofs.lemmas.List.Elements.{Contains-push}
+use Rattle.std.specs.List.{Contains}
+use Rattle.agent_answers.specs.declared.asked.Asked.{Asked}
+use Rattle.agent_answers.specs.declared.asked.Asked.TheVariants as asked
+use Rattle.vault_asking.specs.Sending.{Lanes}
+use Rattle.state_changes.specs.declared.change.Record.{Record}
+use Rattle.state_changes.specs.declared.change.Record.TheVariants.{Made, Settling}
+use Rattle.state_changes.specs.declared.change.What.{What}
+use Rattle.state_changes.specs.declared.change.What.TheVariants as what
+use Rattle.state_changes.specs.declared.row.Row.{Row}
+use Rattle.state_changes.specs.declared.replaying.File.{File}
+use Rattle.state_changes.specs.Compaction.{is_need, is_void, voids}
+use Rattle.state_changes.specs.Records.{record_of}
+use Rattle.base_disk.specs.Image as images
+use Rattle.base_disk.specs.Image.{Image}
+use Rattle.base_disk.specs.State.{DiskState}
+use Rattle.base_journal.specs.Journals.{CrashLeaves, JournalIsWhole, bytes_of_file}
+use Rattle.base_journal.specs.Records.{AreLines, StandsFor, at_rest, lines_kept}
+use Rattle.base_journal.proofs.Steps.{at_end}
+use Rattle.state_secrets.specs.Stamps.{FileCall}
+use Rattle.state_keeping.specs.States.{Kept, book_in, store_in}
+use Rattle.state_store.specs.Books.{Book}
+use Rattle.state_store.specs.Compacted.{compacted_lines}
+use Rattle.state_store.specs.Entering.{line_for_change}
+use Rattle.state_store.specs.Records.{records_in}
+use Rattle.state_store.specs.Stores.{journal_of, lines_in, path_of_store}
+use Rattle.state_store.proofs.Lists.{records_push}
+use Rattle.agent_words.specs.Outcomes.{Why}
+use Rattle.agent_ledger.specs.Keeping.{KeepCall, Take}
+use Rattle.agent_ledger.specs.Ledgers.{AreCompacted, DoesLedger, IsTakenOn, ReadsTable}
+use Rattle.agent_ledger.specs.declared.ledger.Ledger.{Ledger}
+use Rattle.agent_laws.specs.Acknowledged.{HasRecord, IsDone, IsOnDisk}
+use Rattle.agent_laws.proofs.Owed.{AreDone, IsChangeOf}
+
+-- ---- the last line of a journal stays where those are taken out that are void
+
+more : {X : Type 0} (x y : X) (xs : List X) → Contains xs y → Contains (x ∷ xs) y
+more x y xs h = (let within = h.1 in (suc h.0, omega (arith, within), h.2))
+
+-- where fewer are marked
+past_kept : (lines : List (List ℕ)) (line : List ℕ) (outs : List Bool) → length outs ≤ length lines → Contains (lines_kept (lines ++ line ∷ []) outs) line
+past_kept [] line [] few = (0, omega arith, refl)
+past_kept [] line (out ∷ outs) few = absurd (omega (arith, few))
+past_kept (l ∷ lines) line [] few = Contains-push (l ∷ lines) line
+past_kept (l ∷ lines) line (true ∷ outs) few = past_kept lines line outs (omega (arith, few))
+past_kept (l ∷ lines) line (false ∷ outs) few = more l line _ (past_kept lines line outs (omega (arith, few)))
+
+-- or the last mark is none
+last_kept : (lines : List (List ℕ)) (line : List ℕ) (outs : List Bool) → length outs ≤ length lines → Contains (lines_kept (lines ++ line ∷ []) (outs ++ false ∷ [])) line
+last_kept [] line [] few = (0, omega arith, refl)
+last_kept [] line (out ∷ outs) few = absurd (omega (arith, few))
+last_kept (l ∷ lines) line [] few = more l line _ (past_kept lines line [] (omega arith))
+last_kept (l ∷ lines) line (true ∷ outs) few = last_kept lines line outs (omega (arith, few))
+last_kept (l ∷ lines) line (false ∷ outs) few = more l line _ (last_kept lines line outs (omega (arith, few)))
+
+length_nil : {X : Type 0} (xs : List X) → length (xs ++ []) ≡ length xs
+length_nil xs = ap length (append-nil xs)
+
+and_no : (b : Bool) → (b && false) ≡ false
+and_no true = refl
+and_no false = refl
+
+last_void : (r : Record) → is_void r [] ≡ false
+last_void (Made c) = and_no (is_need c.what)
+last_void (Settling mark) = refl
+
+-- a mark for each record, and none for the last
+voids_last : (rs : List Record) (r : Record) → (outs : List Bool) × (length outs ≡ length rs) × (voids (rs ++ r ∷ []) ≡ outs ++ false ∷ [])
+unfolding voids
+voids_last [] r = ([], refl, ap (λ (b : Bool). b ∷ []) (last_void r))
+voids_last (x ∷ rs) r = (let rest = voids_last rs r in (is_void x (rs ++ r ∷ []) ∷ rest.0, ap suc rest.1, ap (λ (l : List Bool). is_void x (rs ++ r ∷ []) ∷ l) rest.2))
+
+voids_long : (rs : List Record) → length (voids rs) ≡ length rs
+unfolding voids
+voids_long [] = refl
+voids_long (r ∷ rs) = ap suc (voids_long rs)
+
+one_more : (lines : List (List ℕ)) (o : Option Record) → length (records_in lines) ≤ length lines → length (option_to_list o ++ records_in lines) ≤ suc (length lines)
+one_more lines None so = omega (arith, so)
+one_more lines (Some r) so = omega (arith, so)
+
+no_more : (lines : List (List ℕ)) → length (records_in lines) ≤ length lines
+unfolding records_in
+no_more [] = omega arith
+no_more (line ∷ lines) = one_more lines (record_of line) (no_more lines)
+
+stays_by : (lines : List (List ℕ)) (line : List ℕ) (o : Option Record) → Contains (lines_kept (lines ++ line ∷ []) (voids (records_in lines ++ option_to_list o))) line
+stays_by lines line None =
+    let few = no_more lines in
+    let long = voids_long (records_in lines ++ []) in
+    past_kept lines line (voids (records_in lines ++ [])) (omega (arith, few, long, length_nil (records_in lines)))
+stays_by lines line (Some r) =
+    let few = no_more lines in
+    let last = voids_last (records_in lines) r in
+    let long = last.1 in
+    subst (λ (outs : List Bool). Contains (lines_kept (lines ++ line ∷ []) outs) line) (sym last.2) (last_kept lines line last.0 (omega (arith, few, long)))
+
+last_stays : (lines : List (List ℕ)) (line : List ℕ) → Contains (compacted_lines (lines ++ line ∷ [])) line
+unfolding compacted_lines
+last_stays lines line = subst (λ (rs : List Record). Contains (lines_kept (lines ++ line ∷ []) (voids rs)) line) (sym (records_push lines line)) (stays_by lines line (record_of line))
+
+-- ---- a change that was taken
+
+closed : (lines : List (List ℕ)) → AreLines lines → StandsFor (at_rest lines) lines
+closed lines are = record { are_lines = are; end = 45 ∷ []; split = refl; nothing = λ line rest is e. absurd (let head : 45 ≡ 43 = ap (λ (l : List ℕ). slice_index l 0) e in omega (arith, head)) }
+
+module _ {D : Type 0} (known : Bool) (seen : D → DiskState) (counts : (disk : D) (t : ℕ) (c : Image) → t ≤ (seen disk).moment → (seen disk).may_leave c → (seen disk).left_since t c)
+    (now : ℕ) (name : List ℕ) (w : What) (old new : Kept D) (h : IsTakenOn known seen now name w old new) where
+  abbrev the_line : List ℕ
+  the_line = line_for_change (book_in old).file name w
+
+  abbrev lines_then : List (List ℕ)
+  lines_then = lines_in (store_in h.mid)
+
+  same_line : line_for_change (book_in new).file name w ≡ the_line
+  same_line = ap (λ (f : File). line_for_change f name w) (ap (λ (b : Book). b.file) h.book ∙ h.taken.changed.file)
+
+  has_then : Contains lines_then the_line
+  has_then = subst (λ (ls : List (List ℕ)). Contains ls the_line) (sym h.taken.lines) (Contains-push (lines_in (store_in old)) the_line)
+
+  stays_then : Contains (compacted_lines lines_then) the_line
+  stays_then = subst (λ (ls : List (List ℕ)). Contains (compacted_lines ls) the_line) (sym h.taken.lines) (last_stays (lines_in (store_in old)) the_line)
+
+  has_by : AreCompacted lines_then (lines_in (store_in new)) → Contains (lines_in (store_in new)) the_line
+  has_by (inl same) = subst (λ (ls : List (List ℕ)). Contains ls the_line) (sym same) has_then
+  has_by (inr fewer) = subst (λ (ls : List (List ℕ)). Contains ls the_line) (sym fewer.1) stays_then
+
+  left_by : IsTrue known → (c : Image) → CrashLeaves (path_of_store (store_in h.mid)) (λ file. StandsFor file (compacted_lines lines_then)) (seen h.mid.disk) c → HasRecord the_line (bytes_of_file (c (path_of_store (store_in h.mid))))
+  left_by is c (d, was, elsewhere, inl same) =
+      let whole : JournalIsWhole (journal_of (store_in h.mid)) (seen h.mid.disk) = h.acknowledged is in
+      let there = same ∙ whole.is_kept.durable d was ∙ whole.seen in
+      (lines_then, (subst (λ (o : Option images.File). StandsFor (bytes_of_file o) lines_then) (sym there) (closed lines_then whole.are_lines), has_then))
+  left_by is c (d, was, elsewhere, inr stands) = (compacted_lines lines_then, (stands, stays_then))
+
+  left_of : IsTrue known → (c : Image) → (seen new.disk).may_leave c → HasRecord the_line (bytes_of_file (c (path_of_store (store_in h.mid))))
+  left_of is c leaves = left_by is c (at_end (seen h.mid.disk) (seen new.disk) (CrashLeaves (path_of_store (store_in h.mid)) (λ file. StandsFor file (compacted_lines lines_then)) (seen h.mid.disk)) (h.left is) (counts new.disk) c leaves)
+
+  pub on_disk : IsOnDisk known seen name w new
+  on_disk = record {
+    held = subst (λ (l : List ℕ). Contains (lines_in (store_in new)) l) (sym same_line) (has_by h.lines);
+    left = λ is c leaves.
+        subst (λ (p : List ℕ). HasRecord (line_for_change (book_in new).file name w) (bytes_of_file (c p))) (sym h.path)
+        (subst (λ (l : List ℕ). HasRecord l (bytes_of_file (c (path_of_store (store_in h.mid))))) (sym same_line) (left_of is c leaves));
+  }
+
+-- ---- what is asked for is done where the ledger has taken it
+
+module _ {D : Type 0} (known : Bool) (seen : D → DiskState) where
+  moved : (name other : List ℕ) (w v : What) (k : Kept D) → name ≡ other → w ≡ v → IsOnDisk known seen name w k → IsOnDisk known seen other v k
+  moved name other w v k same is h = subst (λ (n : List ℕ). IsOnDisk known seen n v k) same (subst (λ (x : What). IsOnDisk known seen name x k) is h)
+
+module _ {D I L : Type 0} (known : Bool) (seen : D → DiskState) (counts : (disk : D) (t : ℕ) (c : Image) → t ≤ (seen disk).moment → (seen disk).may_leave c → (seen disk).left_since t c)
+    (calls : I → Option (List FileCall)) (lanes_seen : L → Lanes) (port : L → ℕ) where
+  abbrev Does : KeepCall → Ledger D I L → Ledger D I L → Type 0
+  Does = DoesLedger known seen calls lanes_seen port
+
+  abbrev reads_of : Ledger D I L → List ℕ → Result Row Why → Type 0
+  reads_of l = ReadsTable (book_in l.state).file.system_max
+
+  taken : (a : Asked) (now : ℕ) (name : List ℕ) (w : What) (x : Unit {0}) (l m : Ledger D I L) → IsChangeOf reads_of a name w → Does (Take now name w (Ok x)) l m → IsDone {I = I} {L = L} known seen a (Some m)
+  taken (asked.Need n need) now name w x l m is h = moved known seen name n w (what.Need need) m.state is.0 is.1 (on_disk known seen counts now name w l.state m.state h.0)
+  taken (asked.Replace n credential) now name w x l m is h = moved known seen name n w (what.Replace credential) m.state is.0 is.1 (on_disk known seen counts now name w l.state m.state h.0)
+  taken (asked.Add table) now name w x l m is h =
+      let row = is.1.0 in
+      ((book_in is.0.state).file.system_max, (row, (is.1.1.0, moved known seen name row.name w (what.Add row) m.state is.1.1.1.0 is.1.1.1.1 (on_disk known seen counts now name w l.state m.state h.0))))
+  taken (asked.Drop n) now name w x l m is h = moved known seen name n w what.Drop m.state is.0 is.1 (on_disk known seen counts now name w l.state m.state h.0)
+  taken asked.Settle now name w x l m is h = absurd is
+  taken asked.Reload now name w x l m is h = absurd is
+  taken (asked.Follow alerts) now name w x l m is h = absurd is
+
+  pub are_done : AreDone Does reads_of (IsDone {I = I} {L = L} known seen)
+  are_done = record { taken = taken; settled = λ m. tt; reloaded = λ m. tt; unkept = λ name need. tt }

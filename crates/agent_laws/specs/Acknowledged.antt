@@ -1,0 +1,143 @@
+-- Acknowledged: whoever is told `ok` in a run of a house has asked for it, and the change is on the disk that it has asked for. The law is
+-- the contract of a public function without a body.
+-- Source: docs/running.md, "What holds after a crash".
+use Rattle.std.specs.Prelude.{◌≡◌, ◌⊎◌, ℕ, Bool, IsTrue, List, [], ◌∷◌, ◌++◌, Option, Some, None, Ok, codes, slice_get}
+use Rattle.std.specs.List.{Contains}
+use Rattle.agent_answers.specs.declared.asked.Asked.{Asked}
+use Rattle.agent_answers.specs.declared.asked.Asked.TheVariants as asked
+use Rattle.agent_answers.specs.declared.control.Control.{Control}
+use Rattle.vault_asking.specs.Sending.{Lanes}
+use Rattle.agent_behind.specs.Behinds.{PassesBehind}
+use Rattle.agent_behind.specs.declared.behind.Behind.{Behind}
+use Rattle.state_changes.specs.declared.change.What.{What}
+use Rattle.state_changes.specs.declared.change.What.TheVariants as what
+use Rattle.state_changes.specs.declared.row.Row.{Row}
+use Rattle.base_clients.specs.Doors.{DoorLog}
+use Rattle.base_clients.specs.declared.guest.Guest.{Guest}
+use Rattle.base_clients.specs.declared.stage.Stage.TheVariants.{Answering, Waiting}
+use Rattle.base_clients.specs.declared.talk.Call.{Call}
+use Rattle.base_disk.specs.Image.{Image}
+use Rattle.base_disk.specs.State.{DiskState}
+use Rattle.base_journal.specs.Journals.{bytes_of_file}
+use Rattle.base_journal.specs.Records.{StandsFor}
+use Rattle.state_secrets.specs.Stamps.{FileCall}
+use Rattle.agent_turns.specs.Calls.{calls_of}
+use Rattle.agent_turns.specs.Days.{PassesToOthers}
+use Rattle.agent_turns.specs.Held.{ServingSide}
+use Rattle.agent_turns.specs.Neighbours.{AllCalled, Give, GoOn, Hear, NeighbourCall, Rest, Settle, WithCalls}
+use Rattle.agent_turns.specs.Runs.{AreTurns}
+use Rattle.agent_turns.specs.Turns.{ServingTurn}
+use Rattle.agent_turns.specs.declared.day.EarlyDay.{EarlyDay}
+use Rattle.state_keeping.specs.States.{Kept, book_in, store_in}
+use Rattle.state_keeping.specs.Tables.{row_of_table}
+use Rattle.state_store.specs.Entering.{line_for_change}
+use Rattle.state_store.specs.Stores.{lines_in, path_of_store}
+use Rattle.agent_house.specs.Admitting.{asking_in}
+use Rattle.agent_house.specs.Houses.{ClientsAsk}
+use Rattle.agent_house.specs.declared.house.House.{House}
+use Rattle.agent_ledger.specs.declared.ledger.Ledger.{Ledger}
+use Rattle.agent_laws.specs.Disks.{ToLedger}
+
+-- ---- who is told so
+
+abbrev pub guests_in : {T D : Type 0} → Option (Control T D) → List (Guest T)
+guests_in None = []
+guests_in (Some control) = control.clients.guests
+
+-- one that waits for its answer is given it, and it begins with `ok`
+pub record IsToldOk {T : Type 0} (old new : List (Guest T)) : Type 0 where
+  pub place : ℕ
+  pub before : Guest T
+  pub after : Guest T
+  pub more : List ℕ
+  pub was : slice_get old place ≡ Some before
+  pub waits : before.stage ≡ Waiting
+  pub is : slice_get new place ≡ Some after
+  pub told : after.stage ≡ Answering (codes "ok" ++ more)
+
+-- ---- what is kept
+
+-- the bytes of a journal's file have this record
+abbrev pub HasRecord : List ℕ → List ℕ → Type 0
+HasRecord line bytes = (lines : List (List ℕ)) × (StandsFor bytes lines × Contains lines line)
+
+-- the record of a change is among those of the journal, and on the disk: whatever a crash leaves then has it
+pub record IsOnDisk {D : Type 0} (known : Bool) (seen : D → DiskState) (name : List ℕ) (w : What) (k : Kept D) : Type 0 where
+  pub held : Contains (lines_in (store_in k)) (line_for_change (book_in k).file name w)
+  pub left : IsTrue known → (c : Image) → (seen k.disk).may_leave c → HasRecord (line_for_change (book_in k).file name w) (bytes_of_file (c (path_of_store (store_in k))))
+
+-- so is that of the change that a client has asked for. (What it asks for besides is no change of an entry.)
+abbrev pub IsKept : {D : Type 0} → Bool → (D → DiskState) → Asked → Kept D → Type 0
+IsKept known seen (asked.Need name need) k = IsOnDisk known seen name (what.Need need) k
+IsKept known seen (asked.Replace name credential) k = IsOnDisk known seen name (what.Replace credential) k
+IsKept known seen (asked.Add table) k = (most : Option ℕ) × ((row : Row) × ((row_of_table most table ≡ Ok row) × IsOnDisk known seen row.name (what.Add row) k))
+IsKept known seen (asked.Drop name) k = IsOnDisk known seen name what.Drop k
+IsKept known seen asked.Settle k = Unit {0}
+IsKept known seen asked.Reload k = Unit {0}
+IsKept known seen (asked.Follow alerts) k = Unit {0}
+
+-- where nothing keeps changes nothing is done but for a need
+abbrev pub IsDoneUnkept : Asked → Type 0
+IsDoneUnkept (asked.Need name need) = Unit {0}
+IsDoneUnkept (asked.Replace name credential) = ⊥
+IsDoneUnkept (asked.Add table) = ⊥
+IsDoneUnkept (asked.Drop name) = ⊥
+IsDoneUnkept asked.Settle = ⊥
+IsDoneUnkept asked.Reload = ⊥
+IsDoneUnkept (asked.Follow alerts) = ⊥
+
+abbrev pub IsDone : {D I L : Type 0} → Bool → (D → DiskState) → Asked → Option (Ledger D I L) → Type 0
+IsDone known seen a None = IsDoneUnkept a
+IsDone known seen a (Some l) = IsKept known seen a l.state
+
+-- ---- in a run
+
+-- nothing waits to be settled, and no change for the broker's word
+abbrev pub OwesNothing : {S T D K E : Type 0} → House S T D K E → Type 0
+OwesNothing h = (h.given ≡ None) × (h.awaited ≡ None)
+
+module _ {S T D K E : Type 0} where
+  -- at this call it is the turn of the client of that number, which asks for this
+  abbrev pub Asks : NeighbourCall → House S T D K E → ℕ → Asked → Type 0
+  Asks (Hear agent thing) h id a = ⊥
+  Asks (GoOn agent now is_busy) h id a = ⊥
+  Asks (Give agent now change) h id a = (after : Option (Control T D)) × (ClientsAsk now (Ok (Some a)) h.control after × (asking_in after ≡ Some id))
+  Asks (Settle agent is_made) h id a = ⊥
+  Asks (Rest now rest) h id a = ⊥
+
+-- of neighbours to which each call does this, among which there is a house, and of what is done where it is asked for
+module _ {N S T D K E : Type 0} (does : NeighbourCall → N → N → Type 0) (house : N → House S T D K E) (Done : Asked → Option K → Type 0) where
+  -- whoever is told `ok`, which is where something is settled, has asked for this before, and it is done
+  abbrev pub TellsTruly : (ℕ → Asked → Type 0) → NeighbourCall → House S T D K E → House S T D K E → Type 0
+  TellsTruly has (Hear agent thing) old new = Unit {0}
+  TellsTruly has (GoOn agent now is_busy) old new = Unit {0}
+  TellsTruly has (Give agent now change) old new = Unit {0}
+  TellsTruly has (Settle agent is_made) old new = (told : IsToldOk (guests_in old.control) (guests_in new.control)) → (a : Asked) × (has told.before.id a × Done a new.state)
+  TellsTruly has (Rest now rest) old new = Unit {0}
+
+  -- so it is at each of these calls, after those at which clients have asked for this
+  abbrev pub AllTellTruly : (ℕ → Asked → Type 0) → (calls : List NeighbourCall) (old new : N) → AllCalled does calls old new → Type 0
+  AllTellTruly has [] old new run = Unit {0}
+  AllTellTruly has (call ∷ calls) old new run = TellsTruly has call (house old) (house run.0) × AllTellTruly (λ id a. has id a ⊎ Asks call (house old) id a) calls run.0 new run.1.1
+
+  -- so it is in each run of turns
+  abbrev pub TurnsTellTruly : Type 0
+  TurnsTellTruly =
+      (port : ℕ) (turns : List ServingTurn) (from to : ServingSide) (first last : N) → OwesNothing (house first) → (run : WithCalls does (AreTurns port from turns to) (calls_of port from turns to) first last) →
+      AllTellTruly (λ id a. ⊥) (calls_of port from turns to run.is) first last run.called
+
+-- these may be a house whose changes are kept by a ledger, an early day before one, or one with a lookout between them
+module _ {S T O D I L E : Type 0} (given : S → Option (List ℕ)) (failures tries : S → ℕ) (remaining written : T → Option (List ℕ)) (calls : T → Option (List Call)) (log : O → Option (DoorLog T))
+    (disk_known : Bool) (seen : D → DiskState) (file_calls : I → Option (List FileCall)) (lanes_seen : L → Lanes) (port : L → ℕ) (known : Bool) (state : E → DiskState) where
+  abbrev pub HasIt : Type 0
+  HasIt = House S T O (Ledger D I L) E
+
+  abbrev pub ToIt : NeighbourCall → HasIt → HasIt → Type 0
+  ToIt = ToLedger given failures tries remaining written calls log disk_known seen file_calls lanes_seen port known state
+
+  abbrev pub AcknowledgedLaw : {M : Type 0} → (ℕ → ℕ → M → ℕ) → Type 0
+  AcknowledgedLaw {M} due_by =
+      TurnsTellTruly ToIt (λ (h : HasIt). h) (IsDone disk_known seen)
+      × (TurnsTellTruly (λ (call : NeighbourCall) (old new : EarlyDay HasIt). PassesToOthers ToIt call old new) (λ (d : EarlyDay HasIt). d.others) (IsDone disk_known seen)
+      × TurnsTellTruly (λ (call : NeighbourCall) (old new : EarlyDay (Behind HasIt M)). PassesToOthers (λ (c : NeighbourCall) (a b : Behind HasIt M). PassesBehind due_by ToIt c a b) call old new)
+      (λ (d : EarlyDay (Behind HasIt M)). d.others.others) (IsDone disk_known seen))

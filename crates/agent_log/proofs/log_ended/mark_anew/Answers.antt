@@ -1,0 +1,20 @@
+-- One mark more is made.
+use Rattle.std.proofs.Common.{◌≡◌, ◌∙◌, ◌<◌, ap, arith, length}
+use Rattle.agent_log.specs.LinesOfClocks.{carried_mark, marks_anew}
+use Rattle.agent_log.proofs.Marking.{marked_all, marked_more, marked_none}
+use Rattle.agent_log.proofs.log_ended.mark_anew.Goals as goal
+
+pub loop-entry-init : goal.loop-entry-init
+loop-entry-init c = marked_none (λ i mark. carried_mark c.args.agent.now i) c.args.marks.now
+
+pub loop-entry-preserved : goal.loop-entry-preserved
+loop-entry-preserved c =
+    let test = c.loop-entry-test.true in
+    marked_more (λ i mark. carried_mark c.args.agent.now i) c.args.marks.now c.loop-entry.marks c.loop-entry.entry c.carried_mark.result c.loop-entry.invariant (omega (arith, test)) c.carried_mark.ensures
+
+pub returns : goal.returns
+unfolding marks_anew
+returns c =
+    let over = c.loop-entry-test.false in
+    let count = c.loop-entry.invariant.count in
+    marked_all (λ i mark. carried_mark c.args.agent.now i) c.args.marks.now c.loop-entry.marks c.loop-entry.entry c.loop-entry.invariant (omega (arith, over, count))

@@ -1,0 +1,78 @@
+//! What is said of the next time of an entry.
+ghost use Rattle.std.specs.Prelude.{◌≡◌, ◌∷◌, [], IfOk};
+ghost use Rattle.base_log.specs.declared.line.Word.TheVariants as kinds;
+ghost use Rattle.agent_log.specs.LogDesk.{SaysLines};
+ghost use Rattle.agent_log.specs.Lines.{LineIsSaid};
+ghost use Rattle.agent_words.specs.Moments.{moment_word};
+ghost use Rattle.agent_log.specs.LinesOfNexts.{is_same_next, next_lines, next_log_line, was_next_said};
+
+use crate::desk::Desk;
+use crate::log_line::{Stamp, say, say_text};
+use crate::log_words::{one_word, text_word};
+use crate::rooms::Rooms;
+use agent_standing::Agent;
+use agent_words::moment_word;
+use base_log::{Level, Word};
+use program_lines::name_of;
+use std::alloc::{AllocError, Global};
+use watch_machine::Next;
+
+impl Desk {
+    /// Says the next time of an entry, by the broker's clock, where it is another than was said last.
+    #[tactic(auto, using(crate::proofs::Said::one_said))]
+    pub fn hear_next(
+        &mut self,
+        alloc: Global,
+        agent: &Agent,
+        last: Option<Option<Next>>,
+        next: Option<Next>,
+    )
+        ensures { SaysLines agent.now (next_lines agent.now last next) self.old.marks self.old self.new }
+    {
+        if !was_said(last, next) {
+            let stamp = self.stamp(agent);
+            say_next(alloc, &stamp, agent, next, &mut self.room);
+        }
+    }
+}
+
+// Says the next time of an entry, by the broker's clock.
+#[tactic(auto, using(crate::proofs::Said::missed))]
+fn say_next(alloc: Global, stamp: &Stamp, agent: &Agent, next: Option<Next>, room: &mut Rooms)
+    ensures { LineIsSaid stamp.now.form stamp.now.moment (next_log_line agent.now next) room.old room.new }
+{
+    let Some(next) = next else {
+        say_text(alloc, stamp, Level::Info, "next", b"none", room);
+        return;
+    };
+    let name = name_of(agent.inventory().forest(), next.entry);
+    match next_words(alloc, next.at, name) {
+        Ok(words) => say(alloc, stamp, Level::Info, "next", words, room),
+        Err(_) => room.miss(Level::Info),
+    }
+}
+
+fn next_words(alloc: Global, at: u64, name: &[u8]) -> Result<Vec<Word>, AllocError>
+    ensures { IfOk result (λ ws. ws.items ≡ moment_word at ∷ kinds.Text name.now ∷ []) }
+{
+    let mut words = one_word(alloc, moment_word(at))?;
+    words.push(text_word(alloc, name)?)?;
+    Ok(words)
+}
+
+// Whether that was said last.
+fn was_said(last: Option<Option<Next>>, next: Option<Next>) -> bool
+    ensures { result ≡ was_next_said last next }
+{
+    match (last, next) {
+        (None, _) | (Some(None), Some(_)) | (Some(Some(_)), None) => false,
+        (Some(None), None) => true,
+        (Some(Some(last)), Some(next)) => is_next(last, next),
+    }
+}
+
+fn is_next(a: Next, b: Next) -> bool
+    ensures { result ≡ is_same_next a b }
+{
+    a.at == b.at && a.entry == b.entry
+}

@@ -1,0 +1,165 @@
+//! The words of a line.
+ghost use Rattle.std.specs.Prelude.{◌≡◌, ◌∷◌, ◌++◌, [], IfOk, OnOk};
+ghost use Rattle.base_log.specs.declared.line.Word.TheVariants as kinds;
+ghost use Rattle.agent_log.specs.LinesOfClocks.{asked_word, asked_words, name_words};
+ghost use Rattle.agent_log.specs.Lines.{loss_word};
+ghost use Rattle.watch_machine.specs.Refusal.{is_same};
+ghost use Rattle.program_lines.specs.Text.{name_of};
+
+use base_log::Word;
+use base_moment::Text;
+use plan_forest::Forest;
+use program_lines::name_of;
+use std::alloc::{AllocError, Global};
+use vault_lanes::Loss;
+use watch_machine::{Operation, Request};
+
+/// A text as a word. The only error is lack of memory, here and in all that follows.
+pub(crate) fn text_word(alloc: Global, text: &[u8]) -> Result<Word, AllocError>
+    ensures { IfOk result (λ w. w ≡ kinds.Text text.now) }
+{
+    Ok(Word::Text(Text::of(alloc, text)?))
+}
+
+/// Why a request counts as lost.
+pub(crate) fn loss_word(alloc: Global, why: Loss) -> Result<Word, AllocError>
+    ensures { IfOk result (λ w. w ≡ loss_word why) }
+{
+    match why {
+        Loss::Connect => text_word(alloc, b"connect"),
+        Loss::Timeout => text_word(alloc, b"timeout"),
+        Loss::Closed => text_word(alloc, b"closed"),
+        Loss::Reply => text_word(alloc, b"reply"),
+        Loss::Status(status) => Ok(Word::Number(u64::from(status))),
+    }
+}
+
+/// One word.
+pub(crate) fn one_word(alloc: Global, word: Word) -> Result<Vec<Word>, AllocError>
+    ensures { IfOk result (λ ws. ws.items ≡ word ∷ []) }
+{
+    let mut words = Vec::new(alloc);
+    words.push(word)?;
+    Ok(words)
+}
+
+/// A text alone.
+pub(crate) fn one_text(alloc: Global, text: &[u8]) -> Result<Vec<Word>, AllocError>
+    ensures { IfOk result (λ ws. ws.items ≡ kinds.Text text.now ∷ []) }
+{
+    one_word(alloc, text_word(alloc, text)?)
+}
+
+/// A name and a word.
+pub(crate) fn name_and(alloc: Global, name: &[u8], word: Word) -> Result<Vec<Word>, AllocError>
+    ensures { IfOk result (λ ws. ws.items ≡ kinds.Text name.now ∷ word ∷ []) }
+{
+    let mut words = Vec::new(alloc);
+    words.push(text_word(alloc, name)?)?;
+    words.push(word)?;
+    Ok(words)
+}
+
+/// A name and why a request counts as lost.
+pub(crate) fn name_and_loss(alloc: Global, name: &[u8], why: Loss) -> Result<Vec<Word>, AllocError>
+    ensures { IfOk result (λ ws. ws.items ≡ kinds.Text name.now ∷ loss_word why ∷ []) }
+{
+    name_and(alloc, name, loss_word(alloc, why)?)
+}
+
+/// Why a request counts as lost, alone.
+pub(crate) fn one_loss(alloc: Global, why: Loss) -> Result<Vec<Word>, AllocError>
+    ensures { IfOk result (λ ws. ws.items ≡ loss_word why ∷ []) }
+{
+    one_word(alloc, loss_word(alloc, why)?)
+}
+
+/// A moment and the names of entries.
+pub(crate) fn word_and_names(
+    alloc: Global,
+    word: Word,
+    forest: &Forest,
+    entries: &[u32],
+) -> Result<Vec<Word>, AllocError>
+    ensures { IfOk result (λ ws. ws.items ≡ word ∷ name_words forest.now entries.now) }
+{
+    let mut words = one_word(alloc, word)?;
+    push_names(alloc, forest, entries, &mut words)?;
+    Ok(words)
+}
+
+// Appends the names of entries.
+fn push_names(
+    alloc: Global,
+    forest: &Forest,
+    entries: &[u32],
+    words: &mut Vec<Word>,
+) -> Result<(), AllocError>
+    ensures { OnOk result (words.new.items ≡ words.old.items ++ name_words forest.now entries.now) }
+{
+    for entry in entries {
+        push_name(alloc, name_of(forest, *entry), words)?;
+    }
+    Ok(())
+}
+
+// Appends a name.
+fn push_name(alloc: Global, name: &[u8], words: &mut Vec<Word>) -> Result<(), AllocError>
+    ensures { OnOk result (words.new.items ≡ words.old.items ++ kinds.Text name.now ∷ []) }
+{
+    words.push(text_word(alloc, name)?)?;
+    Ok(())
+}
+
+/// The names of those of whom this is asked, in the order in which it goes out.
+pub(crate) fn asked_words(
+    alloc: Global,
+    forest: &Forest,
+    operation: Operation,
+    requests: &[Request],
+) -> Result<Vec<Word>, AllocError>
+    ensures { IfOk result (λ ws. ws.items ≡ asked_words forest.now operation requests.now) }
+{
+    let mut words = Vec::new(alloc);
+    push_all_asked(alloc, forest, operation, requests, &mut words)?;
+    Ok(words)
+}
+
+// Appends the name of each of whom this is asked.
+fn push_all_asked(
+    alloc: Global,
+    forest: &Forest,
+    operation: Operation,
+    requests: &[Request],
+    words: &mut Vec<Word>,
+) -> Result<(), AllocError>
+    ensures { OnOk result (words.new.items ≡ words.old.items ++ asked_words forest.now operation requests.now) }
+{
+    for request in requests {
+        push_asked(alloc, forest, operation, *request, words)?;
+    }
+    Ok(())
+}
+
+// Appends the name of the entry, where this is asked of it.
+fn push_asked(
+    alloc: Global,
+    forest: &Forest,
+    operation: Operation,
+    request: Request,
+    words: &mut Vec<Word>,
+) -> Result<(), AllocError>
+    ensures { OnOk result (words.new.items ≡ words.old.items ++ asked_word forest.now operation request) }
+{
+    if is_same(request.operation, operation) {
+        push_name(alloc, name_of(forest, request.entry), words)?;
+    }
+    Ok(())
+}
+
+/// Whether both are lookups, or both renewals.
+pub(crate) fn is_same(one: Operation, other: Operation) -> bool
+    ensures { result ≡ is_same one other }
+{
+    one == other
+}

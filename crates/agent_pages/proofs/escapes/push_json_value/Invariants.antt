@@ -1,0 +1,7 @@
+-- What was written, and the bytes to come, are all of them.
+use Rattle.std.proofs.Common.{◌≡◌, ◌++◌, drop}
+use Rattle.agent_pages.specs.Escapes.{json_value}
+use Rattle.agent_pages.proofs.escapes.push_json_value.Given as goal
+
+abbrev pub invariant-loop-byte : goal.invariant-loop-byte
+invariant-loop-byte l = l.text.items ++ json_value (drop l.byte-index l.value) ≡ l.initial.text.items ++ json_value l.value

@@ -1,0 +1,49 @@
+-- States: what an operator has to know of an entry, in one word.
+-- Source: this project's own, docs/running.md, "What the operator sees".
+use Rattle.std.specs.Prelude.{ℕ, Bool, true, false, List, Option, Some, None, codes}
+use Rattle.agent_standing.specs.declared.status.Condition.{Condition}
+use Rattle.agent_standing.specs.declared.status.Condition.TheVariants as conditions
+use Rattle.agent_pages.specs.declared.state.State.{State}
+use Rattle.agent_pages.specs.declared.state.State.TheVariants.{Gone, Ended, Waiting, Short, Unknown, Trying, Kept}
+
+-- of an entry of which a request failed, or which was never asked for: nothing is known yet of one without an end
+abbrev pub tried_state : Option ℕ → State
+tried_state None = Unknown
+tried_state (Some end) = Trying
+
+-- of an entry that is served, by its condition and its end
+abbrev pub state_of : Condition → Option ℕ → State
+state_of conditions.Gone end = Gone
+state_of conditions.Ended end = Ended
+state_of conditions.Short end = Short
+state_of conditions.Trying end = tried_state end
+state_of conditions.Kept end = Kept
+
+abbrev pub state_word : State → List ℕ
+state_word Gone = codes "gone"
+state_word Ended = codes "ended"
+state_word Waiting = codes "waiting"
+state_word Short = codes "short"
+state_word Unknown = codes "unknown"
+state_word Trying = codes "trying"
+state_word Kept = codes "kept"
+
+-- an entry that lives and is asked again is kept
+abbrev pub is_kept : State → Bool
+is_kept Gone = false
+is_kept Ended = false
+is_kept Waiting = false
+is_kept Short = false
+is_kept Unknown = false
+is_kept Trying = true
+is_kept Kept = true
+
+abbrev pub is_same_state : State → State → Bool
+is_same_state Gone Gone = true
+is_same_state Ended Ended = true
+is_same_state Waiting Waiting = true
+is_same_state Short Short = true
+is_same_state Unknown Unknown = true
+is_same_state Trying Trying = true
+is_same_state Kept Kept = true
+is_same_state a b = false

@@ -1,0 +1,121 @@
+-- Putting: what a start puts together is what its parts are. For `begin`, `run_over` and their parts.
+use Rattle.std.proofs.Common.{◌≡◌, ◌∙◌, ℕ, Bool, List, [], None, Ok, Err, Option, Result, Some, String, Vec, ap, length, min, refl, subst}
+use Rattle.std.specs.Prelude.{IfOk, is_some}
+use Rattle.std.specs.Result.{result_ok}
+use Rattle.std.specs.declared.alloc.AllocError.{AllocError}
+use Rattle.std.specs.declared.alloc.Global.{Global}
+use Rattle.agent_ledger.specs.declared.ledger.Ledger.{Ledger}
+use Rattle.agent_log.specs.LogDesk.{Desk, HearsNoSocket}
+use Rattle.vault_asking.specs.Sending.{Lanes}
+use Rattle.agent_behind.specs.Lookouts.{Ahead}
+use Rattle.agent_behind.specs.declared.behind.Behind.{Behind}
+use Rattle.base_clock.specs.Seen.{CallIsMade, ClockSeen, read_call}
+use Rattle.base_clock.specs.declared.reading.Reading.{Reading}
+use Rattle.base_device.specs.declared.fault.Failed.{Failed}
+use Rattle.base_disk.specs.State.{DiskState}
+use Rattle.agent_house.specs.declared.house.House.{House}
+use Rattle.vault_inventory.specs.Inventories.{Inventory}
+use Rattle.base_log.specs.declared.form.Form.{Form}
+use Rattle.state_secrets.specs.Stamps.{FileCall}
+use Rattle.agent_turns.specs.Neighbours.{NeighbourCall}
+use Rattle.agent_turns.specs.declared.change.Change.{Change}
+use Rattle.agent_turns.specs.declared.day.EarlyDay.{EarlyDay}
+use Rattle.program_commands.specs.declared.job.Served.{Served}
+use Rattle.agent_start.specs.Descriptors.{ArePlaces}
+use Rattle.agent_start.specs.Saying.{BeginsDesk}
+use Rattle.agent_start.specs.Stalls.{WarnsOfDisks}
+use Rattle.agent_start.specs.TakingOver.{TakesOver}
+use Rattle.agent_start.specs.declared.said.Said.{Said}
+use Rattle.agent_start.specs.declared.start.Start.{Start}
+use Rattle.watch_machine.specs.declared.event.Event.{Event}
+use Rattle.agent_run.specs.Begun.{BeginsLog, HasFolder, IsBegun, IsLookout, IsReady, LooksAhead, SaysIfBehind, beside, day_of, house_of, with_lanes}
+use Rattle.agent_run.specs.Doors.{IsDoor, SaysNoDoor, cost_without}
+use Rattle.agent_run.specs.Run.{IsRun, ReadsFirst, reading_or_none}
+use Rattle.agent_run.specs.Running.{RunsFrom}
+use Rattle.agent_run.specs.Waits.{IsResumedFrom, WaitsFor}
+use Rattle.agent_run.specs.declared.begun.Begun.{Begun}
+use Rattle.agent_run.specs.declared.begun.Parts.{Parts}
+use Rattle.agent_run.specs.declared.begun.Ready.{Ready}
+use Rattle.agent_run.specs.declared.doors.Guests.{Guests}
+use Rattle.agent_run.specs.declared.doors.Guests.TheVariants.{Clients, Onlookers}
+
+-- ---- what it is put together from
+
+pub says_no_door : (now : Reading) (socket word why cost : List ℕ) (who : Guests) (old new : Desk) → socket ≡ word → cost ≡ cost_without who → HearsNoSocket now socket why cost old new → SaysNoDoor now word who old new
+says_no_door now socket word why cost who old new same is hears =
+    record { why = why; hears = subst (λ w. HearsNoSocket now w why (cost_without who) old new) same (subst (λ c. HearsNoSocket now socket why c old new) is hears) }
+
+pub is_lookout : {L : Type 0} → (number : ℕ) (lanes : L) (l : Ahead L) → l.number ≡ number → l.own ≡ lanes → l.scout ≡ None → l.heard ≡ [] → IsLookout number lanes l
+is_lookout number lanes l its own none nothing = record { number = its; own = own; scout = none; heard = nothing }
+
+pub begins_log :
+    {P : Type 0} → (calls : P → Option (List FileCall)) (now : Reading) (form : Form) (count : ℕ) (said heard : List Said) (warned : Vec Said Global) (path : Option (String Global)) (folder : Option (List ℕ)) (files after : P) (result : Result Desk AllocError) →
+    HasFolder path folder → WarnsOfDisks calls folder files after said warned.items → heard ≡ warned.items → IfOk result (BeginsDesk form count now heard) → IfOk result (BeginsLog calls now form count said path files)
+begins_log calls now form count said heard warned path folder files after (Ok desk) has warns same begins =
+    record {
+      folder = folder;
+      after = after;
+      warned = warned.items;
+      has_folder = has;
+      warns = warns;
+      begins = subst (λ s. BeginsDesk form count now s desk) same begins;
+    }
+begins_log calls now form count said heard warned path folder files after (Err e) has warns same begins = tt
+
+pub is_ready :
+    {D E P : Type 0} → (calls : P → Option (List FileCall)) (known : Bool) (seen : E → DiskState) (now : Reading) (served : Served) (behind : Option ℕ) (inventory : Inventory) (said : List Said) (path : Option (String Global)) (disk : E) (doors : P) (r : Ready D E) (count width margin : ℕ) (is_behind : Bool)
+    (begun told placed reckoned opened : Desk) →
+    BeginsLog calls now served.form count said path doors begun → count ≡ length inventory.forest.entries → TakesOver known seen now inventory path disk r.taken begun told → SaysIfBehind now behind margin told placed → margin ≡ inventory.forest.margin →
+    ArePlaces now width is_behind r.entrances.places placed reckoned → width ≡ min served.width 32 → is_behind ≡ is_some behind →
+    IsDoor now served.control Clients r.entrances.control reckoned opened → IsDoor now served.listen Onlookers r.entrances.onlookers opened r.desk → IsReady calls known seen now served behind inventory said path disk doors r
+is_ready calls known seen now served behind inventory said path disk doors r count width margin is_behind begun told placed reckoned opened begins many takes stands by places wide is control onlookers =
+    record {
+      begun = begun;
+      told = told;
+      placed = placed;
+      reckoned = reckoned;
+      opened = opened;
+      begins = subst (λ n. BeginsLog calls now served.form n said path doors begun) many begins;
+      takes = takes;
+      stands = subst (λ m. SaysIfBehind now behind m told placed) by stands;
+      places = subst (λ w. ArePlaces now w (is_some behind) r.entrances.places placed reckoned) wide (subst (λ b. ArePlaces now width b r.entrances.places placed reckoned) is places);
+      control = control;
+      onlookers = onlookers;
+    }
+
+pub put_together :
+    {D I L S T O E P : Type 0} → (calls : P → Option (List FileCall)) (known : Bool) (seen : E → DiskState) (now : Reading) (served : Served) (start : Start (Ledger D I L)) (parts : Parts S E L) (doors : P) (width : ℕ) (b : Begun S T O (Ledger D I L) E L) (ready : Ready O E) (desk : Desk)
+    (lookout : Option (Ahead L)) (events : List Event) (ledger : Option (Ledger D I L)) (house : House S T O (Ledger D I L) E) (neighbours : Behind (House S T O (Ledger D I L) E) L) → IsReady calls known seen now served start.behind start.inventories.served start.said.items parts.ends parts.disk doors ready →
+    IsResumedFrom events start.inventories.served width b.serving → events ≡ ready.taken.known.items → WaitsFor events width now start.part b.serving.agent start.inventories.again b.wait ready.desk desk → ledger ≡ with_lanes parts.lane parts.askers start.ledger →
+    house ≡ house_of now start.is_good start.behind ledger start.inventories.named parts.log desk ready.entrances ready.taken.file → LooksAhead start.behind parts.ahead lookout → neighbours ≡ beside house lookout →
+    b.neighbours ≡ day_of start.part neighbours → IsBegun calls known seen now served start parts doors width b
+put_together calls known seen now served start parts doors width b ready desk lookout events ledger house neighbours is agent handed waits l h ahead by n =
+    record {
+      ready = ready;
+      desk = desk;
+      lookout = lookout;
+      is_ready = is;
+      agent = subst (λ k. IsResumedFrom k start.inventories.served width b.serving) handed agent;
+      waits = subst (λ k. WaitsFor k width now start.part b.serving.agent start.inventories.again b.wait ready.desk desk) handed waits;
+      ahead = ahead;
+      neighbours = n ∙ ap (day_of start.part) (by ∙ ap (λ k. beside k lookout) (h ∙ ap (λ led. house_of now start.is_good start.behind led start.inventories.named parts.log desk ready.entrances ready.taken.file) l));
+    }
+
+-- ---- what it reads first, and its run
+
+module _ {C : Type 0} (clock_seen : C → ClockSeen) where
+  pub reads_some : (result : Result Reading Failed) (now : Reading) (old new : C) → result ≡ Ok now → CallIsMade (read_call (result_ok result)) (clock_seen old) (clock_seen new) → ReadsFirst clock_seen now old new
+  reads_some result now old new is made = record { reading = Some now; is = refl; made = subst (λ r. CallIsMade (read_call (result_ok r)) (clock_seen old) (clock_seen new)) is made }
+
+  pub reads_none :
+      (result : Result Reading Failed) (fault : Failed) (now : Reading) (old new : C) → result ≡ Err fault → now ≡ reading_or_none None → CallIsMade (read_call (result_ok result)) (clock_seen old) (clock_seen new) → ReadsFirst clock_seen now old new
+  reads_none result fault now old new is none made = record { reading = None; is = none; made = subst (λ r. CallIsMade (read_call (result_ok r)) (clock_seen old) (clock_seen new)) is made }
+
+pub runs_so :
+    {D I L S T O E C P : Type 0} → (does : NeighbourCall → EarlyDay (Behind (House S T O (Ledger D I L) E) L) → EarlyDay (Behind (House S T O (Ledger D I L) E) L) → Type 0) (given : EarlyDay (Behind (House S T O (Ledger D I L) E) L) → Option (List Change)) (calls : P → Option (List FileCall)) (known : Bool) (disk_seen : E → DiskState)
+    (clock_seen : C → ClockSeen) (seen : L → Lanes) (port width : L → ℕ) (served : Served) (start : Start (Ledger D I L)) (parts : Parts S E L) (doors : P) (clock clock_read clock_after : C) (lanes lanes_after : L) (now : Reading) (begun : Begun S T O (Ledger D I L) E L)
+    (after : EarlyDay (Behind (House S T O (Ledger D I L) E) L)) → ReadsFirst clock_seen now clock clock_read → IsBegun calls known disk_seen now served start parts doors (width lanes) begun →
+    RunsFrom does given clock_seen seen port begun.wait begun.serving lanes clock_read begun.neighbours lanes_after clock_after after →
+    IsRun does given calls known disk_seen clock_seen seen port width served start parts doors clock lanes clock_after lanes_after
+runs_so does given calls known disk_seen clock_seen seen port width served start parts doors clock clock_read clock_after lanes lanes_after now begun after reads begins runs =
+    record { now = now; clock_read = clock_read; begun = begun; after = after; reads = reads; begins = begins; runs = runs }

@@ -1,0 +1,119 @@
+-- Run: an agent from its start to its last turn.
+-- Source: this project's own; docs/commands/serve.md.
+use Rattle.std.specs.Prelude.{◌≡◌, ℕ, Bool, Option, Some, None, if◌then◌else◌, List, [], is_some, length, max, min, option_copied, true}
+use Rattle.std.specs.List.{All}
+use Rattle.agent_ledger.specs.Askers.{is_free}
+use Rattle.agent_ledger.specs.declared.asker.Asker.{Asker}
+use Rattle.agent_ledger.specs.declared.ledger.Ledger.{Ledger}
+use Rattle.agent_words.specs.declared.demands.Demands.{Demands}
+use Rattle.vault_asking.specs.Sending.{Lanes}
+use Rattle.agent_behind.specs.declared.behind.Behind.{Behind}
+use Rattle.base_clock.specs.Seen.{CallIsMade, ClockSeen, read_call}
+use Rattle.base_clock.specs.declared.reading.Reading.{Reading}
+use Rattle.base_disk.specs.State.{DiskState}
+use Rattle.agent_house.specs.declared.house.House.{House}
+use Rattle.vault_lanes.specs.Out.{Out}
+use Rattle.state_secrets.specs.Stamps.{FileCall}
+use Rattle.agent_turns.specs.Neighbours.{NeighbourCall}
+use Rattle.agent_turns.specs.declared.change.Change.{Change}
+use Rattle.agent_turns.specs.declared.day.EarlyDay.{EarlyDay}
+use Rattle.plan_spread.specs.Parts.{part_by}
+use Rattle.program_commands.specs.declared.job.Served.{Served}
+use Rattle.agent_start.specs.Numbers.{IsNumber}
+use Rattle.agent_start.specs.Starts.{IsStart}
+use Rattle.agent_start.specs.declared.start.Start.{Start}
+use Rattle.agent_run.specs.Begun.{IsBegun}
+use Rattle.agent_run.specs.Running.{RunsFrom}
+use Rattle.agent_run.specs.declared.begun.Begun.{Begun}
+use Rattle.agent_run.specs.declared.begun.Parts.{Parts}
+
+-- the time-out of a request, in seconds, and how many may be out at once, by the words of the command line
+abbrev pub timeout_of : ℕ → ℕ
+timeout_of patience = min patience 60
+
+abbrev pub width_of : ℕ → ℕ
+width_of width = max 1 (min width 32)
+
+-- a lane of which none is taken, with that time-out, over which one request may be out
+pub record IsOwnLane {L : Type 0} (out : L → List Out) (seconds width : L → ℕ) (served : Served) (lane : L) : Type 0 where
+  pub free : out lane ≡ []
+  pub patient : seconds lane ≡ timeout_of served.patience
+  pub one : width lane ≡ 1
+
+-- lanes of which none is taken, with that time-out, over which as many may be out as the words say
+pub record AreOwnLanes {L : Type 0} (out : L → List Out) (seconds width : L → ℕ) (served : Served) (lanes : L) : Type 0 where
+  pub free : out lanes ≡ []
+  pub patient : seconds lanes ≡ timeout_of served.patience
+  pub wide : width lanes ≡ width_of served.width
+
+-- who looks up what a file holds over such a lane, and nothing yet; and as many of them as requests may be out at once
+pub record IsAskerFor {L : Type 0} (out : L → List Out) (seconds width : L → ℕ) (served : Served) (asker : Asker L) : Type 0 where
+  pub lane : IsOwnLane out seconds width served asker.proving.lanes
+  pub free : is_free asker ≡ true
+
+pub record AreAskersFor {L : Type 0} (out : L → List Out) (seconds width : L → ℕ) (served : Served) (askers : List (Asker L)) : Type 0 where
+  pub count : length askers ≡ min served.width 32
+  pub each : All (IsAskerFor out seconds width served) askers
+
+-- what is demanded of the inventory by them, for an agent whose name has that number: it wakes up earlier by its part of the spread
+abbrev pub spread_of : ℕ → ℕ
+spread_of spread = min spread 3600
+
+abbrev pub demands_of : Served → ℕ → Demands
+demands_of served number =
+    record {
+      timeout = timeout_of served.patience;
+      names_are_secrets = served.names_are_secrets;
+      earlier = part_by number (spread_of served.spread);
+      behind = if served.behind then Some number else None;
+    }
+
+abbrev pub IsDemanded : Served → Demands → Type 0
+IsDemanded served d = (number : ℕ) × (IsNumber (option_copied served.name) served.file.now number × (d ≡ demands_of served number))
+
+-- what the clocks read; 0 where they cannot be read
+abbrev pub reading_or_none : Option Reading → Reading
+reading_or_none None = record { wall = 0; elapsed = 0 }
+reading_or_none (Some r) = r
+
+pub record ReadsFirst {C : Type 0} (clock_seen : C → ClockSeen) (now : Reading) (old new : C) : Type 0 where
+  pub reading : Option Reading
+  pub is : now ≡ reading_or_none reading
+  pub made : CallIsMade (read_call reading) (clock_seen old) (clock_seen new)
+
+-- the clocks are read once; by that an agent is put together of what is served from the start on and of its parts; and it runs from then
+-- on, among the neighbours that it was given
+pub record IsRun {D I L S T O E C P : Type 0} (does : NeighbourCall → EarlyDay (Behind (House S T O (Ledger D I L) E) L) → EarlyDay (Behind (House S T O (Ledger D I L) E) L) → Type 0) (given : EarlyDay (Behind (House S T O (Ledger D I L) E) L) → Option (List Change))
+    (calls : P → Option (List FileCall)) (known : Bool) (disk_seen : E → DiskState) (clock_seen : C → ClockSeen) (seen : L → Lanes) (port width : L → ℕ) (served : Served) (start : Start (Ledger D I L)) (parts : Parts S E L) (doors : P) (clock : C) (lanes : L) (clock_after : C) (lanes_after : L) : Type 0 where
+  pub now : Reading
+  pub clock_read : C
+  pub begun : Begun S T O (Ledger D I L) E L
+  pub after : EarlyDay (Behind (House S T O (Ledger D I L) E) L)
+  pub reads : ReadsFirst clock_seen now clock clock_read
+  pub begins : IsBegun calls known disk_seen now served start parts doors (width lanes) begun
+  pub runs : RunsFrom does given clock_seen seen port begun.wait begun.serving lanes clock_read begun.neighbours lanes_after clock_after after
+
+-- an agent was put together of a start that these words demand, and has run, with this log, over lanes to the broker of which none was taken, with the time-out and the width
+-- of the words
+pub record HasRun {D I L S T O E C P : Type 0} (does : NeighbourCall → EarlyDay (Behind (House S T O (Ledger D I L) E) L) → EarlyDay (Behind (House S T O (Ledger D I L) E) L) → Type 0) (given : EarlyDay (Behind (House S T O (Ledger D I L) E) L) → Option (List Change))
+    (calls : P → Option (List FileCall)) (known : Bool) (disk_seen : E → DiskState) (clock_seen : C → ClockSeen) (seen : L → Lanes) (port width : L → ℕ) (served : Served) (log : S) : Type 0 where
+  pub demands : Demands
+  pub demanded : IsDemanded served demands
+  pub start : Start (Ledger D I L)
+  pub start_is : IsStart demands (is_some served.state) start
+  pub parts : Parts S E L
+  pub doors : P
+  pub clock : C
+  pub lanes : L
+  pub clock_after : C
+  pub lanes_after : L
+  pub log_is : parts.log ≡ log
+  pub free : (seen lanes).out ≡ []
+  pub seconds : (seen lanes).seconds ≡ timeout_of served.patience
+  pub wide : width lanes ≡ width_of served.width
+  pub runs : IsRun does given calls known disk_seen clock_seen seen port width served start parts doors clock lanes clock_after lanes_after
+
+-- with some log
+abbrev pub HasRunSo : {D I L S T O E C P : Type 0} → (NeighbourCall → EarlyDay (Behind (House S T O (Ledger D I L) E) L) → EarlyDay (Behind (House S T O (Ledger D I L) E) L) → Type 0) → (EarlyDay (Behind (House S T O (Ledger D I L) E) L) → Option (List Change)) → (P → Option (List FileCall)) → Bool → (E → DiskState) →
+    (C → ClockSeen) → (L → Lanes) → (L → ℕ) → (L → ℕ) → Served → Type 0
+HasRunSo {S} does given calls known disk_seen clock_seen seen port width served = (log : S) × HasRun does given calls known disk_seen clock_seen seen port width served log

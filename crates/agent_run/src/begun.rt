@@ -1,0 +1,379 @@
+//! What is served from a start on, put together with its neighbours.
+ghost use Rattle.std.specs.Prelude.{◌≡◌, ◌<◌, [], IfOk, is_some, min, option_map};
+ghost use Rattle.agent_answers.specs.Controlling.{nobody_asks};
+ghost use Rattle.agent_answers.specs.Onlooking.{nobody};
+ghost use Rattle.agent_turns.specs.Held.{IsInStep};
+ghost use Rattle.agent_run.specs.Begun.{BeginsLog, HasFolder, IsBegun, IsReady, LooksAhead, SaysIfBehind, beside, day_of, house_of, read_at, with_lanes};
+ghost use Rattle.agent_run.specs.Waits.{IsResumedFrom, WaitsFor};
+
+use crate::doors::{Doors, Guests, open_door};
+use crate::wait::{Wait, millis_of, resumed, wait_of};
+use agent_answers::{Control, Onlookers};
+use agent_behind::{Behind, Lookout};
+use agent_house::House;
+use agent_ledger::{Asker, Ledger};
+use agent_log::Desk;
+use agent_pages::{FileReading, Standby};
+use agent_start::{
+    Inventories, Places, Said, Start, TakenOver, desk_of, folder_of, places_for, say_behind,
+    take_over, warn_of_disks,
+};
+use agent_turns::{EarlyDay, Serving};
+use base_clients::{Door, Talk};
+use base_clock::Reading;
+use base_disk::Disk;
+use base_files::Inputs;
+use base_log::{Form, LogSink};
+use program_commands::Served;
+use state_changes::Rows;
+use state_secrets::SecretFiles;
+use std::alloc::{AllocError, Global};
+use vault_inventory::Inventory;
+use vault_lanes::{Lanes, MOST_WIDTH};
+use vault_proving::Proving;
+use watch_machine::Event;
+
+/// What an agent is put together from, besides what is served, its lanes to the broker and its doors.
+#[derive(Drop)]
+pub struct Parts<S, E, L: Lanes> {
+    /// Who reads the log.
+    pub log: S,
+    /// Where the ends are kept over a restart, if they are: the path of their file, and its disk.
+    pub ends: Option<String>,
+    pub disk: E,
+    /// The lane over which the credential of a client's change is looked up before it is taken.
+    pub lane: L,
+    /// Those over whose lanes the credentials of files are.
+    pub askers: Vec<Asker<L>>,
+    /// The lanes over which entries are looked up ahead, where the agent stands behind another.
+    pub ahead: L,
+}
+
+/// An agent that is to make its first turn, and its neighbours.
+#[derive(Drop)]
+pub struct Begun<S, T, D, K, E, L: Lanes> {
+    pub serving: Serving,
+    pub neighbours: EarlyDay<Behind<House<S, T, D, K, E>, L>>,
+    /// Its wait before that, if it has one.
+    pub wait: Option<Wait>,
+}
+
+/// The doors at which guests come in.
+#[derive(Drop)]
+pub struct Entrances<D> {
+    /// How many of each kind are let in.
+    pub places: Places,
+    pub control: Option<D>,
+    pub onlookers: Option<D>,
+}
+
+/// What neighbours are made of, with what was said by then.
+#[derive(Drop)]
+pub struct Ready<D, E> {
+    pub desk: Desk,
+    pub taken: TakenOver<E>,
+    pub entrances: Entrances<D>,
+}
+
+/// The agent, and its wait.
+#[derive(Drop)]
+struct AtFirst {
+    serving: Serving,
+    wait: Option<Wait>,
+}
+
+/// Puts an agent together, of what is served from the start on, over these lanes. The only error is lack of memory.
+#[tactic(auto, using(crate::proofs::Putting::put_together))]
+pub fn begin<'a, D, I, L, S, T, O, E, P>(
+    alloc: Global,
+    now: Reading,
+    served: &Served<'_>,
+    start: Start<Ledger<'a, D, I, L>>,
+    parts: Parts<S, E, L>,
+    doors: &mut P,
+    lanes: &L,
+) -> Result<Begun<S, T, O, Ledger<'a, D, I, L>, E, L>, AllocError>
+where
+    D: Disk + Drop,
+    I: Drop,
+    L: Lanes + Drop,
+    S: LogSink + Drop,
+    T: Talk,
+    O: Door<T> + Drop,
+    E: Disk + Drop,
+    P: Doors<T, O> + Inputs + SecretFiles,
+    requires free { L.out lanes.now ≡ [] }
+    requires lane_free { L.out parts.lane ≡ [] }
+    requires lane_wide { 0 < L.width parts.lane }
+    ensures begun { IfOk result (λ b. IsBegun P.calls E.is_known E.state now served.now start.entry parts doors.old (L.width lanes.now) b) }
+    ensures in_step { IfOk result (λ b. IsInStep (L.width lanes.now) (L.out lanes.now) b.serving) }
+{
+    let Start {
+        part,
+        behind,
+        inventories,
+        ledger,
+        is_good,
+        said,
+    } = start;
+    let Parts {
+        log,
+        ends,
+        disk,
+        lane,
+        askers,
+        ahead,
+    } = parts;
+    let Inventories {
+        served: inventory,
+        again,
+        named,
+    } = inventories;
+    let mut ready = make_ready(
+        alloc, now, served, behind, &inventory, said, ends, disk, doors,
+    )?;
+    let known = &ready.taken.known;
+    let desk = &mut ready.desk;
+    let AtFirst { serving, wait } = resume(alloc, inventory, again, lanes, known, now, part, desk)?;
+    let ledger = with_lanes(ledger, lane, askers);
+    let house = house_of(alloc, now, is_good, behind, ledger, named, log, ready);
+    let lookout = lookout_of(alloc, behind, ahead);
+    Ok(Begun {
+        serving,
+        neighbours: day_of(part, beside(house, lookout)),
+        wait,
+    })
+}
+
+/// A house of these parts, in which nobody has come, and nothing was given or said yet.
+fn house_of<S, T: Talk, D: Door<T>, K, E>(
+    alloc: Global,
+    now: Reading,
+    is_good: bool,
+    behind: Option<u64>,
+    ledger: Option<K>,
+    named: Option<Rows>,
+    log: S,
+    ready: Ready<D, E>,
+) -> House<S, T, D, K, E>
+    ensures { result ≡ house_of now is_good behind ledger named log ready.desk ready.entrances ready.taken.file }
+{
+    let Ready {
+        desk,
+        taken,
+        entrances,
+    } = ready;
+    House {
+        desk,
+        sink: log,
+        control: control_at(alloc, entrances.control, entrances.places.clients),
+        onlookers: onlookers_at(alloc, entrances.onlookers, entrances.places.onlookers),
+        file: read_at(now, is_good),
+        standby: Standby::new(behind.is_some()),
+        state: ledger,
+        read: named,
+        given: None,
+        awaited: None,
+        next: None,
+        ends: taken.file,
+    }
+}
+
+/// The same, which has everything looked up before a day is over by this part of a spread.
+fn day_of<N>(part: u32, house: N) -> EarlyDay<N>
+    ensures { result ≡ day_of part house }
+{
+    EarlyDay::new(house, millis_of(part))
+}
+
+/// Begins the log, takes over the ends that were kept, and opens the doors. The only error is lack of memory.
+#[tactic(auto, using(crate::proofs::Putting::is_ready))]
+fn make_ready<T, O, E, P>(
+    alloc: Global,
+    now: Reading,
+    served: &Served<'_>,
+    behind: Option<u64>,
+    inventory: &Inventory,
+    said: Vec<Said>,
+    ends: Option<String>,
+    disk: E,
+    doors: &mut P,
+) -> Result<Ready<O, E>, AllocError>
+where
+    O: Door<T> + Drop,
+    E: Disk + Drop,
+    P: Doors<T, O> + Inputs + SecretFiles,
+    ensures { IfOk result (IsReady P.calls E.is_known E.state now served.now behind inventory.now said.items ends disk doors.old) }
+{
+    let count = inventory.forest().len();
+    let mut desk = begin_log(alloc, now, served.form, count, said, &ends, doors)?;
+    let taken = take_over(alloc, disk, ends, inventory, now, &mut desk)?;
+    say_if_behind(alloc, now, behind, inventory.forest().margin(), &mut desk);
+    let places = places_for(
+        alloc,
+        doors,
+        most_out(served),
+        behind.is_some(),
+        now,
+        &mut desk,
+    );
+    let (control, listen) = (served.control, served.listen);
+    let control = open_door(alloc, now, control, Guests::Clients, doors, &mut desk);
+    let onlookers = open_door(alloc, now, listen, Guests::Onlookers, doors, &mut desk);
+    Ok(Ready {
+        desk,
+        taken,
+        entrances: Entrances {
+            places,
+            control,
+            onlookers,
+        },
+    })
+}
+
+/// Says with which margin the agent stands behind another, where it does.
+fn say_if_behind(alloc: Global, now: Reading, behind: Option<u64>, margin: u32, desk: &mut Desk)
+    ensures { SaysIfBehind now behind margin desk.old desk.new }
+{
+    match behind {
+        None => {}
+        Some(_) => say_behind(alloc, desk, now, margin),
+    }
+}
+
+/// Who looks ahead over these lanes, for an agent behind another whose name has that number.
+#[tactic(auto, using(crate::proofs::Putting::is_lookout))]
+fn lookout_of<L: Lanes + Drop>(alloc: Global, behind: Option<u64>, lanes: L) -> Option<Lookout<L>>
+    ensures { LooksAhead behind lanes result }
+{
+    match behind {
+        None => None,
+        Some(number) => Some(Lookout::new(alloc, number, lanes)),
+    }
+}
+
+/// Neighbours, and beside them who looks ahead.
+fn beside<N, L: Lanes>(others: N, lookout: Option<Lookout<L>>) -> Behind<N, L>
+    ensures { result ≡ beside others lookout }
+{
+    Behind::new(others, lookout)
+}
+
+/// The log of an agent with so many entries, in which that was said, and where a disk may hold up its loop. The only error is lack of
+/// memory.
+#[tactic(auto, using(crate::proofs::Putting::begins_log))]
+fn begin_log<P: SecretFiles>(
+    alloc: Global,
+    now: Reading,
+    form: Form,
+    count: u32,
+    said: Vec<Said>,
+    ends: &Option<String>,
+    files: &mut P,
+) -> Result<Desk, AllocError>
+    ensures { IfOk result (BeginsLog P.calls now form count said.items ends.now files.old) }
+{
+    let mut said = said;
+    warn_of_disks(alloc, files, ends_folder(ends), &mut said)?;
+    desk_of(alloc, form, count, now, &said)
+}
+
+/// The folder of the file of the ends, where there is one.
+fn ends_folder(path: &Option<String>) -> Option<&str>
+    ensures { HasFolder path.now (option_map (λ folder. folder.now) result) }
+{
+    match path {
+        None => None,
+        Some(path) => Some(folder_of(path)),
+    }
+}
+
+/// The agent of this inventory, and its wait, of which the desk is told. The only error is lack of memory.
+fn resume<L: Lanes>(
+    alloc: Global,
+    inventory: Inventory,
+    again: Option<Inventory>,
+    lanes: &L,
+    known: &[Event],
+    now: Reading,
+    part: u32,
+    desk: &mut Desk,
+) -> Result<AtFirst, AllocError>
+    requires free { L.out lanes.now ≡ [] }
+    ensures resumed { IfOk result (λ r. IsResumedFrom known.now inventory (L.width lanes.now) r.serving) }
+    ensures waits { IfOk result (λ r. WaitsFor known.now (L.width lanes.now) now part r.serving.agent again r.wait desk.old desk.new) }
+    ensures in_step { IfOk result (λ r. IsInStep (L.width lanes.now) (L.out lanes.now) r.serving) }
+{
+    let serving = resumed(alloc, inventory, lanes, known)?;
+    let wait = wait_of(alloc, &serving, again, lanes, known, now, part, desk)?;
+    Ok(AtFirst { serving, wait })
+}
+
+/// The clients at a door, where there is one, with room for so many: nobody has come yet.
+fn control_at<T: Talk, D: Door<T>>(
+    alloc: Global,
+    door: Option<D>,
+    room: usize,
+) -> Option<Control<T, D>>
+    ensures { result ≡ option_map (nobody_asks room) door }
+{
+    match door {
+        None => None,
+        Some(door) => Some(Control::new(alloc, door, room)),
+    }
+}
+
+/// The onlookers at a door, where there is one, with room for so many: nobody has come yet.
+fn onlookers_at<T: Talk, D: Door<T>>(
+    alloc: Global,
+    door: Option<D>,
+    room: usize,
+) -> Option<Onlookers<T, D>>
+    ensures { result ≡ option_map (nobody room) door }
+{
+    match door {
+        None => None,
+        Some(door) => Some(Onlookers::new(alloc, door, room)),
+    }
+}
+
+/// How many requests may be out at once at most, by the words.
+pub fn most_out(served: &Served<'_>) -> u32
+    ensures { result ≡ min served.now.width 32 }
+{
+    served.width.min(u64::from(MOST_WIDTH)) as u32
+}
+
+/// A ledger, where there is one, that has the credential of a client's change looked up over this lane before it takes it, and those of
+/// files by these askers.
+fn with_lanes<'a, D: Disk + Drop, I: Drop, L: Lanes + Drop>(
+    ledger: Option<Ledger<'a, D, I, L>>,
+    lane: L,
+    askers: Vec<Asker<L>>,
+) -> Option<Ledger<'a, D, I, L>>
+    requires free { L.out lane ≡ [] }
+    requires wide { 0 < L.width lane }
+    ensures { result ≡ with_lanes lane askers ledger.entry }
+{
+    match ledger {
+        None => None,
+        Some(ledger) => {
+            let mut ledger = ledger;
+            ledger.proving = Some(Proving::new(lane));
+            ledger.askers = askers;
+            Some(ledger)
+        }
+    }
+}
+
+/// The file was read at this moment, and was good or was not.
+fn read_at(now: Reading, is_good: bool) -> FileReading
+    ensures { result ≡ read_at now is_good }
+{
+    let seconds = Some(now.wall / 1000);
+    FileReading {
+        is_good,
+        at: seconds,
+        good_at: if is_good { seconds } else { None },
+    }
+}

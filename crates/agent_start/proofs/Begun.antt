@@ -1,0 +1,95 @@
+-- Begun: a start with a ledger is a start, and so is one without. For `start_with`, `make_start` and their parts.
+use Rattle.std.proofs.Common.{◌≡◌, ◌∙◌, Bool, true, false, List, [], ◌∷◌, ◌++◌, None, Option, Some, Vec, ap, refl, subst, sym}
+use Rattle.std.specs.Prelude.{Err, IfErr, IfOk, IfSome, Ok, Result}
+use Rattle.std.specs.declared.alloc.Global.{Global}
+use Rattle.agent_ledger.specs.declared.ledger.Ledger.{Ledger}
+use Rattle.agent_words.specs.declared.demands.Demands.{Demands}
+use Rattle.program_report.specs.declared.exit.Exit.{Exit}
+use Rattle.state_secrets.specs.Looking.{IsBegun}
+use Rattle.state_waiting.specs.Keepers.{waiting_in}
+use Rattle.agent_start.specs.Starts.{AddsUnheld, Begins, IsFreshLedger, IsLedgerAtStart, IsReason, IsSaidAlone, IsServedBy, IsStart, IsStartAlone, IsWhyNotBegun, SaysUnused, StartsBy, is_unused}
+use Rattle.agent_start.specs.declared.folder.NotBegun.{NotBegun}
+use Rattle.agent_start.specs.declared.folder.NotBegun.TheVariants as nots
+use Rattle.agent_start.specs.declared.reading.Inventories.{Inventories}
+use Rattle.agent_start.specs.declared.said.Said.{Said}
+use Rattle.agent_start.specs.declared.start.Start.{Start}
+
+is_reason : (has_folder : Bool) (why : NotBegun) → IsWhyNotBegun has_folder why → IsReason why
+is_reason false why h = subst IsReason (sym h) tt
+is_reason true nots.NoFolder h = tt
+is_reason true (nots.Unused s) h = h
+is_reason true nots.Held h = tt
+is_reason true nots.Refused h = tt
+is_reason true nots.Memory h = tt
+
+same_folder : (has_folder : Bool) (why : NotBegun) → IsWhyNotBegun has_folder why → is_unused why ≡ has_folder
+same_folder false why h = subst (λ w. is_unused w ≡ false) (sym h) refl
+same_folder true nots.NoFolder h = absurd h
+same_folder true (nots.Unused s) h = refl
+same_folder true nots.Held h = refl
+same_folder true nots.Refused h = refl
+same_folder true nots.Memory h = refl
+
+alone_is_start : {D I L : Type 0} → (d : Demands) (has_folder : Bool) (why : NotBegun) (s : Start (Ledger D I L)) → IsWhyNotBegun has_folder why → IsStartAlone d (is_unused why) s → IsStart d has_folder s
+alone_is_start {D} {I} {L} d has_folder why s not_begun is =
+    let alone : IsStartAlone d has_folder s = subst (λ has. IsStartAlone d has s) (same_folder has_folder why not_begun) is in
+    record {
+      spread = alone.spread;
+      ledger = subst (λ (l : Option (Ledger D I L)). IfSome l (λ k. (has_folder ≡ true) × (IsLedgerAtStart d k × IsServedBy k s.inventories.served))) (sym alone.none) tt;
+      without = λ _. (alone.said, alone.good);
+    }
+
+pub with_ledger :
+    {D I L : Type 0} → (d : Demands) (s : Start (Ledger D I L)) (l : Ledger D I L) → s.ledger ≡ Some l → IsLedgerAtStart d l → IsServedBy l s.inventories.served → s.part ≡ d.earlier → s.behind ≡ d.behind → (d.earlier ≡ 0 → s.inventories.again ≡ None) → IsStart d true s
+with_ledger {D} {I} {L} d s l is at_start served part behind alone =
+    record {
+      spread = record { part = part; behind = behind; alone = alone };
+      ledger = subst (λ (k : Option (Ledger D I L)). IfSome k (λ m. (true ≡ true) × (IsLedgerAtStart d m × IsServedBy m s.inventories.served))) (sym is) (refl, (at_start, served));
+      without = λ none. absurd (let e : Some l ≡ None = sym is ∙ none in cc);
+    }
+
+-- what files hold was taken, and nothing waits to be served
+pub at_start :
+    {D I L : Type 0} → (l k m : Ledger D I L) → IsFreshLedger l → k ≡ record l { state = k.state; inputs = k.inputs } → m ≡ record k { state = m.state } → waiting_in m.state.keeper ≡ None → IsLedgerAtStart l.demands m
+at_start l k m fresh filled mark_served still =
+    record {
+      demands = ap (λ x. x.demands) mark_served ∙ ap (λ x. x.demands) filled;
+      still = still;
+      fresh =
+          record {
+            looking = subst IsBegun (sym (ap (λ x. x.looking) mark_served ∙ ap (λ x. x.looking) filled)) fresh.looking;
+            proving = ap (λ x. x.proving) mark_served ∙ (ap (λ x. x.proving) filled ∙ fresh.proving);
+            askers = ap (λ x. x.askers.items) mark_served ∙ (ap (λ x. x.askers.items) filled ∙ fresh.askers);
+          };
+    }
+
+pub reason_if : {D I L : Type 0} → (d : Demands) (has_folder : Bool) (begun : Result (Start (Ledger D I L)) NotBegun) → Begins d has_folder begun → IfErr begun IsReason
+reason_if d has_folder (Ok s) h = tt
+reason_if d has_folder (Err why) h = is_reason has_folder why h
+
+starts_so : {D I L : Type 0} → (d : Demands) (has_folder : Bool) (begun : Result (Start (Ledger D I L)) NotBegun) (s : Start (Ledger D I L)) → Begins d has_folder begun → StartsBy d begun s → IsStart d has_folder s
+starts_so d has_folder (Ok begun) s h is = subst (IsStart d has_folder) (sym is) h
+starts_so d has_folder (Err why) s h is = alone_is_start d has_folder why s h is
+
+pub starts_if :
+    {D I L : Type 0} → (d : Demands) (has_folder : Bool) (begun : Result (Start (Ledger D I L)) NotBegun) (result : Result (Start (Ledger D I L)) Exit) → Begins d has_folder begun → IfOk result (StartsBy d begun) → IfOk result (IsStart d has_folder)
+starts_if d has_folder begun (Ok s) h is = starts_so d has_folder begun s h is
+starts_if d has_folder begun (Err exit) h is = tt
+
+-- after the folder, some entries
+said_after : (first : Said) (old new : List Said) → SaysUnused first → old ≡ first ∷ [] → AddsUnheld old new → IsSaidAlone true new
+said_after first old new unused is adds =
+    let all : new ≡ first ∷ adds.more = adds.is ∙ ap (λ l. l ++ adds.more) is in
+    subst (IsSaidAlone true) (sym all) (unused, adds.all)
+
+module _ {K : Type 0} (d : Demands) (i : Inventories) (said : Vec Said Global) (s : Start K) (is : s ≡ record { part = d.earlier; behind = d.behind; inventories = i; ledger = None; is_good = true; said = said }) (alone : d.earlier ≡ 0 → i.again ≡ None) where
+  alone_by : (has_folder : Bool) → IsSaidAlone has_folder said.items → IsStartAlone d has_folder s
+  alone_by has_folder so = subst (IsStartAlone d has_folder) (sym is) (record { spread = record { part = refl; behind = refl; alone = alone }; none = refl; said = so; good = refl })
+
+  -- without a folder nothing is said
+  pub alone_silent : said.items ≡ [] → IsStartAlone d false s
+  alone_silent so = alone_by false so
+
+  -- with one it is, before anything else
+  pub alone_unused : (first : Said) (old : List Said) → SaysUnused first → old ≡ first ∷ [] → AddsUnheld old said.items → IsStartAlone d true s
+  alone_unused first old unused first_is adds = alone_by true (said_after first old said.items unused first_is adds)

@@ -1,0 +1,50 @@
+-- Saying: what a start says in the log before anything else.
+-- Source: this project's own; docs/troubleshooting.md, "Lines of the log".
+use Rattle.std.specs.Prelude.{◌≡◌, ◌⊎◌, ℕ, List, [], ◌∷◌, ◌++◌, codes, decimal}
+use Rattle.std.specs.List.{All}
+use Rattle.agent_log.specs.LogDesk.{Desk, HearsAtStart, begun_desk}
+use Rattle.base_clock.specs.declared.reading.Reading.{Reading}
+use Rattle.base_log.specs.declared.form.Form.{Form}
+use Rattle.base_log.specs.declared.level.Level.{Level}
+use Rattle.base_log.specs.declared.level.Level.TheVariants.{Info}
+use Rattle.agent_start.specs.declared.said.About.{About}
+use Rattle.agent_start.specs.declared.said.About.TheVariants as abouts
+use Rattle.agent_start.specs.declared.said.Said.{Said}
+
+abbrev pub about_word : About → List ℕ
+about_word abouts.Folder = codes "folder"
+about_word abouts.File = codes "file"
+about_word abouts.Copy = codes "copy"
+about_word abouts.Journal = codes "journal"
+about_word abouts.SecretFile = codes "secret-file"
+about_word abouts.Log = codes "log"
+about_word abouts.Ends = codes "ends"
+
+abbrev pub IsSaid : Reading → Said → Desk → Desk → Type 0
+IsSaid now s old new = HearsAtStart now s.level (about_word s.about) s.text old new
+
+-- each of these is said, one after another, and nothing else is
+abbrev pub AreSaidAtStart : Reading → List Said → Desk → Desk → Type 0
+AreSaidAtStart now [] old new = new ≡ old
+AreSaidAtStart now (s ∷ rest) old new = (mid : Desk) × (IsSaid now s old mid × AreSaidAtStart now rest mid new)
+
+-- the log of an agent with so many entries, in which that was said
+abbrev pub BeginsDesk : Form → ℕ → Reading → List Said → Desk → Type 0
+BeginsDesk form count now said desk = AreSaidAtStart now said (begun_desk form count) desk
+
+-- it is said, unless memory is wanting for the words
+pub record SaysOrWants (now : Reading) (level : Level) (event text : List ℕ) (old new : Desk) : Type 0 where
+  pub either : (new ≡ old) ⊎ HearsAtStart now level event text old new
+
+-- the margin of an agent that stands behind another
+abbrev pub SaysBehind : Reading → ℕ → Desk → Desk → Type 0
+SaysBehind now margin old new = SaysOrWants now Info (codes "behind") (decimal margin) old new
+
+-- some are added, each of that level and about that
+abbrev pub IsSaidAs : Level → About → Said → Type 0
+IsSaidAs level about s = (s.level ≡ level) × (s.about ≡ about)
+
+pub record AddsSaid (level : Level) (about : About) (old new : List Said) : Type 0 where
+  pub more : List Said
+  pub all : All (IsSaidAs level about) more
+  pub is : new ≡ old ++ more

@@ -1,0 +1,121 @@
+//! What is said in the log before anything else.
+ghost use Rattle.std.specs.Prelude.{◌≡◌, ◌∷◌, ◌++◌, [], IfOk, OnOk, decimal};
+ghost use Rattle.agent_start.specs.Saying.{AddsSaid, AreSaidAtStart, BeginsDesk, IsSaid, SaysBehind, about_word};
+
+use agent_log::Desk;
+use base_clock::Reading;
+use base_log::{Form, Level};
+use base_moment::Text;
+use base_words::push_number;
+use std::alloc::{AllocError, Global};
+
+/// What a line of a start is about.
+#[derive(Clone, Copy, Debug)]
+pub enum About {
+    Folder,
+    File,
+    Copy,
+    Journal,
+    SecretFile,
+    Log,
+    Ends,
+}
+
+impl About {
+    /// Its word in the log.
+    fn word(self) -> &'static str
+        ensures { result.now ≡ about_word self }
+    {
+        match self {
+            About::Folder => "folder",
+            About::File => "file",
+            About::Copy => "copy",
+            About::Journal => "journal",
+            About::SecretFile => "secret-file",
+            About::Log => "log",
+            About::Ends => "ends",
+        }
+    }
+}
+
+/// What is said at the start: of the state folder or the file, or of a file for which the loop waits.
+#[derive(Debug, Drop)]
+pub struct Said {
+    pub level: Level,
+    pub about: About,
+    pub text: Text,
+}
+
+/// Says that the agent stands behind another, and with which margin, in seconds. Where memory is wanting it is not said.
+#[tactic(auto, using(crate::proofs::Saying::wants_words))]
+pub fn say_behind(alloc: Global, desk: &mut Desk, now: Reading, margin: u32)
+    ensures { SaysBehind now margin desk.old desk.new }
+{
+    if let Ok(text) = margin_text(alloc, margin) {
+        desk.hear_at_start(alloc, now, Level::Info, "behind", &text);
+    }
+}
+
+fn margin_text(alloc: Global, margin: u32) -> Result<Vec<u8>, AllocError>
+    ensures { IfOk result (λ text. text.items ≡ decimal margin) }
+{
+    let mut text = Vec::new(alloc);
+    push_number(alloc, u64::from(margin), &mut text)?;
+    Ok(text)
+}
+
+/// Appends what is said.
+pub(crate) fn push(
+    said: &mut Vec<Said>,
+    level: Level,
+    about: About,
+    text: Text,
+) -> Result<(), AllocError>
+    ensures { OnOk result (said.new.items ≡ said.old.items ++ record { level = level; about = about; text = text } ∷ []) }
+{
+    Ok(said.push(Said { level, about, text })?)
+}
+
+/// Appends each of these texts.
+pub(crate) fn push_each(
+    said: &mut Vec<Said>,
+    level: Level,
+    about: About,
+    texts: Vec<Text>,
+) -> Result<(), AllocError>
+    ensures { OnOk result (AddsSaid level about said.old.items said.new.items) }
+{
+    for text in texts {
+        push(said, level, about, text)?;
+    }
+    Ok(())
+}
+
+/// The log of an agent with so many entries, with what is said at the start. The only error is lack of memory.
+pub fn desk_of(
+    alloc: Global,
+    form: Form,
+    count: u32,
+    now: Reading,
+    said: &[Said],
+) -> Result<Desk, AllocError>
+    ensures { IfOk result (BeginsDesk form count now said.now) }
+{
+    let mut desk = Desk::new(alloc, form, count)?;
+    say_each(alloc, now, said, &mut desk);
+    Ok(desk)
+}
+
+fn say_each(alloc: Global, now: Reading, said: &[Said], desk: &mut Desk)
+    ensures { AreSaidAtStart now said.now desk.old desk.new }
+{
+    for line in said {
+        say(alloc, now, line, desk);
+    }
+}
+
+fn say(alloc: Global, now: Reading, line: &Said, desk: &mut Desk)
+    ensures { IsSaid now line.now desk.old desk.new }
+{
+    desk.hear_at_start(alloc, now, line.level, line.about.word(), line.text.list());
+}

@@ -1,0 +1,180 @@
+//! What is served from the start on, or why nothing is.
+ghost use Rattle.std.specs.Prelude.{◌≡◌, ◌∷◌, [], IfErr, IfOk, None, false, is_some, true};
+ghost use Rattle.agent_start.specs.Refusals.{GivesOrRefuses};
+ghost use Rattle.agent_start.specs.Starts.{IsReason, IsStart, IsStartAlone, SaysUnused, StartsBy, is_unused};
+
+use crate::folder::{Folder, NotBegun, begin, refuse_changes, refuse_held};
+use crate::reading::{Inventories, read_inventory, refuse_written};
+use crate::said::Said;
+use crate::secrets::SystemSecrets;
+use crate::unkept::read_with_held;
+use agent_ledger::Ledger;
+use agent_words::Demands;
+use base_device::{Sink, Watched};
+use base_disk::SystemDisk;
+use program_report::{Exit, PROGRAM, Stop};
+use std::alloc::{AllocError, Global};
+use std::fs::File;
+use std::rt::Files;
+use vault_lanes::Lanes;
+
+/// What is served from the start on.
+#[derive(Drop)]
+pub struct Start<K> {
+    /// This agent's part of a spread, in seconds.
+    pub part: u32,
+    /// Where the agent stands behind another, the number of its name.
+    pub behind: Option<u64>,
+    pub inventories: Inventories,
+    /// What keeps the changes that clients give, where there is a state folder.
+    pub ledger: Option<K>,
+    /// Whether the file itself is served, and not its copy.
+    pub is_good: bool,
+    pub said: Vec<Said>,
+}
+
+/// The state of an agent on the disks of the system.
+pub type SystemLedger<'a, R, L> = Ledger<'a, SystemDisk<'a, R>, SystemSecrets<'a, R>, L>;
+
+/// What is served of the inventory at `file`, with the changes of a state folder, where there is one; without it, where that cannot be
+/// used. Or the exit, once it was told why nothing is served.
+#[tactic(auto, using(crate::proofs::Begun::starts_if, crate::proofs::Begun::reason_if))]
+pub fn make_start<'a, R, L, E>(
+    rt: &'a R,
+    file: &str,
+    folder: Option<&'a Folder<'_>>,
+    demands: Demands,
+    errors: &mut E,
+) -> Result<Start<SystemLedger<'a, R, L>>, Exit>
+where
+    R: Files<File = File> + AllocGlobal,
+    L: Lanes + Drop,
+    E: Sink,
+    ensures told { GivesOrRefuses result (⟦<E as Watched>⟧.change errors.old errors.new) }
+    ensures start { IfOk result (IsStart demands (is_some folder.entry)) }
+{
+    let begun = begin(rt, folder, demands);
+    started(rt, file, name_of(folder), demands, begun, errors)
+}
+
+/// What is served by what was begun; or the exit, once it was told why nothing is served.
+fn started<R, K, E>(
+    rt: &R,
+    file: &str,
+    folder: &str,
+    demands: Demands,
+    begun: Result<Start<K>, NotBegun>,
+    errors: &mut E,
+) -> Result<Start<K>, Exit>
+where
+    R: Files<File = File> + AllocGlobal,
+    E: Sink,
+    requires { IfErr begun IsReason }
+    ensures told { GivesOrRefuses result (⟦<E as Watched>⟧.change errors.old errors.new) }
+    ensures start { IfOk result (StartsBy demands begun) }
+{
+    match begun {
+        Ok(start) => Ok(start),
+        Err(why) => start_without(rt, file, folder, demands, why, errors),
+    }
+}
+
+/// The name of a state folder, or nothing where there is none.
+fn name_of<'a>(folder: Option<&'a Folder<'_>>) -> &'a str {
+    match folder {
+        None => "",
+        Some(folder) => folder.name,
+    }
+}
+
+/// What is served of the file without its state folder, where that cannot be used; or the exit, once it was told why nothing is served.
+fn start_without<R, K, E>(
+    rt: &R,
+    file: &str,
+    folder: &str,
+    demands: Demands,
+    why: NotBegun,
+    errors: &mut E,
+) -> Result<Start<K>, Exit>
+where
+    R: Files<File = File> + AllocGlobal,
+    E: Sink,
+    requires { IsReason why }
+    ensures told { GivesOrRefuses result (⟦<E as Watched>⟧.change errors.old errors.new) }
+    ensures start { IfOk result (IsStartAlone demands (is_unused why)) }
+{
+    match why {
+        NotBegun::NoFolder => start_with_file(rt, file, demands, errors),
+        NotBegun::Unused(first) => start_unkept(rt, file, demands, first, errors),
+        NotBegun::Held => Err(refuse_held(rt.alloc(), folder, errors)),
+        NotBegun::Refused => match refuse_written(rt, file, demands, errors) {
+            None => Err(refuse_changes(rt.alloc(), folder, errors)),
+            Some(exit) => Err(exit),
+        },
+        NotBegun::Memory => Err(Stop::Memory.report(PROGRAM, errors)),
+    }
+}
+
+/// What is served of the file alone.
+#[tactic(auto, using(crate::proofs::Begun::alone_silent))]
+fn start_with_file<R, K, E>(
+    rt: &R,
+    file: &str,
+    demands: Demands,
+    errors: &mut E,
+) -> Result<Start<K>, Exit>
+where
+    R: Files<File = File> + AllocGlobal,
+    E: Sink,
+    ensures told { GivesOrRefuses result (⟦<E as Watched>⟧.change errors.old errors.new) }
+    ensures start { IfOk result (IsStartAlone demands false) }
+{
+    let inventories = read_inventory(rt, file, demands, errors)?;
+    Ok(start_of(demands, inventories, Vec::new(rt.alloc())))
+}
+
+/// What is served of the file where its state folder cannot be used, which is said before anything else.
+#[tactic(auto, using(crate::proofs::Begun::alone_unused))]
+fn start_unkept<R, K, E>(
+    rt: &R,
+    file: &str,
+    demands: Demands,
+    first: Said,
+    errors: &mut E,
+) -> Result<Start<K>, Exit>
+where
+    R: Files<File = File> + AllocGlobal,
+    E: Sink,
+    requires { SaysUnused first }
+    ensures told { GivesOrRefuses result (⟦<E as Watched>⟧.change errors.old errors.new) }
+    ensures start { IfOk result (IsStartAlone demands true) }
+{
+    let Ok(mut said) = alone(rt.alloc(), first) else {
+        return Err(Stop::Memory.report(PROGRAM, errors));
+    };
+    let inventories = read_with_held(rt, file, demands, &mut said, errors)?;
+    Ok(start_of(demands, inventories, said))
+}
+
+/// A start without a ledger.
+fn start_of<K>(demands: Demands, inventories: Inventories, said: Vec<Said>) -> Start<K>
+    ensures { result ≡ record { part = demands.earlier; behind = demands.behind; inventories = inventories; ledger = None; is_good = true; said = said } }
+{
+    Start {
+        part: demands.earlier,
+        behind: demands.behind,
+        inventories,
+        ledger: None,
+        is_good: true,
+        said,
+    }
+}
+
+/// What is said first. The only error is lack of memory.
+fn alone(alloc: Global, first: Said) -> Result<Vec<Said>, AllocError>
+    ensures { IfOk result (λ said. said.items ≡ first ∷ []) }
+{
+    let mut said = Vec::new(alloc);
+    said.push(first)?;
+    Ok(said)
+}

@@ -1,0 +1,72 @@
+-- Rereading: what is said of a file that is read again, or why it is not served.
+-- Source: docs/running.md, "What the operator sees".
+use Rattle.std.specs.Prelude.{◌≡◌, ◌⊎◌, ℕ, Bool, IsTrue, List, [], ◌∷◌, ◌++◌, Option, Some, None, codes}
+use Rattle.state_changes.specs.declared.change.Record.{Record}
+use Rattle.state_changes.specs.declared.replaying.Note.{Note}
+use Rattle.base_disk.specs.State.{DiskState}
+use Rattle.base_disk.specs.declared.fault.DiskFault.{DiskFault}
+use Rattle.state_keeping.specs.Reading.{IsWhyUnread}
+use Rattle.state_keeping.specs.States.{Kept}
+use Rattle.state_keeping.specs.declared.fault.ReadFault.{ReadFault}
+use Rattle.state_store.specs.Books.{IsFileFaultOf}
+use Rattle.state_store.specs.declared.fault.FileFault.{FileFault}
+use Rattle.agent_words.specs.Outcomes.{Whys}
+use Rattle.agent_words.specs.Noting.{AreWhysNotServed, said_notes}
+use Rattle.agent_words.specs.Reading.{AreWrittenFaults, IsWellWritten}
+use Rattle.agent_words.specs.Reasons.{book_words, disk_words, unread_words}
+use Rattle.agent_words.specs.declared.demands.Demands.{Demands}
+use Rattle.agent_words.specs.declared.fault.StartFault.{StartFault}
+
+-- the file has these bytes
+abbrev pub AreBytesOf : {D : Type 0} → Bool → (D → DiskState) → Kept D → List ℕ → Type 0
+AreBytesOf known seen kept bytes = (mode : ℕ) × (IsTrue known → (seen kept.disk).seen kept.places.file ≡ Some (record { mode = mode; bytes = bytes }))
+
+-- ---- why it is not served
+
+-- it is not read
+abbrev pub SaysUnread : {D : Type 0} → Bool → (D → DiskState) → Kept D → List ℕ → Type 0
+SaysUnread known seen kept why = (fault : ReadFault) × ((IsTrue known → IsWhyUnread kept.places.file (seen kept.disk) fault) × (why ≡ unread_words fault))
+
+-- it may not be served, for each of these reasons
+abbrev pub SaysFaults : Demands → List ℕ → List (List ℕ) → Type 0
+SaysFaults demands bytes whys = (fault : StartFault) × ((more : List StartFault) × (AreWrittenFaults demands bytes (fault ∷ more) × AreWhysNotServed demands bytes (fault ∷ more) whys))
+
+-- it may be served, or these are the reasons why not
+abbrev pub SaysIfFaulty : Demands → List ℕ → Option Whys → Type 0
+SaysIfFaulty demands bytes None = IsWellWritten demands bytes
+SaysIfFaulty demands bytes (Some whys) = SaysFaults demands bytes whys.items
+
+-- it is none with the changes of the journal
+abbrev pub SaysNoBook : List ℕ → List ℕ → Type 0
+SaysNoBook bytes why = (fault : FileFault) × (IsFileFaultOf (Some bytes) fault × (why ≡ book_words fault))
+
+-- the reason, where there is one; or none, where memory was wanting for it
+abbrev pub AreAtMost : Option (List ℕ) → List (List ℕ) → Type 0
+AreAtMost None whys = whys ≡ []
+AreAtMost (Some why) whys = (whys ≡ []) ⊎ (whys ≡ why ∷ [])
+
+-- there is one reason, or none where memory was wanting for it
+abbrev pub IsOneWhy : (List ℕ → Type 0) → List (List ℕ) → Type 0
+IsOneWhy Says [] = Unit {0}
+IsOneWhy Says (why ∷ []) = Says why
+IsOneWhy Says (why ∷ next ∷ whys) = ⊥
+
+-- what may be wrong with these bytes; nothing is said of their faults where memory was wanting for that
+abbrev pub SaysBad : Demands → List ℕ → List (List ℕ) → Type 0
+SaysBad demands bytes whys = ((whys ≡ []) ⊎ SaysFaults demands bytes whys) ⊎ IsOneWhy (SaysNoBook bytes) whys
+
+abbrev pub IsWhyNotReread : {D : Type 0} → Bool → (D → DiskState) → Demands → Kept D → List (List ℕ) → Type 0
+IsWhyNotReread known seen demands kept whys =
+    IsOneWhy (SaysUnread known seen kept) whys ⊎ ((bytes : List ℕ) × (AreBytesOf known seen kept bytes × SaysBad demands bytes whys))
+
+-- ---- what is said where it is served
+
+-- which changes do not hold any more; or nothing, where memory was wanting for that
+abbrev pub SaysNotes : ℕ → List Record → List Note → List (List ℕ) → Type 0
+SaysNotes margin records notes said = (said ≡ said_notes margin records notes) ⊎ (said ≡ [])
+
+-- why its copy could not be kept; or nothing, where memory was wanting for that
+abbrev pub SaysCopy : Option DiskFault → Option (List ℕ) → Type 0
+SaysCopy None said = said ≡ None
+SaysCopy (Some fault) None = Unit {0}
+SaysCopy (Some fault) (Some said) = said ≡ codes "of the file could not be kept: " ++ disk_words fault

@@ -1,0 +1,9 @@
+-- The guest at that place follows.
+use Rattle.base_clients.proofs.Placed.{became_at}
+use Rattle.base_clients.specs.Tables.{following, waits_as}
+use Rattle.base_clients.proofs.clients.Clients.follow.Goals as goal
+
+pub returns-in-Some : goal.returns-in-Some
+returns-in-Some g c = became_at c.self.inside.next c.self.inside.limits c.self.inside.framing (waits_as c.args.id) (following c.args.answer.items) c.args.self.now c.self.inside.guests.items
+    c.deref.result.now c.in-Some.place c.place_of.result c.index_mut.result.now c.set_following.new.self c.self.view_is c.deref.ensures.value c.place_of.ensures.place c.in-Some.is
+    c.in-Some.ensures.within c.index_mut.ensures.value c.set_following.ensures

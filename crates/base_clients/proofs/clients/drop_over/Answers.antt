@@ -1,0 +1,7 @@
+-- What the closure tests is what stays.
+use Rattle.std.proofs.Common.{rules}
+use Rattle.std.proofs.lemmas.Fn.{filter_same}
+use Rattle.base_clients.proofs.clients.drop_over.Goals as goal
+
+pub returns : goal.returns
+returns g c = filter_same _ _ _ (λ x b f' k. search rules) _ _ c.retain.ensures.filtered

@@ -1,0 +1,25 @@
+-- A word that is written is the first of those to come.
+use Rattle.std.proofs.Common.{◌≡◌, ◌++◌, ◌+◌, ◌∷◌, [], arith, drop, refl, sym, ◌∙◌, subst}
+use Rattle.std.proofs.lemmas.Grind.{common_steps}
+use Rattle.std.proofs.lemmas.List.{append-nil, drop_more}
+use Rattle.base_log.specs.Forms.{SayEach}
+use Rattle.base_log.proofs.Pieces.{each_then}
+use Rattle.base_log.proofs.json_form.push_each.Goals as goal
+
+pub loop-word-preserved : goal.loop-word-preserved
+loop-word-preserved c rest a =
+    let w = c.in_ok-push_inside.ensures in
+    let between = c.args.between.now in
+    let ws = c.args.words.now in
+    let at = c.loop-word.word-index in
+    let d = drop_more ws at c.word-item.result c.loop-word-test.true in
+    let e : drop at ws ≡ c.word-item.result ∷ drop (at + 1) ws = grind (arith, common_steps) in
+    let text = between ++ (w.0 ++ rest) in
+    let i = c.loop-word.invariant text (subst (λ l. SayEach between l text) (sym e) (w.0, rest, w.1, a, refl)) in
+    (i.0, i.1, each_then _ _ c.loop-word.text.items c.args.text.now.items i.0 between w.0 rest w.2 c.in_ok-extend_from_slice.ensures.items i.2)
+
+pub returns : goal.returns
+returns c =
+    let e : drop c.loop-word.word-index c.args.words.now ≡ [] = grind (arith, common_steps) in
+    let i = c.loop-word.invariant [] (subst (λ l. SayEach c.args.between.now l []) (sym e) refl) in
+    (i.0, i.1, sym (append-nil _) ∙ i.2)

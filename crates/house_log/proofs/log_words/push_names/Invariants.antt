@@ -1,7 +1,0 @@
--- The names of the entries that came are appended.
-use Rattle.std.proofs.Common.{◌≡◌, ◌++◌, take}
-use Rattle.house_log.specs.LinesOfClocks.{name_words}
-use Rattle.house_log.proofs.log_words.push_names.Given as goal
-
-abbrev pub invariant-loop-entry : goal.invariant-loop-entry
-invariant-loop-entry l = l.words.items ≡ l.initial.words.items ++ name_words l.forest (take l.entry-index l.entries)

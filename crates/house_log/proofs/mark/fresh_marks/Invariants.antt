@@ -1,7 +1,0 @@
--- So far nothing was said of so many entries.
-use Rattle.std.proofs.Common.{◌≡◌, replicate}
-use Rattle.house_log.specs.Marks.{fresh_mark}
-use Rattle.house_log.proofs.mark.fresh_marks.Given as goal
-
-abbrev pub invariant-loop : goal.invariant-loop
-invariant-loop l = l.marks.items ≡ replicate l.counter fresh_mark

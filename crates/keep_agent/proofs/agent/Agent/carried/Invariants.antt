@@ -1,9 +1,0 @@
--- The standings of the entries before the index are carried over.
-use Rattle.std.proofs.Common.{◌≡◌, map}
-use Rattle.std.specs.List.{All, range_with_len}
-use Rattle.keep_agent.specs.Agent.{IsStanding}
-use Rattle.keep_agent.specs.Changed.{carried_standing}
-use Rattle.keep_agent.proofs.agent.Agent.carried.Given as goal
-
-abbrev pub invariant-loop-index : goal.invariant-loop-index
-invariant-loop-index l = record { is : l.standings.items ≡ map (carried_standing l.self l.inventory) (range_with_len 0 l.index); bounds : All IsStanding l.standings.items }

@@ -1,7 +1,0 @@
--- So far nothing is said of so many entries.
-use Rattle.std.proofs.Common.{◌≡◌, replicate}
-use Rattle.keep_agent.specs.Standings.{fresh_standing}
-use Rattle.keep_agent.proofs.agent.fresh_standings.Given as goal
-
-abbrev pub invariant-loop : goal.invariant-loop
-invariant-loop l = l.standings.items ≡ replicate l.counter fresh_standing

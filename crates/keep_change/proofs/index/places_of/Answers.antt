@@ -1,7 +1,0 @@
--- A map without a name finds no rows.
-use Rattle.std.proofs.Common.{true}
-use Rattle.keep_change.proofs.Finding.{index_empty}
-use Rattle.keep_change.proofs.index.places_of.Goals as goal
-
-pub loop-place-init : goal.loop-place-init
-loop-place-init c = index_empty true c.new-places.result

@@ -1,7 +1,0 @@
--- The rows so far are those of the entries before the index.
-use Rattle.std.proofs.Common.{◌≡◌}
-use Rattle.keep_change.specs.Listed.{rows_before}
-use Rattle.keep_change.proofs.listed.listed_rows.Given as goal
-
-abbrev pub invariant-loop-index : goal.invariant-loop-index
-invariant-loop-index l = l.rows.items ≡ rows_before l.served l.index

@@ -1,9 +1,0 @@
--- The calls of a guest's connection.
--- Source: this project's own.
-use Rattle.std.specs.Prelude.{◌≡◌, List, [], ◌∷◌, ◌++◌, Option, Some, None}
-use Rattle.keep_clients.specs.declared.talk.Call.{Call}
-
--- this call more was made, where they are known
-abbrev pub Logs : Option (List Call) → Option (List Call) → Call → Type 0
-Logs None new call = Unit {0}
-Logs (Some old) new call = new ≡ Some (old ++ call ∷ [])

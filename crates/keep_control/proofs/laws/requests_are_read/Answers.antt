@@ -1,9 +1,0 @@
--- What is read of a line is what it asks for, and each line that asks for something is read so.
-use Rattle.keep_control.proofs.Commands.{request_found, request_only}
-use Rattle.keep_control.proofs.laws.requests_are_read.Goals as goal
-
-pub returns-clause-found : goal.returns-clause-found
-returns-clause-found c = request_found
-
-pub returns-clause-only : goal.returns-clause-only
-returns-clause-only c = request_only

@@ -1,8 +1,0 @@
--- The list so far has the needs of the entries before the index.
-use Rattle.std.proofs.Common.{◌≡◌, map}
-use Rattle.std.specs.List.{range_with_len}
-use Rattle.keep_core.specs.Always.{need_from}
-use Rattle.keep_core.proofs.always.needs_from.Given as goal
-
-abbrev pub invariant-loop-index : goal.invariant-loop-index
-invariant-loop-index l = l.needs.items ≡ map (need_from l.forest l.always l.start) (range_with_len 0 l.index)

@@ -1,6 +1,0 @@
--- The answers of those that are waited for are taken, and close the round when nobody is left.
-use Rattle.keep_core.proofs.Closing.{closes}
-use Rattle.keep_core.proofs.laws_of_histories.closes_law.Goals as goal
-
-pub returns : goal.returns
-returns c = closes

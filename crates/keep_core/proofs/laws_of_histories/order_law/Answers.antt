@@ -1,6 +1,0 @@
--- Two orders of the same answers to one round end in equal states.
-use Rattle.keep_core.proofs.Closing.{order}
-use Rattle.keep_core.proofs.laws_of_histories.order_law.Goals as goal
-
-pub returns : goal.returns
-returns c = order

@@ -1,6 +1,0 @@
--- After shortening no pair is unkeepable, and there is a least and latest list of moments.
-use Rattle.keep_core.proofs.Kept.{plannable}
-use Rattle.keep_core.proofs.laws_of_needs.plannable_law.Goals as goal
-
-pub returns : goal.returns
-returns c = plannable

@@ -1,6 +1,0 @@
--- Planning anew changes no need but those that it shortens, and nothing else of the entries.
-use Rattle.keep_core.proofs.Kept.{unchanged}
-use Rattle.keep_core.proofs.laws_of_needs.unchanged_law.Goals as goal
-
-pub returns : goal.returns
-returns c = unchanged

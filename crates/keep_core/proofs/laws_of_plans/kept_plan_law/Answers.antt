@@ -1,6 +1,0 @@
--- A tick that is not late changes the last moment alone.
-use Rattle.keep_core.proofs.Standing.{kept_plan}
-use Rattle.keep_core.proofs.laws_of_plans.kept_plan_law.Goals as goal
-
-pub returns : goal.returns
-returns c = kept_plan

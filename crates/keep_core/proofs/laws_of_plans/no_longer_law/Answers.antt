@@ -1,6 +1,0 @@
--- At a tick and after a round, planning anew gives no more wake-ups than the plan in force has.
-use Rattle.keep_core.proofs.NoLonger.{no_longer}
-use Rattle.keep_core.proofs.laws_of_plans.no_longer_law.Goals as goal
-
-pub returns : goal.returns
-returns c = no_longer

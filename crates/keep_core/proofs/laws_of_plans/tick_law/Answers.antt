@@ -1,6 +1,0 @@
--- Until the first moment of the plan, planning anew gives the same plan and shortens nothing.
-use Rattle.keep_core.proofs.Standing.{tick}
-use Rattle.keep_core.proofs.laws_of_plans.tick_law.Goals as goal
-
-pub returns : goal.returns
-returns c = tick

@@ -1,6 +1,0 @@
--- What is noted as shortened is shortened just as far as it has to be, and no other need changes by itself.
-use Rattle.keep_core.proofs.States.{adds}
-use Rattle.keep_core.proofs.laws_of_steps.adds_law.Goals as goal
-
-pub returns : goal.returns
-returns c = adds

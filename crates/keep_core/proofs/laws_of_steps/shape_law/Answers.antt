@@ -1,6 +1,0 @@
--- No event changes an entry but for its end, its need and whether it is renewable.
-use Rattle.keep_core.proofs.Shaped.{shape}
-use Rattle.keep_core.proofs.laws_of_steps.shape_law.Goals as goal
-
-pub returns : goal.returns
-returns c = shape

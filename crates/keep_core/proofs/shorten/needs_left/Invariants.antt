@@ -1,7 +1,0 @@
--- The list so far has the needs that shortening leaves to the entries before the index.
-use Rattle.keep_core.specs.code.Passes.{AreNeeds}
-use Rattle.keep_core.specs.Shorten.{need_left}
-use Rattle.keep_core.proofs.shorten.needs_left.Given as goal
-
-abbrev pub invariant-loop-index : goal.invariant-loop-index
-invariant-loop-index l = AreNeeds l.index (need_left l.forest l.at) l.needs.items

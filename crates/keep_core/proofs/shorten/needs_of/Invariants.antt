@@ -1,7 +1,0 @@
--- The list so far has the needs of the entries before the index.
-use Rattle.keep_tree.specs.Forest.{entry_at}
-use Rattle.keep_core.specs.code.Passes.{AreNeeds}
-use Rattle.keep_core.proofs.shorten.needs_of.Given as goal
-
-abbrev pub invariant-loop-index : goal.invariant-loop-index
-invariant-loop-index l = AreNeeds l.index (λ i. (entry_at l.forest.entries i).need) l.needs.items

@@ -1,7 +1,0 @@
-use Rattle.std.proofs.Common.{◌≡◌, drop}
-use Rattle.keep_disk.specs.History.{file_after_all}
-use Rattle.keep_disk.specs.Memory.{image_of, held_file}
-use Rattle.keep_disk.proofs.memory.MemoryDisk.file.Given as goal
-
-abbrev pub invariant-loop-call : goal.invariant-loop-call
-invariant-loop-call l = file_after_all l.path (drop l.call-index l.self.calls.items) (held_file l.file) ≡ file_after_all l.path l.self.calls.items (image_of l.self.files.items l.path)

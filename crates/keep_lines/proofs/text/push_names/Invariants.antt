@@ -1,7 +1,0 @@
--- The names so far.
-use Rattle.std.proofs.Common.{◌≡◌, ◌++◌, ◌∷◌, flat_map, take}
-use Rattle.keep_lines.specs.Text.{name_of}
-use Rattle.keep_lines.proofs.text.push_names.Given as goal
-
-abbrev pub invariant-loop-entry : goal.invariant-loop-entry
-invariant-loop-entry l = l.text.items ≡ l.initial.text.items ++ flat_map (λ i. 32 ∷ name_of l.forest i) (take l.entry-index l.asked)

@@ -1,8 +1,0 @@
--- Whether some field takes it hangs on the fields to come.
-use Rattle.std.proofs.Common.{◌≡◌, drop, map}
-use Rattle.httparse.specs.Spans.{header_bytes}
-use Rattle.keep_onlook.specs.Accept.{takes_fields}
-use Rattle.keep_onlook.proofs.accept.takes_open_metrics.Given as goal
-
-abbrev pub invariant-loop-header : goal.invariant-loop-header
-invariant-loop-header l = takes_fields (map (header_bytes l.bytes) (drop l.header-index l.headers)) ≡ takes_fields (map (header_bytes l.bytes) l.headers)

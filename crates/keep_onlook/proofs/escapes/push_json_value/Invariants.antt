@@ -1,7 +1,0 @@
--- What was written, and the bytes to come, are all of them.
-use Rattle.std.proofs.Common.{◌≡◌, ◌++◌, drop}
-use Rattle.keep_onlook.specs.Escapes.{json_value}
-use Rattle.keep_onlook.proofs.escapes.push_json_value.Given as goal
-
-abbrev pub invariant-loop-byte : goal.invariant-loop-byte
-invariant-loop-byte l = l.text.items ++ json_value (drop l.byte-index l.value) ≡ l.initial.text.items ++ json_value l.value

@@ -1,8 +1,0 @@
--- Whether one waits hangs on those to come.
-use Rattle.std.proofs.Common.{◌≡◌, drop, map}
-use Rattle.keep_onlook.specs.Naming.{named_by}
-use Rattle.keep_onlook.specs.Waiting.{is_some_waiting}
-use Rattle.keep_onlook.proofs.waiting.is_some_waiting.Given as goal
-
-abbrev pub invariant-loop-row : goal.invariant-loop-row
-invariant-loop-row l = is_some_waiting l.served.entries (map named_by (drop l.row-index l.named)) ≡ is_some_waiting l.served.entries (map named_by l.named)

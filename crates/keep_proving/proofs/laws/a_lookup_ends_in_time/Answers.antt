@@ -1,6 +1,0 @@
--- The law, as it is proved of the definitions.
-use Rattle.keep_proving.proofs.InTime.{ends}
-use Rattle.keep_proving.proofs.laws.a_lookup_ends_in_time.Goals as goal
-
-pub returns : goal.returns
-returns c = ends

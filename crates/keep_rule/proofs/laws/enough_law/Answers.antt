@@ -1,6 +1,0 @@
--- Where any requests keep at given moments, the Asks at those moments keep too.
-use Rattle.keep_rule.proofs.Enough.{enough}
-use Rattle.keep_rule.proofs.laws.enough_law.Goals as goal
-
-pub returns : goal.returns
-returns c = enough

@@ -1,6 +1,0 @@
--- Where some pair of entries is unkeepable, no plan keeps.
-use Rattle.keep_rule.proofs.Keeping.{unkeepable}
-use Rattle.keep_rule.proofs.laws.unkeepable_law.Goals as goal
-
-pub returns : goal.returns
-returns c = unkeepable

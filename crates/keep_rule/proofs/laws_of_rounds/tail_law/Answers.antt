@@ -1,7 +1,0 @@
--- After the round of the first moment, the moments that are left are least and latest from that round on.
-use Rattle.keep_rule.proofs.Enough.{enough}
-use Rattle.keep_rule.proofs.Tail.{tail}
-use Rattle.keep_rule.proofs.laws_of_rounds.tail_law.Goals as goal
-
-pub returns : goal.returns
-returns c = tail enough

@@ -1,8 +1,0 @@
--- The entries before the index have the least end among their own and those of all over them.
-use Rattle.std.proofs.Common.{◌≡◌, ℕ, ◌<◌, get_or, nat_le}
-use Rattle.keep_tree.specs.Renewal.{all_last}
-use Rattle.keep_rule.specs.code.Replay.{shown_ends}
-use Rattle.keep_rule.proofs.replay.carry_lasts.Given as goal
-
-abbrev pub invariant-loop-index : goal.invariant-loop-index
-invariant-loop-index l = (k m : ℕ) → k < l.index → nat_le m (get_or l.lasts k 0) ≡ all_last l.forest.entries (shown_ends l.ends) m k

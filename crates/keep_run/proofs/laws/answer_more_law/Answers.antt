@@ -1,6 +1,0 @@
--- With one answer more, a round goes on as the loop over its entries keeps it.
-use Rattle.keep_run.proofs.Loops as loops
-use Rattle.keep_run.proofs.laws.answer_more_law.Goals as goal
-
-pub returns : goal.returns
-returns c = loops.answer_more

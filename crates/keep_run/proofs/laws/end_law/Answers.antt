@@ -1,6 +1,0 @@
--- At its end a run is closed, and its text is whole with the last line.
-use Rattle.keep_run.proofs.Loops as loops
-use Rattle.keep_run.proofs.laws.end_law.Goals as goal
-
-pub returns : goal.returns
-returns c = loops.at_end

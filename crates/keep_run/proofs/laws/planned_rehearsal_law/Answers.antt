@@ -1,6 +1,0 @@
--- A rehearsal without faults of a plan within the limit comes to its end with that plan's wake-ups.
-use Rattle.keep_run.proofs.PlannedRun as planned
-use Rattle.keep_run.proofs.laws.planned_rehearsal_law.Goals as goal
-
-pub returns : goal.returns
-returns c = planned.planned_rehearsal

@@ -1,9 +1,0 @@
--- The entry found so far leads those before the index, and is an entry of the forest.
-use Rattle.std.proofs.Common.{◌<◌, length}
-use Rattle.std.specs.Option.{IfSome}
-use Rattle.keep_schedule.specs.code.Scanning.{LeadsBelow}
-use Rattle.keep_schedule.specs.Prospect.{terms_of}
-use Rattle.keep_schedule.proofs.scan.leader.Given as goal
-
-abbrev pub invariant-loop-index : goal.invariant-loop-index
-invariant-loop-index l = LeadsBelow (terms_of l.outlook) l.last l.index l.best × IfSome l.best (λ f. f < length l.outlook.loads)

@@ -1,6 +1,0 @@
--- What the standard library trims.
-use Rattle.keep_words.proofs.Stripped.{stripped_is}
-use Rattle.keep_secrets.proofs.credential.stripped.Goals as goal
-
-pub returns : goal.returns
-returns c = stripped_is c.args.text.now c.trim_ascii.result.now c.trim_ascii.ensures.value

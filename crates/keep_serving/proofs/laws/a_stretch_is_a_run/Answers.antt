@@ -1,6 +1,0 @@
--- a_stretch_is_a_run: the law as it is proved in Stretch.
-use Rattle.keep_serving.proofs.Stretch.{stretch_law}
-use Rattle.keep_serving.proofs.laws.a_stretch_is_a_run.Goals as goal
-
-pub returns : goal.returns
-returns c = stretch_law

@@ -1,9 +1,0 @@
--- a_turn_is_bounded: the wait and the calls of a turn.
-use Rattle.keep_serving.proofs.Bounded.{calls_law, wait_law}
-use Rattle.keep_serving.proofs.laws.a_turn_is_bounded.Goals as goal
-
-pub returns-clause-wait : goal.returns-clause-wait
-returns-clause-wait c = wait_law
-
-pub returns-clause-calls : goal.returns-clause-calls
-returns-clause-calls c = calls_law

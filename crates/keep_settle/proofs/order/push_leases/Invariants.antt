@@ -1,8 +1,0 @@
--- The rows so far are those of the leases before the current row.
-use Rattle.std.proofs.Common.{◌≡◌, ◌++◌, take}
-use Rattle.std.specs.List.{filter}
-use Rattle.keep_settle.specs.Order.{is_lease_row}
-use Rattle.keep_settle.proofs.order.push_leases.Given as goal
-
-abbrev pub invariant-loop-row : goal.invariant-loop-row
-invariant-loop-row l = l.ordered.items ≡ l.initial.ordered.items ++ filter is_lease_row (take l.row-index l.rows)

@@ -1,8 +1,0 @@
--- No margin above this one is in front.
-use Rattle.std.proofs.Common.{◌≡◌}
-use Rattle.keep_tree.specs.declared.forest.TheConstants.{MARGIN_MAX}
-use Rattle.keep_spread.specs.Behind.{in_front_up_to}
-use Rattle.keep_spread.proofs.behind.margin_in_front.Given as goal
-
-abbrev pub invariant-loop-less : goal.invariant-loop-less
-invariant-loop-less l = in_front_up_to l.behind l.number l.less ≡ in_front_up_to l.behind l.number MARGIN_MAX

@@ -1,5 +1,0 @@
--- Each step up counts down.
-use Rattle.keep_store.proofs.handing.+is_ready.Given as goal
-
-abbrev pub decreases-is_ready : goal.decreases-is_ready
-decreases-is_ready l = l.most

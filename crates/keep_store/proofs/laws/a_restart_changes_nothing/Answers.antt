@@ -1,6 +1,0 @@
--- A start on the same file.
-use Rattle.keep_store.proofs.Lawful.{restarted}
-use Rattle.keep_store.proofs.laws.a_restart_changes_nothing.Goals as goal
-
-pub returns : goal.returns
-returns c = restarted

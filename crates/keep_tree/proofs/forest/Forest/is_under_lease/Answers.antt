@@ -1,6 +1,0 @@
--- A parent that the forest does not lack may be read.
-use Rattle.keep_tree.proofs.Placed.{parent_below}
-use Rattle.keep_tree.proofs.forest.Forest.is_under_lease.Goals as goal
-
-pub get-requires : goal.get-requires
-get-requires c = parent_below c.args.self.now.entries c.args.parent c.requires c.in-Some.index c.in-Some.is

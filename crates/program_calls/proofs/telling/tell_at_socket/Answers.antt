@@ -1,0 +1,9 @@
+-- A line is reported whatever the write and the flush answer.
+use Rattle.program_report.proofs.Reporting.{reported}
+use Rattle.program_calls.specs.Lines.{socket_line}
+use Rattle.program_calls.proofs.telling.tell_at_socket.Goals as goal
+
+pub returns : goal.returns
+returns g c =
+    reported (socket_line c.args.call.now c.args.words.now) (g.E.Device.seen c.args.errors.now) (g.E.Device.seen c.put_socket_line.new.errors) (g.E.Device.seen c.flush.new.self) g.E.Device.is_in_memory c.put_socket_line.result c.flush.result
+    c.put_socket_line.ensures c.flush.ensures.bytes c.flush.ensures.flushed c.flush.ensures.memory c.flush.ensures.count

@@ -1,6 +1,0 @@
--- leave_law: the law as it is proved in Leaving.
-use Rattle.scout_laws.proofs.Leaving.{leaves}
-use Rattle.scout_laws.proofs.laws_of_behind.leave_law.Goals as goal
-
-pub returns : goal.returns
-returns c = leaves

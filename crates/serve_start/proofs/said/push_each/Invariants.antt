@@ -1,6 +1,0 @@
--- Lines of that level and about that were added, and no others.
-use Rattle.serve_start.specs.Saying.{AddsSaid}
-use Rattle.serve_start.proofs.said.push_each.Given as goal
-
-abbrev pub invariant-loop-text : goal.invariant-loop-text
-invariant-loop-text l = record { adds : AddsSaid l.level l.about l.fn.said.items l.said.items }

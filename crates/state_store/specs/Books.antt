@@ -1,0 +1,70 @@
+-- Books: what FILE says, what the changes since have made of it, and the text of what is handed to a watch.
+-- Source: this project's own.
+use Rattle.std.specs.Prelude.{◌≡◌, ℕ, List, Option, Some, None, Result, Ok, Err}
+use Rattle.vault_inventory.specs.declared.fault.InvFault.{InvFault}
+use Rattle.vault_inventory.specs.Inventory.{read_served}
+use Rattle.vault_inventory.specs.Served.{Served}
+use Rattle.state_changes.specs.declared.change.Record.{Record}
+use Rattle.state_changes.specs.declared.replaying.File.{File}
+use Rattle.state_changes.specs.declared.replaying.Note.{Note}
+use Rattle.state_changes.specs.declared.row.Row.{Row}
+use Rattle.state_changes.specs.Listed.{rows_of_served}
+use Rattle.state_changes.specs.Replay.{replayed}
+use Rattle.state_changes.specs.Words.{fingerprint}
+use Rattle.state_file.specs.Settled.{TextIsSettled}
+use Rattle.state_store.specs.declared.fault.FileFault.{FileFault}
+use Rattle.state_store.specs.declared.fault.FileFault.TheVariants.{Unread, Faulty, Unwritten, OutOfMemory}
+use Rattle.state_store.specs.declared.secret.Secret.{Secret}
+use Rattle.state_store.specs.Handed.{handed}
+
+pub record Book : Type 0 where
+  pub file : File
+  pub rows : List Row
+  pub secrets : List Secret
+  pub text : List ℕ
+
+-- the text of a file that says what is handed of these rows, with that margin
+abbrev pub IsTextOf : ℕ → List Secret → List Row → List ℕ → Type 0
+IsTextOf margin secrets rows text = (v : Served) × TextIsSettled (Some margin) None (handed secrets rows) text v
+
+-- what a book always keeps
+abbrev pub IsBook : Book → Type 0
+IsBook b = IsTextOf b.file.margin b.secrets b.rows b.text
+
+-- what a file with these bytes says
+abbrev pub file_of : List ℕ → Served → File
+file_of bytes v = record { rows = rows_of_served v; margin = v.inventory.forest.margin; system_max = v.system_max; mark = fingerprint bytes }
+
+abbrev pub IsFileOf : List ℕ → File → Type 0
+IsFileOf bytes f = (v : Served) × ((read_served bytes ≡ Ok v) × (f ≡ file_of bytes v))
+
+-- the book of a file with these bytes and the records of a journal, with a note on each change that was not made
+pub record IsBookOf (bytes : List ℕ) (records : List Record) (secrets : List Secret) (b : Book) (notes : List Note) : Type 0 where
+  pub file : IsFileOf bytes b.file
+  pub rows : replayed b.file records ≡ record { rows = b.rows; notes = notes }
+  pub secrets_are : b.secrets ≡ secrets
+
+-- the file is read, and is no inventory for this reason; or what is to be handed is not written, for whatever reason
+abbrev pub IsFault : List ℕ → FileFault → Type 0
+IsFault bytes Unread = ⊥
+IsFault bytes (Faulty fault) = read_served bytes ≡ Err fault
+IsFault bytes (Unwritten fault) = (v : Served) × (read_served bytes ≡ Ok v)
+IsFault bytes OutOfMemory = Unit {0}
+
+-- the same of a file whose bytes may not be had
+abbrev pub IsFileFaultOf : Option (List ℕ) → FileFault → Type 0
+IsFileFaultOf None Unread = Unit {0}
+IsFileFaultOf None OutOfMemory = Unit {0}
+IsFileFaultOf None fault = ⊥
+IsFileFaultOf (Some bytes) fault = IsFault bytes fault
+
+abbrev pub IsBookIf : Option (List ℕ) → List Record → List Secret → Book → List Note → Type 0
+IsBookIf None records secrets b notes = ⊥
+IsBookIf (Some bytes) records secrets b notes = IsBookOf bytes records secrets b notes
+
+-- the same book, with what these files of secrets have given
+pub record HasSecrets (old : Book) (secrets : List Secret) (new : Book) : Type 0 where
+  pub file : new.file ≡ old.file
+  pub rows : new.rows ≡ old.rows
+  pub secrets_are : new.secrets ≡ secrets
+  pub text_is : IsBook new

@@ -1,0 +1,13 @@
+-- It is over with what came of it.
+use Rattle.vault_lanes.proofs.Moved.{moves_over}
+use Rattle.vault_lanes.proofs.way.Way.go_on.Goals as goal
+
+pub returns-in-Some-clause-moves : goal.returns-in-Some-clause-moves
+returns-in-Some-clause-moves g c =
+    moves_over g.L.Line.written g.L.Line.remaining g.L.Line.failures c.args.now c.args.self.now c.in-Out.lane c.go_on.new.self c.in_ok-answer.field-0 c.in-Some.answer c.in-Out.is c.in-Some.is (record {
+      allowance = c.go_on.ensures.allowance;
+      sent = c.in_ok-answer.ensures.written;
+      heard = c.in_ok-answer.ensures.heard;
+      settled = c.in_ok-answer.ensures.settled;
+      failing = c.in_ok-answer.ensures.failing;
+    })
