@@ -13,6 +13,7 @@ use Rattle.watch_machine.specs.declared.event.Terms.{Terms}
 use Rattle.watch_machine.specs.declared.lanes.Out.{Out}
 use Rattle.watch_machine.specs.declared.track.Track.{Track}
 use Rattle.watch_machine.specs.Answers.{heard, noted}
+use Rattle.watch_machine.specs.Beginning.{is_pressed}
 use Rattle.watch_machine.specs.Looked.{looked}
 use Rattle.watch_machine.specs.Refusal.{request_out}
 use Rattle.watch_machine.specs.Renewed.{renewed_track, state_renewed}
@@ -25,7 +26,7 @@ use Rattle.watch_laws.specs.Outage.{IsReplyInOutage, TellsNothing, comes, how_ma
 use Rattle.watch_laws.specs.Presence.{is_told}
 use Rattle.watch_laws.proofs.Alone.{flag}
 use Rattle.watch_laws.proofs.Answering.{looked_leaves, renewed_leaves, rest_of}
-use Rattle.watch_laws.proofs.Enduring.{Cutting, Endures, IsAnswered, IsFailed, lost_endures, own_endures, real_endures, refused_endures, ungranted_failed, untold_failed}
+use Rattle.watch_laws.proofs.Enduring.{Cutting, Endures, IsAnswered, IsFailed, lost_endures, new_backs, own_endures, real_endures, refused_endures, ungranted_failed, untold_failed}
 use Rattle.watch_laws.proofs.Holding.{looked_presence}
 use Rattle.watch_laws.proofs.Lanes.{Sends, all_left, is_of, passes, replied_any, replied_lane}
 use Rattle.watch_laws.proofs.Lasting.{Same, same_time}
@@ -93,6 +94,15 @@ module _ (f : Facts) (due : ℕ) (old mid new : WatchState) (q : Out) (reply : R
   kept_all : (P : Out → Type 0) → ((r : Out) → P r → P (heard r)) → All P old.out → All P new.out
   kept_all P hears all = subst (λ (x : WatchState). All P x.out) (sym t.answered.is) (all_left P hears mid q reply (subst (All P) (sym t.answered.outs) all))
 
+  -- no answer presses it, nor lets it go
+  pressed_as : is_pressed (track_at new f.i) ≡ is_pressed (track_at old f.i)
+  pressed_as =
+      (new_backs old mid new q reply t.answered f.i).pressed
+      ∙ elim (cases_Bool (q.entry == f.i)) as (λ _. is_pressed (track_at mid f.i) ≡ is_pressed (track_at old f.i)) [
+        | inl here ↦ (t.own (eqb-true q.entry f.i here)).1.pressed
+        | inr different ↦ ap is_pressed (t.other (λ e. not_both (subst (λ n. (n == f.i) ≡ true) (sym e) (same_index f.i)) different))
+      ]
+
   pub goes_on_after : IsGoing f due new
   goes_on_after =
       let clock = ap (λ c. c.at) t.answered.clocks in
@@ -101,7 +111,10 @@ module _ (f : Facts) (due : ℕ) (old mid new : WatchState) (q : Out) (reply : R
       record {
         base = t.base;
         entries = t.same.count ∙ t.going.entries;
-        time = let e = same_time f.i old new t.same in let h = t.going.time in omega (arith, e, h);
+        time = λ loose.
+            let e = same_time f.i old new t.same in
+            let h = t.going.time (sym pressed_as ∙ loose) in
+            omega (arith, e, h);
         end_is = t.same.ends.0 ∙ t.going.end_is;
         timely = kept_all (λ (r : Out). due ≤ outage_settled_by f.o r.since + f.o.late) (λ r h. h) t.going.timely;
         ahead = omega (arith, clock, ahead);

@@ -293,11 +293,11 @@ abbrev IsBackFrom : Track → Try → Try → Type 0
 IsBackFrom x t u =
     (u.pressed ≡ t.pressed) × ((((u.failed ≡ t.failed) × (u.at ≤ t.at)) ⊎ ((u.failed ≡ false) × (u.at ≤ rested x.last))) × (x.out ≡ false → is_first u ≡ is_first t))
 
-record Backs (y x : Track) : Type 0 where
+pub record Backs (y x : Track) : Type 0 where
   end : y.end ≡ x.end
   last : y.last ≡ x.last
   out : y.out ≡ x.out
-  pressed : is_pressed y ≡ is_pressed x
+  pub pressed : is_pressed y ≡ is_pressed x
   tries : (u : Try) → y.attempt ≡ Some u → (t : Try) × ((x.attempt ≡ Some t) × IsBackFrom x t u)
 
 same_backs : (x : Track) → Backs x x
@@ -408,7 +408,7 @@ module _ (old mid new : WatchState) (q : Out) (reply : Reply) (a : IsAnswered ol
   pub after : new.answers ≡ old.answers ++ answer ∷ []
   after = ap (λ (x : WatchState). x.answers) a.is ∙ replied_answers mid q reply ∙ a.answers
 
-  new_backs : (i : ℕ) → Backs (track_at new i) (track_at mid i)
+  pub new_backs : (i : ℕ) → Backs (track_at new i) (track_at mid i)
   new_backs i = subst (λ (x : WatchState). Backs (track_at x i) (track_at mid i)) (sym a.is) (back_kept_all mid q reply i) where
     back_kept_all : (t : WatchState) (r : Out) (w : Reply) (k : ℕ) → Backs (track_at (replied t r w) k) (track_at t k)
     back_kept_all t r w k = back_kept Backs same_backs back_backs t r w k
@@ -470,12 +470,12 @@ lost_out s q =
     let P : WatchState → Type 0 = λ t. t.out ≡ without_request q.entry s.out in
     if_both P q.heard free (silent free) refl (if_both P s.presence.away free (record free { presence = presence_gone s.presence }) refl refl)
 
--- what an answer leaves of its entry that tells nothing: a try that is pressed was, and has failed now
+-- what an answer leaves of its entry that tells nothing: it is pressed if it was, and its try has failed then
 pub record IsFailed (y x : Track) : Type 0 where
   pub end : y.end ≡ x.end
   pub last : y.last ≡ x.last
   pub out : y.out ≡ false
-  pub pressed : is_pressed y ≡ true → is_pressed x ≡ true
+  pub pressed : is_pressed y ≡ is_pressed x
   pub failed : (u : Try) → y.attempt ≡ Some u → u.pressed ≡ true → u.failed ≡ true
 
 -- a real one to the entry itself, to a request that the outage cut: it fails, and nothing is held back
@@ -492,7 +492,7 @@ refused_endures o i end bound due miss old mid new q reply a real none not_whole
     let c = cut_off o q.since not_whole in
     let by_cut' : due ≤ cut o = omega (arith, in_time, c) in
     let before : rested (track_at mid i).last ≤ bound = (let e = ap rested f.last in let l = h.last in omega (arith, e, l)) in
-    let was : is_pressed (track_at new i) ≡ true → is_pressed (track_at old i) ≡ true = λ pressed'. f.pressed (sym backs.pressed ∙ pressed') in
+    let was : is_pressed (track_at new i) ≡ true → is_pressed (track_at old i) ≡ true = λ pressed'. sym (backs.pressed ∙ f.pressed) ∙ pressed' in
     let P : Out → Type 0 = Cutting o i bound miss new in
     record {
       end_is = backs.end ∙ f.end ∙ h.end_is;
@@ -502,7 +502,7 @@ refused_endures o i end bound due miss old mid new q reply a real none not_whole
           let t = b.0 in
           let pressed'' : t.pressed ≡ true = sym b.1.1.0 ∙ pressed' in
           let failed' = f.failed t b.1.0 pressed'' in
-          let may = (cuts own).1 (f.pressed (ap is_pressed_try b.1.0 ∙ pressed'')) in
+          let may = (cuts own).1 (sym f.pressed ∙ ap is_pressed_try b.1.0 ∙ pressed'') in
           elim b.1.1.1.0 as (λ _. Kept i bound miss new u ⊎ Missed i bound due (cut o) miss new u) [
             | inl stays ↦ inr (stays.0 ∙ failed', (backs.out ∙ f.out, (may.0, (by_cut', inl low))))
             | inr again' ↦ (let at = again'.1 in inl (again'.0, (omega (arith, at, before), λ free. inr (may.0, low))))
@@ -586,7 +586,7 @@ module _ (o : Outage) (i end bound due : ℕ) (miss : Type 0) (old mid new : Wat
       let track : track_at new i ≡ track_at mid i = ap (λ (y : WatchState). track_at y i) a.is ∙ lost_tracks mid q i in
       let l = lower in
       let free : (track_at new i).out ≡ false = ap (λ (y : Track). y.out) track ∙ f.out in
-      let was : is_pressed (track_at new i) ≡ true → is_pressed (track_at old i) ≡ true = λ pressed'. f.pressed (ap is_pressed (sym track) ∙ pressed') in
+      let was : is_pressed (track_at new i) ≡ true → is_pressed (track_at old i) ≡ true = λ pressed'. sym f.pressed ∙ ap is_pressed (sym track) ∙ pressed' in
       record {
         end_is = ap (λ (y : Track). y.end) track ∙ f.end ∙ h.end_is;
         last = let e = ap (λ (y : Track). rested y.last) track in let g = ap rested f.last in let k = h.last in omega (arith, e, g, k);
@@ -642,9 +642,9 @@ fails_so t v u h is = subst (λ (w : Try). w.pressed ≡ true → w.failed ≡ t
 pub ungranted_failed : (at : ℕ) (heard : Bool) (reply : Reply) (x : Track) → is_told reply ≡ false → IsFailed (ungranted_track at heard reply x) x
 unfolding ungranted_track
 ungranted_failed at heard reply x untold' = record { end = refl; last = refl; out = refl; pressed = pressed' x.attempt; failed = failed' x.attempt } where
-  pressed' : (o : Option Try) → is_pressed_try (ungranted at heard reply x o) ≡ true → is_pressed_try o ≡ true
-  pressed' None h = h
-  pressed' (Some t) h = sym (ungranted_fails at heard reply x t untold').0 ∙ h
+  pressed' : (o : Option Try) → is_pressed_try (ungranted at heard reply x o) ≡ is_pressed_try o
+  pressed' None = refl
+  pressed' (Some t) = (ungranted_fails at heard reply x t untold').0
 
   failed' : (o : Option Try) (u : Try) → ungranted at heard reply x o ≡ Some u → u.pressed ≡ true → u.failed ≡ true
   failed' None u is = absurd cc
@@ -653,9 +653,9 @@ ungranted_failed at heard reply x untold' = record { end = refl; last = refl; ou
 pub untold_failed : (at : ℕ) (heard : Bool) (reply : Reply) (x : Track) → is_told reply ≡ false → IsFailed (untold_track at heard reply x) x
 unfolding untold_track
 untold_failed at heard reply x untold' = record { end = refl; last = refl; out = refl; pressed = pressed' x.attempt; failed = failed' x.attempt } where
-  pressed' : (o : Option Try) → is_pressed_try (untold at heard reply x o) ≡ true → is_pressed_try o ≡ true
-  pressed' None h = h
-  pressed' (Some t) h = sym (untold_fails at heard reply x t untold').0 ∙ h
+  pressed' : (o : Option Try) → is_pressed_try (untold at heard reply x o) ≡ is_pressed_try o
+  pressed' None = refl
+  pressed' (Some t) = (untold_fails at heard reply x t untold').0
 
   failed' : (o : Option Try) (u : Try) → untold at heard reply x o ≡ Some u → u.pressed ≡ true → u.failed ≡ true
   failed' None u is = absurd cc

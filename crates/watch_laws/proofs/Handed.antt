@@ -114,7 +114,7 @@ module _ (width n : ℕ) (old new : WatchState) (wall elapsed : ℕ) (output : O
     known = known';
     first = λ t is pressed'. let f = first_try t is pressed' in let soon = f.1.1 in (f.0, (f.1.0, omega (arith, soon)));
     fresh = goes_now;
-    come = omega arith;
+    come = λ loose. omega arith;
     ahead = omega arith;
     rested = rests (is_pressed (track_at new i)) refl;
   }

@@ -46,6 +46,7 @@ pub mod Requests
 pub mod Enduring
 pub mod Stages
 pub mod Undisturbed
+pub mod StillPressed
 pub mod Ticking
 pub mod Answered
 pub mod Shapes
@@ -88,4 +89,5 @@ pub mod Bases
 pub mod Always
 pub mod Apart
 pub mod Topped
+pub mod Postponing
 pub mod Moving

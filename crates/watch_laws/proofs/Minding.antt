@@ -40,7 +40,7 @@ use Rattle.watch_machine.proofs.Leasts.{least_each}
 use Rattle.watch_machine.proofs.Seeing.{SameSeen, both_seen, need_same}
 use Rattle.watch_machine.proofs.Unseen.{pressed_seen, sent_seen}
 use Rattle.watch_machine.proofs.Written.{each_length}
-use Rattle.watch_laws.specs.Waiting.{EndsRight, HasTry, IsHeeded, IsMinded, IsPressed, MindedLaw, WaitsRight}
+use Rattle.watch_laws.specs.Waiting.{EndsRight, HasTry, IsHeeded, IsMinded, IsPressed, MindedLaw, TimeIsAhead, WaitsRight}
 use Rattle.watch_laws.proofs.Going.{Goes, goes, some_named}
 use Rattle.watch_laws.proofs.Spacing.{passed_over, went}
 use Rattle.watch_laws.proofs.Tracking.{each_holds}
@@ -230,26 +230,31 @@ module _ (s : WatchState) (round : List ℕ) (requests : List Request) (i : ℕ)
   pressed_minded None going within free is pressed' = absurd cc
   pressed_minded (Some t) going within free is pressed' = record { has = has_try t going within free is; pressed = pressed' }
 
-  pub end_minded : Goes s.forest s.presence s.clocks.at mid.tracks (s.width - length s.out) requests → i < length s.forest.entries → is_wanted end i ≡ true → IsMinded end (wait end) i
-  end_minded going within wanted =
+  -- who is wanted and not out is pressed, or is not and has a time that is ahead
+  pub end_tended : Goes s.forest s.presence s.clocks.at mid.tracks (s.width - length s.out) requests → i < length s.forest.entries → is_wanted end i ≡ true → (track_at end i).out ≡ false →
+      IsPressed end (wait end) i ⊎ ((is_pressed (track_at end i) ≡ false) × TimeIsAhead end (wait end) i)
+  end_tended going within wanted free =
       let g = s.forest in
       let c = s.clocks in
       let x = track_at end i in
       let seen : SameSeen end.tracks s.tracks = both_seen end.tracks mid.tracks s.tracks (sent_seen c.at requests mid.tracks) (pressed_seen g c round s.tracks) in
       let needs = need_same end.tracks s.tracks seen g.entries c i in
-      elim (cases_Bool x.out) as (λ _. IsMinded end (wait end) i) [
+      let stands =
+      sent_stands g.margin (entry_at g.entries i) (need_of g.entries s.tracks c i) (sec c.at) c.at requests mid.tracks i (mid_stands s round i) (subst (λ k. wants x k ≡ true) needs wanted) free in
+      elim stands as (λ _. IsPressed end (wait end) i ⊎ ((is_pressed x ≡ false) × TimeIsAhead end (wait end) i)) [
+        | inl pressed' ↦ inl (pressed_minded x.attempt going within free refl pressed')
+        | inr ahead ↦
+            let until = wait_each end i within in
+            let late = ahead_of g.margin (entry_at g.entries i) x (sec c.at) ahead.1 in
+            let soon = by_time g.margin (entry_at g.entries i) (wanted_need end i) s.presence c.at x free wanted ahead.0 in
+            inr (ahead.0, record { ahead = late; heeded = omega (arith, until, soon) })
+      ]
+
+  pub end_minded : Goes s.forest s.presence s.clocks.at mid.tracks (s.width - length s.out) requests → i < length s.forest.entries → is_wanted end i ≡ true → IsMinded end (wait end) i
+  end_minded going within wanted =
+      elim (cases_Bool (track_at end i).out) as (λ _. IsMinded end (wait end) i) [
         | inl out ↦ inl out
-        | inr free ↦
-            let stands =
-            sent_stands g.margin (entry_at g.entries i) (need_of g.entries s.tracks c i) (sec c.at) c.at requests mid.tracks i (mid_stands s round i) (subst (λ k. wants x k ≡ true) needs wanted) free in
-            elim stands as (λ _. IsMinded end (wait end) i) [
-              | inl pressed' ↦ inr (inl (pressed_minded x.attempt going within free refl pressed'))
-              | inr ahead ↦
-                  let until = wait_each end i within in
-                  let late = ahead_of g.margin (entry_at g.entries i) x (sec c.at) ahead.1 in
-                  let soon = by_time g.margin (entry_at g.entries i) (wanted_need end i) s.presence c.at x free wanted ahead.0 in
-                  inr (inr (record { ahead = late; heeded = omega (arith, until, soon) }))
-            ]
+        | inr free ↦ elim (end_tended going within wanted free) as (λ _. IsMinded end (wait end) i) [ inl pressed' ↦ inr (inl pressed') | inr ahead ↦ inr (inr ahead.1) ]
       ]
 
 -- the wait ends later than now

@@ -8,19 +8,22 @@ use Rattle.watch_machine.specs.declared.track.Track.{Track}
 use Rattle.watch_machine.specs.declared.track.Try.{Try}
 use Rattle.watch_machine.specs.Beginning.{hastened, is_pressed, is_pressed_try, owed, owing_lookup, soon, sooner_try, untopped_track}
 use Rattle.watch_machine.specs.Change.{former_at}
+use Rattle.watch_machine.specs.Clocks.{ms}
 use Rattle.watch_machine.specs.History.{Changed, IsChanged}
 use Rattle.watch_machine.specs.Lines.{is_first, rested}
+use Rattle.watch_machine.specs.Outlook.{time_of}
 use Rattle.watch_machine.specs.Settling.{is_silent}
 use Rattle.watch_machine.specs.State.{WatchState, track_at}
 use Rattle.watch_machine.proofs.Cases.{not_both, value_is}
 use Rattle.watch_machine.proofs.Changing.{all_after}
-use Rattle.watch_laws.specs.Outage.{IsLivedChange, Outage, comes_over, how_many, is_request_served, is_request_whole, is_tried, outage_settled_by, waiting, waits_to_be_asked, was_tried}
+use Rattle.watch_laws.specs.Outage.{Outage, comes_over, how_many, is_request_served, is_request_whole, is_tried, outage_settled_by, waiting, waits_to_be_asked, was_tried}
 use Rattle.watch_laws.proofs.Bases.{changed_base, kept_flag, owing_last}
 use Rattle.watch_laws.proofs.Counting.{at_some, either, filtered_lanes, lanes_filtered, moved_pass}
 use Rattle.watch_laws.proofs.Enduring.{Cutting, Endures, IsPending, Kept, Missed, cut}
 use Rattle.watch_laws.proofs.Following.{any_over, changed_entries, changed_out, filter_after, kept_over, named_over, owed_is}
 use Rattle.watch_laws.proofs.Grounds.{IsBase}
 use Rattle.watch_laws.proofs.Lanes.{is_anew}
+use Rattle.watch_laws.proofs.Postponing.{postponed}
 use Rattle.watch_laws.proofs.Stages.{Facts, IsGoing, IsThrough}
 
 -- what holds of a try also where it may go out earlier holds of that of an entry that owes a lookup, where it is pressed
@@ -35,11 +38,11 @@ owed_keeps P sooner at x all =
           let same = value_is (hastened t (soon at x)) u is in
           subst P same (sooner t (soon at x) (h t refl (ap (λ (v : Try). v.pressed) same ∙ pressed')))
 
-owed_pressed : (at : ℕ) (x : Track) → is_pressed (owing_lookup at (untopped_track x)) ≡ true → is_pressed x ≡ true
-owed_pressed at x = owed_is (λ (y : Track). is_pressed y ≡ true → is_pressed x ≡ true) at (untopped_track x) (λ out is. is) (λ free. by x.attempt) where
-  by : (o : Option Try) → is_pressed_try (Some (sooner_try (soon at x) o)) ≡ true → is_pressed_try o ≡ true
-  by None is = absurd cc
-  by (Some t) is = is
+owed_pressed : (at : ℕ) (x : Track) → is_pressed (owing_lookup at (untopped_track x)) ≡ is_pressed x
+owed_pressed at x = owed_is (λ (y : Track). is_pressed y ≡ is_pressed x) at (untopped_track x) (λ out. refl) (λ free. by x.attempt) where
+  by : (o : Option Try) → is_pressed_try (Some (sooner_try (soon at x) o)) ≡ is_pressed_try o
+  by None = refl
+  by (Some t) = refl
 
 module _ (old : WatchState) (c : Changed) (h : IsChanged old c) (i k : ℕ) (said : former_at c.was k ≡ Some i) where
   clocks : c.state.clocks ≡ old.clocks
@@ -89,8 +92,8 @@ module _ (old : WatchState) (c : Changed) (h : IsChanged old c) (i k : ℕ) (sai
         ),
       )
 
-  pressed_over : is_pressed (track_at c.state k) ≡ true → is_pressed (track_at old i) ≡ true
-  pressed_over = kept_over old c h (λ (y x : Track). is_pressed y ≡ true → is_pressed x ≡ true) (λ x is. is) (λ x. owed_pressed old.clocks.at x) i k said
+  pub pressed_over : is_pressed (track_at c.state k) ≡ is_pressed (track_at old i)
+  pressed_over = kept_over old c h (λ (y x : Track). is_pressed y ≡ is_pressed x) (λ x. refl) (λ x. owed_pressed old.clocks.at x) i k said
 
   pub endures_over : (o : Outage) (end bound due : ℕ) (miss : Type 0) → Endures o i end bound due miss old → Endures o k end bound due miss c.state
   endures_over o end bound due miss e =
@@ -106,7 +109,7 @@ module _ (old : WatchState) (c : Changed) (h : IsChanged old c) (i k : ℕ) (sai
             (kept_over old c h (λ (y x : Track). ((t : Try) → x.attempt ≡ Some t → t.pressed ≡ true → P t) → (u : Try) → y.attempt ≡ Some u → u.pressed ≡ true → P u) (λ x all. all)
             (λ x all. owed_keeps P (λ t n. sooner_pending bound due (cut o) miss t n) old.clocks.at x all) i k said e.tries u is pressed');
         out = All-weaker (λ (q : Out). q.entry ≡ k → Q q) (Cutting o k bound miss c.state)
-            (λ q all is. ((all is).0, λ pressed'. let may = (all is).1 (pressed_over pressed') in (may.0, λ heard'. let low = may.1 heard' in omega (arith, low, hold)))) c.state.out
+            (λ q all is. ((all is).0, λ pressed'. let may = (all is).1 (sym pressed_over ∙ pressed') in (may.0, λ heard'. let low = may.1 heard' in omega (arith, low, hold)))) c.state.out
             (named_over Q (λ r m all. all) old c h i k said e.out);
         silent' = λ any away. e.silent' (sym (ap (λ (s : WatchState). list_any is_silent s.answers) h.state) ∙ any) (sym (ap (λ (s : WatchState). s.presence.away) h.state) ∙ away);
       } where
@@ -159,22 +162,24 @@ abbrev pub facts_over : Facts → Changed → ℕ → Facts
 facts_over f c k = record f { i = k; n = length c.forest.entries }
 
 module _ (f : Facts) (due : ℕ) (old : WatchState) (c : Changed) (h : IsChanged old c) (k : ℕ) (said : former_at c.was k ≡ Some f.i) where
-  pub going_over : IsLivedChange old c f.i k → IsGoing f due old → IsGoing (facts_over f c k) due c.state
-  going_over lived going =
+  pub end_kept : (track_at c.state k).end ≡ (track_at old f.i).end
+  end_kept = kept_over old c h (λ (y x : Track). y.end ≡ x.end) (λ x. refl) (λ x. owed_is (λ (y : Track). y.end ≡ x.end) old.clocks.at (untopped_track x) (λ out. refl) (λ free. refl)) f.i k said
+
+  -- its time may come later
+  pub going_over : (from : ℕ) → f.time ≤ from → (is_pressed (track_at c.state k) ≡ false → ms (time_of c.state k) ≤ from) → IsGoing f due old → IsGoing (postponed (facts_over f c k) from) due c.state
+  going_over from le late going =
       let at = ap (λ (s : WatchState). s.clocks.at) h.state in
       let ahead = going.ahead in
       let by = going.by in
       record {
         base = changed_base old c h f.width f.n going.entries going.base;
         entries = changed_entries old c h;
-        time = (let sooner = lived.time in let low = going.time in omega (arith, sooner, low));
-        end_is = end_same ∙ going.end_is;
+        time = late;
+        end_is = end_kept ∙ going.end_is;
         timely = all_over old c h f.i k said (λ (q : Out). due ≤ outage_settled_by f.o q.since + f.o.late) (λ r m le. le) going.timely;
         ahead = omega (arith, at, ahead);
-        by = omega (arith, at, by);
-      } where
-        end_same : (track_at c.state k).end ≡ (track_at old f.i).end
-        end_same = kept_over old c h (λ (y x : Track). y.end ≡ x.end) (λ x. refl) (λ x. owed_is (λ (y : Track). y.end ≡ x.end) old.clocks.at (untopped_track x) (λ out. refl) (λ free. refl)) f.i k said
+        by = omega (arith, at, by, le);
+      }
 
   pub through_over :
       (before after : ℕ) → ((from : ℕ) → after + how_many (length c.forest.entries + f.width) (is_anew f.o from c.state) ≤ before + how_many (f.n + f.width) (is_anew f.o from old)) →

@@ -1,6 +1,6 @@
 -- Outliving: an entry outlives every outage that its margin does. For the laws of outages.
-use Rattle.std.proofs.Common.{◌≡◌, ◌⊎◌, ◌∙◌, ℕ, suc, ◌+◌, ◌-◌, ◌*◌, ◌<◌, ◌≤◌, Bool, true, false, not, ◌&&◌, ◌||◌, ◌==◌, List, [], ◌∷◌, Option, Some, None, All, IfSome, Result, Ok, Err, get_or, length, map, nat_lt, refl, sym, ap, subst, arith, inl, inr, true≢false}
-use Rattle.std.proofs.lemmas.Bool.{and_parts, cases_Bool, cases_lt, eqb-true}
+use Rattle.std.proofs.Common.{◌≡◌, ◌⊎◌, ◌∙◌, ℕ, suc, ◌+◌, ◌-◌, ◌*◌, ◌<◌, ◌≤◌, Bool, true, false, not, ◌&&◌, ◌||◌, ◌==◌, List, [], ◌∷◌, Option, Some, None, All, IfSome, Result, Ok, Err, get_or, length, map, max, nat_lt, refl, sym, ap, subst, arith, inl, inr, true≢false}
+use Rattle.std.proofs.lemmas.Bool.{and_parts, cases_Bool, cases_lt, cond-false, eqb-true}
 use Rattle.std.proofs.lemmas.List.Elements.{All-weaker}
 use Rattle.std.specs.List.{list_any}
 use Rattle.plan_forest.specs.Forest.{Forest}
@@ -34,10 +34,10 @@ use Rattle.watch_machine.specs.State.{WatchState, attempt_at, entry_of, second, 
 use Rattle.watch_machine.specs.Step.{Step, StepLooked, StepRenewed, known, readied, with_need_until}
 use Rattle.watch_machine.specs.Wait.{wait}
 use Rattle.watch_machine.specs.Wanted.{believed, is_known, is_never, is_unknown, is_wanted, wanted_need, wants}
-use Rattle.watch_machine.proofs.Cases.{not_both}
+use Rattle.watch_machine.proofs.Cases.{if_both, if_cases, not_both}
 use Rattle.watch_machine.proofs.Leasts.{least_start}
 use Rattle.watch_laws.specs.Absence.{is_clock, is_event_taken}
-use Rattle.watch_laws.specs.Outage.{AllInTime, AreLived, EndIsInTime, GrantLaw, IsBefore, IsIncident, IsLived, IsLivedChange, IsReplyInOutage, IsShortFor, LeftLaw, MayBeAsked, Outage, OutageLaw, TellsNothing, again, clock_asked_at, comes, comes_over, coming_through, granted_at, granted_by, granted_next, how_many, in_line, is_request_served, is_request_whole, outage_next_after, outage_next_after_command, outage_next_by, outage_settled_by, tells, waiting}
+use Rattle.watch_laws.specs.Outage.{AllInTime, AreLived, EndIsInTime, GrantLaw, IsBefore, IsIncident, IsLived, IsLivedChange, IsReplyInOutage, IsShortFor, LeftLaw, MayBeAsked, Outage, OutageLaw, TellsNothing, again, clock_asked_at, comes, comes_over, coming_through, from_over, granted_at, granted_by, granted_next, how_many, in_line, is_request_served, is_request_whole, outage_next_after, outage_next_after_command, outage_next_by, outage_settled_by, tells, waiting}
 use Rattle.watch_laws.specs.Presence.{is_told}
 use Rattle.watch_laws.proofs.Answered.{IsReplied, goes_on_after, looked_replied, renewed_replied, replied_through}
 use Rattle.watch_laws.proofs.Bases.{last_base}
@@ -49,10 +49,11 @@ use Rattle.watch_laws.proofs.Grounds.{IsBase, fewer_wait, starts, turn_base}
 use Rattle.watch_laws.proofs.Lanes.{Sends, Ticks, is_anew, ticks, turn_sends}
 use Rattle.watch_laws.proofs.Lasting.{Same, known_other, same_time, turn_same}
 use Rattle.watch_laws.proofs.Marked.{none_out, not_out, only_cut, only_whole}
-use Rattle.watch_laws.proofs.Moving.{facts_over, fewer_over, going_over, through_over}
+use Rattle.watch_laws.proofs.Moving.{end_kept, facts_over, fewer_over, going_over, pressed_over, through_over}
+use Rattle.watch_laws.proofs.Postponing.{postponed, postponed_planned, postponed_through}
 use Rattle.watch_laws.proofs.Requests.{any_gives, anew_none, none_passes, quick_if, some_lane}
 use Rattle.watch_laws.proofs.Retrying.{ready_first, rises}
-use Rattle.watch_laws.proofs.Minding.{end_minded, tended}
+use Rattle.watch_laws.proofs.Minding.{end_tended, tended}
 use Rattle.watch_laws.proofs.Sparing.{readied_answers}
 use Rattle.watch_laws.proofs.Stages.{Facts, IsGoing, IsPlanned, IsServed, IsThrough, due_ahead, free_from, margin_holds, turn_of}
 use Rattle.watch_laws.proofs.Ticking.{IsTick, before_second, goes_on, not_so, not_whole, so_whole, ticks_through}
@@ -212,7 +213,10 @@ left_stays f due rest old new g ts b is e base sends same h =
       going = record {
         base = base;
         entries = same.count ∙ go.entries;
-        time = let e' = same_time f.i old new same in let h' = go.time in omega (arith, e', h');
+        time = λ loose.
+            let e' = same_time f.i old new same in
+            let h' = go.time (sym (ap (λ (x : WatchState). is_pressed (track_at x f.i)) is ∙ ap is_pressed e) ∙ loose) in
+            omega (arith, e', h');
         end_is = same.ends.0 ∙ go.end_is;
         timely = subst (λ (x : WatchState). All (λ (q : Out). due ≤ outage_settled_by f.o q.since + f.o.late) x.out) (sym is) go.timely;
         ahead = omega (arith, clock, ahead);
@@ -254,19 +258,50 @@ in_time f due k s h =
     let by = h.going.by in
     (subst (λ n. s.clocks.at < ms n) (sym end) ahead, subst (λ n. s.clocks.at ≤ granted_by f.o f.time n) (sym end) by)
 
--- a change
-pub changed_stays :
-    (f : Facts) (due rest : ℕ) (old : WatchState) (c : Changed) (h : IsChanged old c) (k : ℕ) → IsLivedChange old c f.i k → Stays f due (waiting f.o f.n old + (how_many (length c.forest.entries) (comes_over old c) + rest)) old →
-    Stays (facts_over f c k) due (waiting f.o (length c.forest.entries) c.state + rest) c.state
-changed_stays f due rest old c h k lived stays = record {
-  going = going_over f due old c h k lived.kept lived stays.going;
-  through =
-      through_over f due old c h k lived.kept (waiting f.o f.n old + (how_many (length c.forest.entries) (comes_over old c) + rest)) (waiting f.o (length c.forest.entries) c.state + rest)
-      (fewer_over f due old c h rest stays.going) stays.through;
-}
+-- a change, after which its time may come later
+abbrev pub facts_after : Facts → Changed → ℕ → Facts
+facts_after f c k = postponed (facts_over f c k) (from_over f.time c k)
 
-pub planned_over : (f : Facts) (old : WatchState) (c : Changed) (k : ℕ) → k < length c.forest.entries → IsPlanned f → IsPlanned (facts_over f c k)
-planned_over f old c k within planned = record { wide = planned.wide; within = within; order = planned.order; short = planned.short; end_is = planned.end_is }
+from_more : (from : ℕ) (c : Changed) (k : ℕ) → from ≤ from_over from c k
+from_more from c k = if_both (λ n. from ≤ n) (is_pressed (track_at c.state k)) from (max from (ms (time_of c.state k))) (omega arith) (omega arith)
+
+from_late : (from : ℕ) (c : Changed) (k : ℕ) → is_pressed (track_at c.state k) ≡ false → ms (time_of c.state k) ≤ from_over from c k
+from_late from c k loose = let e = cond-false (is_pressed (track_at c.state k)) from (max from (ms (time_of c.state k))) loose in omega (arith, e)
+
+-- where that is later, it is not pressed and its time comes later
+from_later : (from : ℕ) (c : Changed) (k : ℕ) → from < from_over from c k → (is_pressed (track_at c.state k) ≡ false) × ((from_over from c k ≡ ms (time_of c.state k)) × (from < ms (time_of c.state k)))
+from_later from c k =
+    if_cases (λ n. from < n → (is_pressed (track_at c.state k) ≡ false) × ((n ≡ ms (time_of c.state k)) × (from < ms (time_of c.state k)))) (is_pressed (track_at c.state k)) from (max from (ms (time_of c.state k)))
+    (λ is later. absurd (omega (arith, later))) (λ loose later. (loose, (omega (arith, later), omega (arith, later))))
+
+pub changed_stays :
+    (f : Facts) (due rest : ℕ) (old : WatchState) (c : Changed) (h : IsChanged old c) (k : ℕ) → IsPlanned f → IsLivedChange f.o old c f.i k →
+    Stays f due (waiting f.o f.n old + (how_many (length c.forest.entries) (comes_over old c) + rest)) old →
+    IsPlanned (facts_after f c k) × Stays (facts_after f c k) due (waiting f.o (length c.forest.entries) c.state + rest) c.state
+changed_stays f due rest old c h k planned lived stays =
+    let from = from_over f.time c k in
+    let le = from_more f.time c k in
+    let same = pressed_over old c h f.i k lived.kept in
+    let is : believed (track_at c.state k).end ≡ f.end = ap believed (end_kept f due old c h k lived.kept ∙ stays.going.end_is) in
+    let over : IsPlanned (facts_over f c k) = record { wide = planned.wide; within = low old c h f.i k lived.kept; order = planned.order; short = planned.short; end_is = planned.end_is } in
+    let planned' : IsPlanned (facts_after f c k) =
+    postponed_planned (facts_over f c k) from le over
+    (λ later.
+    let l = from_later f.time c k later in
+    let loose = sym same ∙ l.0 in
+    let come = stays.going.time loose in
+    let late = l.1.1 in
+    let short = lived.left loose (omega (arith, come, late)) in
+    subst (λ n. IsShortFor f.o (ms f.end - n)) (sym l.1.0) (subst (λ n. IsShortFor f.o (ms n - ms (time_of c.state k))) is short)) in (
+      planned',
+      record {
+        going = going_over f due old c h k lived.kept from le (from_late f.time c k) stays.going;
+        through =
+            postponed_through (facts_over f c k) from due (waiting f.o (length c.forest.entries) c.state + rest) c.state le planned'
+            (through_over f due old c h k lived.kept (waiting f.o f.n old + (how_many (length c.forest.entries) (comes_over old c) + rest)) (waiting f.o (length c.forest.entries) c.state + rest)
+            (fewer_over f due old c h rest stays.going) stays.through);
+      },
+    )
 
 along :
     (f : Facts) → IsPlanned f → (hs : List Happening) (due : ℕ) (old : WatchState) → AllHappen old hs → AreLived f.o f.i due old hs → Stays f due (waiting f.o f.n old + coming_through f.o old hs) old →
@@ -288,10 +323,10 @@ along f planned (Changes c ∷ hs) due old history lived h = λ k said.
     let change = lived.1.0 in
     let same : j ≡ k = history.0.may.once f.i j k change.kept said in
     let rest = coming_through f.o c.state hs in
-    let here = changed_stays f due rest old c history.0 j change h in
-    let planned' = planned_over f old c j (low old c history.0 f.i j change.kept) planned in
-    subst (λ m. EndIsInTime f.o m f.time c.state × AllInTime f.o m f.time hs) same
-    (in_time (facts_over f c j) due (waiting f.o (length c.forest.entries) c.state + rest) c.state here, along (facts_over f c j) planned' hs due c.state history.1 lived.1.1.1 here)
+    let g = facts_after f c j in
+    let here = changed_stays f due rest old c history.0 j planned change h in
+    subst (λ m. EndIsInTime f.o m (from_over f.time c m) c.state × AllInTime f.o m (from_over f.time c m) hs) same
+    (in_time g due (waiting f.o (length c.forest.entries) c.state + rest) c.state here.1, along g here.0 hs due c.state history.1 lived.1.1.1 here.1)
 
 -- the end that is a margin after the time
 end_known : (e : End) (margin n : ℕ) (x : Track) (need : ℕ) → x.end ≡ e → wants x need ≡ true → n < time_before e margin → (k : ℕ) × ((e ≡ At k) × (k ≡ time_before e margin + margin))
@@ -507,26 +542,25 @@ waits_for old s wall elapsed output i from width n h wide base b free =
     let ready' = readied old wall elapsed in
     let end = sent (pressed ready' h.round) h.requests in
     let is = h.new_is in
-    let come = subst (λ (x : WatchState). ms (time_of x i) ≤ from) is b.come in
     let there : i < length ready'.forest.entries = subst (λ (x : WatchState). i < length x.forest.entries) is b.within in
     let free' : (track_at end i).out ≡ false = subst (λ (x : WatchState). (track_at x i).out ≡ false) is free in
     subst (λ (x : WatchState). (wait x ≤ from) ⊎ (1 ≤ length x.out)) (sym is)
-    (elim (end_minded ready' h.round h.requests i h.going there (subst (λ (x : WatchState). is_wanted x i ≡ true) is b.wanted)) as (λ _. (wait end ≤ from) ⊎ (1 ≤ length end.out)) [
-      | inl out ↦ absurd (not_both out free')
-      | inr minded ↦
-          elim minded as (λ _. (wait end ≤ from) ⊎ (1 ≤ length end.out)) [
-            | inl pressed' ↦
-                let u = pressed'.has.attempt in
-                let k = b.first u (subst (λ (x : WatchState). attempt_at x i ≡ Some u) (sym is) pressed'.has.attempt_is) pressed'.pressed in
-                elim (tended ready' h.round h.requests i u h.going there free' pressed'.has.attempt_is) as (λ _. (wait end ≤ from) ⊎ (1 ≤ length end.out)) [
-                  | inl later ↦
-                      let r = ready_first end.presence (track_at end i) u from k.0 k.1.1 in
-                      let until = later.1 in
-                      inl (omega (arith, r, until))
-                  | inr full ↦ (let w = ap (λ (x : WatchState). x.width) (sym is) ∙ base.fits.0 in inr (omega (arith, full, w, wide)))
-                ]
-            | inr ahead ↦ (let a = ahead.heeded in inl (omega (arith, a, come)))
+    (elim (end_tended ready' h.round h.requests i h.going there (subst (λ (x : WatchState). is_wanted x i ≡ true) is b.wanted) free') as (λ _. (wait end ≤ from) ⊎ (1 ≤ length end.out)) [
+      | inl pressed' ↦
+          let u = pressed'.has.attempt in
+          let k = b.first u (subst (λ (x : WatchState). attempt_at x i ≡ Some u) (sym is) pressed'.has.attempt_is) pressed'.pressed in
+          elim (tended ready' h.round h.requests i u h.going there free' pressed'.has.attempt_is) as (λ _. (wait end ≤ from) ⊎ (1 ≤ length end.out)) [
+            | inl later ↦
+                let r = ready_first end.presence (track_at end i) u from k.0 k.1.1 in
+                let until = later.1 in
+                inl (omega (arith, r, until))
+            | inr full ↦ (let w = ap (λ (x : WatchState). x.width) (sym is) ∙ base.fits.0 in inr (omega (arith, full, w, wide)))
           ]
+      | inr ahead ↦
+          let come : ms (time_of end i) ≤ from =
+          subst (λ (x : WatchState). ms (time_of x i) ≤ from) is (b.come (ap (λ (x : WatchState). is_pressed (track_at x i)) is ∙ ahead.0)) in
+          let heeded = ahead.1.heeded in
+          inl (omega (arith, heeded, come))
     ])
 
 -- an end that is known, of an entry that is wanted
@@ -730,7 +764,7 @@ may_at_time s i b =
         known = ap is_known e.end_is;
         first = λ u is' pressed'. absurd (not_both (ap is_pressed_try is' ∙ pressed') b.loose);
         fresh = λ k d below is' pressed'. absurd (not_both pressed' b.loose);
-        come = omega arith;
+        come = λ loose. omega arith;
         ahead = before_second s (time_of s i) b.ahead;
         rested = λ free. b.rested;
       },

@@ -3,6 +3,7 @@ use Rattle.std.proofs.Common.{◌≡◌, ◌⊎◌, ℕ, suc, ◌+◌, ◌-◌, 
 use Rattle.std.proofs.Math.Nat.{mul-suc}
 use Rattle.watch_machine.specs.declared.lanes.Out.{Out}
 use Rattle.watch_machine.specs.declared.track.End.TheVariants.{At}
+use Rattle.watch_machine.specs.Beginning.{is_pressed}
 use Rattle.watch_machine.specs.Clocks.{ms}
 use Rattle.watch_machine.specs.Outlook.{time_of}
 use Rattle.watch_machine.specs.State.{WatchState, track_at}
@@ -40,7 +41,7 @@ pub record IsPlanned (f : Facts) : Type 0 where
 pub record IsGoing (f : Facts) (due : ℕ) (s : WatchState) : Type 0 where
   pub base : IsBase f.width f.n s
   pub entries : length s.forest.entries ≡ f.n
-  pub time : ms (time_of s f.i) ≤ f.time
+  pub time : is_pressed (track_at s f.i) ≡ false → ms (time_of s f.i) ≤ f.time
   pub end_is : (track_at s f.i).end ≡ At f.end
   pub timely : All (λ (q : Out). due ≤ outage_settled_by f.o q.since + f.o.late) s.out
   pub ahead : s.clocks.at < ms f.end

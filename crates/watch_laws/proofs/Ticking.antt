@@ -34,12 +34,13 @@ use Rattle.watch_laws.proofs.Holding.{ready_presence}
 use Rattle.watch_laws.proofs.Lanes.{Sends, Ticks, all_sent, goes_out_now, is_anew, is_of, pressed_count, served_marked, served_tried, stays_free, still_out}
 use Rattle.watch_laws.proofs.Lasting.{Same, same_time}
 use Rattle.watch_laws.proofs.Marked.{any_time, free_lanes, none_of, not_out}
-use Rattle.watch_laws.proofs.Minding.{end_minded, tended}
+use Rattle.watch_laws.proofs.Minding.{end_tended, tended}
 use Rattle.watch_laws.proofs.Requests.{any_gives, anew_none, later_than, none_passes, one_left, quick_if, some_lane, take_one, whole_after}
 use Rattle.watch_laws.proofs.Retrying.{ready_first, ready_later}
 use Rattle.watch_laws.proofs.Sparing.{readied_answers}
 use Rattle.watch_laws.proofs.Spacing.{free_of, mid_flag, passed_over, went}
 use Rattle.watch_laws.proofs.Stages.{Facts, IsBack, IsCut, IsEarly, IsGoing, IsLate, IsPlanned, IsServed, IsThrough, free_from, late_base, late_holds, room_back, turn_of}
+use Rattle.watch_laws.proofs.StillPressed.{still_pressed_at}
 use Rattle.watch_laws.proofs.Topping.{readied_count}
 use Rattle.watch_laws.proofs.Tracking.{each_kept}
 use Rattle.watch_laws.proofs.Undisturbed.{Undisturbed, clock_undisturbed}
@@ -209,11 +210,25 @@ module _ (f : Facts) (due : ℕ) (old new : WatchState) (wall elapsed : ℕ) (ou
   no_answers : new.answers ≡ []
   no_answers = ap (λ (x : WatchState). x.answers) t.ticks.new_is ∙ readied_answers old wall elapsed
 
+  -- as long as it is not pressed its time comes no later
+  was_loose : is_pressed (track_at new i) ≡ false → is_pressed (track_at old i) ≡ false
+  was_loose loose =
+      elim (cases_Bool (is_pressed (track_at old i))) [
+        | inl was ↦ absurd (not_both (still_pressed_at old new wall elapsed output i t.ticks t.wanted was) loose)
+        | inr free ↦ free
+      ]
+
+  soon_time : is_pressed (track_at new i) ≡ false → ms (time_of new i) ≤ f.time
+  soon_time loose =
+      let e = same_time i old new t.same in
+      let h = t.going.time (was_loose loose) in
+      omega (arith, e, h)
+
   pub goes_on : IsGoing f due' new
   goes_on = record {
     base = t.base;
     entries = t.same.count ∙ t.going.entries;
-    time = let e = same_time i old new t.same in let h = t.going.time in omega (arith, e, h);
+    time = soon_time;
     end_is = t.same.ends.0 ∙ t.going.end_is;
     timely = least_all (λ (q : Out). outage_settled_by o q.since + o.late) (wait new + o.late) new.out;
     ahead = at_ahead;
@@ -292,31 +307,25 @@ module _ (f : Facts) (due : ℕ) (old new : WatchState) (wall elapsed : ℕ) (ou
       let below : i < length new.forest.entries = omega (arith, entries, low) in
       let there : i < length ready'.forest.entries = subst (λ (x : WatchState). i < length x.forest.entries) is below in
       let free' : (track_at end i).out ≡ false = subst (λ (x : WatchState). (track_at x i).out ≡ false) is free in
-      let e' = same_time i old new t.same in
-      let h' = t.going.time in
-      let time : ms (time_of new i) ≤ f.time = omega (arith, e', h') in
       subst (λ (x : WatchState). ((u : Try) × ((attempt_at x i ≡ Some u) × ((u.pressed ≡ true) × ((x.clocks.at < ready x.presence (track_at x i) u) × (wait x ≤ ready x.presence (track_at x i) u)))))
       ⊎ ((f.width ≤ length x.out) ⊎ ((x.clocks.at < f.time) × (wait x ≤ f.time)))) (sym is)
-      (elim (end_minded ready' t.ticks.round t.ticks.requests i t.ticks.going there (subst (λ (x : WatchState). is_wanted x i ≡ true) is t.wanted))
+      (elim (end_tended ready' t.ticks.round t.ticks.requests i t.ticks.going there (subst (λ (x : WatchState). is_wanted x i ≡ true) is t.wanted) free')
       as (λ _. ((u : Try) × ((attempt_at end i ≡ Some u) × ((u.pressed ≡ true) × ((end.clocks.at < ready end.presence (track_at end i) u) × (wait end ≤ ready end.presence (track_at end i) u)))))
       ⊎ ((f.width ≤ length end.out) ⊎ ((end.clocks.at < f.time) × (wait end ≤ f.time)))) [
-        | inl out ↦ absurd (not_both out free')
-        | inr minded ↦
-            elim minded as (λ _. ((u : Try) × ((attempt_at end i ≡ Some u) × ((u.pressed ≡ true) × ((end.clocks.at < ready end.presence (track_at end i) u) × (wait end ≤ ready end.presence (track_at end i) u)))))
+        | inl pressed' ↦
+            let u = pressed'.has.attempt in
+            elim (tended ready' t.ticks.round t.ticks.requests i u t.ticks.going there free' pressed'.has.attempt_is)
+            as (λ _. ((u : Try) × ((attempt_at end i ≡ Some u) × ((u.pressed ≡ true) × ((end.clocks.at < ready end.presence (track_at end i) u) × (wait end ≤ ready end.presence (track_at end i) u)))))
             ⊎ ((f.width ≤ length end.out) ⊎ ((end.clocks.at < f.time) × (wait end ≤ f.time)))) [
-              | inl pressed' ↦
-                  let u = pressed'.has.attempt in
-                  elim (tended ready' t.ticks.round t.ticks.requests i u t.ticks.going there free' pressed'.has.attempt_is)
-                  as (λ _. ((u : Try) × ((attempt_at end i ≡ Some u) × ((u.pressed ≡ true) × ((end.clocks.at < ready end.presence (track_at end i) u) × (wait end ≤ ready end.presence (track_at end i) u)))))
-                  ⊎ ((f.width ≤ length end.out) ⊎ ((end.clocks.at < f.time) × (wait end ≤ f.time)))) [
-                    | inl later ↦ inl (u, (pressed'.has.attempt_is, (pressed'.pressed, later)))
-                    | inr full ↦ (let w = ap (λ (x : WatchState). x.width) (sym is) ∙ t.base.fits.0 in inr (inl (omega (arith, full, w))))
-                  ]
-              | inr ahead ↦
-                  let same : ms (time_of end i) ≤ f.time = subst (λ (x : WatchState). ms (time_of x i) ≤ f.time) is time in
-                  let a = before_second end (time_of end i) ahead.ahead in
-                  inr (inr (omega (arith, a, same), (let h = ahead.heeded in omega (arith, h, same))))
+              | inl later ↦ inl (u, (pressed'.has.attempt_is, (pressed'.pressed, later)))
+              | inr full ↦ (let w = ap (λ (x : WatchState). x.width) (sym is) ∙ t.base.fits.0 in inr (inl (omega (arith, full, w))))
             ]
+        | inr ahead ↦
+            let time = soon_time (ap (λ (x : WatchState). is_pressed (track_at x i)) is ∙ ahead.0) in
+            let same : ms (time_of end i) ≤ f.time = subst (λ (x : WatchState). ms (time_of x i) ≤ f.time) is time in
+            let a = before_second end (time_of end i) ahead.1.ahead in
+            let heeded = ahead.1.heeded in
+            inr (inr (omega (arith, a, same), omega (arith, heeded, same)))
       ])
 
   -- its try may go by the bound, or now

@@ -59,6 +59,22 @@ abbrev pub outage_next_after : Outage → Result Output WatchFault → WatchStat
 outage_next_after o (Ok output) s due = outage_next_after_command o output.command s due
 outage_next_after o (Err fault) s due = due
 
+-- how long a lane is taken by one request after another, as many as rounds; and the longest pause before them
+abbrev pub sweep : Outage → ℕ
+sweep o = (o.quick + o.late) * o.rounds + o.late
+
+abbrev pub breath : Outage → ℕ
+breath o = max 1000 (sweep o / 15)
+
+-- an outage that so much time outlasts: beside it there is room for the request that its end cuts, that which its beginning cuts, the one
+-- under way when the time came, all rounds, and one pause
+abbrev pub IsShortFor : Outage → ℕ → Type 0
+IsShortFor o left = (o.until - o.from) + o.slow + 2 * (o.quick + o.late) + sweep o + breath o ≤ left
+
+-- so a margin of so many seconds does
+abbrev pub IsShortOutage : Outage → ℕ → Type 0
+IsShortOutage o margin = IsShortFor o (ms margin)
+
 -- the broker: no request that is whole is lost
 abbrev pub IsReplyInOutage : Outage → Reply → Out → Type 0
 IsReplyInOutage o (Told seconds renewable date) q = Unit {0}
@@ -84,17 +100,18 @@ abbrev pub IsLived : Outage → ℕ → ℕ → WatchState → Event → Result 
 IsLived o i due s event (Ok output) = IsIncident o i due s event
 IsLived o i due s event (Err fault) = Unit {0}
 
--- a change over which i stays, under the index k, and after which its time comes no later
-pub record IsLivedChange (s : WatchState) (c : Changed) (i k : ℕ) : Type 0 where
+-- a change over which i stays, under the index k. If it is not pressed yet and its time comes later, as with a smaller margin, what is left
+-- from then to its end outlasts the outage
+pub record IsLivedChange (o : Outage) (s : WatchState) (c : Changed) (i k : ℕ) : Type 0 where
   pub kept : former_at c.was k ≡ Some i
-  pub time : time_of c.state k ≤ time_of s i
+  pub left : is_pressed (track_at s i) ≡ false → time_of s i < time_of c.state k → IsShortFor o (ms (believed (track_at c.state k).end) - ms (time_of c.state k))
 
 -- turns and changes that are lived through the outage, until i is told; i is wanted after each
 abbrev pub AreLived : Outage → ℕ → ℕ → WatchState → List Happening → Type 0
 AreLived o i due s [] = Unit {0}
 AreLived o i due s (Hands turn ∷ hs) =
     IsLived o i due s turn.event turn.result × ((is_wanted turn.state i ≡ true) × AreLived o i (outage_next_after o turn.result turn.state due) turn.state hs)
-AreLived o i due s (Changes c ∷ hs) = (k : ℕ) × (IsLivedChange s c i k × ((is_wanted c.state k ≡ true) × AreLived o k due c.state hs))
+AreLived o i due s (Changes c ∷ hs) = (k : ℕ) × (IsLivedChange o s c i k × ((is_wanted c.state k ≡ true) × AreLived o k due c.state hs))
 
 -- how many of the first n pass a test
 abbrev pub one_where : Bool → ℕ
@@ -147,13 +164,6 @@ coming_through o old (Changes c ∷ hs) = how_many (length c.forest.entries) (co
 abbrev pub in_line : Outage → WatchState → List Happening → ℕ
 in_line o s hs = waiting o (length s.forest.entries) s + coming_through o s hs
 
--- how long a lane is taken by one request after another, as many as rounds; and the longest pause before them
-abbrev pub sweep : Outage → ℕ
-sweep o = (o.quick + o.late) * o.rounds + o.late
-
-abbrev pub breath : Outage → ℕ
-breath o = max 1000 (sweep o / 15)
-
 -- by when whoever was lost may go out again that has that end, after a clock at that moment
 abbrev pub again : ℕ → ℕ → ℕ
 again end at = at + max 1000 ((ms end - at) / 16)
@@ -161,15 +171,6 @@ again end at = at + max 1000 ((ms end - at) / 16)
 -- by when an entry of that end is granted which may be asked from a moment on
 abbrev pub granted_by : Outage → ℕ → ℕ → ℕ
 granted_by o from end = max from (again end (o.until + o.slow + o.late)) + sweep o + o.quick
-
--- an outage that so much time outlasts: beside it there is room for the request that its end cuts, that which its beginning cuts, the one
--- under way when the time came, all rounds, and one pause
-abbrev pub IsShortFor : Outage → ℕ → Type 0
-IsShortFor o left = (o.until - o.from) + o.slow + 2 * (o.quick + o.late) + sweep o + breath o ≤ left
-
--- so a margin of so many seconds does
-abbrev pub IsShortOutage : Outage → ℕ → Type 0
-IsShortOutage o margin = IsShortFor o (ms margin)
 
 -- a state in which the time of i is ahead: i is wanted, in the plan, and not pressed, and may be asked when its time comes. A lookup of it may
 -- be owed, and out. It is not at its top: of a last try, whose time comes later, speaks the law of what is left
@@ -182,15 +183,16 @@ pub record IsBefore (s : WatchState) (i : ℕ) : Type 0 where
   pub ahead : second s < time_of s i
   pub rested : rested (track_at s i).last ≤ ms (time_of s i)
 
--- a state in which i is wanted and its end is known, and from a moment on that is ahead, and not before its time, it may be asked: it is not
--- pressed, or on a first try of which nothing is out but what went out just now; and it has rested by then, but where that is out
+-- a state in which i is wanted and its end is known, and from a moment on that is ahead it may be asked: it is not pressed, and that moment is
+-- not before its time, or it is on a first try of which nothing is out but what went out just now; and it has rested by then, but where that
+-- is out
 pub record MayBeAsked (s : WatchState) (i from : ℕ) : Type 0 where
   pub within : i < length s.forest.entries
   pub wanted : is_wanted s i ≡ true
   pub known : is_known (track_at s i).end ≡ true
   pub first : (t : Try) → attempt_at s i ≡ Some t → t.pressed ≡ true → (is_first t ≡ true) × ((t.failed ≡ false) × (t.at ≤ from))
   pub fresh : All (λ q. q.entry ≡ i → is_pressed (track_at s i) ≡ true → (q.heard ≡ false) × (q.since ≡ s.clocks.at)) s.out
-  pub come : ms (time_of s i) ≤ from
+  pub come : is_pressed (track_at s i) ≡ false → ms (time_of s i) ≤ from
   pub ahead : s.clocks.at < from
   pub rested : (is_pressed (track_at s i) ≡ true → (track_at s i).out ≡ false) → rested (track_at s i).last ≤ from
 
@@ -225,10 +227,14 @@ granted_next o s i = outage_next_by o (outage_settled_by o (granted_at s i)) s.o
 abbrev pub EndIsInTime : Outage → ℕ → ℕ → WatchState → Type 0
 EndIsInTime o i from s = (s.clocks.at < ms (believed (track_at s i).end)) × (s.clocks.at ≤ granted_by o from (believed (track_at s i).end))
 
+-- from when on the entry at k may be asked after a change: from its time on, if that is later and it is not pressed yet
+abbrev pub from_over : ℕ → Changed → ℕ → ℕ
+from_over from c k = if is_pressed (track_at c.state k) then from else max from (ms (time_of c.state k))
+
 abbrev pub AllInTime : Outage → ℕ → ℕ → List Happening → Type 0
 AllInTime o i from [] = Unit {0}
 AllInTime o i from (Hands turn ∷ hs) = EndIsInTime o i from turn.state × AllInTime o i from hs
-AllInTime o i from (Changes c ∷ hs) = (k : ℕ) → former_at c.was k ≡ Some i → EndIsInTime o k from c.state × AllInTime o k from hs
+AllInTime o i from (Changes c ∷ hs) = (k : ℕ) → former_at c.was k ≡ Some i → EndIsInTime o k (from_over from c k) c.state × AllInTime o k (from_over from c k) hs
 
 -- whatever was before: from a clock on at which the time of an entry is ahead that is wanted and in the plan, until it is granted or looked
 -- up, its end is ahead, through any outage that the margin outlasts

@@ -3,9 +3,10 @@ ghost use Rattle.watch_laws.specs.Outage.{GrantLaw, KillLaw, LeftLaw, OutageLaw}
 /// The law of outages: from a clock on at which the time of an entry is ahead that is wanted and in the plan, and until it is granted or
 /// looked up, its end is ahead, through any outage that the margin outlasts: it is no longer than the margin less the request that its
 /// end cuts, two requests more, all the rounds of the lanes that hold those that wait meanwhile, and one pause. A lookup of it may be
-/// owed, everything may begin anew meanwhile, and what is watched may change, as long as the entry stays and its time comes no later: a
-/// change counts as the lookups that it brings. The entry is answered no later than all those rounds take, after its time or after the
-/// first pause after the outage, whichever is later.
+/// owed, everything may begin anew meanwhile, and what is watched may change, as long as the entry stays: a change counts as the lookups
+/// that it brings. If its time comes later after a change, as with a smaller margin, and it is not pressed yet, the outage has to be
+/// short for what is left from that time on, too. The entry is answered no later than all those rounds take, after its time or after
+/// the first pause after the outage, whichever is later.
 pub fn outage_law()
     ensures { OutageLaw }
 {}

@@ -16,14 +16,13 @@ use Rattle.watch_machine.specs.Lines.{is_first, rested}
 use Rattle.watch_machine.specs.Outlook.{time_of}
 use Rattle.watch_machine.specs.State.{WatchState, track_at}
 use Rattle.watch_machine.specs.Wanted.{believed}
-use Rattle.watch_laws.specs.Outage.{IsShortFor, Outage, again, breath, comes, coming_through, granted_by, how_many, outage_next_after, outage_next_after_command, outage_settled_by, sweep, waiting}
-use Rattle.watch_laws.proofs.Changing.{low}
+use Rattle.watch_laws.specs.Outage.{IsShortFor, Outage, again, comes, coming_through, granted_by, how_many, outage_next_after, outage_next_after_command, outage_settled_by, waiting}
 use Rattle.watch_laws.proofs.Enduring.{Cutting, Endures, Kept, Missed, cut}
 use Rattle.watch_laws.proofs.Grounds.{IsBase, fewer_wait, turn_base}
 use Rattle.watch_laws.proofs.Lanes.{Sends, is_anew, turn_sends}
 use Rattle.watch_laws.proofs.Lasting.{turn_same}
-use Rattle.watch_laws.proofs.Moving.{facts_over}
-use Rattle.watch_laws.proofs.Outliving.{Stays, changed_stays, planned_over, turn_stays}
+use Rattle.watch_laws.proofs.Outliving.{Stays, changed_stays, facts_after, turn_stays}
+use Rattle.watch_laws.proofs.Postponing.{short_more, short_some}
 use Rattle.watch_laws.proofs.Stages.{Facts, IsPlanned, IsThrough, free_from, margin_holds}
 use Rattle.watch_scout_laws.specs.Behind.{later_track}
 use Rattle.watch_scout_laws.specs.Resting.{AllAhead, AreLivedBehind, EndIsAhead, IsToldByScout}
@@ -32,19 +31,6 @@ use Rattle.watch_scout_laws.proofs.Handing.{end_in, hands, keeps, track_kept}
 -- what does not change, with a later end, and a moment from which on the entry may be asked, at which its time has come
 abbrev with_end : Facts → ℕ → ℕ → Facts
 with_end f end time = record f { end = end; time = max f.time time; left = ms end - max f.time time }
-
-short_more : (o : Outage) (a b : ℕ) → a ≤ b → IsShortFor o a → IsShortFor o b
-short_more o a b le short =
-    let least : (o.until - o.from) + o.slow + 2 * (o.quick + o.late) + sweep o + breath o ≤ a = short in
-    let more : (o.until - o.from) + o.slow + 2 * (o.quick + o.late) + sweep o + breath o ≤ b = omega (arith, least, le) in
-    more
-
--- an outage that something outlasts leaves a second, at least
-short_some : (o : Outage) (a : ℕ) → IsShortFor o a → 0 < a
-short_some o a short =
-    let least : (o.until - o.from) + o.slow + 2 * (o.quick + o.late) + sweep o + breath o ≤ a = short in
-    let second' : 1000 ≤ breath o = omega arith in
-    omega (arith, least, second')
 
 later_planned : (f : Facts) (end time : ℕ) → IsPlanned f → f.end ≤ end → IsShortFor f.o (ms end - time) → IsPlanned (with_end f end time)
 later_planned f end time planned le long =
@@ -223,7 +209,7 @@ later_stays f end due rest renewable old new planned is le long base sends h =
         going = record {
           base = base;
           entries = ap (λ (x : WatchState). length x.forest.entries) is ∙ go.entries;
-          time = omega arith;
+          time = λ loose. omega arith;
           end_is = ap (λ (x : WatchState). (track_at x f.i).end) is ∙ ap (λ (x : Track). x.end) there;
           timely = subst (λ (x : WatchState). All (λ (q : Out). due ≤ outage_settled_by f.o q.since + f.o.late) x.out) (sym is) go.timely;
           ahead = omega (arith, clock, ahead, le);
@@ -288,7 +274,7 @@ along_behind f planned (Changes c ∷ hs) due old history lived h = λ k said.
     let change = lived.1.0 in
     let same : j ≡ k = history.0.may.once f.i j k change.kept said in
     let rest = coming_through f.o c.state hs in
-    let here = changed_stays f due rest old c history.0 j change h in
-    let planned' = planned_over f old c j (low old c history.0 f.i j change.kept) planned in
+    let g = facts_after f c j in
+    let here = changed_stays f due rest old c history.0 j planned change h in
     subst (λ m. EndIsAhead m c.state × AllAhead m hs) same
-    (stays_ahead (facts_over f c j) due (waiting f.o (length c.forest.entries) c.state + rest) c.state here, along_behind (facts_over f c j) planned' hs due c.state history.1 lived.1.1.1 here)
+    (stays_ahead g due (waiting f.o (length c.forest.entries) c.state + rest) c.state here.1, along_behind g here.0 hs due c.state history.1 lived.1.1.1 here.1)

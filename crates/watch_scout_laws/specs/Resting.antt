@@ -41,7 +41,7 @@ abbrev pub AreLivedBehind : Outage → ℕ → ℕ → WatchState → List Happe
 AreLivedBehind o i due s [] = Unit {0}
 AreLivedBehind o i due s (Hands turn ∷ hs) =
     (IsLived o i due s turn.event turn.result ⊎ IsToldByScout o s turn i) × ((is_wanted turn.state i ≡ true) × AreLivedBehind o i (outage_next_after o turn.result turn.state due) turn.state hs)
-AreLivedBehind o i due s (Changes c ∷ hs) = (k : ℕ) × (IsLivedChange s c i k × ((is_wanted c.state k ≡ true) × AreLivedBehind o k due c.state hs))
+AreLivedBehind o i due s (Changes c ∷ hs) = (k : ℕ) × (IsLivedChange o s c i k × ((is_wanted c.state k ≡ true) × AreLivedBehind o k due c.state hs))
 
 -- after each turn the end of i is ahead
 abbrev pub EndIsAhead : ℕ → WatchState → Type 0
