@@ -4,7 +4,7 @@ use Rattle.base_disk.specs.Image.{File, Image}
 use Rattle.base_disk.specs.State.{DiskState}
 use Rattle.base_disk.specs.declared.fault.DiskFault.{DiskFault}
 use Rattle.base_journal.specs.Journals.{Exchanging, JournalIsWhole, bytes_of_file, lines_of_journal, path_of_journal}
-use Rattle.base_journal.specs.Lives.{Aim, AllHappen, Answered, AreMade, Call, CallsMake, Compact, Elsewhere, End, Event, HandOver, HoldsAll, IsCall, IsDone, IsEnd, LeavesAmid, LeftAtEnd, OverStarts, Put, SetAside, Standing, answered, calls_at_end, lines_with, standing_after, standing_after_all}
+use Rattle.base_journal.specs.Lives.{Aim, AllHappen, Answered, AreMade, Call, CallsMake, Compact, Elsewhere, End, Event, Exchange, HoldsAll, IsCall, IsDone, IsEnd, LeavesAmid, LeftAtEnd, OverStarts, Put, Standing, answered, calls_at_end, lines_with, standing_after, standing_after_all}
 use Rattle.base_journal.specs.Records.{StandsFor, lines_kept}
 use Rattle.base_journal.specs.declared.journal.Journal.{Journal}
 use Rattle.base_journal.proofs.Readings.{stands_once}
@@ -41,23 +41,20 @@ amid (Put line) path lines s c (d, was, elsewhere, inl same) = inl (d, was, same
 amid (Put line) path lines s c (d, was, elsewhere, inr stands) = inr stands
 amid (Compact outs) path lines s c (d, was, elsewhere, inl same) = inl (d, was, same)
 amid (Compact outs) path lines s c (d, was, elsewhere, inr stands) = inr (inr stands)
-amid (SetAside aside file outs) path lines s c e = exchanged path aside file lines (lines_kept lines outs) s c e
-amid (HandOver target file) path lines s c e = exchanged path target file lines [] s c e
+amid (Exchange target file outs) path lines s c e = exchanged path target file lines (lines_kept lines outs) s c e
 amid Elsewhere path lines s c left = inl left
 
 done_lines : (aim : Aim) (old new : Journal) (s : DiskState) → IsDone aim old new s → lines_of_journal new ≡ lines_with aim (lines_of_journal old)
 done_lines (Put line) old new s done = done.0
 done_lines (Compact outs) old new s done = done.0
-done_lines (SetAside aside file outs) old new s done = done.0
-done_lines (HandOver target file) old new s done = done.0
+done_lines (Exchange target file outs) old new s done = done.0
 done_lines Elsewhere old new s done = done
 
 -- its lines are on the disk, or it had nothing to do with them
 done_is : (aim : Aim) (old new : Journal) (s : DiskState) → IsDone aim old new s → JournalIsWhole new s ⊎ (aim ≡ Elsewhere)
 done_is (Put line) old new s done = inl done.1
 done_is (Compact outs) old new s done = inl done.1
-done_is (SetAside aside file outs) old new s done = inl done.1
-done_is (HandOver target file) old new s done = inl done.1
+done_is (Exchange target file outs) old new s done = inl done.1
 done_is Elsewhere old new s done = inr refl
 
 -- what has nothing to do with them makes the same, acknowledged or not

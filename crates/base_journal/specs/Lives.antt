@@ -11,21 +11,19 @@ use Rattle.base_journal.specs.declared.journal.Journal.{Journal}
 
 -- ---- calls
 
--- what a call is for: one record more; the marked ones taken out; the marked ones taken out once another file has its place; all of them
--- taken out once another file has its place; or anything with other files
+-- what a call is for: one record more; the marked ones taken out; the marked ones taken out once another file has its place; or anything
+-- with other files
 pub data Aim : Type 0 where
   Put : List ℕ → Aim
   Compact : List Bool → Aim
-  SetAside : List ℕ → File → List Bool → Aim
-  HandOver : List ℕ → File → Aim
+  Exchange : List ℕ → File → List Bool → Aim
   Elsewhere : Aim
 
 -- what it makes of the records
 abbrev pub lines_with : Aim → List (List ℕ) → List (List ℕ)
 lines_with (Put line) lines = lines ++ line ∷ []
 lines_with (Compact outs) lines = lines_kept lines outs
-lines_with (SetAside aside file outs) lines = lines_kept lines outs
-lines_with (HandOver target file) lines = []
+lines_with (Exchange target file outs) lines = lines_kept lines outs
 lines_with Elsewhere lines = lines
 
 -- a call, and whether it was acknowledged
@@ -68,16 +66,14 @@ Event D = Call D ⊎ End D
 abbrev pub LeavesAmid : Aim → List ℕ → List (List ℕ) → DiskState → Image → Type 0
 LeavesAmid (Put line) path lines old c = CrashLeaves path (IsBeforeOrAfter lines line) old c
 LeavesAmid (Compact outs) path lines old c = CrashLeaves path (λ bytes. StandsFor bytes (lines_kept lines outs)) old c
-LeavesAmid (SetAside aside file outs) path lines old c = Exchanging path aside file (λ bytes. StandsFor bytes (lines_kept lines outs)) old c
-LeavesAmid (HandOver target file) path lines old c = Exchanging path target file (λ bytes. StandsFor bytes []) old c
+LeavesAmid (Exchange target file outs) path lines old c = Exchanging path target file (λ bytes. StandsFor bytes (lines_kept lines outs)) old c
 LeavesAmid Elsewhere path lines old c = (d : Image) × old.may_leave d × (c path ≡ d path)
 
 -- an acknowledged call has made its lines the journal's, and they are on the disk
 abbrev pub IsDone : Aim → Journal → Journal → DiskState → Type 0
 IsDone (Put line) old new s = (lines_of_journal new ≡ lines_of_journal old ++ line ∷ []) × JournalIsWhole new s
 IsDone (Compact outs) old new s = (lines_of_journal new ≡ lines_kept (lines_of_journal old) outs) × JournalIsWhole new s
-IsDone (SetAside aside file outs) old new s = (lines_of_journal new ≡ lines_kept (lines_of_journal old) outs) × JournalIsWhole new s
-IsDone (HandOver target file) old new s = (lines_of_journal new ≡ []) × JournalIsWhole new s
+IsDone (Exchange target file outs) old new s = (lines_of_journal new ≡ lines_kept (lines_of_journal old) outs) × JournalIsWhole new s
 IsDone Elsewhere old new s = lines_of_journal new ≡ lines_of_journal old
 
 pub record IsCall {D : Type 0} (state : D → DiskState) (old : Standing D) (call : Call D) : Type 0 where

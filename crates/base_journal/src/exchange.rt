@@ -1,4 +1,4 @@
-ghost use Rattle.std.specs.Prelude.{◌≡◌, [], ◌++◌, true, false, IsTrue, IfOk, OnOk, OnErr, List, ℕ};
+ghost use Rattle.std.specs.Prelude.{◌≡◌, ◌++◌, true, false, IsTrue, IfOk, OnOk, OnErr, List, ℕ};
 ghost use Rattle.std.specs.Str.{bytes_eq};
 ghost use Rattle.base_disk.specs.State.{LeavesAlone, Elapses, LeavesOnly, TellsFailure};
 ghost use Rattle.base_journal.specs.Records.{AreLines, StandsFor, lines_kept, lines_taken_out};
@@ -69,7 +69,8 @@ impl<'a> Journal<'a> {
         self.exchange(disk, aside, FILE_MODE, &bytes, left)
     }
 
-    /// Makes `target` a file with these bytes, and then the journal empty.
+    /// Makes `target` a file with these bytes, and then takes out the records that the caller says are handed over with it; the others
+    /// stay, in their order.
     ///
     /// After an `Err` the journal has its records.
     pub fn hand_over<D: Disk>(
@@ -78,24 +79,26 @@ impl<'a> Journal<'a> {
         target: &str,
         mode: u32,
         bytes: &[u8],
+        is_handed: &[bool],
     ) -> Result<(), DiskFault>
         requires apart { bytes_eq (path_of_journal self.old) target.now ≡ false }
         requires held { JournalHolds D.is_known self.old (D.state disk.old) }
         ensures there { OnOk result (IsTrue D.is_known → FileIsThere target.now (record { mode = mode; bytes = bytes.now }) (D.state disk.new)) }
-        ensures emptied { OnOk result ((lines_of_journal self.new ≡ []) × (IsTrue D.is_known → JournalIsWhole self.new (D.state disk.new))) }
+        ensures taken_out { OnOk result ((lines_of_journal self.new ≡ lines_kept (lines_of_journal self.old) is_handed.now)
+            × (IsTrue D.is_known → JournalIsWhole self.new (D.state disk.new))) }
         ensures refused { OnErr result (lines_of_journal self.new ≡ lines_of_journal self.old) }
         ensures path { path_of_journal self.new ≡ path_of_journal self.old }
         ensures held { JournalHolds D.is_known self.new (D.state disk.new) }
 
-        // A crash at any moment leaves the two as they were; or the new file, and the journal as it was or empty.
-        ensures any_moment { IsTrue D.is_known → LeavesOnly (D.state disk.old) (D.state disk.new)
-            (Exchanging (path_of_journal self.old) target.now (record { mode = mode; bytes = bytes.now }) (λ file. StandsFor file []) (D.state disk.old)) }
+        // A crash at any moment leaves the two as they were; or the new file, and the journal as it was or with the records that stay.
+        ensures any_moment { IsTrue D.is_known → LeavesOnly (D.state disk.old) (D.state disk.new) (Exchanging (path_of_journal self.old) target.now
+            (record { mode = mode; bytes = bytes.now }) (λ file. StandsFor file (lines_kept (lines_of_journal self.old) is_handed.now)) (D.state disk.old)) }
         ensures others { IsTrue D.is_known → (other : List ℕ) → bytes_eq (path_of_journal self.old) other ≡ false → bytes_eq target.now other ≡ false
             → ((D.state disk.new).seen other ≡ (D.state disk.old).seen other) × ((D.state disk.new).is_sound other ≡ (D.state disk.old).is_sound other) }
         ensures cause { TellsFailure (D.state disk.old) (D.state disk.new) result }
     {
-        let none = Vec::new(self.alloc);
-        self.exchange(disk, target, mode, bytes, none)
+        let left = without(self.alloc, &self.lines, is_handed)?;
+        self.exchange(disk, target, mode, bytes, left)
     }
 
     /// Makes `target` this file, and then these the records.

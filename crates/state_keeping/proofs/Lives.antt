@@ -26,12 +26,13 @@ use Rattle.state_file.specs.Order.{in_order}
 use Rattle.state_file.specs.Settled.{TextIsSettled}
 use Rattle.state_store.specs.declared.fault.FileFault.{FileFault}
 use Rattle.state_store.specs.Books.{Book, IsFileOf, file_of}
-use Rattle.state_store.specs.Compacted.{compacted_lines, is_worth}
+use Rattle.state_store.specs.Compacted.{compacted_lines, damaged, is_worth}
 use Rattle.state_store.specs.Moved.{SaysAllKept, mark_line}
 use Rattle.state_store.specs.Records.{records_in}
 use Rattle.state_store.specs.Stores.{BookIsFrom, is_sure, journal_of, lines_in, path_of_store}
 use Rattle.state_store.proofs.Copied.{at_path, moves_elsewhere}
-use Rattle.state_store.proofs.Lists.{records_none, records_push}
+use Rattle.state_store.proofs.Staying.{damaged_records}
+use Rattle.state_store.proofs.Lists.{records_push}
 use Rattle.state_store.proofs.Marked.{mark_read, marked_gives, same_texts}
 use Rattle.state_store.proofs.Replayed.{replayed_last}
 use Rattle.state_store.proofs.Undamaged.{compacted_records, worth_records}
@@ -303,16 +304,16 @@ module _ {D : Type 0} (state : D → DiskState) (counts : (disk : D) (t : ℕ) (
             by_lines then_settled f (bytes_of_file (d first.places.journal)) lines_now lines (journal_has other.0 d other.1 (journal_past d other)) reads (place_with left c one f is);
       }
 
-    -- FILE is the one that was read, and the journal is as it was or empty
+    -- FILE is the one that was read, and the journal is as it was or without its records
     module _ (text : List ℕ) (all : IsAllInFile state old) where
       alone_there : (c : Image) → (state old.disk).may_leave c → (f : replays.File) → IsIn (c first.places.file) f → f ≡ (book_in old).file
       alone_there c left f is =
           let durable = subst (λ (p : Places). (image : Image) → (state old.disk).may_leave image → image p.file ≡ (state old.disk).seen p.file) so.places all.durable.durable in
           one_in (c first.places.file) so.shown.says f (subst (λ (x : Option File). IsIn x so.shown.says) (sym (durable c left)) so.shown.is) is ∙ so.sure all.sure
 
-      emptied_reads : (f : replays.File) → f ≡ (book_in old).file → Reads s.deeds f []
-      emptied_reads f is = subst (λ (g : replays.File). Reads s.deeds g []) (sym is)
-          (subst (Makes s.deeds (book_in old).file) (sym (ap (λ (rs : List Record). (replayed (book_in old).file rs).rows) records_none ∙ all.by_itself)) so.held)
+      unrecorded_reads : (f : replays.File) → f ≡ (book_in old).file → Reads s.deeds f (damaged lines_now)
+      unrecorded_reads f is = subst (λ (g : replays.File). Reads s.deeds g (damaged lines_now)) (sym is)
+          (subst (Makes s.deeds (book_in old).file) (sym (ap (λ (rs : List Record). (replayed (book_in old).file rs).rows) (damaged_records lines_now) ∙ all.by_itself)) so.held)
 
       hand_there : (c : Image) → (left : LeavesAmid state (HandOver text) old c) → c first.places.file ≡ left.was first.places.file
       hand_there c left = left.elsewhere first.places.file path_is_other
@@ -331,8 +332,8 @@ module _ {D : Type 0} (state : D → DiskState) (counts : (disk : D) (t : ℕ) (
             (subst (λ (x : Option File). StandsFor (bytes_of_file x) lines) (subst (λ (p : List ℕ). d p ≡ other.was p) at_journal e) reads) in
             ⊎_elim (λ none. same none.1)
             (λ copied. ⊎_elim same
-            (λ empty. by_lines s.deeds f (bytes_of_file (d first.places.journal)) [] lines (subst (λ (p : List ℕ). StandsFor (bytes_of_file (d p)) []) at_journal empty) reads
-            (emptied_reads f (alone_there one.was one.before f was)))
+            (λ stay. by_lines s.deeds f (bytes_of_file (d first.places.journal)) (damaged lines_now) lines (subst (λ (p : List ℕ). StandsFor (bytes_of_file (d p)) (damaged lines_now)) at_journal stay) reads
+            (unrecorded_reads f (alone_there one.was one.before f was)))
             copied.1)
             other.both;
       }
@@ -581,9 +582,9 @@ module _ {D : Type 0} (state : D → DiskState) (counts : (disk : D) (t : ℕ) (
           let fits = hand_fits text all in
           ⊎_elim
           (λ still. holds_still (HandOver text) is_acknowledged is s.deeds lines_now still.lines is.seen is.sure still.file fits (hand_with text all lines_now so.now) so.shown.reads reads_now)
-          (λ over. holds_still (HandOver text) is_acknowledged is s.deeds [] over.lines_are is.seen is.sure over.file fits
-          (hand_with text all [] (λ c left f there. emptied_reads text all f (alone_there text all c left f there)))
-          (emptied_reads text all so.shown.says (so.sure all.sure)) (emptied_reads text all (book_in old).file refl))
+          (λ over. holds_still (HandOver text) is_acknowledged is s.deeds (damaged lines_now) over.lines_are is.seen is.sure over.file fits
+          (hand_with text all (damaged lines_now) (λ c left f there. unrecorded_reads text all f (alone_there text all c left f there)))
+          (unrecorded_reads text all so.shown.says (so.sure all.sure)) (unrecorded_reads text all (book_in old).file refl))
           is.done.1
       call_holds Alone is_acknowledged is twin = holds_still Alone is_acknowledged is s.deeds lines_now is.done.lines is.seen is.sure is.done.file so.fits so.now so.shown.reads reads_now
 

@@ -1,4 +1,4 @@
--- FILE becomes what is kept, and then the copy is FILE and the journal empty: what a crash leaves meanwhile, and what is there then.
+-- FILE becomes what is kept, and then the copy is FILE and the journal without its records: what a crash leaves meanwhile, and what is there then.
 use Rattle.std.proofs.Common.{◌≡◌, ◌⊎◌, inl, inr, ⊎_elim, ℕ, ◌≤◌, Bool, false, ◌||◌, IsTrue, List, [], ◌∷◌, ◌++◌, Option, Some, Result, Ok, Err, OnOk, OnErr, refl, sym, ap, subst, ◌∙◌}
 use Rattle.std.specs.Str.{bytes_eq}
 use Rattle.std.proofs.lemmas.Bool.{or_parts}
@@ -13,6 +13,7 @@ use Rattle.base_journal.proofs.Runs.{rest_has}
 use Rattle.state_keeping.proofs.Others.{apart_back, at_end}
 use Rattle.vault_inventory.specs.Served.{Served}
 use Rattle.state_store.specs.declared.store.Store.{Store}
+use Rattle.state_store.specs.Compacted.{damaged}
 use Rattle.state_store.specs.Moved.{LeftByMove, SaysAllKept, mark_line}
 use Rattle.state_store.specs.Stores.{book_of, journal_of, lines_in, path_of_store}
 use Rattle.state_keeping.specs.Places.{Places, PlacesAreApart}
@@ -67,7 +68,7 @@ module _ (store : Store) (places : Places) (s : DiskState) (file : File) (seen :
       elsewhere = λ other p q. left.elsewhere other (ap (λ (j : List ℕ). bytes_eq j other) path ∙ q) p;
     }
 
-    handing : (c : Image) → Exchanging places.journal places.copy (copy_with text) (λ f. StandsFor f []) u c → HandingOver store places (mode_of file.mode) text s c
+    handing : (c : Image) → Exchanging places.journal places.copy (copy_with text) (λ f. StandsFor f (damaged (lines_in store))) u c → HandingOver store places (mode_of file.mode) text s c
     handing c x =
         let from = since_half x.was (at_end s u (Half store places s) half_done counts x.was x.before) in
         let stands : StandsFor (bytes_of_file (x.was places.journal)) (lines_in store ++ mark_line text ∷ []) = rest_has places.journal (lines_in store ++ mark_line text ∷ []) size u rest x.was x.before in
@@ -86,16 +87,16 @@ module _ (store : Store) (places : Places) (s : DiskState) (file : File) (seen :
               x.both;
         }
 
-    pub then_handed : (w : DiskState) → LeavesOnly u w (Exchanging places.journal places.copy (copy_with text) (λ f. StandsFor f []) u) → LeavesOnly s w (LeftBySettling store places s)
-    then_handed w third = and_then s u w (LeftBySettling store places s) (Exchanging places.journal places.copy (copy_with text) (λ f. StandsFor f []) u) not_copied third
+    pub then_handed : (w : DiskState) → LeavesOnly u w (Exchanging places.journal places.copy (copy_with text) (λ f. StandsFor f (damaged (lines_in store))) u) → LeavesOnly s w (LeftBySettling store places s)
+    then_handed w third = and_then s u w (LeftBySettling store places s) (Exchanging places.journal places.copy (copy_with text) (λ f. StandsFor f (damaged (lines_in store))) u) not_copied third
         (λ c left. inr (file, seen, inr (text, v, says, handing c left)))
 
 -- FILE is still there once the journal was handed over
-pub file_past : (places : Places) → PlacesAreApart places → (file : File) (s t : DiskState)
+pub file_past : (places : Places) → PlacesAreApart places → (file : File) (P : List ℕ → Type 0) (s t : DiskState)
     → ((other : List ℕ) → bytes_eq places.journal other ≡ false → bytes_eq places.copy other ≡ false → (t.seen other ≡ s.seen other) × (t.is_sound other ≡ s.is_sound other))
-    → LeavesOnly s t (Exchanging places.journal places.copy (copy_with file.bytes) (λ f. StandsFor f []) s)
+    → LeavesOnly s t (Exchanging places.journal places.copy (copy_with file.bytes) P s)
     → ((n : ℕ) (c : Image) → n ≤ t.moment → t.may_leave c → t.left_since n c) → FileIsThere places.file file s → FileIsThere places.file file t
-file_past places apart file s t others run counts there =
+file_past places apart file P s t others run counts there =
     let file_back = apart_back places.file places.journal (file_is_no_journal places apart) in
     let copy_back = apart_back places.file places.copy (file_is_other places apart) in
     let same = others places.file file_back copy_back in
@@ -104,7 +105,7 @@ file_past places apart file s t others run counts there =
       is_kept = record {
         sound = same.1 ∙ there.is_kept.sound;
         durable = λ c left.
-            let x = at_end s t (Exchanging places.journal places.copy (copy_with file.bytes) (λ f. StandsFor f []) s) run counts c left in
+            let x = at_end s t (Exchanging places.journal places.copy (copy_with file.bytes) P s) run counts c left in
             x.elsewhere places.file file_back copy_back ∙ there.is_kept.durable x.was x.before ∙ sym same.0;
       };
     }
@@ -113,10 +114,10 @@ pub on_err : {X E A B : Type 0} (r : Result X E) → (A → B) → OnErr r A →
 on_err (Ok x) f a = tt
 on_err (Err e) f a = f a
 
--- the copy is FILE and the journal empty, or the fault says why not
+-- the copy is FILE and the journal without its records, or the fault says why not
 pub handed_so : (known : Bool) (places : Places) (lines : List (List ℕ)) (text : List ℕ) (r : Result (Unit {0}) DiskFault) (left : Option DiskFault) (new : Store) (t : DiskState) → left ≡ result_err r
-    → OnOk r (IsTrue known → FileIsThere places.copy (copy_with text) t) → OnOk r ((lines_in new ≡ []) × (IsTrue known → JournalIsWhole (journal_of new) t))
+    → OnOk r (IsTrue known → FileIsThere places.copy (copy_with text) t) → OnOk r ((lines_in new ≡ damaged lines) × (IsTrue known → JournalIsWhole (journal_of new) t))
     → OnErr r (lines_in new ≡ lines ++ mark_line text ∷ []) → IsHandedOver known places lines text left new t
-handed_so known places lines text (Ok x) left new t same there emptied stays =
-    subst (λ (o : Option DiskFault). IsHandedOver known places lines text o new t) (sym same) (emptied.0, λ is. (there is, emptied.1 is))
-handed_so known places lines text (Err e) left new t same there emptied stays = subst (λ (o : Option DiskFault). IsHandedOver known places lines text o new t) (sym same) stays
+handed_so known places lines text (Ok x) left new t same there taken stays =
+    subst (λ (o : Option DiskFault). IsHandedOver known places lines text o new t) (sym same) (taken.0, λ is. (there is, taken.1 is))
+handed_so known places lines text (Err e) left new t same there taken stays = subst (λ (o : Option DiskFault). IsHandedOver known places lines text o new t) (sym same) stays

@@ -11,6 +11,7 @@ use Rattle.base_journal.specs.Journals.{Exchanging, FileIsThere, bytes_of_file, 
 use Rattle.base_journal.specs.Records.{StandsFor}
 use Rattle.state_store.specs.declared.store.Store.{Store}
 use Rattle.state_store.specs.Books.{Book}
+use Rattle.state_store.specs.Compacted.{damaged}
 use Rattle.state_store.specs.Moved.{FailsInSteps, MovesInSteps, PutsFile, PutsMark, SaysAllKept, SaysByItself, mark_line}
 use Rattle.state_store.specs.Stores.{book_of, is_sure, journal_of, lines_in, path_of_store}
 use Rattle.state_waiting.specs.declared.keeper.Keeper.{Keeper}
@@ -103,17 +104,17 @@ module _ {D : Type 0} (known : Bool) (is : IsTrue known) (state : D → DiskStat
         ))
         put.outcome
 
-  -- the copy is FILE, and the journal is emptied, or not
+  -- the copy is FILE, and the records are taken out of the journal, or not
   pub hand_call : (keeper new : Keeper) (s t : D) (file : File) (text : List ℕ) (r : Result (Unit {0}) DiskFault) → SaysByItself (store_of keeper) → is_sure (store_of keeper) ≡ true → FileIsThere places.file file (state s)
-      → OnOk r (lines_in (store_of new) ≡ []) → OnErr r (lines_in (store_of new) ≡ lines_in (store_of keeper)) → book_of (store_of new) ≡ book_of (store_of keeper) → is_sure (store_of new) ≡ is_sure (store_of keeper)
+      → OnOk r (lines_in (store_of new) ≡ damaged (lines_in (store_of keeper))) → OnErr r (lines_in (store_of new) ≡ lines_in (store_of keeper)) → book_of (store_of new) ≡ book_of (store_of keeper) → is_sure (store_of new) ≡ is_sure (store_of keeper)
       → (state t).seen places.file ≡ (state s).seen places.file → IsKeeping known new places (state t)
-      → LeavesOnly (state s) (state t) (Exchanging (path_of_store (store_of keeper)) places.copy (copy_with text) (λ bytes. StandsFor bytes []) (state s))
+      → LeavesOnly (state s) (state t) (Exchanging (path_of_store (store_of keeper)) places.copy (copy_with text) (λ bytes. StandsFor bytes (damaged (lines_in (store_of keeper)))) (state s))
       → IsCall state (at keeper s) (record { aim = HandOver text; is_acknowledged = true; kept = at new t })
-  hand_call keeper new s t file text r by_itself sure there emptied same book still seen now run =
+  hand_call keeper new s t file text r by_itself sure there taken same book still seen now run =
       let file_is = ap (λ (b : Book). b.file) book in
       let rows_are = ap (λ (b : Book). b.rows) book in
       record {
-        done = (record { by_itself = by_itself; sure = sure; durable = there.is_kept }, either_way r emptied same file_is rows_are);
+        done = (record { by_itself = by_itself; sure = sure; durable = there.is_kept }, either_way r taken same file_is rows_are);
         sure = λ now. sym still ∙ now;
         seen = seen;
         places = refl;
@@ -121,11 +122,11 @@ module _ {D : Type 0} (known : Bool) (is : IsTrue known) (state : D → DiskStat
         any_moment = weaker (state s) (state t) _ (LeavesAmid state (HandOver text) (at keeper s)) run (λ c left. left);
       }
     where
-      either_way : (r : Result (Unit {0}) DiskFault) → OnOk r (lines_in (store_of new) ≡ []) → OnErr r (lines_in (store_of new) ≡ lines_in (store_of keeper))
+      either_way : (r : Result (Unit {0}) DiskFault) → OnOk r (lines_in (store_of new) ≡ damaged (lines_in (store_of keeper))) → OnErr r (lines_in (store_of new) ≡ lines_in (store_of keeper))
           → (book_of (store_of new)).file ≡ (book_of (store_of keeper)).file → (book_of (store_of new)).rows ≡ (book_of (store_of keeper)).rows
-          → IsStill (at keeper s) (at new t) ⊎ IsOver [] (at keeper s) (at new t)
-      either_way (Ok x) emptied same file_is rows_are = inr (record { lines_are = emptied; file = file_is; rows = rows_are })
-      either_way (Err fault) emptied same file_is rows_are = inl (record { lines = same; file = file_is; rows = rows_are })
+          → IsStill (at keeper s) (at new t) ⊎ IsOver (damaged (lines_in (store_of keeper))) (at keeper s) (at new t)
+      either_way (Ok x) taken same file_is rows_are = inr (record { lines_are = taken; file = file_is; rows = rows_are })
+      either_way (Err fault) taken same file_is rows_are = inl (record { lines = same; file = file_is; rows = rows_are })
 
   -- one after the other
   module _ (keeper new : Keeper) (s r t : D) (mode : ℕ) (present : List ℕ) (was : IsKeeping known keeper places (state s)) (alone : LeavesAlone (state s) (state r)) (run : LeavesOnly (state s) (state r) (state s).may_leave)

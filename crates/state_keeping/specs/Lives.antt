@@ -20,7 +20,7 @@ use Rattle.base_journal.specs.Records.{IsBeforeOrAfter, StandsFor}
 use Rattle.state_file.specs.Order.{in_order}
 use Rattle.state_file.specs.Settled.{TextIsSettled}
 use Rattle.state_store.specs.Books.{IsFileOf, file_of}
-use Rattle.state_store.specs.Compacted.{compacted_lines, is_worth}
+use Rattle.state_store.specs.Compacted.{compacted_lines, damaged, is_worth}
 use Rattle.state_store.specs.Moved.{SaysAllKept, SaysByItself, mark_line}
 use Rattle.state_store.specs.Records.{records_in}
 use Rattle.state_store.specs.Stores.{is_sure, journal_of, lines_in, path_of_store}
@@ -86,7 +86,7 @@ DeedsMake (a ∷ more) from rows file now = (MayBeDone a.deed a.is_acknowledged 
 
 -- what a call, or a step of one, is for: a change, by its line; a compaction that is worth while; a reload of FILE, which has these bytes;
 -- the three steps of a settling, by the text that FILE is to have: its mark is put in the journal, FILE gets it with this mode, and then
--- the copy, and the journal is emptied; or what leaves all files alone
+-- the copy, and the records are taken out of the journal; or what leaves all files alone
 pub data Aim : Type 0 where
   Change : List ℕ → Aim
   Compact : Aim
@@ -110,7 +110,7 @@ LeavesAmid state Compact old c = (is_worth (lines_in (store_in old)) ≡ true)
 LeavesAmid state (Reload bytes) old c = IsAfter (MovesFile old.places.copy (copy_with bytes)) (state old.disk) c
 LeavesAmid state (Mark text v) old c = CrashLeaves (path_of_store (store_in old)) (IsBeforeOrAfter (lines_in (store_in old)) (mark_line text)) (state old.disk) c
 LeavesAmid state (Place mode text v) old c = IsAfter (MovesFile old.places.file (record { mode = mode; bytes = text })) (state old.disk) c
-LeavesAmid state (HandOver text) old c = Exchanging (path_of_store (store_in old)) old.places.copy (copy_with text) (λ bytes. StandsFor bytes []) (state old.disk) c
+LeavesAmid state (HandOver text) old c = Exchanging (path_of_store (store_in old)) old.places.copy (copy_with text) (λ bytes. StandsFor bytes (damaged (lines_in (store_in old)))) (state old.disk) c
 LeavesAmid state Alone old c = (state old.disk).may_leave c
 
 -- the lines of the journal, what was read of FILE, and the rows are as they were
@@ -150,7 +150,7 @@ pub record IsPlaced {D : Type 0} (state : D → DiskState) (mode : ℕ) (text : 
   pub rows : (book_in new).rows ≡ in_order (book_in old).rows
   pub lines : lines_in (store_in new) ≡ lines_in (store_in old)
 
--- the journal may be emptied: FILE is the one that was read, it is on the disk, and gives the rows by itself
+-- the records may be taken out of the journal: FILE is the one that was read, it is on the disk, and gives the rows by itself
 pub record IsAllInFile {D : Type 0} (state : D → DiskState) (old : Kept D) : Type 0 where
   pub by_itself : SaysByItself (store_in old)
   pub sure : is_sure (store_in old) ≡ true
@@ -166,7 +166,7 @@ IsDone state (Reload bytes) false old new = IsStill old new
 IsDone state (Mark text v) is_acknowledged old new = SaysAllKept (book_in old) text v × (IsStill old new ⊎ IsOver (lines_in (store_in old) ++ mark_line text ∷ []) old new)
 IsDone state (Place mode text v) true old new = IsReady state text v old × IsPlaced state mode text v old new
 IsDone state (Place mode text v) false old new = IsReady state text v old × IsStill old new
-IsDone state (HandOver text) is_acknowledged old new = IsAllInFile state old × (IsStill old new ⊎ IsOver [] old new)
+IsDone state (HandOver text) is_acknowledged old new = IsAllInFile state old × (IsStill old new ⊎ IsOver (damaged (lines_in (store_in old))) old new)
 IsDone state Alone is_acknowledged old new = IsStill old new
 
 -- the store is not sure where it was not; but where FILE was read, or is in its place. Where it could not be put there the store is sure
@@ -199,7 +199,7 @@ HasNoTwin state aim old = Unit {0}
 
 -- ---- a settling
 
--- FILE has its text, or may have; and then the copy may have it, and the journal may be empty
+-- FILE has its text, or may have; and then the copy may have it, and the journal may be without its records
 abbrev pub PlacesInSteps : {D : Type 0} → (D → DiskState) → ℕ → List ℕ → Served → Kept D → Kept D → Type 0
 PlacesInSteps {D} state mode text v old new = (is_placed : Bool) × (IsCall state old (record { aim = Place mode text v; is_acknowledged = is_placed; kept = new })
     ⊎ ((placed : Kept D) × IsCall state old (record { aim = Place mode text v; is_acknowledged = is_placed; kept = placed })
@@ -211,7 +211,7 @@ MarksInSteps {D} state old new = (mode : ℕ) × (text : List ℕ) × (v : Serve
     ⊎ ((marked : Kept D) × IsCall state old (record { aim = Mark text v; is_acknowledged = true; kept = marked }) × PlacesInSteps state mode text v marked new))
 
 -- A settling is these steps, each from where the one before it ended: FILE is read; and then, where there is something to settle, the
--- journal gets the mark, FILE its text, the copy FILE's, and the journal is emptied. Any of them may be the last.
+-- journal gets the mark, FILE its text, the copy FILE's, and the journal loses its records. Any of them may be the last.
 abbrev pub SettlesInSteps : {D : Type 0} → (D → DiskState) → Kept D → Kept D → Type 0
 SettlesInSteps {D} state old new = IsCall state old (record { aim = Alone; is_acknowledged = true; kept = new })
     ⊎ ((read : Kept D) × IsCall state old (record { aim = Alone; is_acknowledged = true; kept = read }) × MarksInSteps state read new)

@@ -12,6 +12,7 @@ use Rattle.base_journal.specs.Records.{StandsFor}
 use Rattle.state_store.specs.declared.fault.Unsettled.{Unsettled}
 use Rattle.state_store.specs.declared.fault.Unsettled.TheVariants as unsettles
 use Rattle.state_store.specs.declared.store.Store.{Store}
+use Rattle.state_store.specs.Compacted.{damaged}
 use Rattle.state_store.specs.Moved.{IsMovedBook, LeftByMove, SaysAllKept, SaysAlready, SaysByItself, mark_line}
 use Rattle.state_store.specs.Stores.{book_of, is_sure, journal_of, lines_in}
 use Rattle.state_keeping.specs.declared.fault.ReadFault.{ReadFault}
@@ -49,9 +50,10 @@ abbrev pub unread_why : ReadFault → SettleWhy
 unread_why reads.OutOfMemory = OutOfMemory
 unread_why fault = Unread fault
 
--- the copy is FILE and the journal is empty; or this says why the journal has its records still, and the mark of that text
+-- the copy is FILE, and the journal has no record, but the lines that write none; or this says why it has its records still, and the mark of
+-- that text
 abbrev pub IsHandedOver : Bool → Places → List (List ℕ) → List ℕ → Option DiskFault → Store → DiskState → Type 0
-IsHandedOver known places lines text None new t = (lines_in new ≡ []) × (IsTrue known → FileIsThere places.copy (copy_with text) t × JournalIsWhole (journal_of new) t)
+IsHandedOver known places lines text None new t = (lines_in new ≡ damaged lines) × (IsTrue known → FileIsThere places.copy (copy_with text) t × JournalIsWhole (journal_of new) t)
 IsHandedOver known places lines text (Some fault) new t = lines_in new ≡ lines ++ mark_line text ∷ []
 
 -- FILE has become what is kept, with this text
@@ -92,7 +94,7 @@ IsWhyUnsettledState known old s (Disk fault) = IsUnchanged known old s
 IsWhyUnsettledState known old s OutOfMemory = Unit {0}
 
 -- what a crash leaves once FILE is there: the old copy, and the journal with every change and the mark of FILE; or FILE as the copy,
--- and that journal or an empty one; and all else as it was
+-- and that journal or one without its records; and all else as it was
 pub record HandingOver (store : Store) (places : Places) (mode : ℕ) (text : List ℕ) (s : DiskState) (c : Image) : Type 0 where
   pub was : Image
   pub before : s.may_leave was
@@ -100,7 +102,7 @@ pub record HandingOver (store : Store) (places : Places) (mode : ℕ) (text : Li
   pub file : c places.file ≡ Some (record { mode = mode; bytes = text })
   pub both : ((c places.copy ≡ was places.copy) × StandsFor (bytes_of_file (c places.journal)) (lines_in store ++ mark_line text ∷ []))
       ⊎ ((c places.copy ≡ Some (copy_with text))
-      × (StandsFor (bytes_of_file (c places.journal)) (lines_in store ++ mark_line text ∷ []) ⊎ StandsFor (bytes_of_file (c places.journal)) []))
+      × (StandsFor (bytes_of_file (c places.journal)) (lines_in store ++ mark_line text ∷ []) ⊎ StandsFor (bytes_of_file (c places.journal)) (damaged (lines_in store))))
 
 -- what a crash leaves meanwhile: all as it might have been left before; or what the settling of FILE leaves; or, with FILE, what is left
 -- while the journal is handed over

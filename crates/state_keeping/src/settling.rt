@@ -17,8 +17,9 @@ impl<'a, D: Disk> State<'a, D> {
     ghost use Rattle.state_keeping.specs.States.{book_in, store_in};
 
     /// Makes FILE one that says all that is kept, with its mode but for the bits of others; then FILE's bytes the last good copy; and then
-    /// the journal empty. The inner fault is why the journal was left as it was, since the copy could not be kept or the journal not be
-    /// emptied: FILE says all that is kept all the same. Where FILE said all that before, nothing is written.
+    /// takes the records out of the journal. Lines that write no record, which could not be set aside at the start, stay there. The inner
+    /// fault is why the journal was left as it was, since the copy could not be kept or the journal not be written: FILE says all that is
+    /// kept all the same. Where FILE said all that before, nothing is written.
     ///
     /// # Errors
     ///

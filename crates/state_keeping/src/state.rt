@@ -54,7 +54,7 @@ impl<'a, D: Disk> State<'a, D> {
     ghost use Rattle.state_store.specs.Books.{HasSecrets, IsBookIf, IsFileFaultOf};
     ghost use Rattle.state_store.specs.Compacted.{compacted_lines, is_worth};
     ghost use Rattle.state_store.specs.declared.fault.TakeFault.TheVariants.{Unread};
-    ghost use Rattle.state_store.specs.Entering.{line_for_change, may_hold};
+    ghost use Rattle.state_store.specs.Entering.{TellsDisk, line_for_change, may_hold};
     ghost use Rattle.state_store.specs.Records.{records_in};
     ghost use Rattle.state_store.specs.Stores.{ChangeIsTaken, IsWhyUntaken, KeepsAllBut, is_sure, journal_of, lines_in, path_of_store};
     ghost use Rattle.state_waiting.specs.Keepers.{InventoryIsGiven, waiting_in};
@@ -96,6 +96,7 @@ impl<'a, D: Disk> State<'a, D> {
         ensures gone { IfErr result (λ fault. may_hold fault ≡ false → IsTrue D.is_known → LeavesOnly (D.state self.old.disk) (D.state self.new.disk)
             (CrashLeaves (path_of_store (store_in self.old)) (λ file. StandsFor file (lines_in (store_in self.old))) (D.state self.old.disk))) }
         ensures others { IsTrue D.is_known → KeepsAllBut (path_of_store (store_in self.old)) self.old.places.file (D.state self.old.disk) (D.state self.new.disk) }
+        ensures cause { TellsDisk (D.state self.old.disk) (D.state self.new.disk) result }
     {
         self.keeper
             .take(&mut self.disk, self.paths.file(), now, name, what)

@@ -7,6 +7,7 @@ pub mod Lawful
 pub mod Starting
 pub mod Kept
 pub mod Taken
+pub mod Told
 pub mod Copied
 pub mod Digits
 pub mod Marked
@@ -14,3 +15,4 @@ pub mod MovedOn
 pub mod Marking
 pub mod Stepping
 pub mod Undamaged
+pub mod Staying

@@ -17,10 +17,12 @@ use Rattle.base_journal.specs.Records.{IsBeforeOrAfter, IsRecordLine}
 use Rattle.state_store.specs.declared.settling.Moving.{Moving}
 use Rattle.state_store.specs.declared.store.Store.{Store}
 use Rattle.state_store.specs.Books.{Book, file_of}
+use Rattle.state_store.specs.Compacted.{damaged}
 use Rattle.state_store.specs.Moved.{IsMovedBook, LeftByMove, Marking, SaysAllKept, SaysAlready, SaysByItself, mark_line}
 use Rattle.state_store.specs.Records.{records_in}
 use Rattle.state_store.specs.Stores.{IsReplayed, book_of, lines_in, path_of_store}
 use Rattle.state_store.specs.code.Moving.{IsMoving}
+use Rattle.state_store.proofs.Staying.{damaged_records}
 use Rattle.state_store.proofs.Lists.{records_none}
 use Rattle.state_store.proofs.Marked.{mark_is_line, moved_law}
 use Rattle.state_store.proofs.Marking.{marked_leaves}
@@ -71,15 +73,15 @@ module _ (old : Store) (m : Moving) (is : IsMoving (book_of old) m) where
         ∙ ap (λ (s : ReplayState). s.rows) (moved_law old so (string_bytes m.text) is.served is.says).1
         ∙ sym is.book.rows ∙ ap (λ (b : Book). b.rows) (sym booked)
 
--- where the journal is emptied then, or left as it was, the rows are the same
-pub handed_replays : {X E : Type 0} (r : Result X E) (old new : Store) → SaysByItself old → IsReplayed old → book_of new ≡ book_of old → OnOk r (lines_in new ≡ []) → OnErr r (lines_in new ≡ lines_in old)
-    → IsReplayed new
-handed_replays (Ok x) old new says so booked emptied same =
+-- where the records are taken out of the journal then, or it is left as it was, the rows are the same
+pub handed_replays : {X E : Type 0} (r : Result X E) (old new : Store) → SaysByItself old → IsReplayed old → book_of new ≡ book_of old → OnOk r (lines_in new ≡ damaged (lines_in old))
+    → OnErr r (lines_in new ≡ lines_in old) → IsReplayed new
+handed_replays (Ok x) old new says so booked taken same =
     ap (λ (b : Book). (replayed b.file (records_in (lines_in new))).rows) booked
-    ∙ ap (λ (ls : List (List ℕ)). (replayed (book_of old).file (records_in ls)).rows) emptied
-    ∙ ap (λ (rs : List Record). (replayed (book_of old).file rs).rows) records_none
+    ∙ ap (λ (ls : List (List ℕ)). (replayed (book_of old).file (records_in ls)).rows) taken
+    ∙ ap (λ (rs : List Record). (replayed (book_of old).file rs).rows) (damaged_records (lines_in old))
     ∙ says ∙ ap (λ (b : Book). b.rows) (sym booked)
-handed_replays (Err e) old new says so booked emptied same =
+handed_replays (Err e) old new says so booked taken same =
     ap (λ (b : Book). (replayed b.file (records_in (lines_in new))).rows) booked
     ∙ ap (λ (ls : List (List ℕ)). (replayed (book_of old).file (records_in ls)).rows) same
     ∙ so ∙ ap (λ (b : Book). b.rows) (sym booked)

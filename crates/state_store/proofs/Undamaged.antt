@@ -29,7 +29,7 @@ damages_all lines i past = ap damages (take_all i lines past)
 
 -- ---- without them the records are the same
 
-record_first : (line : List ℕ) (lines : List (List ℕ)) → records_in (line ∷ lines) ≡ record_in line ++ records_in lines
+pub record_first : (line : List ℕ) (lines : List (List ℕ)) → records_in (line ∷ lines) ≡ record_in line ++ records_in lines
 unfolding records_in
 record_first line lines = refl
 

@@ -1,4 +1,4 @@
--- Compacted: the lines of a journal without those whose records later ones make void, and without those that write no record.
+-- Compacted: the lines of a journal without those whose records later ones make void; those that write no record, and those that do.
 -- Source: this project's own.
 use Rattle.std.specs.Prelude.{ℕ, ◌%◌, Bool, ◌&&◌, ◌==◌, List, filter, is_none, length, map, nat_le}
 use Rattle.state_changes.specs.Compaction.{voids}
@@ -29,6 +29,10 @@ is_worth lines = is_time_to_look lines && (are_records lines && nat_le 1000 (voi
 -- of each line, whether it writes no record
 unfoldable pub damages : List (List ℕ) → List Bool
 damages lines = map (λ line. is_none (record_of line)) lines
+
+-- the lines that write no record
+unfoldable pub damaged : List (List ℕ) → List (List ℕ)
+damaged lines = filter (λ line. is_none (record_of line)) lines
 
 -- the lines that write records
 abbrev pub undamaged : List (List ℕ) → List (List ℕ)

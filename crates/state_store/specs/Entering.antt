@@ -1,6 +1,6 @@
 -- Entering: a change that is taken, the line that keeps it, and what it makes of a book.
 -- Source: this project's own.
-use Rattle.std.specs.Prelude.{◌≡◌, ℕ, Bool, true, false, List, Option, Some, None, Result, Ok}
+use Rattle.std.specs.Prelude.{◌≡◌, ℕ, Bool, true, false, List, Option, Some, None, Result, Ok, Err}
 use Rattle.state_changes.specs.declared.change.Change.{Change}
 use Rattle.state_changes.specs.declared.change.Record.{Record}
 use Rattle.state_changes.specs.declared.change.Record.TheVariants.{Made}
@@ -10,6 +10,7 @@ use Rattle.state_changes.specs.declared.row.Row.{Row}
 use Rattle.state_changes.specs.Changes.{change_refusal, rows_changed}
 use Rattle.state_changes.specs.Records.{IsRecord, record_of, record_text}
 use Rattle.state_changes.specs.Said.{said}
+use Rattle.base_disk.specs.State.{DiskState, TellsFailure}
 use Rattle.state_store.specs.declared.fault.TakeFault.{TakeFault}
 use Rattle.state_store.specs.declared.fault.TakeFault.TheVariants.{Unread, NoRecord, Refused, Unwritten, Disk, Unsure, OutOfMemory}
 use Rattle.state_store.specs.Books.{Book}
@@ -43,6 +44,16 @@ IsWhyNot b name w (Unwritten fault) = (c : Change) × (IsReadAs b.file name w c 
 IsWhyNot b name w (Disk fault) = (c : Change) × (IsReadAs b.file name w c × (change_refusal b.file.margin b.rows c.name c.what ≡ None))
 IsWhyNot b name w (Unsure fault) = (c : Change) × (IsReadAs b.file name w c × (change_refusal b.file.margin b.rows c.name c.what ≡ None))
 IsWhyNot b name w OutOfMemory = Unit {0}
+
+-- a fault of the disk is told exactly where the disk has failed, and says what the disk said
+abbrev pub FaultTellsDisk : DiskState → DiskState → TakeFault → Type 0
+FaultTellsDisk old new (Disk fault) = TellsFailure {X = Unit {0}} old new (Err fault)
+FaultTellsDisk old new (Unsure fault) = TellsFailure {X = Unit {0}} old new (Err fault)
+FaultTellsDisk old new fault = new.faults ≡ old.faults
+
+abbrev pub TellsDisk : {X : Type 0} → DiskState → DiskState → Result X TakeFault → Type 0
+TellsDisk old new (Ok x) = new.faults ≡ old.faults
+TellsDisk old new (Err fault) = FaultTellsDisk old new fault
 
 -- whether the disk may have a change that was not taken
 abbrev pub may_hold : TakeFault → Bool

@@ -6,6 +6,7 @@ ghost use Rattle.base_journal.specs.Journals.{Exchanging, FileIsThere, JournalHo
 ghost use Rattle.base_journal.specs.Records.{StandsFor, lines_taken_out};
 ghost use Rattle.state_store.specs.Compacted.{damages, undamaged};
 ghost use Rattle.state_store.specs.Records.{records_in};
+ghost use Rattle.state_store.specs.code.Moving.{written};
 
 use crate::records::records_in;
 use base_disk::{Disk, DiskFault};
@@ -64,6 +65,18 @@ fn damages(alloc: Global, lines: &[Text]) -> Result<Vec<bool>, AllocError>
     let mut outs = Vec::new(alloc);
     for line in lines {
         outs.push(is_damaged(alloc, line.list())?)?;
+    }
+    Ok(outs)
+}
+
+/// Of each line, whether it writes a record. The only error is lack of memory.
+#[tactic(auto, using(crate::proofs::Staying::written_none, crate::proofs::Staying::written_more, crate::proofs::Staying::written_all))]
+pub(crate) fn written(alloc: Global, lines: &[Text]) -> Result<Vec<bool>, AllocError>
+    ensures { IfOk result (λ outs. outs.items ≡ written lines.now) }
+{
+    let mut outs = Vec::new(alloc);
+    for line in lines {
+        outs.push(!is_damaged(alloc, line.list())?)?;
     }
     Ok(outs)
 }

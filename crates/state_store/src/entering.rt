@@ -5,7 +5,7 @@ ghost use Rattle.state_changes.specs.Replay.{is_as_then};
 ghost use Rattle.state_file.specs.declared.fault.SettleFault.{SettleFault};
 ghost use Rattle.state_store.specs.Books.{IsTextOf};
 ghost use Rattle.state_store.specs.Entering.{IsWhyNot, line_for_change};
-ghost use Rattle.state_store.specs.code.Faults.{change_in, unwritten};
+ghost use Rattle.state_store.specs.code.Faults.{IsOfNoDisk, change_in, unwritten};
 ghost use Rattle.state_store.specs.code.Entered.{IsEntered, IsRecorded, IsUnmade, IsUnrecorded, RowsAndTextAreMade};
 
 use crate::book::{Book, text_of};
@@ -29,10 +29,11 @@ pub(crate) struct Entered {
 
 impl Book {
     /// What a change of the entry of that name comes to, where it can be taken.
-    #[tactic(auto, using(crate::proofs::Entered::unrecorded_why, crate::proofs::Entered::unmade_why))]
+    #[tactic(auto, using(crate::proofs::Entered::unrecorded_why, crate::proofs::Entered::unmade_why, crate::proofs::Told::unrecorded_alone, crate::proofs::Told::unmade_alone))]
     pub(crate) fn enter(&self, alloc: Global, name: Name, what: What) -> Result<Entered, TakeFault>
         ensures entered { IfOk result (IsEntered self.now name what) }
         ensures refused { IfErr result (IsWhyNot self.now name what) }
+        ensures alone { IfErr result IsOfNoDisk }
     {
         let (line, change) = self.recorded(alloc, name, what)?;
         let is_need = is_need(&change.what);

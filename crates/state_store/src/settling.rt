@@ -7,6 +7,7 @@ ghost use Rattle.state_store.specs.Moved.{IsWhyUnsettled, SaysAlready, mark_line
 ghost use Rattle.state_store.specs.code.Moving.{IsMoving};
 
 use crate::book::Book;
+use crate::damaged::written;
 use crate::fault::Unsettled;
 use crate::store::Store;
 use base_disk::{Disk, DiskFault, FILE_MODE, replace};
@@ -27,12 +28,13 @@ struct Moving {
 }
 
 impl<'a> Store<'a> {
-    ghost use Rattle.std.specs.Prelude.{◌≡◌, [], ℕ, List, IfErr, IfOk, IsTrue, OnErr, OnOk, false, true, option_map, string_bytes};
+    ghost use Rattle.std.specs.Prelude.{◌≡◌, ℕ, List, IfErr, IfOk, IsTrue, OnErr, OnOk, false, true, option_map, string_bytes};
     ghost use Rattle.std.specs.Str.{bytes_eq};
     ghost use Rattle.base_disk.specs.State.{IsAfter, LeavesOnly};
     ghost use Rattle.base_disk.specs.Torn.{MovesFile};
     ghost use Rattle.base_journal.specs.Journals.{Exchanging, FileIsThere, JournalHolds, JournalIsWhole, bytes_of_file};
     ghost use Rattle.base_journal.specs.Records.{StandsFor};
+    ghost use Rattle.state_store.specs.Compacted.{damaged};
     ghost use Rattle.state_store.specs.Moved.{FailsInSteps, HasMarkAtMost, IsMovedIf, IsStillThere, IsWhyUnsettled, LeftByMove, MovesInSteps, SaysByItself};
     ghost use Rattle.state_store.specs.Stores.{FileHolds, IsReplayed, book_of, is_kept, is_sure, journal_of, lines_in, path_of_store};
 
@@ -83,8 +85,9 @@ impl<'a> Store<'a> {
         Ok(Some(text))
     }
 
-    /// Makes these bytes, which are those of the file, the last good copy, at a path that is not the journal's; and then the journal
-    /// empty, where the file says all that is kept by itself. Where the copy cannot be kept the journal has its records.
+    /// Makes these bytes, which are those of the file, the last good copy, at a path that is not the journal's; and then takes the records
+    /// out of the journal, where the file says all that is kept by itself. Lines that write no record stay, until they are set aside.
+    /// Where the copy cannot be kept the journal has its records.
     pub fn hand_over<D: Disk>(
         &mut self,
         disk: &mut D,
@@ -96,7 +99,7 @@ impl<'a> Store<'a> {
         requires held { JournalHolds D.is_known (journal_of self.old) (D.state disk.old) }
         requires replayed { IsReplayed self.old }
         ensures there { OnOk result (IsTrue D.is_known → FileIsThere copy.now (record { mode = FILE_MODE; bytes = bytes.now }) (D.state disk.new)) }
-        ensures emptied { OnOk result ((lines_in self.new ≡ []) × (IsTrue D.is_known → JournalIsWhole (journal_of self.new) (D.state disk.new))) }
+        ensures taken_out { OnOk result ((lines_in self.new ≡ damaged (lines_in self.old)) × (IsTrue D.is_known → JournalIsWhole (journal_of self.new) (D.state disk.new))) }
         ensures refused { OnErr result (lines_in self.new ≡ lines_in self.old) }
         ensures book { book_of self.new ≡ book_of self.old }
         ensures sure { is_sure self.new ≡ is_sure self.old }
@@ -105,13 +108,15 @@ impl<'a> Store<'a> {
         ensures held { JournalHolds D.is_known (journal_of self.new) (D.state disk.new) }
         ensures replayed { IsReplayed self.new }
 
-        // A crash at any moment leaves the old copy with the records; or the new one, with the records or with none.
+        // A crash at any moment leaves the old copy with the lines; or the new one, with the lines or with those that write no record.
         ensures any_moment { IsTrue D.is_known → LeavesOnly (D.state disk.old) (D.state disk.new)
-            (Exchanging (path_of_store self.old) copy.now (record { mode = FILE_MODE; bytes = bytes.now }) (λ file. StandsFor file []) (D.state disk.old)) }
+            (Exchanging (path_of_store self.old) copy.now (record { mode = FILE_MODE; bytes = bytes.now }) (λ file. StandsFor file (damaged (lines_in self.old))) (D.state disk.old)) }
         ensures others { IsTrue D.is_known → (other : List ℕ) → bytes_eq (path_of_store self.old) other ≡ false → bytes_eq copy.now other ≡ false
             → ((D.state disk.new).seen other ≡ (D.state disk.old).seen other) × ((D.state disk.new).is_sound other ≡ (D.state disk.old).is_sound other) }
     {
-        self.journal.hand_over(disk, copy, FILE_MODE, bytes)
+        let written = written(self.alloc, self.journal.records())?;
+        self.journal
+            .hand_over(disk, copy, FILE_MODE, bytes, &written)
     }
 
     // Puts a file with these bytes in the place of one whose bytes are `present`. Where that fails, it is looked at which one is there.

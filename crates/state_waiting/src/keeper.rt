@@ -17,16 +17,16 @@ pub struct Keeper<'a> {
 }
 
 impl<'a> Keeper<'a> {
-    ghost use Rattle.std.specs.Prelude.{◌≡◌, [], ℕ, List, Err, IfErr, IfOk, IsTrue, None, Ok, OnErr, OnOk, false, true, if◌then◌else◌, option_copied, option_map, string_bytes};
+    ghost use Rattle.std.specs.Prelude.{◌≡◌, ℕ, List, Err, IfErr, IfOk, IsTrue, None, Ok, OnErr, OnOk, false, true, if◌then◌else◌, option_copied, option_map, string_bytes};
     ghost use Rattle.std.specs.Str.{bytes_eq};
     ghost use Rattle.agent_standing.specs.Waiting.{change_due_at, changed, is_change_due};
     ghost use Rattle.base_disk.specs.State.{LeavesOnly};
     ghost use Rattle.base_journal.specs.Journals.{CrashLeaves, Exchanging, FileIsThere, JournalHolds, JournalIsWhole, KeepsOthers};
     ghost use Rattle.base_journal.specs.Records.{IsBeforeOrAfter, StandsFor};
     ghost use Rattle.state_store.specs.Books.{HasSecrets, IsBookIf, IsFileFaultOf};
-    ghost use Rattle.state_store.specs.Compacted.{compacted_lines, is_worth};
+    ghost use Rattle.state_store.specs.Compacted.{compacted_lines, damaged, is_worth};
     ghost use Rattle.state_store.specs.declared.fault.TakeFault.TheVariants.{Unread};
-    ghost use Rattle.state_store.specs.Entering.{line_for_change, may_hold};
+    ghost use Rattle.state_store.specs.Entering.{TellsDisk, line_for_change, may_hold};
     ghost use Rattle.state_store.specs.Moved.{FailsInSteps, HasMarkAtMost, IsMovedIf, IsStillThere, IsWhyUnsettled, LeftByMove, MovesInSteps, SaysByItself};
     ghost use Rattle.state_waiting.specs.Keepers.{InventoryIsGiven, store_of, waiting_in};
     ghost use Rattle.state_store.specs.Records.{records_in};
@@ -83,6 +83,7 @@ impl<'a> Keeper<'a> {
         ensures gone { IfErr result (λ fault. may_hold fault ≡ false → IsTrue D.is_known → LeavesOnly (D.state disk.old) (D.state disk.new)
             (CrashLeaves (path_of_store (store_of self.old)) (λ file. StandsFor file (lines_in (store_of self.old))) (D.state disk.old))) }
         ensures others { IsTrue D.is_known → KeepsAllBut (path_of_store (store_of self.old)) target.now (D.state disk.old) (D.state disk.new) }
+        ensures cause { TellsDisk (D.state disk.old) (D.state disk.new) result }
     {
         let is_need = self.store.take(disk, target, name, what)?;
         if !is_need {
@@ -157,7 +158,7 @@ impl<'a> Keeper<'a> {
         self.store.settle(disk, target, mode, present)
     }
 
-    /// Keeps the copy, and then takes every record out of the journal, as [`Store::hand_over`] does. What waits goes on waiting.
+    /// Keeps the copy, and then takes the records out of the journal, as [`Store::hand_over`] does. What waits goes on waiting.
     pub fn hand_over<D: Disk>(
         &mut self,
         disk: &mut D,
@@ -169,7 +170,7 @@ impl<'a> Keeper<'a> {
         requires held { JournalHolds D.is_known (journal_of (store_of self.old)) (D.state disk.old) }
         requires replayed { IsReplayed (store_of self.old) }
         ensures there { OnOk result (IsTrue D.is_known → FileIsThere copy.now (record { mode = FILE_MODE; bytes = bytes.now }) (D.state disk.new)) }
-        ensures emptied { OnOk result ((lines_in (store_of self.new) ≡ []) × (IsTrue D.is_known → JournalIsWhole (journal_of (store_of self.new)) (D.state disk.new))) }
+        ensures taken_out { OnOk result ((lines_in (store_of self.new) ≡ damaged (lines_in (store_of self.old))) × (IsTrue D.is_known → JournalIsWhole (journal_of (store_of self.new)) (D.state disk.new))) }
         ensures refused { OnErr result (lines_in (store_of self.new) ≡ lines_in (store_of self.old)) }
         ensures waiting { waiting_in self.new ≡ waiting_in self.old }
         ensures book { book_of (store_of self.new) ≡ book_of (store_of self.old) }
@@ -179,7 +180,7 @@ impl<'a> Keeper<'a> {
         ensures held { JournalHolds D.is_known (journal_of (store_of self.new)) (D.state disk.new) }
         ensures replayed { IsReplayed (store_of self.new) }
         ensures any_moment { IsTrue D.is_known → LeavesOnly (D.state disk.old) (D.state disk.new)
-            (Exchanging (path_of_store (store_of self.old)) copy.now (record { mode = FILE_MODE; bytes = bytes.now }) (λ file. StandsFor file []) (D.state disk.old)) }
+            (Exchanging (path_of_store (store_of self.old)) copy.now (record { mode = FILE_MODE; bytes = bytes.now }) (λ file. StandsFor file (damaged (lines_in (store_of self.old)))) (D.state disk.old)) }
         ensures others { IsTrue D.is_known → (other : List ℕ) → bytes_eq (path_of_store (store_of self.old)) other ≡ false → bytes_eq copy.now other ≡ false
             → ((D.state disk.new).seen other ≡ (D.state disk.old).seen other) × ((D.state disk.new).is_sound other ≡ (D.state disk.old).is_sound other) }
     {

@@ -37,6 +37,12 @@ unkept fault false = takes.Disk fault
 abbrev pub IsUnkept : TakeFault → Type 0
 IsUnkept fault = (why : DiskFault) × (may_have : Bool) × (fault ≡ unkept why may_have)
 
+-- it is no fault of a disk
+abbrev pub IsOfNoDisk : TakeFault → Type 0
+IsOfNoDisk (takes.Disk fault) = ⊥
+IsOfNoDisk (takes.Unsure fault) = ⊥
+IsOfNoDisk fault = Unit {0}
+
 abbrev pub faulty : InvFault → FileFault
 faulty inventories.OutOfMemory = files.OutOfMemory
 faulty fault = files.Faulty fault

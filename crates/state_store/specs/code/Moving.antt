@@ -1,7 +1,8 @@
--- Words for a file that is about to become what is kept. No public clause cites them.
+-- Words for a file that is about to become what is kept, and for the records that it holds then. No public clause cites them.
 -- Source: this project's own.
-use Rattle.std.specs.Prelude.{◌≡◌, false, string_bytes}
+use Rattle.std.specs.Prelude.{◌≡◌, ℕ, Bool, false, List, is_some, map, string_bytes}
 use Rattle.std.specs.Str.{bytes_eq}
+use Rattle.state_changes.specs.Records.{record_of}
 use Rattle.state_changes.specs.Words.{fingerprint}
 use Rattle.vault_inventory.specs.Served.{Served}
 use Rattle.base_journal.specs.Records.{IsRecordLine}
@@ -17,3 +18,7 @@ pub record IsMoving (b : Book) (m : Moving) : Type 0 where
   pub line_is : m.line ≡ mark_line (string_bytes m.text)
   pub is_line : IsRecordLine m.line
   pub book : IsMovedBook b (string_bytes m.text) served m.book
+
+-- of each line, whether it writes a record
+unfoldable pub written : List (List ℕ) → List Bool
+written lines = map (λ line. is_some (record_of line)) lines
