@@ -112,7 +112,7 @@ def _take(history: History, words: list[str], indices: Mapping[str, int], round_
             history.requests += len(names)
         case ["refused", name, status]:
             history.marks.append(Mark(history.asked(indices[name], asked_at), indices[name], Sign.REFUSED, int(status)))
-        case ["lost", name, *why] if len(why) <= is_logged:  # (Older logs tell no reason.)
+        case ["lost", name, *why] if is_logged or not why:  # (Older logs tell no reason.)
             history.marks.append(Mark(history.asked(indices[name], asked_at), indices[name], Sign.LOST))
         case ["short", name, need]:
             history.marks.append(Mark(history.now, indices[name], Sign.SHORT, _moment(need)))

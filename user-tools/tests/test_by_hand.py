@@ -9,6 +9,7 @@ import shutil
 import sys
 import tempfile
 import unittest
+from dataclasses import replace
 from pathlib import Path
 
 from leasekeep_inventory.broker import Broker, Heard, Verdict
@@ -109,9 +110,17 @@ class ByHand(unittest.IsolatedAsyncioTestCase):
         process.stdin.write(f"{line}\n".encode())
         return await self.said(process)
 
-    async def heard(self) -> dict[str, Heard]:
-        broker = Broker(HttpTransport(Address(str(self.socket))), LONGEST)
-        return {entry.name: await broker.look_up(self.inventory, entry) for entry in self.inventory.entries}
+    async def heard(self, inventory: Inventory | None = None) -> dict[str, Heard]:
+        broker, inventory = Broker(HttpTransport(Address(str(self.socket))), LONGEST), inventory or self.inventory
+        return {entry.name: await broker.look_up(inventory, entry) for entry in inventory.entries}
+
+    def given(self, **credentials: str) -> Inventory:
+        """The inventory in which these entries have these credentials."""
+        return self.inventory.mapped(lambda entry: replace(entry, credential=credentials.get(entry.name, entry.credential)))
+
+    async def statuses(self, **credentials: str) -> list[int | None]:
+        """What lookups of the four entries are answered, where these have these credentials."""
+        return [heard.status for heard in (await self.heard(self.given(**credentials))).values()]
 
     async def test_the_orders(self) -> None:
         broker = await self.begun()
@@ -132,6 +141,33 @@ class ByHand(unittest.IsolatedAsyncioTestCase):
 
         self.assertRegex(await self.order(broker, "status"), r"^app alive until \d{4}-.*Z$")
         self.assertEqual([await self.said(broker) for _ in range(3)], ["pay revoked", "db revoked", "db2 revoked"])
+
+    async def test_a_new_credential_stands_beside_the_old_one(self) -> None:
+        broker = await self.begun()
+        await self.said(broker)
+        self.assertEqual(await self.order(broker, "issue nobody"), "no entry is named nobody")
+        self.assertTrue((await self.order(broker, "issue")).startswith("the orders are: "))
+
+        self.assertEqual(await self.order(broker, "issue db"), "issued db db/creds/1.1")
+        for lease in ("db/creds/1", "db/creds/1.1"):
+            self.assertEqual(await self.statuses(db=lease), [200, 200, 200, 200], lease)
+
+        # A token with its lease: each token may look up its own leases alone.
+        self.assertEqual(await self.order(broker, "issue app"), "issued app s.app.2")
+        self.assertEqual(await self.said(broker), "issued db db/creds/1.3")
+        self.assertEqual(await self.statuses(app="s.app.2", db="db/creds/1.3"), [200, 200, 200, 200])
+        for lease in ("db/creds/1", "db/creds/1.1"):
+            self.assertEqual(await self.statuses(db=lease), [200, 200, 200, 200], lease)
+        self.assertEqual(await self.statuses(app="s.app.2"), [200, 200, 403, 200])
+
+        # What is revoked is the newest one, and a lease of it needs a token that lives.
+        self.assertEqual(await self.order(broker, "revoke app"), "revoked: app db")
+        self.assertEqual(await self.statuses(app="s.app.2", db="db/creds/1.3"), [403, 200, 403, 200])
+        self.assertEqual(await self.statuses(), [200, 200, 200, 200])
+        self.assertEqual(await self.order(broker, "issue db"), "db stands under app, which has ended or is revoked: issue that")
+        self.assertEqual(await self.order(broker, "issue app"), "issued app s.app.4")
+        self.assertEqual(await self.said(broker), "issued db db/creds/1.5")
+        self.assertEqual(await self.statuses(app="s.app.4", db="db/creds/1.5"), [200, 200, 200, 200])
 
     async def test_it_is_away_for_a_while_and_stays_after_its_last_line(self) -> None:
         broker = await self.begun()

@@ -239,12 +239,13 @@ class Lanes(unittest.TestCase):
             "1970-01-01T00:17:39Z wake 1059 T L\n1970-01-01T00:17:39Z renew T L\n1970-01-01T00:17:41Z told L 60\n"
             "1970-01-01T00:17:42Z renew U\n1970-01-01T00:17:43Z told T 100\n1970-01-01T00:17:44Z warning: lost U timeout\n"
             "1970-01-01T00:17:44Z warning: away timeout\n1970-01-01T00:17:46Z look U\n1970-01-01T00:17:47Z note: lost U 503\n"
+            "1970-01-01T00:17:48Z look U\n1970-01-01T00:17:48Z note: lost U connect ./vault.sock: no such file\n"
             "1970-01-01T00:17:49Z renew U\n1970-01-01T00:17:50Z warning: refused U 400\n"
         )
         chart = family(log)
         self.assertEqual([(lane.entry.name, lane.end) for lane in chart.lanes], [("T", 1159), ("L", 1119), ("U", 1060)])
         self.assertEqual([[(mark.moment, mark.sign) for mark in lane.marks] for lane in chart.lanes], [
-            [(1059, Sign.RENEWED)], [(1059, Sign.RENEWED)], [(1062, Sign.LOST), (1067, Sign.LOST), (1069, Sign.REFUSED)]])
+            [(1059, Sign.RENEWED)], [(1059, Sign.RENEWED)], [(1062, Sign.LOST), (1067, Sign.LOST), (1068, Sign.LOST), (1069, Sign.REFUSED)]])
         self.assertEqual(chart.requests, 4)
 
     def test_a_reason_is_a_logs_alone(self) -> None:

@@ -18,7 +18,7 @@ from typing import Any
 
 from trial.programs import SLOWER
 
-from .test_package import TOP, programs
+from .test_package import TOP, VERSION, programs
 
 DOCKERFILE = (TOP / "packaging" / "container" / "Dockerfile").read_text()
 SECONDS = 60 * SLOWER
@@ -98,6 +98,9 @@ class Image(unittest.TestCase):
         run = config["config"]
         self.assertEqual((run["User"], run["StopSignal"], run["Cmd"]), ("65532:65532", "SIGKILL", words_of("CMD")))
         self.assertEqual(run["Healthcheck"]["Interval"], 30_000_000_000)
+        self.assertRegex(run["Labels"]["org.opencontainers.image.version"], rf"^{re.escape(VERSION)}(-unproved)?$")
+        commit = subprocess.run(["git", "rev-parse", "HEAD"], cwd=TOP, check=True, capture_output=True, text=True, timeout=SECONDS).stdout
+        self.assertEqual(run["Labels"]["org.opencontainers.image.revision"], commit.strip())
 
     def test_docker_is_given_the_same_files(self) -> None:
         self.assertEqual((self.out / "Dockerfile").read_text(), DOCKERFILE)

@@ -32,19 +32,26 @@ NEED = 'leasekeep_need_carried_timestamp_seconds{entry="web"}'
 WRITTEN = "leasekeep_metrics_written_timestamp_seconds"
 
 END, SUCCESS = 'leasekeep_end_timestamp_seconds{entry="web"}', 'leasekeep_last_success_timestamp_seconds{entry="web"}'
-WAKE, KEPT, TRYING = "leasekeep_next_wake_timestamp_seconds", *(
-    f'leasekeep_state{{entry="web",state="{name}"}}' for name in ("kept", "trying"))
+WAKE, IN_FORCE = "leasekeep_next_wake_timestamp_seconds", 'leasekeep_need_in_force_timestamp_seconds{entry="web"}'
+KEPT, TRYING, SHORT = (f'leasekeep_state{{entry="web",state="{name}"}}' for name in ("kept", "trying", "short"))
 END_NEAR: tuple[tuple[dict[str, str], range], ...] = (
     # A step of 40 s, so a margin of 30 s: renewed each 10 to 15 s, and 25 s or more are left when the figures are written.
     ({END: "40+15x100", SUCCESS: "0+15x100", KEPT: "1x100"}, range(0)),
     ({END: "25+15x100", SUCCESS: "-15+15x100", KEPT: "1x100"}, range(0)),
     # The same, and from 150 s on it is renewed no more: its margin's half is 15 s before 190 s.
     ({END: "40+15x10 190x100", SUCCESS: "0+15x10 150x100", TRYING: "0x10 1x100"}, range(180, 600, 15)),
-    ({END: "40+15x10 190x100", SUCCESS: "0+15x10 150x100", KEPT: "1x100"}, range(180, 600, 15)),
+    # It is kept all the same: once the wake-up of 160 s is a minute late.
+    ({END: "40+15x10 190x100", SUCCESS: "0+15x10 150x100", KEPT: "1x100", WAKE: "10+15x10 160x100"}, range(225, 600, 15)),
     # The figures are from 150 s on the same: a minute later they count as a minute old.
-    ({END: "40+15x10 190x100", SUCCESS: "0+15x10 150x100", KEPT: "1x100", WRITTEN: "0+15x10 150x100"}, range(240, 600, 15)),
+    ({END: "40+15x10 190x100", SUCCESS: "0+15x10 150x100", KEPT: "1x100", WAKE: "10+15x10 160x100", WRITTEN: "0+15x10 150x100"},
+     range(240, 600, 15)),
     # A long step: the inventory's margin, half of which is 60 s before 500 s.
-    ({END: "500x100", SUCCESS: "0x100", KEPT: "1x100"}, range(450, 600, 15)),
+    ({END: "500x100", SUCCESS: "0x100", TRYING: "1x100"}, range(450, 600, 15)),
+    # It is at its ceiling, and is issued again in time: from 480 s on it is short, since nobody has done so.
+    ({END: "500x100", SUCCESS: "0x100", KEPT: "1x31 0x100", SHORT: "0x31 1x100", WAKE: "900x100", IN_FORCE: "10000x31 500x100"},
+     range(480, 600, 15)),
+    # A token over it ends at 500 s.
+    ({END: "900x100", SUCCESS: "0x100", SHORT: "1x100", IN_FORCE: "500x100"}, range(450, 600, 15)),
     # Never renewed: while it is tried, or where the wake-up of 50 s is a minute late.
     ({END: "40x100", TRYING: "1x100"}, range(0, 600, 15)),
     ({END: "40x100", KEPT: "1x100", WAKE: "590x100"}, range(0)),

@@ -134,6 +134,10 @@ class Package(unittest.TestCase):
         news = gzip.decompress((self.root / "usr/share/doc/leasekeep/NEWS.md.gz").read_bytes()).decode()
         self.assertRegex(news, rf"(?m)^## {re.escape(self.version)}, of commit [0-9a-f]+ of \d{{4}}-\d\d-\d\d$")
         self.assertNotIn("Unreleased", news)
+        with tarfile.open(self.tar) as archive:
+            ours = archive.extractfile(f"leasekeep-{self.version}/share/doc/leasekeep/NEWS.md")
+            assert ours is not None
+            self.assertEqual(ours.read().decode(), news)
 
     def test_their_fields(self) -> None:
         for name, deb in self.debs.items():

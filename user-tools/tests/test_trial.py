@@ -18,12 +18,11 @@ from trial.relay import Relay
 from trial.stage import Trial, short_leases
 
 LONGEST = 30.0 * SLOWER
-SCRIPTS = Path(__file__).resolve().parent
 
 
 def program(name: str) -> str:
-    """The built program, else the scripted broker; SkipTest where there is none."""
-    found = find_program(name) or (str(SCRIPTS / "scripted_minibroker") if name == "minibroker" else None)
+    """The built program; SkipTest where there is none."""
+    found = find_program(name)
     if found is None:
         raise unittest.SkipTest(f"no built {name}")
     return found
@@ -38,7 +37,7 @@ class BuiltPrograms(unittest.TestCase):
 
     def test_minibroker(self) -> None:
         if find_program("minibroker") is None:
-            self.skipTest("no built minibroker with moments from its input: the scripted one is used")
+            self.skipTest("no built minibroker with moments from its input: no broker is tried")
 
 
 class Trials(unittest.IsolatedAsyncioTestCase):

@@ -61,7 +61,8 @@ class LiveBroker:
 
 class Relay:
     """Listens at a UNIX socket, or with a certificate at a port of 127.0.0.1, and has each request served by the broker, `delay`
-    seconds after it came. What `own_answer` gives for a request is the reply in place of the broker's."""
+    seconds after it came. What `own_answer` gives for a request is the reply in place of the broker's. Whoever holds `gate` keeps
+    requests waiting."""
 
     def __init__(self, path: Path, certificate: ssl.SSLContext | None = None) -> None:
         self._path, self._certificate = path, certificate
@@ -70,6 +71,7 @@ class Relay:
         self.last_head = b""
         self.broker: LiveBroker | None = None
         self.own_answer: Callable[[bytes], bytes | None] = lambda request: None
+        self.gate = asyncio.Lock()
         self._server: asyncio.Server | None = None
         self.served = 0
 
@@ -92,8 +94,10 @@ class Relay:
                 request = await read_request(reader)
                 self.last_head = request.partition(b"\r\n\r\n")[0]
                 await asyncio.sleep(self.delay)
-                if self.broker is not None:
-                    writer.write(self.own_answer(request) or await self.broker.exchange(request))
+                async with self.gate:
+                    reply = None if self.broker is None else self.own_answer(request) or await self.broker.exchange(request)
+                if reply is not None:
+                    writer.write(reply)
                     await writer.drain()
                     self.served += 1
         except (OSError, ValueError, TimeoutError, asyncio.IncompleteReadError, asyncio.LimitOverrunError):

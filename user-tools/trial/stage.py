@@ -3,6 +3,7 @@
 from __future__ import annotations
 
 import asyncio
+import itertools
 import time
 from dataclasses import replace
 from pathlib import Path
@@ -47,13 +48,23 @@ class Trial:
 
     async def start_broker(self, inventory: Inventory) -> None:
         """Starts the broker on these rows, and the relay in front of it."""
+        await self._serve(inventory)
+        await self._own.start()
+        await self.relay.start()
+
+    async def change_rows(self, inventory: Inventory) -> None:
+        """The broker has these rows from now on. The relay's gate is held meanwhile, so that no renewal is forgotten."""
+        before = self.relay.broker
+        await self._serve(inventory)
+        if before is not None:
+            await before.stop()
+
+    async def _serve(self, inventory: Inventory) -> None:
         rows = self.folder / "rows.toml"
         rows.write_text(inventory_text(inventory))
         broker = LiveBroker(self._minibroker, rows)
         await broker.start()
         self.relay.broker = self._own.broker = broker
-        await self._own.start()
-        await self.relay.start()
 
     async def stop_broker(self) -> None:
         await self.relay.stop()
@@ -97,14 +108,28 @@ class Trial:
 
     @property
     def rows(self) -> Inventory:
-        """What the broker has: the entries, and the spare ones, all tokens first."""
-        every = (*self.inventory.entries, *self.spare)
-        return replace(self.inventory, entries=tuple(sorted(every, key=lambda entry: entry.kind is Kind.LEASE)))
+        """What the broker has: the entries, and the spare ones, all tokens first, each after the one that it stands under."""
+        every = replace(self.inventory, entries=(*self.inventory.entries, *self.spare))
+        return replace(every, entries=tuple(sorted(every.entries, key=lambda entry: (
+            entry.kind is Kind.LEASE, sum(1 for _ in every.over(entry.name))))))
 
     def exchange(self, entry: Entry, spare: Entry) -> None:
         """From now on the agent is to keep the credential of the spare one in the place of the entry's own."""
         self.inventory = self.inventory.mapped(lambda one: replace(one, credential=spare.credential) if one is entry else one)
         self.spare = tuple(replace(one, credential=entry.credential) if one is spare else one for one in self.spare)
+
+    def issue(self, new: dict[str, Entry], rows: Inventory) -> None:
+        """From now on the entries of these names are the new ones. What the broker's rows have of the old ones are spare, under each
+        other as before."""
+        names = {entry.name for entry in rows.entries} | {entry.name for entry in self.inventory.entries}
+        free = (name for number in itertools.count(1) if (name := f"old/{number}") not in names)
+        old = {entry.name: next(free) for entry in rows.entries if entry.name in new}
+
+        def renamed(entry: Entry) -> Entry:
+            return replace(entry, name=old.get(entry.name, entry.name), parent=old.get(entry.parent or "", entry.parent))
+        own = {entry.name for entry in self.inventory.entries}
+        self.spare = tuple(renamed(entry) for entry in rows.entries if entry.name in new or entry.name not in own)
+        self.inventory = self.inventory.mapped(lambda entry: new.get(entry.name) or rows.find(entry.name) or entry)
 
     async def rows_now(self) -> Inventory:
         """The rows with the ends that the broker tells now, so that a broker can be started on them again."""
