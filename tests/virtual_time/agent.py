@@ -42,8 +42,10 @@ class Line:
 
 
 def words_of(told: dict[str, Any]) -> tuple[str, ...]:
-    """What an object of the log says of its event, word by word, with moments in seconds."""
+    """What an object of the log says of its event, word by word, with moments in seconds. A message begins with the event."""
     said = {key: value for key, value in told.items() if key not in ("moment", "level", "event")}
+    if "message" in said:
+        said["message"] = said["message"].removeprefix(f"{told['event']} ")
     parts = [part for value in said.values() for part in (value if isinstance(value, list) else [value])]
     return tuple(word for part in parts for word in in_seconds(str(part)).split())
 

@@ -9,6 +9,7 @@ use Rattle.state_changes.specs.declared.row.Row.{Row}
 use Rattle.base_clients.specs.Doors.{DoorLog}
 use Rattle.base_clients.specs.declared.talk.Call.{Call}
 use Rattle.base_clock.specs.declared.reading.Reading.{Reading}
+use Rattle.base_device.specs.declared.tried.Tried.{Tried}
 use Rattle.base_log.specs.declared.writing.TheConstants.{MOST_TRIES}
 use Rattle.agent_pages.specs.declared.board.Surroundings.{Surroundings}
 use Rattle.agent_pages.specs.Naming.{beside}
@@ -28,10 +29,10 @@ pub follows_by : {T D : Type 0} (f g : Form) (moment : ℕ) (r s new : Rooms) (a
 follows_by f g moment r s new a b after form rooms control fed =
     subst (λ x. FollowersGoOn x moment s new b after) form (subst (λ x. FollowersGoOn f moment x new b after) rooms (subst (λ x. FollowersGoOn f moment r new x after) control fed))
 
-module _ {S T D K E : Type 0} (given : S → Option (List ℕ)) (failures tries : S → ℕ) (remaining written : T → Option (List ℕ)) (calls : T → Option (List Call)) (log : D → Option (DoorLog T)) (rows : K → List Row) where
+module _ {S T D K E : Type 0} (given : S → Option (List ℕ)) (failures tries : S → ℕ) (tried : S → Option (List Tried)) (remaining written : T → Option (List ℕ)) (calls : T → Option (List Call)) (log : D → Option (DoorLog T)) (rows : K → List Row) where
   pub attended : (agent : Agent) (now : Reading) (is_more goes_on enough : Bool) (shown answered : Went) (old mid fed : House S T D K E) (around : Surroundings) (named : List Row)
       (onlookers : Option (Onlookers T D)) (control : Option (Control T D)) (desk : Desk)
-      → ReaderIsGiven old.desk.form (second_of now.wall) old.desk.room.log mid.desk.room.log (given old.sink) (given mid.sink) (failures old.sink) (failures mid.sink) is_more
+      → ReaderIsGiven old.desk.form (second_of now.wall) old.desk.room.log mid.desk.room.log (given old.sink) (given mid.sink) (failures old.sink) (failures mid.sink) (tried old.sink) (tried mid.sink) is_more
       → tries mid.sink ≤ tries old.sink + MOST_TRIES
       → mid ≡ record old { desk = record old.desk { room = record old.desk.room { log = mid.desk.room.log } }; sink = mid.sink }
       → FollowersGoOn mid.desk.form (second_of now.wall) mid.desk.room fed.desk.room mid.control fed.control
@@ -40,7 +41,7 @@ module _ {S T D K E : Type 0} (given : S → Option (List ℕ)) (failures tries 
       → OnlookersGoOn remaining written calls log agent (beside around named) now shown fed.onlookers onlookers
       → ClientsGoOn remaining written calls log agent (beside around named) now answered fed.control control
       → enough ≡ (shown.is_enough && answered.is_enough) → HearsWant agent enough fed.desk desk → goes_on ≡ (is_more || (shown.is_busy || answered.is_busy))
-      → Attends given failures tries remaining written calls log rows agent now goes_on old (record fed { desk = desk; control = control; onlookers = onlookers })
+      → Attends given failures tries tried remaining written calls log rows agent now goes_on old (record fed { desk = desk; control = control; onlookers = onlookers })
   attended agent now is_more goes_on enough shown answered old mid fed around named onlookers control desk gives few first follow second around_is named_is show answer both heard more =
       let sink : fed.sink ≡ mid.sink = ap (λ h. h.sink) second in
       let there : around ≡ around_of old.next old.file (is_some old.state) old.standby fed.desk.room.log.dropped now.wall =
@@ -51,7 +52,7 @@ module _ {S T D K E : Type 0} (given : S → Option (List ℕ)) (failures tries 
       let there_too : named ≡ named_in rows old.state old.read =
       named_is ∙ ap (λ (h : House S T D K E). named_in rows h.state h.read) second ∙ ap (λ (h : House S T D K E). named_in rows h.state h.read) first in
       let at_desk : fed.desk ≡ record old.desk { room = fed.desk.room } = ap (λ h. h.desk) second ∙ ap (λ h. record h.desk { room = fed.desk.room }) first in
-      let given_there = subst (λ s. ReaderIsGiven old.desk.form (second_of now.wall) old.desk.room.log mid.desk.room.log (given old.sink) (given s) (failures old.sink) (failures s) is_more) (sym sink) gives in
+      let given_there = subst (λ s. ReaderIsGiven old.desk.form (second_of now.wall) old.desk.room.log mid.desk.room.log (given old.sink) (given s) (failures old.sink) (failures s) (tried old.sink) (tried s) is_more) (sym sink) gives in
       let few_there = subst (λ s. tries s ≤ tries old.sink + MOST_TRIES) (sym sink) few in
       record {
         room = mid.desk.room.log;

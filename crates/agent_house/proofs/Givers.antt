@@ -14,6 +14,7 @@ use Rattle.state_changes.specs.declared.change.What.TheVariants as what
 use Rattle.state_changes.specs.declared.row.Row.{Row}
 use Rattle.base_clients.specs.Doors.{DoorLog}
 use Rattle.base_clients.specs.declared.talk.Call.{Call}
+use Rattle.base_device.specs.declared.tried.Tried.{Tried}
 use Rattle.base_clock.specs.declared.reading.Reading.{Reading}
 use Rattle.vault_inventory.specs.Inventories.{Inventory}
 use Rattle.vault_inventory.specs.declared.need.Need.{Need}
@@ -325,9 +326,9 @@ same_fed form moment old new None after h = ap is_some h.1
 same_fed form moment old new (Some before) None h = absurd h
 same_fed form moment old new (Some before) (Some after) h = refl
 
-pub none_by_attending : {S T D K E : Type 0} (given : S → Option (List ℕ)) (failures tries : S → ℕ) (remaining written : T → Option (List ℕ)) (calls : T → Option (List Call)) (log : D → Option (DoorLog T))
-    (rows : K → List Row) (agent : Agent) (now : Reading) (goes_on : Bool) (old new : House S T D K E) → Attends given failures tries remaining written calls log rows agent now goes_on old new → changes_given new.control new.state ≡ changes_given old.control old.state
-none_by_attending given failures tries remaining written calls log rows agent now goes_on old new h =
+pub none_by_attending : {S T D K E : Type 0} (given : S → Option (List ℕ)) (failures tries : S → ℕ) (tried : S → Option (List Tried)) (remaining written : T → Option (List ℕ)) (calls : T → Option (List Call)) (log : D → Option (DoorLog T))
+    (rows : K → List Row) (agent : Agent) (now : Reading) (goes_on : Bool) (old new : House S T D K E) → Attends given failures tries tried remaining written calls log rows agent now goes_on old new → changes_given new.control new.state ≡ changes_given old.control old.state
+none_by_attending given failures tries tried remaining written calls log rows agent now goes_on old new h =
     ap (λ b. given_where (b || is_some new.state)) (same_goers remaining written calls log agent _ now h.answered h.fed new.control h.clients ∙ same_fed _ _ _ h.rooms old.control h.fed h.follow)
     ∙ ap (λ x. given_where (is_some old.control || is_some x.state)) h.rest
 

@@ -1,6 +1,6 @@
 -- Commands: what clients ask for is carried out, and what comes of it.
 -- Source: this project's own; docs/running.md, "Changes while it runs".
-use Rattle.std.specs.Prelude.{◌≡◌, ◌≢◌, ◌/◌, ℕ, Bool, true, false, List, [], ◌∷◌, Option, Some, None, IfSome, Vec, Result, Ok, Err, codes, is_some, length, replicate}
+use Rattle.std.specs.Prelude.{◌≡◌, ◌≢◌, ◌/◌, ◌⊎◌, ◌==◌, ◌&&◌, ℕ, Bool, true, false, not, nat_lt, List, [], ◌∷◌, Option, Some, None, IfSome, Vec, Result, Ok, Err, codes, is_some, length, replicate}
 use Rattle.std.specs.declared.alloc.AllocError.{AllocError}
 use Rattle.std.specs.declared.alloc.Global.{Global}
 use Rattle.agent_standing.specs.Agent.{Agent}
@@ -21,6 +21,8 @@ use Rattle.agent_pages.specs.declared.board.FileReading.{FileReading}
 use Rattle.agent_turns.specs.declared.change.Change.{Change}
 use Rattle.agent_turns.specs.declared.change.Change.TheVariants as changes
 use Rattle.plan_forest.specs.Forest.{index_named}
+use Rattle.watch_machine.specs.Shortness.{short_of}
+use Rattle.watch_machine.specs.State.{WatchState}
 use Rattle.agent_house.specs.Admitting.{FollowsLog}
 use Rattle.agent_house.specs.Awaiting.{HearsVerdict, LooksUpFirst}
 use Rattle.agent_log.specs.Changed.{entry_log_line, fault_lines, reread_lines, settled_line}
@@ -175,9 +177,10 @@ pub record Reloads {S T D K E : Type 0} (does : KeepCall → K → K → Type 0)
 
 -- ---- each of them, and an inventory that is due
 
--- an inventory is given where one is due, with marks for its entries
+-- an inventory is given where one is due, with marks for its entries; memory may be wanting for it, or for them
 abbrev pub InventoryIsDue : {K : Type 0} → (ℕ → Result (Option Inventory) AllocError → K → Type 0) → Reading → Result (Option (Inventory × Vec Mark Global)) AllocError → Option K → Type 0
-InventoryIsDue gives now (Err e) state = Unit {0}
+InventoryIsDue gives now (Err e) None = ⊥
+InventoryIsDue gives now (Err e) (Some k) = gives now.elapsed (Err e) k ⊎ ((inventory : Inventory) × gives now.elapsed (Ok (Some inventory)) k)
 InventoryIsDue gives now (Ok None) None = Unit {0}
 InventoryIsDue gives now (Ok (Some p)) None = ⊥
 InventoryIsDue gives now (Ok None) (Some k) = gives now.elapsed (Ok None) k
@@ -251,14 +254,23 @@ is_served (Some (givens.Aside client sent now)) = false
 is_served (Some (givens.Served marks)) = true
 is_served (Some givens.Unchanged) = false
 
--- the log says that the entry is needed until then, and its client is told; where nothing keeps changes, also that a restart ends it
-pub record TellsNeed {S T D K E : Type 0} (agent : Agent) (name : List ℕ) (until now : ℕ) (old new : House S T D K E) : Type 0 where
+abbrev pub reach_if : Bool → Option ℕ → Option ℕ
+reach_if true reach = reach
+reach_if false reach = None
+
+-- until when an entry can be kept that is needed until then, where that is less. `always` asks for no more than it reaches
+abbrev pub reach_of_need : WatchState → ℕ → ℕ → Option ℕ
+reach_of_need m i until = reach_if (nat_lt i (length m.forest.entries) && not (until == LAST)) (short_of m i)
+
+-- the log says that the entry is needed until then, and its client is told, also if it reaches less far; where nothing keeps changes,
+-- also that a restart ends it
+pub record TellsNeed {S T D K E : Type 0} (agent : Agent) (name : List ℕ) (reach : Option ℕ) (until now : ℕ) (old new : House S T D K E) : Type 0 where
   pub desk : Desk
   pub heard : SaysLine agent (need_log_line name until) old.desk desk
   pub line : Option (List ℕ)
   pub says : IfSome line (IsNeedLine name until)
   pub sent : Option (List ℕ)
-  pub reply : IsNeedReply (is_some old.state) line sent
+  pub reply : IsNeedReply (is_some old.state) reach line sent
   pub sends : ClientIsSent agent sent now (record old { desk = desk }) new
 
 -- where it was not made, the client is told nothing, and its connection is closed
@@ -266,7 +278,8 @@ abbrev pub ClosesClient : {S T D K E : Type 0} → ℕ → House S T D K E → H
 ClosesClient now old new = ClientIsAnswered [] now old.control new.control × (new ≡ record old { control = new.control })
 
 abbrev pub SettlesNeed : {S T D K E : Type 0} → Agent → Bool → GivenNeed → House S T D K E → House S T D K E → Type 0
-SettlesNeed agent true need old new = TellsNeed agent (name_of agent.inventory.forest need.entry) need.until need.at old new
+SettlesNeed agent true need old new =
+    TellsNeed agent (name_of agent.inventory.forest need.entry) (reach_of_need agent.machine need.entry need.until) need.until need.at old new
 SettlesNeed agent false need old new = ClosesClient need.at old new
 
 abbrev pub SettlesAnswer : {S T D K E : Type 0} → Agent → Bool → Option (List ℕ) → ℕ → House S T D K E → House S T D K E → Type 0

@@ -7,6 +7,7 @@ use Rattle.state_changes.specs.declared.row.Row.{Row}
 use Rattle.base_clients.specs.Doors.{DoorLog}
 use Rattle.base_clients.specs.declared.talk.Call.{Call}
 use Rattle.base_clock.specs.declared.reading.Reading.{Reading}
+use Rattle.base_device.specs.declared.tried.Tried.{Tried}
 use Rattle.base_disk.specs.State.{DiskState}
 use Rattle.vault_inventory.specs.Inventories.{Inventory}
 use Rattle.agent_turns.specs.Neighbours.{Answer, End, Give, GoOn, Hear, NeighbourCall, Needs, Rest, Settle, Step, Thing, Time, Want}
@@ -69,7 +70,7 @@ pub record SettlesChange {S T D K E : Type 0} (does : KeepCall → K → K → T
 
 -- ---- each call
 
-module _ {S T D K E : Type 0} (given : S → Option (List ℕ)) (failures tries : S → ℕ) (remaining written : T → Option (List ℕ)) (calls : T → Option (List Call)) (log : D → Option (DoorLog T))
+module _ {S T D K E : Type 0} (given : S → Option (List ℕ)) (failures tries : S → ℕ) (tried : S → Option (List Tried)) (remaining written : T → Option (List ℕ)) (calls : T → Option (List Call)) (log : D → Option (DoorLog T))
     (does : KeepCall → K → K → Type 0) (rows : K → List Row) (path : K → List ℕ) (reads : K → List ℕ → Result Row Why → Type 0) (gives : ℕ → Result (Option Inventory) AllocError → K → Type 0)
     (known : Bool) (state : E → DiskState) where
   -- the ends are kept, then files of credentials are looked at, and then the log's reader, the onlookers and the clients are attended to
@@ -80,7 +81,7 @@ module _ {S T D K E : Type 0} (given : S → Option (List ℕ)) (failures tries 
     pub is_more : Bool
     pub ends : KeepsEnds known state agent now.elapsed old kept
     pub look : LooksAround does agent now goes_on kept looked
-    pub attend : Attends given failures tries remaining written calls log rows agent now is_more looked new
+    pub attend : Attends given failures tries tried remaining written calls log rows agent now is_more looked new
     pub busy : is_busy ≡ (goes_on || is_more)
 
   abbrev pub DoesToHouse : NeighbourCall → House S T D K E → House S T D K E → Type 0

@@ -13,6 +13,7 @@ use Rattle.state_changes.specs.declared.row.Row.{Row}
 use Rattle.base_clients.specs.Doors.{DoorLog}
 use Rattle.base_clients.specs.declared.talk.Call.{Call}
 use Rattle.base_clock.specs.declared.reading.Reading.{Reading}
+use Rattle.base_device.specs.declared.tried.Tried.{Tried}
 use Rattle.base_log.specs.Waiting.{Waiting}
 use Rattle.base_log.specs.declared.writing.TheConstants.{MOST_TRIES}
 use Rattle.agent_pages.specs.declared.board.FileReading.{FileReading}
@@ -66,7 +67,7 @@ module _ {T D : Type 0} (remaining written : T → Option (List ℕ)) (calls : T
 -- the log's reader is given of what waits, and then each of those who follow the log; then the onlookers and the clients go on, each for
 -- itself, with the agent as it is and what is around it then; and where memory was wanting for one of them, that is said. Nothing else
 -- changes
-pub record Attends {S T D K E : Type 0} (given : S → Option (List ℕ)) (failures tries : S → ℕ) (remaining written : T → Option (List ℕ)) (calls : T → Option (List Call)) (log : D → Option (DoorLog T))
+pub record Attends {S T D K E : Type 0} (given : S → Option (List ℕ)) (failures tries : S → ℕ) (tried : S → Option (List Tried)) (remaining written : T → Option (List ℕ)) (calls : T → Option (List Call)) (log : D → Option (DoorLog T))
     (rows : K → List Row) (agent : Agent) (now : Reading) (goes_on : Bool) (old new : House S T D K E) : Type 0 where
   pub room : Waiting
   pub rooms : Rooms
@@ -74,7 +75,7 @@ pub record Attends {S T D K E : Type 0} (given : S → Option (List ℕ)) (failu
   pub is_more : Bool
   pub shown : Went
   pub answered : Went
-  pub gives : ReaderIsGiven old.desk.form (second_of now.wall) old.desk.room.log room (given old.sink) (given new.sink) (failures old.sink) (failures new.sink) is_more
+  pub gives : ReaderIsGiven old.desk.form (second_of now.wall) old.desk.room.log room (given old.sink) (given new.sink) (failures old.sink) (failures new.sink) (tried old.sink) (tried new.sink) is_more
   pub few : tries new.sink ≤ tries old.sink + MOST_TRIES
   pub follow : FollowersGoOn old.desk.form (second_of now.wall) (record old.desk.room { log = room }) rooms old.control fed
   pub around : Around

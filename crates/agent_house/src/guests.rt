@@ -24,7 +24,7 @@ impl<S: LogSink, T: Talk, D: Door<T>, K: Keeping, E> House<S, T, D, K, E> {
     /// client by one call of its connection at most, and answers one of each. The agent is read alone. Where memory was wanting for an
     /// onlooker or a client, that is said. Whether more could be done at once.
     pub fn attend(&mut self, alloc: Global, agent: &Agent, now: Reading) -> bool
-        ensures { Attends S.written S.failures S.tries T.remaining T.written T.calls D.log K.rows agent.now now result self.old self.new }
+        ensures { Attends S.written S.failures S.tries S.tried T.remaining T.written T.calls D.log K.rows agent.now now result self.old self.new }
     {
         let is_more = self.give(alloc, now);
         self.feed(alloc, now);
@@ -42,7 +42,7 @@ impl<S: LogSink, T, D, K, E> House<S, T, D, K, E> {
     /// Gives the log's reader what it takes without waiting. Where it took something, lines that were dropped are told of, if there
     /// is room for that. Whether more could be given at once.
     pub fn give(&mut self, alloc: Global, now: Reading) -> bool
-        ensures given { ReaderIsGiven self.old.desk.form (second_of now.wall) self.old.desk.room.log self.new.desk.room.log (S.written self.old.sink) (S.written self.new.sink) (S.failures self.old.sink) (S.failures self.new.sink) result }
+        ensures given { ReaderIsGiven self.old.desk.form (second_of now.wall) self.old.desk.room.log self.new.desk.room.log (S.written self.old.sink) (S.written self.new.sink) (S.failures self.old.sink) (S.failures self.new.sink) (S.tried self.old.sink) (S.tried self.new.sink) result }
         ensures tries { S.tries self.new.sink ≤ S.tries self.old.sink + MOST_TRIES }
         ensures rest { self.new ≡ record self.old { desk = record self.old.desk { room = record self.old.desk.room { log = self.new.desk.room.log } }; sink = self.new.sink } }
     {

@@ -75,7 +75,7 @@ impl<S: LogSink, T: Talk, D: Door<T>, K: Keeping, E: Disk> Neighbours for House<
 
     ghost given = { λ h. changes_given h.control h.state };
 
-    ghost does = { λ call old new. DoesToHouse S.written S.failures S.tries T.remaining T.written T.calls D.log K.does K.rows K.path K.reads K.gives E.is_known E.state call old new };
+    ghost does = { λ call old new. DoesToHouse S.written S.failures S.tries S.tried T.remaining T.written T.calls D.log K.does K.rows K.path K.reads K.gives E.is_known E.state call old new };
 
     fn hear(&mut self, alloc: Global, agent: &Agent, happened: &Happened<'_>) {
         match happened {

@@ -1,6 +1,6 @@
 //! What clients ask for is carried out, and what is given of it to the loop is settled.
-ghost use Rattle.std.specs.Prelude.{Some};
-ghost use Rattle.agent_house.specs.Commands.{AsksFor, CarriesOut, GoesOnWithClients, InventoryIsDue, IsGivenWith, ServesClients, SettlesAnswer, SettlesAside, SettlesGiven, SettlesNeed, SettlesServed, SettlesUnchanged, StateIsServed, TellsNeed};
+ghost use Rattle.std.specs.Prelude.{◌≡◌, Some};
+ghost use Rattle.agent_house.specs.Commands.{AsksFor, CarriesOut, GoesOnWithClients, InventoryIsDue, IsGivenWith, ServesClients, SettlesAnswer, SettlesAside, SettlesGiven, SettlesNeed, SettlesServed, SettlesUnchanged, StateIsServed, TellsNeed, reach_of_need};
 ghost use Rattle.agent_house.specs.Houses.{ClientsAsk};
 ghost use Rattle.program_lines.specs.Text.{name_of};
 
@@ -15,12 +15,13 @@ use agent_turns::Change;
 use agent_words::{need_line, need_reply};
 use base_clients::{Door, Talk};
 use base_clock::Reading;
-use base_moment::Text;
+use base_moment::{LAST, Text};
 use program_lines::name_of;
 use state_changes::What;
 use std::alloc::{AllocError, Global};
 use std::mem;
 use vault_inventory::Inventory;
+use watch_machine::Watch;
 
 impl<S, T: Talk, D: Door<T>, K: Keeping, E> House<S, T, D, K, E> {
     /// The next change that the loop is to make: the inventory that is due; else the change that has waited for the
@@ -111,14 +112,16 @@ impl<S, T: Talk, D: Door<T>, K: Keeping, E> House<S, T, D, K, E> {
         }
     }
 
-    // The log says that the entry is needed until then, and its client is told; where nothing keeps changes, also that a restart ends it.
+    // The log says that the entry is needed until then, and its client is told, also if it reaches less far; where nothing keeps
+    // changes, also that a restart ends it.
     fn tell_need(&mut self, alloc: Global, agent: &Agent, need: GivenNeed)
-        ensures { TellsNeed agent.now (name_of agent.now.inventory.forest need.entry) need.until need.at self.old self.new }
+        ensures { TellsNeed agent.now (name_of agent.now.inventory.forest need.entry) (reach_of_need agent.now.machine need.entry need.until) need.until need.at self.old self.new }
     {
         let name = name_of(agent.inventory().forest(), need.entry);
         let line = need_line(alloc, name, need.until).ok();
         self.desk.hear_need(alloc, agent, name, need.until);
-        let reply = need_reply(alloc, line, self.state.is_some());
+        let reach = reach_of(agent.watch(), need.entry, need.until);
+        let reply = need_reply(alloc, line, reach, self.state.is_some());
         self.send(alloc, agent, reply, need.at);
     }
 
@@ -186,7 +189,8 @@ fn given_with(agent: &Agent, inventory: &Inventory, marks: Vec<Mark>) -> Given
     }
 }
 
-// The inventory that is due, and fresh marks for its entries. The only error is out of memory.
+// The inventory that is due, and fresh marks for its entries. The only error is out of memory, which may be wanting where one is due.
+#[tactic(auto, using(crate::proofs::Wanting::wanting_it, crate::proofs::Wanting::wanting_marks))]
 fn due_with_marks<K: Keeping>(
     alloc: Global,
     state: &Option<K>,
@@ -224,5 +228,16 @@ fn mark_served<K: Keeping>(state: &mut Option<K>)
 {
     if let Some(state) = state {
         state.mark_served();
+    }
+}
+
+// Until when an entry can be kept that is needed until then, where that is less.
+fn reach_of(watch: &Watch, entry: u32, until: u64) -> Option<u64>
+    ensures { result ≡ reach_of_need watch.now entry until }
+{
+    if entry < watch.forest().len() && until != LAST {
+        watch.short_of(entry)
+    } else {
+        None
     }
 }

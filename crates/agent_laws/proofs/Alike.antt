@@ -91,9 +91,9 @@ pub shorts_alike : (a b : Agent) → AgentsAreAlike a b → (shorts : List Short
 unfolding short_log_lines
 shorts_alike a b h shorts = same (λ m f xs. short_log_lines (bare m f xs) shorts) a b h
 
-pub answered_alike : (a b : Agent) → AgentsAreAlike a b → (i : ℕ) (operation : Operation) (said : Said) (notes : Notes) (before : Option Trouble) → answered_lines b i operation said notes before ≡ answered_lines a i operation said notes before
+pub answered_alike : (place : List ℕ) (a b : Agent) → AgentsAreAlike a b → (i : ℕ) (operation : Operation) (said : Said) (notes : Notes) (before : Option Trouble) → answered_lines place b i operation said notes before ≡ answered_lines place a i operation said notes before
 unfolding answered_lines
-answered_alike a b h i operation said notes before = same (λ m f xs. answered_lines (bare m f xs) i operation said notes before) a b h
+answered_alike place a b h i operation said notes before = same (λ m f xs. answered_lines place (bare m f xs) i operation said notes before) a b h
 
 pub carried_alike : (a b : Agent) → AgentsAreAlike a b → (count : ℕ) → marks_anew b count ≡ marks_anew a count
 unfolding marks_anew

@@ -1,6 +1,6 @@
 -- Heard: what a house does follows from the machine, the forest, the standings and the beginnings of its agent. For
 -- `a_house_shows_no_credential`.
-use Rattle.std.proofs.Common.{◌≡◌, ◌∙◌, ℕ, Bool, true, false, inl, inr, List, [], ◌∷◌, Option, Some, None, Result, ap, map, refl, subst, sym, Ok, Err, option_map}
+use Rattle.std.proofs.Common.{◌≡◌, ◌∙◌, ℕ, Bool, true, false, inl, inr, List, [], ◌∷◌, Option, Some, None, Result, ap, is_some, map, refl, subst, sym, Ok, Err, option_map}
 use Rattle.std.specs.Prelude.{Vec}
 use Rattle.std.specs.declared.alloc.AllocError.{AllocError}
 use Rattle.std.specs.declared.alloc.Global.{Global}
@@ -21,6 +21,7 @@ use Rattle.base_clients.specs.Doors.{DoorLog}
 use Rattle.base_clients.specs.Tables.{GuestTable, first_asked}
 use Rattle.base_clients.specs.declared.talk.Call.{Call}
 use Rattle.base_clock.specs.declared.reading.Reading.{Reading}
+use Rattle.base_device.specs.declared.tried.Tried.{Tried}
 use Rattle.base_disk.specs.State.{DiskState}
 use Rattle.base_disk.specs.declared.fault.DiskFault.{DiskFault}
 use Rattle.agent_ends.specs.declared.file.EndsFile.{EndsFile}
@@ -50,10 +51,11 @@ use Rattle.agent_log.specs.declared.mark.Want.{Want as Lack}
 use Rattle.agent_log.specs.declared.mark.Want.TheVariants.{Over, Passing, Said, Unsaid}
 use Rattle.agent_words.specs.Moments.{now_of}
 use Rattle.agent_words.specs.Outcomes.{Why}
+use Rattle.agent_words.specs.Telling.{IsNeedReply}
 use Rattle.agent_ledger.specs.Keeping.{KeepCall}
 use Rattle.agent_house.specs.Behind.{stepped}
 use Rattle.agent_house.specs.Awaiting.{HearsFor, VerdictIs}
-use Rattle.agent_house.specs.Commands.{AsksFor, AsksIf, CarriesIf, GoesOnIf, GoesOnWithClients, LacksMemory, SettlesBy, TellsNeed}
+use Rattle.agent_house.specs.Commands.{AsksFor, AsksIf, CarriesIf, GoesOnIf, GoesOnWithClients, LacksMemory, SettlesBy, TellsNeed, reach_of_need}
 use Rattle.agent_house.specs.Doing.{HearsOf, HearsServedIf, HouseGoesOn, SettlesChange}
 use Rattle.agent_house.specs.Ends.{EndsGoOn, KeepsEnds}
 use Rattle.agent_house.specs.Houses.{Attends, ClientIsSent, ClientsGoOn, OnlookersGoOn, SendsAside}
@@ -125,7 +127,7 @@ module _ (a b : Agent) (alike : AgentsAreAlike a b) where
     }
     heard (Needs (Some shorts)) old new x = (says _ _ _ _ old.desk new.desk (shorts_alike a b alike shorts) refl x.0, x.1)
     heard (Needs None) old new x = (lacks old.desk.want old.desk new.desk x.0, x.1)
-    heard (Answer entry operation said notes) old new x = (says _ _ _ _ old.desk new.desk (answered_alike a b alike entry operation said notes (mark_at old.desk.marks entry).trouble) refl x.0, x.1)
+    heard (Answer entry operation said notes) old new x = (says _ _ _ _ old.desk new.desk (answered_alike old.desk.place a b alike entry operation said notes (mark_at old.desk.marks entry).trouble) refl x.0, x.1)
     heard (End entry end) old new x = (says _ _ _ _ old.desk new.desk (same (λ m f xs. ahead_line (bare m f xs) entry end ∷ []) a b alike) refl x.0, x.1)
     heard (Step lead requests) old new x = (
       says _ _ _ _ old.desk new.desk (same (λ m f xs. steps_in_lines (bare m f xs) lead old.desk.marks requests) a b alike) (ap (λ (m : WatchState). with_steps m lead requests old.desk.marks) alike.machine) x.0,
@@ -145,13 +147,13 @@ module _ (a b : Agent) (alike : AgentsAreAlike a b) where
       settles : (is_made : Bool) (given : Option Given) (old new : House S T D K E) → SettlesBy does a is_made given old new → SettlesBy does b is_made given old new
       settles is_made None old new x = x
       settles true (Some (givens.Need need)) old new x =
-          subst (λ (f : Forest). TellsNeed b (name_of f need.entry) need.until need.at old new) (sym alike.forest) (record {
+          subst (λ (f : Forest). TellsNeed b (name_of f need.entry) (reach_of_need b.machine need.entry need.until) need.until need.at old new) (sym alike.forest) (record {
             desk = x.desk;
             heard = says_so (need_log_line (name_of a.inventory.forest need.entry) need.until ∷ []) old.desk.marks old.desk x.desk x.heard;
             line = x.line;
             says = x.says;
             sent = x.sent;
-            reply = x.reply;
+            reply = subst (λ (r : Option ℕ). IsNeedReply (is_some old.state) r x.line x.sent) (ap (λ (m : WatchState). reach_of_need m need.entry need.until) (sym alike.machine)) x.reply;
             sends = sends x.sent need.at (record old { desk = x.desk }) new x.sends;
           })
       settles false (Some (givens.Need need)) old new x = x
@@ -285,10 +287,10 @@ module _ (a b : Agent) (alike : AgentsAreAlike a b) (begun : b.beginnings ≡ a.
         enough = h.enough;
       }
 
-  module _ {S T D K E : Type 0} (given : S → Option (List ℕ)) (failures tries : S → ℕ) (remaining written : T → Option (List ℕ)) (calls : T → Option (List Call)) (log : D → Option (DoorLog T))
+  module _ {S T D K E : Type 0} (given : S → Option (List ℕ)) (failures tries : S → ℕ) (tried : S → Option (List Tried)) (remaining written : T → Option (List ℕ)) (calls : T → Option (List Call)) (log : D → Option (DoorLog T))
       (does : KeepCall → K → K → Type 0) (rows : K → List Row) (path : K → List ℕ) (reads : K → List ℕ → Result Row Why → Type 0) (gives : ℕ → Result (Option Inventory) AllocError → K → Type 0)
       (known : Bool) (state : E → DiskState) (now : Reading) where
-    pub attended : (goes_on : Bool) (old new : House S T D K E) → Attends given failures tries remaining written calls log rows a now goes_on old new → Attends given failures tries remaining written calls log rows b now goes_on old new
+    pub attended : (goes_on : Bool) (old new : House S T D K E) → Attends given failures tries tried remaining written calls log rows a now goes_on old new → Attends given failures tries tried remaining written calls log rows b now goes_on old new
     attended goes_on old new h = record {
       room = h.room;
       rooms = h.rooms;
@@ -308,9 +310,9 @@ module _ (a b : Agent) (alike : AgentsAreAlike a b) (begun : b.beginnings ≡ a.
       more = h.more;
     }
 
-    ends_on : (tried : Option (Result (Unit {0}) DiskFault)) (old new : Option (EndsFile E)) → old ≡ None → EndsGoOn known state a now.elapsed tried old new → EndsGoOn known state b now.elapsed tried old new
-    ends_on tried None new none h = h
-    ends_on tried (Some old) new none h = absurd cc
+    ends_on : (result : Option (Result (Unit {0}) DiskFault)) (old new : Option (EndsFile E)) → old ≡ None → EndsGoOn known state a now.elapsed result old new → EndsGoOn known state b now.elapsed result old new
+    ends_on result None new none h = h
+    ends_on result (Some old) new none h = absurd cc
 
     keeps_ends : (old new : House S T D K E) → old.ends ≡ None → KeepsEnds known state a now.elapsed old new → KeepsEnds known state b now.elapsed old new
     keeps_ends old new none h = record { tried = h.tried; ends = ends_on h.tried old.ends new.ends none h.ends; desk = says_so a b alike _ old.desk.marks old.desk new.desk h.desk; rest = h.rest }
@@ -318,8 +320,8 @@ module _ (a b : Agent) (alike : AgentsAreAlike a b) (begun : b.beginnings ≡ a.
     looks : (goes_on : Bool) (old new : House S T D K E) → LooksAround does a now goes_on old new → LooksAround does b now goes_on old new
     looks goes_on old new h = record { look = h.look; asks = h.asks; desk = says_so a b alike _ old.desk.marks old.desk new.desk h.desk; rest = h.rest; more = h.more }
 
-    pub went_on : (is_busy : Bool) (old new : House S T D K E) → old.ends ≡ None → HouseGoesOn given failures tries remaining written calls log does rows path reads gives known state a now is_busy old new →
-        HouseGoesOn given failures tries remaining written calls log does rows path reads gives known state b now is_busy old new
+    pub went_on : (is_busy : Bool) (old new : House S T D K E) → old.ends ≡ None → HouseGoesOn given failures tries tried remaining written calls log does rows path reads gives known state a now is_busy old new →
+        HouseGoesOn given failures tries tried remaining written calls log does rows path reads gives known state b now is_busy old new
     went_on is_busy old new none h = record {
       kept = h.kept;
       looked = h.looked;
@@ -360,15 +362,15 @@ module _ {S T D K E : Type 0} where
   served_ends true old new none h = ap (λ x. x.ends) h ∙ none_mapped _ old.ends none
   served_ends false old new none h = ap (λ x. x.ends) h ∙ none
 
-module _ {S T D K E : Type 0} (given : S → Option (List ℕ)) (failures tries : S → ℕ) (remaining written : T → Option (List ℕ)) (calls : T → Option (List Call)) (log : D → Option (DoorLog T))
+module _ {S T D K E : Type 0} (given : S → Option (List ℕ)) (failures tries : S → ℕ) (tried : S → Option (List Tried)) (remaining written : T → Option (List ℕ)) (calls : T → Option (List Call)) (log : D → Option (DoorLog T))
     (does : KeepCall → K → K → Type 0) (rows : K → List Row) (path : K → List ℕ) (reads : K → List ℕ → Result Row Why → Type 0) (gives : ℕ → Result (Option Inventory) AllocError → K → Type 0)
     (known : Bool) (state : E → DiskState) where
   abbrev Makes : NeighbourCall → House S T D K E → House S T D K E → Type 0
-  Makes call old new = Does given failures tries remaining written calls log does rows path reads gives known state call old new
+  Makes call old new = Does given failures tries tried remaining written calls log does rows path reads gives known state call old new
 
   makes_alike : (call : Both) (old new : House S T D K E) → IsBothAlike call → old.ends ≡ None → Makes (of_one call) old new → Makes (of_other call) old new
   makes_alike (BothHear a b thing) old new alike none h = heard a b alike thing old new h
-  makes_alike (BothGoOn a b now is_busy) old new alike none h = went_on a b alike.0 alike.1 given failures tries remaining written calls log does rows path reads gives known state now is_busy old new none h
+  makes_alike (BothGoOn a b now is_busy) old new alike none h = went_on a b alike.0 alike.1 given failures tries tried remaining written calls log does rows path reads gives known state now is_busy old new none h
   makes_alike (NeitherGives a b now) old new alike none h = none_given_alike a b alike does rows path reads gives now old new h
   makes_alike (BothSettle a b is_made) old new alike none h = settled a b alike does is_made old new h
   makes_alike (BothRest now rest) old new alike none h = h

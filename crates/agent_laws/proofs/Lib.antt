@@ -9,6 +9,8 @@ pub mod Stamped
 pub mod Alike
 pub mod Recorded
 pub mod Owed
+pub mod Admitted
+pub mod Shown
 pub mod Truly
 pub mod Reaching
 pub mod Truths

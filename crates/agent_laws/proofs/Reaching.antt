@@ -42,7 +42,7 @@ module _ {S T D K E : Type 0} (does : NeighbourCall → House S T D K E → Hous
   -- of neighbours to which each call does this, this is the house
   pub record Reaches {N : Type 0} (to : NeighbourCall → N → N → Type 0) (house : N → House S T D K E) : Type 0 where
     pub hears : (a : Agent) (thing : Thing) (old new : N) → to (Hear a thing) old new → IsHeard (house old) (house new)
-    pub goes_on : (a : Agent) (now : Reading) (is_busy : Bool) (old new : N) → to (GoOn a now is_busy) old new → AreLeft (house old) (house new)
+    pub goes_on : (a : Agent) (now : Reading) (is_busy : Bool) (old new : N) → to (GoOn a now is_busy) old new → (busy : Bool) × does (GoOn a now busy) (house old) (house new)
     pub rests : (now : ℕ) (rest : Option ℕ) (old new : N) → to (Rest now rest) old new → IsHeard (house old) (house new)
     pub none : (a : Agent) (now : Reading) (old new : N) → to (Give a now None) old new → does (Give a now None) (house old) (house new)
     pub settles : (by : Agent) (is_made : Bool) (old new : N) → to (Settle by is_made) old new → SettlesOr by is_made (house old) (house new)

@@ -9,6 +9,7 @@ use Rattle.state_changes.specs.declared.row.Row.{Row}
 use Rattle.base_clients.specs.Doors.{DoorLog}
 use Rattle.base_clients.specs.declared.talk.Call.{Call}
 use Rattle.base_clock.specs.declared.reading.Reading.{Reading}
+use Rattle.base_device.specs.declared.tried.Tried.{Tried}
 use Rattle.base_disk.specs.State.{DiskState}
 use Rattle.base_disk.specs.declared.fault.DiskFault.{DiskFault}
 use Rattle.agent_ends.specs.Files.{EndsFileGoesOn}
@@ -150,11 +151,11 @@ looked_at asks now look None new h = within_more asks 0 0 1 0 None new (omega ar
 looked_at asks now look (Some old) None h = absurd h
 looked_at asks now look (Some old) (Some new) h = within_one asks (Look now look) (Some old) (Some new) (new, (h, refl))
 
-module _ {S T D K E : Type 0} (given : S → Option (List ℕ)) (failures tries : S → ℕ) (remaining written : T → Option (List ℕ)) (calls : T → Option (List Call)) (log : D → Option (DoorLog T))
+module _ {S T D K E : Type 0} (given : S → Option (List ℕ)) (failures tries : S → ℕ) (tried : S → Option (List Tried)) (remaining written : T → Option (List ℕ)) (calls : T → Option (List Call)) (log : D → Option (DoorLog T))
     (asks : KeepCall → K → K → Type 0) (rows : K → List Row) (path : K → List ℕ) (reads : K → List ℕ → Result Row Why → Type 0) (gives_served : ℕ → Result (Option Inventory) AllocError → K → Type 0)
     (known : Bool) (state : E → DiskState) where
   abbrev Does : NeighbourCall → House S T D K E → House S T D K E → Type 0
-  Does = ToHouse given failures tries remaining written calls log asks rows path reads gives_served known state
+  Does = ToHouse given failures tries tried remaining written calls log asks rows path reads gives_served known state
 
   given_of : (agent : Agent) (now : Reading) (change : Option Change) (old new : House S T D K E) → Does (Give agent now change) old new → Spares asks (gives (Give agent now change)) old new
   given_of agent now None old new h = asked_for asks rows path reads gives_served agent now h.0 None old new h.1.1

@@ -1,18 +1,15 @@
 -- Truly: where something is settled, whoever is told `ok` has asked for it, and it is done. For `whoever_is_told_ok_has_it`.
-use Rattle.std.proofs.Common.{◌≡◌, ◌∙◌, ◌⊎◌, ℕ, zero, suc, Bool, true, false, ◌&&◌, inl, inr, List, [], ◌∷◌, ◌++◌, get_or, nat_eq, Option, Some, None, Result, ap, arith, codes, refl, slice_get, slice_index, slice_set, subst, sym}
-use Rattle.std.proofs.lemmas.Bool.{and_parts, eqb-true}
-use Rattle.std.proofs.lemmas.List.Quantifiers.{position-Some}
+use Rattle.std.proofs.Common.{◌≡◌, ◌∙◌, ◌⊎◌, ℕ, Bool, true, false, ◌&&◌, inl, inr, List, [], ◌∷◌, ◌++◌, Option, Some, None, Result, ap, arith, codes, refl, slice_get, slice_index, slice_set, subst, sym}
 use Rattle.std.specs.List.{position}
 use Rattle.agent_standing.specs.Agent.{Agent}
 use Rattle.agent_answers.specs.Controlling.{AnswersAsking}
 use Rattle.agent_answers.specs.declared.asked.Asked.{Asked}
 use Rattle.agent_answers.specs.declared.control.Control.{Control}
 use Rattle.state_changes.specs.declared.row.Row.{Row}
-use Rattle.base_clients.specs.Guests.{is_waiting}
 use Rattle.base_clients.specs.Tables.{AnswersGuest, BecomesAt, GuestTable, guest_answered, waits_as}
 use Rattle.base_clients.specs.declared.guest.Guest.{Guest}
 use Rattle.base_clients.specs.declared.stage.Stage.{Stage}
-use Rattle.base_clients.specs.declared.stage.Stage.TheVariants.{Answering, Asked as Asking, Following, Over, Reading, Waiting}
+use Rattle.base_clients.specs.declared.stage.Stage.TheVariants as stages
 use Rattle.agent_ledger.specs.Keeping.{KeepCall}
 use Rattle.agent_words.specs.Outcomes.{Why}
 use Rattle.agent_house.specs.Admitting.{asking_in}
@@ -22,7 +19,8 @@ use Rattle.agent_house.specs.Houses.{ClientIsAnswered, IsAnsweredAside, bytes_se
 use Rattle.agent_house.specs.declared.given.Given.{Given}
 use Rattle.agent_house.specs.declared.given.Given.TheVariants as givens
 use Rattle.agent_house.specs.declared.house.House.{House}
-use Rattle.agent_laws.specs.Acknowledged.{IsToldOk, guests_in}
+use Rattle.agent_laws.specs.Acknowledged.{HasOk, WasThere, answer_in, guests_in}
+use Rattle.agent_laws.proofs.Admitted.{set_back, waits_number}
 use Rattle.agent_laws.proofs.Owed.{IsOwed, IsTold, Owes}
 
 -- ---- who is told
@@ -31,105 +29,102 @@ abbrev the : {X : Type 0} → X → Option X → X
 the d None = d
 the d (Some x) = x
 
-abbrev bytes_in : Stage → List ℕ
-bytes_in (Reading bytes) = []
-bytes_in (Asking bytes) = []
-bytes_in Waiting = []
-bytes_in (Answering left) = left
-bytes_in (Following left) = []
-bytes_in Over = []
+sent_says : (answer more : List ℕ) (s : Stage) → s ≡ stages.Answering answer → answer_in s ≡ Some (codes "ok" ++ more) → answer ≡ codes "ok" ++ more
+sent_says answer more s is says = ap (the []) (sym (ap answer_in is) ∙ says)
 
 module _ {T : Type 0} where
-  -- of one of them alone it is another
-  set_one : (xs : List (Guest T)) (i place : ℕ) (g n before after : Guest T) → slice_get xs i ≡ Some g → slice_get xs place ≡ Some before → slice_get (slice_set xs i n) place ≡ Some after → ((before ≡ g) × (after ≡ n)) ⊎ (after ≡ before)
-  set_one [] i place g n before after here was is = absurd cc
-  set_one (x ∷ xs) zero zero g n before after here was is = inl (ap (the g) (sym was ∙ here), ap (the n) (sym is))
-  set_one (x ∷ xs) zero (suc place) g n before after here was is = inr (ap (the before) (sym is ∙ was))
-  set_one (x ∷ xs) (suc i) zero g n before after here was is = inr (ap (the before) (sym is ∙ was))
-  set_one (x ∷ xs) (suc i) (suc place) g n before after here was is = set_one xs i place g n before after here was is
+  -- it is as it was, or this is so
+  abbrev pub WasOr : (xs ys : List (Guest T)) → HasOk ys → (Guest T → Type 0) → Type 0
+  WasOr xs ys ok IsSo = WasThere xs ok.place ok.client (λ before. (ok.client ≡ before) ⊎ IsSo before)
 
-  first_is : (xs : List (Guest T)) (i : ℕ) (g : Guest T) → slice_get xs i ≡ Some g → get_or xs i g ≡ g
-  first_is [] i g is = refl
-  first_is (x ∷ xs) zero g is = ap (the g) is
-  first_is (x ∷ xs) (suc i) g is = first_is xs i g is
+  was_same : (xs ys : List (Guest T)) (ok : HasOk ys) (IsSo : Guest T → Type 0) → ys ≡ xs → WasOr xs ys ok IsSo
+  was_same xs ys ok IsSo same = record { before = ok.client; was = ap (λ (l : List (Guest T)). slice_get l ok.place) (sym same) ∙ ok.there; same = refl; so = inl refl }
 
-  -- nobody waits and is answered at once
-  not_both : (xs ys : List (Guest T)) (told : IsToldOk xs ys) → told.after ≡ told.before → ⊥
-  not_both xs ys told same =
-      let both : [] ≡ codes "ok" ++ told.more = ap bytes_in (sym told.waits ∙ ap (λ (g : Guest T). g.stage) (sym same) ∙ told.told) in
-      let first : 0 ≡ 111 = ap (λ (l : List ℕ). slice_index l 0) both in
-      absurd (omega (arith, first))
+  was_more : (xs ys : List (Guest T)) (ok : HasOk ys) (P Q : Guest T → Type 0) → ((before : Guest T) → P before → Q before) → WasOr xs ys ok P → WasOr xs ys ok Q
+  was_more xs ys ok P Q more it = record { before = it.before; was = it.was; same = it.same; so = elim it.so [ inl same ↦ inl same | inr so ↦ inr (more it.before so) ] }
 
-  pub nobody : (xs ys : List (Guest T)) → ys ≡ xs → IsToldOk xs ys → ⊥
-  nobody xs ys same told = not_both xs ys told (ap (the told.before) (sym told.is ∙ ap (λ (l : List (Guest T)). slice_get l told.place) same ∙ told.was))
+  -- the one that waits under this number is sent this
+  abbrev IsSent : List ℕ → List ℕ → ℕ → Guest T → Type 0
+  IsSent answer more id before = (answer ≡ codes "ok" ++ more) × (before.id ≡ id)
 
-  waits_number : (id : ℕ) (xs : List (Guest T)) (i : ℕ) (g : Guest T) → position (waits_as id) xs ≡ Some i → slice_get xs i ≡ Some g → g.id ≡ id
-  waits_number id xs i g at here =
-      let first = position-Some (waits_as id) xs i g at in
-      let it : (is_waiting g.stage && nat_eq g.id id) ≡ true = ap (waits_as id) (sym (first_is xs i g here)) ∙ first.1 in
-      eqb-true g.id id (and_parts (is_waiting g.stage) (nat_eq g.id id) it).1
-
-  module _ {F : Type 0} (id now : ℕ) (answer : List ℕ) (given : Bool) (old new : GuestTable T F) (told : IsToldOk old.guests new.guests) where
-    told_one : (i : ℕ) (g : Guest T) → position (waits_as id) old.guests ≡ Some i → slice_get old.guests i ≡ Some g → new.guests ≡ slice_set old.guests i (guest_answered now answer g) → (answer ≡ codes "ok" ++ told.more) × (told.before.id ≡ id)
+  module _ {F : Type 0} (id now : ℕ) (answer : List ℕ) (given : Bool) (old new : GuestTable T F) (ok : HasOk new.guests) where
+    told_one : (i : ℕ) (g : Guest T) → position (waits_as id) old.guests ≡ Some i → slice_get old.guests i ≡ Some g → new.guests ≡ slice_set old.guests i (guest_answered now answer g) → WasOr old.guests new.guests ok (IsSent answer ok.more id)
     told_one i g at here is =
-        elim (set_one old.guests i told.place g (guest_answered now answer g) told.before told.after here told.was (ap (λ (l : List (Guest T)). slice_get l told.place) (sym is) ∙ told.is)) [
-          | inl it ↦ (ap bytes_in (sym (ap (λ (n : Guest T). n.stage) it.1)) ∙ ap bytes_in told.told, ap (λ (n : Guest T). n.id) it.0 ∙ waits_number id old.guests i g at here)
-          | inr same ↦ absurd (not_both old.guests new.guests told same)
+        let back = set_back old.guests i ok.place g (guest_answered now answer g) ok.client here (ap (λ (l : List (Guest T)). slice_get l ok.place) (sym is) ∙ ok.there) in
+        elim back.1.1 [
+          | inl it ↦ record {
+            before = back.0;
+            was = back.1.0;
+            same = ap (λ (n : Guest T). n.id) it.0 ∙ sym (ap (λ (n : Guest T). n.id) it.1);
+            so = inr (sent_says answer ok.more ok.client.stage (ap (λ (n : Guest T). n.stage) it.1) ok.says, ap (λ (n : Guest T). n.id) it.0 ∙ waits_number id old.guests i g at here);
+          }
+          | inr same ↦ record { before = back.0; was = back.1.0; same = ap (λ (n : Guest T). n.id) (sym same); so = inl same }
         ]
 
-    told_at : (place : Option ℕ) → position (waits_as id) old.guests ≡ place → BecomesAt place (guest_answered now answer) given old new → (answer ≡ codes "ok" ++ told.more) × (told.before.id ≡ id)
-    told_at None at h = absurd (nobody old.guests new.guests (ap (λ (t : GuestTable T F). t.guests) h.1) told)
+    told_at : (place : Option ℕ) → position (waits_as id) old.guests ≡ place → BecomesAt place (guest_answered now answer) given old new → WasOr old.guests new.guests ok (IsSent answer ok.more id)
+    told_at None at h = was_same old.guests new.guests ok (IsSent answer ok.more id) (ap (λ (t : GuestTable T F). t.guests) h.1)
     told_at (Some i) at h = told_one i h.1.0 at h.1.1.0 (ap (λ (t : GuestTable T F). t.guests) h.1.1.1)
 
-    pub told_guest : AnswersGuest id now answer given old new → (answer ≡ codes "ok" ++ told.more) × (told.before.id ≡ id)
+    pub told_guest : AnswersGuest id now answer given old new → WasOr old.guests new.guests ok (IsSent answer ok.more id)
     told_guest h = told_at (position (waits_as id) old.guests) refl h
+
+module _ {T : Type 0} (answer : List ℕ) where
+  abbrev pub IsSentTo : Option ℕ → List ℕ → Guest T → Type 0
+  IsSentTo who more before = (answer ≡ codes "ok" ++ more) × (who ≡ Some before.id)
+
+  numbered : (id : ℕ) (more : List ℕ) (before : Guest T) → IsSent answer more id before → IsSentTo (Some id) more before
+  numbered id more before it = (it.0, ap Some (sym it.1))
 
 -- the client that is answered is the one that asks
 module _ {T D : Type 0} (answer : List ℕ) (now : ℕ) where
-  told_asking : (asking : Option ℕ) (old new : Control T D) (told : IsToldOk old.clients.guests new.clients.guests) → AnswersAsking asking answer now old new → (answer ≡ codes "ok" ++ told.more) × (asking ≡ Some told.before.id)
-  told_asking None old new told h = absurd (nobody old.clients.guests new.clients.guests (ap (λ (c : Control T D). c.clients.guests) h) told)
-  told_asking (Some id) old new told h = (let it = told_guest id now answer h.0 old.clients new.clients told h.1.0 in (it.0, ap Some (sym it.1)))
+  told_asking : (asking : Option ℕ) (old new : Control T D) (ok : HasOk new.clients.guests) → AnswersAsking asking answer now old new → WasOr old.clients.guests new.clients.guests ok (IsSentTo answer asking ok.more)
+  told_asking None old new ok h = was_same old.clients.guests new.clients.guests ok (IsSentTo answer None ok.more) (ap (λ (c : Control T D). c.clients.guests) h)
+  told_asking (Some id) old new ok h = was_more old.clients.guests new.clients.guests ok _ _ (numbered answer id ok.more) (told_guest id now answer h.0 old.clients new.clients ok h.1.0)
 
-  pub told_client : (old new : Option (Control T D)) (told : IsToldOk (guests_in old) (guests_in new)) → ClientIsAnswered answer now old new → (answer ≡ codes "ok" ++ told.more) × (asking_in old ≡ Some told.before.id)
-  told_client None new told h = absurd (nobody [] (guests_in new) (ap guests_in h) told)
-  told_client (Some old) None told h = absurd h
-  told_client (Some old) (Some new) told h = told_asking old.asking old new told h
+  pub told_client : (old new : Option (Control T D)) (ok : HasOk (guests_in new)) → ClientIsAnswered answer now old new → WasOr (guests_in old) (guests_in new) ok (IsSentTo answer (asking_in old) ok.more)
+  told_client None new ok h = was_same [] (guests_in new) ok (IsSentTo answer None ok.more) (ap guests_in h)
+  told_client (Some old) None ok h = absurd h
+  told_client (Some old) (Some new) ok h = told_asking old.asking old new ok h
 
   -- or the one that was set aside
-  pub told_aside : (client : Option ℕ) (old new : Option (Control T D)) (told : IsToldOk (guests_in old) (guests_in new)) → IsAnsweredAside client answer now old new → (answer ≡ codes "ok" ++ told.more) × (client ≡ Some told.before.id)
-  told_aside None old new told h = absurd (nobody (guests_in old) (guests_in new) (ap guests_in h) told)
-  told_aside (Some id) None new told h = absurd (nobody [] (guests_in new) (ap guests_in h) told)
-  told_aside (Some id) (Some old) None told h = absurd h
-  told_aside (Some id) (Some old) (Some new) told h = (let it = told_guest id now answer h.0 old.clients new.clients told h.1.0 in (it.0, ap Some (sym it.1)))
+  pub told_aside : (client : Option ℕ) (old new : Option (Control T D)) (ok : HasOk (guests_in new)) → IsAnsweredAside client answer now old new → WasOr (guests_in old) (guests_in new) ok (IsSentTo answer client ok.more)
+  told_aside None old new ok h = was_same (guests_in old) (guests_in new) ok (IsSentTo answer None ok.more) (ap guests_in h)
+  told_aside (Some id) None new ok h = was_same [] (guests_in new) ok (IsSentTo answer (Some id) ok.more) (ap guests_in h)
+  told_aside (Some id) (Some old) None ok h = absurd h
+  told_aside (Some id) (Some old) (Some new) ok h = was_more old.clients.guests new.clients.guests ok _ _ (numbered answer id ok.more) (told_guest id now answer h.0 old.clients new.clients ok h.1.0)
 
 -- ---- something is settled
 
+not_sent : (more : List ℕ) → [] ≡ codes "ok" ++ more → ⊥
+not_sent more is = absurd (let first : 0 ≡ 111 = ap (λ (l : List ℕ). slice_index l 0) is in omega (arith, first))
+
 -- what is told, and what is left
 record Tells {S T D K E : Type 0} (Told : Option ℕ → Option K → Type 0) (old new : House S T D K E) : Type 0 where
-  told : (t : IsToldOk (guests_in old.control) (guests_in new.control)) → Told (Some t.before.id) new.state
+  told : (ok : HasOk (guests_in new.control)) → WasOr (guests_in old.control) (guests_in new.control) ok (λ before. Told (Some before.id) new.state)
   given : new.given ≡ old.given
   awaited : new.awaited ≡ old.awaited
 
 module _ {S T D K E : Type 0} (does : KeepCall → K → K → Type 0) (reads : K → List ℕ → Result Row Why → Type 0) (Done : Asked → Option K → Type 0) (has : ℕ → Asked → Type 0) (agent : Agent) where
   -- the clients are as they were
   same_tells : (old new : House S T D K E) → new.control ≡ old.control → new.given ≡ old.given → new.awaited ≡ old.awaited → Tells (IsTold Done has) old new
-  same_tells old new control given awaited = record { told = λ t. absurd (nobody (guests_in old.control) (guests_in new.control) (ap guests_in control) t); given = given; awaited = awaited }
+  same_tells old new control given awaited = record { told = λ ok. was_same (guests_in old.control) (guests_in new.control) ok _ (ap guests_in control); given = given; awaited = awaited }
 
   -- a client is sent this
   sent_tells : (answer : List ℕ) (now : ℕ) (who : Option ℕ) (old new : House S T D K E)
-      → ((t : IsToldOk (guests_in old.control) (guests_in new.control)) → (answer ≡ codes "ok" ++ t.more) × (who ≡ Some t.before.id)) → ((more : List ℕ) → answer ≡ codes "ok" ++ more → IsTold Done has who old.state)
+      → ((ok : HasOk (guests_in new.control)) → WasOr (guests_in old.control) (guests_in new.control) ok (IsSentTo answer who ok.more)) → ((more : List ℕ) → answer ≡ codes "ok" ++ more → IsTold Done has who old.state)
       → new.state ≡ old.state → new.given ≡ old.given → new.awaited ≡ old.awaited → Tells (IsTold Done has) old new
   sent_tells answer now who old new told owed state given awaited = record {
-    told = λ t. (let it = told t in subst (λ (s : Option K). IsTold Done has (Some t.before.id) s) (sym state) (subst (λ (w : Option ℕ). IsTold Done has w old.state) it.1 (owed t.more it.0)));
+    told = λ ok. was_more (guests_in old.control) (guests_in new.control) ok (IsSentTo answer who ok.more) _
+        (λ before it. subst (λ (s : Option K). IsTold Done has (Some before.id) s) (sym state) (subst (λ (w : Option ℕ). IsTold Done has w old.state) it.1 (owed ok.more it.0))) (told ok);
     given = given;
     awaited = awaited;
   }
 
   -- nothing is sent
-  closed_tells : (now : ℕ) (who : Option ℕ) (old new : House S T D K E) → ((t : IsToldOk (guests_in old.control) (guests_in new.control)) → ([] ≡ codes "ok" ++ t.more) × (who ≡ Some t.before.id))
+  closed_tells : (now : ℕ) (who : Option ℕ) (old new : House S T D K E) → ((ok : HasOk (guests_in new.control)) → WasOr (guests_in old.control) (guests_in new.control) ok (IsSentTo [] who ok.more))
       → new.given ≡ old.given → new.awaited ≡ old.awaited → Tells (IsTold Done has) old new
   closed_tells now who old new told given awaited = record {
-    told = λ t. absurd (let first : 0 ≡ 111 = ap (λ (l : List ℕ). slice_index l 0) (told t).0 in omega (arith, first));
+    told = λ ok. was_more (guests_in old.control) (guests_in new.control) ok (IsSentTo [] who ok.more) _ (λ before it. absurd (not_sent ok.more it.0)) (told ok);
     given = given;
     awaited = awaited;
   }
@@ -138,17 +133,17 @@ module _ {S T D K E : Type 0} (does : KeepCall → K → K → Type 0) (reads : 
   settled_by is_made None old new owed h = same_tells old new (ap (λ y. y.control) h) (ap (λ y. y.given) h) (ap (λ y. y.awaited) h)
   settled_by true (Some (givens.Need need)) old new owed h =
       let rest = h.sends.rest in
-      sent_tells (bytes_sent h.sent) need.at (asking_in old.control) old new (λ t. told_client (bytes_sent h.sent) need.at old.control new.control t h.sends.client) (λ more is. owed) (ap (λ y. y.state) rest) (ap (λ y. y.given) rest) (ap (λ y. y.awaited) rest)
+      sent_tells (bytes_sent h.sent) need.at (asking_in old.control) old new (λ ok. told_client (bytes_sent h.sent) need.at old.control new.control ok h.sends.client) (λ more is. owed) (ap (λ y. y.state) rest) (ap (λ y. y.given) rest) (ap (λ y. y.awaited) rest)
   settled_by false (Some (givens.Need need)) old new owed h =
-      closed_tells need.at (asking_in old.control) old new (λ t. told_client [] need.at old.control new.control t h.0) (ap (λ y. y.given) h.1) (ap (λ y. y.awaited) h.1)
+      closed_tells need.at (asking_in old.control) old new (λ ok. told_client [] need.at old.control new.control ok h.0) (ap (λ y. y.given) h.1) (ap (λ y. y.awaited) h.1)
   settled_by true (Some (givens.Answer sent at)) old new owed h =
-      sent_tells (bytes_sent sent) at (asking_in old.control) old new (λ t. told_client (bytes_sent sent) at old.control new.control t h.client) (λ more is. owed (more, is)) (ap (λ y. y.state) h.rest) (ap (λ y. y.given) h.rest) (ap (λ y. y.awaited) h.rest)
+      sent_tells (bytes_sent sent) at (asking_in old.control) old new (λ ok. told_client (bytes_sent sent) at old.control new.control ok h.client) (λ more is. owed (more, is)) (ap (λ y. y.state) h.rest) (ap (λ y. y.given) h.rest) (ap (λ y. y.awaited) h.rest)
   settled_by false (Some (givens.Answer sent at)) old new owed h =
-      closed_tells at (asking_in old.control) old new (λ t. told_client [] at old.control new.control t h.0) (ap (λ y. y.given) h.1) (ap (λ y. y.awaited) h.1)
+      closed_tells at (asking_in old.control) old new (λ ok. told_client [] at old.control new.control ok h.0) (ap (λ y. y.given) h.1) (ap (λ y. y.awaited) h.1)
   settled_by true (Some (givens.Aside client sent at)) old new owed h =
-      sent_tells (bytes_sent sent) at client old new (λ t. told_aside (bytes_sent sent) at client old.control new.control t h.answered) (λ more is. owed (more, is)) (ap (λ y. y.state) h.rest) (ap (λ y. y.given) h.rest) (ap (λ y. y.awaited) h.rest)
+      sent_tells (bytes_sent sent) at client old new (λ ok. told_aside (bytes_sent sent) at client old.control new.control ok h.answered) (λ more is. owed (more, is)) (ap (λ y. y.state) h.rest) (ap (λ y. y.given) h.rest) (ap (λ y. y.awaited) h.rest)
   settled_by false (Some (givens.Aside client sent at)) old new owed h =
-      closed_tells at client old new (λ t. told_aside [] at client old.control new.control t h.0) (ap (λ y. y.given) h.1) (ap (λ y. y.awaited) h.1)
+      closed_tells at client old new (λ ok. told_aside [] at client old.control new.control ok h.0) (ap (λ y. y.given) h.1) (ap (λ y. y.awaited) h.1)
   settled_by true (Some (givens.Served marks)) old new owed h = same_tells old new (ap (λ y. y.control) h.1) (ap (λ y. y.given) h.1) (ap (λ y. y.awaited) h.1)
   settled_by false (Some (givens.Served marks)) old new owed h = same_tells old new (ap (λ y. y.control) h) (ap (λ y. y.given) h) (ap (λ y. y.awaited) h)
   settled_by true (Some givens.Unchanged) old new owed h = same_tells old new (ap (λ y. y.control) h.1) (ap (λ y. y.given) h.1) (ap (λ y. y.awaited) h.1)
@@ -184,11 +179,14 @@ module _ {S T D K E : Type 0} (does : KeepCall → K → K → Type 0) (reads : 
     pub awaited_then : new.awaited ≡ old.awaited
     awaited_then = ap (λ y. y.awaited) h.rest ∙ all.awaited ∙ heard.awaited
 
-    told_settled : (t : IsToldOk (guests_in old.control) (guests_in h.settled.control)) → IsTold Done has (Some t.before.id) h.settled.state
-    told_settled = subst (λ (c : Option (Control T D)). (t : IsToldOk (guests_in c) (guests_in h.settled.control)) → IsTold Done has (Some t.before.id) h.settled.state) heard.control all.told
+    abbrev Truly : List (Guest T) → House S T D K E → Type 0
+    Truly xs n = (ok : HasOk (guests_in n.control)) → WasOr xs (guests_in n.control) ok (λ before. IsTold Done has (Some before.id) n.state)
 
-    told_then : (t : IsToldOk (guests_in old.control) (guests_in new.control)) → IsTold Done has (Some t.before.id) new.state
-    told_then = subst (λ (n : House S T D K E). (t : IsToldOk (guests_in old.control) (guests_in n.control)) → IsTold Done has (Some t.before.id) n.state) (sym h.rest) told_settled
+    told_settled : Truly (guests_in old.control) h.settled
+    told_settled = subst (λ (c : Option (Control T D)). Truly (guests_in c) h.settled) heard.control all.told
 
-    pub told_truly : (t : IsToldOk (guests_in old.control) (guests_in new.control)) → (a : Asked) × (has t.before.id a × Done a new.state)
-    told_truly t = told_then t t.before.id refl
+    told_then : Truly (guests_in old.control) new
+    told_then = subst (Truly (guests_in old.control)) (sym h.rest) told_settled
+
+    pub told_truly : (ok : HasOk (guests_in new.control)) → WasOr (guests_in old.control) (guests_in new.control) ok (λ before. (a : Asked) × (has before.id a × Done a new.state))
+    told_truly ok = was_more (guests_in old.control) (guests_in new.control) ok _ _ (λ before told. told before.id refl) (told_then ok)

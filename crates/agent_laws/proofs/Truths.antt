@@ -4,10 +4,13 @@ use Rattle.std.proofs.Common.{◌≡◌, ◌∙◌, ◌⊎◌, ℕ, Bool, inl, i
 use Rattle.std.specs.declared.alloc.AllocError.{AllocError}
 use Rattle.agent_standing.specs.Agent.{Agent}
 use Rattle.agent_answers.specs.declared.asked.Asked.{Asked}
+use Rattle.agent_answers.specs.declared.asked.Asked.TheVariants as asked
 use Rattle.state_changes.specs.declared.row.Row.{Row}
 use Rattle.base_clients.specs.Doors.{DoorLog}
+use Rattle.base_clients.specs.declared.guest.Guest.{Guest}
 use Rattle.base_clients.specs.declared.talk.Call.{Call}
 use Rattle.base_clock.specs.declared.reading.Reading.{Reading}
+use Rattle.base_device.specs.declared.tried.Tried.{Tried}
 use Rattle.base_disk.specs.State.{DiskState}
 use Rattle.vault_inventory.specs.Inventories.{Inventory}
 use Rattle.agent_turns.specs.Calls.{calls_after, calls_at, calls_in, calls_of, calls_of_answering, calls_of_reading, heard_of_want}
@@ -27,10 +30,12 @@ use Rattle.agent_house.specs.Nexts.{HearsNext}
 use Rattle.agent_house.specs.declared.given.Awaited.{Awaited}
 use Rattle.agent_house.specs.declared.given.Given.{Given}
 use Rattle.agent_house.specs.declared.house.House.{House}
-use Rattle.agent_laws.specs.Acknowledged.{AllTellTruly, Asks, IsToldOk, TurnsTellTruly, guests_in}
-use Rattle.agent_laws.proofs.Owed.{AreDone, IsOwed, Owes, WaitsFor, asked_for, none_given}
+use Rattle.agent_laws.specs.Acknowledged.{AllTellTruly, Asks, HasOk, IsShown, TellsOk, TellsOkAmid, TurnsTellTruly, guests_in}
+use Rattle.agent_laws.proofs.Admitted.{Follows, admitted_alone, same_ok}
+use Rattle.agent_laws.proofs.Owed.{AreDone, IsOwed, IsTurnOf, Owes, WaitsFor, asked_for, none_given}
 use Rattle.agent_laws.proofs.Reaching.{AreLeft, IsChanged, IsHeard, Reaches, SettlesOr, unheard}
-use Rattle.agent_laws.proofs.Truly.{awaited_then, nobody, none_then, told_truly}
+use Rattle.agent_laws.proofs.Shown.{clients_told}
+use Rattle.agent_laws.proofs.Truly.{awaited_then, none_then, told_truly}
 use Rattle.agent_laws.proofs.Weighed.{light_stages, light_want, weight}
 
 -- ---- each change that is given is settled at once
@@ -119,11 +124,11 @@ module _ {S T D K E : Type 0} where
   heard_of agent (Step lead requests) old new h = by_rest _ old new refl refl refl h.1
   heard_of agent Want old new h = by_rest _ old new refl refl refl h.1
 
-module _ {S T D K E : Type 0} (given : S → Option (List ℕ)) (failures tries : S → ℕ) (remaining written : T → Option (List ℕ)) (calls : T → Option (List Call)) (log : D → Option (DoorLog T))
+module _ {S T D K E : Type 0} (given : S → Option (List ℕ)) (failures tries : S → ℕ) (tried : S → Option (List Tried)) (remaining written : T → Option (List ℕ)) (calls : T → Option (List Call)) (log : D → Option (DoorLog T))
     (does : KeepCall → K → K → Type 0) (rows : K → List Row) (path : K → List ℕ) (reads : K → List ℕ → Result Row Why → Type 0) (gives : ℕ → Result (Option Inventory) AllocError → K → Type 0)
     (known : Bool) (state : E → DiskState) where
   abbrev pub Does : NeighbourCall → House S T D K E → House S T D K E → Type 0
-  Does call old new = DoesToHouse given failures tries remaining written calls log does rows path reads gives known state call old new
+  Does call old new = DoesToHouse given failures tries tried remaining written calls log does rows path reads gives known state call old new
 
   went_on : (agent : Agent) (now : Reading) (is_busy : Bool) (old new : House S T D K E) → Does (GoOn agent now is_busy) old new → AreLeft old new
   went_on agent now is_busy old new h = record {
@@ -131,10 +136,17 @@ module _ {S T D K E : Type 0} (given : S → Option (List ℕ)) (failures tries 
     awaited = ap (λ x. x.awaited) h.attend.rest ∙ ap (λ x. x.awaited) h.look.rest ∙ ap (λ x. x.awaited) h.ends.rest;
   }
 
+  -- and a client that is told `ok` is shown a page
+  shown_alone : (agent : Agent) (now : Reading) (is_busy : Bool) (old new : House S T D K E) → Does (GoOn agent now is_busy) old new → TellsOkAmid (guests_in old.control) (guests_in new.control) (λ before client. IsShown agent now before client)
+  shown_alone agent now is_busy old new h ok =
+      let same : guests_in h.looked.control ≡ guests_in old.control = ap (λ x. guests_in x.control) h.look.rest ∙ ap (λ x. guests_in x.control) h.ends.rest in
+      subst (λ (xs : List (Guest T)). TellsOkAmid xs (guests_in new.control) (λ before client. IsShown agent now before client)) same
+      (λ told. clients_told remaining written calls log agent h.attend.around now h.attend.answered _ _ _ h.attend.rooms h.looked.control h.attend.fed new.control h.attend.follow h.attend.clients told) ok
+
   pub reaches_house : Reaches Does Does (λ (h : House S T D K E). h)
   reaches_house = record {
     hears = heard_of;
-    goes_on = went_on;
+    goes_on = λ agent now is_busy old new h. (is_busy, h);
     rests = λ now rest old new h. unheard old new h.0;
     none = λ a now old new h. h;
     settles = λ by is_made old new h. inl h;
@@ -176,7 +188,7 @@ module _ {S T D K E : Type 0} (given : S → Option (List ℕ)) (failures tries 
 
     -- something is settled
     record Settled (has : ℕ → Asked → Type 0) (old new : House S T D K E) : Type 0 where
-      told : (t : IsToldOk (guests_in old.control) (guests_in new.control)) → (a : Asked) × (has t.before.id a × Done a new.state)
+      told : TellsOk (guests_in old.control) (guests_in new.control) (λ before client. (a : Asked) × (has before.id a × Done a new.state))
       rests : Rests has new
 
     settled_one : (has : ℕ → Asked → Type 0) (by : Agent) (is_made : Bool) (old new : House S T D K E) → Owes reads Done has old → Does (Settle by is_made) old new → Settled has old new
@@ -192,7 +204,7 @@ module _ {S T D K E : Type 0} (given : S → Option (List ℕ)) (failures tries 
     settled_another has by is_made old new rests (inl h) =
         settled_one has by is_made old new (record { given = subst (λ (g : Option Given). IsOwed Done has (asking_in old.control) old.state g) (sym rests.none) tt; waits = rests.waits }) h
     settled_another has by is_made old new rests (inr h) = record {
-      told = λ t. absurd (nobody (guests_in old.control) (guests_in new.control) (ap guests_in h.control) t);
+      told = same_ok (λ before client. (a : Asked) × (has before.id a × Done a new.state)) (guests_in old.control) (guests_in new.control) (ap guests_in h.control);
       rests = rests_on has has (λ id a it. it) old new h.left rests;
     }
 
@@ -200,17 +212,28 @@ module _ {S T D K E : Type 0} (given : S → Option (List ℕ)) (failures tries 
     changed has a now change by is_made old mid new rests (inl h) = settled_one (and_now has (Give a now change) old) by is_made mid new (owes_then has a now change change old mid rests h.0) h.1
     changed has a now change by is_made old mid new rests (inr h) = settled_another (and_now has (Give a now change) old) by is_made mid new (given_none has a now change old mid rests h.0) h.1
 
+    -- whoever is told `ok` where a change is given follows the log from then on
+    asked_alone : (a : Agent) (now : Reading) (change : Option Change) (by : Agent) (is_made : Bool) (old mid new : House S T D K E) → IsChanged Does a now change by is_made old mid new →
+        TellsOk (guests_in old.control) (guests_in mid.control) (Follows (λ id alerts. IsTurnOf now old.control id (asked.Follow alerts)))
+    asked_alone a now change by is_made old mid new (inl h) = admitted_alone does rows path reads gives a now change old mid h.0
+    asked_alone a now change by is_made old mid new (inr h) = admitted_alone does rows path reads gives a now None old mid h.0
+
     module _ {N : Type 0} (to : NeighbourCall → N → N → Type 0) (house : N → House S T D K E) (reaches : Reaches Does to house) where
       truly : (has : ℕ → Asked → Type 0) (made : List NeighbourCall) (old new : N) → EachIsSettled made → (run : AllCalled to made old new) → Rests has (house old) → AllTellTruly to house Done has made old new run
       truly has [] old new each run rests = tt
       truly has (Hear agent thing ∷ made) old new each run rests =
           let more = and_now has (Hear agent thing) (house old) in
-          (tt, truly more made run.0 new each run.1.1 (rests_on has more (λ id a it. inl it) (house old) (house run.0) (reaches.hears agent thing old run.0 run.1.0).left rests))
+          let all = reaches.hears agent thing old run.0 run.1.0 in
+          (same_ok (λ before client. ⊥) (guests_in (house old).control) (guests_in (house run.0).control) (ap guests_in all.control), truly more made run.0 new each run.1.1 (rests_on has more (λ id a it. inl it) (house old) (house run.0) all.left rests))
       truly has (GoOn agent now is_busy ∷ made) old new each run rests =
           let more = and_now has (GoOn agent now is_busy) (house old) in
-          (tt, truly more made run.0 new each run.1.1 (rests_on has more (λ id a it. inl it) (house old) (house run.0) (reaches.goes_on agent now is_busy old run.0 run.1.0) rests))
+          let all = reaches.goes_on agent now is_busy old run.0 run.1.0 in (
+            shown_alone agent now all.0 (house old) (house run.0) all.1,
+            truly more made run.0 new each run.1.1 (rests_on has more (λ id a it. inl it) (house old) (house run.0) (went_on agent now all.0 (house old) (house run.0) all.1) rests),
+          )
       truly has (Give agent now None ∷ made) old new each run rests =
-          (tt, truly (and_now has (Give agent now None) (house old)) made run.0 new each run.1.1 (given_none has agent now None (house old) (house run.0) rests (reaches.none agent now old run.0 run.1.0)))
+          let all = reaches.none agent now old run.0 run.1.0 in
+          (admitted_alone does rows path reads gives agent now None (house old) (house run.0) all, truly (and_now has (Give agent now None) (house old)) made run.0 new each run.1.1 (given_none has agent now None (house old) (house run.0) rests all))
       truly has (Give agent now (Some change) ∷ []) old new each run rests = absurd each
       truly has (Give agent now (Some change) ∷ Hear a thing ∷ made) old new each run rests = absurd each
       truly has (Give agent now (Some change) ∷ GoOn a r is_busy ∷ made) old new each run rests = absurd each
@@ -219,14 +242,18 @@ module _ {S T D K E : Type 0} (given : S → Option (List ℕ)) (failures tries 
           let mid = run.0 in
           let last = run.1.1.0 in
           let asked_then = and_now has (Give agent now (Some change)) (house old) in
-          let all = changed has agent now (Some change) by is_made (house old) (house mid) (house last) rests (reaches.one agent now change by is_made old mid last run.1.0 run.1.1.1.0) in
-          let more = and_now asked_then (Settle by is_made) (house mid) in
-          (tt, (all.told, truly more made last new each run.1.1.1.1 (rests_on asked_then more (λ id a it. inl it) (house last) (house last) (record { given = refl; awaited = refl }) all.rests)))
+          let one = reaches.one agent now change by is_made old mid last run.1.0 run.1.1.1.0 in
+          let all = changed has agent now (Some change) by is_made (house old) (house mid) (house last) rests one in
+          let more = and_now asked_then (Settle by is_made) (house mid) in (
+            asked_alone agent now (Some change) by is_made (house old) (house mid) (house last) one,
+            (all.told, truly more made last new each run.1.1.1.1 (rests_on asked_then more (λ id a it. inl it) (house last) (house last) (record { given = refl; awaited = refl }) all.rests)),
+          )
       truly has (Give agent now (Some change) ∷ Rest at rest ∷ made) old new each run rests = absurd each
       truly has (Settle by is_made ∷ made) old new each run rests = absurd each
       truly has (Rest now rest ∷ made) old new each run rests =
           let more = and_now has (Rest now rest) (house old) in
-          (tt, truly more made run.0 new each run.1.1 (rests_on has more (λ id a it. inl it) (house old) (house run.0) (reaches.rests now rest old run.0 run.1.0).left rests))
+          let all = reaches.rests now rest old run.0 run.1.0 in
+          (same_ok (λ before client. ⊥) (guests_in (house old).control) (guests_in (house run.0).control) (ap guests_in all.control), truly more made run.0 new each run.1.1 (rests_on has more (λ id a it. inl it) (house old) (house run.0) all.left rests))
 
       pub turns_tell : TurnsTellTruly to house Done
       turns_tell port turns from end first last owes run =

@@ -1,11 +1,17 @@
--- Acknowledged: whoever is told `ok` in a run of a house has asked for it, and the change is on the disk that it has asked for. The law is
--- the contract of a public function without a body.
+-- Acknowledged: whoever is told `ok` in a run of a house has asked for it, and the change is on the disk that it has asked for; or is shown
+-- a page, or follows the log. The law is the contract of a public function without a body.
 -- Source: docs/running.md, "What holds after a crash".
-use Rattle.std.specs.Prelude.{◌≡◌, ◌⊎◌, ℕ, Bool, IsTrue, List, [], ◌∷◌, ◌++◌, Option, Some, None, Ok, codes, slice_get}
+use Rattle.std.specs.Prelude.{◌≡◌, ◌⊎◌, ◌/◌, ℕ, Bool, IsTrue, List, [], ◌∷◌, ◌++◌, Option, Some, None, Ok, codes, drop, slice_get}
 use Rattle.std.specs.List.{Contains}
+use Rattle.agent_standing.specs.Agent.{Agent}
+use Rattle.agent_answers.specs.Controlling.{IsShownText}
+use Rattle.agent_answers.specs.Wanting.{ClientWants}
 use Rattle.agent_answers.specs.declared.asked.Asked.{Asked}
 use Rattle.agent_answers.specs.declared.asked.Asked.TheVariants as asked
 use Rattle.agent_answers.specs.declared.control.Control.{Control}
+use Rattle.agent_answers.specs.declared.wanted.Wanted.TheVariants as wanted
+use Rattle.agent_pages.specs.Naming.{Around}
+use Rattle.agent_pages.specs.declared.asked.Page.{Page}
 use Rattle.vault_asking.specs.Sending.{Lanes}
 use Rattle.agent_behind.specs.Behinds.{PassesBehind}
 use Rattle.agent_behind.specs.declared.behind.Behind.{Behind}
@@ -14,8 +20,11 @@ use Rattle.state_changes.specs.declared.change.What.TheVariants as what
 use Rattle.state_changes.specs.declared.row.Row.{Row}
 use Rattle.base_clients.specs.Doors.{DoorLog}
 use Rattle.base_clients.specs.declared.guest.Guest.{Guest}
-use Rattle.base_clients.specs.declared.stage.Stage.TheVariants.{Answering, Waiting}
+use Rattle.base_clients.specs.declared.stage.Stage.{Stage}
+use Rattle.base_clients.specs.declared.stage.Stage.TheVariants as stages
 use Rattle.base_clients.specs.declared.talk.Call.{Call}
+use Rattle.base_clock.specs.declared.reading.Reading.{Reading}
+use Rattle.base_device.specs.declared.tried.Tried.{Tried}
 use Rattle.base_disk.specs.Image.{Image}
 use Rattle.base_disk.specs.State.{DiskState}
 use Rattle.base_journal.specs.Journals.{bytes_of_file}
@@ -44,16 +53,66 @@ abbrev pub guests_in : {T D : Type 0} → Option (Control T D) → List (Guest T
 guests_in None = []
 guests_in (Some control) = control.clients.guests
 
--- one that waits for its answer is given it, and it begins with `ok`
-pub record IsToldOk {T : Type 0} (old new : List (Guest T)) : Type 0 where
+-- what is left to be written of the answer that a client is given
+abbrev pub answer_in : Stage → Option (List ℕ)
+answer_in (stages.Reading bytes) = None
+answer_in (stages.Asked bytes) = None
+answer_in stages.Waiting = None
+answer_in (stages.Answering left) = Some left
+answer_in (stages.Following left) = Some left
+answer_in stages.Over = None
+
+-- a client is there whose answer begins with `ok`
+pub record HasOk {T : Type 0} (guests : List (Guest T)) : Type 0 where
   pub place : ℕ
-  pub before : Guest T
-  pub after : Guest T
+  pub client : Guest T
   pub more : List ℕ
+  pub there : slice_get guests place ≡ Some client
+  pub says : answer_in client.stage ≡ Some (codes "ok" ++ more)
+
+-- at this place it was before, under its number, and this is so of it then
+pub record WasThere {T : Type 0} (old : List (Guest T)) (place : ℕ) (client : Guest T) (IsSo : Guest T → Type 0) : Type 0 where
+  pub before : Guest T
   pub was : slice_get old place ≡ Some before
-  pub waits : before.stage ≡ Waiting
-  pub is : slice_get new place ≡ Some after
-  pub told : after.stage ≡ Answering (codes "ok" ++ more)
+  pub same : before.id ≡ client.id
+  pub so : IsSo before
+
+-- each has its place still: whoever's answer begins with `ok` was there before, and is as it was then, or this is why it is told so now
+abbrev pub TellsOk : {T : Type 0} → List (Guest T) → List (Guest T) → (Guest T → Guest T → Type 0) → Type 0
+TellsOk old new IsWhy = (ok : HasOk new) → WasThere old ok.place ok.client (λ before. (ok.client ≡ before) ⊎ IsWhy before ok.client)
+
+-- what is left of an answer; or, where that goes on, more of it
+abbrev pub IsSameAnswer : Stage → Stage → Type 0
+IsSameAnswer (stages.Answering left) (stages.Answering rest) = (n : ℕ) × (rest ≡ drop n left)
+IsSameAnswer (stages.Following left) (stages.Following more) = Unit {0}
+IsSameAnswer old new = ⊥
+
+-- some leave, others come, and each goes on: whoever's answer begins with `ok` was there before, and was given that answer then, or this is
+-- why it is told so now
+abbrev pub TellsOkAmid : {T : Type 0} → List (Guest T) → List (Guest T) → (Guest T → Guest T → Type 0) → Type 0
+TellsOkAmid old new IsWhy = (ok : HasOk new) → (place : ℕ) × WasThere old place ok.client (λ before. IsSameAnswer before.stage ok.client.stage ⊎ IsWhy before ok.client)
+
+-- ---- what is said so that is no answer to a change
+
+-- this is the request of a client, of which something may have come by now
+abbrev pub HasSent : Stage → List ℕ → Type 0
+HasSent (stages.Reading bytes) request = (more : List ℕ) × (request ≡ bytes ++ more)
+HasSent (stages.Asked bytes) request = request ≡ bytes
+HasSent stages.Waiting request = ⊥
+HasSent (stages.Answering left) request = ⊥
+HasSent (stages.Following left) request = ⊥
+HasSent stages.Over request = ⊥
+
+-- it wants to be shown a page, and that is shown
+pub record IsShown {T : Type 0} (agent : Agent) (now : Reading) (before client : Guest T) : Type 0 where
+  pub request : List ℕ
+  pub sent : HasSent before.stage request
+  pub page : Page
+  pub wants : ClientWants (now.wall / 1000) request (wanted.Show page)
+  pub around : Around
+  pub text : List ℕ
+  pub shown : IsShownText agent around page text
+  pub told : client.stage ≡ stages.Answering text
 
 -- ---- what is kept
 
@@ -66,7 +125,8 @@ pub record IsOnDisk {D : Type 0} (known : Bool) (seen : D → DiskState) (name :
   pub held : Contains (lines_in (store_in k)) (line_for_change (book_in k).file name w)
   pub left : IsTrue known → (c : Image) → (seen k.disk).may_leave c → HasRecord (line_for_change (book_in k).file name w) (bytes_of_file (c (path_of_store (store_in k))))
 
--- so is that of the change that a client has asked for. (What it asks for besides is no change of an entry.)
+-- so is that of the change that a client has asked for. (What it asks for besides is no change of an entry; and none that follows the log is
+-- told so here.)
 abbrev pub IsKept : {D : Type 0} → Bool → (D → DiskState) → Asked → Kept D → Type 0
 IsKept known seen (asked.Need name need) k = IsOnDisk known seen name (what.Need need) k
 IsKept known seen (asked.Replace name credential) k = IsOnDisk known seen name (what.Replace credential) k
@@ -74,7 +134,7 @@ IsKept known seen (asked.Add table) k = (most : Option ℕ) × ((row : Row) × (
 IsKept known seen (asked.Drop name) k = IsOnDisk known seen name what.Drop k
 IsKept known seen asked.Settle k = Unit {0}
 IsKept known seen asked.Reload k = Unit {0}
-IsKept known seen (asked.Follow alerts) k = Unit {0}
+IsKept known seen (asked.Follow alerts) k = ⊥
 
 -- where nothing keeps changes nothing is done but for a need
 abbrev pub IsDoneUnkept : Asked → Type 0
@@ -107,13 +167,15 @@ module _ {S T D K E : Type 0} where
 
 -- of neighbours to which each call does this, among which there is a house, and of what is done where it is asked for
 module _ {N S T D K E : Type 0} (does : NeighbourCall → N → N → Type 0) (house : N → House S T D K E) (Done : Asked → Option K → Type 0) where
-  -- whoever is told `ok`, which is where something is settled, has asked for this before, and it is done
+  -- whoever is told `ok`: while they go on, it is a page that is shown; where a change is asked for, a client follows the log from now on that
+  -- has asked for that; and where something is settled, the client has asked for this before, and it is done. Else nobody is
   abbrev pub TellsTruly : (ℕ → Asked → Type 0) → NeighbourCall → House S T D K E → House S T D K E → Type 0
-  TellsTruly has (Hear agent thing) old new = Unit {0}
-  TellsTruly has (GoOn agent now is_busy) old new = Unit {0}
-  TellsTruly has (Give agent now change) old new = Unit {0}
-  TellsTruly has (Settle agent is_made) old new = (told : IsToldOk (guests_in old.control) (guests_in new.control)) → (a : Asked) × (has told.before.id a × Done a new.state)
-  TellsTruly has (Rest now rest) old new = Unit {0}
+  TellsTruly has (Hear agent thing) old new = TellsOk (guests_in old.control) (guests_in new.control) (λ before client. ⊥)
+  TellsTruly has (GoOn agent now is_busy) old new = TellsOkAmid (guests_in old.control) (guests_in new.control) (λ before client. IsShown agent now before client)
+  TellsTruly has (Give agent now change) old new = TellsOk (guests_in old.control) (guests_in new.control)
+      (λ before client. ((alerts : Bool) × Asks (Give agent now change) old before.id (asked.Follow alerts)) × (client.stage ≡ stages.Following (codes "ok\n")))
+  TellsTruly has (Settle agent is_made) old new = TellsOk (guests_in old.control) (guests_in new.control) (λ before client. (a : Asked) × (has before.id a × Done a new.state))
+  TellsTruly has (Rest now rest) old new = TellsOk (guests_in old.control) (guests_in new.control) (λ before client. ⊥)
 
   -- so it is at each of these calls, after those at which clients have asked for this
   abbrev pub AllTellTruly : (ℕ → Asked → Type 0) → (calls : List NeighbourCall) (old new : N) → AllCalled does calls old new → Type 0
@@ -127,13 +189,13 @@ module _ {N S T D K E : Type 0} (does : NeighbourCall → N → N → Type 0) (h
       AllTellTruly (λ id a. ⊥) (calls_of port from turns to run.is) first last run.called
 
 -- these may be a house whose changes are kept by a ledger, an early day before one, or one with a lookout between them
-module _ {S T O D I L E : Type 0} (given : S → Option (List ℕ)) (failures tries : S → ℕ) (remaining written : T → Option (List ℕ)) (calls : T → Option (List Call)) (log : O → Option (DoorLog T))
+module _ {S T O D I L E : Type 0} (given : S → Option (List ℕ)) (failures tries : S → ℕ) (tried : S → Option (List Tried)) (remaining written : T → Option (List ℕ)) (calls : T → Option (List Call)) (log : O → Option (DoorLog T))
     (disk_known : Bool) (seen : D → DiskState) (file_calls : I → Option (List FileCall)) (lanes_seen : L → Lanes) (port : L → ℕ) (known : Bool) (state : E → DiskState) where
   abbrev pub HasIt : Type 0
   HasIt = House S T O (Ledger D I L) E
 
   abbrev pub ToIt : NeighbourCall → HasIt → HasIt → Type 0
-  ToIt = ToLedger given failures tries remaining written calls log disk_known seen file_calls lanes_seen port known state
+  ToIt = ToLedger given failures tries tried remaining written calls log disk_known seen file_calls lanes_seen port known state
 
   abbrev pub AcknowledgedLaw : {M : Type 0} → (ℕ → ℕ → M → ℕ) → Type 0
   AcknowledgedLaw {M} due_by =

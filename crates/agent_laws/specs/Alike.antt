@@ -82,8 +82,8 @@ ShortsAlike = (a b : Agent) → AgentsAreAlike a b → (shorts : List Short) →
 -- and of what came of a request
 abbrev pub AnsweredAlike : Type 0
 AnsweredAlike =
-    (a b : Agent) → AgentsAreAlike a b → (i : ℕ) (operation : Operation) (said : Said) (notes : Notes) (before : Option Trouble) →
-    answered_lines b i operation said notes before ≡ answered_lines a i operation said notes before
+    (place : List ℕ) (a b : Agent) → AgentsAreAlike a b → (i : ℕ) (operation : Operation) (said : Said) (notes : Notes) (before : Option Trouble) →
+    answered_lines place b i operation said notes before ≡ answered_lines place a i operation said notes before
 
 -- once another inventory is served what was said is carried over
 abbrev pub CarriedAlike : Type 0

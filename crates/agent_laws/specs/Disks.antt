@@ -10,6 +10,7 @@ use Rattle.agent_behind.specs.declared.behind.Behind.{Behind}
 use Rattle.state_changes.specs.declared.row.Row.{Row}
 use Rattle.base_clients.specs.Doors.{DoorLog}
 use Rattle.base_clients.specs.declared.talk.Call.{Call}
+use Rattle.base_device.specs.declared.tried.Tried.{Tried}
 use Rattle.base_disk.specs.State.{DiskState}
 use Rattle.base_disk.specs.declared.fault.DiskFault.{DiskFault}
 use Rattle.agent_ends.specs.Files.{FileIsTried, is_file_due}
@@ -139,11 +140,11 @@ SparesLedger {D} {I} {L} {N} does calls ledger = (t : ServingTurn) (old new : N)
 
 -- ---- these may be a house, an early day before one, or one with a lookout between them
 
-module _ {S T D K E : Type 0} (given : S → Option (List ℕ)) (failures tries : S → ℕ) (remaining written : T → Option (List ℕ)) (calls : T → Option (List Call)) (log : D → Option (DoorLog T))
+module _ {S T D K E : Type 0} (given : S → Option (List ℕ)) (failures tries : S → ℕ) (tried : S → Option (List Tried)) (remaining written : T → Option (List ℕ)) (calls : T → Option (List Call)) (log : D → Option (DoorLog T))
     (asks : KeepCall → K → K → Type 0) (rows : K → List Row) (path : K → List ℕ) (reads : K → List ℕ → Result Row Why → Type 0) (gives : ℕ → Result (Option Inventory) AllocError → K → Type 0)
     (known : Bool) (state : E → DiskState) where
   abbrev pub ToHouse : NeighbourCall → House S T D K E → House S T D K E → Type 0
-  ToHouse call old new = DoesToHouse given failures tries remaining written calls log asks rows path reads gives known state call old new
+  ToHouse call old new = DoesToHouse given failures tries tried remaining written calls log asks rows path reads gives known state call old new
 
   abbrev pub ToDay : NeighbourCall → EarlyDay (House S T D K E) → EarlyDay (House S T D K E) → Type 0
   ToDay call old new = PassesToOthers ToHouse call old new
@@ -162,14 +163,14 @@ module _ {S T D K E : Type 0} (given : S → Option (List ℕ)) (failures tries 
       × (TriesEnds ToDay known state (λ (d : EarlyDay (House S T D K E)). d.others.ends) × TriesEnds (ToBehind due_by) known state (λ (d : EarlyDay (Behind (House S T D K E) L)). d.others.others.ends))
 
 -- a house whose changes are kept by a ledger
-module _ {S T O D I L E : Type 0} (given : S → Option (List ℕ)) (failures tries : S → ℕ) (remaining written : T → Option (List ℕ)) (calls : T → Option (List Call)) (log : O → Option (DoorLog T))
+module _ {S T O D I L E : Type 0} (given : S → Option (List ℕ)) (failures tries : S → ℕ) (tried : S → Option (List Tried)) (remaining written : T → Option (List ℕ)) (calls : T → Option (List Call)) (log : O → Option (DoorLog T))
     (disk_known : Bool) (seen : D → DiskState) (file_calls : I → Option (List FileCall)) (lanes_seen : L → Lanes) (port : L → ℕ) (known : Bool) (state : E → DiskState) where
   abbrev pub HasLedger : Type 0
   HasLedger = House S T O (Ledger D I L) E
 
   abbrev pub ToLedger : NeighbourCall → HasLedger → HasLedger → Type 0
   ToLedger =
-      ToHouse given failures tries remaining written calls log (DoesLedger disk_known seen file_calls lanes_seen port) (λ (l : Ledger D I L). (book_in l.state).rows) (λ (l : Ledger D I L). l.state.places.file) (λ (l : Ledger D I L). ReadsTable (book_in l.state).file.system_max) GivesLedger known state
+      ToHouse given failures tries tried remaining written calls log (DoesLedger disk_known seen file_calls lanes_seen port) (λ (l : Ledger D I L). (book_in l.state).rows) (λ (l : Ledger D I L). l.state.places.file) (λ (l : Ledger D I L). ReadsTable (book_in l.state).file.system_max) GivesLedger known state
 
   abbrev pub SparesLaw : {M : Type 0} → (ℕ → ℕ → M → ℕ) → Type 0
   SparesLaw {M} due_by =

@@ -54,12 +54,12 @@ pub fn no_credential_of_a_file_is_said()
 /// follow that, the onlookers and the clients are told the same, whatever is heard, while it goes on, where a change is settled and where
 /// none is given, and so in each stretch of these. (The file of the ends has a fingerprint of each credential.)
 pub fn a_house_shows_no_credential<S: LogSink, T: Talk, D: Door<T>, K: Keeping, E: Disk>()
-    ensures heard { HeardAlike S.written S.failures S.tries T.remaining T.written T.calls D.log K.does K.rows K.path K.reads K.gives E.is_known E.state }
-    ensures attended { AttendedAlike S.written S.failures S.tries T.remaining T.written T.calls D.log K.does K.rows K.path K.reads K.gives E.is_known E.state }
-    ensures goes_on { GoesOnAlike S.written S.failures S.tries T.remaining T.written T.calls D.log K.does K.rows K.path K.reads K.gives E.is_known E.state }
-    ensures settled { SettledAlike S.written S.failures S.tries T.remaining T.written T.calls D.log K.does K.rows K.path K.reads K.gives E.is_known E.state }
-    ensures none_given { NoneGivenAlike S.written S.failures S.tries T.remaining T.written T.calls D.log K.does K.rows K.path K.reads K.gives E.is_known E.state }
-    ensures stretch { StretchAlike S.written S.failures S.tries T.remaining T.written T.calls D.log K.does K.rows K.path K.reads K.gives E.is_known E.state }
+    ensures heard { HeardAlike S.written S.failures S.tries S.tried T.remaining T.written T.calls D.log K.does K.rows K.path K.reads K.gives E.is_known E.state }
+    ensures attended { AttendedAlike S.written S.failures S.tries S.tried T.remaining T.written T.calls D.log K.does K.rows K.path K.reads K.gives E.is_known E.state }
+    ensures goes_on { GoesOnAlike S.written S.failures S.tries S.tried T.remaining T.written T.calls D.log K.does K.rows K.path K.reads K.gives E.is_known E.state }
+    ensures settled { SettledAlike S.written S.failures S.tries S.tried T.remaining T.written T.calls D.log K.does K.rows K.path K.reads K.gives E.is_known E.state }
+    ensures none_given { NoneGivenAlike S.written S.failures S.tries S.tried T.remaining T.written T.calls D.log K.does K.rows K.path K.reads K.gives E.is_known E.state }
+    ensures stretch { StretchAlike S.written S.failures S.tries S.tried T.remaining T.written T.calls D.log K.does K.rows K.path K.reads K.gives E.is_known E.state }
 {}
 
 /// The law that in a turn of the loop the log's reader is tried 16 times at most, whether the loop calls a house, an
@@ -72,17 +72,17 @@ pub fn a_turn_tries_the_reader_little<
     E: Disk,
     M: Lanes,
 >()
-    ensures house { TriesLaw S.written S.failures S.tries T.remaining T.written T.calls D.log K.does K.rows K.path K.reads K.gives E.is_known E.state }
-    ensures day { DayTriesLaw S.written S.failures S.tries T.remaining T.written T.calls D.log K.does K.rows K.path K.reads K.gives E.is_known E.state }
-    ensures behind { BehindTriesLaw S.written S.failures S.tries T.remaining T.written T.calls D.log K.does K.rows K.path K.reads K.gives E.is_known E.state M.due_by }
+    ensures house { TriesLaw S.written S.failures S.tries S.tried T.remaining T.written T.calls D.log K.does K.rows K.path K.reads K.gives E.is_known E.state }
+    ensures day { DayTriesLaw S.written S.failures S.tries S.tried T.remaining T.written T.calls D.log K.does K.rows K.path K.reads K.gives E.is_known E.state }
+    ensures behind { BehindTriesLaw S.written S.failures S.tries S.tried T.remaining T.written T.calls D.log K.does K.rows K.path K.reads K.gives E.is_known E.state M.due_by }
 {}
 
 /// The law that a turn of the loop spares disks. What keeps the changes is asked to look at files of credentials once at most, and to make
 /// no more changes than the turn took; and the file of the ends is left alone, or was due, which it is once a second at most, and is tried
 /// once.
 pub fn a_turn_spares_disks<S: LogSink, T: Talk, D: Door<T>, K: Keeping, E: Disk, M: Lanes>()
-    ensures asks { AsksLittleLaw S.written S.failures S.tries T.remaining T.written T.calls D.log K.does K.rows K.path K.reads K.gives E.is_known E.state M.due_by }
-    ensures ends { EndsLaw S.written S.failures S.tries T.remaining T.written T.calls D.log K.does K.rows K.path K.reads K.gives E.is_known E.state M.due_by }
+    ensures asks { AsksLittleLaw S.written S.failures S.tries S.tried T.remaining T.written T.calls D.log K.does K.rows K.path K.reads K.gives E.is_known E.state M.due_by }
+    ensures ends { EndsLaw S.written S.failures S.tries S.tried T.remaining T.written T.calls D.log K.does K.rows K.path K.reads K.gives E.is_known E.state M.due_by }
 {}
 
 /// The law that a look at files of credentials looks at 64 stamps and reads one file at most, and that no call but one that makes a change
@@ -103,11 +103,15 @@ pub fn a_turn_without_a_change_spares_disks<
     E: Disk,
     M: Lanes,
 >()
-    ensures { SparesLaw S.written S.failures S.tries T.remaining T.written T.calls O.log D.is_known D.state I.calls ⟦<L as SeenLanes>⟧.seen L.host_port E.is_known E.state M.due_by }
+    ensures { SparesLaw S.written S.failures S.tries S.tried T.remaining T.written T.calls O.log D.is_known D.state I.calls ⟦<L as SeenLanes>⟧.seen L.host_port E.is_known E.state M.due_by }
 {}
 
-/// The law that in every run of turns whoever is told `ok` has asked for something before, and it is done. The record of a change is among
-/// those of the journal then, and on the disk: whatever a crash leaves has it. Where nothing keeps changes nothing is done but for a need.
+/// The law that in every run of turns whoever is told `ok` has asked for something before, and it is done; or it has asked for a page, which
+/// is shown, or to follow the log, which it does from then on. The record of a change is among those of the journal then, and on the disk:
+/// whatever a crash leaves has it. Where nothing keeps changes nothing is done but for a need.
+///
+/// This is so at each call of the loop: by what is heard, and as it is asked for how long it may rest, a house tells nobody so; while it goes
+/// on, it shows pages alone; and where a change is asked for, it tells nobody so but who follows the log from then on.
 pub fn whoever_is_told_ok_has_it<
     S: LogSink,
     T: Talk,
@@ -118,5 +122,5 @@ pub fn whoever_is_told_ok_has_it<
     E: Disk,
     M: Lanes,
 >()
-    ensures { AcknowledgedLaw S.written S.failures S.tries T.remaining T.written T.calls O.log D.is_known D.state I.calls ⟦<L as SeenLanes>⟧.seen L.host_port E.is_known E.state M.due_by }
+    ensures { AcknowledgedLaw S.written S.failures S.tries S.tried T.remaining T.written T.calls O.log D.is_known D.state I.calls ⟦<L as SeenLanes>⟧.seen L.host_port E.is_known E.state M.due_by }
 {}

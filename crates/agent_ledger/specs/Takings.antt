@@ -1,17 +1,21 @@
 -- Takings: a file of a credential is looked at and read, and what it holds is looked up at the broker and taken into a state.
 -- Source: docs/running.md, "Secrets by file".
-use Rattle.std.specs.Prelude.{◌≡◌, ◌⊎◌, ◌<◌, ◌≤◌, ℕ, ◌+◌, Bool, true, false, List, Option, Some, None, IfOk, Result, Ok, Err, drop, min}
+use Rattle.std.specs.Prelude.{◌≡◌, ◌⊎◌, ◌<◌, ◌≤◌, ℕ, ◌+◌, Bool, true, false, not, ◌&&◌, ◌||◌, List, Option, Some, None, IfOk, Result, Ok, Err, bytes_eq, drop, length, min}
+use Rattle.std.specs.Bool.{beq}
+use Rattle.std.specs.List.{list_any}
 use Rattle.std.specs.declared.alloc.AllocError.{AllocError}
 use Rattle.agent_standing.specs.Waiting.{changed}
 use Rattle.vault_asking.specs.Sending.{Lanes}
-use Rattle.state_changes.specs.Rows.{named}
+use Rattle.plan_forest.specs.Push.{is_lease}
+use Rattle.state_changes.specs.Rows.{has_under, named}
+use Rattle.state_changes.specs.declared.row.Row.{Row}
 use Rattle.base_clock.specs.declared.reading.Reading.{Reading}
 use Rattle.vault_lanes.specs.declared.loss.Loss.{Loss}
 use Rattle.vault_proving.specs.declared.candidate.Candidate.{Candidate}
 use Rattle.vault_proving.specs.declared.verdict.Verdict.{Verdict}
 use Rattle.vault_proving.specs.declared.verdict.Verdict.TheVariants.{Good, Refused, Endless, Missing}
 use Rattle.state_keeping.specs.States.{Kept, book_in, store_in}
-use Rattle.state_store.specs.Books.{HasSecrets}
+use Rattle.state_store.specs.Books.{Book, HasSecrets}
 use Rattle.state_store.specs.Stores.{lines_in}
 use Rattle.state_store.specs.declared.secret.Secret.{Secret}
 use Rattle.state_waiting.specs.Keepers.{waiting_in}
@@ -35,6 +39,32 @@ use Rattle.agent_ledger.specs.declared.asked_file.AskedFile.{AskedFile}
 use Rattle.agent_ledger.specs.declared.asker.FileWord.{FileWord}
 use Rattle.agent_ledger.specs.declared.keeping.FileLook.{FileLook}
 use Rattle.agent_ledger.specs.declared.ledger.Ledger.{Ledger}
+use Rattle.agent_ledger.specs.declared.secret_changes.TheConstants.{ALWAYS_FIT}
+
+-- ---- why a credential is not taken
+
+-- an entry has it: as its own, or by its file
+abbrev pub has_credential : List Secret → List ℕ → Row → Option (List ℕ) → Bool
+has_credential secrets credential row None = bytes_eq row.credential credential
+has_credential secrets credential row (Some file) = has_it secrets row.name file credential
+
+-- another entry of the kind has it
+abbrev pub is_anothers : List Secret → List Row → List ℕ → Row → Bool
+is_anothers secrets rows credential own = list_any (λ row. not (bytes_eq row.name own.name) && (beq (is_lease row.kind) (is_lease own.kind) && has_credential secrets credential row row.file)) rows
+
+-- nothing was held of its file, and entries stand under it, which come to be handed on with it: one of them may have what another has
+abbrev pub brings_others : List Secret → List Row → DueFile → Bool
+brings_others secrets rows due = not (is_held secrets due.name due.file) && has_under rows due.name
+
+abbrev pub may_be_anothers : List Secret → List Row → DueFile → List ℕ → Option Row → Bool
+may_be_anothers secrets rows due credential None = false
+may_be_anothers secrets rows due credential (Some own) = is_anothers secrets rows credential own || brings_others secrets rows due
+
+-- it may be another's; or there are so many entries that the text of all of them may be too long
+abbrev pub IsWhyNotTaken : Book → DueFile → List ℕ → SecretTrouble → Type 0
+IsWhyNotTaken book due credential trouble =
+    ((trouble ≡ troubles.Another) × (may_be_anothers book.secrets book.rows due credential (named book.rows due.name) ≡ true))
+    ⊎ ((trouble ≡ troubles.TooLong) × (ALWAYS_FIT < length book.rows))
 
 -- ---- a credential
 
@@ -60,7 +90,7 @@ module _ {D : Type 0} (now : ℕ) (due : DueFile) (credential : List ℕ) (old :
   pub record IsNotTaken : Type 0 where
     pub is_new : is_held_already due credential old ≡ false
     pub trouble : SecretTrouble
-    pub which : (trouble ≡ troubles.Another) ⊎ (trouble ≡ troubles.TooLong)
+    pub why : IsWhyNotTaken (book_in old) due credential trouble
     pub became_is : became ≡ Troubled trouble
     pub untouched : IsAsItWas old new
 

@@ -1,10 +1,15 @@
 //! What a file of a credential gives is taken into a state, and what came of it is kept and told.
 ghost use Rattle.std.specs.Prelude.{◌≡◌, IfOk, OnErr};
-ghost use Rattle.agent_ledger.specs.Takings.{TakesCredential, TakesHeld, TakesUpFile, quiet, wanting};
+ghost use Rattle.plan_forest.specs.Push.{is_lease};
+ghost use Rattle.state_changes.specs.Rows.{has_under, is_under, named};
+ghost use Rattle.state_keeping.specs.States.{book_in};
+ghost use Rattle.agent_ledger.specs.Takings.{IsWhyNotTaken, TakesCredential, TakesHeld, TakesUpFile, brings_others, has_credential, is_anothers, may_be_anothers, quiet, wanting};
 ghost use Rattle.agent_ledger.specs.Untouched.{IsAsItWas};
 
 use base_disk::Disk;
 use base_moment::Text;
+use plan_forest::Kind;
+use state_changes::{Row, Rows};
 use state_file::SettleFault;
 use state_keeping::State;
 use state_secrets::{
@@ -13,6 +18,9 @@ use state_secrets::{
 };
 use state_store::Secret;
 use std::alloc::{AllocError, Global};
+
+/// So many entries always fit into one inventory: what is written of one with its credential takes less than 1,024 bytes.
+pub const ALWAYS_FIT: usize = 1024;
 
 pub(crate) fn quiet(goes_on: bool) -> Looked
     ensures { result ≡ quiet goes_on }
@@ -105,15 +113,99 @@ fn take_credential<D: Disk>(
     let secret = Secret {
         name: due.name.clone()?,
         file: due.file.clone()?,
-        credential,
+        credential: credential.clone()?,
     };
     let secrets = secrets_with(alloc, state.rows(), state.secrets(), secret)?;
     match state.take_secrets(now, secrets) {
         Ok(()) => Ok(Became::Taken),
-        Err(SettleFault::OutOfMemory) => Err(AllocError),
-        Err(SettleFault::TooLong) => Ok(Became::Troubled(SecretTrouble::TooLong)),
-        Err(SettleFault::Refused(_) | SettleFault::Differs) => {
-            Ok(Became::Troubled(SecretTrouble::Another))
+        Err(fault) => Ok(Became::Troubled(why_untaken(state, due, &credential, fault)?)),
+    }
+}
+
+// Why a credential is not taken. The only error is out of memory, as which counts what else would keep it from being handed on: each
+// entry by itself can be written, and as many as there may be.
+fn why_untaken<D: Disk>(
+    state: &State<'_, D>,
+    due: &DueFile,
+    credential: &Text,
+    fault: SettleFault,
+) -> Result<SecretTrouble, AllocError>
+    ensures { IfOk result (IsWhyNotTaken (book_in state.now) due.now credential.now) }
+{
+    match fault {
+        SettleFault::TooLong if state.rows().list().len() > ALWAYS_FIT => {
+            Ok(SecretTrouble::TooLong)
         }
+        SettleFault::Refused(_) | SettleFault::Differs
+            if may_be_anothers(state.secrets(), state.rows(), due, credential.list()) => {
+            Ok(SecretTrouble::Another)
+        }
+        _ => Err(AllocError),
+    }
+}
+
+// Whether what is to be handed on may have a credential twice, once the entry has this one.
+fn may_be_anothers(secrets: &[Secret], rows: &Rows, due: &DueFile, credential: &[u8]) -> bool
+    ensures { result ≡ may_be_anothers secrets.now rows.now due.now credential.now (named rows.now due.now.name) }
+{
+    match rows.named(due.name.list()) {
+        None => false,
+        Some(own) => {
+            is_anothers(secrets, rows.list(), credential, own)
+                || brings_others(secrets, rows.list(), due)
+        }
+    }
+}
+
+// Whether another entry of the kind has it.
+fn is_anothers(secrets: &[Secret], rows: &[Row], credential: &[u8], own: &Row) -> bool
+    ensures { result ≡ is_anothers secrets.now rows.now credential.now own.now }
+{
+    rows.iter().any(|row| {
+        row.name.list() != own.name.list()
+            && is_lease(row.kind) == is_lease(own.kind)
+            && has_credential(secrets, credential, row)
+    })
+}
+
+fn is_lease(kind: Kind) -> bool
+    ensures { result ≡ is_lease kind }
+{
+    match kind {
+        Kind::Token => false,
+        Kind::Lease => true,
+    }
+}
+
+// Whether an entry has it, as its own or by its file.
+fn has_credential(secrets: &[Secret], credential: &[u8], row: &Row) -> bool
+    ensures { result ≡ has_credential secrets.now credential.now row.now row.now.file }
+{
+    match &row.file {
+        None => row.credential.list() == credential,
+        Some(file) => has_it(secrets, row.name.list(), file.list(), credential),
+    }
+}
+
+// Whether entries under it come to be handed on with it.
+fn brings_others(secrets: &[Secret], rows: &[Row], due: &DueFile) -> bool
+    ensures { result ≡ brings_others secrets.now rows.now due.now }
+{
+    !is_held(secrets, due.name.list(), due.file.list()) && has_under(rows, due.name.list())
+}
+
+#[tactic(auto, unfolding(state_changes::specs::Rows::has_under))]
+fn has_under(rows: &[Row], name: &[u8]) -> bool
+    ensures { result ≡ has_under rows.now name.now }
+{
+    rows.iter().any(|row| is_under(row, name))
+}
+
+fn is_under(row: &Row, name: &[u8]) -> bool
+    ensures { result ≡ is_under name.now row.now }
+{
+    match &row.parent {
+        None => false,
+        Some(parent) => parent.list() == name,
     }
 }

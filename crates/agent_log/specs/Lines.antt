@@ -1,8 +1,10 @@
 -- Lines: what is said of an agent, and what becomes of it in the room of its log, and in the room of each of those who follow it.
 -- Source: docs/running.md, "What the operator sees".
-use Rattle.std.specs.Prelude.{◌≡◌, ◌⊎◌, ◌<◌, ℕ, Bool, true, false, List, [], ◌∷◌, codes, Option, Some, None}
+use Rattle.std.specs.Prelude.{◌≡◌, ◌⊎◌, ◌<◌, ℕ, Bool, true, false, List, [], ◌∷◌, ◌++◌, codes, Option, Some, None}
 use Rattle.vault_lanes.specs.declared.loss.Loss.{Loss}
 use Rattle.vault_lanes.specs.declared.loss.Loss.TheVariants as losses
+use Rattle.vault_lanes.specs.declared.reason.ConnectReason.{ConnectReason}
+use Rattle.vault_lanes.specs.declared.reason.ConnectReason.TheVariants as reasons
 use Rattle.base_log.specs.Following.{put_if_heard}
 use Rattle.base_log.specs.Forms.{IsLineJson, IsLineText}
 use Rattle.base_log.specs.Waiting.{Waiting, dropping, with_line}
@@ -26,13 +28,22 @@ pub record Line : Type 0 where
 abbrev pub said_line : Level → List ℕ → List Word → Line
 said_line level event ws = record { level = level; event = event; words = ws }
 
--- why a request counts as lost
-abbrev pub loss_word : Loss → Word
-loss_word losses.Connect = words.Text (codes "connect")
-loss_word losses.Timeout = words.Text (codes "timeout")
-loss_word losses.Closed = words.Text (codes "closed")
-loss_word losses.Reply = words.Text (codes "reply")
-loss_word (losses.Status status) = words.Number status
+-- why there is no connection
+abbrev pub reason_text : ConnectReason → List ℕ
+reason_text reasons.NoSuchFile = codes "no such file"
+reason_text reasons.Denied = codes "permission denied"
+reason_text reasons.Refused = codes "connection refused"
+reason_text reasons.Unreachable = codes "unreachable"
+reason_text reasons.TimedOut = codes "timed out"
+reason_text reasons.Other = codes "the connection failed"
+
+-- why a request counts as lost; where there is no connection, to which place and why
+abbrev pub loss_words : List ℕ → Loss → List Word
+loss_words place (losses.Connect reason) = words.Text (codes "connect") ∷ words.Text (place ++ (codes ": " ++ reason_text reason)) ∷ []
+loss_words place losses.Timeout = words.Text (codes "timeout") ∷ []
+loss_words place losses.Closed = words.Text (codes "closed") ∷ []
+loss_words place losses.Reply = words.Text (codes "reply") ∷ []
+loss_words place (losses.Status status) = words.Number status ∷ []
 
 -- ---- what becomes of it
 

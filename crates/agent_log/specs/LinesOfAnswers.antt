@@ -20,7 +20,7 @@ use Rattle.watch_machine.specs.declared.event.Reply.TheVariants.{Told, Refused, 
 use Rattle.watch_machine.specs.declared.notes.Link.{Link}
 use Rattle.watch_machine.specs.declared.notes.Link.TheVariants.{Away, Back}
 use Rattle.watch_machine.specs.declared.notes.Notes.{Notes}
-use Rattle.agent_log.specs.Lines.{Line, loss_word, said_line}
+use Rattle.agent_log.specs.Lines.{Line, loss_words, said_line}
 use Rattle.agent_words.specs.Moments.{moment_word, number_held}
 
 -- ---- how much a trouble matters: what is wrong with an entry is told once, and that it goes on is a note
@@ -64,14 +64,14 @@ told_log_line Renew name m seconds date = said_line Info (codes "told") (words.T
 abbrev pub refused_log_line : List ℕ → Option Trouble → ℕ → Line
 refused_log_line name before status = said_line (refused_level before) (codes "refused") (words.Text name ∷ words.Number status ∷ [])
 
-abbrev pub lost_log_line : List ℕ → Option Trouble → Loss → Line
-lost_log_line name before why = said_line (lost_level before) (codes "lost") (words.Text name ∷ loss_word why ∷ [])
+abbrev pub lost_log_line : List ℕ → List ℕ → Option Trouble → Loss → Line
+lost_log_line place name before why = said_line (lost_level before) (codes "lost") (words.Text name ∷ loss_words place why)
 
-abbrev pub reply_line : List ℕ → WatchState → Operation → Option Trouble → Loss → Reply → Line
-reply_line name m operation before why (Told seconds renewable date) = told_log_line operation name m seconds date
-reply_line name m operation before why (Refused status date) = refused_log_line name before status
-reply_line name m operation before why Busy = lost_log_line name before why
-reply_line name m operation before why Lost = lost_log_line name before why
+abbrev pub reply_line : List ℕ → List ℕ → WatchState → Operation → Option Trouble → Loss → Reply → Line
+reply_line place name m operation before why (Told seconds renewable date) = told_log_line operation name m seconds date
+reply_line place name m operation before why (Refused status date) = refused_log_line name before status
+reply_line place name m operation before why Busy = lost_log_line place name before why
+reply_line place name m operation before why Lost = lost_log_line place name before why
 
 -- ---- what is noted of it
 
@@ -90,20 +90,20 @@ abbrev pub never_lines : List ℕ → Bool → List Line
 never_lines name is = if is then said_line Alert (codes "never") (words.Text name ∷ []) ∷ [] else []
 
 -- the broker is away, for the reason of this loss; or it is back
-abbrev pub link_lines : Loss → Option Link → List Line
-link_lines why None = []
-link_lines why (Some Away) = said_line Warning (codes "away") (loss_word why ∷ []) ∷ []
-link_lines why (Some Back) = said_line Info (codes "back") [] ∷ []
+abbrev pub link_lines : List ℕ → Loss → Option Link → List Line
+link_lines place why None = []
+link_lines place why (Some Away) = said_line Warning (codes "away") (loss_words place why) ∷ []
+link_lines place why (Some Back) = said_line Info (codes "back") [] ∷ []
 
-abbrev pub noted_log_lines : List ℕ → WatchState → Option Trouble → Loss → Notes → List Line
-noted_log_lines name m before why notes =
-    gone_lines name before notes.gone ++ (top_lines name m notes.top ++ (orphan_lines name notes.orphan ++ (never_lines name notes.endless ++ link_lines why notes.link)))
+abbrev pub noted_log_lines : List ℕ → List ℕ → WatchState → Option Trouble → Loss → Notes → List Line
+noted_log_lines place name m before why notes =
+    gone_lines name before notes.gone ++ (top_lines name m notes.top ++ (orphan_lines name notes.orphan ++ (never_lines name notes.endless ++ link_lines place why notes.link)))
 
 -- ---- all of it, in the agent after it; where its entry is no more, what it says of the broker alone
 
-abbrev pub lines_of_entry : Agent → ℕ → Operation → Said → Notes → Option Trouble → List Line
-lines_of_entry a i operation said notes before =
-    reply_line (name_of a.inventory.forest i) a.machine operation before said.loss said.reply ∷ noted_log_lines (name_of a.inventory.forest i) a.machine before said.loss notes
+abbrev pub lines_of_entry : List ℕ → Agent → ℕ → Operation → Said → Notes → Option Trouble → List Line
+lines_of_entry place a i operation said notes before =
+    reply_line place (name_of a.inventory.forest i) a.machine operation before said.loss said.reply ∷ noted_log_lines place (name_of a.inventory.forest i) a.machine before said.loss notes
 
-unfoldable pub answered_lines : Agent → ℕ → Operation → Said → Notes → Option Trouble → List Line
-answered_lines a i operation said notes before = if nat_lt i (length a.inventory.forest.entries) then lines_of_entry a i operation said notes before else link_lines said.loss notes.link
+unfoldable pub answered_lines : List ℕ → Agent → ℕ → Operation → Said → Notes → Option Trouble → List Line
+answered_lines place a i operation said notes before = if nat_lt i (length a.inventory.forest.entries) then lines_of_entry place a i operation said notes before else link_lines place said.loss notes.link

@@ -7,6 +7,8 @@ use Rattle.agent_standing.specs.Agent.{Agent}
 use Rattle.agent_standing.specs.declared.shorts.Short.{Short}
 use Rattle.vault_asking.specs.declared.told.Said.{Said}
 use Rattle.base_clock.specs.declared.reading.Reading.{Reading}
+use Rattle.base_device.specs.declared.tried.Tried.{Tried}
+use Rattle.base_log.specs.Turns.{TurnIsMade}
 use Rattle.base_log.specs.Waiting.{Waiting, after_turn, closed_if, giving, with_notice}
 use Rattle.base_log.specs.declared.level.Level.{Level}
 use Rattle.base_log.specs.declared.line.Word.TheVariants as words
@@ -27,16 +29,17 @@ use Rattle.agent_log.specs.declared.mark.Mark.{Mark}
 use Rattle.agent_log.specs.declared.mark.Want.{Want}
 use Rattle.agent_log.specs.declared.mark.Want.TheVariants.{Over}
 
--- how lines are written, those that wait, a mark for each entry, and what was said of a lack of memory
+-- how lines are written, where the broker is reached, those that wait, a mark for each entry, and what was said of a lack of memory
 pub record Desk : Type 0 where
   pub form : Form
+  pub place : List ℕ
   pub room : Rooms
   pub marks : List Mark
   pub want : Want
 
 -- nothing was said yet of so many entries
-abbrev pub begun_desk : Form → ℕ → Desk
-begun_desk form count = record { form = form; room = begun_rooms; marks = replicate count fresh_mark; want = Over }
+abbrev pub begun_desk : Form → List ℕ → ℕ → Desk
+begun_desk form place count = record { form = form; place = place; room = begun_rooms; marks = replicate count fresh_mark; want = Over }
 
 -- these lines are said of the agent as it is, and these marks are left
 pub record SaysLines (a : Agent) (lines : List Line) (marks : List Mark) (old new : Desk) : Type 0 where
@@ -51,7 +54,7 @@ HearsShorts a shorts old new = SaysLines a (short_log_lines a shorts) old.marks 
 
 abbrev pub HearsAnswer : Agent → ℕ → Operation → Said → Notes → Desk → Desk → Type 0
 HearsAnswer a i operation said notes old new =
-    SaysLines a (answered_lines a i operation said notes (mark_at old.marks i).trouble) (with_trouble i (trouble_after (mark_at old.marks i).trouble operation said.reply) old.marks) old new
+    SaysLines a (answered_lines old.place a i operation said notes (mark_at old.marks i).trouble) (with_trouble i (trouble_after (mark_at old.marks i).trouble operation said.reply) old.marks) old new
 
 -- an end that was looked up; after it an entry may be stepped in for anew
 abbrev pub HearsAhead : Agent → ℕ → ℕ → Desk → Desk → Type 0
@@ -97,12 +100,14 @@ TellsIf true form moment old new = MayTell form moment old new
 TellsIf false form moment old new = new ≡ old
 
 -- in a turn the reader took so many bytes from the front of what waits, and then its sink failed or did not; what it was given before
--- and after, and the failures of its sink. Lines that were dropped may be told of where it took something and its sink did not fail
-pub record ReaderIsGiven (form : Form) (moment : ℕ) (old new : Waiting) (before after : Option (List ℕ)) (failures_before failures_after : ℕ) (goes_on : Bool) : Type 0 where
+-- and after, the failures of its sink, and the tries at it: it was tried until it had taken all that it may have in a turn, would have had
+-- to wait, or failed, or as often as it may be. Lines that were dropped may be told of where it took something and its sink did not fail
+pub record ReaderIsGiven (form : Form) (moment : ℕ) (old new : Waiting) (before after : Option (List ℕ)) (failures_before failures_after : ℕ) (tried_before tried_after : Option (List Tried)) (goes_on : Bool) : Type 0 where
   pub taken : ℕ
   pub failed : Bool
   pub most : taken ≤ min MOST_GIVEN (length old.bytes)
   pub given : Appends before after (take taken old.bytes)
+  pub turn : TurnIsMade (min MOST_GIVEN (length old.bytes)) taken failed tried_before tried_after
   pub failures : failures_after ≡ after_turn failed failures_before
   pub room : TellsIf (nat_lt 0 taken && not failed) form moment (closed_if failed (giving taken old)) new
   pub more : goes_on ≡ (nat_eq taken MOST_GIVEN && not failed)

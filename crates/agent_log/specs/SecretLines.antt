@@ -14,7 +14,7 @@ use Rattle.state_secrets.specs.declared.looking.SecretTrouble.TheVariants.{Unrea
 use Rattle.state_secrets.specs.declared.news.Looked.{Looked}
 use Rattle.state_secrets.specs.declared.news.SecretNews.{SecretNews}
 use Rattle.state_secrets.specs.declared.news.SecretWord.{SecretWord}
-use Rattle.state_secrets.specs.declared.news.SecretWord.TheVariants.{Taken, Kept, Without}
+use Rattle.state_secrets.specs.declared.news.SecretWord.TheVariants.{Taken, Mended, Kept, Without}
 
 abbrev pub trouble_text : SecretTrouble → List ℕ
 trouble_text Unread = codes "cannot be read"
@@ -27,17 +27,20 @@ trouble_text (Refused status) = status_words status
 
 abbrev pub level_of : SecretWord → Level
 level_of Taken = Info
+level_of Mended = Info
 level_of (Kept trouble) = Warning
 level_of (Without trouble) = Alert
 
 abbrev pub event_of_secret : SecretWord → List ℕ
 event_of_secret Taken = codes "replace"
+event_of_secret Mended = codes "secret-file"
 event_of_secret (Kept trouble) = codes "secret-file"
 event_of_secret (Without trouble) = codes "secret-file"
 
 -- of a credential that is taken, also why the broker has said nothing of it, where it was asked and has not
 abbrev pub text_of : SecretWord → Option Loss → List ℕ
 text_of Taken unproved = line_with_loss unproved (codes "by its file")
+text_of Mended unproved = codes "holds the old one again"
 text_of (Kept trouble) unproved = trouble_text trouble ++ codes ": it keeps the old one"
 text_of (Without trouble) unproved = trouble_text trouble ++ codes ": it is not kept until the file holds its secret"
 

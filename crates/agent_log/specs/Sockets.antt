@@ -8,9 +8,11 @@ use Rattle.base_moment.specs.declared.moment.TheConstants.{LAST}
 use Rattle.agent_log.specs.Lines.{Line, said_line}
 use Rattle.agent_words.specs.Moments.{moment_word}
 
--- until when an entry is needed
+-- until when an entry is needed, which 0 says of one that is not
 abbrev pub need_log_word : ℕ → Word
-need_log_word until = if until == LAST then words.Text (codes "always") else moment_word until
+need_log_word until =
+    if until == LAST then words.Text (codes "always")
+    else (if until == 0 then words.Text (codes "none") else moment_word until)
 
 -- a client has set another need
 abbrev pub need_log_line : List ℕ → ℕ → Line

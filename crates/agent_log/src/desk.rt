@@ -31,6 +31,8 @@ use watch_machine::{Millis, Notes, Operation, Request};
 #[derive(Debug, Drop)]
 pub struct Desk {
     pub(crate) form: Form,
+    /// Where the broker is reached.
+    pub(crate) place: Vec<u8>,
     /// The room of the log, and that of each of those who follow it.
     pub room: Rooms,
     pub(crate) marks: Vec<Mark>,
@@ -42,16 +44,18 @@ impl Model for Desk {
 
     ghost Value = { Desk };
 
-    ghost view = { λ d. record { form = d.form; room = d.room; marks = d.marks.items; want = d.want } };
+    ghost view = { λ d. record { form = d.form; place = d.place.items; room = d.room; marks = d.marks.items; want = d.want } };
 }
 
 impl Desk {
-    /// A desk for so many entries, at which nothing was said. The only error is lack of memory.
-    pub fn new(alloc: Global, form: Form, count: u32) -> Result<Desk, AllocError>
-        ensures { IfOk result (λ desk. desk ≡ begun_desk form count) }
+    /// A desk for so many entries of a broker that is reached at this place, at which nothing was said. The only error is lack of
+    /// memory.
+    pub fn new(alloc: Global, form: Form, place: Vec<u8>, count: u32) -> Result<Desk, AllocError>
+        ensures { IfOk result (λ desk. desk ≡ begun_desk form place.items count) }
     {
         Ok(Desk {
             form,
+            place,
             room: Rooms::new(alloc)?,
             marks: fresh_marks(alloc, count)?,
             want: Want::Over,
@@ -107,6 +111,7 @@ impl Desk {
         say_answered(
             alloc,
             &stamp,
+            &self.place,
             agent,
             entry,
             operation,

@@ -25,6 +25,7 @@ use watch_machine::{Link, Notes, Operation, Reply, Watch};
 pub(crate) fn say_answered(
     alloc: Global,
     stamp: &Stamp,
+    place: &[u8],
     agent: &Agent,
     entry: u32,
     operation: Operation,
@@ -33,23 +34,28 @@ pub(crate) fn say_answered(
     before: Option<Trouble>,
     room: &mut Rooms,
 )
-    ensures { AreSaid stamp.now.form stamp.now.moment (answered_lines agent.now entry operation said notes.now before) room.old room.new }
+    ensures { AreSaid stamp.now.form stamp.now.moment (answered_lines place.now agent.now entry operation said notes.now before) room.old room.new }
 {
     let forest = agent.inventory().forest();
     if entry >= forest.len() {
-        say_link(alloc, stamp, said.loss, notes.link, room);
+        say_link(alloc, stamp, place, said.loss, notes.link, room);
         return;
     }
     let name = name_of(forest, entry);
     let watch = agent.watch();
-    say_reply(alloc, stamp, name, watch, operation, said, before, room);
-    say_noted(alloc, stamp, name, watch, said.loss, notes, before, room);
+    say_reply(
+        alloc, stamp, place, name, watch, operation, said, before, room,
+    );
+    say_noted(
+        alloc, stamp, place, name, watch, said.loss, notes, before, room,
+    );
 }
 
 // Says what came of a request.
 fn say_reply(
     alloc: Global,
     stamp: &Stamp,
+    place: &[u8],
     name: &[u8],
     watch: &Watch,
     operation: Operation,
@@ -57,7 +63,7 @@ fn say_reply(
     before: Option<Trouble>,
     room: &mut Rooms,
 )
-    ensures { LineIsSaid stamp.now.form stamp.now.moment (reply_line name.now watch.now operation before said.loss said.reply) room.old room.new }
+    ensures { LineIsSaid stamp.now.form stamp.now.moment (reply_line place.now name.now watch.now operation before said.loss said.reply) room.old room.new }
 {
     match said.reply {
         Reply::Told { seconds, date, .. } => {
@@ -65,7 +71,7 @@ fn say_reply(
             say_told(alloc, stamp, name, watch, operation, seconds, date, room);
         }
         Reply::Refused { status, .. } => say_refused(alloc, stamp, name, before, status, room),
-        Reply::Busy | Reply::Lost => say_lost(alloc, stamp, name, before, said.loss, room),
+        Reply::Busy | Reply::Lost => say_lost(alloc, stamp, place, name, before, said.loss, room),
     }
 }
 
@@ -115,15 +121,16 @@ fn say_refused(
 fn say_lost(
     alloc: Global,
     stamp: &Stamp,
+    place: &[u8],
     name: &[u8],
     before: Option<Trouble>,
     why: Loss,
     room: &mut Rooms,
 )
-    ensures { LineIsSaid stamp.now.form stamp.now.moment (lost_log_line name.now before why) room.old room.new }
+    ensures { LineIsSaid stamp.now.form stamp.now.moment (lost_log_line place.now name.now before why) room.old room.new }
 {
     let level = lost_level(before);
-    match name_and_loss(alloc, name, why) {
+    match name_and_loss(alloc, place, name, why) {
         Ok(words) => say(alloc, stamp, level, "lost", words, room),
         Err(_) => room.miss(level),
     }
@@ -161,6 +168,7 @@ fn gone_level(before: Option<Trouble>) -> Level
 fn say_noted(
     alloc: Global,
     stamp: &Stamp,
+    place: &[u8],
     name: &[u8],
     watch: &Watch,
     why: Loss,
@@ -168,13 +176,13 @@ fn say_noted(
     before: Option<Trouble>,
     room: &mut Rooms,
 )
-    ensures { AreSaid stamp.now.form stamp.now.moment (noted_log_lines name.now watch.now before why notes.now) room.old room.new }
+    ensures { AreSaid stamp.now.form stamp.now.moment (noted_log_lines place.now name.now watch.now before why notes.now) room.old room.new }
 {
     say_gone(alloc, stamp, name, before, notes.gone, room);
     say_top(alloc, stamp, name, watch, notes.top, room);
     say_orphan(alloc, stamp, name, notes.orphan, room);
     say_never(alloc, stamp, name, notes.endless, room);
-    say_link(alloc, stamp, why, notes.link, room);
+    say_link(alloc, stamp, place, why, notes.link, room);
 }
 
 #[tactic(auto, using(crate::proofs::Said::one_said))]
@@ -230,13 +238,20 @@ fn say_never(alloc: Global, stamp: &Stamp, name: &[u8], is_endless: bool, room: 
 }
 
 #[tactic(auto, using(crate::proofs::Said::one_said, crate::proofs::Said::missed))]
-fn say_link(alloc: Global, stamp: &Stamp, why: Loss, link: Option<Link>, room: &mut Rooms)
-    ensures { AreSaid stamp.now.form stamp.now.moment (link_lines why link) room.old room.new }
+fn say_link(
+    alloc: Global,
+    stamp: &Stamp,
+    place: &[u8],
+    why: Loss,
+    link: Option<Link>,
+    room: &mut Rooms,
+)
+    ensures { AreSaid stamp.now.form stamp.now.moment (link_lines place.now why link) room.old room.new }
 {
     match link {
         None => {}
         Some(Link::Back) => say(alloc, stamp, Level::Info, "back", Vec::new(alloc), room),
-        Some(Link::Away) => match one_loss(alloc, why) {
+        Some(Link::Away) => match one_loss(alloc, place, why) {
             Ok(words) => say(alloc, stamp, Level::Warning, "away", words, room),
             Err(_) => room.miss(Level::Warning),
         },

@@ -19,7 +19,7 @@ impl Desk {
     /// is room for that. Whether more could be given at once.
     #[tactic(auto, using(crate::proofs::Deciding::tells_by))]
     pub fn give<S: LogSink>(&mut self, alloc: Global, sink: &mut S, now: Reading) -> bool
-        ensures given { ReaderIsGiven self.old.form (second_of now.wall) self.old.room.log self.new.room.log (S.written sink.old) (S.written sink.new) (S.failures sink.old) (S.failures sink.new) result }
+        ensures given { ReaderIsGiven self.old.form (second_of now.wall) self.old.room.log self.new.room.log (S.written sink.old) (S.written sink.new) (S.failures sink.old) (S.failures sink.new) (S.tried sink.old) (S.tried sink.new) result }
         ensures tries { S.tries sink.new ≤ S.tries sink.old + MOST_TRIES }
         ensures rest { self.new ≡ record self.old { room = record self.old.room { log = self.new.room.log } } }
     {

@@ -9,6 +9,7 @@ ghost use Rattle.agent_log.specs.SecretLines.{event_of_secret, level_of, look_li
 use crate::desk::Desk;
 use crate::log_clock::say_memory;
 use crate::log_line::{Stamp, say_of};
+use crate::log_words::text_word;
 use crate::lookup_loss::line_with_loss;
 use crate::rooms::Rooms;
 use agent_standing::Agent;
@@ -89,7 +90,7 @@ fn level_of(what: SecretWord) -> Level
     ensures { result ≡ level_of what }
 {
     match what {
-        SecretWord::Taken => Level::Info,
+        SecretWord::Taken | SecretWord::Mended => Level::Info,
         SecretWord::Kept(_) => Level::Warning,
         SecretWord::Without(_) => Level::Alert,
     }
@@ -100,7 +101,7 @@ fn event_of(what: SecretWord) -> &'static str
 {
     match what {
         SecretWord::Taken => "replace",
-        SecretWord::Kept(_) | SecretWord::Without(_) => "secret-file",
+        SecretWord::Mended | SecretWord::Kept(_) | SecretWord::Without(_) => "secret-file",
     }
 }
 
@@ -109,6 +110,7 @@ fn word_of(alloc: Global, what: SecretWord, unproved: Option<Loss>) -> Result<Wo
 {
     match what {
         SecretWord::Taken => taken_word(alloc, unproved),
+        SecretWord::Mended => text_word(alloc, b"holds the old one again"),
         SecretWord::Kept(trouble) => trouble_word(alloc, trouble, b": it keeps the old one"),
         SecretWord::Without(trouble) => trouble_word(
             alloc,

@@ -29,6 +29,8 @@ fn need_word(alloc: Global, until: u64) -> Result<Word, AllocError>
 {
     if until == LAST {
         text_word(alloc, b"always")
+    } else if until == 0 {
+        text_word(alloc, b"none")
     } else {
         Ok(moment_word(until))
     }

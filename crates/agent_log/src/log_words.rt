@@ -1,8 +1,8 @@
 //! The words of a line.
-ghost use Rattle.std.specs.Prelude.{◌≡◌, ◌∷◌, ◌++◌, [], IfOk, OnOk};
+ghost use Rattle.std.specs.Prelude.{◌≡◌, ◌∷◌, ◌++◌, [], IfOk, OnOk, codes};
 ghost use Rattle.base_log.specs.declared.line.Word.TheVariants as kinds;
 ghost use Rattle.agent_log.specs.LinesOfClocks.{asked_word, asked_words, name_words};
-ghost use Rattle.agent_log.specs.Lines.{loss_word};
+ghost use Rattle.agent_log.specs.Lines.{loss_words, reason_text};
 ghost use Rattle.watch_machine.specs.Refusal.{is_same};
 ghost use Rattle.program_lines.specs.Text.{name_of};
 
@@ -11,7 +11,7 @@ use base_moment::Text;
 use plan_forest::Forest;
 use program_lines::name_of;
 use std::alloc::{AllocError, Global};
-use vault_lanes::Loss;
+use vault_lanes::{ConnectReason, Loss};
 use watch_machine::{Operation, Request};
 
 /// A text as a word. The only error is lack of memory, here and in all that follows.
@@ -21,16 +21,48 @@ pub(crate) fn text_word(alloc: Global, text: &[u8]) -> Result<Word, AllocError>
     Ok(Word::Text(Text::of(alloc, text)?))
 }
 
-/// Why a request counts as lost.
-pub(crate) fn loss_word(alloc: Global, why: Loss) -> Result<Word, AllocError>
-    ensures { IfOk result (λ w. w ≡ loss_word why) }
+/// Why a request counts as lost; where there is no connection, to which place and why.
+fn push_loss(
+    alloc: Global,
+    place: &[u8],
+    why: Loss,
+    words: &mut Vec<Word>,
+) -> Result<(), AllocError>
+    ensures { OnOk result (words.new.items ≡ words.old.items ++ loss_words place.now why) }
 {
     match why {
-        Loss::Connect => text_word(alloc, b"connect"),
-        Loss::Timeout => text_word(alloc, b"timeout"),
-        Loss::Closed => text_word(alloc, b"closed"),
-        Loss::Reply => text_word(alloc, b"reply"),
-        Loss::Status(status) => Ok(Word::Number(u64::from(status))),
+        Loss::Connect(reason) => {
+            words.push(text_word(alloc, b"connect")?)?;
+            Ok(words.push(unreached_word(alloc, place, reason)?)?)
+        }
+        Loss::Timeout => Ok(words.push(text_word(alloc, b"timeout")?)?),
+        Loss::Closed => Ok(words.push(text_word(alloc, b"closed")?)?),
+        Loss::Reply => Ok(words.push(text_word(alloc, b"reply")?)?),
+        Loss::Status(status) => Ok(words.push(Word::Number(u64::from(status)))?),
+    }
+}
+
+/// A place, and why there is no connection to it.
+fn unreached_word(alloc: Global, place: &[u8], reason: ConnectReason) -> Result<Word, AllocError>
+    ensures { IfOk result (λ w. w ≡ kinds.Text (place.now ++ (codes ": " ++ reason_text reason))) }
+{
+    let mut text = Vec::from_slice(alloc, place)?;
+    text.extend_from_slice(b": ")?;
+    text.extend_from_slice(reason_text(reason))?;
+    Ok(Word::Text(Text::from_vec(text)))
+}
+
+/// Why there is no connection.
+pub(crate) fn reason_text(reason: ConnectReason) -> &'static [u8]
+    ensures { result.now ≡ reason_text reason }
+{
+    match reason {
+        ConnectReason::NoSuchFile => b"no such file",
+        ConnectReason::Denied => b"permission denied",
+        ConnectReason::Refused => b"connection refused",
+        ConnectReason::Unreachable => b"unreachable",
+        ConnectReason::TimedOut => b"timed out",
+        ConnectReason::Other => b"the connection failed",
     }
 }
 
@@ -61,17 +93,26 @@ pub(crate) fn name_and(alloc: Global, name: &[u8], word: Word) -> Result<Vec<Wor
 }
 
 /// A name and why a request counts as lost.
-pub(crate) fn name_and_loss(alloc: Global, name: &[u8], why: Loss) -> Result<Vec<Word>, AllocError>
-    ensures { IfOk result (λ ws. ws.items ≡ kinds.Text name.now ∷ loss_word why ∷ []) }
+pub(crate) fn name_and_loss(
+    alloc: Global,
+    place: &[u8],
+    name: &[u8],
+    why: Loss,
+) -> Result<Vec<Word>, AllocError>
+    ensures { IfOk result (λ ws. ws.items ≡ kinds.Text name.now ∷ loss_words place.now why) }
 {
-    name_and(alloc, name, loss_word(alloc, why)?)
+    let mut words = one_text(alloc, name)?;
+    push_loss(alloc, place, why, &mut words)?;
+    Ok(words)
 }
 
 /// Why a request counts as lost, alone.
-pub(crate) fn one_loss(alloc: Global, why: Loss) -> Result<Vec<Word>, AllocError>
-    ensures { IfOk result (λ ws. ws.items ≡ loss_word why ∷ []) }
+pub(crate) fn one_loss(alloc: Global, place: &[u8], why: Loss) -> Result<Vec<Word>, AllocError>
+    ensures { IfOk result (λ ws. ws.items ≡ loss_words place.now why) }
 {
-    one_word(alloc, loss_word(alloc, why)?)
+    let mut words = Vec::new(alloc);
+    push_loss(alloc, place, why, &mut words)?;
+    Ok(words)
 }
 
 /// A moment and the names of entries.

@@ -2,6 +2,7 @@
 ghost use Rattle.std.specs.Prelude.{◌≡◌, ◌++◌, IfOk, OnOk};
 ghost use Rattle.agent_log.specs.LookupLosses.{line_with_loss, loss_text};
 
+use crate::log_words::reason_text;
 use base_moment::Text;
 use base_words::push_number;
 use std::alloc::{AllocError, Global};
@@ -26,7 +27,10 @@ fn push_loss(alloc: Global, why: Loss, text: &mut Vec<u8>) -> Result<(), AllocEr
     ensures { OnOk result (text.new.items ≡ text.old.items ++ loss_text why) }
 {
     match why {
-        Loss::Connect => text.extend_from_slice(b"connect"),
+        Loss::Connect(reason) => {
+            text.extend_from_slice(b"connect: ")?;
+            text.extend_from_slice(reason_text(reason))
+        }
         Loss::Timeout => text.extend_from_slice(b"timeout"),
         Loss::Closed => text.extend_from_slice(b"closed"),
         Loss::Reply => text.extend_from_slice(b"reply"),

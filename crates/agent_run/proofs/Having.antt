@@ -1,5 +1,5 @@
 -- Having: an agent that has run has, of a start that the words demand. For the program.
-use Rattle.std.proofs.Common.{◌≡◌, ℕ, Bool, List, [], Option}
+use Rattle.std.proofs.Common.{◌≡◌, ℕ, Bool, List, [], None, Option}
 use Rattle.std.specs.Prelude.{is_some, option_copied}
 use Rattle.agent_ledger.specs.declared.ledger.Ledger.{Ledger}
 use Rattle.agent_words.specs.declared.demands.Demands.{Demands}
@@ -7,12 +7,14 @@ use Rattle.vault_asking.specs.Sending.{Lanes}
 use Rattle.agent_behind.specs.declared.behind.Behind.{Behind}
 use Rattle.base_clock.specs.Seen.{ClockSeen}
 use Rattle.base_disk.specs.State.{DiskState}
+use Rattle.base_files.specs.Files.{Files}
 use Rattle.agent_house.specs.declared.house.House.{House}
 use Rattle.state_secrets.specs.Stamps.{FileCall}
 use Rattle.agent_turns.specs.Neighbours.{NeighbourCall}
 use Rattle.agent_turns.specs.declared.change.Change.{Change}
 use Rattle.agent_turns.specs.declared.day.EarlyDay.{EarlyDay}
 use Rattle.program_commands.specs.declared.job.Served.{Served}
+use Rattle.agent_start.specs.Alone.{IsServedAlone}
 use Rattle.agent_start.specs.Numbers.{IsNumber}
 use Rattle.agent_start.specs.Starts.{IsStart}
 use Rattle.agent_start.specs.declared.start.Start.{Start}
@@ -22,18 +24,21 @@ use Rattle.agent_run.specs.declared.begun.Parts.{Parts}
 pub is_demanded : (served : Served) (number : ℕ) (d : Demands) → IsNumber (option_copied served.name) served.file.now number → d ≡ demands_of served number → IsDemanded served d
 is_demanded served number d its is = (number, (its, is))
 
-module _ {D I L S T O E C P : Type 0} (does : NeighbourCall → EarlyDay (Behind (House S T O (Ledger D I L) E) L) → EarlyDay (Behind (House S T O (Ledger D I L) E) L) → Type 0) (given : EarlyDay (Behind (House S T O (Ledger D I L) E) L) → Option (List Change)) (calls : P → Option (List FileCall)) (known : Bool) (disk_seen : E → DiskState)
-    (clock_seen : C → ClockSeen) (seen : L → Lanes) (port width : L → ℕ) where
+module _ {D I L S T O E C P F J : Type 0} (does : NeighbourCall → EarlyDay (Behind (House S T O (Ledger D I L) E) L) → EarlyDay (Behind (House S T O (Ledger D I L) E) L) → Type 0) (given : EarlyDay (Behind (House S T O (Ledger D I L) E) L) → Option (List Change)) (calls : P → Option (List FileCall)) (known : Bool) (disk_seen : E → DiskState)
+    (clock_seen : C → ClockSeen) (seen : L → Lanes) (port width : L → ℕ) (file_bytes : F → Files) (secret_bytes : J → Files) where
   pub has_run :
-      (served : Served) (log : S) (demands : Demands) (start : Start (Ledger D I L)) (parts : Parts S E L) (doors : P) (clock clock_after : C) (lanes lanes_after : L) → IsDemanded served demands → IsStart demands (is_some served.state) start → parts.log ≡ log → (seen lanes).out ≡ [] →
-      (seen lanes).seconds ≡ timeout_of served.patience → width lanes ≡ width_of served.width →
-      IsRun does given calls known disk_seen clock_seen seen port width served start parts doors clock lanes clock_after lanes_after → HasRun does given calls known disk_seen clock_seen seen port width served log
-  has_run served log demands start parts doors clock clock_after lanes lanes_after demanded is log_is free seconds wide runs =
+      (served : Served) (log : S) (demands : Demands) (start : Start (Ledger D I L)) (files : F) (secrets : J) (parts : Parts S E L) (doors : P) (clock clock_after : C) (lanes lanes_after : L) → IsDemanded served demands → IsStart demands (is_some served.state) start →
+      (start.ledger ≡ None → IsServedAlone (is_some served.state) (file_bytes files) (secret_bytes secrets) served.file.now demands start) → parts.log ≡ log → (seen lanes).out ≡ [] → (seen lanes).seconds ≡ timeout_of served.patience → width lanes ≡ width_of served.width →
+      IsRun does given calls known disk_seen clock_seen seen port width served start parts doors clock lanes clock_after lanes_after → HasRun does given calls known disk_seen clock_seen seen port width file_bytes secret_bytes served log
+  has_run served log demands start files secrets parts doors clock clock_after lanes lanes_after demanded is alone log_is free seconds wide runs =
       record {
         demands = demands;
         demanded = demanded;
         start = start;
         start_is = is;
+        files = files;
+        secrets = secrets;
+        alone = alone;
         parts = parts;
         doors = doors;
         clock = clock;
@@ -47,5 +52,5 @@ module _ {D I L S T O E C P : Type 0} (does : NeighbourCall → EarlyDay (Behind
         runs = runs;
       }
 
-  pub has_run_so : (served : Served) (log : S) → HasRun does given calls known disk_seen clock_seen seen port width served log → HasRunSo does given calls known disk_seen clock_seen seen port width served
+  pub has_run_so : (served : Served) (log : S) → HasRun does given calls known disk_seen clock_seen seen port width file_bytes secret_bytes served log → HasRunSo does given calls known disk_seen clock_seen seen port width file_bytes secret_bytes served
   has_run_so served log has = (log, has)

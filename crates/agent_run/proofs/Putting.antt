@@ -12,6 +12,7 @@ use Rattle.agent_behind.specs.declared.behind.Behind.{Behind}
 use Rattle.base_clock.specs.Seen.{CallIsMade, ClockSeen, read_call}
 use Rattle.base_clock.specs.declared.reading.Reading.{Reading}
 use Rattle.base_device.specs.declared.fault.Failed.{Failed}
+use Rattle.base_device.specs.declared.place.Place.{Place}
 use Rattle.base_disk.specs.State.{DiskState}
 use Rattle.agent_house.specs.declared.house.House.{House}
 use Rattle.vault_inventory.specs.Inventories.{Inventory}
@@ -28,7 +29,7 @@ use Rattle.agent_start.specs.TakingOver.{TakesOver}
 use Rattle.agent_start.specs.declared.said.Said.{Said}
 use Rattle.agent_start.specs.declared.start.Start.{Start}
 use Rattle.watch_machine.specs.declared.event.Event.{Event}
-use Rattle.agent_run.specs.Begun.{BeginsLog, HasFolder, IsBegun, IsLookout, IsReady, LooksAhead, SaysIfBehind, beside, day_of, house_of, with_lanes}
+use Rattle.agent_run.specs.Begun.{BeginsLog, HasFolder, IsBegun, IsLookout, IsReady, LooksAhead, SaysIfBehind, beside, day_of, house_of, place_text, with_lanes}
 use Rattle.agent_run.specs.Doors.{IsDoor, SaysNoDoor, cost_without}
 use Rattle.agent_run.specs.Run.{IsRun, ReadsFirst, reading_or_none}
 use Rattle.agent_run.specs.Running.{RunsFrom}
@@ -49,23 +50,23 @@ pub is_lookout : {L : Type 0} → (number : ℕ) (lanes : L) (l : Ahead L) → l
 is_lookout number lanes l its own none nothing = record { number = its; own = own; scout = none; heard = nothing }
 
 pub begins_log :
-    {P : Type 0} → (calls : P → Option (List FileCall)) (now : Reading) (form : Form) (count : ℕ) (said heard : List Said) (warned : Vec Said Global) (path : Option (String Global)) (folder : Option (List ℕ)) (files after : P) (result : Result Desk AllocError) →
-    HasFolder path folder → WarnsOfDisks calls folder files after said warned.items → heard ≡ warned.items → IfOk result (BeginsDesk form count now heard) → IfOk result (BeginsLog calls now form count said path files)
-begins_log calls now form count said heard warned path folder files after (Ok desk) has warns same begins =
+    {P : Type 0} → (calls : P → Option (List FileCall)) (now : Reading) (form : Form) (place : Place) (words : List ℕ) (count : ℕ) (said heard : List Said) (warned : Vec Said Global) (path : Option (String Global)) (folder : Option (List ℕ)) (files after : P) (result : Result Desk AllocError) →
+    words ≡ place_text place → HasFolder path folder → WarnsOfDisks calls folder files after said warned.items → heard ≡ warned.items → IfOk result (BeginsDesk form words count now heard) → IfOk result (BeginsLog calls now form place count said path files)
+begins_log calls now form place words count said heard warned path folder files after (Ok desk) is has warns same begins =
     record {
       folder = folder;
       after = after;
       warned = warned.items;
       has_folder = has;
       warns = warns;
-      begins = subst (λ s. BeginsDesk form count now s desk) same begins;
+      begins = subst (λ s. BeginsDesk form (place_text place) count now s desk) same (subst (λ w. BeginsDesk form w count now heard desk) is begins);
     }
-begins_log calls now form count said heard warned path folder files after (Err e) has warns same begins = tt
+begins_log calls now form place words count said heard warned path folder files after (Err e) is has warns same begins = tt
 
 pub is_ready :
     {D E P : Type 0} → (calls : P → Option (List FileCall)) (known : Bool) (seen : E → DiskState) (now : Reading) (served : Served) (behind : Option ℕ) (inventory : Inventory) (said : List Said) (path : Option (String Global)) (disk : E) (doors : P) (r : Ready D E) (count width margin : ℕ) (is_behind : Bool)
     (begun told placed reckoned opened : Desk) →
-    BeginsLog calls now served.form count said path doors begun → count ≡ length inventory.forest.entries → TakesOver known seen now inventory path disk r.taken begun told → SaysIfBehind now behind margin told placed → margin ≡ inventory.forest.margin →
+    BeginsLog calls now served.form served.place count said path doors begun → count ≡ length inventory.forest.entries → TakesOver known seen now inventory path disk r.taken begun told → SaysIfBehind now behind margin told placed → margin ≡ inventory.forest.margin →
     ArePlaces now width is_behind r.entrances.places placed reckoned → width ≡ min served.width 32 → is_behind ≡ is_some behind →
     IsDoor now served.control Clients r.entrances.control reckoned opened → IsDoor now served.listen Onlookers r.entrances.onlookers opened r.desk → IsReady calls known seen now served behind inventory said path disk doors r
 is_ready calls known seen now served behind inventory said path disk doors r count width margin is_behind begun told placed reckoned opened begins many takes stands by places wide is control onlookers =
@@ -75,7 +76,7 @@ is_ready calls known seen now served behind inventory said path disk doors r cou
       placed = placed;
       reckoned = reckoned;
       opened = opened;
-      begins = subst (λ n. BeginsLog calls now served.form n said path doors begun) many begins;
+      begins = subst (λ n. BeginsLog calls now served.form served.place n said path doors begun) many begins;
       takes = takes;
       stands = subst (λ m. SaysIfBehind now behind m told placed) by stands;
       places = subst (λ w. ArePlaces now w (is_some behind) r.entrances.places placed reckoned) wide (subst (λ b. ArePlaces now width b r.entrances.places placed reckoned) is places);

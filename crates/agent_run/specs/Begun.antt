@@ -1,6 +1,6 @@
 -- Begun: what a start puts together: the agent, its neighbours and its wait, and all that was said by then.
 -- Source: this project's own.
-use Rattle.std.specs.Prelude.{◌≡◌, ℕ, ◌/◌, Bool, false, if◌then◌else◌, List, [], Option, Some, None, String, Vec, is_some, length, min, option_map}
+use Rattle.std.specs.Prelude.{◌≡◌, ℕ, ◌/◌, Bool, false, if◌then◌else◌, List, [], Option, Some, None, String, Vec, ◌++◌, codes, decimal, is_some, length, min, option_map}
 use Rattle.std.specs.declared.alloc.Global.{Global}
 use Rattle.agent_ledger.specs.declared.asker.Asker.{Asker}
 use Rattle.agent_ledger.specs.declared.ledger.Ledger.{Ledger}
@@ -12,6 +12,8 @@ use Rattle.agent_behind.specs.declared.behind.Behind.{Behind}
 use Rattle.agent_behind.specs.declared.behind.Giver.TheVariants.{Others}
 use Rattle.state_changes.specs.declared.row.Row.{Row}
 use Rattle.base_clock.specs.declared.reading.Reading.{Reading}
+use Rattle.base_device.specs.declared.place.Place.{Place}
+use Rattle.base_device.specs.declared.place.Place.TheVariants as places
 use Rattle.base_disk.specs.State.{DiskState}
 use Rattle.agent_ends.specs.declared.file.EndsFile.{EndsFile}
 use Rattle.agent_house.specs.declared.house.House.{House}
@@ -40,14 +42,19 @@ use Rattle.agent_run.specs.declared.doors.Guests.TheVariants.{Clients, Onlookers
 abbrev pub HasFolder : Option (String Global) → Option (List ℕ) → Type 0
 HasFolder path folder = is_some folder ≡ is_some path
 
+-- where the broker is reached, in words
+abbrev pub place_text : Place → List ℕ
+place_text (places.Port port) = codes "127.0.0.1:" ++ decimal port
+place_text (places.Path path) = path.now
+
 -- the log begins with what is said of the start, and with a warning of each file for which the loop waits where that lies on a disk
-pub record BeginsLog {P : Type 0} (calls : P → Option (List FileCall)) (now : Reading) (form : Form) (count : ℕ) (said : List Said) (path : Option (String Global)) (files : P) (desk : Desk) : Type 0 where
+pub record BeginsLog {P : Type 0} (calls : P → Option (List FileCall)) (now : Reading) (form : Form) (place : Place) (count : ℕ) (said : List Said) (path : Option (String Global)) (files : P) (desk : Desk) : Type 0 where
   pub folder : Option (List ℕ)
   pub after : P
   pub warned : List Said
   pub has_folder : HasFolder path folder
   pub warns : WarnsOfDisks calls folder files after said warned
-  pub begins : BeginsDesk form count now warned desk
+  pub begins : BeginsDesk form (place_text place) count now warned desk
 
 -- the margin of an agent behind another
 abbrev pub SaysIfBehind : Reading → Option ℕ → ℕ → Desk → Desk → Type 0
@@ -62,7 +69,7 @@ pub record IsReady {D E P : Type 0} (calls : P → Option (List FileCall)) (know
   pub placed : Desk
   pub reckoned : Desk
   pub opened : Desk
-  pub begins : BeginsLog calls now served.form (length inventory.forest.entries) said path doors begun
+  pub begins : BeginsLog calls now served.form served.place (length inventory.forest.entries) said path doors begun
   pub takes : TakesOver known seen now inventory path disk r.taken begun told
   pub stands : SaysIfBehind now behind inventory.forest.margin told placed
   pub places : ArePlaces now (min served.width 32) (is_some behind) r.entrances.places placed reckoned

@@ -11,6 +11,7 @@ use Rattle.agent_behind.specs.declared.behind.Behind.{Behind}
 use Rattle.base_clock.specs.Seen.{CallIsMade, ClockSeen, read_call}
 use Rattle.base_clock.specs.declared.reading.Reading.{Reading}
 use Rattle.base_disk.specs.State.{DiskState}
+use Rattle.base_files.specs.Files.{Files}
 use Rattle.agent_house.specs.declared.house.House.{House}
 use Rattle.vault_lanes.specs.Out.{Out}
 use Rattle.state_secrets.specs.Stamps.{FileCall}
@@ -19,6 +20,7 @@ use Rattle.agent_turns.specs.declared.change.Change.{Change}
 use Rattle.agent_turns.specs.declared.day.EarlyDay.{EarlyDay}
 use Rattle.plan_spread.specs.Parts.{part_by}
 use Rattle.program_commands.specs.declared.job.Served.{Served}
+use Rattle.agent_start.specs.Alone.{IsServedAlone}
 use Rattle.agent_start.specs.Numbers.{IsNumber}
 use Rattle.agent_start.specs.Starts.{IsStart}
 use Rattle.agent_start.specs.declared.start.Start.{Start}
@@ -94,13 +96,16 @@ pub record IsRun {D I L S T O E C P : Type 0} (does : NeighbourCall → EarlyDay
   pub runs : RunsFrom does given clock_seen seen port begun.wait begun.serving lanes clock_read begun.neighbours lanes_after clock_after after
 
 -- an agent was put together of a start that these words demand, and has run, with this log, over lanes to the broker of which none was taken, with the time-out and the width
--- of the words
-pub record HasRun {D I L S T O E C P : Type 0} (does : NeighbourCall → EarlyDay (Behind (House S T O (Ledger D I L) E) L) → EarlyDay (Behind (House S T O (Ledger D I L) E) L) → Type 0) (given : EarlyDay (Behind (House S T O (Ledger D I L) E) L) → Option (List Change))
-    (calls : P → Option (List FileCall)) (known : Bool) (disk_seen : E → DiskState) (clock_seen : C → ClockSeen) (seen : L → Lanes) (port width : L → ℕ) (served : Served) (log : S) : Type 0 where
+-- of the words. Without a ledger it serves what FILE says, by its files
+pub record HasRun {D I L S T O E C P F J : Type 0} (does : NeighbourCall → EarlyDay (Behind (House S T O (Ledger D I L) E) L) → EarlyDay (Behind (House S T O (Ledger D I L) E) L) → Type 0) (given : EarlyDay (Behind (House S T O (Ledger D I L) E) L) → Option (List Change))
+    (calls : P → Option (List FileCall)) (known : Bool) (disk_seen : E → DiskState) (clock_seen : C → ClockSeen) (seen : L → Lanes) (port width : L → ℕ) (file_bytes : F → Files) (secret_bytes : J → Files) (served : Served) (log : S) : Type 0 where
   pub demands : Demands
   pub demanded : IsDemanded served demands
   pub start : Start (Ledger D I L)
   pub start_is : IsStart demands (is_some served.state) start
+  pub files : F
+  pub secrets : J
+  pub alone : start.ledger ≡ None → IsServedAlone (is_some served.state) (file_bytes files) (secret_bytes secrets) served.file.now demands start
   pub parts : Parts S E L
   pub doors : P
   pub clock : C
@@ -114,6 +119,6 @@ pub record HasRun {D I L S T O E C P : Type 0} (does : NeighbourCall → EarlyDa
   pub runs : IsRun does given calls known disk_seen clock_seen seen port width served start parts doors clock lanes clock_after lanes_after
 
 -- with some log
-abbrev pub HasRunSo : {D I L S T O E C P : Type 0} → (NeighbourCall → EarlyDay (Behind (House S T O (Ledger D I L) E) L) → EarlyDay (Behind (House S T O (Ledger D I L) E) L) → Type 0) → (EarlyDay (Behind (House S T O (Ledger D I L) E) L) → Option (List Change)) → (P → Option (List FileCall)) → Bool → (E → DiskState) →
-    (C → ClockSeen) → (L → Lanes) → (L → ℕ) → (L → ℕ) → Served → Type 0
-HasRunSo {S} does given calls known disk_seen clock_seen seen port width served = (log : S) × HasRun does given calls known disk_seen clock_seen seen port width served log
+abbrev pub HasRunSo : {D I L S T O E C P F J : Type 0} → (NeighbourCall → EarlyDay (Behind (House S T O (Ledger D I L) E) L) → EarlyDay (Behind (House S T O (Ledger D I L) E) L) → Type 0) → (EarlyDay (Behind (House S T O (Ledger D I L) E) L) → Option (List Change)) → (P → Option (List FileCall)) → Bool → (E → DiskState) →
+    (C → ClockSeen) → (L → Lanes) → (L → ℕ) → (L → ℕ) → (F → Files) → (J → Files) → Served → Type 0
+HasRunSo {S} does given calls known disk_seen clock_seen seen port width file_bytes secret_bytes served = (log : S) × HasRun does given calls known disk_seen clock_seen seen port width file_bytes secret_bytes served log

@@ -3,7 +3,7 @@ ghost use Rattle.std.specs.Prelude.{◌≡◌, ◌<◌, [], IfOk, is_some, min, 
 ghost use Rattle.agent_answers.specs.Controlling.{nobody_asks};
 ghost use Rattle.agent_answers.specs.Onlooking.{nobody};
 ghost use Rattle.agent_turns.specs.Held.{IsInStep};
-ghost use Rattle.agent_run.specs.Begun.{BeginsLog, HasFolder, IsBegun, IsReady, LooksAhead, SaysIfBehind, beside, day_of, house_of, read_at, with_lanes};
+ghost use Rattle.agent_run.specs.Begun.{BeginsLog, HasFolder, IsBegun, IsReady, LooksAhead, SaysIfBehind, beside, day_of, house_of, place_text, read_at, with_lanes};
 ghost use Rattle.agent_run.specs.Waits.{IsResumedFrom, WaitsFor};
 
 use crate::doors::{Doors, Guests, open_door};
@@ -21,9 +21,11 @@ use agent_start::{
 use agent_turns::{EarlyDay, Serving};
 use base_clients::{Door, Talk};
 use base_clock::Reading;
+use base_device::Place;
 use base_disk::Disk;
 use base_files::Inputs;
-use base_log::{Form, LogSink};
+use base_log::LogSink;
+use base_words::push_number;
 use program_commands::Served;
 use state_changes::Rows;
 use state_secrets::SecretFiles;
@@ -206,7 +208,7 @@ where
     ensures { IfOk result (IsReady P.calls E.is_known E.state now served.now behind inventory.now said.items ends disk doors.old) }
 {
     let count = inventory.forest().len();
-    let mut desk = begin_log(alloc, now, served.form, count, said, &ends, doors)?;
+    let mut desk = begin_log(alloc, now, served, count, said, &ends, doors)?;
     let taken = take_over(alloc, disk, ends, inventory, now, &mut desk)?;
     say_if_behind(alloc, now, behind, inventory.forest().margin(), &mut desk);
     let places = places_for(
@@ -259,23 +261,38 @@ fn beside<N, L: Lanes>(others: N, lookout: Option<Lookout<L>>) -> Behind<N, L>
     Behind::new(others, lookout)
 }
 
+/// Where the broker is reached, in words. The only error is lack of memory.
+fn place_text(alloc: Global, place: Place<'_>) -> Result<Vec<u8>, AllocError>
+    ensures { IfOk result (λ text. text.items ≡ place_text place.entry) }
+{
+    match place {
+        Place::Port(port) => {
+            let mut text = Vec::from_slice(alloc, b"127.0.0.1:")?;
+            push_number(alloc, u64::from(port), &mut text)?;
+            Ok(text)
+        }
+        Place::Path(path) => Vec::from_slice(alloc, path.as_bytes()),
+    }
+}
+
 /// The log of an agent with so many entries, in which that was said, and where a disk may hold up its loop. The only error is lack of
 /// memory.
 #[tactic(auto, using(crate::proofs::Putting::begins_log))]
 fn begin_log<P: SecretFiles>(
     alloc: Global,
     now: Reading,
-    form: Form,
+    served: &Served<'_>,
     count: u32,
     said: Vec<Said>,
     ends: &Option<String>,
     files: &mut P,
 ) -> Result<Desk, AllocError>
-    ensures { IfOk result (BeginsLog P.calls now form count said.items ends.now files.old) }
+    ensures { IfOk result (BeginsLog P.calls now served.now.form served.now.place count said.items ends.now files.old) }
 {
     let mut said = said;
     warn_of_disks(alloc, files, ends_folder(ends), &mut said)?;
-    desk_of(alloc, form, count, now, &said)
+    let place = place_text(alloc, served.place)?;
+    desk_of(alloc, served.form, place, count, now, &said)
 }
 
 /// The folder of the file of the ends, where there is one.

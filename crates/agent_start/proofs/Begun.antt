@@ -1,16 +1,23 @@
 -- Begun: a start with a ledger is a start, and so is one without. For `start_with`, `make_start` and their parts.
-use Rattle.std.proofs.Common.{◌≡◌, ◌∙◌, Bool, true, false, List, [], ◌∷◌, ◌++◌, None, Option, Some, Vec, ap, refl, subst, sym}
-use Rattle.std.specs.Prelude.{Err, IfErr, IfOk, IfSome, Ok, Result}
+use Rattle.std.proofs.Common.{◌≡◌, ◌∙◌, ℕ, Bool, true, false, List, [], ◌∷◌, ◌++◌, None, Option, Some, Vec, ap, inl, inr, map, refl, subst, sym}
+use Rattle.std.proofs.lemmas.List.Elements.{All-cons, All-nil}
+use Rattle.std.specs.List.{All}
+use Rattle.std.specs.Prelude.{Err, IfErr, IfOk, IfSome, Ok, Result, is_some}
 use Rattle.std.specs.declared.alloc.Global.{Global}
 use Rattle.agent_ledger.specs.declared.ledger.Ledger.{Ledger}
 use Rattle.agent_words.specs.declared.demands.Demands.{Demands}
+use Rattle.base_files.specs.Files.{Files}
+use Rattle.base_log.specs.declared.level.Level.TheVariants.{Alert}
 use Rattle.program_report.specs.declared.exit.Exit.{Exit}
 use Rattle.state_secrets.specs.Looking.{IsBegun}
 use Rattle.state_waiting.specs.Keepers.{waiting_in}
-use Rattle.agent_start.specs.Starts.{AddsUnheld, Begins, IsFreshLedger, IsLedgerAtStart, IsReason, IsSaidAlone, IsServedBy, IsStart, IsStartAlone, IsWhyNotBegun, SaysUnused, StartsBy, is_unused}
+use Rattle.agent_start.specs.Alone.{IsServedAlone, IsServedFile, IsServedUnkept, ServesHeld, folder_of}
+use Rattle.agent_start.specs.Saying.{said_as}
+use Rattle.agent_start.specs.Starts.{Begins, IsFreshLedger, IsLedgerAtStart, IsReason, IsSaidAlone, IsServedBy, IsStart, IsStartAlone, IsWhyNotBegun, SaysUnheld, SaysUnused, StartsBy, is_unused}
 use Rattle.agent_start.specs.declared.folder.NotBegun.{NotBegun}
 use Rattle.agent_start.specs.declared.folder.NotBegun.TheVariants as nots
 use Rattle.agent_start.specs.declared.reading.Inventories.{Inventories}
+use Rattle.agent_start.specs.declared.said.About.TheVariants.{SecretFile}
 use Rattle.agent_start.specs.declared.said.Said.{Said}
 use Rattle.agent_start.specs.declared.start.Start.{Start}
 
@@ -68,7 +75,7 @@ reason_if d has_folder (Ok s) h = tt
 reason_if d has_folder (Err why) h = is_reason has_folder why h
 
 starts_so : {D I L : Type 0} → (d : Demands) (has_folder : Bool) (begun : Result (Start (Ledger D I L)) NotBegun) (s : Start (Ledger D I L)) → Begins d has_folder begun → StartsBy d begun s → IsStart d has_folder s
-starts_so d has_folder (Ok begun) s h is = subst (IsStart d has_folder) (sym is) h
+starts_so d has_folder (Ok begun) s h is = subst (IsStart d has_folder) (sym is) h.0
 starts_so d has_folder (Err why) s h is = alone_is_start d has_folder why s h is
 
 pub starts_if :
@@ -76,20 +83,48 @@ pub starts_if :
 starts_if d has_folder begun (Ok s) h is = starts_so d has_folder begun s h is
 starts_if d has_folder begun (Err exit) h is = tt
 
--- after the folder, some entries
-said_after : (first : Said) (old new : List Said) → SaysUnused first → old ≡ first ∷ [] → AddsUnheld old new → IsSaidAlone true new
-said_after first old new unused is adds =
-    let all : new ≡ first ∷ adds.more = adds.is ∙ ap (λ l. l ++ adds.more) is in
-    subst (IsSaidAlone true) (sym all) (unused, adds.all)
+-- what is served without a ledger is what was read, since a start with a folder has one
+alone_so :
+    {D I L : Type 0} → (known_file known : Files) (file : List ℕ) (d : Demands) (has_folder : Bool) (begun : Result (Start (Ledger D I L)) NotBegun) (s : Start (Ledger D I L)) → Begins d has_folder begun → StartsBy d begun s → IfErr begun (λ why. IsServedAlone (is_unused why) known_file known file d s) →
+    s.ledger ≡ None → IsServedAlone has_folder known_file known file d s
+alone_so known_file known file d has_folder (Ok begun) s h is served none = absurd (let both : true ≡ false = sym h.1 ∙ (ap (λ x. is_some x.ledger) (sym is) ∙ ap is_some none) in cc)
+alone_so known_file known file d has_folder (Err why) s h is served none = subst (λ has. IsServedAlone has known_file known file d s) (same_folder has_folder why h) served
 
-module _ {K : Type 0} (d : Demands) (i : Inventories) (said : Vec Said Global) (s : Start K) (is : s ≡ record { part = d.earlier; behind = d.behind; inventories = i; ledger = None; is_good = true; said = said }) (alone : d.earlier ≡ 0 → i.again ≡ None) where
-  alone_by : (has_folder : Bool) → IsSaidAlone has_folder said.items → IsStartAlone d has_folder s
-  alone_by has_folder so = subst (IsStartAlone d has_folder) (sym is) (record { spread = record { part = refl; behind = refl; alone = alone }; none = refl; said = so; good = refl })
+pub alone_if :
+    {D I L : Type 0} → (known_file known : Files) (file : List ℕ) (d : Demands) (has_folder : Bool) (begun : Result (Start (Ledger D I L)) NotBegun) (result : Result (Start (Ledger D I L)) Exit) → Begins d has_folder begun → IfOk result (StartsBy d begun) →
+    IfErr begun (λ why. IfOk result (IsServedAlone (is_unused why) known_file known file d)) → IfOk result (λ s. s.ledger ≡ None → IsServedAlone has_folder known_file known file d s)
+alone_if known_file known file d has_folder begun (Ok s) h is served = alone_so known_file known file d has_folder begun s h is served
+alone_if known_file known file d has_folder begun (Err exit) h is served = tt
+
+-- ---- a start without a ledger
+
+-- after the folder, some entries
+all_unheld : (lines : List (List ℕ)) → All SaysUnheld (map (said_as Alert SecretFile) lines)
+all_unheld [] = All-nil SaysUnheld
+all_unheld (line ∷ lines) = All-cons SaysUnheld (said_as Alert SecretFile line) (map (said_as Alert SecretFile) lines) (refl, refl) (all_unheld lines)
+
+said_after : (known : Files) (folder bytes : List ℕ) (d : Demands) (i : Inventories) (first : Said) (old new : List Said) → SaysUnused first → old ≡ first ∷ [] → ServesHeld known folder bytes d old new i → IsSaidAlone true new
+said_after known folder bytes d i first old new unused is (inl whole) = subst (IsSaidAlone true) (sym (whole.1 ∙ is)) (unused, All-nil SaysUnheld)
+said_after known folder bytes d i first old new unused is (inr held) =
+    let all : new ≡ first ∷ map (said_as Alert SecretFile) held.lines = held.said ∙ ap (λ l. l ++ map (said_as Alert SecretFile) held.lines) is in
+    subst (IsSaidAlone true) (sym all) (unused, all_unheld held.lines)
+
+module _ {K : Type 0} (d : Demands) (i : Inventories) (said : Vec Said Global) (s : Start K) (is : s ≡ record { part = d.earlier; behind = d.behind; inventories = i; ledger = None; is_good = true; said = said }) where
+  alone_by : (d.earlier ≡ 0 → i.again ≡ None) → (has_folder : Bool) → IsSaidAlone has_folder said.items → IsStartAlone d has_folder s
+  alone_by alone has_folder so = subst (IsStartAlone d has_folder) (sym is) (record { spread = record { part = refl; behind = refl; alone = alone }; none = refl; said = so; good = refl })
 
   -- without a folder nothing is said
-  pub alone_silent : said.items ≡ [] → IsStartAlone d false s
-  alone_silent so = alone_by false so
+  pub alone_silent : (d.earlier ≡ 0 → i.again ≡ None) → said.items ≡ [] → IsStartAlone d false s
+  alone_silent alone so = alone_by alone false so
+
+  pub alone_file : (known_file known : Files) (file : List ℕ) → IsServedFile known_file known file d i → IsServedAlone false known_file known file d s
+  alone_file known_file known file served = subst (IsServedAlone false known_file known file d) (sym is) (record { serves = served })
 
   -- with one it is, before anything else
-  pub alone_unused : (first : Said) (old : List Said) → SaysUnused first → old ≡ first ∷ [] → AddsUnheld old said.items → IsStartAlone d true s
-  alone_unused first old unused first_is adds = alone_by true (said_after first old said.items unused first_is adds)
+  pub alone_unused :
+      (known_file known : Files) (file : List ℕ) (first : Said) (old : List Said) → (d.earlier ≡ 0 → i.again ≡ None) → SaysUnused first → old ≡ first ∷ [] → IsServedUnkept known_file known file d old said.items i → IsStartAlone d true s
+  alone_unused known_file known file first old alone unused first_is served = alone_by alone true (said_after known (folder_of file) served.bytes d i first old said.items unused first_is served.held)
+
+  pub alone_unkept : (known_file known : Files) (file : List ℕ) (first : Said) (old : List Said) → old ≡ first ∷ [] → IsServedUnkept known_file known file d old said.items i → IsServedAlone true known_file known file d s
+  alone_unkept known_file known file first old first_is served =
+      subst (IsServedAlone true known_file known file d) (sym is) (record { serves = (first, subst (λ o. IsServedUnkept known_file known file d o said.items i) first_is served) })

@@ -1,3 +1,4 @@
+mod Alone
 mod Begun
 mod Mounted
 mod Numbers

@@ -1,12 +1,10 @@
 -- Saying: what is to be said at a start is put in a list, and then said one after another. For `push_each`, `say_each`, `say_behind` and `warn`.
-use Rattle.std.proofs.Common.{◌≡◌, ◌∙◌, ℕ, ◌+◌, ◌<◌, List, [], ◌∷◌, ◌++◌, ap, append-nil, append_assoc, get_or, inl, inr, length, take, refl, sym, subst}
-use Rattle.std.proofs.lemmas.List.{take_more}
-use Rattle.std.proofs.lemmas.List.Elements.{All-nil, All-push}
+use Rattle.std.proofs.Common.{◌≡◌, ◌∙◌, ℕ, ◌+◌, ◌<◌, List, [], ◌∷◌, ◌++◌, ap, append_assoc, get_or, inl, inr, length, map, take, refl, sym, subst}
+use Rattle.std.proofs.lemmas.List.{map-append, take_more}
 use Rattle.agent_log.specs.LogDesk.{Desk, HearsAtStart}
 use Rattle.base_clock.specs.declared.reading.Reading.{Reading}
 use Rattle.base_log.specs.declared.level.Level.{Level}
-use Rattle.agent_start.specs.Saying.{AddsSaid, AreSaidAtStart, IsSaid, IsSaidAs, SaysOrWants}
-use Rattle.agent_start.specs.declared.said.About.{About}
+use Rattle.agent_start.specs.Saying.{AreSaidAtStart, IsSaid, SaysOrWants}
 use Rattle.agent_start.specs.declared.said.Said.{Said}
 
 said_join : (now : Reading) (ss : List Said) (s : Said) (old mid new : Desk) → AreSaidAtStart now ss old mid → IsSaid now s mid new → AreSaidAtStart now (ss ++ s ∷ []) old new
@@ -23,13 +21,9 @@ said_on now ss i s old mid new within is h one =
 
 -- ---- what is added to a list
 
-pub adds_none : (level : Level) (about : About) (ss : List Said) → AddsSaid level about ss ss
-adds_none level about ss = record { more = []; all = All-nil (IsSaidAs level about); is = sym (append-nil ss) }
-
--- one more
-pub adds_one : (level : Level) (about : About) (old mid new : List Said) (s : Said) → AddsSaid level about old mid → new ≡ mid ++ s ∷ [] → IsSaidAs level about s → AddsSaid level about old new
-adds_one level about old mid new s h is so =
-    record { more = h.more ++ s ∷ []; all = All-push (IsSaidAs level about) h.more s h.all so; is = is ∙ (ap (λ l. l ++ s ∷ []) h.is ∙ append_assoc old h.more (s ∷ [])) }
+-- one more of them
+pub adds_on : {A B : Type 0} → (f : A → B) (old mid new : List B) (ys : List A) (y : A) → mid ≡ old ++ map f ys → new ≡ mid ++ f y ∷ [] → new ≡ old ++ map f (ys ++ y ∷ [])
+adds_on f old mid new ys y h is = is ∙ (ap (λ l. l ++ f y ∷ []) h ∙ (append_assoc old (map f ys) (f y ∷ []) ∙ ap (λ l. old ++ l) (sym (map-append f ys (y ∷ [])))))
 
 -- ---- words for which memory may be wanting
 

@@ -1,3 +1,4 @@
+pub mod Alone
 pub mod Descriptors
 pub mod Mounts
 pub mod Numbers

@@ -1,7 +1,6 @@
 -- Saying: what a start says in the log before anything else.
 -- Source: this project's own; docs/troubleshooting.md, "Lines of the log".
 use Rattle.std.specs.Prelude.{◌≡◌, ◌⊎◌, ℕ, List, [], ◌∷◌, ◌++◌, codes, decimal}
-use Rattle.std.specs.List.{All}
 use Rattle.agent_log.specs.LogDesk.{Desk, HearsAtStart, begun_desk}
 use Rattle.base_clock.specs.declared.reading.Reading.{Reading}
 use Rattle.base_log.specs.declared.form.Form.{Form}
@@ -29,8 +28,8 @@ AreSaidAtStart now [] old new = new ≡ old
 AreSaidAtStart now (s ∷ rest) old new = (mid : Desk) × (IsSaid now s old mid × AreSaidAtStart now rest mid new)
 
 -- the log of an agent with so many entries, in which that was said
-abbrev pub BeginsDesk : Form → ℕ → Reading → List Said → Desk → Type 0
-BeginsDesk form count now said desk = AreSaidAtStart now said (begun_desk form count) desk
+abbrev pub BeginsDesk : Form → List ℕ → ℕ → Reading → List Said → Desk → Type 0
+BeginsDesk form place count now said desk = AreSaidAtStart now said (begun_desk form place count) desk
 
 -- it is said, unless memory is wanting for the words
 pub record SaysOrWants (now : Reading) (level : Level) (event text : List ℕ) (old new : Desk) : Type 0 where
@@ -40,11 +39,9 @@ pub record SaysOrWants (now : Reading) (level : Level) (event text : List ℕ) (
 abbrev pub SaysBehind : Reading → ℕ → Desk → Desk → Type 0
 SaysBehind now margin old new = SaysOrWants now Info (codes "behind") (decimal margin) old new
 
--- some are added, each of that level and about that
+-- a text of that level and about that
+abbrev pub said_as : Level → About → List ℕ → Said
+said_as level about text = record { level = level; about = about; text = text }
+
 abbrev pub IsSaidAs : Level → About → Said → Type 0
 IsSaidAs level about s = (s.level ≡ level) × (s.about ≡ about)
-
-pub record AddsSaid (level : Level) (about : About) (old new : List Said) : Type 0 where
-  pub more : List Said
-  pub all : All (IsSaidAs level about) more
-  pub is : new ≡ old ++ more

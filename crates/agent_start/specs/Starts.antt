@@ -1,6 +1,6 @@
 -- Starts: what is served from the start on, and with what.
 -- Source: this project's own; docs/commands/serve.md, "Changes".
-use Rattle.std.specs.Prelude.{◌≡◌, Bool, true, false, List, [], ◌∷◌, None, IfSome, Result, Ok, Err}
+use Rattle.std.specs.Prelude.{◌≡◌, ℕ, Bool, true, false, List, [], ◌∷◌, None, IfSome, Result, Ok, Err, is_some}
 use Rattle.std.specs.List.{All}
 use Rattle.agent_ledger.specs.declared.ledger.Ledger.{Ledger}
 use Rattle.agent_words.specs.Reading.{IsWide}
@@ -11,7 +11,7 @@ use Rattle.state_secrets.specs.Looking.{IsBegun}
 use Rattle.vault_served.specs.ForGood.{inventory_for_good}
 use Rattle.state_keeping.specs.States.{book_in}
 use Rattle.state_waiting.specs.Keepers.{waiting_in}
-use Rattle.agent_start.specs.Saying.{AddsSaid, IsSaidAs}
+use Rattle.agent_start.specs.Saying.{IsSaidAs}
 use Rattle.agent_start.specs.declared.folder.NotBegun.{NotBegun}
 use Rattle.agent_start.specs.declared.folder.NotBegun.TheVariants as nots
 use Rattle.agent_start.specs.declared.said.About.TheVariants.{Folder, SecretFile}
@@ -49,10 +49,6 @@ IsWhyNotBegun true why = IsOfFolder why
 abbrev pub SaysUnheld : Said → Type 0
 SaysUnheld s = IsSaidAs Alert SecretFile s
 
--- after what was said before, that is said of some entries
-abbrev pub AddsUnheld : List Said → List Said → Type 0
-AddsUnheld old new = AddsSaid Alert SecretFile old new
-
 -- of a start without a ledger it is said that the folder cannot be used, and of which entries the files hold nothing; and nothing where there
 -- is no folder
 abbrev pub IsSaidAlone : Bool → List Said → Type 0
@@ -74,9 +70,13 @@ pub record IsLedgerAtStart {D I L : Type 0} (d : Demands) (l : Ledger D I L) : T
   pub still : waiting_in l.state.keeper ≡ None
   pub fresh : IsFreshLedger l
 
--- what a ledger has served: the inventory of its book, with the margin that is demanded
+-- what is served of the text of a book: its inventory, with the margin that is demanded
+abbrev pub IsServedOf : Demands → List ℕ → Inventory → Type 0
+IsServedOf d text inventory = (narrow : Inventory) × ((inventory_for_good text ≡ Ok narrow) × IsWide d text narrow inventory)
+
+-- what a ledger has served
 abbrev pub IsServedBy : {D I L : Type 0} → Ledger D I L → Inventory → Type 0
-IsServedBy l inventory = (narrow : Inventory) × ((inventory_for_good (book_in l.state).text ≡ Ok narrow) × IsWide l.demands (book_in l.state).text narrow inventory)
+IsServedBy l inventory = IsServedOf l.demands (book_in l.state).text inventory
 
 -- the part of a spread is the one that is demanded, and so is the number behind another; without a part nothing is shown while a start waits
 pub record IsSpread {K : Type 0} (d : Demands) (s : Start K) : Type 0 where
@@ -97,9 +97,9 @@ pub record IsStart {D I L : Type 0} (d : Demands) (has_folder : Bool) (s : Start
   pub ledger : IfSome s.ledger (λ l. (has_folder ≡ true) × (IsLedgerAtStart d l × IsServedBy l s.inventories.served))
   pub without : s.ledger ≡ None → IsSaidAlone has_folder s.said.items × (s.is_good ≡ true)
 
--- there is one; or why it has not begun
+-- there is one, with a ledger; or why it has not begun
 abbrev pub Begins : {D I L : Type 0} → Demands → Bool → Result (Start (Ledger D I L)) NotBegun → Type 0
-Begins d has_folder (Ok s) = IsStart d has_folder s
+Begins d has_folder (Ok s) = IsStart d has_folder s × (is_some s.ledger ≡ true)
 Begins d has_folder (Err why) = IsWhyNotBegun has_folder why
 
 -- it is served; or what is served without it

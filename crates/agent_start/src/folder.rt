@@ -1,5 +1,6 @@
 //! The state folder of `serve`: what is served by it, and what is said of it.
 ghost use Rattle.std.specs.Prelude.{◌≡◌, IfErr, IfOk, None, OnOk, is_some, true};
+ghost use Rattle.agent_start.specs.Alone.{folder_of};
 ghost use Rattle.agent_start.specs.Refusals.{RefusesStart};
 ghost use Rattle.agent_start.specs.Starts.{Begins, IsFreshLedger, IsLedgerAtStart, IsOfFolder, IsServedBy, IsStart};
 ghost use Rattle.agent_start.specs.declared.folder.NotBegun.TheVariants as nots;
@@ -57,7 +58,10 @@ impl<'a> Folder<'a> {
 }
 
 /// What stands before a path that starts at the folder of a file: the file's own path up to its last slash.
-pub fn folder_of(file: &str) -> &str {
+#[tactic(auto, using(crate::proofs::Alone::folder_whole))]
+pub fn folder_of(file: &str) -> &str
+    ensures { result.now ≡ folder_of file.now }
+{
     match file.rfind('/') {
         None => "",
         Some(end) => &file[..end + 1],
@@ -208,7 +212,8 @@ pub fn start_with<'a, D: Disk + Drop, I: Inputs + Drop, L: Lanes + Drop>(
     opened: Opened<'a, D>,
     said: Vec<Said>,
 ) -> Result<Start<Ledger<'a, D, I, L>>, AllocError>
-    ensures { IfOk result (IsStart demands true) }
+    ensures start { IfOk result (IsStart demands true) }
+    ensures there { IfOk result (λ s. is_some s.ledger ≡ true) }
 {
     let mut said = said;
     say_opened(alloc, paths, &opened, &mut said)?;

@@ -2,12 +2,13 @@
 //! its neighbours, so that both are proved beside each other.
 //!
 //! The contract for the layers above: [`make_start`] gives what is served from the start on, or the exit once it was told why nothing is
-//! (`specs/Refusals`). Of files and folders of the system, from which all the rest comes, nothing is known. Begin with `start`: `reading`
-//! has what is served of the file alone, `folder` what is served with a state folder, `found` and `modes` what is found there, `aside`
-//! what is kept of a journal that cannot be read (`specs/SettingAside`), and `unkept` what is served where that folder cannot be used.
-//! `secrets` are the files of credentials, `descriptors` how many guests are let in, `spread` the number of the agent's own name, and
-//! `stalls` what is said of files for which the loop waits. [`desk_of`] is the log with what is said at a start (`specs/Saying`), and
-//! [`take_over`] gives the file that keeps the ends, and what it kept (`specs/TakingOver`).
+//! (`specs/Refusals`): with a state folder the inventory of its ledger (`specs/Starts`), and without one what the bytes of FILE say, with
+//! what the files of credentials hold that it names (`specs/Alone`). Of folders of the system nothing is known. Begin with `start`:
+//! `reading` has what is served of the file alone, `folder` what is served with a state folder, `found` and `modes` what is found there,
+//! `aside` what is kept of a journal that cannot be read (`specs/SettingAside`), and `unkept` what is served where that folder cannot be
+//! used. `served_file` is FILE, `secrets` are the files of credentials, `descriptors` how many guests are let in, `spread` the number of
+//! the agent's own name, and `stalls` what is said of files for which the loop waits. [`desk_of`] is the log with what is said at a start
+//! (`specs/Saying`), and [`take_over`] gives the file that keeps the ends, and what it kept (`specs/TakingOver`).
 #![tactic(auto)]
 
 mod aside;
@@ -20,6 +21,7 @@ mod mounts;
 mod reading;
 mod said;
 mod secrets;
+mod served_file;
 mod spread;
 mod stalls;
 mod start;
@@ -28,9 +30,10 @@ mod unkept;
 pub use descriptors::{Places, places_for, places_within};
 pub use ends::{TakenOver, take_over};
 pub use folder::{Folder, folder_of, start_with};
-pub use reading::Inventories;
+pub use reading::{Inventories, Sources};
 pub use said::{About, Said, desk_of, say_behind};
 pub use secrets::SystemSecrets;
+pub use served_file::{ServedFile, SystemFile};
 pub use spread::own_number;
 pub use stalls::{MOST_MOUNTS, warn_of_disks};
 pub use start::{Start, SystemLedger, make_start};

@@ -1,9 +1,13 @@
 //! What is served of the file alone, and why a start is refused.
-ghost use Rattle.std.specs.Prelude.{◌≡◌, IfOk, None};
+ghost use Rattle.std.specs.Prelude.{◌≡◌, [], IfOk, None, Ok};
+ghost use Rattle.base_files.specs.Files.{FileIsRead};
+ghost use Rattle.vault_inventory.specs.declared.limits.TheConstants.{MOST_INVENTORY};
+ghost use Rattle.agent_words.specs.Reading.{IsWellWritten};
+ghost use Rattle.agent_start.specs.Alone.{IsServedFile, IsServedWhole, folder_of};
 ghost use Rattle.agent_start.specs.Refusals.{GivesOrRefuses, IsToldOf, RefusesIf, RefusesStart};
 
 use crate::folder::folder_of;
-use crate::secrets::SystemSecrets;
+use crate::served_file::ServedFile;
 use agent_words::{
     Demands, StartFault, faults_as_written, faults_to_serve, line_of_fault, read_to_serve,
 };
@@ -11,13 +15,8 @@ use base_device::{Sink, Watched};
 use base_files::Inputs;
 use base_moment::Text;
 use program_report::{Exit, PROGRAM, Stop, tell};
-use program_words::SystemFiles;
 use state_changes::Rows;
 use std::alloc::{AllocError, Global};
-use std::fs::{self, File, Metadata};
-use std::io::ErrorKind;
-use std::os::unix::fs::MetadataExt;
-use std::rt::Files;
 use vault_inventory::{Inventory, MOST_INVENTORY, read_served};
 
 /// What is served at first.
@@ -30,151 +29,180 @@ pub struct Inventories {
     pub named: Option<Rows>,
 }
 
+/// What a start without a ledger reads.
+#[derive(Drop)]
+pub struct Sources<'a, F, I> {
+    /// The path of the inventory.
+    pub file: &'a str,
+    /// The inventory.
+    pub files: F,
+    /// The files of credentials that it names.
+    pub secrets: I,
+}
+
 /// What is served of the file, with what the files hold that it names; or the exit, once it was told why the start is refused.
-pub(crate) fn read_inventory<R, E>(
-    rt: &R,
-    file: &str,
+#[tactic(auto, using(crate::proofs::Alone::file_served))]
+pub(crate) fn read_inventory<F, I, E>(
+    alloc: Global,
     demands: Demands,
+    sources: &mut Sources<'_, F, I>,
     errors: &mut E,
 ) -> Result<Inventories, Exit>
 where
-    R: Files<File = File> + AllocGlobal,
+    F: ServedFile,
+    I: Inputs,
     E: Sink,
     ensures told { GivesOrRefuses result (⟦<E as Watched>⟧.change errors.old errors.new) }
     ensures alone { IfOk result (λ i. demands.earlier ≡ 0 → i.again ≡ None) }
+    ensures served { IfOk result (IsServedFile (F.bytes_at sources.old.files) (I.bytes_at sources.old.secrets) sources.old.file.now demands) }
 {
-    let bytes = read_bytes(rt, file, errors)?;
-    serve_bytes(rt, file, &bytes, demands, errors)
+    let file = sources.file;
+    let bytes = read_bytes(alloc, file, &mut sources.files, errors)?;
+    serve_bytes(
+        alloc,
+        file,
+        &bytes,
+        demands,
+        &sources.files,
+        &mut sources.secrets,
+        errors,
+    )
 }
 
 /// Refuses a file that cannot be read, or that may not be served for what it writes, whatever the files hold that it names.
-pub(crate) fn refuse_written<R, E>(
-    rt: &R,
+pub(crate) fn refuse_written<F, E>(
+    alloc: Global,
     file: &str,
     demands: Demands,
+    files: &mut F,
     errors: &mut E,
 ) -> Option<Exit>
 where
-    R: Files<File = File> + AllocGlobal,
+    F: ServedFile,
     E: Sink,
     ensures { RefusesIf result (⟦<E as Watched>⟧.change errors.old errors.new) }
 {
-    match read_bytes(rt, file, errors) {
-        Ok(bytes) => refuse_bytes(rt, file, &bytes, demands, errors),
+    match read_bytes(alloc, file, files, errors) {
+        Ok(bytes) => refuse_bytes(alloc, file, &bytes, demands, files, errors),
         Err(exit) => Some(exit),
     }
 }
 
 /// Refuses a file with these bytes that may not be served for what it writes, whatever the files hold that it names.
-pub(crate) fn refuse_bytes<R, E>(
-    rt: &R,
+#[tactic(auto, using(crate::proofs::Alone::well_written))]
+pub(crate) fn refuse_bytes<F, E>(
+    alloc: Global,
     file: &str,
     bytes: &Text,
     demands: Demands,
+    files: &F,
     errors: &mut E,
 ) -> Option<Exit>
 where
-    R: Files<File = File> + AllocGlobal,
+    F: ServedFile,
     E: Sink,
-    ensures { RefusesIf result (⟦<E as Watched>⟧.change errors.old errors.new) }
+    ensures told { RefusesIf result (⟦<E as Watched>⟧.change errors.old errors.new) }
+    ensures well { result ≡ None → IsWellWritten demands bytes.now }
 {
-    match faults_as_written(rt.alloc(), bytes.list(), demands) {
-        Ok(faults) => refuse_faults(rt, file, bytes, demands, &faults, errors),
+    match faults_as_written(alloc, bytes.list(), demands) {
+        Ok(faults) => refuse_faults(alloc, file, bytes, demands, &faults, files, errors),
         Err(AllocError) => Some(Stop::Memory.report(PROGRAM, errors)),
     }
 }
 
 /// Refuses a file with these bytes for these faults of what it writes, where there are any.
 #[tactic(auto, using(crate::proofs::Refusals::refused_inventory))]
-fn refuse_faults<R, E>(
-    rt: &R,
+fn refuse_faults<F, E>(
+    alloc: Global,
     file: &str,
     bytes: &Text,
     demands: Demands,
     faults: &[StartFault],
+    files: &F,
     errors: &mut E,
 ) -> Option<Exit>
 where
-    R: Files<File = File> + AllocGlobal,
+    F: ServedFile,
     E: Sink,
-    ensures { RefusesIf result (⟦<E as Watched>⟧.change errors.old errors.new) }
+    ensures told { RefusesIf result (⟦<E as Watched>⟧.change errors.old errors.new) }
+    ensures none { result ≡ None → faults.now ≡ [] }
 {
     if faults.is_empty() {
         return None;
     }
     if let StartFault::Inventory(fault) = faults[0] {
-        let files = SystemFiles::new(rt);
-        return Some(refuse_file(&files, Stop::from(fault), file, errors));
+        return Some(refuse_file(files, Stop::from(fault), file, errors));
     }
-    let lines = lines_of(rt.alloc(), demands, bytes, faults);
+    let lines = lines_of(alloc, demands, bytes, faults);
     Some(refuse(lines, errors))
 }
 
 /// The bytes of the file; or the exit, once it was told why it cannot be read.
 #[tactic(auto, using(crate::proofs::Refusals::refused_input))]
-pub(crate) fn read_bytes<R, E>(rt: &R, file: &str, errors: &mut E) -> Result<Text, Exit>
+pub(crate) fn read_bytes<F, E>(
+    alloc: Global,
+    file: &str,
+    files: &mut F,
+    errors: &mut E,
+) -> Result<Text, Exit>
 where
-    R: Files<File = File> + AllocGlobal,
+    F: ServedFile,
     E: Sink,
-    ensures { GivesOrRefuses result (⟦<E as Watched>⟧.change errors.old errors.new) }
+    ensures told { GivesOrRefuses result (⟦<E as Watched>⟧.change errors.old errors.new) }
+    ensures read { IfOk result (λ bytes. FileIsRead (F.bytes_at files.old file.now) MOST_INVENTORY (Ok bytes)) }
 {
-    if let Some(exit) = refuse_mode(rt, file, errors) {
+    if let Some(exit) = refuse_mode(alloc, file, files, errors) {
         return Err(exit);
     }
-    let mut files = SystemFiles::new(rt);
-    match files.read(rt.alloc(), file, MOST_INVENTORY) {
+    match files.read(alloc, file, MOST_INVENTORY) {
         Ok(bytes) => Ok(bytes),
-        Err(fault) => Err(refuse_file(&files, Stop::from(fault), file, errors)),
+        Err(fault) => Err(refuse_file(files, Stop::from(fault), file, errors)),
     }
 }
 
 /// What is served of these bytes of the file; or the exit, once it was told why the start is refused.
-#[tactic(auto, using(crate::proofs::Refusals::refused_inventory))]
-pub(crate) fn serve_bytes<R, E>(
-    rt: &R,
+#[tactic(auto, using(crate::proofs::Refusals::refused_inventory, crate::proofs::Alone::served_whole))]
+pub(crate) fn serve_bytes<F, I, E>(
+    alloc: Global,
     file: &str,
     bytes: &Text,
     demands: Demands,
+    files: &F,
+    secrets: &mut I,
     errors: &mut E,
 ) -> Result<Inventories, Exit>
 where
-    R: Files<File = File> + AllocGlobal,
+    F: ServedFile,
+    I: Inputs,
     E: Sink,
     ensures told { GivesOrRefuses result (⟦<E as Watched>⟧.change errors.old errors.new) }
     ensures alone { IfOk result (λ i. demands.earlier ≡ 0 → i.again ≡ None) }
+    ensures served { IfOk result (IsServedWhole (I.bytes_at secrets.old) (folder_of file.now) bytes.now demands) }
 {
-    let alloc = rt.alloc();
     let folder = folder_of(file);
-    let mut secrets = SystemSecrets::new(rt);
-    match read_to_serve(alloc, bytes.list(), demands, folder, &mut secrets) {
+    match read_to_serve(alloc, bytes.list(), demands, folder, secrets) {
         Ok(served) => Ok(Inventories {
             served,
-            again: read_again(alloc, bytes, demands, folder, &mut secrets),
+            again: read_again(alloc, bytes, demands, folder, secrets),
             named: None,
         }),
         Err(StartFault::Inventory(fault)) => {
-            let files = SystemFiles::new(rt);
-            Err(refuse_file(&files, Stop::from(fault), file, errors))
+            Err(refuse_file(files, Stop::from(fault), file, errors))
         }
         Err(_) => {
-            let lines = refusal(alloc, bytes, demands, folder, &mut secrets);
+            let lines = refusal(alloc, bytes, demands, folder, secrets);
             Err(refuse(lines, errors))
         }
     }
 }
 
 /// Tells that the file is not served, and, but where memory is wanting, what helps people besides.
-fn refuse_file<R: Files + AllocGlobal, E: Sink>(
-    files: &SystemFiles<'_, R>,
-    stop: Stop,
-    file: &str,
-    errors: &mut E,
-) -> Exit
+fn refuse_file<F: ServedFile, E: Sink>(files: &F, stop: Stop, file: &str, errors: &mut E) -> Exit
     ensures { IsToldOf stop result (⟦<E as Watched>⟧.change errors.old errors.new) }
 {
     let exit = stop.report(PROGRAM, errors);
     if exit != Exit::Memory {
-        files.advise(PROGRAM, exit, file, errors);
+        files.advise(exit, file, errors);
     }
     exit
 }
@@ -196,17 +224,15 @@ fn read_again<I: Inputs>(
 }
 
 /// Refuses a file that is no regular one, or that others may read or write. One that is not there is read, which tells why.
-fn refuse_mode<R: Files + AllocGlobal, E: Sink>(rt: &R, file: &str, errors: &mut E) -> Option<Exit>
+fn refuse_mode<F: ServedFile, E: Sink>(
+    alloc: Global,
+    file: &str,
+    files: &F,
+    errors: &mut E,
+) -> Option<Exit>
     ensures { RefusesIf result (⟦<E as Watched>⟧.change errors.old errors.new) }
 {
-    let found = match fs::metadata(rt, file) {
-        Ok(found) => found,
-        Err(error) if error.kind() == ErrorKind::OutOfMemory => {
-            return Some(Stop::Memory.report(PROGRAM, errors));
-        }
-        Err(_) => return None,
-    };
-    match mode_fault(rt.alloc(), file, &found) {
+    match files.mode_fault(alloc, file) {
         Ok(None) => None,
         Ok(Some(line)) => {
             tell(errors, line.as_bytes());
@@ -214,22 +240,6 @@ fn refuse_mode<R: Files + AllocGlobal, E: Sink>(rt: &R, file: &str, errors: &mut
         }
         Err(AllocError) => Some(Stop::Memory.report(PROGRAM, errors)),
     }
-}
-
-/// What is told of a file that is no regular one, or that others may read or write. The only error is lack of memory.
-fn mode_fault(alloc: Global, file: &str, found: &Metadata) -> Result<Option<String>, AllocError> {
-    if !found.is_file() && !found.is_dir() {
-        let line = format!(in alloc; "{PROGRAM}: {file}: is not a regular file; name one\n")?;
-        return Ok(Some(line));
-    }
-    if found.is_file() && found.mode() & 0o006 != 0 {
-        let mode = found.mode() & 0o7777;
-        let line = format!(in alloc;
-            "{PROGRAM}: {file}: others may read or write this file (mode {mode:04o}); chmod o-rwx it: it holds secrets\n"
-        )?;
-        return Ok(Some(line));
-    }
-    Ok(None)
 }
 
 /// Tells why the start is refused.

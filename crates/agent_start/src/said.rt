@@ -1,6 +1,6 @@
 //! What is said in the log before anything else.
-ghost use Rattle.std.specs.Prelude.{◌≡◌, ◌∷◌, ◌++◌, [], IfOk, OnOk, decimal};
-ghost use Rattle.agent_start.specs.Saying.{AddsSaid, AreSaidAtStart, BeginsDesk, IsSaid, SaysBehind, about_word};
+ghost use Rattle.std.specs.Prelude.{◌≡◌, ◌∷◌, ◌++◌, [], IfOk, OnOk, decimal, map};
+ghost use Rattle.agent_start.specs.Saying.{AreSaidAtStart, BeginsDesk, IsSaid, SaysBehind, about_word, said_as};
 
 use agent_log::Desk;
 use base_clock::Reading;
@@ -83,7 +83,7 @@ pub(crate) fn push_each(
     about: About,
     texts: Vec<Text>,
 ) -> Result<(), AllocError>
-    ensures { OnOk result (AddsSaid level about said.old.items said.new.items) }
+    ensures { OnOk result (said.new.items ≡ said.old.items ++ map (said_as level about) texts.items) }
 {
     for text in texts {
         push(said, level, about, text)?;
@@ -91,17 +91,19 @@ pub(crate) fn push_each(
     Ok(())
 }
 
-/// The log of an agent with so many entries, with what is said at the start. The only error is lack of memory.
+/// The log of an agent with so many entries, whose broker is reached at this place, with what is said at the start. The only error is
+/// lack of memory.
 pub fn desk_of(
     alloc: Global,
     form: Form,
+    place: Vec<u8>,
     count: u32,
     now: Reading,
     said: &[Said],
 ) -> Result<Desk, AllocError>
-    ensures { IfOk result (BeginsDesk form count now said.now) }
+    ensures { IfOk result (BeginsDesk form place.items count now said.now) }
 {
-    let mut desk = Desk::new(alloc, form, count)?;
+    let mut desk = Desk::new(alloc, form, place, count)?;
     say_each(alloc, now, said, &mut desk);
     Ok(desk)
 }

@@ -1,17 +1,20 @@
 //! What is served from the start on, or why nothing is.
 ghost use Rattle.std.specs.Prelude.{◌≡◌, ◌∷◌, [], IfErr, IfOk, None, false, is_some, true};
+ghost use Rattle.agent_start.specs.Alone.{IsServedAlone};
 ghost use Rattle.agent_start.specs.Refusals.{GivesOrRefuses};
 ghost use Rattle.agent_start.specs.Starts.{IsReason, IsStart, IsStartAlone, SaysUnused, StartsBy, is_unused};
 
 use crate::folder::{Folder, NotBegun, begin, refuse_changes, refuse_held};
-use crate::reading::{Inventories, read_inventory, refuse_written};
+use crate::reading::{Inventories, Sources, read_inventory, refuse_written};
 use crate::said::Said;
 use crate::secrets::SystemSecrets;
+use crate::served_file::ServedFile;
 use crate::unkept::read_with_held;
 use agent_ledger::Ledger;
 use agent_words::Demands;
 use base_device::{Sink, Watched};
 use base_disk::SystemDisk;
+use base_files::Inputs;
 use program_report::{Exit, PROGRAM, Stop};
 use std::alloc::{AllocError, Global};
 use std::fs::File;
@@ -36,46 +39,51 @@ pub struct Start<K> {
 /// The state of an agent on the disks of the system.
 pub type SystemLedger<'a, R, L> = Ledger<'a, SystemDisk<'a, R>, SystemSecrets<'a, R>, L>;
 
-/// What is served of the inventory at `file`, with the changes of a state folder, where there is one; without it, where that cannot be
-/// used. Or the exit, once it was told why nothing is served.
-#[tactic(auto, using(crate::proofs::Begun::starts_if, crate::proofs::Begun::reason_if))]
-pub fn make_start<'a, R, L, E>(
+/// What is served of the inventory, with the changes of a state folder, where there is one; without it, where that cannot be used: then it
+/// is read of these files. Or the exit, once it was told why nothing is served.
+#[tactic(auto, using(crate::proofs::Begun::starts_if, crate::proofs::Begun::reason_if, crate::proofs::Begun::alone_if))]
+pub fn make_start<'a, R, L, F, I, E>(
     rt: &'a R,
-    file: &str,
     folder: Option<&'a Folder<'_>>,
     demands: Demands,
+    sources: &mut Sources<'_, F, I>,
     errors: &mut E,
 ) -> Result<Start<SystemLedger<'a, R, L>>, Exit>
 where
     R: Files<File = File> + AllocGlobal,
     L: Lanes + Drop,
+    F: ServedFile,
+    I: Inputs,
     E: Sink,
     ensures told { GivesOrRefuses result (⟦<E as Watched>⟧.change errors.old errors.new) }
     ensures start { IfOk result (IsStart demands (is_some folder.entry)) }
+    ensures alone { IfOk result (λ s. s.ledger ≡ None → IsServedAlone (is_some folder.entry) (F.bytes_at sources.old.files) (I.bytes_at sources.old.secrets) sources.old.file.now demands s) }
 {
     let begun = begin(rt, folder, demands);
-    started(rt, file, name_of(folder), demands, begun, errors)
+    started(rt.alloc(), name_of(folder), demands, begun, sources, errors)
 }
 
 /// What is served by what was begun; or the exit, once it was told why nothing is served.
-fn started<R, K, E>(
-    rt: &R,
-    file: &str,
+fn started<K, F, I, E>(
+    alloc: Global,
     folder: &str,
     demands: Demands,
     begun: Result<Start<K>, NotBegun>,
+    sources: &mut Sources<'_, F, I>,
     errors: &mut E,
 ) -> Result<Start<K>, Exit>
 where
-    R: Files<File = File> + AllocGlobal,
+    F: ServedFile,
+    I: Inputs,
     E: Sink,
     requires { IfErr begun IsReason }
     ensures told { GivesOrRefuses result (⟦<E as Watched>⟧.change errors.old errors.new) }
     ensures start { IfOk result (StartsBy demands begun) }
+    ensures alone { IfErr begun (λ why. IfOk result (IsServedAlone (is_unused why) (F.bytes_at sources.old.files) (I.bytes_at sources.old.secrets) sources.old.file.now demands)) }
 {
     match begun {
         Ok(start) => Ok(start),
-        Err(why) => start_without(rt, file, folder, demands, why, errors),
+        Err(why) => start_without(alloc, folder, demands, why, sources, errors),
     }
 }
 
@@ -88,71 +96,79 @@ fn name_of<'a>(folder: Option<&'a Folder<'_>>) -> &'a str {
 }
 
 /// What is served of the file without its state folder, where that cannot be used; or the exit, once it was told why nothing is served.
-fn start_without<R, K, E>(
-    rt: &R,
-    file: &str,
+fn start_without<K, F, I, E>(
+    alloc: Global,
     folder: &str,
     demands: Demands,
     why: NotBegun,
+    sources: &mut Sources<'_, F, I>,
     errors: &mut E,
 ) -> Result<Start<K>, Exit>
 where
-    R: Files<File = File> + AllocGlobal,
+    F: ServedFile,
+    I: Inputs,
     E: Sink,
     requires { IsReason why }
     ensures told { GivesOrRefuses result (⟦<E as Watched>⟧.change errors.old errors.new) }
     ensures start { IfOk result (IsStartAlone demands (is_unused why)) }
+    ensures alone { IfOk result (IsServedAlone (is_unused why) (F.bytes_at sources.old.files) (I.bytes_at sources.old.secrets) sources.old.file.now demands) }
 {
     match why {
-        NotBegun::NoFolder => start_with_file(rt, file, demands, errors),
-        NotBegun::Unused(first) => start_unkept(rt, file, demands, first, errors),
-        NotBegun::Held => Err(refuse_held(rt.alloc(), folder, errors)),
-        NotBegun::Refused => match refuse_written(rt, file, demands, errors) {
-            None => Err(refuse_changes(rt.alloc(), folder, errors)),
-            Some(exit) => Err(exit),
-        },
+        NotBegun::NoFolder => start_with_file(alloc, demands, sources, errors),
+        NotBegun::Unused(first) => start_unkept(alloc, demands, first, sources, errors),
+        NotBegun::Held => Err(refuse_held(alloc, folder, errors)),
+        NotBegun::Refused => {
+            match refuse_written(alloc, sources.file, demands, &mut sources.files, errors) {
+                None => Err(refuse_changes(alloc, folder, errors)),
+                Some(exit) => Err(exit),
+            }
+        }
         NotBegun::Memory => Err(Stop::Memory.report(PROGRAM, errors)),
     }
 }
 
 /// What is served of the file alone.
-#[tactic(auto, using(crate::proofs::Begun::alone_silent))]
-fn start_with_file<R, K, E>(
-    rt: &R,
-    file: &str,
+#[tactic(auto, using(crate::proofs::Begun::alone_silent, crate::proofs::Begun::alone_file))]
+fn start_with_file<K, F, I, E>(
+    alloc: Global,
     demands: Demands,
+    sources: &mut Sources<'_, F, I>,
     errors: &mut E,
 ) -> Result<Start<K>, Exit>
 where
-    R: Files<File = File> + AllocGlobal,
+    F: ServedFile,
+    I: Inputs,
     E: Sink,
     ensures told { GivesOrRefuses result (⟦<E as Watched>⟧.change errors.old errors.new) }
     ensures start { IfOk result (IsStartAlone demands false) }
+    ensures alone { IfOk result (IsServedAlone false (F.bytes_at sources.old.files) (I.bytes_at sources.old.secrets) sources.old.file.now demands) }
 {
-    let inventories = read_inventory(rt, file, demands, errors)?;
-    Ok(start_of(demands, inventories, Vec::new(rt.alloc())))
+    let inventories = read_inventory(alloc, demands, sources, errors)?;
+    Ok(start_of(demands, inventories, Vec::new(alloc)))
 }
 
 /// What is served of the file where its state folder cannot be used, which is said before anything else.
-#[tactic(auto, using(crate::proofs::Begun::alone_unused))]
-fn start_unkept<R, K, E>(
-    rt: &R,
-    file: &str,
+#[tactic(auto, using(crate::proofs::Begun::alone_unkept))]
+fn start_unkept<K, F, I, E>(
+    alloc: Global,
     demands: Demands,
     first: Said,
+    sources: &mut Sources<'_, F, I>,
     errors: &mut E,
 ) -> Result<Start<K>, Exit>
 where
-    R: Files<File = File> + AllocGlobal,
+    F: ServedFile,
+    I: Inputs,
     E: Sink,
     requires { SaysUnused first }
     ensures told { GivesOrRefuses result (⟦<E as Watched>⟧.change errors.old errors.new) }
     ensures start { IfOk result (IsStartAlone demands true) }
+    ensures alone { IfOk result (IsServedAlone true (F.bytes_at sources.old.files) (I.bytes_at sources.old.secrets) sources.old.file.now demands) }
 {
-    let Ok(mut said) = alone(rt.alloc(), first) else {
+    let Ok(mut said) = alone(alloc, first) else {
         return Err(Stop::Memory.report(PROGRAM, errors));
     };
-    let inventories = read_with_held(rt, file, demands, &mut said, errors)?;
+    let inventories = read_with_held(alloc, demands, sources, &mut said, errors)?;
     Ok(start_of(demands, inventories, said))
 }
 

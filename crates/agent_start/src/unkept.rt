@@ -1,12 +1,13 @@
 //! What is served of the file alone where its state folder cannot be used.
-ghost use Rattle.std.specs.Prelude.{◌≡◌, IfOk, IfSome, None, OnOk};
+ghost use Rattle.std.specs.Prelude.{◌≡◌, ℕ, IfOk, IfSome, List, None, Some};
+ghost use Rattle.agent_start.specs.Alone.{HoldsOrNot, IsFilledBook, IsServedUnkept, IsWrittenBook, ServesHeld, folder_of};
 ghost use Rattle.agent_start.specs.Refusals.{GivesOrRefuses};
-ghost use Rattle.agent_start.specs.Starts.{AddsUnheld};
+ghost use Rattle.agent_start.specs.Starts.{IsServedOf};
 
 use crate::folder::folder_of;
-use crate::reading::{Inventories, read_bytes, refuse_bytes, serve_bytes};
+use crate::reading::{Inventories, Sources, read_bytes, refuse_bytes, serve_bytes};
 use crate::said::{About, Said, push_each};
-use crate::secrets::SystemSecrets;
+use crate::served_file::ServedFile;
 use agent_words::{Demands, Gathered, gather, wide};
 use base_device::{Sink, Watched};
 use base_files::Inputs;
@@ -14,63 +15,81 @@ use base_log::Level;
 use base_moment::Text;
 use program_report::{Exit, PROGRAM, Stop};
 use state_file::SettleFault;
-use state_store::{Book, FileFault, Secret};
+use state_store::{Book, FileFault};
 use std::alloc::{AllocError, Global};
-use std::fs::File;
-use std::rt::Files;
 use vault_inventory::Inventory;
 
 /// What is served of the file, with what the files hold that it names; or the exit, once it was told why the start is refused. As with
 /// a folder, an entry whose file holds no credential waits with all under it, and that is said.
-pub(crate) fn read_with_held<R, E>(
-    rt: &R,
-    file: &str,
+#[tactic(auto, using(crate::proofs::Alone::unkept_served))]
+pub(crate) fn read_with_held<F, I, E>(
+    alloc: Global,
     demands: Demands,
+    sources: &mut Sources<'_, F, I>,
     said: &mut Vec<Said>,
     errors: &mut E,
 ) -> Result<Inventories, Exit>
 where
-    R: Files<File = File> + AllocGlobal,
+    F: ServedFile,
+    I: Inputs,
     E: Sink,
     ensures told { GivesOrRefuses result (⟦<E as Watched>⟧.change errors.old errors.new) }
     ensures alone { IfOk result (λ i. demands.earlier ≡ 0 → i.again ≡ None) }
-    ensures said { OnOk result (AddsUnheld said.old.items said.new.items) }
+    ensures served { IfOk result (IsServedUnkept (F.bytes_at sources.old.files) (I.bytes_at sources.old.secrets) sources.old.file.now demands said.old.items said.new.items) }
 {
-    let bytes = read_bytes(rt, file, errors)?;
-    match refuse_bytes(rt, file, &bytes, demands, errors) {
+    let file = sources.file;
+    let bytes = read_bytes(alloc, file, &mut sources.files, errors)?;
+    match refuse_bytes(alloc, file, &bytes, demands, &sources.files, errors) {
         Some(exit) => Err(exit),
-        None => serve_held(rt, file, &bytes, demands, said, errors),
+        None => serve_held(alloc, &bytes, demands, sources, said, errors),
     }
 }
 
 /// The same of these bytes of the file. Where what the files hold does not go together the start is refused.
-fn serve_held<R, E>(
-    rt: &R,
-    file: &str,
+#[tactic(auto, using(crate::proofs::Alone::whole_after, crate::proofs::Alone::held_so))]
+fn serve_held<F, I, E>(
+    alloc: Global,
     bytes: &Text,
     demands: Demands,
+    sources: &mut Sources<'_, F, I>,
     said: &mut Vec<Said>,
     errors: &mut E,
 ) -> Result<Inventories, Exit>
 where
-    R: Files<File = File> + AllocGlobal,
+    F: ServedFile,
+    I: Inputs,
     E: Sink,
     ensures told { GivesOrRefuses result (⟦<E as Watched>⟧.change errors.old errors.new) }
     ensures alone { IfOk result (λ i. demands.earlier ≡ 0 → i.again ≡ None) }
-    ensures said { OnOk result (AddsUnheld said.old.items said.new.items) }
+    ensures served { IfOk result (ServesHeld (I.bytes_at sources.old.secrets) (folder_of sources.old.file.now) bytes.now demands said.old.items said.new.items) }
 {
-    let mut files = SystemSecrets::new(rt);
+    let file = sources.file;
     let folder = folder_of(file);
-    match held(rt.alloc(), bytes.list(), demands, folder, &mut files, said) {
+    match held(
+        alloc,
+        bytes.list(),
+        demands,
+        folder,
+        &mut sources.secrets,
+        said,
+    ) {
         Ok(Some(inventories)) => Ok(inventories),
-        Ok(None) => serve_bytes(rt, file, bytes, demands, errors),
+        Ok(None) => serve_bytes(
+            alloc,
+            file,
+            bytes,
+            demands,
+            &sources.files,
+            &mut sources.secrets,
+            errors,
+        ),
         Err(AllocError) => Err(Stop::Memory.report(PROGRAM, errors)),
     }
 }
 
 /// What is served of these bytes with what the files hold that they name, and then it is said which hold none; `None` where that does
 /// not go together. The only error is lack of memory.
-#[tactic(auto, using(crate::proofs::Saying::adds_none))]
+#[tactic(auto, using(crate::proofs::Alone::is_held))]
 fn held<I: Inputs>(
     alloc: Global,
     bytes: &[u8],
@@ -80,25 +99,25 @@ fn held<I: Inputs>(
     said: &mut Vec<Said>,
 ) -> Result<Option<Inventories>, AllocError>
     ensures alone { IfOk result (λ found. IfSome found (λ i. demands.earlier ≡ 0 → i.again ≡ None)) }
-    ensures said { OnOk result (AddsUnheld said.old.items said.new.items) }
+    ensures held { IfOk result (HoldsOrNot (I.bytes_at files.old) folder.now bytes.now demands said.old.items said.new.items) }
+    ensures same { (path : List ℕ) → I.bytes_at files.new path ≡ I.bytes_at files.old path }
 {
     let Some(mut book) = book_of(alloc, bytes)? else {
         return Ok(None);
     };
-    let Gathered {
-        secrets,
-        said: unheld,
-    } = gather(alloc, book.rows().list(), folder.as_bytes(), files)?;
-    if !takes(alloc, &mut book, secrets)? {
+    let Some(unheld) = fill(alloc, folder, &mut book, files)? else {
         return Ok(None);
-    }
+    };
     push_each(said, Level::Alert, About::SecretFile, unheld)?;
     Ok(Some(inventories_of(alloc, demands, &book)?))
 }
 
 /// The book of a file with these bytes, to which nothing was changed; `None` where what it writes does not fit into one file. The only
 /// error is lack of memory.
-fn book_of(alloc: Global, bytes: &[u8]) -> Result<Option<Book>, AllocError> {
+#[tactic(auto, using(crate::proofs::Alone::is_written))]
+fn book_of(alloc: Global, bytes: &[u8]) -> Result<Option<Book>, AllocError>
+    ensures { IfOk result (λ found. IfSome found (IsWrittenBook bytes.now)) }
+{
     match Book::read(alloc, bytes, &[], &[]) {
         Ok((book, _notes)) => Ok(Some(book)),
         Err(FileFault::OutOfMemory) => Err(AllocError),
@@ -106,18 +125,31 @@ fn book_of(alloc: Global, bytes: &[u8]) -> Result<Option<Book>, AllocError> {
     }
 }
 
-/// The book has what these files hold from now on. Whether that goes together; the only error is lack of memory.
-fn takes(alloc: Global, book: &mut Book, secrets: Vec<Secret>) -> Result<bool, AllocError> {
+/// The book has from now on what the files hold that it names; what is said of those that hold no credential, or `None` where that does
+/// not go together. The only error is lack of memory.
+#[tactic(auto, using(crate::proofs::Alone::is_filled))]
+fn fill<I: Inputs>(
+    alloc: Global,
+    folder: &str,
+    book: &mut Book,
+    files: &mut I,
+) -> Result<Option<Vec<Text>>, AllocError>
+    ensures filled { IfOk result (λ said. IfSome said (λ lines. IsFilledBook (I.bytes_at files.old) folder.now lines.items book.old book.new)) }
+    ensures same { (path : List ℕ) → I.bytes_at files.new path ≡ I.bytes_at files.old path }
+{
+    let Gathered { secrets, said } = gather(alloc, book.rows().list(), folder.as_bytes(), files)?;
     match book.take_secrets(alloc, secrets) {
-        Ok(()) => Ok(true),
+        Ok(()) => Ok(Some(said)),
         Err(SettleFault::OutOfMemory) => Err(AllocError),
-        Err(_) => Ok(false),
+        Err(_) => Ok(None),
     }
 }
 
 /// What is served by a book. The only error is lack of memory.
 fn inventories_of(alloc: Global, demands: Demands, book: &Book) -> Result<Inventories, AllocError>
-    ensures { IfOk result (λ i. demands.earlier ≡ 0 → i.again ≡ None) }
+    ensures alone { IfOk result (λ i. demands.earlier ≡ 0 → i.again ≡ None) }
+    ensures served { IfOk result (λ i. IsServedOf demands book.now.text i.served) }
+    ensures named { IfOk result (λ i. i.named ≡ Some book.now.rows) }
 {
     let served = inventory_of(alloc, demands, book)?;
     let again = if demands.earlier == 0 {
@@ -132,6 +164,10 @@ fn inventories_of(alloc: Global, demands: Demands, book: &Book) -> Result<Invent
     })
 }
 
-fn inventory_of(alloc: Global, demands: Demands, book: &Book) -> Result<Inventory, AllocError> {
+/// The inventory of a book, with the margin that is demanded. The only error is lack of memory.
+#[tactic(auto, using(crate::proofs::Alone::is_served_of))]
+fn inventory_of(alloc: Global, demands: Demands, book: &Book) -> Result<Inventory, AllocError>
+    ensures { IfOk result (IsServedOf demands book.now.text) }
+{
     wide(alloc, demands, book.text(), book.inventory(alloc)?)
 }

@@ -1,5 +1,6 @@
 pub mod Behind
 pub mod Pieces
+pub mod NeedLines
 pub mod Filled
 pub mod Gathering
 pub mod Read

@@ -72,15 +72,24 @@ IsRefusedReply (Some why) (Some text) = text ≡ control_reply_text (replies.Ref
 abbrev pub unkept_line : List ℕ
 unkept_line = codes "this holds until a restart: the agent keeps no changes"
 
-abbrev pub need_lines : Bool → List ℕ → List (List ℕ)
-need_lines true line = line ∷ []
-need_lines false line = line ∷ unkept_line ∷ []
+abbrev pub unkept_lines : Bool → List (List ℕ)
+unkept_lines true = []
+unkept_lines false = unkept_line ∷ []
 
--- `ok` and the line about a need, and a second one where nothing keeps it; None where memory was wanting for them
-abbrev pub IsNeedReply : Bool → Option (List ℕ) → Option (List ℕ) → Type 0
-IsNeedReply is_kept None sent = sent ≡ None
-IsNeedReply is_kept (Some line) None = Unit {0}
-IsNeedReply is_kept (Some line) (Some text) = text ≡ control_reply_text (replies.Done (need_lines is_kept line))
+-- where the entry does not reach as far as it is needed, until when it can be kept
+abbrev pub AreReachLines : Option ℕ → List (List ℕ) → List (List ℕ) → Type 0
+AreReachLines None before lines = lines ≡ before
+AreReachLines (Some reach) before lines = (said : List ℕ) × (IsDated (codes "it can be kept until ") reach said × (lines ≡ before ++ said ∷ []))
+
+-- the line about a need, that one, and the one about a restart
+abbrev pub AreNeedLines : Bool → Option ℕ → List ℕ → List (List ℕ) → Type 0
+AreNeedLines is_kept reach line lines = (first : List (List ℕ)) × (AreReachLines reach (line ∷ []) first × (lines ≡ first ++ unkept_lines is_kept))
+
+-- `ok`, the line about a need, and these; None where memory was wanting for them
+abbrev pub IsNeedReply : Bool → Option ℕ → Option (List ℕ) → Option (List ℕ) → Type 0
+IsNeedReply is_kept reach None sent = sent ≡ None
+IsNeedReply is_kept reach (Some line) None = Unit {0}
+IsNeedReply is_kept reach (Some line) (Some text) = (lines : List (List ℕ)) × (AreNeedLines is_kept reach line lines × (text ≡ control_reply_text (replies.Done lines)))
 
 -- why it was not done, a reason a line
 abbrev pub IsRefusalFor : List (List ℕ) → Option (List ℕ) → Type 0

@@ -1,10 +1,10 @@
 //! What the client of a command is told.
-ghost use Rattle.std.specs.Prelude.{◌≡◌, ◌++◌, IfOk, IfSome, min, option_map};
+ghost use Rattle.std.specs.Prelude.{◌≡◌, ◌++◌, IfOk, IfSome, OnOk, codes, min, option_map};
 ghost use Rattle.base_moment.specs.Rfc3339.{IsDateText};
 ghost use Rattle.base_moment.specs.declared.moment.TheConstants.{LAST};
 ghost use Rattle.state_changes.specs.Rows.{is_lease_if};
 ghost use Rattle.agent_words.specs.Outcomes.{nothing_kept};
-ghost use Rattle.agent_words.specs.Telling.{IsAddLine, IsDated, IsDoneReply, IsDropLine, IsEndedLine, IsNeedLine, IsNeedReply, IsRefusalFor, IsRefusedReply, IsReplyTo, SaysNeeded, need_lines, reload_line, replaced_text, settle_line, unkept_line};
+ghost use Rattle.agent_words.specs.Telling.{AreNeedLines, AreReachLines, IsAddLine, IsDated, IsDoneReply, IsDropLine, IsEndedLine, IsNeedLine, IsNeedReply, IsRefusalFor, IsRefusedReply, IsReplyTo, SaysNeeded, reload_line, replaced_text, settle_line, unkept_line};
 
 use agent_control::{Lines, Reply, write_reply};
 use base_moment::{LAST, Moment, Text, date_text};
@@ -170,25 +170,55 @@ fn done_reply(alloc: Global, line: Option<Text>) -> Option<Text>
     write_reply(alloc, &Reply::Done(Lines::of(lines))).ok()
 }
 
-/// `ok` and the line about a need, and where nothing keeps it, that it holds until a restart only; `None` where memory was wanting.
-pub fn need_reply(alloc: Global, line: Option<Text>, is_kept: bool) -> Option<Text>
-    ensures { IsNeedReply is_kept line result }
+/// `ok` and the line about a need; until when the entry can be kept, where it does not reach as far; and where nothing keeps the need,
+/// that it holds until a restart only. `None` where memory was wanting.
+pub fn need_reply(
+    alloc: Global,
+    line: Option<Text>,
+    reach: Option<u64>,
+    is_kept: bool,
+) -> Option<Text>
+    ensures { IsNeedReply is_kept reach line result }
 {
     let line = line?;
-    let lines = need_lines(alloc, line, is_kept).ok()?;
+    let lines = need_lines(alloc, line, reach, is_kept).ok()?;
     write_reply(alloc, &Reply::Done(Lines::of(lines))).ok()
 }
 
-// The line about a need, and one more where nothing keeps it.
-fn need_lines(alloc: Global, line: Text, is_kept: bool) -> Result<Vec<Text>, AllocError>
-    ensures { IfOk result (λ lines. lines.items ≡ need_lines is_kept line) }
+// The line about a need, and those after it.
+#[tactic(auto, using(crate::proofs::NeedLines::kept_lines, crate::proofs::NeedLines::unkept_need_lines))]
+fn need_lines(
+    alloc: Global,
+    line: Text,
+    reach: Option<u64>,
+    is_kept: bool,
+) -> Result<Vec<Text>, AllocError>
+    ensures { IfOk result (λ lines. AreNeedLines is_kept reach line lines.items) }
 {
     let mut lines = Vec::new(alloc);
     lines.push(line)?;
+    push_reach(alloc, reach, &mut lines)?;
     if !is_kept {
         lines.push(unkept_line(alloc)?)?;
     }
     Ok(lines)
+}
+
+// Appends until when an entry can be kept, where it does not reach as far as it is needed.
+fn push_reach(alloc: Global, reach: Option<u64>, lines: &mut Vec<Text>) -> Result<(), AllocError>
+    ensures { OnOk result (AreReachLines reach lines.old.items lines.new.items) }
+{
+    if let Some(reach) = reach {
+        lines.push(reach_line(alloc, reach)?)?;
+    }
+    Ok(())
+}
+
+// Until when an entry can be kept.
+fn reach_line(alloc: Global, reach: u64) -> Result<Text, AllocError>
+    ensures { IfOk result (λ line. IsDated (codes "it can be kept until ") reach line) }
+{
+    Ok(Text::from_vec(dated(alloc, b"it can be kept until ", reach)?))
 }
 
 fn unkept_line(alloc: Global) -> Result<Text, AllocError>

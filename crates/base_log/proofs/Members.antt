@@ -2,7 +2,7 @@
 use Rattle.std.proofs.Common.{◌≡◌, ◌++◌, ◌∷◌, [], ℕ, List, refl, Some}
 use Rattle.std.specs.Prelude.{codes}
 use Rattle.base_moment.specs.Rfc3339.{IsDateText}
-use Rattle.base_log.specs.Forms.{IsLineJson, SayEach, SayJoined, SayMembers, SaysEvent, SaysInside, SaysMember, SaysMessage, SaysNames, SaysRest, SaysValue, json_level, member, quoted}
+use Rattle.base_log.specs.Forms.{IsLineJson, SayEach, SayJoined, SayMembers, SaysEvent, SaysInside, SaysMember, SaysMessage, SaysNames, SaysRest, SaysValue, json_level, json_text, member, quoted}
 use Rattle.base_log.specs.Keys.{key_name, key_of}
 use Rattle.base_log.specs.declared.keys.Key.{Key}
 use Rattle.base_log.specs.declared.keys.Rest.{Rest}
@@ -34,21 +34,21 @@ pub names_said : (w : Word) (ws : List Word) (o a b c names : List ℕ) → a �
 names_said w ws o a b c names e j f g =
     (codes ", \"entries\": [\"" ++ (names ++ codes "\"]"), (names, j, refl), three_pushed o a b c (codes ", \"entries\": [\"") names (codes "\"]") e f g)
 
--- or a message
-pub message_said : (w : Word) (ws : List Word) (o a b c text : List ℕ) → a ≡ o ++ codes ", \"message\": \"" → SayJoined (codes " ") w ws text → b ≡ a ++ text → c ≡ b ++ codes "\""
-    → (said : List ℕ) × SaysMessage (w ∷ ws) said × (c ≡ o ++ said)
-message_said w ws o a b c text e j f g =
-    (codes ", \"message\": \"" ++ (text ++ codes "\""), (text, j, refl), three_pushed o a b c (codes ", \"message\": \"") text (codes "\"") e f g)
+-- the event and words are a message
+pub message_said : (event : List ℕ) (w : Word) (ws : List Word) (o a b c d text : List ℕ) → a ≡ o ++ codes ", \"message\": \"" → b ≡ a ++ json_text event → SayEach (codes " ") (w ∷ ws) text
+    → c ≡ b ++ text → d ≡ c ++ codes "\"" → (said : List ℕ) × SaysMessage event (w ∷ ws) said × (d ≡ o ++ said)
+message_said event w ws o a b c d text e f j g h =
+    (codes ", \"message\": \"" ++ (json_text event ++ (text ++ codes "\"")), (text, j, refl), four_pushed o a b c d (codes ", \"message\": \"") (json_text event) text (codes "\"") e f g h)
 
 -- one word with a key stands before a message
-pub one_said : (key : Key) (w : Word) (ws : List Word) (o a b first others : List ℕ) → SaysMember key w first → a ≡ o ++ first → SaysMessage ws others → b ≡ a ++ others
-    → (said : List ℕ) × SaysRest (One key) (w ∷ ws) said × (b ≡ o ++ said)
-one_said key w ws o a b first others s e t f = (first ++ others, (first, others, s, t, refl), two_pushed o a b first others e f)
+pub one_said : (event : List ℕ) (key : Key) (w : Word) (ws : List Word) (o a b first others : List ℕ) → SaysMember key w first → a ≡ o ++ first → SaysMessage event ws others → b ≡ a ++ others
+    → (said : List ℕ) × SaysRest event (One key) (w ∷ ws) said × (b ≡ o ++ said)
+one_said event key w ws o a b first others s e t f = (first ++ others, (first, others, s, t, refl), two_pushed o a b first others e f)
 
 -- and the first word before the rest
-pub first_said : (key : Key) (rest : Rest) (w : Word) (ws : List Word) (o a b first others : List ℕ) → SaysMember key w first → a ≡ o ++ first → SaysRest rest ws others → b ≡ a ++ others
-    → (said : List ℕ) × SayMembers (Some key) rest (w ∷ ws) said × (b ≡ o ++ said)
-first_said key rest w ws o a b first others s e t f = (first ++ others, (first, others, s, t, refl), two_pushed o a b first others e f)
+pub first_said : (event : List ℕ) (key : Key) (rest : Rest) (w : Word) (ws : List Word) (o a b first others : List ℕ) → SaysMember key w first → a ≡ o ++ first → SaysRest event rest ws others → b ≡ a ++ others
+    → (said : List ℕ) × SayMembers event (Some key) rest (w ∷ ws) said × (b ≡ o ++ said)
+first_said event key rest w ws o a b first others s e t f = (first ++ others, (first, others, s, t, refl), two_pushed o a b first others e f)
 
 -- the pieces of a line
 pub line_said : (moment : ℕ) (level : Level) (event : List ℕ) (ws : List Word) (a b c d e date said : List ℕ)

@@ -98,25 +98,25 @@ abbrev pub SaysNames : List Word → List ℕ → Type 0
 SaysNames [] text = text ≡ codes ", \"entries\": []"
 SaysNames (w ∷ ws) text = (names : List ℕ) × SayJoined (codes "\", \"") w ws names × (text ≡ codes ", \"entries\": [\"" ++ (names ++ codes "\"]"))
 
--- words for people, as one string with spaces between them
-abbrev pub SaysMessage : List Word → List ℕ → Type 0
-SaysMessage [] text = text ≡ []
-SaysMessage (w ∷ ws) text = (said : List ℕ) × SayJoined (codes " ") w ws said × (text ≡ codes ", \"message\": \"" ++ (said ++ codes "\""))
+-- words for people, as one string: the event, and each word after a space, as in a line for people
+abbrev pub SaysMessage : List ℕ → List Word → List ℕ → Type 0
+SaysMessage event [] text = text ≡ []
+SaysMessage event (w ∷ ws) text = (said : List ℕ) × SayEach (codes " ") (w ∷ ws) said × (text ≡ codes ", \"message\": \"" ++ (json_text event ++ (said ++ codes "\"")))
 
-abbrev pub SaysRest : Rest → List Word → List ℕ → Type 0
-SaysRest Names ws text = SaysNames ws text
-SaysRest Message ws text = SaysMessage ws text
-SaysRest (One key) [] text = text ≡ []
-SaysRest (One key) (w ∷ ws) text = (first others : List ℕ) × SaysMember key w first × SaysMessage ws others × (text ≡ first ++ others)
+abbrev pub SaysRest : List ℕ → Rest → List Word → List ℕ → Type 0
+SaysRest event Names ws text = SaysNames ws text
+SaysRest event Message ws text = SaysMessage event ws text
+SaysRest event (One key) [] text = text ≡ []
+SaysRest event (One key) (w ∷ ws) text = (first others : List ℕ) × SaysMember key w first × SaysMessage event ws others × (text ≡ first ++ others)
 
-abbrev pub SayMembers : Option Key → Rest → List Word → List ℕ → Type 0
-SayMembers None rest ws text = SaysRest rest ws text
-SayMembers (Some key) rest [] text = SaysRest rest [] text
-SayMembers (Some key) rest (w ∷ ws) text = (first others : List ℕ) × SaysMember key w first × SaysRest rest ws others × (text ≡ first ++ others)
+abbrev pub SayMembers : List ℕ → Option Key → Rest → List Word → List ℕ → Type 0
+SayMembers event None rest ws text = SaysRest event rest ws text
+SayMembers event (Some key) rest [] text = SaysRest event rest [] text
+SayMembers event (Some key) rest (w ∷ ws) text = (first others : List ℕ) × SaysMember key w first × SaysRest event rest ws others × (text ≡ first ++ others)
 
 -- all that is said of an event
 abbrev pub SaysEvent : List ℕ → List Word → List ℕ → Type 0
-SaysEvent event ws text = SayMembers (shape_of event (length ws)).lead (shape_of event (length ws)).rest ws text
+SaysEvent event ws text = SayMembers event (shape_of event (length ws)).lead (shape_of event (length ws)).rest ws text
 
 abbrev pub json_event : List ℕ → List ℕ
 json_event event = codes "\", \"event\": \"" ++ (json_text event ++ codes "\"")

@@ -51,27 +51,28 @@ fn push_said(
     ensures { OnOk result ((said : List ℕ) × SaysEvent event.now words.now said × (text.new.items ≡ text.old.items ++ said)) }
 {
     let shape = shape_of(event, words.len());
-    push_members(alloc, shape.lead, shape.rest, words, text)
+    push_members(alloc, event, shape.lead, shape.rest, words, text)
 }
 
 // Appends the member of the first word, if that has a key of its own, and those of the rest.
 #[tactic(auto, using(crate::proofs::Members::first_said))]
 fn push_members(
     alloc: Global,
+    event: &str,
     lead: Option<Key>,
     rest: Rest,
     words: &[Word],
     text: &mut Vec<u8>,
 ) -> Result<(), AllocError>
-    ensures { OnOk result ((said : List ℕ) × SayMembers lead rest words.now said × (text.new.items ≡ text.old.items ++ said)) }
+    ensures { OnOk result ((said : List ℕ) × SayMembers event.now lead rest words.now said × (text.new.items ≡ text.old.items ++ said)) }
 {
     match lead {
-        None => push_rest(alloc, rest, words, text),
+        None => push_rest(alloc, event, rest, words, text),
         Some(key) => match words {
-            [] => push_rest(alloc, rest, words, text),
+            [] => push_rest(alloc, event, rest, words, text),
             [first, others @ ..] => {
                 push_member(alloc, key, first, text)?;
-                push_rest(alloc, rest, others, text)
+                push_rest(alloc, event, rest, others, text)
             }
         },
     }
@@ -81,20 +82,21 @@ fn push_members(
 #[tactic(auto, using(crate::proofs::Members::one_said))]
 fn push_rest(
     alloc: Global,
+    event: &str,
     rest: Rest,
     words: &[Word],
     text: &mut Vec<u8>,
 ) -> Result<(), AllocError>
-    ensures { OnOk result ((said : List ℕ) × SaysRest rest words.now said × (text.new.items ≡ text.old.items ++ said)) }
+    ensures { OnOk result ((said : List ℕ) × SaysRest event.now rest words.now said × (text.new.items ≡ text.old.items ++ said)) }
 {
     match rest {
         Rest::Names => push_names(alloc, words, text),
-        Rest::Message => push_message(alloc, words, text),
+        Rest::Message => push_message(alloc, event, words, text),
         Rest::One(key) => match words {
             [] => Ok(()),
             [word, others @ ..] => {
                 push_member(alloc, key, word, text)?;
-                push_message(alloc, others, text)
+                push_message(alloc, event, others, text)
             }
         },
     }
@@ -126,16 +128,22 @@ fn push_names(alloc: Global, words: &[Word], text: &mut Vec<u8>) -> Result<(), A
     }
 }
 
-// Appends words for people.
+// Appends words for people, after the event.
 #[tactic(auto, using(crate::proofs::Members::message_said))]
-fn push_message(alloc: Global, words: &[Word], text: &mut Vec<u8>) -> Result<(), AllocError>
-    ensures { OnOk result ((said : List ℕ) × SaysMessage words.now said × (text.new.items ≡ text.old.items ++ said)) }
+fn push_message(
+    alloc: Global,
+    event: &str,
+    words: &[Word],
+    text: &mut Vec<u8>,
+) -> Result<(), AllocError>
+    ensures { OnOk result ((said : List ℕ) × SaysMessage event.now words.now said × (text.new.items ≡ text.old.items ++ said)) }
 {
     match words {
         [] => Ok(()),
-        [first, others @ ..] => {
+        [_, ..] => {
             text.extend_from_slice(b", \"message\": \"")?;
-            push_joined(alloc, b" ", first, others, text)?;
+            push_text(alloc, event.as_bytes(), text)?;
+            push_each(alloc, b" ", words, text)?;
             text.extend_from_slice(b"\"")
         }
     }

@@ -15,8 +15,8 @@ use std::marker::Model;
 use vault_exchange::{Exchange, ExchangeFault};
 use vault_http::{DatedReply, Reply, Request};
 use vault_lanes::{
-    Allowance, Answered, Ask, Coming, LaneFault, Lanes, Loss, MOST_WIDTH, NumberedFault, Seat,
-    free_of, loss_of, put, rename, take_out,
+    Allowance, Answered, Ask, Coming, ConnectReason, LaneFault, Lanes, Loss, MOST_WIDTH,
+    NumberedFault, Seat, free_of, loss_of, put, rename, take_out,
 };
 
 /// Lanes with a broker's table in memory, with faults by number.
@@ -96,7 +96,7 @@ fn serve(
             let answer = answer(alloc, exchange, t, request)?;
             Ok(Coming { answer, at })
         }
-        Some(LaneFault::Refuse) => Ok(lost(Loss::Connect, at)),
+        Some(LaneFault::Refuse) => Ok(lost(Loss::Connect(ConnectReason::Refused), at)),
         Some(LaneFault::Lose) => Ok(lost(Loss::Closed, at)),
         Some(LaneFault::Status(status)) => with_status(alloc, status, at),
         Some(LaneFault::Garble) => {
@@ -140,7 +140,9 @@ fn answer_in(
         Ok(reply) => Ok(Ok(DatedReply { reply, date: None })),
         Err(ExchangeFault::OutOfMemory) => Err(AllocError),
         Err(ExchangeFault::Http(fault)) => Ok(Err(loss_of(fault))),
-        Err(ExchangeFault::ConnectFailed | ExchangeFault::WriteFailed) => Ok(Err(Loss::Connect)),
+        Err(ExchangeFault::ConnectFailed | ExchangeFault::WriteFailed) => {
+            Ok(Err(Loss::Connect(ConnectReason::Other)))
+        }
     }
 }
 

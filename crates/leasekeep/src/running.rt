@@ -7,7 +7,9 @@ use crate::system_doors::{SystemDoors, registry_of};
 use agent_behind::Behind;
 use agent_house::{Demands, House};
 use agent_run::{Doors, Parts, askers_by, most_out, run_over};
-use agent_start::{Folder, SystemLedger, folder_of, make_start};
+use agent_start::{
+    Folder, Sources, SystemFile, SystemLedger, SystemSecrets, folder_of, make_start,
+};
 use agent_turns::{EarlyDay, Neighbours};
 use base_clients::{SocketDoor, SocketTalk};
 use base_clock::SystemClock;
@@ -56,7 +58,7 @@ where
     E: Sink,
     requires demanded { IsDemanded served.now demands }
     ensures told { EndsServe result (⟦<E as Watched>⟧.change errors.old errors.new) }
-    ensures runs { result ≡ Exit.Done → HasRun (⟦<SystemDay<'a, R> as Neighbours>⟧.does) (⟦<SystemDay<'a, R> as Neighbours>⟧.given) ⟦<SystemDoors<'a, R> as SecretFiles>⟧.calls ⟦<SystemDisk<'a, R> as Disk>⟧.is_known ⟦<SystemDisk<'a, R> as Disk>⟧.state ⟦<SystemClock<'a, R> as base_clock::Clock>⟧.seen ⟦<SocketLanes<'a, R> as SeenLanes>⟧.seen ⟦<SocketLanes<'a, R> as Lanes>⟧.host_port ⟦<SocketLanes<'a, R> as Lanes>⟧.width served.now log }
+    ensures runs { result ≡ Exit.Done → HasRun (⟦<SystemDay<'a, R> as Neighbours>⟧.does) (⟦<SystemDay<'a, R> as Neighbours>⟧.given) ⟦<SystemDoors<'a, R> as SecretFiles>⟧.calls ⟦<SystemDisk<'a, R> as Disk>⟧.is_known ⟦<SystemDisk<'a, R> as Disk>⟧.state ⟦<SystemClock<'a, R> as base_clock::Clock>⟧.seen ⟦<SocketLanes<'a, R> as SeenLanes>⟧.seen ⟦<SocketLanes<'a, R> as Lanes>⟧.host_port ⟦<SocketLanes<'a, R> as Lanes>⟧.width ⟦<SystemFile<'a, R> as Inputs>⟧.bytes_at ⟦<SystemSecrets<'a, R> as Inputs>⟧.bytes_at served.now log }
 {
     let Ok(mut clock) = SystemClock::new(rt.alloc(), rt) else {
         return ended(Err(AllocError), errors);
@@ -99,16 +101,31 @@ where
     requires askers { AreAskersFor (L.out) (L.seconds) (L.width) served.now parts.askers.items }
     requires ahead { AreOwnLanes (L.out) (L.seconds) (L.width) served.now parts.ahead }
     ensures told { EndsServe result (⟦<E as Watched>⟧.change errors.old errors.new) }
-    ensures runs { result ≡ Exit.Done → HasRun (⟦<DayOver<'a, R, L> as Neighbours>⟧.does) (⟦<DayOver<'a, R, L> as Neighbours>⟧.given) P.calls ⟦<SystemDisk<'a, R> as Disk>⟧.is_known ⟦<SystemDisk<'a, R> as Disk>⟧.state C.seen ⟦<L as SeenLanes>⟧.seen L.host_port L.width served.now parts.entry.log }
+    ensures runs { result ≡ Exit.Done → HasRun (⟦<DayOver<'a, R, L> as Neighbours>⟧.does) (⟦<DayOver<'a, R, L> as Neighbours>⟧.given) P.calls ⟦<SystemDisk<'a, R> as Disk>⟧.is_known ⟦<SystemDisk<'a, R> as Disk>⟧.state C.seen ⟦<L as SeenLanes>⟧.seen L.host_port L.width ⟦<SystemFile<'a, R> as Inputs>⟧.bytes_at ⟦<SystemSecrets<'a, R> as Inputs>⟧.bytes_at served.now parts.entry.log }
     ensures sent { result ≢ Exit.Done → ⟦<L as SeenLanes>⟧.seen lanes.new ≡ ⟦<L as SeenLanes>⟧.seen lanes.old }
 {
     let folder = state_folder(rt.alloc(), served);
-    match make_start(rt, served.file, folder.as_ref(), demands, errors) {
+    let mut sources = sources_of(rt, served.file);
+    match make_start(rt, folder.as_ref(), demands, &mut sources, errors) {
         Ok(start) => {
             let ran = run_over(rt.alloc(), served, start, parts, doors, clock, lanes);
             ended(ran, errors)
         }
         Err(exit) => exit,
+    }
+}
+
+/// What is read at a start without a ledger: of the system.
+fn sources_of<'a, R: Files<File = File> + AllocGlobal>(
+    rt: &'a R,
+    file: &'a str,
+) -> Sources<'a, SystemFile<'a, R>, SystemSecrets<'a, R>>
+    ensures { result.file.now ≡ file.now }
+{
+    Sources {
+        file,
+        files: SystemFile::new(rt),
+        secrets: SystemSecrets::new(rt),
     }
 }
 

@@ -79,6 +79,9 @@ fn played(
     }
 }
 
+/// Where its broker is reached, as its log says it.
+const PLACE: &[u8] = b"127.0.0.1:8200";
+
 /// The same, with a setting that so many steps say.
 fn played_among(
     alloc: Global,
@@ -95,7 +98,7 @@ fn played_among(
     let readings = mem::replace(&mut setting.readings, Vec::new(alloc));
     let clock = MemoryClock::new(alloc, readings, CLOCK_CALLS)?;
     let lanes = lanes_of(alloc, setting, &setting.broker, setting.width, refused)?;
-    let desk = Desk::new(alloc, setting.form, 0)?;
+    let desk = Desk::new(alloc, setting.form, Vec::from_slice(alloc, PLACE)?, 0)?;
     let house = house_of(alloc, setting, desk);
     let play = Play::new(alloc, paths, guests, clock, lanes, house);
     play.over(setting, steps, first, refused)

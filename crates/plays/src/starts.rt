@@ -198,7 +198,7 @@ fn served_of(setting: &Setting) -> Served<'static> {
     };
     Served {
         file: FILE,
-        place: Place::Port(0),
+        place: Place::Port(8200),
         patience: u64::from(setting.timeout),
         width: u64::from(setting.width),
         names_are_secrets: false,

@@ -161,12 +161,17 @@ abbrev pub was_told : Option FileSeen → SecretTrouble → Bool
 was_told None trouble = false
 was_told (Some seen) trouble = is_trouble seen.trouble trouble
 
+-- something was wrong with it before
+abbrev pub was_troubled : Option FileSeen → Bool
+was_troubled None = false
+was_troubled (Some seen) = is_some seen.trouble
+
 abbrev pub word_of : Bool → SecretTrouble → SecretWord
 word_of was_held trouble = if was_held then words.Kept trouble else words.Without trouble
 
 abbrev pub news_of : Option FileSeen → Bool → Became → Option SecretWord
 news_of before was_held Taken = Some words.Taken
-news_of before was_held Same = None
+news_of before was_held Same = if was_troubled before then Some words.Mended else None
 news_of before was_held (Troubled trouble) = if was_told before trouble then None else Some (word_of was_held trouble)
 
 abbrev pub news_about : List ℕ → Option SecretWord → Option SecretNews

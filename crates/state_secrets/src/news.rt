@@ -18,6 +18,8 @@ pub enum Became {
 pub enum SecretWord {
     /// The entry has what it holds from now on.
     Taken,
+    /// Nothing is wrong with it any more: the entry has what it holds already.
+    Mended,
     /// Something is wrong with it: the entry keeps what it had.
     Kept(SecretTrouble),
     /// Something is wrong with it, and the entry has nothing: it is not kept.

@@ -2,7 +2,7 @@
 ghost use Rattle.std.specs.Prelude.{◌≡◌, IfOk, OnErr};
 ghost use Rattle.std.specs.List.{filter};
 ghost use Rattle.state_changes.specs.Rows.{named};
-ghost use Rattle.state_secrets.specs.Outcomes.{IsNoted, MayRead, ReadsFile, again_after, doubled_pause, has_it, names_file, news_about, news_of, pause_after, secret_of, secrets_with, seen_after, stays, trouble_number, was_told};
+ghost use Rattle.state_secrets.specs.Outcomes.{IsNoted, MayRead, ReadsFile, again_after, doubled_pause, has_it, names_file, news_about, news_of, pause_after, secret_of, secrets_with, seen_after, stays, trouble_number, was_told, was_troubled};
 
 use crate::credential::{MOST_SECRET, credential_in};
 use crate::looking::{
@@ -193,13 +193,19 @@ fn doubled(pause: u64) -> u64
     }
 }
 
-/// What is said of what became of a file: a trouble once, as long as it lasts.
+/// What is said of what became of a file: a trouble once, as long as it lasts, and that it is over.
 pub fn news_of(before: Option<FileSeen>, was_held: bool, became: Became) -> Option<SecretWord>
     ensures { result ≡ news_of before was_held became }
 {
     match became {
         Became::Taken => Some(SecretWord::Taken),
-        Became::Same => None,
+        Became::Same => {
+            if was_troubled(before) {
+                Some(SecretWord::Mended)
+            } else {
+                None
+            }
+        }
         Became::Troubled(trouble) => {
             if was_told(before, trouble) {
                 None
@@ -209,6 +215,16 @@ pub fn news_of(before: Option<FileSeen>, was_held: bool, became: Became) -> Opti
                 Some(SecretWord::Without(trouble))
             }
         }
+    }
+}
+
+// Whether something was wrong with the file before.
+fn was_troubled(before: Option<FileSeen>) -> bool
+    ensures { result ≡ was_troubled before }
+{
+    match before {
+        None => false,
+        Some(seen) => seen.trouble.is_some(),
     }
 }
 

@@ -5,7 +5,7 @@ use std::alloc::{AllocError, Global};
 use std::cell::Cell;
 use std::process::Abort;
 use std::test::Fail;
-use vault_lanes::{Answered, Lanes, LanesOver, Loss};
+use vault_lanes::{Answered, ConnectReason, Lanes, LanesOver, Loss};
 
 /// A peer that answers the renewal for the index 4 at once.
 fn prompt() -> Part {
@@ -76,7 +76,7 @@ const SILENT: Does = Does::Drips(NEVER, 65536, 0);
 
 const GRANTED: Comes = Comes::Granted;
 
-const CONNECT: Comes = Comes::Lost(Loss::Connect);
+const CONNECT: Comes = Comes::Lost(Loss::Connect(ConnectReason::Other));
 
 const TIMEOUT: Comes = Comes::Lost(Loss::Timeout);
 

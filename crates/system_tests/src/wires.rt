@@ -2,7 +2,7 @@
 use base_device::Tried;
 use std::alloc::Global;
 use std::cell::Cell;
-use vault_lanes::{Line, Wires};
+use vault_lanes::{ConnectReason, Line, Wires};
 
 /// What a peer does with one connection. Moments are milliseconds from the play's begin.
 #[derive(Clone, Copy, Debug)]
@@ -98,6 +98,10 @@ impl<'a> Line for Actor<'a> {
         }
         self.sent += n;
         Tried::Done(n)
+    }
+
+    fn reason(&self) -> ConnectReason {
+        ConnectReason::Other
     }
 
     fn is_restless(&self) -> bool {

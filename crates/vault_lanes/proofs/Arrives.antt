@@ -38,7 +38,7 @@ heard_answer old came piece before mid now a last new first then' end is told = 
             → IfSome b (λ bytes. (f : HttpFault) × ((loss_of f ≡ losses.Reply) × IsDatedReply MOST_MESSAGE (old ++ bytes) (Err f)))
         with_fault None fault e h = tt
         with_fault (Some bytes) fault e h = (fault, (e, h))
-    by_answer (Err losses.Connect) h = tt
+    by_answer (Err (losses.Connect reason)) h = tt
     by_answer (Err losses.Timeout) h = tt
     by_answer (Err losses.Closed) h = tt
     by_answer (Err (losses.Status status)) h = tt

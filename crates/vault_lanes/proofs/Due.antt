@@ -1,6 +1,7 @@
 -- When those that are out have to be looked at again: for `due` and `go_on` of them all.
 use Rattle.std.proofs.Common.{◌≡◌, ℕ, ◌<◌, ◌≤◌, ◌^◌, Bool, true, false, cond, not, filter, List, [], ◌∷◌, Option, Result, Ok, Err, IfOk, OnOk, min, if◌then◌else◌, arith, ap, ◌∙◌, ◌||◌, refl, subst, sym}
 use Rattle.std.specs.List.{list_any}
+use Rattle.vault_lanes.specs.declared.reason.ConnectReason.{ConnectReason}
 use Rattle.vault_lanes.specs.Allowed.{deadline, millis_after}
 use Rattle.vault_lanes.specs.Out.{IsDueAfter}
 use Rattle.vault_lanes.specs.Seats.{AreTakenOut}
@@ -11,15 +12,15 @@ use Rattle.vault_lanes.specs.declared.way.Way.{Way}
 use Rattle.vault_lanes.specs.declared.way.Way.TheVariants.{Out, Over}
 
 -- those that went on have their deadlines ahead
-moved_ahead : {L : Type 0} (written remaining : L → Option (List ℕ)) (failures : L → Option ℕ) (now : ℕ) (old new : List (Seat (Way L))) → Move written remaining failures now old new → AreAhead now new
-moved_ahead written remaining failures now [] new h = subst (λ l. AreAhead now l) (sym h) tt
-moved_ahead written remaining failures now (o ∷ os) [] h = absurd h
-moved_ahead written remaining failures now (o ∷ os) (x ∷ xs) h = (h.0.1.1, moved_ahead written remaining failures now os xs h.1)
+moved_ahead : {L : Type 0} (written remaining : L → Option (List ℕ)) (failures : L → Option ℕ) (reason : L → ConnectReason) (now : ℕ) (old new : List (Seat (Way L))) → Move written remaining failures reason now old new → AreAhead now new
+moved_ahead written remaining failures reason now [] new h = subst (λ l. AreAhead now l) (sym h) tt
+moved_ahead written remaining failures reason now (o ∷ os) [] h = absurd h
+moved_ahead written remaining failures reason now (o ∷ os) (x ∷ xs) h = (h.0.1.1, moved_ahead written remaining failures reason now os xs h.1)
 
-pub back_ahead : {L X E : Type 0} (written remaining : L → Option (List ℕ)) (failures : L → Option ℕ) (now : ℕ) (r : Result X E) (old new back : List (Seat (Way L))) → back ≡ new → OnOk r (Move written remaining failures now old new)
+pub back_ahead : {L X E : Type 0} (written remaining : L → Option (List ℕ)) (failures : L → Option ℕ) (reason : L → ConnectReason) (now : ℕ) (r : Result X E) (old new back : List (Seat (Way L))) → back ≡ new → OnOk r (Move written remaining failures reason now old new)
     → OnOk r (AreAhead now back)
-back_ahead written remaining failures now (Ok x) old new back is h = subst (λ l. AreAhead now l) (sym is) (moved_ahead written remaining failures now old new h)
-back_ahead written remaining failures now (Err e) old new back is h = tt
+back_ahead written remaining failures reason now (Ok x) old new back is h = subst (λ l. AreAhead now l) (sym is) (moved_ahead written remaining failures reason now old new h)
+back_ahead written remaining failures reason now (Err e) old new back is h = tt
 
 module _ {L : Type 0} (restless : L → Bool) (now : ℕ) where
   -- a moment that is no later

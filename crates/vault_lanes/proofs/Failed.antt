@@ -11,6 +11,7 @@ use Rattle.vault_lanes.specs.Stages.{failed, waits}
 use Rattle.vault_lanes.specs.declared.allowance.Allowance.{Allowance}
 use Rattle.vault_lanes.specs.declared.loss.Loss.{Loss}
 use Rattle.vault_lanes.specs.declared.loss.Loss.TheVariants as losses
+use Rattle.vault_lanes.specs.declared.reason.ConnectReason.{ConnectReason}
 use Rattle.vault_lanes.specs.declared.stage.Stage.{Stage}
 use Rattle.vault_lanes.specs.declared.stage.Stage.TheVariants.{Connecting, Sending, Silent, Coming}
 
@@ -33,52 +34,52 @@ cut_kept old mid (Some bytes) None same keeps h = absurd keeps
 cut_kept old mid (Some bytes) (Some rest) same keeps h = subst (λ o. AreCut o (Some bytes)) same (subst (λ b. AreCut mid (Some b)) keeps h)
 
 -- and what comes of it then
-pub kept_as : (a : Option Answer) (old mid : List ℕ) (r s : Option (List ℕ)) (x y z : Option ℕ) → mid ≡ old → Keeps r s → FailsMore 0 x y → FailsAs mid s a y z → FailsAs old r a x z
-kept_as None old mid r s x y z same keeps kept h = kept_then 0 x y z kept h
-kept_as (Some (Ok dated)) old mid r s x y z same keeps kept h = kept_then 0 x y z kept h
-kept_as (Some (Err losses.Connect)) old mid r s x y z same keeps kept h = kept_then 1 x y z kept h
-kept_as (Some (Err losses.Timeout)) old mid r s x y z same keeps kept h = kept_then 0 x y z kept h
-kept_as (Some (Err losses.Closed)) old mid r s x y z same keeps kept (inl h) = inl (kept_then 1 x y z kept h)
-kept_as (Some (Err losses.Closed)) old mid r s x y z same keeps kept (inr h) = inr (kept_then 0 x y z kept h.0, cut_kept old mid r s same keeps h.1)
-kept_as (Some (Err losses.Reply)) old mid r s x y z same keeps kept h = kept_then 0 x y z kept h
-kept_as (Some (Err (losses.Status status))) old mid r s x y z same keeps kept h = kept_then 0 x y z kept h
+pub kept_as : (a : Option Answer) (old mid : List ℕ) (r s : Option (List ℕ)) (why : ConnectReason) (x y z : Option ℕ) → mid ≡ old → Keeps r s → FailsMore 0 x y → FailsAs mid s why a y z → FailsAs old r why a x z
+kept_as None old mid r s why x y z same keeps kept h = kept_then 0 x y z kept h
+kept_as (Some (Ok dated)) old mid r s why x y z same keeps kept h = kept_then 0 x y z kept h
+kept_as (Some (Err (losses.Connect reason))) old mid r s why x y z same keeps kept h = (kept_then 1 x y z kept h.0, h.1)
+kept_as (Some (Err losses.Timeout)) old mid r s why x y z same keeps kept h = kept_then 0 x y z kept h
+kept_as (Some (Err losses.Closed)) old mid r s why x y z same keeps kept (inl h) = inl (kept_then 1 x y z kept h)
+kept_as (Some (Err losses.Closed)) old mid r s why x y z same keeps kept (inr h) = inr (kept_then 0 x y z kept h.0, cut_kept old mid r s same keeps h.1)
+kept_as (Some (Err losses.Reply)) old mid r s why x y z same keeps kept h = kept_then 0 x y z kept h
+kept_as (Some (Err (losses.Status status))) old mid r s why x y z same keeps kept h = kept_then 0 x y z kept h
 
 -- a try that failed
-pub failed_as : (stage : Stage) (old : List ℕ) (r : Option (List ℕ)) (x y : Option ℕ) → FailsMore 1 x y → FailsAs old r (Some (Err (failed stage))) x y
-failed_as Connecting old r x y h = h
-failed_as Sending old r x y h = inl h
-failed_as Silent old r x y h = inl h
-failed_as (Coming reads since) old r x y h = inl h
+pub failed_as : (stage : Stage) (old : List ℕ) (r : Option (List ℕ)) (why : ConnectReason) (x y : Option ℕ) → FailsMore 1 x y → FailsAs old r why (Some (Err (failed why stage))) x y
+failed_as Connecting old r why x y h = (h, refl)
+failed_as Sending old r why x y h = inl h
+failed_as Silent old r why x y h = inl h
+failed_as (Coming reads since) old r why x y h = inl h
 
 -- one that would have had to wait
-pub waits_as : (result : Result Unit Loss) (a : Allowance) (now : ℕ) (stage : Stage) (old : List ℕ) (r : Option (List ℕ)) (x y : Option ℕ) → result ≡ waits a now stage → FailsMore 0 x y
-    → FailsAs old r (answer_of_sending result) x y
-waits_as result a now stage old r x y is h = subst (λ s. FailsAs old r (answer_of_sending s) x y) (sym is) (by_test (nat_lt now (deadline a stage)))
+pub waits_as : (result : Result Unit Loss) (a : Allowance) (now : ℕ) (stage : Stage) (old : List ℕ) (r : Option (List ℕ)) (why : ConnectReason) (x y : Option ℕ) → result ≡ waits a now stage → FailsMore 0 x y
+    → FailsAs old r why (answer_of_sending result) x y
+waits_as result a now stage old r why x y is h = subst (λ s. FailsAs old r why (answer_of_sending s) x y) (sym is) (by_test (nat_lt now (deadline a stage)))
   where
-    by_test : (b : Bool) → FailsAs old r (answer_of_sending (if b then Ok tt else Err losses.Timeout)) x y
+    by_test : (b : Bool) → FailsAs old r why (answer_of_sending (if b then Ok tt else Err losses.Timeout)) x y
     by_test true = h
     by_test false = h
 
-pub waits_lost : (loss : Loss) (a : Allowance) (now : ℕ) (stage : Stage) (old : List ℕ) (r : Option (List ℕ)) (x y : Option ℕ) → Err loss ≡ waits a now stage → FailsMore 0 x y → FailsAs old r (Some (Err loss)) x y
-waits_lost loss a now stage old r x y is h = waits_as (Err loss) a now stage old r x y is h
+pub waits_lost : (loss : Loss) (a : Allowance) (now : ℕ) (stage : Stage) (old : List ℕ) (r : Option (List ℕ)) (why : ConnectReason) (x y : Option ℕ) → Err loss ≡ waits a now stage → FailsMore 0 x y → FailsAs old r why (Some (Err loss)) x y
+waits_lost loss a now stage old r why x y is h = waits_as (Err loss) a now stage old r why x y is h
 
-pub failed_lost : (loss : Loss) (stage : Stage) (old : List ℕ) (r : Option (List ℕ)) (x y : Option ℕ) → loss ≡ failed stage → FailsMore 1 x y → FailsAs old r (Some (Err loss)) x y
-failed_lost loss stage old r x y is h = subst (λ l. FailsAs old r (Some (Err l)) x y) (sym is) (failed_as stage old r x y h)
+pub failed_lost : (loss : Loss) (stage : Stage) (old : List ℕ) (r : Option (List ℕ)) (why : ConnectReason) (x y : Option ℕ) → loss ≡ failed why stage → FailsMore 1 x y → FailsAs old r why (Some (Err loss)) x y
+failed_lost loss stage old r why x y is h = subst (λ l. FailsAs old r why (Some (Err l)) x y) (sym is) (failed_as stage old r why x y h)
 
-pub kept_all : {E : Type 0} (result : Result (Option Answer) E) (old mid : List ℕ) (r s : Option (List ℕ)) (x y z : Option ℕ) → mid ≡ old → Keeps r s → FailsMore 0 x y → IfOk result (λ a. FailsAs mid s a y z)
-    → IfOk result (λ a. FailsAs old r a x z)
-kept_all (Ok a) old mid r s x y z same keeps kept h = kept_as a old mid r s x y z same keeps kept h
-kept_all (Err e) old mid r s x y z same keeps kept h = tt
+pub kept_all : {E : Type 0} (result : Result (Option Answer) E) (old mid : List ℕ) (r s : Option (List ℕ)) (why : ConnectReason) (x y z : Option ℕ) → mid ≡ old → Keeps r s → FailsMore 0 x y → IfOk result (λ a. FailsAs mid s why a y z)
+    → IfOk result (λ a. FailsAs old r why a x z)
+kept_all (Ok a) old mid r s why x y z same keeps kept h = kept_as a old mid r s why x y z same keeps kept h
+kept_all (Err e) old mid r s why x y z same keeps kept h = tt
 
 -- bytes that came are no failure of the connection
-pub counted_as : (a : Allowance) (now : ℕ) (stage new : Stage) (said : Answer) (old : List ℕ) (r : Option (List ℕ)) (x y : Option ℕ) → IsCounted a now stage (Some said) new → FailsMore 0 x y
-    → (said ≡ Err losses.Closed → AreCut old r) → FailsAs old r (Some said) x y
-counted_as a now stage new (Ok dated) old r x y counted h cut = h
-counted_as a now stage new (Err losses.Connect) old r x y counted h cut = absurd counted
-counted_as a now stage new (Err losses.Timeout) old r x y counted h cut = h
-counted_as a now stage new (Err losses.Closed) old r x y counted h cut = inr (h, cut refl)
-counted_as a now stage new (Err losses.Reply) old r x y counted h cut = h
-counted_as a now stage new (Err (losses.Status status)) old r x y counted h cut = h
+pub counted_as : (a : Allowance) (now : ℕ) (stage new : Stage) (said : Answer) (old : List ℕ) (r : Option (List ℕ)) (why : ConnectReason) (x y : Option ℕ) → IsCounted a now stage (Some said) new → FailsMore 0 x y
+    → (said ≡ Err losses.Closed → AreCut old r) → FailsAs old r why (Some said) x y
+counted_as a now stage new (Ok dated) old r why x y counted h cut = h
+counted_as a now stage new (Err (losses.Connect reason)) old r why x y counted h cut = absurd counted
+counted_as a now stage new (Err losses.Timeout) old r why x y counted h cut = h
+counted_as a now stage new (Err losses.Closed) old r why x y counted h cut = inr (h, cut refl)
+counted_as a now stage new (Err losses.Reply) old r why x y counted h cut = h
+counted_as a now stage new (Err (losses.Status status)) old r why x y counted h cut = h
 
 -- ---- whether it failed while a text was written
 
@@ -90,9 +91,9 @@ sent_whole true taken text left x y h short is none =
     let long : length left ≡ length text - taken = ap length is ∙ length-drop taken text in
     absurd (omega arith)
 
-pub failed_if : (b : Bool) (stage : Stage) (old : List ℕ) (r : Option (List ℕ)) (x y : Option ℕ) → b ≡ true → FailsMore (if b then 1 else 0) x y → FailsAs old r (Some (Err (failed stage))) x y
-failed_if true stage old r x y is h = failed_as stage old r x y h
-failed_if false stage old r x y is h = absurd (false≢true is)
+pub failed_if : (b : Bool) (stage : Stage) (old : List ℕ) (r : Option (List ℕ)) (why : ConnectReason) (x y : Option ℕ) → b ≡ true → FailsMore (if b then 1 else 0) x y → FailsAs old r why (Some (Err (failed why stage))) x y
+failed_if true stage old r why x y is h = failed_as stage old r why x y h
+failed_if false stage old r why x y is h = absurd (false≢true is)
 
 pub unfailed_if : (b : Bool) (x y : Option ℕ) → b ≡ false → FailsMore (if b then 1 else 0) x y → FailsMore 0 x y
 unfailed_if b x y is h = subst (λ c. FailsMore (if c then 1 else 0) x y) is h

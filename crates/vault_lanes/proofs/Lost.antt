@@ -61,5 +61,5 @@ settled_by a now old new (Ok dated) sent h = refl
 settled_by a now old new (Err losses.Reply) sent h = refl
 settled_by a now old new (Err losses.Closed) sent h = λ e. sent (sym h ∙ e)
 settled_by a now old new (Err losses.Timeout) sent h = inr (subst (λ s. most_reads a ≤ reads_with s) (sym h.1) h.0)
-settled_by a now old new (Err losses.Connect) sent h = absurd h
+settled_by a now old new (Err (losses.Connect reason)) sent h = absurd h
 settled_by a now old new (Err (losses.Status status)) sent h = absurd h

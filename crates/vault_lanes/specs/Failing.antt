@@ -6,6 +6,7 @@ use Rattle.base_device.specs.declared.tried.Tried.TheVariants.{Done, Waits, Fail
 use Rattle.vault_lanes.specs.Losses.{Answer, loss_of}
 use Rattle.vault_lanes.specs.declared.loss.Loss.{Loss}
 use Rattle.vault_lanes.specs.declared.loss.Loss.TheVariants as losses
+use Rattle.vault_lanes.specs.declared.reason.ConnectReason.{ConnectReason}
 use Rattle.vault_http.specs.Dates.{IsDatedReply}
 use Rattle.vault_http.specs.declared.http_fault.HttpFault.{HttpFault}
 use Rattle.vault_http.specs.declared.known.TheConstants.{MOST_MESSAGE}
@@ -24,16 +25,16 @@ failures_in Failed = 1
 abbrev pub AreCut : List ℕ → Option (List ℕ) → Type 0
 AreCut old remaining = IfSome remaining (λ bytes. (fault : HttpFault) × ((loss_of fault ≡ losses.Closed) × IsDatedReply MOST_MESSAGE (old ++ bytes) (Err fault)))
 
--- no failure is waited for, and nothing else is taken for one: who has no connection found that it failed, and so did who was
--- closed, unless the reply is cut
-abbrev pub FailsAs : List ℕ → Option (List ℕ) → Option Answer → Option ℕ → Option ℕ → Type 0
-FailsAs old remaining None before now = FailsMore 0 before now
-FailsAs old remaining (Some (Ok dated)) before now = FailsMore 0 before now
-FailsAs old remaining (Some (Err losses.Connect)) before now = FailsMore 1 before now
-FailsAs old remaining (Some (Err losses.Timeout)) before now = FailsMore 0 before now
-FailsAs old remaining (Some (Err losses.Closed)) before now = FailsMore 1 before now ⊎ (FailsMore 0 before now × AreCut old remaining)
-FailsAs old remaining (Some (Err losses.Reply)) before now = FailsMore 0 before now
-FailsAs old remaining (Some (Err (losses.Status status))) before now = FailsMore 0 before now
+-- no failure is waited for, and nothing else is taken for one: who has no connection found that it failed, for this reason, and so
+-- did who was closed, unless the reply is cut
+abbrev pub FailsAs : List ℕ → Option (List ℕ) → ConnectReason → Option Answer → Option ℕ → Option ℕ → Type 0
+FailsAs old remaining reason None before now = FailsMore 0 before now
+FailsAs old remaining reason (Some (Ok dated)) before now = FailsMore 0 before now
+FailsAs old remaining reason (Some (Err (losses.Connect why))) before now = FailsMore 1 before now × (why ≡ reason)
+FailsAs old remaining reason (Some (Err losses.Timeout)) before now = FailsMore 0 before now
+FailsAs old remaining reason (Some (Err losses.Closed)) before now = FailsMore 1 before now ⊎ (FailsMore 0 before now × AreCut old remaining)
+FailsAs old remaining reason (Some (Err losses.Reply)) before now = FailsMore 0 before now
+FailsAs old remaining reason (Some (Err (losses.Status status))) before now = FailsMore 0 before now
 
 -- the answer where the sending is over with a loss
 abbrev pub answer_of_sending : Result Unit Loss → Option Answer

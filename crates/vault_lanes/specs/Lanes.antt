@@ -38,7 +38,7 @@ pub record ReplyIsHeard (old : List ℕ) (answer : Option Answer) (new : List �
 -- why it is lost, at this stage and with this left to be sent: its time is over, or it comes in too many reads; or no byte of it
 -- was taken
 abbrev pub RequestIsLost : Allowance → ℕ → Stage → List ℕ → Loss → Type 0
-RequestIsLost a now stage unsent losses.Connect = stage ≡ Connecting
+RequestIsLost a now stage unsent (losses.Connect reason) = stage ≡ Connecting
 RequestIsLost a now stage unsent losses.Timeout = (deadline a stage ≤ now) ⊎ (most_reads a ≤ reads_with stage)
 RequestIsLost a now stage unsent losses.Closed = stage ≡ Connecting → ⊥
 RequestIsLost a now stage unsent losses.Reply = unsent ≡ []
@@ -67,7 +67,7 @@ ReplyIsRead (Err fault) answer = answer ≡ Err (loss_of fault)
 abbrev pub IsCounted : Allowance → ℕ → Stage → Option Answer → Stage → Type 0
 IsCounted a now old None new = (reads_with old < most_reads a) × (new ≡ Coming (reads_with old) now)
 IsCounted a now old (Some (Err losses.Timeout)) new = (most_reads a ≤ reads_with old) × (new ≡ old)
-IsCounted a now old (Some (Err losses.Connect)) new = ⊥
+IsCounted a now old (Some (Err (losses.Connect reason))) new = ⊥
 IsCounted a now old (Some (Err (losses.Status status))) new = ⊥
 IsCounted a now old (Some answer) new = new ≡ old
 

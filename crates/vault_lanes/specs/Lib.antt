@@ -1,3 +1,4 @@
+pub mod Reasons
 pub mod Losses
 pub mod Allowed
 pub mod Stages

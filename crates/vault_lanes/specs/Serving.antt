@@ -15,6 +15,7 @@ use Rattle.vault_lanes.specs.declared.fault.LaneFault.TheVariants.{Refuse, Lose,
 use Rattle.vault_lanes.specs.declared.fault.NumberedFault.{NumberedFault}
 use Rattle.vault_lanes.specs.declared.lanes.Ask.{Ask}
 use Rattle.vault_lanes.specs.declared.loss.Loss.TheVariants as losses
+use Rattle.vault_lanes.specs.declared.reason.ConnectReason.TheVariants as reasons
 use Rattle.broker_rule.specs.declared.served.Served.{Served}
 use Rattle.broker_rule.specs.Step.{SaysAnswer, after_sweep, broker_step}
 use Rattle.broker_rule.specs.Table.{BrokerTable}
@@ -39,7 +40,7 @@ lane_fault_at faults n = option_map (λ f. f.fault) (find (λ f. f.number == n) 
 abbrev pub answer_in : Result Reply ExchangeFault → Answer
 answer_in (Ok reply) = Ok (record { reply = reply; date = None })
 answer_in (Err (exchange.Http fault)) = Err (loss_of fault)
-answer_in (Err fault) = Err losses.Connect
+answer_in (Err fault) = Err (losses.Connect reasons.Other)
 
 -- the request is served at t by the Broker step, and that is what is received of what it sends
 pub record RequestIsServed (old : BrokerTable) (t : ℕ) (r : Request) (answer : Answer) (new : BrokerTable) : Type 0 where
@@ -57,7 +58,7 @@ later answer a millis = if nat_lt (millis_after a.asked millis) (first_by a) the
 -- read, or it comes later: too late where the patience is over by then
 abbrev pub ComesOfRequest : Option LaneFault → Allowance → BrokerTable → ℕ → Request → Coming → BrokerTable → Type 0
 ComesOfRequest None a old t r c new = RequestIsServed old t r c.answer new × (c.at ≡ a.asked)
-ComesOfRequest (Some Refuse) a old t r c new = (c ≡ record { answer = Err losses.Connect; at = a.asked }) × (new ≡ old)
+ComesOfRequest (Some Refuse) a old t r c new = (c ≡ record { answer = Err (losses.Connect reasons.Refused); at = a.asked }) × (new ≡ old)
 ComesOfRequest (Some Lose) a old t r c new = (c ≡ record { answer = Err losses.Closed; at = a.asked }) × (new ≡ old)
 ComesOfRequest (Some (Status status)) a old t r c new = (c ≡ record { answer = Ok (record { reply = record { status = status; body = [] }; date = None }); at = a.asked }) × (new ≡ old)
 ComesOfRequest (Some Garble) a old t r c new = (c ≡ record { answer = Err losses.Reply; at = a.asked }) × (new ≡ (broker_step old t r).table)

@@ -5,6 +5,7 @@ use Rattle.vault_lanes.specs.Allowed.{deadline, most_reads}
 use Rattle.vault_lanes.specs.declared.allowance.Allowance.{Allowance}
 use Rattle.vault_lanes.specs.declared.loss.Loss.{Loss}
 use Rattle.vault_lanes.specs.declared.loss.Loss.TheVariants.{Connect, Timeout, Closed}
+use Rattle.vault_lanes.specs.declared.reason.ConnectReason.{ConnectReason}
 use Rattle.vault_lanes.specs.declared.stage.Stage.{Stage}
 use Rattle.vault_lanes.specs.declared.stage.Stage.TheVariants.{Connecting, Sending, Silent, Coming}
 
@@ -37,8 +38,8 @@ abbrev pub waits : Allowance → ℕ → Stage → Result Unit Loss
 waits a now stage = if nat_lt now (deadline a stage) then Ok tt else Err Timeout
 
 -- the connection failed: before the first byte was taken there was none
-abbrev pub failed : Stage → Loss
-failed Connecting = Connect
-failed Sending = Closed
-failed Silent = Closed
-failed (Coming reads since) = Closed
+abbrev pub failed : ConnectReason → Stage → Loss
+failed reason Connecting = Connect reason
+failed reason Sending = Closed
+failed reason Silent = Closed
+failed reason (Coming reads since) = Closed

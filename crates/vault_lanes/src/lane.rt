@@ -1,5 +1,5 @@
 //! One request over one connection.
-ghost use Rattle.std.specs.Prelude.{◌≡◌, ◌<◌, ◌≤◌, [], IfOk, IsTrue, if◌then◌else◌, length, take};
+ghost use Rattle.std.specs.Prelude.{◌≡◌, ◌<◌, ◌≤◌, [], IfOk, IsTrue, OnErr, if◌then◌else◌, length, take};
 ghost use Rattle.std.specs.Io.KnownBytes.{Appends, Keeps};
 ghost use Rattle.vault_lanes.specs.Allowed.{deadline};
 ghost use Rattle.vault_lanes.specs.Failing.{FailsAs, FailsMore, answer_of_sending};
@@ -76,7 +76,8 @@ impl<L: Line> Lane<L> {
         ensures written { FrontIsWritten self.old.unsent.items self.new.unsent.items (L.written self.old.line) (L.written self.new.line) }
         ensures heard { IfOk result (λ answer. ReplyIsHeard self.old.course.arriving answer self.new.course.arriving (L.remaining self.old.line) (L.remaining self.new.line)) }
         ensures settled { IfOk result (λ answer. RequestIsSettled self.new.course.allowance now self.new.course.stage self.new.unsent.items answer) }
-        ensures failing { IfOk result (λ answer. FailsAs self.old.course.arriving (L.remaining self.old.line) answer (L.failures self.old.line) (L.failures self.new.line)) }
+        ensures failing { IfOk result (λ answer. FailsAs self.old.course.arriving (L.remaining self.old.line) (L.reason self.new.line) answer (L.failures self.old.line) (L.failures self.new.line)) }
+        ensures unfailed { OnErr result (FailsMore 0 (L.failures self.old.line) (L.failures self.new.line)) }
     {
         if !self.unsent.is_empty() {
             if let Err(loss) = self.write_on(now) {
@@ -98,7 +99,7 @@ impl<L: Line> Lane<L> {
         ensures written { FrontIsWritten self.old.unsent.items self.new.unsent.items (L.written self.old.line) (L.written self.new.line) }
         ensures remaining { Keeps (L.remaining self.old.line) (L.remaining self.new.line) }
         ensures patient { IsPatient self.new.course.allowance now self.new.course.stage self.new.unsent.items result }
-        ensures failing { FailsAs self.old.course.arriving (L.remaining self.old.line) (answer_of_sending result) (L.failures self.old.line) (L.failures self.new.line) }
+        ensures failing { FailsAs self.old.course.arriving (L.remaining self.old.line) (L.reason self.new.line) (answer_of_sending result) (L.failures self.old.line) (L.failures self.new.line) }
     {
         let written = write(&mut self.line, &self.unsent);
         self.unsent.drain(..written.taken);
@@ -107,7 +108,7 @@ impl<L: Line> Lane<L> {
             return Ok(());
         }
         if written.has_failed {
-            return Err(self.course.stage.failed());
+            return Err(self.course.stage.failed(self.line.reason()));
         }
         self.course.stage.waits(&self.course.allowance, now)
     }
@@ -168,7 +169,8 @@ fn read_on<L: Line>(
     ensures written { Keeps (L.written line.old) (L.written line.new) }
     ensures heard { IfOk result (λ answer. ReplyIsHeard course.old.arriving answer course.new.arriving (L.remaining line.old) (L.remaining line.new)) }
     ensures settled { IfOk result (λ answer. RequestIsSettled course.new.allowance now course.new.stage [] answer) }
-    ensures failing { IfOk result (λ answer. FailsAs course.old.arriving (L.remaining line.old) answer (L.failures line.old) (L.failures line.new)) }
+    ensures failing { IfOk result (λ answer. FailsAs course.old.arriving (L.remaining line.old) (L.reason line.new) answer (L.failures line.old) (L.failures line.new)) }
+    ensures unfailed { OnErr result (FailsMore 0 (L.failures line.old) (L.failures line.new)) }
 {
     course.stage = course.stage.sent();
     for _ in 0..course.allowance.most_reads() {
@@ -184,7 +186,7 @@ fn read_on<L: Line>(
                     Err(loss) => Ok(Some(Err(loss))),
                 };
             }
-            Tried::Failed => return Ok(Some(Err(course.stage.failed()))),
+            Tried::Failed => return Ok(Some(Err(course.stage.failed(line.reason())))),
         }
     }
     Ok(Some(Err(Loss::Timeout)))

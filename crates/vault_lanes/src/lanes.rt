@@ -1,7 +1,7 @@
 ghost use Rattle.std.specs.Prelude.{◌≡◌, ℕ, ◌-◌, ◌<◌, ◌≤◌, List, [], Option, IfOk, IfSome, OnErr, OnOk, length};
 ghost use Rattle.vault_exchange.specs.Requests.{IsShortRequest};
 ghost use Rattle.base_device.specs.Moments.{earlier};
-ghost use Rattle.vault_lanes.specs.Calls.{LanesCall, Renamed, Sent, Unsent, WentOn};
+ghost use Rattle.vault_lanes.specs.Calls.{LanesCall, Renamed, Sent, StoodStill, Unsent, WentOn};
 ghost use Rattle.vault_lanes.specs.Out.{AreThereAt, IsDueAfter, IsParted, Out, first_at, renamed};
 ghost use Rattle.vault_lanes.specs.Serving.{BehindLanes, BrokerIsLeft, RequestIsSent};
 ghost use Rattle.vault_http.specs.RoundTripRequest.{IsWritable};
@@ -95,6 +95,7 @@ pub trait Lanes {
         ensures parted { IfOk result (λ answers. IsParted (Self.out self.old) answers.items (Self.out self.new)) }
         ensures there { IfSome (Self.behind self.old) (λ _. IfOk result (λ answers. AreThereAt now (Self.out self.old) answers.items (Self.out self.new))) }
         ensures does { IfOk result (λ answers. Self.does (WentOn now answers.items) self.old self.new) }
+        ensures undone { OnErr result (Self.does (StoodStill now) self.old self.new) }
         ensures settled { OnOk result (IsDueAfter now (λ by. Self.due_by now by self.new)) }
         ensures kept { OnErr result (Self.out self.new ≡ Self.out self.old) }
         ensures behind { Self.behind self.new ≡ Self.behind self.old }

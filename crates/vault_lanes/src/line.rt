@@ -3,13 +3,17 @@ ghost use Rattle.std.specs.Prelude.{◌≡◌, ℕ, ◌<◌, ◌≤◌, List, []
 ghost use Rattle.std.specs.Io.KnownBytes.{Appends, Consumes, IsAtEnd, Keeps};
 ghost use Rattle.base_device.specs.Tries.{IfTryDone, MatchTried};
 ghost use Rattle.vault_lanes.specs.Failing.{FailsMore, failures_in};
+ghost use Rattle.vault_lanes.specs.declared.reason.ConnectReason.TheVariants.{Other};
 
+use crate::reason::ConnectReason;
 use base_device::Tried;
 
 /// A connection whose calls do not wait.
 ///
 /// One in memory tells contracts its bytes, as a device does; of one outside they know nothing.
 pub trait Line {
+    ghost use Rattle.vault_lanes.specs.declared.reason.ConnectReason.{ConnectReason};
+
     /// The bytes that it has still to hand out, where they are known.
     ghost remaining: { Self → Option (List ℕ) } = { λ _. None };
 
@@ -18,6 +22,9 @@ pub trait Line {
 
     /// How many of its calls have failed, where that is known.
     ghost failures: { Self → Option ℕ } = { λ _. None };
+
+    /// Why its last `give` failed, where it did.
+    ghost reason: { Self → ConnectReason } = { λ _. Other };
 
     /// Whether nothing tells when it can go on, so that it has to be tried again and again.
     ghost restless: { Self → Bool } = { λ _. false };
@@ -39,6 +46,10 @@ pub trait Line {
             (Keeps (Self.remaining self.old) (Self.remaining self.new)) }
         ensures written { Keeps (Self.written self.old) (Self.written self.new) }
         ensures failures { FailsMore (failures_in result) (Self.failures self.old) (Self.failures self.new) };
+
+    /// Why its last `give` failed, where it did.
+    fn reason(&self) -> ConnectReason
+        ensures { result ≡ reason self.now };
 
     /// Whether nothing tells when it can go on.
     fn is_restless(&self) -> bool

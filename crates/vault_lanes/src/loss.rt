@@ -1,15 +1,16 @@
 ghost use Rattle.std.specs.Prelude.{◌≡◌};
 ghost use Rattle.vault_lanes.specs.Losses.{loss_of, lost_by};
 
+use crate::reason::ConnectReason;
 use thiserror::Error;
 use vault_http::HttpFault;
 
 /// Why a request has no answer. The words are those of the line `lost`.
 #[derive(Clone, Copy, Debug, PartialEq, Eq, Error)]
 pub enum Loss {
-    /// There was no connection: nobody listens, or it failed before a byte of the request was taken.
-    #[error("connect")]
-    Connect,
+    /// There was no connection, for this reason; or it failed so before a byte of the request was taken.
+    #[error("connect: {0}")]
+    Connect(ConnectReason),
     /// It took longer than it may, at whichever stage.
     #[error("timeout")]
     Timeout,

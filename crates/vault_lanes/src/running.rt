@@ -1,9 +1,9 @@
 //! Lanes over connections, whatever these are.
-ghost use Rattle.std.specs.Prelude.{◌≡◌, ◌++◌, ◌∷◌, ◌*◌, ◌-◌, ◌<◌, ◌≤◌, [], None, Some, Bool, IfOk, IfSome, IsTrue, OnErr, OnOk, false, length, min, max, vec_len};
+ghost use Rattle.std.specs.Prelude.{◌≡◌, ◌++◌, ◌∷◌, ◌*◌, ◌-◌, ◌<◌, ◌≤◌, ◌⊎◌, [], None, Some, Bool, IfOk, IfSome, IsTrue, OnErr, OnOk, false, length, min, max, vec_len};
 ghost use Rattle.std.specs.List.{list_any};
 ghost use Rattle.base_device.specs.declared.limits.TheConstants.{MOST_ROOM};
 ghost use Rattle.vault_lanes.specs.Seats.{outs};
-ghost use Rattle.vault_lanes.specs.code.Ways.{AreAhead, HasBegun, Move, WaysAreCalled, is_way_over, soonest, soonest_or_now};
+ghost use Rattle.vault_lanes.specs.code.Ways.{AreAhead, GoOnUpTo, HasBegun, Move, WaysAreCalled, is_way_over, soonest, soonest_or_now};
 ghost use Rattle.vault_http.specs.RoundTripRequest.{IsWritable};
 ghost use Rattle.vault_http.specs.Written.{request_text};
 
@@ -51,7 +51,8 @@ impl<W: Wires> LanesOver<W> {
     fn try_all(&mut self, alloc: Global, now: u64) -> Result<(), AllocError>
         ensures out { outs (λ _. None) self.new.out.items ≡ outs (λ _. None) self.old.out.items }
         ensures ahead { OnOk result (AreAhead now self.new.out.items) }
-        ensures moved { OnOk result (Move W.Line.written W.Line.remaining W.Line.failures now self.old.out.items self.new.out.items) }
+        ensures moved { OnOk result (Move W.Line.written W.Line.remaining W.Line.failures W.Line.reason now self.old.out.items self.new.out.items) }
+        ensures up_to { OnErr result ((self.new.out.items ≡ self.old.out.items) ⊎ GoOnUpTo W.Line.written W.Line.remaining W.Line.failures W.Line.reason now self.old.out.items self.new.out.items) }
         ensures seconds { self.new.seconds ≡ self.old.seconds }
         ensures width { self.new.width ≡ self.old.width }
         ensures wires { self.new.wires ≡ self.old.wires }
@@ -82,7 +83,7 @@ fn begin<W: Wires>(
     requires room { 0 < length room.old }
     requires writable { IsWritable ask.now.request }
     ensures index { IfOk result (λ seat. seat.index ≡ ask.now.index) }
-    ensures begins { IfOk result (λ seat. HasBegun W.Line.written W.Line.remaining W.Line.failures (request_text ask.now.request) allowance seat.standing) }
+    ensures begins { IfOk result (λ seat. HasBegun W.Line.written W.Line.remaining W.Line.failures W.Line.reason (request_text ask.now.request) allowance seat.standing) }
     ensures room { length room.new ≡ length room.old }
     ensures dialled { IfSome (W.dialled wires.old) (λ indices. OnOk result (W.dialled wires.new ≡ Some (indices ++ ask.now.index ∷ []))) }
     ensures port { W.host_port wires.new ≡ W.host_port wires.old }
@@ -136,7 +137,8 @@ fn go_on<L: Line + Drop>(
 ) -> Result<(), AllocError>
     requires room { 0 < length room.old }
     ensures room { length room.new ≡ length room.old }
-    ensures moves { OnOk result (Move L.written L.remaining L.failures now out.old out.new) }
+    ensures moves { OnOk result (Move L.written L.remaining L.failures L.reason now out.old out.new) }
+    ensures up_to { OnErr result (GoOnUpTo L.written L.remaining L.failures L.reason now out.old out.new) }
     ensures out { outs (λ _. None) out.new ≡ outs (λ _. None) out.old }
 {
     for seat in out.iter_mut() {
@@ -158,7 +160,7 @@ impl<W: Wires> Lanes for LanesOver<W> {
 
     ghost due_by = { λ now by lanes. soonest_or_now W.Line.restless now by lanes.out.items };
 
-    ghost does = { λ call old new. WaysAreCalled W.Line.written W.Line.remaining W.Line.failures old.seconds call old.out.items new.out.items };
+    ghost does = { λ call old new. WaysAreCalled W.Line.written W.Line.remaining W.Line.failures W.Line.reason old.seconds call old.out.items new.out.items };
 
     fn port(&self) -> u16 {
         self.wires.port()

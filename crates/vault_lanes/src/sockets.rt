@@ -5,6 +5,7 @@ ghost use Rattle.base_device.specs.Places.{IsHere};
 
 use crate::lanes::Lanes;
 use crate::line::{Line, Wires};
+use crate::reason::ConnectReason;
 use crate::running::LanesOver;
 use base_device::{Place, Tried};
 use mio::net::{TcpStream, UnixStream};
@@ -66,7 +67,7 @@ impl<'a, R> SocketWires<'a, R> {
         match stream {
             Stream::Tcp(stream) => registry.register(stream, token, both).is_ok(),
             Stream::Unix(stream) => registry.register(stream, token, both).is_ok(),
-            Stream::Full | Stream::Absent => false,
+            Stream::Full | Stream::Absent(_) => false,
         }
     }
 }
@@ -97,7 +98,8 @@ enum Stream {
     Unix(UnixStream),
     /// The queue of a UNIX socket was full: it is tried again at the next call.
     Full,
-    Absent,
+    /// There is none, for this reason.
+    Absent(ConnectReason),
 }
 
 /// A connection to the broker that listens at a place.
@@ -106,6 +108,8 @@ pub struct SocketLine<'a, R> {
     rt: &'a R,
     place: Place<'a>,
     stream: Stream,
+    /// Why it last took nothing, where that failed.
+    reason: ConnectReason,
     is_restless: bool,
 }
 
@@ -118,6 +122,7 @@ impl<'a, R: Net> SocketLine<'a, R> {
             rt,
             place,
             stream: connect(rt, place),
+            reason: ConnectReason::Other,
             is_restless: false,
         }
     }
@@ -135,14 +140,26 @@ impl<'a, R: Net> SocketLine<'a, R> {
 impl<'a, R: Net> Line for SocketLine<'a, R> {
     ghost restless = { λ line. line.is_restless };
 
+    ghost reason = { λ line. line.reason };
+
+    fn reason(&self) -> ConnectReason {
+        self.reason
+    }
+
     fn give(&mut self, piece: &[u8]) -> Tried {
         self.again();
         let given = match &mut self.stream {
             Stream::Tcp(stream) => stream.write(piece),
             Stream::Unix(stream) => stream.write(piece),
             Stream::Full => return Tried::Waits,
-            Stream::Absent => return Tried::Failed,
+            Stream::Absent(reason) => {
+                self.reason = *reason;
+                return Tried::Failed;
+            }
         };
+        if let Err(error) = &given {
+            self.reason = ConnectReason::of(error.kind());
+        }
         match Tried::of(given) {
             // A connection that takes nothing has failed.
             Tried::Done(0) if !piece.is_empty() => Tried::Failed,
@@ -154,7 +171,7 @@ impl<'a, R: Net> Line for SocketLine<'a, R> {
         match &mut self.stream {
             Stream::Tcp(stream) => Tried::of(stream.read(buf)),
             Stream::Unix(stream) => Tried::of(stream.read(buf)),
-            Stream::Full | Stream::Absent => Tried::Failed,
+            Stream::Full | Stream::Absent(_) => Tried::Failed,
         }
     }
 
@@ -168,12 +185,12 @@ fn connect<R: Net>(rt: &R, place: Place<'_>) -> Stream {
     match place {
         Place::Port(port) => match connect_tcp(rt, port, here(port)) {
             Ok(stream) => Stream::Tcp(stream),
-            Err(_) => Stream::Absent,
+            Err(error) => Stream::Absent(ConnectReason::of(error.kind())),
         },
         Place::Path(path) => match UnixStream::connect(rt, path) {
             Ok(stream) => Stream::Unix(stream),
             Err(error) if error.kind() == ErrorKind::WouldBlock => Stream::Full,
-            Err(_) => Stream::Absent,
+            Err(error) => Stream::Absent(ConnectReason::of(error.kind())),
         },
     }
 }

@@ -5,6 +5,7 @@ ghost use Rattle.vault_lanes.specs.declared.stage.Stage.TheVariants.{Connecting}
 
 use crate::allowance::Allowance;
 use crate::loss::Loss;
+use crate::reason::ConnectReason;
 
 /// How far a request has come.
 #[derive(Clone, Copy, Debug, PartialEq, Eq)]
@@ -75,12 +76,12 @@ impl Stage {
         }
     }
 
-    /// A try failed.
-    pub fn failed(self) -> Loss
-        ensures { result ≡ failed self }
+    /// A try failed, for this reason.
+    pub fn failed(self, reason: ConnectReason) -> Loss
+        ensures { result ≡ failed reason self }
     {
         match self {
-            Stage::Connecting => Loss::Connect,
+            Stage::Connecting => Loss::Connect(reason),
             Stage::Sending | Stage::Silent | Stage::Coming { .. } => Loss::Closed,
         }
     }

@@ -53,14 +53,15 @@ def a_token_and_its_lease_at_once(program: Path) -> list[str]:
 
 def another_one_behind_a_refused_one(program: Path) -> list[str]:
     """A file that held what the broker refuses holds another one: that is taken within twenty seconds. What was refused is said anew where
-    the file was well in between."""
+    the file was well in between, which is said too."""
     with with_files(program, Entry("web", left=800, step=900, file="web.token"), Entry("own", left=800, step=900)) as stage:
         stage.broker.vault.add(Entry("web", left=2000, step=900, credential="s.two").row(None, is_spare=True))
         stage.on(5)
-        for secret, warnings in (("s.none", 1), ("s.web", 1), ("s.none", 2)):
+        for secret, warnings, mended in (("s.none", 1, 0), ("s.web", 1, 1), ("s.none", 2, 1)):
             stage.write("web.token", secret)
             stage.on(stage.now + 15)
             stage.equal(f"warnings behind {secret}", warnings, len(stage.agent.said("secret-file", "web", level="warning")))
+            stage.equal(f"the old one behind {secret}", mended, len(stage.agent.said("secret-file", "web", level="info")))
         stage.write("web.token", "s.two")
         next(row for row in stage.broker.vault.rows.values() if row.is_spare).is_spare = False
         stage.on(stage.now + 20)

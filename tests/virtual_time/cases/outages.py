@@ -7,6 +7,7 @@ from pathlib import Path
 from ..clock import ns
 from ..faults import Act, about, both, fault, lookups, renewals
 from ..fleet import fleet
+from ..machine import SOCKET
 from ..stage import Stage
 from . import Case
 
@@ -155,7 +156,7 @@ def what_a_loss_is_called(program: Path) -> list[str]:
     """A loss and an absence say why."""
     found = []
     whys = ((Act.CLOSED, 0, "closed"), (Act.SILENT, 0, "timeout"), (Act.DRIPS, 0, "timeout"), (Act.GARBLED, 0, "reply"),
-            (Act.STATUS, 503, "503"), (Act.STATUS, 472, "472"), (None, 0, "connect"))
+            (Act.STATUS, 503, "503"), (Act.STATUS, 472, "472"), (None, 0, f"connect ./{SOCKET}: no such file"))
     for act, status, why in whys:
         with Stage(program, fleet(1, 600, 60, 100)) as stage:
             if act is None:
@@ -164,7 +165,7 @@ def what_a_loss_is_called(program: Path) -> list[str]:
                 stage.broker.faults = [fault(30, 50, act, status)]
             stage.on(50)
             said = [(line.event, *line.words) for line in stage.agent.lines if line.level == "warning"]
-            stage.equal(f"{why}: it says", [("lost", "e0", why), ("away", why)], said)
+            stage.equal(f"{why}: it says", [("lost", "e0", *why.split()), ("away", *why.split())], said)
             found += stage.faults()
     return found
 

@@ -1,9 +1,10 @@
 -- A request on its way over a connection, or what came of it, as the code has it.
-use Rattle.std.specs.Prelude.{◌≡◌, ℕ, ◌<◌, List, [], ◌∷◌, Bool, true, false, Option, Some, None, IfSome, filter, map, min, not, if◌then◌else◌}
+use Rattle.std.specs.Prelude.{◌≡◌, ◌⊎◌, ℕ, ◌<◌, List, [], ◌∷◌, Bool, true, false, Option, Some, None, IfSome, filter, map, min, not, if◌then◌else◌}
 use Rattle.std.specs.List.{list_any}
+use Rattle.vault_lanes.specs.declared.reason.ConnectReason.{ConnectReason}
 use Rattle.vault_lanes.specs.Allowed.{deadline, millis_after}
-use Rattle.vault_lanes.specs.Calls.{LanesCall, Renamed, Sent, Unsent, WentOn}
-use Rattle.vault_lanes.specs.Failing.{FailsAs}
+use Rattle.vault_lanes.specs.Calls.{LanesCall, Renamed, Sent, StoodStill, Unsent, WentOn}
+use Rattle.vault_lanes.specs.Failing.{FailsAs, FailsMore}
 use Rattle.vault_lanes.specs.Lanes.{FrontIsWritten, ReplyIsHeard, RequestIsSettled}
 use Rattle.vault_lanes.specs.Losses.{Answer}
 use Rattle.vault_lanes.specs.Seats.{SeatIsPut, answers_of, under}
@@ -22,18 +23,18 @@ is_way_over (Out lane) = false
 is_way_over (Over a) = true
 
 -- one request goes as far as it can: what of it is written, what is heard of its reply, and whether it is settled then
-pub record LaneGoesOn {L : Type 0} (written remaining : L → Option (List ℕ)) (failures : L → Option ℕ) (now : ℕ) (old new : Lane L) (answer : Option Answer) : Type 0 where
+pub record LaneGoesOn {L : Type 0} (written remaining : L → Option (List ℕ)) (failures : L → Option ℕ) (reason : L → ConnectReason) (now : ℕ) (old new : Lane L) (answer : Option Answer) : Type 0 where
   pub allowance : new.course.allowance ≡ old.course.allowance
   pub sent : FrontIsWritten old.unsent.items new.unsent.items (written old.line) (written new.line)
   pub heard : ReplyIsHeard old.course.arriving answer new.course.arriving (remaining old.line) (remaining new.line)
   pub settled : RequestIsSettled new.course.allowance now new.course.stage new.unsent.items answer
-  pub failing : FailsAs old.course.arriving (remaining old.line) answer (failures old.line) (failures new.line)
+  pub failing : FailsAs old.course.arriving (remaining old.line) (reason new.line) answer (failures old.line) (failures new.line)
 
 -- it is on its way, or over with what came of it
-abbrev pub WayMoves : {L : Type 0} → (L → Option (List ℕ)) → (L → Option (List ℕ)) → (L → Option ℕ) → ℕ → Way L → Way L → Type 0
-WayMoves written remaining failures now (Over a) new = new ≡ Over a
-WayMoves written remaining failures now (Out lane) (Out next) = LaneGoesOn written remaining failures now lane next None
-WayMoves {L} written remaining failures now (Out lane) (Over a) = (next : Lane L) × LaneGoesOn written remaining failures now lane next (Some a)
+abbrev pub WayMoves : {L : Type 0} → (L → Option (List ℕ)) → (L → Option (List ℕ)) → (L → Option ℕ) → (L → ConnectReason) → ℕ → Way L → Way L → Type 0
+WayMoves written remaining failures reason now (Over a) new = new ≡ Over a
+WayMoves written remaining failures reason now (Out lane) (Out next) = LaneGoesOn written remaining failures reason now lane next None
+WayMoves {L} written remaining failures reason now (Out lane) (Over a) = (next : Lane L) × LaneGoesOn written remaining failures reason now lane next (Some a)
 
 -- the deadline of one that is on its way is ahead
 abbrev pub DeadlineIsAhead : {L : Type 0} → ℕ → Way L → Type 0
@@ -46,10 +47,28 @@ AreAhead now [] = Unit {0}
 AreAhead now (s ∷ ss) = DeadlineIsAhead now s.standing × AreAhead now ss
 
 -- each for itself, under its own index
-abbrev pub Move : {L : Type 0} → (L → Option (List ℕ)) → (L → Option (List ℕ)) → (L → Option ℕ) → ℕ → List (Seat (Way L)) → List (Seat (Way L)) → Type 0
-Move written remaining failures now [] new = new ≡ []
-Move written remaining failures now (s ∷ ss) [] = ⊥
-Move written remaining failures now (s ∷ ss) (n ∷ ns) = ((n.index ≡ s.index) × (WayMoves written remaining failures now s.standing n.standing × DeadlineIsAhead now n.standing)) × Move written remaining failures now ss ns
+abbrev pub Move : {L : Type 0} → (L → Option (List ℕ)) → (L → Option (List ℕ)) → (L → Option ℕ) → (L → ConnectReason) → ℕ → List (Seat (Way L)) → List (Seat (Way L)) → Type 0
+Move written remaining failures reason now [] new = new ≡ []
+Move written remaining failures reason now (s ∷ ss) [] = ⊥
+Move written remaining failures reason now (s ∷ ss) (n ∷ ns) = ((n.index ≡ s.index) × (WayMoves written remaining failures reason now s.standing n.standing × DeadlineIsAhead now n.standing)) × Move written remaining failures reason now ss ns
+
+-- memory was wanting to one on its way: what was written of it is not written again, and its connection has not failed
+pub record LaneWants {L : Type 0} (written : L → Option (List ℕ)) (failures : L → Option ℕ) (old new : Lane L) : Type 0 where
+  pub allowance : new.course.allowance ≡ old.course.allowance
+  pub sent : FrontIsWritten old.unsent.items new.unsent.items (written old.line) (written new.line)
+  pub failing : FailsMore 0 (failures old.line) (failures new.line)
+
+abbrev pub WayWants : {L : Type 0} → (L → Option (List ℕ)) → (L → Option ℕ) → Way L → Way L → Type 0
+WayWants written failures (Over a) new = ⊥
+WayWants written failures (Out lane) (Over a) = ⊥
+WayWants written failures (Out lane) (Out next) = LaneWants written failures lane next
+
+-- those in front of one to which memory was wanting went on, and those behind it are as they were
+abbrev pub GoOnUpTo : {L : Type 0} → (L → Option (List ℕ)) → (L → Option (List ℕ)) → (L → Option ℕ) → (L → ConnectReason) → ℕ → List (Seat (Way L)) → List (Seat (Way L)) → Type 0
+GoOnUpTo written remaining failures reason now [] new = ⊥
+GoOnUpTo written remaining failures reason now (s ∷ ss) [] = ⊥
+GoOnUpTo written remaining failures reason now (s ∷ ss) (n ∷ ns) =
+    (n.index ≡ s.index) × ((WayWants written failures s.standing n.standing × (ns ≡ ss)) ⊎ (WayMoves written remaining failures reason now s.standing n.standing × (DeadlineIsAhead now n.standing × GoOnUpTo written remaining failures reason now ss ns)))
 
 -- nothing was sent yet of a request with this text, which may take so long
 pub record LaneIsFresh {L : Type 0} (written : L → Option (List ℕ)) (text : List ℕ) (allowance : Allowance) (lane : Lane L) : Type 0 where
@@ -60,16 +79,16 @@ pub record LaneIsFresh {L : Type 0} (written : L → Option (List ℕ)) (text : 
   pub none : lane.course.arriving ≡ []
 
 -- such a request has gone as far as it can at the moment at which it was asked
-abbrev pub HasBegun : {L : Type 0} → (L → Option (List ℕ)) → (L → Option (List ℕ)) → (L → Option ℕ) → List ℕ → Allowance → Way L → Type 0
-HasBegun {L} written remaining failures text allowance way =
-    (fresh : Lane L) × (LaneIsFresh written text allowance fresh × WayMoves written remaining failures allowance.asked (Out fresh) way)
+abbrev pub HasBegun : {L : Type 0} → (L → Option (List ℕ)) → (L → Option (List ℕ)) → (L → Option ℕ) → (L → ConnectReason) → List ℕ → Allowance → Way L → Type 0
+HasBegun {L} written remaining failures reason text allowance way =
+    (fresh : Lane L) × (LaneIsFresh written text allowance fresh × WayMoves written remaining failures reason allowance.asked (Out fresh) way)
 
 -- one more has begun, for this index, among those that are out, and these are as they were
-pub record OneHasBegun {L : Type 0} (written remaining : L → Option (List ℕ)) (failures : L → Option ℕ) (text : List ℕ) (allowance : Allowance) (index : ℕ) (old new : List (Seat (Way L))) : Type 0 where
+pub record OneHasBegun {L : Type 0} (written remaining : L → Option (List ℕ)) (failures : L → Option ℕ) (reason : L → ConnectReason) (text : List ℕ) (allowance : Allowance) (index : ℕ) (old new : List (Seat (Way L))) : Type 0 where
   pub seat : Seat (Way L)
   pub put : SeatIsPut seat old new
   pub index_is : seat.index ≡ index
-  pub begun : HasBegun written remaining failures text allowance seat.standing
+  pub begun : HasBegun written remaining failures reason text allowance seat.standing
 
 -- what came of one that is over
 abbrev pub answer_of_way : {L : Type 0} → Way L → Option Answer
@@ -77,18 +96,19 @@ answer_of_way (Out lane) = None
 answer_of_way (Over a) = Some a
 
 -- each goes on; those that are over then are handed back with what came of them, and the others are out
-pub record WaysGoOn {L : Type 0} (written remaining : L → Option (List ℕ)) (failures : L → Option ℕ) (now : ℕ) (answers : List Answered) (old new : List (Seat (Way L))) : Type 0 where
+pub record WaysGoOn {L : Type 0} (written remaining : L → Option (List ℕ)) (failures : L → Option ℕ) (reason : L → ConnectReason) (now : ℕ) (answers : List Answered) (old new : List (Seat (Way L))) : Type 0 where
   pub gone : List (Seat (Way L))
-  pub moved : Move written remaining failures now old gone
+  pub moved : Move written remaining failures reason now old gone
   pub answers_are : answers ≡ answers_of (λ (way : Way L). answer_of_way way) (filter (λ (seat : Seat (Way L)). is_way_over seat.standing) gone)
   pub left : new ≡ filter (λ (seat : Seat (Way L)). not (is_way_over seat.standing)) gone
 
 -- what is known of a call
-abbrev pub WaysAreCalled : {L : Type 0} → (L → Option (List ℕ)) → (L → Option (List ℕ)) → (L → Option ℕ) → ℕ → LanesCall → List (Seat (Way L)) → List (Seat (Way L)) → Type 0
-WaysAreCalled written remaining failures seconds (Sent now ask) old new = OneHasBegun written remaining failures (request_text ask.request) (allowed seconds now ask) ask.index old new
-WaysAreCalled written remaining failures seconds Unsent old new = new ≡ old
-WaysAreCalled written remaining failures seconds (WentOn now answers) old new = WaysGoOn written remaining failures now answers old new
-WaysAreCalled written remaining failures seconds (Renamed from to) old new = new ≡ map (under from to) old
+abbrev pub WaysAreCalled : {L : Type 0} → (L → Option (List ℕ)) → (L → Option (List ℕ)) → (L → Option ℕ) → (L → ConnectReason) → ℕ → LanesCall → List (Seat (Way L)) → List (Seat (Way L)) → Type 0
+WaysAreCalled written remaining failures reason seconds (Sent now ask) old new = OneHasBegun written remaining failures reason (request_text ask.request) (allowed seconds now ask) ask.index old new
+WaysAreCalled written remaining failures reason seconds Unsent old new = new ≡ old
+WaysAreCalled written remaining failures reason seconds (WentOn now answers) old new = WaysGoOn written remaining failures reason now answers old new
+WaysAreCalled written remaining failures reason seconds (StoodStill now) old new = (new ≡ old) ⊎ (GoOnUpTo written remaining failures reason now old new ⊎ Move written remaining failures reason now old new)
+WaysAreCalled written remaining failures reason seconds (Renamed from to) old new = new ≡ map (under from to) old
 
 -- the moment by which one has to be looked at again, and no later than another moment
 abbrev pub sooner : {L : Type 0} → (L → Bool) → ℕ → ℕ → Way L → ℕ

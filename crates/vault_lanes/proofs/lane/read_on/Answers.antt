@@ -21,7 +21,7 @@ returns-in-Some-clause-settled g c =
 pub returns-in-Some-clause-failing : goal.returns-in-Some-clause-failing
 returns-in-Some-clause-failing g c =
     let room : 0 < length c.get.new.buf = omega arith in
-    counted_as c.loop.course.allowance c.args.now c.loop.course.stage c.hear.new.self.stage c.in-Some.answer c.args.course.now.arriving _ _ _
+    counted_as c.loop.course.allowance c.args.now c.loop.course.stage c.hear.new.self.stage c.in-Some.answer c.args.course.now.arriving _ _ _ _
     (subst (λ a. IsCounted c.loop.course.allowance c.args.now c.loop.course.stage a c.hear.new.self.stage) c.in-Some.is c.in_ok-answer-in-Done.ensures.counted)
     (kept_then 0 _ _ _ c.loop.invariant.failures c.in-Done.ensures.failures)
     (λ closed. cut_read c.args.course.now.arriving c.loop.course.arriving c.get.new.buf _ _ _ c.in-Done.n c.in_ok-answer-in-Done.field-0 _ c.loop.invariant.came

@@ -8,7 +8,7 @@ abbrev pub invariant-loop-seat : goal.invariant-loop-seat
 invariant-loop-seat g l = record {
   room : length l.room ≡ length l.fn.room;
   many : length l.out ≡ length l.fn.out;
-  moved : Move g.L.Line.written g.L.Line.remaining g.L.Line.failures l.now (take l.seat-index l.fn.out) (take l.seat-index l.out);
+  moved : Move g.L.Line.written g.L.Line.remaining g.L.Line.failures g.L.Line.reason l.now (take l.seat-index l.fn.out) (take l.seat-index l.out);
   same : outs (λ _. None) l.out ≡ outs (λ _. None) l.fn.out;
   rest : drop l.seat-index l.out ≡ drop l.seat-index l.fn.out;
 }

@@ -9,5 +9,5 @@ returns-clause-settled g c =
 
 pub returns-clause-does : goal.returns-clause-does
 returns-clause-does g c =
-    gone_on g.W.Line.Line.written g.W.Line.Line.remaining g.W.Line.Line.failures c.args.now c.take_out.result (λ answers. answers.items) c.args.self.now.out.items c.try_all.new.self.out.items c.take_out.new.out.items
+    gone_on g.W.Line.Line.written g.W.Line.Line.remaining g.W.Line.Line.failures g.W.Line.Line.reason c.args.now c.take_out.result (λ answers. answers.items) c.args.self.now.out.items c.try_all.new.self.out.items c.take_out.new.out.items
     c.in_ok-try_all.ensures.moved c.take_out.ensures.said c.take_out.ensures.there

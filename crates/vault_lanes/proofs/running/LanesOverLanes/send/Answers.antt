@@ -12,5 +12,5 @@ returns-clause-does g c =
       seat = c.in_ok-seat.seat;
       put = subst (λ l. SeatIsPut c.in_ok-seat.seat l c.put.new.out.items) c.reserve.ensures.items c.put.ensures.seat;
       index_is = c.in_ok-seat.ensures.index;
-      begun = subst (λ a. HasBegun g.W.Line.Line.written g.W.Line.Line.remaining g.W.Line.Line.failures (request_text c.args.ask.now.request) a c.in_ok-seat.seat.standing) allowance c.in_ok-seat.ensures.begins;
+      begun = subst (λ a. HasBegun g.W.Line.Line.written g.W.Line.Line.remaining g.W.Line.Line.failures g.W.Line.Line.reason (request_text c.args.ask.now.request) a c.in_ok-seat.seat.standing) allowance c.in_ok-seat.ensures.begins;
     }
