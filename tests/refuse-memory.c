@@ -1,8 +1,9 @@
 /* Preloaded into a program, refuses the allocation whose number, from 1, stands in REFUSE_AT, and each that comes within
-   REFUSE_FOR milliseconds after it, where that is given; all others are served. Where REFUSE_COUNT names a file, the number of
-   allocations so far stands in it. */
+   REFUSE_FOR milliseconds after it, where that is given; all others are served. Where REFUSE_FROM names a file, the first is the one
+   that comes once that is there. Where REFUSE_COUNT names a file, the number of allocations so far stands in it. */
 #define _GNU_SOURCE
 #include <dlfcn.h>
+#include <errno.h>
 #include <fcntl.h>
 #include <stdio.h>
 #include <stdlib.h>
@@ -11,7 +12,9 @@
 
 static long next_number, refused, refused_for;
 static struct timespec since;
-static int count_file;
+static int has_begun, count_file;
+/* Names a file that was not there yet. */
+static const char *counted_from;
 
 static long number_of(const char *name) {
     const char *text = getenv(name);
@@ -23,6 +26,15 @@ static void begin(void) {
     count_file = name ? open(name, O_WRONLY | O_CREAT | O_CLOEXEC, 0600) : -1;
     refused = number_of("REFUSE_AT");
     refused_for = number_of("REFUSE_FOR");
+    counted_from = getenv("REFUSE_FROM");
+    has_begun = 1;
+}
+
+static int is_counted(void) {
+    int was = errno;
+    if (counted_from && access(counted_from, F_OK) == 0) counted_from = NULL;
+    errno = was;
+    return !counted_from;
 }
 
 static void count(void) {
@@ -41,7 +53,8 @@ static int is_still_refused(void) {
 }
 
 static int refuses(void) {
-    if (next_number == 0) begin();
+    if (!has_begun) begin();
+    if (!is_counted()) return 0;
     count();
     if (next_number == refused) clock_gettime(CLOCK_MONOTONIC, &since);
     return next_number == refused || (refused_for && next_number > refused && is_still_refused());

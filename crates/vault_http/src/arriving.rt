@@ -1,11 +1,12 @@
 //! A reply that comes in piece by piece, where nobody waits for the next piece.
-ghost use Rattle.std.specs.Prelude.{◌≡◌, ℕ, [], ◌++◌, List, None, Some, IfSome, IsSome, IsTrue};
+ghost use Rattle.std.specs.Prelude.{◌≡◌, ℕ, [], ◌++◌, List, None, Some, IfSome, IsSome, IsTrue, Err};
 ghost use Rattle.httparse.specs.Grammar.{HasNoResponse};
 ghost use Rattle.vault_http.specs.Arriving.{IsDatedFront, IsDatedSoFar};
 ghost use Rattle.vault_http.specs.Dates.{IsDatedReply};
 ghost use Rattle.vault_http.specs.Holding.{IsWaitedFor};
 ghost use Rattle.vault_http.specs.Messages.{UnlessMemory};
 ghost use Rattle.vault_http.specs.Verdicts.{IfDone, IfMore, VerdictIsDone};
+ghost use Rattle.vault_http.specs.declared.http_fault.HttpFault.TheVariants.{OutOfMemory};
 ghost use Rattle.vault_http.specs.declared.known.TheConstants.{MOST_MESSAGE};
 
 use crate::known::{Known, MOST_MESSAGE, go_on, look};
@@ -57,7 +58,8 @@ impl Arriving {
     #[tactic(auto, using(crate::proofs::Arrived::known_of_front))]
     /// Takes a piece that has come, and `ended` says that the input ends after it. It gives the answer as soon as the bytes
     /// settle it, whatever follows, as [`crate::read_dated_reply`] does, be it the reply with its date or a fault of the bytes;
-    /// and begins anew then. `None`: more is rightly waited for. Out of memory is a fault too.
+    /// and begins anew then. `None`: more is rightly waited for. Out of memory is a fault too, after which it is as it was: the
+    /// piece is the caller's still, and may be handed in again.
     pub fn take(
         &mut self,
         alloc: Global,
@@ -69,20 +71,29 @@ impl Arriving {
         ensures decides { IsTrue ended → IsSome result }
         ensures more { result ≡ None → self.new ≡ self.old ++ piece.now }
         ensures waited { result ≡ None → IsWaitedFor HasNoResponse (IsDatedReply MOST_MESSAGE) (self.old ++ piece.now) }
-        ensures anew { IsSome result → self.new ≡ [] }
+        ensures anew { IfSome result (λ a. UnlessMemory a (self.new ≡ [])) }
+        ensures kept { result ≡ Some (Err OutOfMemory) → self.new ≡ self.old }
     {
         let mut bytes = std::mem::replace(&mut self.bytes, Vec::new(alloc));
         let known = self.known.take();
+        let before = bytes.len();
         if bytes.extend_from_slice(piece).is_err() {
+            self.bytes = bytes;
+            self.known = known;
             return Some(Err(HttpFault::OutOfMemory));
         }
         match judge(alloc, known, &bytes, ended) {
-            Verdict::Done(answer) => Some(answer),
             Verdict::More(known) => {
                 self.bytes = bytes;
                 self.known = Some(known);
                 None
             }
+            Verdict::Done(Err(HttpFault::OutOfMemory)) => {
+                bytes.truncate(before);
+                self.bytes = bytes;
+                Some(Err(HttpFault::OutOfMemory))
+            }
+            Verdict::Done(answer) => Some(answer),
         }
     }
 }

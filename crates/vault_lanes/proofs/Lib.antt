@@ -7,3 +7,4 @@ pub mod TakenOut
 pub mod Moved
 pub mod Due
 pub mod Renamed
+pub mod Judged

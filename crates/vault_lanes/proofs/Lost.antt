@@ -1,15 +1,13 @@
 -- Why a request is lost at a stage: for `Lane` and `Course`.
-use Rattle.std.proofs.Common.{◌≡◌, ◌==◌, ℕ, ◌≤◌, inr, List, [], ◌∷◌, ◌++◌, length, Bool, true, IsTrue, refl, sym, subst, ◌∙◌, Result, Ok, Err, Some}
-use Rattle.std.proofs.Math.Dec.{eqb-suc-zero}
-use Rattle.std.proofs.lemmas.Bool.{false≢true}
+use Rattle.std.proofs.Common.{◌≡◌, ℕ, ◌+◌, ◌^◌, ◌<◌, ◌≤◌, arith, inr, List, [], ◌++◌, Bool, refl, sym, subst, ◌∙◌, Result, Ok, Err, None, Some}
 use Rattle.vault_lanes.specs.Allowed.{most_reads}
-use Rattle.vault_lanes.specs.Lanes.{AnswerIsTold, IsCounted, NothingFollowsEnd, ReplyIsRead, RequestIsSettled}
+use Rattle.vault_lanes.specs.Lanes.{IsCounted, IsToldBy, NothingFollowsEnd, ReplyIsRead, RequestIsSettled}
 use Rattle.vault_lanes.specs.Losses.{Answer}
 use Rattle.vault_lanes.specs.Stages.{reads_with}
 use Rattle.vault_lanes.specs.declared.allowance.Allowance.{Allowance}
 use Rattle.vault_lanes.specs.declared.loss.Loss.TheVariants as losses
 use Rattle.vault_lanes.specs.declared.stage.Stage.{Stage}
-use Rattle.vault_lanes.specs.declared.stage.Stage.TheVariants.{Connecting}
+use Rattle.vault_lanes.specs.declared.stage.Stage.TheVariants.{Coming, Connecting}
 use Rattle.vault_http.specs.Dates.{IsDatedReply}
 use Rattle.vault_http.specs.Messages.{UnlessMemory}
 use Rattle.vault_http.specs.declared.dated_reply.DatedReply.{DatedReply}
@@ -17,31 +15,19 @@ use Rattle.vault_http.specs.declared.http_fault.HttpFault.{HttpFault}
 use Rattle.vault_http.specs.declared.http_fault.HttpFault.TheVariants as https
 use Rattle.vault_http.specs.declared.known.TheConstants.{MOST_MESSAGE}
 
--- no bytes are the piece that ends it
-none_left : (piece : List ℕ) → (length piece == 0) ≡ true → piece ≡ []
-none_left [] is = refl
-none_left (b ∷ bs) is = absurd (false≢true (sym (eqb-suc-zero (length bs)) ∙ is))
-
--- what settles the answer, whatever follows, does so of what may follow this piece
-module _ (old piece : List ℕ) (ended : Bool) (is : ended ≡ (length piece == 0)) (answer : Result DatedReply HttpFault)
-    (settles : (more : List ℕ) → (IsTrue ended → more ≡ []) → UnlessMemory answer (IsDatedReply MOST_MESSAGE ((old ++ piece) ++ more) answer)) where
-  settled : (more : List ℕ) → NothingFollowsEnd piece more → UnlessMemory answer (IsDatedReply MOST_MESSAGE ((old ++ piece) ++ more) answer)
-  settled more follows = settles more (λ end. follows (none_left piece (sym is ∙ end)))
-
-  told_as : (read : Result DatedReply HttpFault) (said : Answer) (new : List ℕ) → ReplyIsRead read said
-      → ((more : List ℕ) → NothingFollowsEnd piece more → UnlessMemory read (IsDatedReply MOST_MESSAGE ((old ++ piece) ++ more) read)) → AnswerIsTold old piece (Some said) new
-  told_as (Ok dated) said new is h = subst (λ a. AnswerIsTold old piece (Some a) new) (sym is) h
-  told_as (Err https.Truncated) said new is h = subst (λ a. AnswerIsTold old piece (Some a) new) (sym is) (https.Truncated, (refl, h))
-  told_as (Err https.ReadFailed) said new is h = subst (λ a. AnswerIsTold old piece (Some a) new) (sym is) (https.ReadFailed, (refl, h))
-  told_as (Err https.BadHead) said new is h = subst (λ a. AnswerIsTold old piece (Some a) new) (sym is) (https.BadHead, (refl, h))
-  told_as (Err https.BadLength) said new is h = subst (λ a. AnswerIsTold old piece (Some a) new) (sym is) (https.BadLength, (refl, h))
-  told_as (Err https.BadChunk) said new is h = subst (λ a. AnswerIsTold old piece (Some a) new) (sym is) (https.BadChunk, (refl, h))
-  told_as (Err https.TooLong) said new is h = subst (λ a. AnswerIsTold old piece (Some a) new) (sym is) (https.TooLong, (refl, h))
-  told_as (Err https.TwoLengths) said new is h = subst (λ a. AnswerIsTold old piece (Some a) new) (sym is) (https.TwoLengths, (refl, h))
-  told_as (Err https.OutOfMemory) said new is h = absurd is
-
-  pub told : (said : Answer) (new : List ℕ) → ReplyIsRead answer said → AnswerIsTold old piece (Some said) new
-  told said new is = told_as answer said new is settled
+-- what settles the answer, whatever follows, tells it
+module _ (came : List ℕ) (ended : Bool) where
+  pub told_as : (read : Result DatedReply HttpFault) (said : Answer) → ReplyIsRead read said
+      → ((more : List ℕ) → NothingFollowsEnd ended more → UnlessMemory read (IsDatedReply MOST_MESSAGE (came ++ more) read)) → IsToldBy came ended said
+  told_as (Ok dated) said is h = subst (IsToldBy came ended) (sym is) h
+  told_as (Err https.Truncated) said is h = subst (IsToldBy came ended) (sym is) (https.Truncated, (refl, h))
+  told_as (Err https.ReadFailed) said is h = subst (IsToldBy came ended) (sym is) (https.ReadFailed, (refl, h))
+  told_as (Err https.BadHead) said is h = subst (IsToldBy came ended) (sym is) (https.BadHead, (refl, h))
+  told_as (Err https.BadLength) said is h = subst (IsToldBy came ended) (sym is) (https.BadLength, (refl, h))
+  told_as (Err https.BadChunk) said is h = subst (IsToldBy came ended) (sym is) (https.BadChunk, (refl, h))
+  told_as (Err https.TooLong) said is h = subst (IsToldBy came ended) (sym is) (https.TooLong, (refl, h))
+  told_as (Err https.TwoLengths) said is h = subst (IsToldBy came ended) (sym is) (https.TwoLengths, (refl, h))
+  told_as (Err https.OutOfMemory) said is h = absurd is
 
 -- it is at the stage at which it was
 pub read_counted : (a : Allowance) (now : ℕ) (stage : Stage) (read : Result DatedReply HttpFault) (said : Answer) → ReplyIsRead read said → IsCounted a now stage (Some said) stage
@@ -63,3 +49,13 @@ settled_by a now old new (Err losses.Closed) sent h = λ e. sent (sym h ∙ e)
 settled_by a now old new (Err losses.Timeout) sent h = inr (subst (λ s. most_reads a ≤ reads_with s) (sym h.1) h.0)
 settled_by a now old new (Err (losses.Connect reason)) sent h = absurd h
 settled_by a now old new (Err (losses.Status status)) sent h = absurd h
+
+-- one that goes on is read once more
+pub counted_more : (a : Allowance) (now counter : ℕ) (last old new : Stage) → old ≡ last → counter < reads_with last → IsCounted a now old None new → most_reads a < 2 ^ 64 → counter + 1 < reads_with new
+counted_more a now counter last old new same many h fits =
+    let more : counter < reads_with old = subst (λ s. counter < reads_with s) (sym same) many in
+    let few : reads_with old < most_reads a = h.0 in
+    subst (λ s. counter + 1 < reads_with s) (sym h.1) (omega (arith, more, few, fits))
+
+pub coming_on : (reads since : ℕ) → Coming reads since ≡ Connecting → ⊥
+coming_on reads since e = cc

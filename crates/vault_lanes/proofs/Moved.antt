@@ -1,5 +1,5 @@
 -- Each of those that are out goes on for itself: for `go_on` of them all.
-use Rattle.std.proofs.Common.{◌≡◌, ℕ, zero, suc, ◌<◌, ◌+◌, Some, IfSome, List, [], ◌∷◌, ◌++◌, filter, length, take, drop, get_or, set, Option, None, Result, Ok, Err, IfOk, OnErr, OnOk, ◌⊎◌, inl, inr, take-append-drop, refl, sym, subst, ap, ◌∙◌, arith}
+use Rattle.std.proofs.Common.{◌≡◌, ℕ, zero, suc, vec_capacity, ◌<◌, ◌+◌, Some, IfSome, List, [], ◌∷◌, ◌++◌, filter, length, take, drop, get_or, set, Option, None, Result, Ok, Err, IfOk, OnErr, OnOk, ◌≤◌, ◌⊎◌, inl, inr, take-append-drop, refl, sym, subst, ap, ◌∙◌, arith}
 use Rattle.std.proofs.lemmas.Grind.{drop_more_same}
 use Rattle.std.proofs.lemmas.List.{drop-set-lt, drop_more, length-take-le, set_at, take_more_set}
 use Rattle.std.proofs.Math.Seq.{take-add}
@@ -7,12 +7,11 @@ use Rattle.vault_lanes.specs.declared.reason.ConnectReason.{ConnectReason}
 use Rattle.vault_lanes.specs.Losses.{Answer}
 use Rattle.vault_lanes.specs.Out as outs_of
 use Rattle.vault_lanes.specs.Seats.{AreTakenOut, answers_of, out_of_seat, outs}
-use Rattle.vault_lanes.specs.code.Ways.{DeadlineIsAhead, GoOnUpTo, HasBegun, LaneGoesOn, LaneWants, Move, WayMoves, WaysGoOn, WayWants, answer_of_way, is_way_over}
+use Rattle.vault_lanes.specs.code.Ways.{DeadlineIsAhead, GoOnUpTo, HasBegun, HasUnjudged, LaneGoesOn, LaneIsFresh, LaneWants, Move, WayHasRoom, WayHolds, WayMoves, WaysGoOn, WayWants, answer_of_way, is_way_over}
 use Rattle.vault_lanes.specs.declared.allowance.Allowance.{Allowance}
 use Rattle.vault_lanes.specs.declared.lane.Lane.{Lane}
 use Rattle.vault_lanes.specs.declared.lanes.Answered.{Answered}
 use Rattle.vault_lanes.specs.declared.seats.Seat.{Seat}
-use Rattle.vault_lanes.specs.declared.stage.Stage.TheVariants.{Connecting}
 use Rattle.vault_lanes.specs.declared.way.Way.{Way}
 use Rattle.vault_lanes.specs.declared.way.Way.TheVariants.{Out, Over}
 
@@ -20,6 +19,10 @@ use Rattle.vault_lanes.specs.declared.way.Way.TheVariants.{Out, Over}
 pub on_refused : {X E A : Type 0} (r : Result X E) → A → OnErr r A
 on_refused (Ok x) a = tt
 on_refused (Err e) a = a
+
+pub refused_then : {X E : Type 0} (A B : Type 0) (r : Result X E) → OnErr r (A → B) → A → OnErr r B
+refused_then A B (Ok x) h a = tt
+refused_then A B (Err e) h a = h a
 
 module _ {L : Type 0} (written remaining : L → Option (List ℕ)) (failures : L → Option ℕ) (reason : L → ConnectReason) (now : ℕ) where
   pub move_more : (old new : List (Seat (Way L))) (s n : Seat (Way L)) → Move written remaining failures reason now old new
@@ -49,20 +52,21 @@ module _ {L : Type 0} (written remaining : L → Option (List ℕ)) (failures : 
       subst (λ w. WayMoves written remaining failures reason now w (Over a)) (sym is) (next, subst (λ g. LaneGoesOn written remaining failures reason now lane next g) answered goes)
 
 -- one that goes on from its begin has begun
-pub begun : {L : Type 0} (written remaining : L → Option (List ℕ)) (failures : L → Option ℕ) (reason : L → ConnectReason) (text : List ℕ) (allowance : Allowance) (lane : Lane L) (way : Way L) → lane.unsent.items ≡ text → lane.course.allowance ≡ allowance
-    → lane.course.stage ≡ Connecting → lane.course.arriving ≡ [] → IfSome (written lane.line) (λ bytes. bytes ≡ []) → WayMoves written remaining failures reason allowance.asked (Out lane) way → HasBegun written remaining failures reason text allowance way
-begun written remaining failures reason text allowance lane way of al stage none fresh goes = (lane, (record { unwritten = fresh; unsent = of; allowance_is = al; stage = stage; none = none }, goes))
+pub begun : {L E : Type 0} (written remaining : L → Option (List ℕ)) (failures : L → Option ℕ) (reason : L → ConnectReason) (text : List ℕ) (allowance : Allowance) (lane : Lane L) (way : Way L) (r : Result Unit E) → LaneIsFresh written text allowance lane
+    → OnOk r (WayMoves written remaining failures reason allowance.asked (Out lane) way) → OnErr r (WayWants written remaining failures (Out lane) way) → OnErr r (WayHolds way) → HasBegun written remaining failures reason text allowance way
+begun written remaining failures reason text allowance lane way (Ok x) fresh goes wants holds = (lane, (fresh, inl goes))
+begun written remaining failures reason text allowance lane way (Err e) fresh goes wants holds = (lane, (fresh, inr (wants, holds)))
 
 -- memory is wanting to one behind those that went on
 module _ {L : Type 0} (written remaining : L → Option (List ℕ)) (failures : L → Option ℕ) (reason : L → ConnectReason) (now : ℕ) where
-  moved_up_to : (old new rest : List (Seat (Way L))) (s n : Seat (Way L)) → Move written remaining failures reason now old new → n.index ≡ s.index → WayWants written failures s.standing n.standing
+  moved_up_to : (old new rest : List (Seat (Way L))) (s n : Seat (Way L)) → Move written remaining failures reason now old new → n.index ≡ s.index → WayWants written remaining failures s.standing n.standing
       → GoOnUpTo written remaining failures reason now (old ++ s ∷ rest) (new ++ n ∷ rest)
   moved_up_to [] new rest s n h same wants = subst (λ l. GoOnUpTo written remaining failures reason now (s ∷ rest) (l ++ n ∷ rest)) (sym h) (same, inl (wants, refl))
   moved_up_to (o ∷ os) [] rest s n h same wants = absurd h
   moved_up_to (o ∷ os) (x ∷ xs) rest s n h same wants = (h.0.0, inr (h.0.1.0, (h.0.1.1, moved_up_to os xs rest s n h.1 same wants)))
 
   pub up_to : (old out : List (Seat (Way L))) (i : ℕ) (d n : Seat (Way L)) → i < length out → drop i out ≡ drop i old → Move written remaining failures reason now (take i old) (take i out)
-      → n.index ≡ (get_or out i d).index → WayWants written failures (get_or out i d).standing n.standing → GoOnUpTo written remaining failures reason now old (set out i n)
+      → n.index ≡ (get_or out i d).index → WayWants written remaining failures (get_or out i d).standing n.standing → GoOnUpTo written remaining failures reason now old (set out i n)
   up_to old out i d n within rest h same wants =
       let s = get_or out i d in
       let behind = drop (i + 1) out in
@@ -74,8 +78,11 @@ module _ {L : Type 0} (written remaining : L → Option (List ℕ)) (failures : 
       (subst (λ l. GoOnUpTo written remaining failures reason now (take i old ++ s ∷ behind) l) (sym is) (moved_up_to (take i old) (take i out) behind s n h same wants))
 
 -- and one is left so
-pub wants_as : {L : Type 0} (written : L → Option (List ℕ)) (failures : L → Option ℕ) (old : Way L) (lane next : Lane L) → old ≡ Out lane → LaneWants written failures lane next → WayWants written failures old (Out next)
-wants_as written failures old lane next is h = subst (λ w. WayWants written failures w (Out next)) (sym is) h
+pub wants_as : {L : Type 0} (written remaining : L → Option (List ℕ)) (failures : L → Option ℕ) (old : Way L) (lane next : Lane L) → old ≡ Out lane → LaneWants written remaining failures lane next → WayWants written remaining failures old (Out next)
+wants_as written remaining failures old lane next is h = subst (λ w. WayWants written remaining failures w (Out next)) (sym is) h
+
+pub holds_as : {L : Type 0} (n : ℕ) (old : Way L) (lane next : Lane L) → old ≡ Out lane → (n ≤ vec_capacity lane.course.piece → HasUnjudged next) → WayHasRoom n old → WayHolds (Out next)
+holds_as n old lane next is h room = h (subst (WayHasRoom n) is room)
 
 -- a change of one under its index
 pub outs_set : {L : Type 0} (out : List (Seat (Way L))) (i : ℕ) (d n : Seat (Way L)) → n.index ≡ (get_or out i d).index → outs (λ _. None) (set out i n) ≡ outs (λ _. None) out

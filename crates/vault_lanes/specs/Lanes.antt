@@ -1,7 +1,8 @@
 -- One request over one connection: what is written of it, what is heard, and when it is settled.
 -- Source: this project's own.
-use Rattle.std.specs.Prelude.{◌≡◌, ℕ, ◌<◌, ◌≤◌, ◌⊎◌, List, [], ◌++◌, Option, Some, None, IfSome, Result, Ok, Err}
+use Rattle.std.specs.Prelude.{◌≡◌, ℕ, ◌<◌, ◌≤◌, ◌⊎◌, Bool, true, false, IsTrue, List, [], ◌++◌, Option, Some, None, IfSome, Result, Ok, Err}
 use Rattle.std.specs.Io.KnownBytes.{Appends, Consumes}
+use Rattle.httparse.specs.Grammar.{HasNoResponse}
 use Rattle.vault_lanes.specs.Allowed.{deadline, most_reads}
 use Rattle.vault_lanes.specs.Losses.{Answer, loss_of}
 use Rattle.vault_lanes.specs.Stages.{reads_with}
@@ -11,6 +12,7 @@ use Rattle.vault_lanes.specs.declared.loss.Loss.TheVariants as losses
 use Rattle.vault_lanes.specs.declared.stage.Stage.{Stage}
 use Rattle.vault_lanes.specs.declared.stage.Stage.TheVariants.{Connecting, Coming}
 use Rattle.vault_http.specs.Dates.{IsDatedReply}
+use Rattle.vault_http.specs.Holding.{IsWaitedFor}
 use Rattle.vault_http.specs.declared.dated_reply.DatedReply.{DatedReply}
 use Rattle.vault_http.specs.declared.http_fault.HttpFault.{HttpFault}
 use Rattle.vault_http.specs.declared.http_fault.HttpFault.TheVariants as https
@@ -21,6 +23,22 @@ pub record FrontIsWritten (unsent left : List ℕ) (before now : Option (List �
   pub front : List ℕ
   pub parts : unsent ≡ front ++ left
   pub appended : Appends before now front
+
+-- what is still to come: nothing where the end was read
+abbrev pub to_come : Bool → Option (List ℕ) → Option (List ℕ)
+to_come true None = None
+to_come true (Some bytes) = Some []
+to_come false remaining = remaining
+
+-- so much came since, and is held
+pub record Came (old new : List ℕ) (before now : Option (List ℕ)) : Type 0 where
+  pub came : List ℕ
+  pub consumed : Consumes before now came
+  pub kept : new ≡ old ++ came
+
+-- more than these bytes of a reply is rightly waited for
+abbrev pub AreWaitedFor : List ℕ → Type 0
+AreWaitedFor bytes = IsWaitedFor HasNoResponse (IsDatedReply MOST_MESSAGE) bytes
 
 -- what came is kept, as long as there is no answer. An answer is that of all the bytes, those to come too, however they are cut;
 -- and the bytes are no reply where that is told of them
@@ -71,14 +89,23 @@ IsCounted a now old (Some (Err (losses.Connect reason))) new = ⊥
 IsCounted a now old (Some (Err (losses.Status status))) new = ⊥
 IsCounted a now old (Some answer) new = new ≡ old
 
--- after no piece, which is the end, nothing follows
-abbrev pub NothingFollowsEnd : List ℕ → List ℕ → Type 0
-NothingFollowsEnd piece more = piece ≡ [] → more ≡ []
+-- after the end nothing follows
+abbrev pub NothingFollowsEnd : Bool → List ℕ → Type 0
+NothingFollowsEnd ended more = IsTrue ended → more ≡ []
 
--- an answer is that of what has come, whatever follows
-abbrev pub AnswerIsTold : List ℕ → List ℕ → Option Answer → List ℕ → Type 0
-AnswerIsTold old piece None new = (new ≡ old ++ piece) × (piece ≡ [] → ⊥)
-AnswerIsTold old piece (Some (Ok dated)) new = (more : List ℕ) → NothingFollowsEnd piece more → IsDatedReply MOST_MESSAGE ((old ++ piece) ++ more) (Ok dated)
-AnswerIsTold old piece (Some (Err losses.Reply)) new = (fault : HttpFault) × ((loss_of fault ≡ losses.Reply) × ((more : List ℕ) → NothingFollowsEnd piece more → IsDatedReply MOST_MESSAGE ((old ++ piece) ++ more) (Err fault)))
-AnswerIsTold old piece (Some (Err losses.Closed)) new = (fault : HttpFault) × ((loss_of fault ≡ losses.Closed) × ((more : List ℕ) → NothingFollowsEnd piece more → IsDatedReply MOST_MESSAGE ((old ++ piece) ++ more) (Err fault)))
-AnswerIsTold old piece (Some (Err loss)) new = Unit {0}
+-- an answer is that of the bytes that have come, whatever follows; or its time is over, and more is rightly waited for
+abbrev pub IsToldBy : List ℕ → Bool → Answer → Type 0
+IsToldBy came ended (Ok dated) = (more : List ℕ) → NothingFollowsEnd ended more → IsDatedReply MOST_MESSAGE (came ++ more) (Ok dated)
+IsToldBy came ended (Err losses.Reply) = (fault : HttpFault) × ((loss_of fault ≡ losses.Reply) × ((more : List ℕ) → NothingFollowsEnd ended more → IsDatedReply MOST_MESSAGE (came ++ more) (Err fault)))
+IsToldBy came ended (Err losses.Closed) = (fault : HttpFault) × ((loss_of fault ≡ losses.Closed) × ((more : List ℕ) → NothingFollowsEnd ended more → IsDatedReply MOST_MESSAGE (came ++ more) (Err fault)))
+IsToldBy came ended (Err loss) = AreWaitedFor came
+
+-- without an answer what has come is kept, and more is rightly waited for
+abbrev pub AnswerIsTold : List ℕ → Bool → Option Answer → List ℕ → Type 0
+AnswerIsTold came ended None new = (new ≡ came) × ((IsTrue ended → ⊥) × AreWaitedFor came)
+AnswerIsTold came ended (Some answer) new = IsToldBy came ended answer
+
+-- what has come is judged before more is read: it settles the answer, and the connection is not called; or more is rightly waited for
+abbrev pub IsJudgedFirst : List ℕ → Bool → Option Answer → Type 0 → Type 0
+IsJudgedFirst came ended None IsUncalled = AreWaitedFor came
+IsJudgedFirst came ended (Some answer) IsUncalled = AreWaitedFor came ⊎ (IsToldBy came ended answer × IsUncalled)

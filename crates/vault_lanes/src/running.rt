@@ -89,9 +89,12 @@ fn begin<W: Wires>(
     ensures port { W.host_port wires.new ≡ W.host_port wires.old }
 {
     let text = text_of_request(alloc, &ask.request)?;
+    let mut piece = Vec::new(alloc);
+    piece.reserve(room.len())?;
     let line = wires.dial(ask.index);
-    let mut standing = Way::Out(Lane::new(alloc, line, text, allowance));
-    standing.go_on(alloc, room, allowance.asked)?;
+    let mut standing = Way::Out(Lane::new(alloc, line, text, piece, allowance));
+    // Where memory is wanting to judge what has come back, that is held: the request was sent, and is not sent again.
+    let _ = standing.go_on(alloc, room, allowance.asked);
     Ok(Seat {
         index: ask.index,
         standing,

@@ -1,6 +1,6 @@
 //! A request that is on its way over a connection, or over.
 ghost use Rattle.std.specs.Prelude.{◌≡◌, ◌<◌, None, OnErr, OnOk, length};
-ghost use Rattle.vault_lanes.specs.code.Ways.{DeadlineIsAhead, WayMoves, WayWants, answer_of_way, is_way_over, sooner};
+ghost use Rattle.vault_lanes.specs.code.Ways.{DeadlineIsAhead, WayHasRoom, WayHolds, WayMoves, WayWants, answer_of_way, is_way_over, sooner};
 
 use crate::lane::Lane;
 use crate::line::Line;
@@ -74,7 +74,8 @@ impl<L: Line + Drop> Way<L> {
         requires room { 0 < length room.old }
         ensures room { length room.new ≡ length room.old }
         ensures moves { OnOk result (WayMoves L.written L.remaining L.failures L.reason now self.old self.new) }
-        ensures wants { OnErr result (WayWants L.written L.failures self.old self.new) }
+        ensures wants { OnErr result (WayWants L.written L.remaining L.failures self.old self.new) }
+        ensures holds { OnErr result (WayHasRoom (length room.old) self.old → WayHolds self.new) }
         ensures ahead { OnOk result (DeadlineIsAhead now self.new) }
     {
         if let Way::Out(lane) = self {

@@ -1,14 +1,15 @@
 -- A request on its way over a connection, or what came of it, as the code has it.
-use Rattle.std.specs.Prelude.{◌≡◌, ◌⊎◌, ℕ, ◌<◌, List, [], ◌∷◌, Bool, true, false, Option, Some, None, IfSome, filter, map, min, not, if◌then◌else◌}
+use Rattle.std.specs.Prelude.{◌≡◌, ◌⊎◌, ℕ, ◌<◌, ◌≤◌, List, [], ◌∷◌, Bool, IsTrue, true, false, Option, Some, None, IfSome, filter, map, min, not, vec_capacity, if◌then◌else◌}
 use Rattle.std.specs.List.{list_any}
 use Rattle.vault_lanes.specs.declared.reason.ConnectReason.{ConnectReason}
 use Rattle.vault_lanes.specs.Allowed.{deadline, millis_after}
 use Rattle.vault_lanes.specs.Calls.{LanesCall, Renamed, Sent, StoodStill, Unsent, WentOn}
 use Rattle.vault_lanes.specs.Failing.{FailsAs, FailsMore}
-use Rattle.vault_lanes.specs.Lanes.{FrontIsWritten, ReplyIsHeard, RequestIsSettled}
+use Rattle.vault_lanes.specs.Lanes.{AreWaitedFor, Came, FrontIsWritten, IsJudgedFirst, ReplyIsHeard, RequestIsSettled, to_come}
 use Rattle.vault_lanes.specs.Losses.{Answer}
 use Rattle.vault_lanes.specs.Seats.{SeatIsPut, answers_of, under}
 use Rattle.vault_lanes.specs.Serving.{allowed}
+use Rattle.vault_lanes.specs.code.Courses.{came_by, is_unjudged}
 use Rattle.vault_lanes.specs.declared.allowance.Allowance.{Allowance}
 use Rattle.vault_lanes.specs.declared.lane.Lane.{Lane}
 use Rattle.vault_lanes.specs.declared.lanes.Answered.{Answered}
@@ -22,13 +23,22 @@ abbrev pub is_way_over : {L : Type 0} → Way L → Bool
 is_way_over (Out lane) = false
 is_way_over (Over a) = true
 
+-- what is still to come of its reply
+abbrev pub left_of : {L : Type 0} → (L → Option (List ℕ)) → Lane L → Option (List ℕ)
+left_of remaining lane = to_come lane.course.has_ended (remaining lane.line)
+
+-- all of it was sent, and something that has come of its reply is not judged yet
+abbrev pub HasUnjudged : {L : Type 0} → Lane L → Type 0
+HasUnjudged lane = (lane.unsent.items ≡ []) × IsTrue (is_unjudged lane.course)
+
 -- one request goes as far as it can: what of it is written, what is heard of its reply, and whether it is settled then
 pub record LaneGoesOn {L : Type 0} (written remaining : L → Option (List ℕ)) (failures : L → Option ℕ) (reason : L → ConnectReason) (now : ℕ) (old new : Lane L) (answer : Option Answer) : Type 0 where
   pub allowance : new.course.allowance ≡ old.course.allowance
   pub sent : FrontIsWritten old.unsent.items new.unsent.items (written old.line) (written new.line)
-  pub heard : ReplyIsHeard old.course.arriving answer new.course.arriving (remaining old.line) (remaining new.line)
+  pub heard : ReplyIsHeard (came_by old.course) answer (came_by new.course) (left_of remaining old) (left_of remaining new)
+  pub first : HasUnjudged old → IsJudgedFirst (came_by old.course) old.course.has_ended answer (new.line ≡ old.line)
   pub settled : RequestIsSettled new.course.allowance now new.course.stage new.unsent.items answer
-  pub failing : FailsAs old.course.arriving (remaining old.line) (reason new.line) answer (failures old.line) (failures new.line)
+  pub failing : FailsAs (came_by old.course) (left_of remaining old) (reason new.line) answer (failures old.line) (failures new.line)
 
 -- it is on its way, or over with what came of it
 abbrev pub WayMoves : {L : Type 0} → (L → Option (List ℕ)) → (L → Option (List ℕ)) → (L → Option ℕ) → (L → ConnectReason) → ℕ → Way L → Way L → Type 0
@@ -52,23 +62,37 @@ Move written remaining failures reason now [] new = new ≡ []
 Move written remaining failures reason now (s ∷ ss) [] = ⊥
 Move written remaining failures reason now (s ∷ ss) (n ∷ ns) = ((n.index ≡ s.index) × (WayMoves written remaining failures reason now s.standing n.standing × DeadlineIsAhead now n.standing)) × Move written remaining failures reason now ss ns
 
--- memory was wanting to one on its way: what was written of it is not written again, and its connection has not failed
-pub record LaneWants {L : Type 0} (written : L → Option (List ℕ)) (failures : L → Option ℕ) (old new : Lane L) : Type 0 where
+-- memory was wanting to one on its way: what was written of it is not written again, what came of its reply is held, and what is
+-- not judged yet of that was and is judged first; and its connection has not failed
+pub record LaneWants {L : Type 0} (written remaining : L → Option (List ℕ)) (failures : L → Option ℕ) (old new : Lane L) : Type 0 where
   pub allowance : new.course.allowance ≡ old.course.allowance
   pub sent : FrontIsWritten old.unsent.items new.unsent.items (written old.line) (written new.line)
+  pub came : Came (came_by old.course) (came_by new.course) (left_of remaining old) (left_of remaining new)
+  pub first : HasUnjudged old → (new.line ≡ old.line) ⊎ AreWaitedFor (came_by old.course)
+  pub unjudged : HasUnjudged new ⊎ ((came_by new.course ≡ came_by old.course) ⊎ AreWaitedFor (came_by new.course))
   pub failing : FailsMore 0 (failures old.line) (failures new.line)
 
-abbrev pub WayWants : {L : Type 0} → (L → Option (List ℕ)) → (L → Option ℕ) → Way L → Way L → Type 0
-WayWants written failures (Over a) new = ⊥
-WayWants written failures (Out lane) (Over a) = ⊥
-WayWants written failures (Out lane) (Out next) = LaneWants written failures lane next
+abbrev pub WayWants : {L : Type 0} → (L → Option (List ℕ)) → (L → Option (List ℕ)) → (L → Option ℕ) → Way L → Way L → Type 0
+WayWants written remaining failures (Over a) new = ⊥
+WayWants written remaining failures (Out lane) (Over a) = ⊥
+WayWants written remaining failures (Out lane) (Out next) = LaneWants written remaining failures lane next
+
+-- there is room for a read of so many bytes
+abbrev pub WayHasRoom : {L : Type 0} → ℕ → Way L → Type 0
+WayHasRoom n (Out lane) = n ≤ vec_capacity lane.course.piece
+WayHasRoom n (Over a) = Unit {0}
+
+-- it was sent, and what has come of its reply is held
+abbrev pub WayHolds : {L : Type 0} → Way L → Type 0
+WayHolds (Out lane) = HasUnjudged lane
+WayHolds (Over a) = ⊥
 
 -- those in front of one to which memory was wanting went on, and those behind it are as they were
 abbrev pub GoOnUpTo : {L : Type 0} → (L → Option (List ℕ)) → (L → Option (List ℕ)) → (L → Option ℕ) → (L → ConnectReason) → ℕ → List (Seat (Way L)) → List (Seat (Way L)) → Type 0
 GoOnUpTo written remaining failures reason now [] new = ⊥
 GoOnUpTo written remaining failures reason now (s ∷ ss) [] = ⊥
 GoOnUpTo written remaining failures reason now (s ∷ ss) (n ∷ ns) =
-    (n.index ≡ s.index) × ((WayWants written failures s.standing n.standing × (ns ≡ ss)) ⊎ (WayMoves written remaining failures reason now s.standing n.standing × (DeadlineIsAhead now n.standing × GoOnUpTo written remaining failures reason now ss ns)))
+    (n.index ≡ s.index) × ((WayWants written remaining failures s.standing n.standing × (ns ≡ ss)) ⊎ (WayMoves written remaining failures reason now s.standing n.standing × (DeadlineIsAhead now n.standing × GoOnUpTo written remaining failures reason now ss ns)))
 
 -- nothing was sent yet of a request with this text, which may take so long
 pub record LaneIsFresh {L : Type 0} (written : L → Option (List ℕ)) (text : List ℕ) (allowance : Allowance) (lane : Lane L) : Type 0 where
@@ -76,12 +100,15 @@ pub record LaneIsFresh {L : Type 0} (written : L → Option (List ℕ)) (text : 
   pub unsent : lane.unsent.items ≡ text
   pub allowance_is : lane.course.allowance ≡ allowance
   pub stage : lane.course.stage ≡ Connecting
-  pub none : lane.course.arriving ≡ []
+  pub none : came_by lane.course ≡ []
+  pub unended : lane.course.has_ended ≡ false
 
--- such a request has gone as far as it can at the moment at which it was asked
+-- such a request has gone as far as it can at the moment at which it was asked; or all of it was sent, and what has come of its reply
+-- is held until there is memory to judge it
 abbrev pub HasBegun : {L : Type 0} → (L → Option (List ℕ)) → (L → Option (List ℕ)) → (L → Option ℕ) → (L → ConnectReason) → List ℕ → Allowance → Way L → Type 0
 HasBegun {L} written remaining failures reason text allowance way =
-    (fresh : Lane L) × (LaneIsFresh written text allowance fresh × WayMoves written remaining failures reason allowance.asked (Out fresh) way)
+    (fresh : Lane L) × (LaneIsFresh written text allowance fresh
+    × (WayMoves written remaining failures reason allowance.asked (Out fresh) way ⊎ (WayWants written remaining failures (Out fresh) way × WayHolds way)))
 
 -- one more has begun, for this index, among those that are out, and these are as they were
 pub record OneHasBegun {L : Type 0} (written remaining : L → Option (List ℕ)) (failures : L → Option ℕ) (reason : L → ConnectReason) (text : List ℕ) (allowance : Allowance) (index : ℕ) (old new : List (Seat (Way L))) : Type 0 where

@@ -1,11 +1,19 @@
 -- What is read of the bytes so far is told of all that may follow.
-use Rattle.std.proofs.Common.{refl}
-use Rattle.vault_lanes.proofs.Lost.{read_counted, told}
+use Rattle.std.proofs.Common.{ℕ, List, ◌++◌, subst}
+use Rattle.vault_http.specs.Dates.{IsDatedReply}
+use Rattle.vault_http.specs.Messages.{UnlessMemory}
+use Rattle.vault_http.specs.declared.known.TheConstants.{MOST_MESSAGE}
+use Rattle.vault_lanes.specs.Lanes.{NothingFollowsEnd}
+use Rattle.vault_lanes.specs.code.Courses.{came_by}
+use Rattle.vault_lanes.proofs.Lost.{read_counted, told_as}
 use Rattle.vault_lanes.proofs.lane.Course.hear.Goals as goal
 
-pub returns-in_ok-answer-in-Some : goal.returns-in_ok-answer-in-Some
-returns-in_ok-answer-in-Some c = record {
-  allowance = refl;
-  counted = read_counted c.args.self.now.allowance c.args.now c.args.self.now.stage c.in-Some.read _ c.in_ok-answer-in-Some.ensures;
-  told = told c.args.self.now.arriving c.args.piece.now c.is_empty.result c.is_empty.ensures c.in-Some.read c.in-Some.ensures.answer _ _ c.in_ok-answer-in-Some.ensures;
-}
+pub returns-in_ok-answer-in-Some-clause-counted : goal.returns-in_ok-answer-in-Some-clause-counted
+returns-in_ok-answer-in-Some-clause-counted c = read_counted c.args.self.now.allowance c.args.now c.args.self.now.stage c.in-Some.read _ c.in_ok-answer-in-Some.ensures.read
+
+pub returns-in_ok-answer-in-Some-clause-told : goal.returns-in_ok-answer-in-Some-clause-told
+returns-in_ok-answer-in-Some-clause-told c =
+    let old = c.args.self.now in
+    told_as (came_by old) old.has_ended c.in-Some.read _ c.in_ok-answer-in-Some.ensures.read
+      (subst (λ (piece : List ℕ). (more : List ℕ) → NothingFollowsEnd old.has_ended more → UnlessMemory c.in-Some.read (IsDatedReply MOST_MESSAGE ((old.arriving ++ piece) ++ more) c.in-Some.read))
+        c.deref.ensures.value c.in-Some.ensures.answer)
