@@ -12,7 +12,7 @@ use Rattle.watch_machine.specs.State.{WatchState, track_at}
 use Rattle.agent_standing.specs.declared.shorts.Short.{Short}
 use Rattle.agent_standing.specs.declared.standing.Standing.{Standing}
 use Rattle.agent_standing.specs.Agent.{Agent, Believes, IsAgent, IsStanding}
-use Rattle.agent_standing.specs.Shorts.{all_said, news_in, said_short, said_standing, said_standings, short_at, shorts_in}
+use Rattle.agent_standing.specs.Shorts.{all_said, news_of_entry, said_short, said_standing, said_standings, short_at, shorts_in}
 use Rattle.agent_standing.specs.Standings.{fresh_standing, standing_in}
 
 -- those before k are made by f, the others are as they were
@@ -58,16 +58,16 @@ unsaid : (i : ℕ) (reissued : Bool) (news : Option ℕ) → short_at i reissued
 unsaid i reissued None none = refl
 unsaid i reissued (Some reach) none = let long : suc zero ≡ zero = ap length none in absurd (omega (arith, long))
 
-as_said : (m : WatchState) (ts : List Terms) (i : ℕ) (x : Standing) → news_in m ts i x.short ≡ None → x ≡ said_standing m ts i x
+as_said : (m : WatchState) (ts : List Terms) (i : ℕ) (x : Standing) → news_of_entry m ts i x ≡ None → x ≡ said_standing m ts i x
 unfolding said_standing
 as_said m ts i x none = ap (λ news. record x { short = said_short x.short news }) (sym none)
 
 pub nothing_said : (m : WatchState) (ts : List Terms) (xs : List Standing) → shorts_in m ts xs ≡ [] → xs ≡ said_standings m ts xs
 unfolding said_standings shorts_in
 nothing_said m ts xs none =
-    let f : ℕ → List Short = λ i. short_at i (terms_at ts i).reissued (news_in m ts i (standing_in xs i).short) in
+    let f : ℕ → List Short = λ i. short_at i (terms_at ts i).reissued (news_of_entry m ts i (standing_in xs i)) in
     fill_by_all (λ i. said_standing m ts i (standing_in xs i)) xs (length xs) fresh_standing refl
-    (λ k within. as_said m ts k (standing_in xs k) (unsaid k (terms_at ts k).reissued (news_in m ts k (standing_in xs k).short) (subst (λ j. f j ≡ []) (let e : 0 + k ≡ k = omega arith in e) (no_piece f 0 (length xs) none k within))))
+    (λ k within. as_said m ts k (standing_in xs k) (unsaid k (terms_at ts k).reissued (news_of_entry m ts k (standing_in xs k)) (subst (λ j. f j ≡ []) (let e : 0 + k ≡ k = omega arith in e) (no_piece f 0 (length xs) none k within))))
 
 -- ---- what is said leaves what was told
 

@@ -4,7 +4,7 @@ pub mod Agent
 pub mod Turns
 pub mod Changed
 pub mod Laws
-pub mod Shorts
 pub mod Status
+pub mod Shorts
 pub mod Ends
 pub mod Waiting

@@ -2,11 +2,12 @@
 ghost use Rattle.std.specs.Prelude.{◌≡◌, ◌<◌, ◌++◌, IfOk, OnErr, OnOk, length};
 ghost use Rattle.std.specs.List.{All};
 ghost use Rattle.agent_standing.specs.Agent.{IsStanding};
-ghost use Rattle.agent_standing.specs.Shorts.{all_said, is_near, news_in, notice_of, said_standing, said_standings, short_at, shorts_in, shorts_of};
+ghost use Rattle.agent_standing.specs.Shorts.{all_said, is_near, news_in, news_of_entry, notice_of, said_standing, said_standings, short_at, shorts_in, shorts_of};
 ghost use Rattle.watch_machine.specs.Shortness.{is_news};
 
 use crate::agent::Agent;
 use crate::standing::Standing;
+use crate::status::{has_ended, is_gone};
 use base_moment::LAST;
 use std::alloc::{AllocError, Global};
 use vault_inventory::Inventory;
@@ -26,8 +27,8 @@ pub struct Short {
 impl Agent {
     /// The needs that are to be said to be past what their entries reach, by entry; they count as said from then on. A reach is said
     /// where none was, or where it differs by the margin or more from what was said last; of a need that never ends no sooner than a day
-    /// before it; of an entry that is reissued, whatever its need, no sooner than its notice before. To be asked after each clock. The
-    /// only error is out of memory, and then nothing counts as said.
+    /// before it; of an entry that is reissued, whatever its need, no sooner than its notice before; of one that is gone or has ended
+    /// not at all. To be asked after each clock. The only error is out of memory, and then nothing counts as said.
     pub fn say_shorts(&mut self, alloc: Global) -> Result<Vec<Short>, AllocError>
         ensures shorts { IfOk result (λ shorts. shorts.items ≡ shorts_of self.old) }
         ensures said { OnOk result (self.new ≡ all_said self.old) }
@@ -53,7 +54,7 @@ fn shorts_of(
     let mut shorts = Vec::new(alloc);
     for entry in 0..watch.forest().len() {
         let reissued = inventory.terms(entry).reissued;
-        let news = news_in(watch, inventory, entry, standings[entry as usize].short);
+        let news = news_of_entry(watch, inventory, entry, standings[entry as usize]);
         push_short(entry, reissued, news, &mut shorts)?;
     }
     Ok(shorts)
@@ -117,12 +118,30 @@ fn said(watch: &Watch, inventory: &Inventory, entry: u32, standing: Standing) ->
     ensures bounds { IsStanding result }
     ensures told { result.told ≡ standing.told }
 {
-    match news_in(watch, inventory, entry, standing.short) {
+    match news_of_entry(watch, inventory, entry, standing) {
         None => standing,
         Some(reach) => Standing {
             short: Some(reach),
             ..standing
         },
+    }
+}
+
+/// The reach of an entry that is to be said: none of one that is gone or has ended, of which that was said.
+fn news_of_entry(
+    watch: &Watch,
+    inventory: &Inventory,
+    entry: u32,
+    standing: Standing,
+) -> Option<u64>
+    requires within { entry < length watch.now.forest.entries }
+    requires served { length inventory.now.forest.entries ≡ length watch.now.forest.entries }
+    ensures { result ≡ news_of_entry watch.now inventory.now.terms entry standing }
+{
+    if is_gone(standing.trouble) || has_ended(watch, watch.track(entry).end) {
+        None
+    } else {
+        news_in(watch, inventory, entry, standing.short)
     }
 }
 
@@ -158,7 +177,8 @@ fn is_news(margin: u64, last: Option<u64>, reach: u64) -> bool
 
 /// How long before its reach an entry has to be issued again.
 ///
-/// Source: Vault, "Vault Agent" (auto-auth, templates): what it obtains it obtains again with a twentieth of its life left at the least.
+/// Source: Vault, "Vault Agent" (templates, `lease_renewal_threshold`): what cannot be renewed is read again with a tenth of its duration
+/// left. By a twentieth that is late; the twentieth is this project's own.
 #[tactic(auto, unfolding(crate::specs::Shorts::notice_of))]
 fn notice_of(margin: u64, step: u64) -> u64
     ensures { result ≡ notice_of margin step }

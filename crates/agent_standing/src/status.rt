@@ -109,7 +109,7 @@ fn end_there(watch: &Watch, end: End) -> Option<u64>
 
 /// Whether an end is past.
 #[tactic(auto, unfolding(watch_machine::specs::Clocks::sec))]
-fn has_ended(watch: &Watch, end: End) -> bool
+pub(crate) fn has_ended(watch: &Watch, end: End) -> bool
     ensures { result ≡ has_ended watch.now end }
 {
     match end {
@@ -127,7 +127,7 @@ fn is_unknown(end: End) -> bool
     }
 }
 
-fn is_gone(trouble: Option<Trouble>) -> bool
+pub(crate) fn is_gone(trouble: Option<Trouble>) -> bool
     ensures { result ≡ is_gone trouble }
 {
     match trouble {
