@@ -24,7 +24,7 @@ use Rattle.agent_log.specs.declared.mark.Mark.{Mark}
 use Rattle.agent_words.specs.Outcomes.{Outcome, Why, Whys}
 use Rattle.agent_words.specs.Telling.{IsRefusalFor, IsRefusedReply, IsReplyTo}
 use Rattle.agent_words.specs.declared.reread.Reread.{Reread}
-use Rattle.agent_ledger.specs.Keeping.{KeepCall, KeeperIsAsked, Settle, Take}
+use Rattle.agent_ledger.specs.Keeping.{KeepCall, KeeperIsAsked, Reload, Settle, Take}
 use Rattle.agent_ledger.specs.declared.keeping.LookedUp.{LookedUp}
 use Rattle.agent_ledger.specs.declared.keeping.LookedUp.TheVariants as lookups
 use Rattle.agent_house.specs.Admitting.{AdmitsIf, FollowsLog, asking_in}
@@ -130,8 +130,8 @@ IsChangeOf reads (asked.Follow alerts) name w = ⊥
 -- what is asked for is done where the change was taken, where the file was settled or read anew, and where it is a need and nothing keeps it
 pub record AreDone {K : Type 0} (does : KeepCall → K → K → Type 0) (reads : K → List ℕ → Result Row Why → Type 0) (Done : Asked → Option K → Type 0) : Type 0 where
   pub taken : (a : Asked) (now : ℕ) (name : List ℕ) (w : What) (x : Unit {0}) (l m : K) → IsChangeOf reads a name w → does (Take now name w (Ok x)) l m → Done a (Some m)
-  pub settled : (m : K) → Done asked.Settle (Some m)
-  pub reloaded : (m : K) → Done asked.Reload (Some m)
+  pub settled : (x : Unit {0}) (l m : K) → does (Settle (Ok x)) l m → Done asked.Settle (Some m)
+  pub reloaded : (now : ℕ) (reread : Reread) (l m : K) → does (Reload now (Ok reread)) l m → Done asked.Reload (Some m)
   pub unkept : (name : List ℕ) (need : Need) → Done (asked.Need name need) None
 
 module _ {K : Type 0} (Done : Asked → Option K → Type 0) (has : ℕ → Asked → Type 0) where
@@ -177,7 +177,7 @@ module _ {K : Type 0} (does : KeepCall → K → K → Type 0) (reads : K → Li
   settler : (Says : K → List ℕ → Type 0) (outcome : Outcome) (old new : Option K) → KeeperIsAsked does Settle Says outcome old new → WasDone outcome → Done asked.Settle new
   settler Says (Ok line) None new h done = absurd h.1
   settler Says (Ok line) (Some l) None h done = absurd h
-  settler Says (Ok line) (Some l) (Some m) h done = so.settled m
+  settler Says (Ok line) (Some l) (Some m) h done = so.settled tt l m h.0
   settler Says (Err why) old new h done = absurd done
 
   need_done : (agent : Agent) (now : Reading) (name : List ℕ) (need : Need) (x : Unit {0}) (old new : Option K) → NeedIsKept does agent now name need (Ok x) old new → Done (asked.Need name need) new
@@ -192,7 +192,7 @@ module _ {K : Type 0} (does : KeepCall → K → K → Type 0) (reads : K → Li
   reload_done : (now : Reading) (reread : Reread) (old new : Option K) → RereadBy does now (Some (Ok reread)) old new → Done asked.Reload new
   reload_done now reread None new h = absurd h
   reload_done now reread (Some l) None h = absurd h
-  reload_done now reread (Some l) (Some m) h = so.reloaded m
+  reload_done now reread (Some l) (Some m) h = so.reloaded now.elapsed reread l m h
 
 -- whoever keeps changes was asked for one, from which this follows
 module _ {K : Type 0} (does : KeepCall → K → K → Type 0) (now : ℕ) (name : List ℕ) (w : What) (Q : Option K → Type 0) (made : (x : Unit {0}) (l m : K) → does (Take now name w (Ok x)) l m → Q (Some m)) where

@@ -1,5 +1,5 @@
 -- Recorded: a change that was taken is on the disk, whatever a crash leaves. For `whoever_is_told_ok_has_it`.
-use Rattle.std.proofs.Common.{◌≡◌, ◌∙◌, ℕ, suc, ◌≤◌, Bool, true, false, ◌&&◌, IsTrue, inl, inr, List, [], ◌∷◌, ◌++◌, length, option_to_list, slice_index, Option, Some, None, Result, Ok, ap, append-nil, arith, refl, subst, sym}
+use Rattle.std.proofs.Common.{◌≡◌, ◌∙◌, ◌⊎◌, ℕ, suc, ◌≤◌, Bool, true, false, ◌&&◌, IsTrue, inl, inr, List, [], ◌∷◌, ◌++◌, length, option_to_list, slice_index, Option, Some, None, Result, Ok, ap, append-nil, arith, refl, subst, sym}
 use Rattle.std.proofs.lemmas.List.Elements.{Contains-push}
 use Rattle.std.specs.List.{Contains}
 use Rattle.agent_answers.specs.declared.asked.Asked.{Asked}
@@ -11,27 +11,35 @@ use Rattle.state_changes.specs.declared.change.What.{What}
 use Rattle.state_changes.specs.declared.change.What.TheVariants as what
 use Rattle.state_changes.specs.declared.row.Row.{Row}
 use Rattle.state_changes.specs.declared.replaying.File.{File}
+use Rattle.state_changes.specs.declared.replaying.Note.{Note}
 use Rattle.state_changes.specs.Compaction.{is_need, is_void, voids}
 use Rattle.state_changes.specs.Records.{record_of}
 use Rattle.base_disk.specs.Image as images
 use Rattle.base_disk.specs.Image.{Image}
 use Rattle.base_disk.specs.State.{DiskState}
-use Rattle.base_journal.specs.Journals.{CrashLeaves, JournalIsWhole, bytes_of_file}
+use Rattle.base_journal.specs.Journals.{CrashLeaves, FileIsThere, JournalIsWhole, bytes_of_file}
 use Rattle.base_journal.specs.Records.{AreLines, StandsFor, at_rest, lines_kept}
 use Rattle.base_journal.proofs.Steps.{at_end}
 use Rattle.state_secrets.specs.Stamps.{FileCall}
+use Rattle.state_keeping.specs.Places.{Places}
+use Rattle.state_keeping.specs.Settles.{IsSettledIf, copy_with, mode_of}
 use Rattle.state_keeping.specs.States.{Kept, book_in, store_in}
-use Rattle.state_store.specs.Books.{Book}
+use Rattle.state_store.specs.Books.{Book, IsBookIf}
 use Rattle.state_store.specs.Compacted.{compacted_lines}
 use Rattle.state_store.specs.Entering.{line_for_change}
+use Rattle.state_store.specs.Moved.{SaysAlready}
 use Rattle.state_store.specs.Records.{records_in}
-use Rattle.state_store.specs.Stores.{journal_of, lines_in, path_of_store}
+use Rattle.state_store.specs.Stores.{book_of, journal_of, lines_in, path_of_store}
+use Rattle.state_store.specs.declared.secret.Secret.{Secret}
+use Rattle.state_store.specs.declared.store.Store.{Store}
 use Rattle.state_store.proofs.Lists.{records_push}
+use Rattle.state_store.proofs.Staying.{damaged_records}
 use Rattle.agent_words.specs.Outcomes.{Why}
-use Rattle.agent_ledger.specs.Keeping.{KeepCall, Take}
+use Rattle.agent_words.specs.declared.reread.Reread.{Reread}
+use Rattle.agent_ledger.specs.Keeping.{KeepCall, Reload, Settle, Take}
 use Rattle.agent_ledger.specs.Ledgers.{AreCompacted, DoesLedger, IsTakenOn, ReadsTable}
 use Rattle.agent_ledger.specs.declared.ledger.Ledger.{Ledger}
-use Rattle.agent_laws.specs.Acknowledged.{HasRecord, IsDone, IsOnDisk}
+use Rattle.agent_laws.specs.Acknowledged.{FileHasAll, HasRecord, IsDone, IsOnDisk, IsReread}
 use Rattle.agent_laws.proofs.Owed.{AreDone, IsChangeOf}
 
 -- ---- the last line of a journal stays where those are taken out that are void
@@ -151,6 +159,28 @@ module _ {D : Type 0} (known : Bool) (seen : D → DiskState) where
   moved : (name other : List ℕ) (w v : What) (k : Kept D) → name ≡ other → w ≡ v → IsOnDisk known seen name w k → IsOnDisk known seen other v k
   moved name other w v k same is h = subst (λ (n : List ℕ). IsOnDisk known seen n v k) same (subst (λ (x : What). IsOnDisk known seen name x k) is h)
 
+  -- FILE was settled
+  settled_by : (mode : ℕ) (text : Option (List ℕ)) (old new : Kept D) → new.places ≡ old.places → IsSettledIf known (store_in old) old.places mode text None (store_in new) (seen new.disk) → FileHasAll known seen new ⊎ SaysAlready (book_in new)
+  settled_by mode (Some text) old new places h = inl (record {
+    text = text;
+    served = h.served;
+    reads = h.says.read;
+    lists = h.says.listed ∙ sym h.book.rows;
+    is_read = h.book.file;
+    emptied = ap records_in h.handed.0 ∙ damaged_records (lines_in (store_in old));
+    mode = mode;
+    there = λ is. subst (λ (p : Places). FileIsThere p.file (record { mode = mode; bytes = text }) (seen new.disk)) (sym places) (h.there is);
+    copied = λ is. subst (λ (p : Places). FileIsThere p.copy (copy_with text) (seen new.disk)) (sym places) (h.handed.1 is).0;
+    whole = λ is. (h.handed.1 is).1;
+  })
+  settled_by mode None old new places h = inr (subst (λ (s : Store). SaysAlready (book_of s)) (sym h.1.0) h.1.1)
+
+-- it was read anew
+reread_as : {D : Type 0} (lines : List (List ℕ)) (bytes : List ℕ) (notes : List Note) (old new : Kept D) → lines_in (store_in new) ≡ lines → IsBookIf (Some bytes) (records_in lines) (book_in old).secrets (book_in new) notes → IsReread new
+reread_as lines bytes notes old new same h =
+    let secrets : (book_in old).secrets ≡ (book_in new).secrets = sym h.secrets_are in
+    (bytes, (notes, subst (λ (ls : List (List ℕ)). IsBookIf (Some bytes) (records_in ls) (book_in new).secrets (book_in new) notes) (sym same) (subst (λ (s : List Secret). IsBookIf (Some bytes) (records_in lines) s (book_in new) notes) secrets h)))
+
 module _ {D I L : Type 0} (known : Bool) (seen : D → DiskState) (counts : (disk : D) (t : ℕ) (c : Image) → t ≤ (seen disk).moment → (seen disk).may_leave c → (seen disk).left_since t c)
     (calls : I → Option (List FileCall)) (lanes_seen : L → Lanes) (port : L → ℕ) where
   abbrev Does : KeepCall → Ledger D I L → Ledger D I L → Type 0
@@ -170,5 +200,12 @@ module _ {D I L : Type 0} (known : Bool) (seen : D → DiskState) (counts : (dis
   taken asked.Reload now name w x l m is h = absurd is
   taken (asked.Follow alerts) now name w x l m is h = absurd is
 
+  -- FILE was settled, or read anew
+  settled : (x : Unit {0}) (l m : Ledger D I L) → Does (Settle (Ok x)) l m → FileHasAll known seen m.state ⊎ SaysAlready (book_in m.state)
+  settled x l m h = settled_by known seen (mode_of h.0.0.read.mode) h.0.0.text l.state m.state h.0.1 h.0.0.settled
+
+  reloaded : (now : ℕ) (reread : Reread) (l m : Ledger D I L) → Does (Reload now (Ok reread)) l m → IsReread m.state
+  reloaded now reread l m h = reread_as (lines_in (store_in l.state)) h.0.bytes h.0.notes l.state m.state h.0.lines h.0.book
+
   pub are_done : AreDone Does reads_of (IsDone {I = I} {L = L} known seen)
-  are_done = record { taken = taken; settled = λ m. tt; reloaded = λ m. tt; unkept = λ name need. tt }
+  are_done = record { taken = taken; settled = settled; reloaded = reloaded; unkept = λ name need. tt }

@@ -15,8 +15,10 @@ use Rattle.agent_pages.specs.declared.asked.Page.{Page}
 use Rattle.vault_asking.specs.Sending.{Lanes}
 use Rattle.agent_behind.specs.Behinds.{PassesBehind}
 use Rattle.agent_behind.specs.declared.behind.Behind.{Behind}
+use Rattle.state_changes.specs.Listed.{rows_of_served}
 use Rattle.state_changes.specs.declared.change.What.{What}
 use Rattle.state_changes.specs.declared.change.What.TheVariants as what
+use Rattle.state_changes.specs.declared.replaying.Note.{Note}
 use Rattle.state_changes.specs.declared.row.Row.{Row}
 use Rattle.base_clients.specs.Doors.{DoorLog}
 use Rattle.base_clients.specs.declared.guest.Guest.{Guest}
@@ -27,8 +29,10 @@ use Rattle.base_clock.specs.declared.reading.Reading.{Reading}
 use Rattle.base_device.specs.declared.tried.Tried.{Tried}
 use Rattle.base_disk.specs.Image.{Image}
 use Rattle.base_disk.specs.State.{DiskState}
-use Rattle.base_journal.specs.Journals.{bytes_of_file}
+use Rattle.base_journal.specs.Journals.{FileIsThere, JournalIsWhole, bytes_of_file}
 use Rattle.base_journal.specs.Records.{StandsFor}
+use Rattle.vault_inventory.specs.Inventory.{read_served}
+use Rattle.vault_inventory.specs.Served.{Served}
 use Rattle.state_secrets.specs.Stamps.{FileCall}
 use Rattle.agent_turns.specs.Calls.{calls_of}
 use Rattle.agent_turns.specs.Days.{PassesToOthers}
@@ -37,10 +41,14 @@ use Rattle.agent_turns.specs.Neighbours.{AllCalled, Give, GoOn, Hear, NeighbourC
 use Rattle.agent_turns.specs.Runs.{AreTurns}
 use Rattle.agent_turns.specs.Turns.{ServingTurn}
 use Rattle.agent_turns.specs.declared.day.EarlyDay.{EarlyDay}
+use Rattle.state_keeping.specs.Settles.{copy_with}
 use Rattle.state_keeping.specs.States.{Kept, book_in, store_in}
 use Rattle.state_keeping.specs.Tables.{row_of_table}
+use Rattle.state_store.specs.Books.{IsBookIf, file_of}
 use Rattle.state_store.specs.Entering.{line_for_change}
-use Rattle.state_store.specs.Stores.{lines_in, path_of_store}
+use Rattle.state_store.specs.Moved.{SaysAlready}
+use Rattle.state_store.specs.Records.{records_in}
+use Rattle.state_store.specs.Stores.{journal_of, lines_in, path_of_store}
 use Rattle.agent_house.specs.Admitting.{asking_in}
 use Rattle.agent_house.specs.Houses.{ClientsAsk}
 use Rattle.agent_house.specs.declared.house.House.{House}
@@ -125,15 +133,33 @@ pub record IsOnDisk {D : Type 0} (known : Bool) (seen : D → DiskState) (name :
   pub held : Contains (lines_in (store_in k)) (line_for_change (book_in k).file name w)
   pub left : IsTrue known → (c : Image) → (seen k.disk).may_leave c → HasRecord (line_for_change (book_in k).file name w) (bytes_of_file (c (path_of_store (store_in k))))
 
--- so is that of the change that a client has asked for. (What it asks for besides is no change of an entry; and none that follows the log is
--- told so here.)
+-- FILE has all that is kept: it is on the disk with this text, which is read as those rows, and is what was read of it last. Its copy has it
+-- too, and the journal has no record
+pub record FileHasAll {D : Type 0} (known : Bool) (seen : D → DiskState) (k : Kept D) : Type 0 where
+  pub text : List ℕ
+  pub served : Served
+  pub reads : read_served text ≡ Ok served
+  pub lists : rows_of_served served ≡ (book_in k).rows
+  pub is_read : (book_in k).file ≡ file_of text served
+  pub emptied : records_in (lines_in (store_in k)) ≡ []
+  pub mode : ℕ
+  pub there : IsTrue known → FileIsThere k.places.file (record { mode = mode; bytes = text }) (seen k.disk)
+  pub copied : IsTrue known → FileIsThere k.places.copy (copy_with text) (seen k.disk)
+  pub whole : IsTrue known → JournalIsWhole (journal_of (store_in k)) (seen k.disk)
+
+-- what is served is the rows of a text, by which FILE was read, with every change of the journal
+abbrev pub IsReread : {D : Type 0} → Kept D → Type 0
+IsReread k = (bytes : List ℕ) × ((notes : List Note) × IsBookIf (Some bytes) (records_in (lines_in (store_in k))) (book_in k).secrets (book_in k) notes)
+
+-- what a client has asked for is done: the record of a change is on the disk; FILE has all that is kept, or that is what was read of it last
+-- by its fingerprint; or it is read anew. None that follows the log is told so by this
 abbrev pub IsKept : {D : Type 0} → Bool → (D → DiskState) → Asked → Kept D → Type 0
 IsKept known seen (asked.Need name need) k = IsOnDisk known seen name (what.Need need) k
 IsKept known seen (asked.Replace name credential) k = IsOnDisk known seen name (what.Replace credential) k
 IsKept known seen (asked.Add table) k = (most : Option ℕ) × ((row : Row) × ((row_of_table most table ≡ Ok row) × IsOnDisk known seen row.name (what.Add row) k))
 IsKept known seen (asked.Drop name) k = IsOnDisk known seen name what.Drop k
-IsKept known seen asked.Settle k = Unit {0}
-IsKept known seen asked.Reload k = Unit {0}
+IsKept known seen asked.Settle k = FileHasAll known seen k ⊎ SaysAlready (book_in k)
+IsKept known seen asked.Reload k = IsReread k
 IsKept known seen (asked.Follow alerts) k = ⊥
 
 -- where nothing keeps changes nothing is done but for a need

@@ -45,13 +45,14 @@ pub reread_as :
     (notes : List Note) × (IsBookIf (Some bytes) (records_in (lines_in (store_in mid))) (book_in mid).secrets (book_in new) notes
     × SaysNotes (book_in new).file.margin (records_in (lines_in (store_in new))) notes r.notes.items) →
     (copy : Option DiskFault) × (IsCopied known mid.places bytes copy (seen new.disk) × SaysCopy copy r.unkept) →
-    waiting_in new.keeper ≡ changed (waiting_in mid.keeper) now → ReloadsOn known seen demands now (Ok r) old new
-reread_as known seen demands now bytes r old mid new stand written keeper places reloaded copied waiting = record {
+    lines_in (store_in new) ≡ lines_in (store_in mid) → waiting_in new.keeper ≡ changed (waiting_in mid.keeper) now → ReloadsOn known seen demands now (Ok r) old new
+reread_as known seen demands now bytes r old mid new stand written keeper places reloaded copied lines waiting = record {
   bytes = bytes;
   stand = stand;
   written = written;
   notes = reloaded.0;
   book = subst (λ k. IsBookIf (Some bytes) (records_in (lines_in (store_of k))) (book_of (store_of k)).secrets (book_in new) reloaded.0) keeper reloaded.1.0;
+  lines = lines ∙ ap (λ k. lines_in (store_of k)) keeper;
   waiting = waiting ∙ ap (λ k. changed (waiting_in k) now) keeper;
   noted = reloaded.1.1;
   copy = copied.0;

@@ -77,8 +77,9 @@ TakesOn known seen now name w (Err why) old new = IsAsItWas old new × SaysWhy (
 
 -- ---- settle, reload, and the others
 
+-- the paths stay
 abbrev pub SettlesOn : {D : Type 0} → Bool → (D → DiskState) → Result (Unit {0}) Why → Kept D → Kept D → Type 0
-SettlesOn known seen (Ok x) old new = IsSettledState known old None new (seen old.disk) (seen new.disk)
+SettlesOn known seen (Ok x) old new = IsSettledState known old None new (seen old.disk) (seen new.disk) × (new.places ≡ old.places)
 SettlesOn known seen (Err why) old new = ((book_in new ≡ book_in old) × SaysWhy (IsWhyUnsettledState known old (seen old.disk)) settle_words why)
     ⊎ ((fault : DiskFault) × (IsSettledState known old (Some fault) new (seen old.disk) (seen new.disk) × IfSome why (λ text. text ≡ left_over_words fault)))
 
@@ -113,13 +114,15 @@ pub record IsFilledOn {D : Type 0} (files : Files) (folder : List ℕ) (now : �
   pub taken : FilledWith is_taken now secrets old new
   pub said_is : said ≡ said_if is_taken
 
--- a file that may be served is, with every change; and what is said of it. What was taken of files of credentials stays, and none is read
+-- a file that may be served is, with every change; and what is said of it. The journal, and what was taken of files of credentials, stay; and
+-- none of these is read
 pub record IsReloadedOn {D : Type 0} (known : Bool) (seen : D → DiskState) (demands : Demands) (now : ℕ) (reread : Reread) (old new : Kept D) : Type 0 where
   pub bytes : List ℕ
   pub stand : AreBytesOf known seen old bytes
   pub written : IsWellWritten demands bytes
   pub notes : List Note
   pub book : IsBookIf (Some bytes) (records_in (lines_in (store_in old))) (book_in old).secrets (book_in new) notes
+  pub lines : lines_in (store_in new) ≡ lines_in (store_in old)
   pub waiting : waiting_in new.keeper ≡ changed (waiting_in old.keeper) now
   pub noted : SaysNotes (book_in new).file.margin (records_in (lines_in (store_in new))) notes reread.notes.items
   pub copy : Option DiskFault

@@ -154,6 +154,7 @@ impl<'a, D: Disk, I: Inputs, L: Lanes> Ledger<'a, D, I, L> {
         ensures reloaded { IfOk result (λ r. (notes : List Note) × (IsBookIf (Some bytes.now) (records_in (lines_in (store_in self.old.state))) (book_in self.old.state).secrets (book_in self.new.state) notes
             × SaysNotes (book_in self.new.state).file.margin (records_in (lines_in (store_in self.new.state))) notes r.notes.items)) }
         ensures copied { IfOk result (λ r. (copy : Option DiskFault) × (IsCopied D.is_known self.old.state.places bytes.now copy (D.state self.new.state.disk) × SaysCopy copy r.unkept)) }
+        ensures lines { OnOk result (lines_in (store_in self.new.state) ≡ lines_in (store_in self.old.state)) }
         ensures why { IfErr result (λ why. IfSome why (SaysNoBook bytes.now)) }
         ensures waiting { OnOk result (waiting_in self.new.state.keeper ≡ changed (waiting_in self.old.state.keeper) now) }
         ensures refused { OnErr result (IsAsItWas self.old.state self.new.state) }

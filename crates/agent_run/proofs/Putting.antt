@@ -29,8 +29,8 @@ use Rattle.agent_start.specs.TakingOver.{TakesOver}
 use Rattle.agent_start.specs.declared.said.Said.{Said}
 use Rattle.agent_start.specs.declared.start.Start.{Start}
 use Rattle.watch_machine.specs.declared.event.Event.{Event}
-use Rattle.agent_run.specs.Begun.{BeginsLog, HasFolder, IsBegun, IsLookout, IsReady, LooksAhead, SaysIfBehind, beside, day_of, house_of, place_text, with_lanes}
-use Rattle.agent_run.specs.Doors.{IsDoor, SaysNoDoor, cost_without}
+use Rattle.agent_run.specs.Begun.{BeginsLog, IsBegun, IsLookout, IsReady, LooksAhead, SaysIfBehind, beside, day_of, ends_folder, house_of, place_text, with_lanes}
+use Rattle.agent_run.specs.Doors.{DoorCall, IsDoor, SaysNoDoor, cost_without}
 use Rattle.agent_run.specs.Run.{IsRun, ReadsFirst, reading_or_none}
 use Rattle.agent_run.specs.Running.{RunsFrom}
 use Rattle.agent_run.specs.Waits.{IsResumedFrom, WaitsFor}
@@ -51,31 +51,31 @@ is_lookout number lanes l its own none nothing = record { number = its; own = ow
 
 pub begins_log :
     {P : Type 0} → (calls : P → Option (List FileCall)) (now : Reading) (form : Form) (place : Place) (words : List ℕ) (count : ℕ) (said heard : List Said) (warned : Vec Said Global) (path : Option (String Global)) (folder : Option (List ℕ)) (files after : P) (result : Result Desk AllocError) →
-    words ≡ place_text place → HasFolder path folder → WarnsOfDisks calls folder files after said warned.items → heard ≡ warned.items → IfOk result (BeginsDesk form words count now heard) → IfOk result (BeginsLog calls now form place count said path files)
-begins_log calls now form place words count said heard warned path folder files after (Ok desk) is has warns same begins =
+    words ≡ place_text place → folder ≡ ends_folder path → WarnsOfDisks calls folder files after said warned.items → heard ≡ warned.items → IfOk result (BeginsDesk form words count now heard) → IfOk result (BeginsLog calls now form place count said path files)
+begins_log calls now form place words count said heard warned path folder files after (Ok desk) is in_folder warns same begins =
     record {
-      folder = folder;
       after = after;
       warned = warned.items;
-      has_folder = has;
-      warns = warns;
+      warns = subst (λ f. WarnsOfDisks calls f files after said warned.items) in_folder warns;
       begins = subst (λ s. BeginsDesk form (place_text place) count now s desk) same (subst (λ w. BeginsDesk form w count now heard desk) is begins);
     }
-begins_log calls now form place words count said heard warned path folder files after (Err e) is has warns same begins = tt
+begins_log calls now form place words count said heard warned path folder files after (Err e) is in_folder warns same begins = tt
 
 pub is_ready :
-    {D E P : Type 0} → (calls : P → Option (List FileCall)) (known : Bool) (seen : E → DiskState) (now : Reading) (served : Served) (behind : Option ℕ) (inventory : Inventory) (said : List Said) (path : Option (String Global)) (disk : E) (doors : P) (r : Ready D E) (count width margin : ℕ) (is_behind : Bool)
+    {D E P : Type 0} → (calls : P → Option (List FileCall)) (asked : P → Option (List (DoorCall D))) (known : Bool) (seen : E → DiskState) (now : Reading) (served : Served) (behind : Option ℕ) (inventory : Inventory) (said : List Said) (path : Option (String Global)) (disk : E) (doors doors_reckoned doors_opened doors_after : P) (r : Ready D E) (count width margin : ℕ) (is_behind : Bool)
     (begun told placed reckoned opened : Desk) →
     BeginsLog calls now served.form served.place count said path doors begun → count ≡ length inventory.forest.entries → TakesOver known seen now inventory path disk r.taken begun told → SaysIfBehind now behind margin told placed → margin ≡ inventory.forest.margin →
     ArePlaces now width is_behind r.entrances.places placed reckoned → width ≡ min served.width 32 → is_behind ≡ is_some behind →
-    IsDoor now served.control Clients r.entrances.control reckoned opened → IsDoor now served.listen Onlookers r.entrances.onlookers opened r.desk → IsReady calls known seen now served behind inventory said path disk doors r
-is_ready calls known seen now served behind inventory said path disk doors r count width margin is_behind begun told placed reckoned opened begins many takes stands by places wide is control onlookers =
+    IsDoor asked now served.control Clients r.entrances.control doors_reckoned doors_opened reckoned opened → IsDoor asked now served.listen Onlookers r.entrances.onlookers doors_opened doors_after opened r.desk → IsReady calls asked known seen now served behind inventory said path disk doors doors_after r
+is_ready calls asked known seen now served behind inventory said path disk doors doors_reckoned doors_opened doors_after r count width margin is_behind begun told placed reckoned opened begins many takes stands by places wide is control onlookers =
     record {
       begun = begun;
       told = told;
       placed = placed;
       reckoned = reckoned;
       opened = opened;
+      doors_reckoned = doors_reckoned;
+      doors_opened = doors_opened;
       begins = subst (λ n. BeginsLog calls now served.form served.place n said path doors begun) many begins;
       takes = takes;
       stands = subst (λ m. SaysIfBehind now behind m told placed) by stands;
@@ -85,12 +85,12 @@ is_ready calls known seen now served behind inventory said path disk doors r cou
     }
 
 pub put_together :
-    {D I L S T O E P : Type 0} → (calls : P → Option (List FileCall)) (known : Bool) (seen : E → DiskState) (now : Reading) (served : Served) (start : Start (Ledger D I L)) (parts : Parts S E L) (doors : P) (width : ℕ) (b : Begun S T O (Ledger D I L) E L) (ready : Ready O E) (desk : Desk)
-    (lookout : Option (Ahead L)) (events : List Event) (ledger : Option (Ledger D I L)) (house : House S T O (Ledger D I L) E) (neighbours : Behind (House S T O (Ledger D I L) E) L) → IsReady calls known seen now served start.behind start.inventories.served start.said.items parts.ends parts.disk doors ready →
+    {D I L S T O E P : Type 0} → (calls : P → Option (List FileCall)) (asked : P → Option (List (DoorCall O))) (known : Bool) (seen : E → DiskState) (now : Reading) (served : Served) (start : Start (Ledger D I L)) (parts : Parts S E L) (doors doors_after : P) (width : ℕ) (b : Begun S T O (Ledger D I L) E L) (ready : Ready O E) (desk : Desk)
+    (lookout : Option (Ahead L)) (events : List Event) (ledger : Option (Ledger D I L)) (house : House S T O (Ledger D I L) E) (neighbours : Behind (House S T O (Ledger D I L) E) L) → IsReady calls asked known seen now served start.behind start.inventories.served start.said.items parts.ends parts.disk doors doors_after ready →
     IsResumedFrom events start.inventories.served width b.serving → events ≡ ready.taken.known.items → WaitsFor events width now start.part b.serving.agent start.inventories.again b.wait ready.desk desk → ledger ≡ with_lanes parts.lane parts.askers start.ledger →
     house ≡ house_of now start.is_good start.behind ledger start.inventories.named parts.log desk ready.entrances ready.taken.file → LooksAhead start.behind parts.ahead lookout → neighbours ≡ beside house lookout →
-    b.neighbours ≡ day_of start.part neighbours → IsBegun calls known seen now served start parts doors width b
-put_together calls known seen now served start parts doors width b ready desk lookout events ledger house neighbours is agent handed waits l h ahead by n =
+    b.neighbours ≡ day_of start.part neighbours → IsBegun calls asked known seen now served start parts doors doors_after width b
+put_together calls asked known seen now served start parts doors doors_after width b ready desk lookout events ledger house neighbours is agent handed waits l h ahead by n =
     record {
       ready = ready;
       desk = desk;
@@ -113,10 +113,10 @@ module _ {C : Type 0} (clock_seen : C → ClockSeen) where
   reads_none result fault now old new is none made = record { reading = None; is = none; made = subst (λ r. CallIsMade (read_call (result_ok r)) (clock_seen old) (clock_seen new)) is made }
 
 pub runs_so :
-    {D I L S T O E C P : Type 0} → (does : NeighbourCall → EarlyDay (Behind (House S T O (Ledger D I L) E) L) → EarlyDay (Behind (House S T O (Ledger D I L) E) L) → Type 0) (given : EarlyDay (Behind (House S T O (Ledger D I L) E) L) → Option (List Change)) (calls : P → Option (List FileCall)) (known : Bool) (disk_seen : E → DiskState)
-    (clock_seen : C → ClockSeen) (seen : L → Lanes) (port width : L → ℕ) (served : Served) (start : Start (Ledger D I L)) (parts : Parts S E L) (doors : P) (clock clock_read clock_after : C) (lanes lanes_after : L) (now : Reading) (begun : Begun S T O (Ledger D I L) E L)
-    (after : EarlyDay (Behind (House S T O (Ledger D I L) E) L)) → ReadsFirst clock_seen now clock clock_read → IsBegun calls known disk_seen now served start parts doors (width lanes) begun →
+    {D I L S T O E C P : Type 0} → (does : NeighbourCall → EarlyDay (Behind (House S T O (Ledger D I L) E) L) → EarlyDay (Behind (House S T O (Ledger D I L) E) L) → Type 0) (given : EarlyDay (Behind (House S T O (Ledger D I L) E) L) → Option (List Change)) (calls : P → Option (List FileCall)) (asked : P → Option (List (DoorCall O))) (known : Bool) (disk_seen : E → DiskState)
+    (clock_seen : C → ClockSeen) (seen : L → Lanes) (port width : L → ℕ) (served : Served) (start : Start (Ledger D I L)) (parts : Parts S E L) (doors doors_after : P) (clock clock_read clock_after : C) (lanes lanes_after : L) (now : Reading) (begun : Begun S T O (Ledger D I L) E L)
+    (after : EarlyDay (Behind (House S T O (Ledger D I L) E) L)) → ReadsFirst clock_seen now clock clock_read → IsBegun calls asked known disk_seen now served start parts doors doors_after (width lanes) begun →
     RunsFrom does given clock_seen seen port begun.wait begun.serving lanes clock_read begun.neighbours lanes_after clock_after after →
-    IsRun does given calls known disk_seen clock_seen seen port width served start parts doors clock lanes clock_after lanes_after
-runs_so does given calls known disk_seen clock_seen seen port width served start parts doors clock clock_read clock_after lanes lanes_after now begun after reads begins runs =
-    record { now = now; clock_read = clock_read; begun = begun; after = after; reads = reads; begins = begins; runs = runs }
+    IsRun does given calls asked known disk_seen clock_seen seen port width served start parts doors clock lanes clock_after lanes_after
+runs_so does given calls asked known disk_seen clock_seen seen port width served start parts doors doors_after clock clock_read clock_after lanes lanes_after now begun after reads begins runs =
+    record { now = now; clock_read = clock_read; doors_after = doors_after; begun = begun; after = after; reads = reads; begins = begins; runs = runs }

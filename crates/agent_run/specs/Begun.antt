@@ -1,6 +1,6 @@
 -- Begun: what a start puts together: the agent, its neighbours and its wait, and all that was said by then.
 -- Source: this project's own.
-use Rattle.std.specs.Prelude.{◌≡◌, ℕ, ◌/◌, Bool, false, if◌then◌else◌, List, [], Option, Some, None, String, Vec, ◌++◌, codes, decimal, is_some, length, min, option_map}
+use Rattle.std.specs.Prelude.{◌≡◌, ℕ, ◌/◌, Bool, false, if◌then◌else◌, List, [], Option, Some, None, String, Vec, ◌++◌, codes, decimal, is_some, length, min, option_map, string_bytes}
 use Rattle.std.specs.declared.alloc.Global.{Global}
 use Rattle.agent_ledger.specs.declared.asker.Asker.{Asker}
 use Rattle.agent_ledger.specs.declared.ledger.Ledger.{Ledger}
@@ -24,13 +24,14 @@ use Rattle.agent_pages.specs.declared.board.FileReading.{FileReading}
 use Rattle.state_secrets.specs.Stamps.{FileCall}
 use Rattle.agent_turns.specs.declared.day.EarlyDay.{EarlyDay}
 use Rattle.program_commands.specs.declared.job.Served.{Served}
+use Rattle.agent_start.specs.Alone.{folder_of}
 use Rattle.agent_start.specs.Descriptors.{ArePlaces}
 use Rattle.agent_start.specs.Saying.{BeginsDesk, SaysBehind}
 use Rattle.agent_start.specs.Stalls.{WarnsOfDisks}
 use Rattle.agent_start.specs.TakingOver.{TakesOver}
 use Rattle.agent_start.specs.declared.said.Said.{Said}
 use Rattle.agent_start.specs.declared.start.Start.{Start}
-use Rattle.agent_run.specs.Doors.{IsDoor}
+use Rattle.agent_run.specs.Doors.{DoorCall, IsDoor}
 use Rattle.agent_run.specs.Waits.{IsResumedFrom, WaitsFor, millis_of}
 use Rattle.agent_run.specs.declared.begun.Begun.{Begun}
 use Rattle.agent_run.specs.declared.begun.Entrances.{Entrances}
@@ -39,8 +40,9 @@ use Rattle.agent_run.specs.declared.begun.Ready.{Ready}
 use Rattle.agent_run.specs.declared.doors.Guests.TheVariants.{Clients, Onlookers}
 
 -- the folder of the file of the ends, where there is one
-abbrev pub HasFolder : Option (String Global) → Option (List ℕ) → Type 0
-HasFolder path folder = is_some folder ≡ is_some path
+abbrev pub ends_folder : Option (String Global) → Option (List ℕ)
+ends_folder None = None
+ends_folder (Some path) = Some (folder_of (string_bytes path))
 
 -- where the broker is reached, in words
 abbrev pub place_text : Place → List ℕ
@@ -49,11 +51,9 @@ place_text (places.Path path) = path.now
 
 -- the log begins with what is said of the start, and with a warning of each file for which the loop waits where that lies on a disk
 pub record BeginsLog {P : Type 0} (calls : P → Option (List FileCall)) (now : Reading) (form : Form) (place : Place) (count : ℕ) (said : List Said) (path : Option (String Global)) (files : P) (desk : Desk) : Type 0 where
-  pub folder : Option (List ℕ)
   pub after : P
   pub warned : List Said
-  pub has_folder : HasFolder path folder
-  pub warns : WarnsOfDisks calls folder files after said warned
+  pub warns : WarnsOfDisks calls (ends_folder path) files after said warned
   pub begins : BeginsDesk form (place_text place) count now warned desk
 
 -- the margin of an agent behind another
@@ -63,18 +63,20 @@ SaysIfBehind now (Some number) margin old new = SaysBehind now margin old new
 
 -- the log begins, the ends that were kept are taken over, it is reckoned how many guests are let in, and the doors are opened, in this order;
 -- the desk is as the last of them left it
-pub record IsReady {D E P : Type 0} (calls : P → Option (List FileCall)) (known : Bool) (seen : E → DiskState) (now : Reading) (served : Served) (behind : Option ℕ) (inventory : Inventory) (said : List Said) (path : Option (String Global)) (disk : E) (doors : P) (r : Ready D E) : Type 0 where
+pub record IsReady {D E P : Type 0} (calls : P → Option (List FileCall)) (asked : P → Option (List (DoorCall D))) (known : Bool) (seen : E → DiskState) (now : Reading) (served : Served) (behind : Option ℕ) (inventory : Inventory) (said : List Said) (path : Option (String Global)) (disk : E) (doors doors_after : P) (r : Ready D E) : Type 0 where
   pub begun : Desk
   pub told : Desk
   pub placed : Desk
   pub reckoned : Desk
   pub opened : Desk
+  pub doors_reckoned : P
+  pub doors_opened : P
   pub begins : BeginsLog calls now served.form served.place (length inventory.forest.entries) said path doors begun
   pub takes : TakesOver known seen now inventory path disk r.taken begun told
   pub stands : SaysIfBehind now behind inventory.forest.margin told placed
   pub places : ArePlaces now (min served.width 32) (is_some behind) r.entrances.places placed reckoned
-  pub control : IsDoor now served.control Clients r.entrances.control reckoned opened
-  pub onlookers : IsDoor now served.listen Onlookers r.entrances.onlookers opened r.desk
+  pub control : IsDoor asked now served.control Clients r.entrances.control doors_reckoned doors_opened reckoned opened
+  pub onlookers : IsDoor asked now served.listen Onlookers r.entrances.onlookers doors_opened doors_after opened r.desk
 
 -- a ledger has the credential of a client's change looked up over this lane before it takes it, and those of files by these askers
 abbrev pub with_lanes : {D I L : Type 0} → L → Vec (Asker L) Global → Option (Ledger D I L) → Option (Ledger D I L)
@@ -122,11 +124,11 @@ beside others lookout = record { others = others; lookout = lookout; giver = Oth
 abbrev pub day_of : {N : Type 0} → ℕ → N → EarlyDay N
 day_of part house = record { others = house; earlier = millis_of part; begun = None; is_own = false }
 
-pub record IsBegun {D I L S T O E P : Type 0} (calls : P → Option (List FileCall)) (known : Bool) (seen : E → DiskState) (now : Reading) (served : Served) (start : Start (Ledger D I L)) (parts : Parts S E L) (doors : P) (width : ℕ) (b : Begun S T O (Ledger D I L) E L) : Type 0 where
+pub record IsBegun {D I L S T O E P : Type 0} (calls : P → Option (List FileCall)) (asked : P → Option (List (DoorCall O))) (known : Bool) (seen : E → DiskState) (now : Reading) (served : Served) (start : Start (Ledger D I L)) (parts : Parts S E L) (doors doors_after : P) (width : ℕ) (b : Begun S T O (Ledger D I L) E L) : Type 0 where
   pub ready : Ready O E
   pub desk : Desk
   pub lookout : Option (Ahead L)
-  pub is_ready : IsReady calls known seen now served start.behind start.inventories.served start.said.items parts.ends parts.disk doors ready
+  pub is_ready : IsReady calls asked known seen now served start.behind start.inventories.served start.said.items parts.ends parts.disk doors doors_after ready
   pub agent : IsResumedFrom ready.taken.known.items start.inventories.served width b.serving
   pub waits : WaitsFor ready.taken.known.items width now start.part b.serving.agent start.inventories.again b.wait ready.desk desk
   pub ahead : LooksAhead start.behind parts.ahead lookout

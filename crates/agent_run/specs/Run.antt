@@ -1,6 +1,6 @@
 -- Run: an agent from its start to its last turn.
 -- Source: this project's own; docs/commands/serve.md.
-use Rattle.std.specs.Prelude.{◌≡◌, ℕ, Bool, Option, Some, None, if◌then◌else◌, List, [], is_some, length, max, min, option_copied, true}
+use Rattle.std.specs.Prelude.{◌≡◌, ℕ, Bool, Option, Some, None, if◌then◌else◌, List, [], ◌++◌, codes, is_some, length, max, min, option_copied, option_map, string_bytes, true}
 use Rattle.std.specs.List.{All}
 use Rattle.agent_ledger.specs.Askers.{is_free}
 use Rattle.agent_ledger.specs.declared.asker.Asker.{Asker}
@@ -13,18 +13,22 @@ use Rattle.base_clock.specs.declared.reading.Reading.{Reading}
 use Rattle.base_disk.specs.State.{DiskState}
 use Rattle.base_files.specs.Files.{Files}
 use Rattle.agent_house.specs.declared.house.House.{House}
+use Rattle.vault_exchange.specs.Sockets.{port_of}
 use Rattle.vault_lanes.specs.Out.{Out}
 use Rattle.state_secrets.specs.Stamps.{FileCall}
 use Rattle.agent_turns.specs.Neighbours.{NeighbourCall}
 use Rattle.agent_turns.specs.declared.change.Change.{Change}
 use Rattle.agent_turns.specs.declared.day.EarlyDay.{EarlyDay}
 use Rattle.plan_spread.specs.Parts.{part_by}
+use Rattle.program_commands.specs.declared.job.Room.{Room}
+use Rattle.program_commands.specs.declared.job.Room.TheVariants as rooms
 use Rattle.program_commands.specs.declared.job.Served.{Served}
-use Rattle.agent_start.specs.Alone.{IsServedAlone}
+use Rattle.agent_start.specs.Alone.{IsServedAlone, folder_of}
 use Rattle.agent_start.specs.Numbers.{IsNumber}
 use Rattle.agent_start.specs.Starts.{IsStart}
 use Rattle.agent_start.specs.declared.start.Start.{Start}
 use Rattle.agent_run.specs.Begun.{IsBegun}
+use Rattle.agent_run.specs.Doors.{DoorCall}
 use Rattle.agent_run.specs.Running.{RunsFrom}
 use Rattle.agent_run.specs.declared.begun.Begun.{Begun}
 use Rattle.agent_run.specs.declared.begun.Parts.{Parts}
@@ -73,6 +77,12 @@ demands_of served number =
 abbrev pub IsDemanded : Served → Demands → Type 0
 IsDemanded served d = (number : ℕ) × (IsNumber (option_copied served.name) served.file.now number × (d ≡ demands_of served number))
 
+-- the path of the file of the ends, where they are kept: in the folder that the words give, or in that of the file of which they do
+abbrev pub ends_path : Option Room → Option (List ℕ)
+ends_path None = None
+ends_path (Some (rooms.Folder folder)) = Some (folder.now ++ codes "/ends")
+ends_path (Some (rooms.Beside file)) = Some (folder_of file.now ++ codes "ends")
+
 -- what the clocks read; 0 where they cannot be read
 abbrev pub reading_or_none : Option Reading → Reading
 reading_or_none None = record { wall = 0; elapsed = 0 }
@@ -86,19 +96,20 @@ pub record ReadsFirst {C : Type 0} (clock_seen : C → ClockSeen) (now : Reading
 -- the clocks are read once; by that an agent is put together of what is served from the start on and of its parts; and it runs from then
 -- on, among the neighbours that it was given
 pub record IsRun {D I L S T O E C P : Type 0} (does : NeighbourCall → EarlyDay (Behind (House S T O (Ledger D I L) E) L) → EarlyDay (Behind (House S T O (Ledger D I L) E) L) → Type 0) (given : EarlyDay (Behind (House S T O (Ledger D I L) E) L) → Option (List Change))
-    (calls : P → Option (List FileCall)) (known : Bool) (disk_seen : E → DiskState) (clock_seen : C → ClockSeen) (seen : L → Lanes) (port width : L → ℕ) (served : Served) (start : Start (Ledger D I L)) (parts : Parts S E L) (doors : P) (clock : C) (lanes : L) (clock_after : C) (lanes_after : L) : Type 0 where
+    (calls : P → Option (List FileCall)) (asked : P → Option (List (DoorCall O))) (known : Bool) (disk_seen : E → DiskState) (clock_seen : C → ClockSeen) (seen : L → Lanes) (port width : L → ℕ) (served : Served) (start : Start (Ledger D I L)) (parts : Parts S E L) (doors : P) (clock : C) (lanes : L) (clock_after : C) (lanes_after : L) : Type 0 where
   pub now : Reading
   pub clock_read : C
+  pub doors_after : P
   pub begun : Begun S T O (Ledger D I L) E L
   pub after : EarlyDay (Behind (House S T O (Ledger D I L) E) L)
   pub reads : ReadsFirst clock_seen now clock clock_read
-  pub begins : IsBegun calls known disk_seen now served start parts doors (width lanes) begun
+  pub begins : IsBegun calls asked known disk_seen now served start parts doors doors_after (width lanes) begun
   pub runs : RunsFrom does given clock_seen seen port begun.wait begun.serving lanes clock_read begun.neighbours lanes_after clock_after after
 
--- an agent was put together of a start that these words demand, and has run, with this log, over lanes to the broker of which none was taken, with the time-out and the width
--- of the words. Without a ledger it serves what FILE says, by its files
+-- an agent was put together of a start that these words demand, and has run, with this log and the file of the ends that the words name, over lanes of which none was taken,
+-- with the time-out and the width of the words, whose requests name the port of their place. Without a ledger it serves what FILE says, by its files
 pub record HasRun {D I L S T O E C P F J : Type 0} (does : NeighbourCall → EarlyDay (Behind (House S T O (Ledger D I L) E) L) → EarlyDay (Behind (House S T O (Ledger D I L) E) L) → Type 0) (given : EarlyDay (Behind (House S T O (Ledger D I L) E) L) → Option (List Change))
-    (calls : P → Option (List FileCall)) (known : Bool) (disk_seen : E → DiskState) (clock_seen : C → ClockSeen) (seen : L → Lanes) (port width : L → ℕ) (file_bytes : F → Files) (secret_bytes : J → Files) (served : Served) (log : S) : Type 0 where
+    (calls : P → Option (List FileCall)) (asked : P → Option (List (DoorCall O))) (known : Bool) (disk_seen : E → DiskState) (clock_seen : C → ClockSeen) (seen : L → Lanes) (port width : L → ℕ) (file_bytes : F → Files) (secret_bytes : J → Files) (served : Served) (log : S) : Type 0 where
   pub demands : Demands
   pub demanded : IsDemanded served demands
   pub start : Start (Ledger D I L)
@@ -113,12 +124,14 @@ pub record HasRun {D I L S T O E C P F J : Type 0} (does : NeighbourCall → Ear
   pub clock_after : C
   pub lanes_after : L
   pub log_is : parts.log ≡ log
+  pub ends_at : option_map string_bytes parts.ends ≡ ends_path served.room
   pub free : (seen lanes).out ≡ []
+  pub ported : port lanes ≡ port_of served.place
   pub seconds : (seen lanes).seconds ≡ timeout_of served.patience
   pub wide : width lanes ≡ width_of served.width
-  pub runs : IsRun does given calls known disk_seen clock_seen seen port width served start parts doors clock lanes clock_after lanes_after
+  pub runs : IsRun does given calls asked known disk_seen clock_seen seen port width served start parts doors clock lanes clock_after lanes_after
 
 -- with some log
-abbrev pub HasRunSo : {D I L S T O E C P F J : Type 0} → (NeighbourCall → EarlyDay (Behind (House S T O (Ledger D I L) E) L) → EarlyDay (Behind (House S T O (Ledger D I L) E) L) → Type 0) → (EarlyDay (Behind (House S T O (Ledger D I L) E) L) → Option (List Change)) → (P → Option (List FileCall)) → Bool → (E → DiskState) →
+abbrev pub HasRunSo : {D I L S T O E C P F J : Type 0} → (NeighbourCall → EarlyDay (Behind (House S T O (Ledger D I L) E) L) → EarlyDay (Behind (House S T O (Ledger D I L) E) L) → Type 0) → (EarlyDay (Behind (House S T O (Ledger D I L) E) L) → Option (List Change)) → (P → Option (List FileCall)) → (P → Option (List (DoorCall O))) → Bool → (E → DiskState) →
     (C → ClockSeen) → (L → Lanes) → (L → ℕ) → (L → ℕ) → (F → Files) → (J → Files) → Served → Type 0
-HasRunSo {S} does given calls known disk_seen clock_seen seen port width file_bytes secret_bytes served = (log : S) × HasRun does given calls known disk_seen clock_seen seen port width file_bytes secret_bytes served log
+HasRunSo {S} does given calls asked known disk_seen clock_seen seen port width file_bytes secret_bytes served = (log : S) × HasRun does given calls asked known disk_seen clock_seen seen port width file_bytes secret_bytes served log

@@ -3,7 +3,7 @@ ghost use Rattle.std.specs.Prelude.{◌≡◌, ◌<◌, [], IfOk, is_some, min, 
 ghost use Rattle.agent_answers.specs.Controlling.{nobody_asks};
 ghost use Rattle.agent_answers.specs.Onlooking.{nobody};
 ghost use Rattle.agent_turns.specs.Held.{IsInStep};
-ghost use Rattle.agent_run.specs.Begun.{BeginsLog, HasFolder, IsBegun, IsReady, LooksAhead, SaysIfBehind, beside, day_of, house_of, place_text, read_at, with_lanes};
+ghost use Rattle.agent_run.specs.Begun.{BeginsLog, IsBegun, IsReady, LooksAhead, SaysIfBehind, beside, day_of, ends_folder, house_of, place_text, read_at, with_lanes};
 ghost use Rattle.agent_run.specs.Waits.{IsResumedFrom, WaitsFor};
 
 use crate::doors::{Doors, Guests, open_door};
@@ -107,7 +107,7 @@ where
     requires free { L.out lanes.now ≡ [] }
     requires lane_free { L.out parts.lane ≡ [] }
     requires lane_wide { 0 < L.width parts.lane }
-    ensures begun { IfOk result (λ b. IsBegun P.calls E.is_known E.state now served.now start.entry parts doors.old (L.width lanes.now) b) }
+    ensures begun { IfOk result (λ b. IsBegun P.calls P.asked E.is_known E.state now served.now start.entry parts doors.old doors.new (L.width lanes.now) b) }
     ensures in_step { IfOk result (λ b. IsInStep (L.width lanes.now) (L.out lanes.now) b.serving) }
 {
     let Start {
@@ -205,7 +205,7 @@ where
     O: Door<T> + Drop,
     E: Disk + Drop,
     P: Doors<T, O> + Inputs + SecretFiles,
-    ensures { IfOk result (IsReady P.calls E.is_known E.state now served.now behind inventory.now said.items ends disk doors.old) }
+    ensures { IfOk result (IsReady P.calls P.asked E.is_known E.state now served.now behind inventory.now said.items ends disk doors.old doors.new) }
 {
     let count = inventory.forest().len();
     let mut desk = begin_log(alloc, now, served, count, said, &ends, doors)?;
@@ -297,7 +297,7 @@ fn begin_log<P: SecretFiles>(
 
 /// The folder of the file of the ends, where there is one.
 fn ends_folder(path: &Option<String>) -> Option<&str>
-    ensures { HasFolder path.now (option_map (λ folder. folder.now) result) }
+    ensures { option_map (λ folder. folder.now) result ≡ ends_folder path.now }
 {
     match path {
         None => None,

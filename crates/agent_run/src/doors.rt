@@ -1,6 +1,7 @@
 //! The sockets of `serve`: where commands come in, and where onlookers do. Neither can stop it: one that cannot be had is an alert.
-ghost use Rattle.std.specs.Prelude.{◌≡◌};
-ghost use Rattle.agent_run.specs.Doors.{IsDoor, SaysNoDoor, cost_without, number_of};
+ghost use Rattle.std.specs.Prelude.{◌≡◌, List, None, Option};
+ghost use Rattle.std.specs.Result.{result_ok};
+ghost use Rattle.agent_run.specs.Doors.{AsksDoor, DoorCall, IsDoor, SaysNoDoor, cost_without, number_of};
 
 use agent_log::Desk;
 use base_clients::{Door, Entrance};
@@ -43,6 +44,9 @@ impl Guests {
 
 /// What opens the sockets at which guests come in.
 pub trait Doors<T, D> {
+    /// The doors that it was asked for, where they are known.
+    ghost asked: { Self → Option (List (DoorCall D)) } = { λ _. None };
+
     /// A door at an entrance, of which the wait tells under this number; or why it cannot be had, in words. `None`: memory is wanting for
     /// them.
     fn open(
@@ -50,7 +54,8 @@ pub trait Doors<T, D> {
         alloc: Global,
         entrance: Entrance<'_>,
         number: u32,
-    ) -> Result<D, Option<Text>>;
+    ) -> Result<D, Option<Text>>
+        ensures { AsksDoor (record { entrance = entrance.entry; number = number; door = result_ok result }) (Self.asked self.old) (Self.asked self.new) };
 }
 
 /// The door of these guests, where a socket is asked for; one that cannot be had is an alert.
@@ -62,7 +67,7 @@ pub(crate) fn open_door<T, D: Door<T>, O: Doors<T, D>>(
     doors: &mut O,
     desk: &mut Desk,
 ) -> Option<D>
-    ensures { IsDoor now socket.entry guests result desk.old desk.new }
+    ensures { IsDoor O.asked now socket.entry guests result doors.old doors.new desk.old desk.new }
 {
     let Socket { word, entrance } = socket?;
     match doors.open(alloc, entrance, guests.number()) {

@@ -51,7 +51,7 @@ where
     requires lane_width { L.width parts.lane ≡ 1 }
     requires askers { AreAskersFor (L.out) (L.seconds) (L.width) served.now parts.askers.items }
     requires ahead { AreOwnLanes (L.out) (L.seconds) (L.width) served.now parts.ahead }
-    ensures runs { OnOk result (IsRun (⟦<EarlyDay<Behind<House<S, T, O, Ledger<'a, D, I, L>, E>, L>> as Neighbours>⟧.does) (⟦<EarlyDay<Behind<House<S, T, O, Ledger<'a, D, I, L>, E>, L>> as Neighbours>⟧.given) P.calls E.is_known E.state C.seen ⟦<L as SeenLanes>⟧.seen L.host_port L.width served.now start.entry parts doors clock.old lanes.old clock.new lanes.new) }
+    ensures runs { OnOk result (IsRun (⟦<EarlyDay<Behind<House<S, T, O, Ledger<'a, D, I, L>, E>, L>> as Neighbours>⟧.does) (⟦<EarlyDay<Behind<House<S, T, O, Ledger<'a, D, I, L>, E>, L>> as Neighbours>⟧.given) P.calls P.asked E.is_known E.state C.seen ⟦<L as SeenLanes>⟧.seen L.host_port L.width served.now start.entry parts doors clock.old lanes.old clock.new lanes.new) }
     ensures nothing { OnErr result (⟦<L as SeenLanes>⟧.seen lanes.new ≡ ⟦<L as SeenLanes>⟧.seen lanes.old) }
 {
     let mut doors = doors;

@@ -17,6 +17,7 @@ use Rattle.program_commands.specs.declared.job.Served.{Served}
 use Rattle.agent_words.specs.declared.demands.Demands.{Demands}
 use Rattle.agent_start.specs.Alone.{IsServedAlone}
 use Rattle.agent_start.specs.declared.start.Start.{Start}
+use Rattle.agent_run.specs.Doors.{DoorCall}
 use Rattle.agent_run.specs.Run.{HasRun}
 
 pub ran_if : {A E X : Type 0} → (ran : Result A E) (exit : Exit) → OnOk ran X → OnErr ran (exit ≡ exits.Memory) → exit ≡ exits.Done → X
@@ -29,8 +30,8 @@ pub served_alone : {K : Type 0} (had has : Bool) (known_file known : Files) (giv
 served_alone had has known_file known given file d s same named alone =
     subst (λ b. IsServedAlone b known_file known file d s) same (subst (λ f. IsServedAlone had known_file known f d s) named alone)
 
-module _ {D I L S T O E C P F J : Type 0} (does : NeighbourCall → EarlyDay (Behind (House S T O (Ledger D I L) E) L) → EarlyDay (Behind (House S T O (Ledger D I L) E) L) → Type 0) (given : EarlyDay (Behind (House S T O (Ledger D I L) E) L) → Option (List Change)) (calls : P → Option (List FileCall)) (known : Bool) (disk_seen : E → DiskState)
+module _ {D I L S T O E C P F J : Type 0} (does : NeighbourCall → EarlyDay (Behind (House S T O (Ledger D I L) E) L) → EarlyDay (Behind (House S T O (Ledger D I L) E) L) → Type 0) (given : EarlyDay (Behind (House S T O (Ledger D I L) E) L) → Option (List Change)) (calls : P → Option (List FileCall)) (asked : P → Option (List (DoorCall O))) (known : Bool) (disk_seen : E → DiskState)
     (clock_seen : C → ClockSeen) (seen : L → Lanes) (port width : L → ℕ) (file_bytes : F → Files) (secret_bytes : J → Files) where
   pub has_run_by :
-      (served : Served) (log other : S) → log ≡ other → HasRun does given calls known disk_seen clock_seen seen port width file_bytes secret_bytes served log → HasRun does given calls known disk_seen clock_seen seen port width file_bytes secret_bytes served other
-  has_run_by served log other same has = subst (HasRun does given calls known disk_seen clock_seen seen port width file_bytes secret_bytes served) same has
+      (served : Served) (log other : S) → log ≡ other → HasRun does given calls asked known disk_seen clock_seen seen port width file_bytes secret_bytes served log → HasRun does given calls asked known disk_seen clock_seen seen port width file_bytes secret_bytes served other
+  has_run_by served log other same has = subst (HasRun does given calls asked known disk_seen clock_seen seen port width file_bytes secret_bytes served) same has

@@ -1,7 +1,8 @@
 //! An agent over the clock, the lanes, the log, the doors and the disks of the system.
-ghost use Rattle.std.specs.Prelude.{◌≡◌, ◌≢◌, [], IfOk, OnErr, OnOk, is_some, max, min};
+ghost use Rattle.std.specs.Prelude.{◌≡◌, ◌≢◌, [], IfOk, OnErr, OnOk, is_some, max, min, option_map, string_bytes};
 ghost use Rattle.leasekeep.specs.Ends.{EndsServe};
-ghost use Rattle.agent_run.specs.Run.{AreAskersFor, AreOwnLanes, HasRun, IsDemanded, IsOwnLane, timeout_of, width_of};
+ghost use Rattle.vault_exchange.specs.Sockets.{port_of};
+ghost use Rattle.agent_run.specs.Run.{AreAskersFor, AreOwnLanes, HasRun, IsDemanded, IsOwnLane, ends_path, timeout_of, width_of};
 
 use crate::system_doors::{SystemDoors, registry_of};
 use agent_behind::Behind;
@@ -58,7 +59,7 @@ where
     E: Sink,
     requires demanded { IsDemanded served.now demands }
     ensures told { EndsServe result (⟦<E as Watched>⟧.change errors.old errors.new) }
-    ensures runs { result ≡ Exit.Done → HasRun (⟦<SystemDay<'a, R> as Neighbours>⟧.does) (⟦<SystemDay<'a, R> as Neighbours>⟧.given) ⟦<SystemDoors<'a, R> as SecretFiles>⟧.calls ⟦<SystemDisk<'a, R> as Disk>⟧.is_known ⟦<SystemDisk<'a, R> as Disk>⟧.state ⟦<SystemClock<'a, R> as base_clock::Clock>⟧.seen ⟦<SocketLanes<'a, R> as SeenLanes>⟧.seen ⟦<SocketLanes<'a, R> as Lanes>⟧.host_port ⟦<SocketLanes<'a, R> as Lanes>⟧.width ⟦<SystemFile<'a, R> as Inputs>⟧.bytes_at ⟦<SystemSecrets<'a, R> as Inputs>⟧.bytes_at served.now log }
+    ensures runs { result ≡ Exit.Done → HasRun (⟦<SystemDay<'a, R> as Neighbours>⟧.does) (⟦<SystemDay<'a, R> as Neighbours>⟧.given) ⟦<SystemDoors<'a, R> as SecretFiles>⟧.calls ⟦<SystemDoors<'a, R> as Doors<SocketTalk, SocketDoor>>⟧.asked ⟦<SystemDisk<'a, R> as Disk>⟧.is_known ⟦<SystemDisk<'a, R> as Disk>⟧.state ⟦<SystemClock<'a, R> as base_clock::Clock>⟧.seen ⟦<SocketLanes<'a, R> as SeenLanes>⟧.seen ⟦<SocketLanes<'a, R> as Lanes>⟧.host_port ⟦<SocketLanes<'a, R> as Lanes>⟧.width ⟦<SystemFile<'a, R> as Inputs>⟧.bytes_at ⟦<SystemSecrets<'a, R> as Inputs>⟧.bytes_at served.now log }
 {
     let Ok(mut clock) = SystemClock::new(rt.alloc(), rt) else {
         return ended(Err(AllocError), errors);
@@ -93,6 +94,7 @@ where
     E: Sink,
     requires demanded { IsDemanded served.now demands }
     requires free { L.out lanes.old ≡ [] }
+    requires port { L.host_port lanes.old ≡ port_of served.now.place }
     requires seconds { L.seconds lanes.old ≡ timeout_of served.now.patience }
     requires width { L.width lanes.old ≡ width_of served.now.width }
     requires lane_free { L.out parts.lane ≡ [] }
@@ -100,8 +102,9 @@ where
     requires lane_width { L.width parts.lane ≡ 1 }
     requires askers { AreAskersFor (L.out) (L.seconds) (L.width) served.now parts.askers.items }
     requires ahead { AreOwnLanes (L.out) (L.seconds) (L.width) served.now parts.ahead }
+    requires ends { option_map string_bytes parts.ends ≡ ends_path served.now.room }
     ensures told { EndsServe result (⟦<E as Watched>⟧.change errors.old errors.new) }
-    ensures runs { result ≡ Exit.Done → HasRun (⟦<DayOver<'a, R, L> as Neighbours>⟧.does) (⟦<DayOver<'a, R, L> as Neighbours>⟧.given) P.calls ⟦<SystemDisk<'a, R> as Disk>⟧.is_known ⟦<SystemDisk<'a, R> as Disk>⟧.state C.seen ⟦<L as SeenLanes>⟧.seen L.host_port L.width ⟦<SystemFile<'a, R> as Inputs>⟧.bytes_at ⟦<SystemSecrets<'a, R> as Inputs>⟧.bytes_at served.now parts.entry.log }
+    ensures runs { result ≡ Exit.Done → HasRun (⟦<DayOver<'a, R, L> as Neighbours>⟧.does) (⟦<DayOver<'a, R, L> as Neighbours>⟧.given) P.calls P.asked ⟦<SystemDisk<'a, R> as Disk>⟧.is_known ⟦<SystemDisk<'a, R> as Disk>⟧.state C.seen ⟦<L as SeenLanes>⟧.seen L.host_port L.width ⟦<SystemFile<'a, R> as Inputs>⟧.bytes_at ⟦<SystemSecrets<'a, R> as Inputs>⟧.bytes_at served.now parts.entry.log }
     ensures sent { result ≢ Exit.Done → ⟦<L as SeenLanes>⟧.seen lanes.new ≡ ⟦<L as SeenLanes>⟧.seen lanes.old }
 {
     let folder = state_folder(rt.alloc(), served);
@@ -166,6 +169,7 @@ where
     ensures askers { IfOk result (λ parts. AreAskersFor (⟦<SocketLanes<'a, R> as Lanes>⟧.out) (⟦<SocketLanes<'a, R> as Lanes>⟧.seconds) (⟦<SocketLanes<'a, R> as Lanes>⟧.width) served.now parts.askers.items) }
     ensures ahead { IfOk result (λ parts. AreOwnLanes (⟦<SocketLanes<'a, R> as Lanes>⟧.out) (⟦<SocketLanes<'a, R> as Lanes>⟧.seconds) (⟦<SocketLanes<'a, R> as Lanes>⟧.width) served.now parts.ahead) }
     ensures log { IfOk result (λ parts. parts.log ≡ log) }
+    ensures ends { IfOk result (λ parts. option_map string_bytes parts.ends ≡ ends_path served.now.room) }
 {
     Ok(Parts {
         log,
@@ -187,7 +191,9 @@ where
 }
 
 /// Where the file of the ends is, if there is room for one. The only error is lack of memory.
-fn ends_path(alloc: Global, room: Option<Room<'_>>) -> Result<Option<String>, AllocError> {
+fn ends_path(alloc: Global, room: Option<Room<'_>>) -> Result<Option<String>, AllocError>
+    ensures { IfOk result (λ path. option_map string_bytes path ≡ ends_path room.entry) }
+{
     match room {
         None => Ok(None),
         Some(Room::Folder(folder)) => Ok(Some(format!(in alloc; "{folder}/ends")?)),
@@ -208,6 +214,7 @@ fn own_lanes<'a, R>(
 where
     R: Files<File = File> + AllocGlobal + Net + Clock,
     ensures none { ⟦<SocketLanes<'a, R> as Lanes>⟧.out result ≡ [] }
+    ensures port { ⟦<SocketLanes<'a, R> as Lanes>⟧.host_port result ≡ port_of served.now.place }
     ensures width { ⟦<SocketLanes<'a, R> as Lanes>⟧.width result ≡ width_of served.now.width }
     ensures seconds { ⟦<SocketLanes<'a, R> as Lanes>⟧.seconds result ≡ timeout_of served.now.patience }
 {
@@ -224,6 +231,7 @@ fn lanes_of<'a, R>(
 where
     R: Files<File = File> + AllocGlobal + Net + Clock,
     ensures none { ⟦<SocketLanes<'a, R> as Lanes>⟧.out result ≡ [] }
+    ensures port { ⟦<SocketLanes<'a, R> as Lanes>⟧.host_port result ≡ port_of served.now.place }
     ensures width { ⟦<SocketLanes<'a, R> as Lanes>⟧.width result ≡ max 1 (min width 32) }
     ensures seconds { ⟦<SocketLanes<'a, R> as Lanes>⟧.seconds result ≡ timeout_of served.now.patience }
 {

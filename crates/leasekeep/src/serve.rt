@@ -7,8 +7,10 @@ ghost use Rattle.agent_start.specs.Numbers.{IsNumber};
 use crate::running::{SystemDay, run};
 use crate::system_doors::SystemDoors;
 use agent_house::Demands;
+use agent_run::Doors;
 use agent_start::{SystemFile, SystemSecrets, own_number};
 use agent_turns::Neighbours;
+use base_clients::{SocketDoor, SocketTalk};
 use base_clock::SystemClock;
 use base_device::{Sink, Watched};
 use base_disk::{Disk, SystemDisk};
@@ -36,7 +38,7 @@ where
     R: Files<File = File> + AllocGlobal + Net + Clock,
     E: Sink,
     ensures told { EndsServe result (⟦<E as Watched>⟧.change errors.old errors.new) }
-    ensures runs { result ≡ Exit.Done → HasRunSo (⟦<SystemDay<'a, R> as Neighbours>⟧.does) (⟦<SystemDay<'a, R> as Neighbours>⟧.given) ⟦<SystemDoors<'a, R> as SecretFiles>⟧.calls ⟦<SystemDisk<'a, R> as Disk>⟧.is_known ⟦<SystemDisk<'a, R> as Disk>⟧.state ⟦<SystemClock<'a, R> as base_clock::Clock>⟧.seen ⟦<SocketLanes<'a, R> as SeenLanes>⟧.seen ⟦<SocketLanes<'a, R> as Lanes>⟧.host_port ⟦<SocketLanes<'a, R> as Lanes>⟧.width ⟦<SystemFile<'a, R> as Inputs>⟧.bytes_at ⟦<SystemSecrets<'a, R> as Inputs>⟧.bytes_at served.now }
+    ensures runs { result ≡ Exit.Done → HasRunSo (⟦<SystemDay<'a, R> as Neighbours>⟧.does) (⟦<SystemDay<'a, R> as Neighbours>⟧.given) ⟦<SystemDoors<'a, R> as SecretFiles>⟧.calls ⟦<SystemDoors<'a, R> as Doors<SocketTalk, SocketDoor>>⟧.asked ⟦<SystemDisk<'a, R> as Disk>⟧.is_known ⟦<SystemDisk<'a, R> as Disk>⟧.state ⟦<SystemClock<'a, R> as base_clock::Clock>⟧.seen ⟦<SocketLanes<'a, R> as SeenLanes>⟧.seen ⟦<SocketLanes<'a, R> as Lanes>⟧.host_port ⟦<SocketLanes<'a, R> as Lanes>⟧.width ⟦<SystemFile<'a, R> as Inputs>⟧.bytes_at ⟦<SystemSecrets<'a, R> as Inputs>⟧.bytes_at served.now }
 {
     // Before any file is opened, which would else take the number of a standard output that is closed.
     let log = StandardOutput::new(rt, output);

@@ -50,8 +50,8 @@ abbrev pub unread_why : ReadFault → SettleWhy
 unread_why reads.OutOfMemory = OutOfMemory
 unread_why fault = Unread fault
 
--- the copy is FILE, and the journal has no record, but the lines that write none; or this says why it has its records still, and the mark of
--- that text
+-- the copy is FILE, and of the journal's lines those are left that write no record; or this says why it has its records still, and the mark
+-- of that text
 abbrev pub IsHandedOver : Bool → Places → List (List ℕ) → List ℕ → Option DiskFault → Store → DiskState → Type 0
 IsHandedOver known places lines text None new t = (lines_in new ≡ damaged lines) × (IsTrue known → FileIsThere places.copy (copy_with text) t × JournalIsWhole (journal_of new) t)
 IsHandedOver known places lines text (Some fault) new t = lines_in new ≡ lines ++ mark_line text ∷ []
