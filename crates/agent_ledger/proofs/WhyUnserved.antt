@@ -9,7 +9,7 @@ use Rattle.state_keeping.specs.States.{Kept, book_in, store_in}
 use Rattle.state_store.specs.Books.{IsBookIf}
 use Rattle.state_store.specs.Records.{records_in}
 use Rattle.state_store.specs.Stores.{book_of, lines_in}
-use Rattle.state_waiting.specs.Keepers.{store_of, waiting_in}
+use Rattle.state_keeping.specs.Keepers.{store_of, waiting_in}
 use Rattle.agent_words.specs.Outcomes.{Whys}
 use Rattle.agent_ledger.specs.Ledgers.{ReloadsOn}
 use Rattle.agent_words.specs.Reading.{IsWellWritten}

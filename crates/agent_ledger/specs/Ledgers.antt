@@ -26,7 +26,7 @@ use Rattle.state_store.specs.Compacted.{compacted_lines, is_worth}
 use Rattle.state_store.specs.Records.{records_in}
 use Rattle.state_store.specs.Stores.{ChangeIsTaken, IsWhyUntaken, journal_of, lines_in, path_of_store}
 use Rattle.state_store.specs.declared.secret.Secret.{Secret}
-use Rattle.state_waiting.specs.Keepers.{InventoryIsGiven, waiting_in}
+use Rattle.state_keeping.specs.Keepers.{InventoryIsGiven, waiting_in}
 use Rattle.state_secrets.specs.Looking.{begun_anew}
 use Rattle.state_secrets.specs.Stamps.{FileCall}
 use Rattle.agent_ledger.specs.Askers.{is_any_asking}

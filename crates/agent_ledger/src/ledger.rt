@@ -14,7 +14,7 @@ ghost use Rattle.state_store.specs.Books.{IsBookIf};
 ghost use Rattle.state_store.specs.Compacted.{compacted_lines};
 ghost use Rattle.state_store.specs.Records.{records_in};
 ghost use Rattle.state_store.specs.Stores.{IsWhyUntaken, lines_in, path_of_store};
-ghost use Rattle.state_waiting.specs.Keepers.{waiting_in};
+ghost use Rattle.state_keeping.specs.Keepers.{waiting_in};
 ghost use Rattle.agent_ledger.specs.Ledgers.{AreCompacted, FilledWith, IsFilledOn, IsTakenOn, ReloadsOn, StaysOnDisk, apart_line, ledger_rest, rest_while};
 ghost use Rattle.agent_words.specs.Noting.{left_lines, said_notes};
 ghost use Rattle.agent_words.specs.Reading.{IsWellWritten, IsWide};

@@ -1,14 +1,12 @@
 //! What a file of a credential gives is taken into a state, and what came of it is kept and told.
 ghost use Rattle.std.specs.Prelude.{◌≡◌, IfOk, OnErr};
-ghost use Rattle.plan_forest.specs.Push.{is_lease};
-ghost use Rattle.state_changes.specs.Rows.{has_under, is_under, named};
+ghost use Rattle.state_changes.specs.Rows.{named};
 ghost use Rattle.state_keeping.specs.States.{book_in};
 ghost use Rattle.agent_ledger.specs.Takings.{IsWhyNotTaken, TakesCredential, TakesHeld, TakesUpFile, brings_others, has_credential, is_anothers, may_be_anothers, quiet, wanting};
 ghost use Rattle.agent_ledger.specs.Untouched.{IsAsItWas};
 
 use base_disk::Disk;
 use base_moment::Text;
-use plan_forest::Kind;
 use state_changes::{Row, Rows};
 use state_file::SettleFault;
 use state_keeping::State;
@@ -151,8 +149,7 @@ fn may_be_anothers(secrets: &[Secret], rows: &Rows, due: &DueFile, credential: &
     match rows.named(due.name.list()) {
         None => false,
         Some(own) => {
-            is_anothers(secrets, rows.list(), credential, own)
-                || brings_others(secrets, rows.list(), due)
+            is_anothers(secrets, rows.list(), credential, own) || brings_others(secrets, rows, due)
         }
     }
 }
@@ -163,18 +160,9 @@ fn is_anothers(secrets: &[Secret], rows: &[Row], credential: &[u8], own: &Row) -
 {
     rows.iter().any(|row| {
         row.name.list() != own.name.list()
-            && is_lease(row.kind) == is_lease(own.kind)
+            && row.kind.is_lease() == own.kind.is_lease()
             && has_credential(secrets, credential, row)
     })
-}
-
-fn is_lease(kind: Kind) -> bool
-    ensures { result ≡ is_lease kind }
-{
-    match kind {
-        Kind::Token => false,
-        Kind::Lease => true,
-    }
 }
 
 // Whether an entry has it, as its own or by its file.
@@ -188,24 +176,8 @@ fn has_credential(secrets: &[Secret], credential: &[u8], row: &Row) -> bool
 }
 
 // Whether entries under it come to be handed on with it.
-fn brings_others(secrets: &[Secret], rows: &[Row], due: &DueFile) -> bool
+fn brings_others(secrets: &[Secret], rows: &Rows, due: &DueFile) -> bool
     ensures { result ≡ brings_others secrets.now rows.now due.now }
 {
-    !is_held(secrets, due.name.list(), due.file.list()) && has_under(rows, due.name.list())
-}
-
-#[tactic(auto, unfolding(state_changes::specs::Rows::has_under))]
-fn has_under(rows: &[Row], name: &[u8]) -> bool
-    ensures { result ≡ has_under rows.now name.now }
-{
-    rows.iter().any(|row| is_under(row, name))
-}
-
-fn is_under(row: &Row, name: &[u8]) -> bool
-    ensures { result ≡ is_under name.now row.now }
-{
-    match &row.parent {
-        None => false,
-        Some(parent) => parent.list() == name,
-    }
+    !is_held(secrets, due.name.list(), due.file.list()) && rows.has_under(due.name.list())
 }

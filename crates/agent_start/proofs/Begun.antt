@@ -10,7 +10,7 @@ use Rattle.base_files.specs.Files.{Files}
 use Rattle.base_log.specs.declared.level.Level.TheVariants.{Alert}
 use Rattle.program_report.specs.declared.exit.Exit.{Exit}
 use Rattle.state_secrets.specs.Looking.{IsBegun}
-use Rattle.state_waiting.specs.Keepers.{waiting_in}
+use Rattle.state_keeping.specs.Keepers.{waiting_in}
 use Rattle.agent_start.specs.Alone.{IsServedAlone, IsServedFile, IsServedUnkept, ServesHeld, folder_of}
 use Rattle.agent_start.specs.Saying.{said_as}
 use Rattle.agent_start.specs.Starts.{Begins, IsFreshLedger, IsLedgerAtStart, IsReason, IsSaidAlone, IsServedBy, IsStart, IsStartAlone, IsWhyNotBegun, SaysUnheld, SaysUnused, StartsBy, is_unused}

@@ -10,7 +10,7 @@ use Rattle.base_log.specs.declared.level.Level.TheVariants.{Alert}
 use Rattle.state_secrets.specs.Looking.{IsBegun}
 use Rattle.vault_served.specs.ForGood.{inventory_for_good}
 use Rattle.state_keeping.specs.States.{book_in}
-use Rattle.state_waiting.specs.Keepers.{waiting_in}
+use Rattle.state_keeping.specs.Keepers.{waiting_in}
 use Rattle.agent_start.specs.Saying.{IsSaidAs}
 use Rattle.agent_start.specs.declared.folder.NotBegun.{NotBegun}
 use Rattle.agent_start.specs.declared.folder.NotBegun.TheVariants as nots

@@ -8,7 +8,6 @@ ghost use Rattle.agent_words.specs.Telling.{AreNeedLines, AreReachLines, IsAddLi
 
 use agent_control::{Lines, Reply, write_reply};
 use base_moment::{LAST, Moment, Text, date_text};
-use plan_forest::Kind;
 use state_changes::Row;
 use std::alloc::{AllocError, Global};
 
@@ -56,10 +55,7 @@ fn is_lease_if(row: Option<&Row>) -> bool
 {
     match row {
         None => false,
-        Some(row) => match row.kind {
-            Kind::Token => false,
-            Kind::Lease => true,
-        },
+        Some(row) => row.kind.is_lease(),
     }
 }
 

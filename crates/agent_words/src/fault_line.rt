@@ -8,7 +8,7 @@ ghost use Rattle.agent_words.specs.Refusing.{file_key, of_key, own_key, refused_
 use crate::demands::Demands;
 use crate::fault::StartFault;
 use base_words::push_number;
-use plan_forest::{Forest, Kind};
+use plan_forest::Forest;
 use state_file::SettleFault;
 use std::alloc::{AllocError, Global};
 use vault_inventory::InvFault;
@@ -213,14 +213,5 @@ fn name_of(forest: &Forest, entry: usize) -> &[u8]
 fn is_lease(forest: &Forest, entry: usize) -> bool
     ensures { result ≡ is_lease (entry_at forest.now.entries entry).kind }
 {
-    entry < forest.len() as usize && is_lease_kind(forest.get(entry as u32).kind)
-}
-
-fn is_lease_kind(kind: Kind) -> bool
-    ensures { result ≡ is_lease kind }
-{
-    match kind {
-        Kind::Token => false,
-        Kind::Lease => true,
-    }
+    entry < forest.len() as usize && forest.get(entry as u32).kind.is_lease()
 }

@@ -1,3 +1,6 @@
+ghost use Rattle.std.specs.Prelude.{◌≡◌};
+ghost use Rattle.plan_forest.specs.Push.{is_lease};
+
 use base_moment::Name;
 
 /// What an entry is: a token, or a lease that was created with one.
@@ -9,6 +12,18 @@ pub enum Kind {
     Token,
     /// A lease of a secret, which ends with the token that it was created with.
     Lease,
+}
+
+impl Kind {
+    /// Whether it is a lease.
+    pub fn is_lease(self) -> bool
+        ensures { result ≡ is_lease self }
+    {
+        match self {
+            Kind::Token => false,
+            Kind::Lease => true,
+        }
+    }
 }
 
 /// A token or a lease, as the agent keeps it. Moments are seconds since 1970-01-01T00:00:00Z, durations seconds.

@@ -5,7 +5,7 @@ ghost use Rattle.plan_forest.specs.Margins.{IsMargin, IsMostMargin};
 ghost use Rattle.plan_forest.specs.Over.{chain, is_over};
 ghost use Rattle.plan_forest.specs.Push.{IsForest, depth_under, entry_refusal, is_lease, is_name, is_name_byte, is_out_of_range, is_too_high, is_under_lease, lacks_parent};
 
-use crate::entry::{Entry, Kind};
+use crate::entry::Entry;
 use crate::fault::TreeFault;
 use base_moment::{LAST, Moment};
 use std::alloc::{AllocError, Global};
@@ -264,7 +264,7 @@ impl Forest {
         if self.is_under_lease(entry.parent) {
             return Some(TreeFault::ParentIsLease);
         }
-        if is_lease(entry.kind) && entry.parent.is_none() {
+        if entry.kind.is_lease() && entry.parent.is_none() {
             return Some(TreeFault::LeaseWithoutToken);
         }
         if entry.step < self.margin + 1 {
@@ -300,7 +300,7 @@ impl Forest {
     {
         match parent {
             None => false,
-            Some(index) => is_lease(self.get(index).kind),
+            Some(index) => self.get(index).kind.is_lease(),
         }
     }
 
@@ -354,15 +354,6 @@ fn copy_entries(alloc: Global, entries: &[Entry]) -> Result<Vec<Entry>, AllocErr
         copies.push(copy_entry(entry)?)?;
     }
     Ok(copies)
-}
-
-fn is_lease(kind: Kind) -> bool
-    ensures { result ≡ is_lease kind }
-{
-    match kind {
-        Kind::Token => false,
-        Kind::Lease => true,
-    }
 }
 
 #[tactic(auto, unfolding(crate::specs::Push::is_out_of_range))]

@@ -1,7 +1,6 @@
 ghost use Rattle.std.specs.Prelude.{◌≡◌, ◌++◌, ◌∷◌, [], true, None, Ok, IfErr, IfOk, OnErr, OnOk, option_map};
 ghost use Rattle.std.specs.Bool.{beq};
 ghost use Rattle.std.specs.List.{position};
-ghost use Rattle.plan_forest.specs.Push.{is_lease};
 ghost use Rattle.state_changes.specs.Changes.{IsWhy, change_refusal, never_refuses, refusal_of_entry, refused_credential, refused_drop, refused_row, rows_changed};
 ghost use Rattle.state_changes.specs.code.Index.{has_seen};
 ghost use Rattle.state_changes.specs.Rows.{has_under, is_deep, is_row_named, is_row_under_lease, is_taken, is_under, named, row_lacks_parent, with_named, without_row};
@@ -11,7 +10,7 @@ use crate::fault::ChangeFault;
 use crate::index::{Places, credentials_of, place_of, places_of};
 use crate::row::Row;
 use base_moment::{Name, Text};
-use plan_forest::{Kind, MAX_DEPTH, MAX_ENTRIES};
+use plan_forest::{MAX_DEPTH, MAX_ENTRIES};
 use std::alloc::{AllocError, Global};
 use std::fmt;
 use std::marker::Model;
@@ -269,7 +268,7 @@ impl Rows {
             None => false,
             Some(name) => match self.named(name.list()) {
                 None => false,
-                Some(row) => is_lease(row.kind),
+                Some(row) => row.kind.is_lease(),
             },
         }
     }
@@ -298,9 +297,9 @@ impl Rows {
         is_taken_in(&self.items, &self.credentials, row, credential)
     }
 
-    // Whether some entry is right under that name.
+    /// Whether some entry is right under the one of that name.
     #[tactic(auto, unfolding(crate::specs::Rows::has_under))]
-    fn has_under(&self, name: &[u8]) -> bool
+    pub fn has_under(&self, name: &[u8]) -> bool
         ensures { result ≡ has_under self.now name.now }
     {
         self.items.iter().any(|row| is_under(row, name))
@@ -346,16 +345,7 @@ fn is_held(rows: &[Row], row: &Row, credential: &[u8]) -> bool
 {
     rows.iter().any(|other| {
         other.name.list() != row.name.list()
-            && is_lease(other.kind) == is_lease(row.kind)
+            && other.kind.is_lease() == row.kind.is_lease()
             && other.credential.list() == credential
     })
-}
-
-fn is_lease(kind: Kind) -> bool
-    ensures { result ≡ is_lease kind }
-{
-    match kind {
-        Kind::Token => false,
-        Kind::Lease => true,
-    }
 }

@@ -1,9 +1,7 @@
 ghost use Rattle.std.specs.Prelude.{◌≡◌, ◌++◌, IfOk, OnOk};
 ghost use Rattle.std.specs.List.{filter};
-ghost use Rattle.plan_forest.specs.Push.{is_lease};
 ghost use Rattle.state_file.specs.Order.{in_order, is_lease_row, is_token_row};
 
-use plan_forest::Kind;
 use state_changes::Row;
 use std::alloc::{AllocError, Global};
 
@@ -24,7 +22,7 @@ fn push_tokens(rows: &[Row], ordered: &mut Vec<Row>) -> Result<(), AllocError>
     ensures { OnOk result (ordered.new.items ≡ ordered.old.items ++ filter is_token_row rows.now) }
 {
     for row in rows {
-        if !is_lease(row.kind) {
+        if !row.kind.is_lease() {
             ordered.push(row.copy()?)?;
         }
     }
@@ -37,19 +35,9 @@ fn push_leases(rows: &[Row], ordered: &mut Vec<Row>) -> Result<(), AllocError>
     ensures { OnOk result (ordered.new.items ≡ ordered.old.items ++ filter is_lease_row rows.now) }
 {
     for row in rows {
-        if is_lease(row.kind) {
+        if row.kind.is_lease() {
             ordered.push(row.copy()?)?;
         }
     }
     Ok(())
-}
-
-/// Whether it is that of a lease.
-pub(crate) fn is_lease(kind: Kind) -> bool
-    ensures { result ≡ is_lease kind }
-{
-    match kind {
-        Kind::Token => false,
-        Kind::Lease => true,
-    }
 }

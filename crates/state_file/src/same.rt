@@ -1,7 +1,6 @@
 ghost use Rattle.std.specs.Prelude.{◌≡◌, true};
 ghost use Rattle.vault_inventory.specs.declared.need.Need.TheVariants.{Always, Until};
 
-use crate::order::is_lease;
 use base_moment::{Span, Text};
 use plan_forest::Kind;
 use state_changes::Row;
@@ -89,8 +88,8 @@ fn is_same_kind(kind: Kind, other: Kind) -> bool
     ensures { result ≡ true → kind ≡ other }
 {
     match kind {
-        Kind::Token => !is_lease(other),
-        Kind::Lease => is_lease(other),
+        Kind::Token => !other.is_lease(),
+        Kind::Lease => other.is_lease(),
     }
 }
 

@@ -1,4 +1,3 @@
-use crate::order::is_lease;
 use base_moment::{Moment, Span, Text, date_text};
 use plan_forest::Kind;
 use state_changes::Row;
@@ -58,7 +57,7 @@ impl Page {
     }
 
     fn put_header(&mut self, kind: Kind) -> Result<(), AllocError> {
-        let key = if is_lease(kind) {
+        let key = if kind.is_lease() {
             Key::Lease
         } else {
             Key::Token
@@ -68,7 +67,7 @@ impl Page {
     }
 
     fn put_parent(&mut self, row: &Row) -> Result<(), AllocError> {
-        let key = if is_lease(row.kind) {
+        let key = if row.kind.is_lease() {
             Key::Token
         } else {
             Key::Parent
@@ -81,7 +80,7 @@ impl Page {
 
     // The path of the file that holds the credential, or the credential itself.
     fn put_credential(&mut self, row: &Row) -> Result<(), AllocError> {
-        let (key, file_key) = if is_lease(row.kind) {
+        let (key, file_key) = if row.kind.is_lease() {
             (Key::LeaseId, Key::LeaseIdFile)
         } else {
             (Key::Secret, Key::SecretFile)

@@ -10,8 +10,8 @@ use Rattle.state_store.specs.declared.store.Store.{Store}
 use Rattle.state_store.specs.Stores.{FileHolds, IsKeptOrNone, IsReplayed, is_kept, journal_of, path_of_store}
 use Rattle.state_store.proofs.Kept.{holds_past}
 use Rattle.state_store.proofs.Marking.{rest_alone}
-use Rattle.state_waiting.specs.declared.keeper.Keeper.{Keeper}
-use Rattle.state_waiting.specs.Keepers.{store_of}
+use Rattle.state_keeping.specs.declared.keeper.Keeper.{Keeper}
+use Rattle.state_keeping.specs.Keepers.{store_of}
 use Rattle.state_keeping.specs.Places.{Places, PlacesAreApart}
 use Rattle.state_keeping.specs.States.{IsKeeping}
 use Rattle.state_keeping.proofs.Others.{apart_back, at_end}

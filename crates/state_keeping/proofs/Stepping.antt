@@ -14,8 +14,8 @@ use Rattle.state_store.specs.Books.{Book}
 use Rattle.state_store.specs.Compacted.{damaged}
 use Rattle.state_store.specs.Moved.{FailsInSteps, MovesInSteps, PutsFile, PutsMark, SaysAllKept, SaysByItself, mark_line}
 use Rattle.state_store.specs.Stores.{book_of, is_sure, journal_of, lines_in, path_of_store}
-use Rattle.state_waiting.specs.declared.keeper.Keeper.{Keeper}
-use Rattle.state_waiting.specs.Keepers.{store_of, waiting_in}
+use Rattle.state_keeping.specs.declared.keeper.Keeper.{Keeper}
+use Rattle.state_keeping.specs.Keepers.{store_of, waiting_in}
 use Rattle.state_keeping.specs.Lives.{Alone, HandOver, IsCall, IsOver, IsPlaced, IsReady, IsStill, LeavesAmid, Mark, MarksInSteps, Place, PlacesInSteps, SettlesInSteps}
 use Rattle.state_keeping.specs.Places.{Places}
 use Rattle.state_keeping.specs.Settles.{copy_with}

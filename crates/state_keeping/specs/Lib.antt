@@ -1,3 +1,4 @@
+pub mod Keepers
 pub mod Places
 pub mod States
 pub mod Reading

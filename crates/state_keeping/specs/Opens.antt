@@ -12,7 +12,7 @@ use Rattle.state_store.specs.declared.fault.FileFault.TheVariants as files
 use Rattle.state_store.specs.Books.{IsFileFaultOf}
 use Rattle.state_store.specs.Records.{records_in}
 use Rattle.state_store.specs.Stores.{BookIsFrom, is_sure, lines_in}
-use Rattle.state_waiting.specs.Keepers.{waiting_in}
+use Rattle.state_keeping.specs.Keepers.{waiting_in}
 use Rattle.state_keeping.specs.declared.fault.OpenFault.{OpenFault}
 use Rattle.state_keeping.specs.declared.fault.OpenFault.TheVariants.{Held, Disk, File, OutOfMemory}
 use Rattle.state_keeping.specs.declared.opening.Opened.{Opened}

@@ -7,8 +7,8 @@ use Rattle.base_journal.specs.Journals.{JournalHolds}
 use Rattle.state_store.specs.declared.store.Store.{Store}
 use Rattle.state_store.specs.Books.{Book}
 use Rattle.state_store.specs.Stores.{FileHolds, IsReplayed, book_of, journal_of, path_of_store}
-use Rattle.state_waiting.specs.declared.keeper.Keeper.{Keeper}
-use Rattle.state_waiting.specs.Keepers.{store_of}
+use Rattle.state_keeping.specs.declared.keeper.Keeper.{Keeper}
+use Rattle.state_keeping.specs.Keepers.{store_of}
 use Rattle.state_keeping.specs.Places.{Places}
 
 pub record Kept (D : Type 0) : Type 0 where

@@ -7,6 +7,7 @@
 #![tactic(auto)]
 
 mod fault;
+mod keeper;
 mod laws;
 mod noting;
 mod opening;
@@ -18,6 +19,7 @@ mod state;
 mod table;
 
 pub use fault::{OpenFault, PathsFault, ReadFault, SettleWhy, TableFault};
+pub use keeper::Keeper;
 pub use laws::what_was_acknowledged_is_served;
 pub use opening::{Opened, Unopened};
 pub use paths::Paths;

@@ -7,13 +7,13 @@ ghost use Rattle.state_store.specs.Stores.{IsReplayed, book_of, is_kept, is_sure
 ghost use Rattle.state_keeping.specs.Opens.{IsCopyOf, takes_changes};
 
 use crate::fault::OpenFault;
+use crate::keeper::Keeper;
 use crate::paths::Paths;
 use crate::recovering::{Recovered, recover};
 use crate::state::State;
 use base_disk::{Disk, DiskFault, Lock};
 use state_changes::Note;
 use state_store::{FileFault, Store};
-use state_waiting::Keeper;
 use std::alloc::Global;
 
 /// A state at a start.

@@ -11,7 +11,7 @@ impl<'a, D: Disk> State<'a, D> {
     ghost use Rattle.base_disk.specs.State.{LeavesOnly};
     ghost use Rattle.state_store.specs.Moved.{HasMarkAtMost};
     ghost use Rattle.state_store.specs.Stores.{is_sure};
-    ghost use Rattle.state_waiting.specs.Keepers.{waiting_in};
+    ghost use Rattle.state_keeping.specs.Keepers.{waiting_in};
     ghost use Rattle.state_keeping.specs.Lives.{SettlesInSteps};
     ghost use Rattle.state_keeping.specs.Settles.{IsSettledState, IsWhyUnsettledState, LeftBySettling};
     ghost use Rattle.state_keeping.specs.States.{book_in, store_in};

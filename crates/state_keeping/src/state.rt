@@ -1,6 +1,7 @@
 ghost use Rattle.std.specs.Prelude.{◌≡◌};
 
 use crate::fault::ReadFault;
+use crate::keeper::Keeper;
 use crate::noting::note_lines;
 use crate::paths::Paths;
 use crate::reading::{FileRead, read_file};
@@ -9,7 +10,6 @@ use base_moment::{Name, Text};
 use state_changes::{File, Note, Record, Rows, What};
 use state_file::SettleFault;
 use state_store::{FileFault, Secret, TakeFault};
-use state_waiting::Keeper;
 use std::alloc::{AllocError, Global};
 use std::marker::Model;
 use vault_inventory::Inventory;
@@ -57,7 +57,7 @@ impl<'a, D: Disk> State<'a, D> {
     ghost use Rattle.state_store.specs.Entering.{TellsDisk, line_for_change, may_hold};
     ghost use Rattle.state_store.specs.Records.{records_in};
     ghost use Rattle.state_store.specs.Stores.{ChangeIsTaken, IsWhyUntaken, KeepsAllBut, is_sure, journal_of, lines_in, path_of_store};
-    ghost use Rattle.state_waiting.specs.Keepers.{InventoryIsGiven, waiting_in};
+    ghost use Rattle.state_keeping.specs.Keepers.{InventoryIsGiven, waiting_in};
     ghost use Rattle.state_keeping.specs.Noted.{note_lines};
     ghost use Rattle.state_keeping.specs.Reading.{IsFileAt, IsWhyUnread};
     ghost use Rattle.state_keeping.specs.Settles.{IsCopied, copy_with};

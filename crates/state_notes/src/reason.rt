@@ -1,10 +1,8 @@
 ghost use Rattle.std.specs.Prelude.{◌≡◌, ◌++◌, IfOk, OnOk};
-ghost use Rattle.plan_forest.specs.Push.{is_lease};
 ghost use Rattle.state_notes.specs.Lines.{change_fault_text, margin_text, over_words, step_words, twice_words};
 
 use base_moment::Text;
 use base_words::push_number;
-use plan_forest::Kind;
 use state_changes::{ChangeFault, Row, What};
 use std::alloc::{AllocError, Global};
 
@@ -106,17 +104,8 @@ fn over_words(what: &What) -> &'static [u8]
     ensures { result.now ≡ over_words what.now }
 {
     match what {
-        What::Add(row) if is_lease(row) => b" token: ",
+        What::Add(row) if row.kind.is_lease() => b" token: ",
         What::Add(_) | What::Need(_) | What::Replace(_) | What::Drop => b" parent: ",
-    }
-}
-
-fn is_lease(row: &Row) -> bool
-    ensures { result ≡ is_lease row.now.kind }
-{
-    match row.kind {
-        Kind::Token => false,
-        Kind::Lease => true,
     }
 }
 

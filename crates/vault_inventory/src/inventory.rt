@@ -4,7 +4,7 @@ ghost use Rattle.vault_inventory.specs.Intake.{inventory_of_intake};
 ghost use Rattle.vault_inventory.specs.Lookup.{lookup_fault, told};
 
 use crate::draft::Draft;
-use crate::lookup::{LookupFault, is_lease, set_need, tell, told_terms, write_terms};
+use crate::lookup::{LookupFault, set_need, tell, told_terms, write_terms};
 use crate::note::Note;
 use crate::register::Register;
 use crate::terms::Terms;
@@ -145,7 +145,7 @@ impl Inventory {
         let entry = self.forest.get(index);
         match lookup {
             Lookup::Token { orphan, .. } => {
-                if is_lease(entry.kind) {
+                if entry.kind.is_lease() {
                     return Some(LookupFault::OtherKind);
                 }
                 if *orphan && entry.parent.is_some() {
@@ -158,7 +158,7 @@ impl Inventory {
                 None
             }
             Lookup::Lease { id, .. } => {
-                if !is_lease(entry.kind) {
+                if !entry.kind.is_lease() {
                     Some(LookupFault::OtherKind)
                 } else if self.credential(index) == id.list() {
                     None

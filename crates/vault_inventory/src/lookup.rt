@@ -1,13 +1,13 @@
 ghost use Rattle.std.specs.Prelude.{◌≡◌, ◌+◌, ◌<◌, ◌≤◌, IfSome, length, slice_set};
 ghost use Rattle.plan_forest.specs.Forest.{entry_at};
-ghost use Rattle.plan_forest.specs.Push.{IsForest, is_lease};
+ghost use Rattle.plan_forest.specs.Push.{IsForest};
 ghost use Rattle.plan_forest.specs.declared.forest.TheConstants.{END_MAX};
 ghost use Rattle.vault_inventory.specs.declared.limits.TheConstants.{SPAN_MAX};
 ghost use Rattle.vault_inventory.specs.Lookup.{told_entry, told_terms};
 
 use crate::terms::Terms;
 use base_moment::{Moment, Span};
-use plan_forest::{Forest, Kind};
+use plan_forest::Forest;
 use thiserror::Error;
 use vault_json::Lookup;
 
@@ -27,16 +27,6 @@ pub enum LookupFault {
     /// margin.
     #[error("the step is not past the margin")]
     NoStep,
-}
-
-/// Whether the entry is a lease.
-pub(crate) fn is_lease(kind: Kind) -> bool
-    ensures { result ≡ is_lease kind }
-{
-    match kind {
-        Kind::Token => false,
-        Kind::Lease => true,
-    }
 }
 
 /// The terms of an entry as a lookup makes them.

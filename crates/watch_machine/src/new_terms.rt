@@ -1,11 +1,10 @@
 ghost use Rattle.std.specs.Prelude.{◌≡◌, ◌<◌, ◌&&◌, not, is_some, slice_set, length};
 ghost use Rattle.plan_forest.specs.Forest.{entry_at};
-ghost use Rattle.plan_forest.specs.Push.{is_lease};
 ghost use Rattle.watch_machine.specs.Looked.{by_terms, is_orphaned, orphaned, step_told};
 
 use crate::event::Terms;
 use crate::wanted::most;
-use plan_forest::{Entry, Forest, Kind};
+use plan_forest::{Entry, Forest};
 
 /// The step of an entry after one was told: that one where it is more than the margin.
 fn step_told(margin: u32, step: u32, told: Option<u32>) -> u32
@@ -21,17 +20,7 @@ fn step_told(margin: u32, step: u32, told: Option<u32>) -> u32
 pub(crate) fn is_orphaned(entry: &Entry, terms: Terms) -> bool
     ensures { result ≡ is_orphaned terms entry.now }
 {
-    terms.orphan && !is_lease(entry.kind) && entry.parent.is_some()
-}
-
-/// Whether it is a lease.
-fn is_lease(kind: Kind) -> bool
-    ensures { result ≡ is_lease kind }
-{
-    match kind {
-        Kind::Token => false,
-        Kind::Lease => true,
-    }
+    terms.orphan && !entry.kind.is_lease() && entry.parent.is_some()
 }
 
 /// Takes an entry away from its parent where the terms say so. A lease keeps its token.
@@ -42,7 +31,7 @@ pub(crate) fn take_orphan(forest: &mut Forest, index: u32, terms: Terms)
     if !terms.orphan {
         return;
     }
-    if is_lease(forest.get(index).kind) {
+    if forest.get(index).kind.is_lease() {
         return;
     }
     forest.orphan(index);

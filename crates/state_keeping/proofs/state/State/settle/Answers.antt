@@ -11,7 +11,7 @@ use Rattle.state_store.specs.Books.{Book}
 use Rattle.state_store.specs.Compacted.{damaged}
 use Rattle.state_store.specs.Moved.{IsMoved, IsMovedBook, FailsInSteps, IsMovedIf, LeftByMove, MovesInSteps, mark_line}
 use Rattle.state_store.specs.Stores.{FileHolds, book_of, is_sure, journal_of, lines_in, path_of_store}
-use Rattle.state_waiting.specs.Keepers.{store_of}
+use Rattle.state_keeping.specs.Keepers.{store_of}
 use Rattle.state_keeping.specs.Lives.{SettlesInSteps}
 use Rattle.state_keeping.specs.Settles.{IsSettledState, LeftBySettling, copy_with, mode_of}
 use Rattle.state_keeping.specs.States.{Kept, store_in}

@@ -15,5 +15,5 @@ pub returns-in_ok-answer-in-Some-clause-told : goal.returns-in_ok-answer-in-Some
 returns-in_ok-answer-in-Some-clause-told c =
     let old = c.args.self.now in
     told_as (came_by old) old.has_ended c.in-Some.read _ c.in_ok-answer-in-Some.ensures.read
-      (subst (λ (piece : List ℕ). (more : List ℕ) → NothingFollowsEnd old.has_ended more → UnlessMemory c.in-Some.read (IsDatedReply MOST_MESSAGE ((old.arriving ++ piece) ++ more) c.in-Some.read))
-        c.deref.ensures.value c.in-Some.ensures.answer)
+    (subst (λ (piece : List ℕ). (more : List ℕ) → NothingFollowsEnd old.has_ended more → UnlessMemory c.in-Some.read (IsDatedReply MOST_MESSAGE ((old.arriving ++ piece) ++ more) c.in-Some.read))
+    c.deref.ensures.value c.in-Some.ensures.answer)

@@ -28,7 +28,7 @@ impl<'a> Keeper<'a> {
     ghost use Rattle.state_store.specs.declared.fault.TakeFault.TheVariants.{Unread};
     ghost use Rattle.state_store.specs.Entering.{TellsDisk, line_for_change, may_hold};
     ghost use Rattle.state_store.specs.Moved.{FailsInSteps, HasMarkAtMost, IsMovedIf, IsStillThere, IsWhyUnsettled, LeftByMove, MovesInSteps, SaysByItself};
-    ghost use Rattle.state_waiting.specs.Keepers.{InventoryIsGiven, store_of, waiting_in};
+    ghost use Rattle.state_keeping.specs.Keepers.{InventoryIsGiven, store_of, waiting_in};
     ghost use Rattle.state_store.specs.Records.{records_in};
     ghost use Rattle.state_store.specs.Stores.{ChangeIsTaken, FileHolds, IsKeptOrNone, IsReplayed, IsWhyUntaken, KeepsAllBut, book_of, is_kept, is_sure, journal_of, lines_in, path_of_store};
 

@@ -5,7 +5,7 @@ use Rattle.agent_standing.specs.Waiting.{is_change_due}
 use Rattle.vault_inventory.specs.Inventories.{Inventory}
 use Rattle.vault_served.specs.ForGood.{inventory_for_good}
 use Rattle.state_store.specs.declared.store.Store.{Store}
-use Rattle.state_waiting.specs.declared.keeper.Keeper.{Keeper}
+use Rattle.state_keeping.specs.declared.keeper.Keeper.{Keeper}
 
 abbrev pub store_of : Keeper → Store
 store_of keeper = keeper.store
