@@ -17,13 +17,16 @@ use Rattle.state_changes.specs.Records.{record_of}
 use Rattle.base_disk.specs.Image as images
 use Rattle.base_disk.specs.Image.{Image}
 use Rattle.base_disk.specs.State.{DiskState}
+use Rattle.state_changes.specs.Words.{fingerprint}
 use Rattle.base_journal.specs.Journals.{CrashLeaves, FileIsThere, JournalIsWhole, bytes_of_file}
 use Rattle.base_journal.specs.Records.{AreLines, StandsFor, at_rest, lines_kept}
 use Rattle.base_journal.proofs.Steps.{at_end}
 use Rattle.state_secrets.specs.Stamps.{FileCall}
 use Rattle.state_keeping.specs.Places.{Places}
-use Rattle.state_keeping.specs.Settles.{IsSettledIf, copy_with, mode_of}
+use Rattle.state_keeping.specs.Settles.{IsSettledIf, LeavesAloneIf, copy_with, mode_of}
+use Rattle.state_keeping.specs.Reading.{IsFileAt}
 use Rattle.state_keeping.specs.States.{Kept, book_in, store_in}
+use Rattle.state_keeping.specs.declared.reading.FileRead.{FileRead}
 use Rattle.state_store.specs.Books.{Book, IsBookIf}
 use Rattle.state_store.specs.Compacted.{compacted_lines}
 use Rattle.state_store.specs.Entering.{line_for_change}
@@ -39,7 +42,8 @@ use Rattle.agent_words.specs.declared.reread.Reread.{Reread}
 use Rattle.agent_ledger.specs.Keeping.{KeepCall, Reload, Settle, Take}
 use Rattle.agent_ledger.specs.Ledgers.{AreCompacted, DoesLedger, IsTakenOn, ReadsTable}
 use Rattle.agent_ledger.specs.declared.ledger.Ledger.{Ledger}
-use Rattle.agent_laws.specs.Acknowledged.{FileHasAll, HasRecord, IsDone, IsOnDisk, IsReread}
+use Rattle.agent_words.specs.Rereading.{AreBytesOf}
+use Rattle.agent_laws.specs.Acknowledged.{FileHasAll, FileSaysAll, HasRecord, IsDone, IsOnDisk, IsReread}
 use Rattle.agent_laws.proofs.Owed.{AreDone, IsChangeOf}
 
 -- ---- the last line of a journal stays where those are taken out that are void
@@ -160,26 +164,43 @@ module _ {D : Type 0} (known : Bool) (seen : D → DiskState) where
   moved name other w v k same is h = subst (λ (n : List ℕ). IsOnDisk known seen n v k) same (subst (λ (x : What). IsOnDisk known seen name x k) is h)
 
   -- FILE was settled
-  settled_by : (mode : ℕ) (text : Option (List ℕ)) (old new : Kept D) → new.places ≡ old.places → IsSettledIf known (store_in old) old.places mode text None (store_in new) (seen new.disk) → FileHasAll known seen new ⊎ SaysAlready (book_in new)
-  settled_by mode (Some text) old new places h = inl (record {
+  settled_by : (read : FileRead) (text : Option (List ℕ)) (old new : Kept D) → new.places ≡ old.places → (IsTrue known → IsFileAt old.places.file (seen old.disk) read) → fingerprint read.bytes ≡ (book_in old).file.mark
+      → IsSettledIf known (store_in old) old.places (mode_of read.mode) text None (store_in new) (seen new.disk) → LeavesAloneIf known text (seen old.disk) (seen new.disk) → FileHasAll known seen new ⊎ FileSaysAll known seen new
+  settled_by read (Some text) old new places was same h alone = inl (record {
     text = text;
     served = h.served;
     reads = h.says.read;
     lists = h.says.listed ∙ sym h.book.rows;
     is_read = h.book.file;
     emptied = ap records_in h.handed.0 ∙ damaged_records (lines_in (store_in old));
-    mode = mode;
-    there = λ is. subst (λ (p : Places). FileIsThere p.file (record { mode = mode; bytes = text }) (seen new.disk)) (sym places) (h.there is);
+    mode = mode_of read.mode;
+    there = λ is. subst (λ (p : Places). FileIsThere p.file (record { mode = mode_of read.mode; bytes = text }) (seen new.disk)) (sym places) (h.there is);
     copied = λ is. subst (λ (p : Places). FileIsThere p.copy (copy_with text) (seen new.disk)) (sym places) (h.handed.1 is).0;
     whole = λ is. (h.handed.1 is).1;
   })
-  settled_by mode None old new places h = inr (subst (λ (s : Store). SaysAlready (book_of s)) (sym h.1.0) h.1.1)
+  settled_by read None old new places was same h alone = inr (record {
+    bytes = read.bytes;
+    stand = (
+      read.mode,
+      λ is. subst (λ (p : Places). (seen new.disk).seen p.file ≡ Some (record { mode = read.mode; bytes = read.bytes })) (sym places)
+          (ap (λ (image : Image). image old.places.file) (alone is).seen ∙ was is),
+    );
+    same = subst (λ (s : Store). fingerprint read.bytes ≡ (book_of s).file.mark) (sym h.1.0) same;
+    says = subst (λ (s : Store). SaysAlready (book_of s)) (sym h.1.0) h.1.1;
+  })
 
 -- it was read anew
-reread_as : {D : Type 0} (lines : List (List ℕ)) (bytes : List ℕ) (notes : List Note) (old new : Kept D) → lines_in (store_in new) ≡ lines → IsBookIf (Some bytes) (records_in lines) (book_in old).secrets (book_in new) notes → IsReread new
-reread_as lines bytes notes old new same h =
+reread_as : {D : Type 0} (known : Bool) (seen : D → DiskState) (lines : List (List ℕ)) (bytes : List ℕ) (notes : List Note) (old new : Kept D) → AreBytesOf known seen new bytes → lines_in (store_in new) ≡ lines
+    → IsBookIf (Some bytes) (records_in lines) (book_in old).secrets (book_in new) notes → IsReread known seen new
+reread_as known seen lines bytes notes old new stand same h =
     let secrets : (book_in old).secrets ≡ (book_in new).secrets = sym h.secrets_are in
-    (bytes, (notes, subst (λ (ls : List (List ℕ)). IsBookIf (Some bytes) (records_in ls) (book_in new).secrets (book_in new) notes) (sym same) (subst (λ (s : List Secret). IsBookIf (Some bytes) (records_in lines) s (book_in new) notes) secrets h)))
+    record {
+      bytes = bytes;
+      stand = stand;
+      notes = notes;
+      book = subst (λ (ls : List (List ℕ)). IsBookIf (Some bytes) (records_in ls) (book_in new).secrets (book_in new) notes) (sym same)
+          (subst (λ (s : List Secret). IsBookIf (Some bytes) (records_in lines) s (book_in new) notes) secrets h);
+    }
 
 module _ {D I L : Type 0} (known : Bool) (seen : D → DiskState) (counts : (disk : D) (t : ℕ) (c : Image) → t ≤ (seen disk).moment → (seen disk).may_leave c → (seen disk).left_since t c)
     (calls : I → Option (List FileCall)) (lanes_seen : L → Lanes) (port : L → ℕ) where
@@ -201,11 +222,11 @@ module _ {D I L : Type 0} (known : Bool) (seen : D → DiskState) (counts : (dis
   taken (asked.Follow alerts) now name w x l m is h = absurd is
 
   -- FILE was settled, or read anew
-  settled : (x : Unit {0}) (l m : Ledger D I L) → Does (Settle (Ok x)) l m → FileHasAll known seen m.state ⊎ SaysAlready (book_in m.state)
-  settled x l m h = settled_by known seen (mode_of h.0.0.read.mode) h.0.0.text l.state m.state h.0.1 h.0.0.settled
+  settled : (x : Unit {0}) (l m : Ledger D I L) → Does (Settle (Ok x)) l m → FileHasAll known seen m.state ⊎ FileSaysAll known seen m.state
+  settled x l m h = (let is = h.0.0 in settled_by known seen is.read is.text l.state m.state h.0.1 is.was is.same is.settled is.alone)
 
-  reloaded : (now : ℕ) (reread : Reread) (l m : Ledger D I L) → Does (Reload now (Ok reread)) l m → IsReread m.state
-  reloaded now reread l m h = reread_as (lines_in (store_in l.state)) h.0.bytes h.0.notes l.state m.state h.0.lines h.0.book
+  reloaded : (now : ℕ) (reread : Reread) (l m : Ledger D I L) → Does (Reload now (Ok reread)) l m → IsReread known seen m.state
+  reloaded now reread l m h = reread_as known seen (lines_in (store_in l.state)) h.0.bytes h.0.notes l.state m.state h.0.left h.0.lines h.0.book
 
   pub are_done : AreDone Does reads_of (IsDone {I = I} {L = L} known seen)
   are_done = record { taken = taken; settled = settled; reloaded = reloaded; unkept = λ name need. tt }

@@ -16,6 +16,7 @@ use Rattle.vault_asking.specs.Sending.{Lanes}
 use Rattle.agent_behind.specs.Behinds.{PassesBehind}
 use Rattle.agent_behind.specs.declared.behind.Behind.{Behind}
 use Rattle.state_changes.specs.Listed.{rows_of_served}
+use Rattle.state_changes.specs.Words.{fingerprint}
 use Rattle.state_changes.specs.declared.change.What.{What}
 use Rattle.state_changes.specs.declared.change.What.TheVariants as what
 use Rattle.state_changes.specs.declared.replaying.Note.{Note}
@@ -49,6 +50,7 @@ use Rattle.state_store.specs.Entering.{line_for_change}
 use Rattle.state_store.specs.Moved.{SaysAlready}
 use Rattle.state_store.specs.Records.{records_in}
 use Rattle.state_store.specs.Stores.{journal_of, lines_in, path_of_store}
+use Rattle.agent_words.specs.Rereading.{AreBytesOf}
 use Rattle.agent_house.specs.Admitting.{asking_in}
 use Rattle.agent_house.specs.Houses.{ClientsAsk}
 use Rattle.agent_house.specs.declared.house.House.{House}
@@ -147,19 +149,29 @@ pub record FileHasAll {D : Type 0} (known : Bool) (seen : D → DiskState) (k : 
   pub copied : IsTrue known → FileIsThere k.places.copy (copy_with text) (seen k.disk)
   pub whole : IsTrue known → JournalIsWhole (journal_of (store_in k)) (seen k.disk)
 
--- what is served is the rows of a text, by which FILE was read, with every change of the journal
-abbrev pub IsReread : {D : Type 0} → Kept D → Type 0
-IsReread k = (bytes : List ℕ) × ((notes : List Note) × IsBookIf (Some bytes) (records_in (lines_in (store_in k))) (book_in k).secrets (book_in k) notes)
+-- FILE says all that is kept already: it has the bytes that were read of it last, by their fingerprint, and so has a text that says that
+pub record FileSaysAll {D : Type 0} (known : Bool) (seen : D → DiskState) (k : Kept D) : Type 0 where
+  pub bytes : List ℕ
+  pub stand : AreBytesOf known seen k bytes
+  pub same : fingerprint bytes ≡ (book_in k).file.mark
+  pub says : SaysAlready (book_in k)
 
--- what a client has asked for is done: the record of a change is on the disk; FILE has all that is kept, or that is what was read of it last
--- by its fingerprint; or it is read anew. None that follows the log is told so by this
+-- what is served is the rows of the text that FILE has, with every change of the journal
+pub record IsReread {D : Type 0} (known : Bool) (seen : D → DiskState) (k : Kept D) : Type 0 where
+  pub bytes : List ℕ
+  pub stand : AreBytesOf known seen k bytes
+  pub notes : List Note
+  pub book : IsBookIf (Some bytes) (records_in (lines_in (store_in k))) (book_in k).secrets (book_in k) notes
+
+-- what a client has asked for is done: the record of a change is on the disk; FILE has all that is kept, or has said it before; or it is read
+-- anew. None that follows the log is told so by this
 abbrev pub IsKept : {D : Type 0} → Bool → (D → DiskState) → Asked → Kept D → Type 0
 IsKept known seen (asked.Need name need) k = IsOnDisk known seen name (what.Need need) k
 IsKept known seen (asked.Replace name credential) k = IsOnDisk known seen name (what.Replace credential) k
 IsKept known seen (asked.Add table) k = (most : Option ℕ) × ((row : Row) × ((row_of_table most table ≡ Ok row) × IsOnDisk known seen row.name (what.Add row) k))
 IsKept known seen (asked.Drop name) k = IsOnDisk known seen name what.Drop k
-IsKept known seen asked.Settle k = FileHasAll known seen k ⊎ SaysAlready (book_in k)
-IsKept known seen asked.Reload k = IsReread k
+IsKept known seen asked.Settle k = FileHasAll known seen k ⊎ FileSaysAll known seen k
+IsKept known seen asked.Reload k = IsReread known seen k
 IsKept known seen (asked.Follow alerts) k = ⊥
 
 -- where nothing keeps changes nothing is done but for a need

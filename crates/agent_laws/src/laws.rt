@@ -109,8 +109,8 @@ pub fn a_turn_without_a_change_spares_disks<
 /// The law that in every run of turns whoever is told `ok` has asked for something before, and it is done; or it has asked for a page, which
 /// is shown, or to follow the log, which it does from then on. The record of a change is among those of the journal then, and on the disk:
 /// whatever a crash leaves has it. After `settle` FILE has all that is kept and is on the disk, as its copy is, and the journal has no record;
-/// or by its fingerprint what was read of FILE last had all that. After `reload` a text by which FILE was read is served, with every change
-/// of the journal. Where nothing keeps changes nothing is done but for a need.
+/// or FILE is seen with what was read of it last, which by its fingerprint had all that. After `reload` the text that FILE is seen with is
+/// served, with every change of the journal. Where nothing keeps changes nothing is done but for a need.
 ///
 /// This is so at each call of the loop: by what is heard, and as it is asked for how long it may rest, a house tells nobody so; while it goes
 /// on, it shows pages alone; and where a change is asked for, it tells nobody so but who follows the log from then on.

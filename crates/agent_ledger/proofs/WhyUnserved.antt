@@ -1,5 +1,5 @@
 -- WhyUnserved: why a file that is read again is not served, or that it is. For `judged` and `reload`.
-use Rattle.std.proofs.Common.{◌≡◌, ◌∙◌, ℕ, Bool, List, [], Option, Some, None, Ok, Err, IfSome, ap, inl, inr, subst, sym}
+use Rattle.std.proofs.Common.{◌≡◌, ◌∙◌, ℕ, Bool, IsTrue, List, [], Option, Some, None, Ok, Err, IfSome, ap, inl, inr, subst, sym}
 use Rattle.agent_standing.specs.Waiting.{changed}
 use Rattle.state_changes.specs.declared.replaying.Note.{Note}
 use Rattle.base_disk.specs.State.{DiskState}
@@ -41,14 +41,16 @@ wanting_why known seen demands kept bytes whys stand none = inr (bytes, (stand, 
 -- one that is read again is served with every change
 pub reread_as :
     {D : Type 0} → (known : Bool) (seen : D → DiskState) (demands : Demands) (now : ℕ) (bytes : List ℕ) (r : Reread) (old mid new : Kept D) →
-    AreBytesOf known seen old bytes → IsWellWritten demands bytes → mid.keeper ≡ old.keeper → mid.places ≡ old.places →
+    AreBytesOf known seen old bytes → AreBytesOf known seen mid bytes → IsWellWritten demands bytes → mid.keeper ≡ old.keeper → mid.places ≡ old.places →
     (notes : List Note) × (IsBookIf (Some bytes) (records_in (lines_in (store_in mid))) (book_in mid).secrets (book_in new) notes
     × SaysNotes (book_in new).file.margin (records_in (lines_in (store_in new))) notes r.notes.items) →
     (copy : Option DiskFault) × (IsCopied known mid.places bytes copy (seen new.disk) × SaysCopy copy r.unkept) →
-    lines_in (store_in new) ≡ lines_in (store_in mid) → waiting_in new.keeper ≡ changed (waiting_in mid.keeper) now → ReloadsOn known seen demands now (Ok r) old new
-reread_as known seen demands now bytes r old mid new stand written keeper places reloaded copied lines waiting = record {
+    lines_in (store_in new) ≡ lines_in (store_in mid) → (IsTrue known → (seen new.disk).seen new.places.file ≡ (seen mid.disk).seen mid.places.file) →
+    waiting_in new.keeper ≡ changed (waiting_in mid.keeper) now → ReloadsOn known seen demands now (Ok r) old new
+reread_as known seen demands now bytes r old mid new stand stays written keeper places reloaded copied lines file waiting = record {
   bytes = bytes;
   stand = stand;
+  left = (stays.0, λ is. file is ∙ stays.1 is);
   written = written;
   notes = reloaded.0;
   book = subst (λ k. IsBookIf (Some bytes) (records_in (lines_in (store_of k))) (book_of (store_of k)).secrets (book_in new) reloaded.0) keeper reloaded.1.0;

@@ -24,7 +24,9 @@ use Rattle.state_keeping.specs.declared.fault.TableFault.{TableFault}
 use Rattle.state_store.specs.Books.{HasSecrets, IsBookIf}
 use Rattle.state_store.specs.Compacted.{compacted_lines, is_worth}
 use Rattle.state_store.specs.Records.{records_in}
-use Rattle.state_store.specs.Stores.{ChangeIsTaken, IsWhyUntaken, journal_of, lines_in, path_of_store}
+use Rattle.state_store.specs.Entering.{FaultTellsDisk, FaultTellsLength}
+use Rattle.state_store.specs.Stores.{ChangeIsTaken, IsWhyUntaken, journal_of, lines_in, path_of_store, size_with}
+use Rattle.state_store.specs.declared.fault.TakeFault.{TakeFault}
 use Rattle.state_store.specs.declared.secret.Secret.{Secret}
 use Rattle.state_keeping.specs.Keepers.{InventoryIsGiven, waiting_in}
 use Rattle.state_secrets.specs.Looking.{begun_anew}
@@ -71,9 +73,16 @@ pub record IsTakenOn {D : Type 0} (known : Bool) (seen : D → DiskState) (now :
   pub book : book_in new ≡ book_in mid
   pub still : waiting_in new.keeper ≡ waiting_in mid.keeper
 
+-- why it is not taken: a fault of the disk is told exactly where the disk has failed, and says what the disk said; and that the journal would
+-- be too long only where it would be
+pub record IsWhyUntakenOn {D : Type 0} (known : Bool) (seen : D → DiskState) (name : List ℕ) (w : What) (old new : Kept D) (fault : TakeFault) : Type 0 where
+  pub why : IsWhyUntaken (store_in old) name w fault
+  pub cause : FaultTellsDisk (seen old.disk) (seen new.disk) fault
+  pub long : IsTrue known → FaultTellsLength (size_with (store_in old) name w) fault
+
 abbrev pub TakesOn : {D : Type 0} → Bool → (D → DiskState) → ℕ → List ℕ → What → Result (Unit {0}) Why → Kept D → Kept D → Type 0
 TakesOn known seen now name w (Ok x) old new = IsTakenOn known seen now name w old new
-TakesOn known seen now name w (Err why) old new = IsAsItWas old new × SaysWhy (IsWhyUntaken (store_in old) name w) (take_words (book_in old).file.margin name w) why
+TakesOn known seen now name w (Err why) old new = IsAsItWas old new × SaysWhy (IsWhyUntakenOn known seen name w old new) (take_words (book_in old).file.margin name w) why
 
 -- ---- settle, reload, and the others
 
@@ -114,11 +123,12 @@ pub record IsFilledOn {D : Type 0} (files : Files) (folder : List ℕ) (now : �
   pub taken : FilledWith is_taken now secrets old new
   pub said_is : said ≡ said_if is_taken
 
--- a file that may be served is, with every change; and what is said of it. The journal, and what was taken of files of credentials, stay; and
--- none of these is read
+-- a file that may be served is, with every change; and what is said of it. That file, the journal, and what was taken of files of credentials,
+-- stay; and none of these is read
 pub record IsReloadedOn {D : Type 0} (known : Bool) (seen : D → DiskState) (demands : Demands) (now : ℕ) (reread : Reread) (old new : Kept D) : Type 0 where
   pub bytes : List ℕ
   pub stand : AreBytesOf known seen old bytes
+  pub left : AreBytesOf known seen new bytes
   pub written : IsWellWritten demands bytes
   pub notes : List Note
   pub book : IsBookIf (Some bytes) (records_in (lines_in (store_in old))) (book_in old).secrets (book_in new) notes

@@ -13,9 +13,9 @@ ghost use Rattle.state_keeping.specs.States.{book_in, store_in};
 ghost use Rattle.state_store.specs.Books.{IsBookIf};
 ghost use Rattle.state_store.specs.Compacted.{compacted_lines};
 ghost use Rattle.state_store.specs.Records.{records_in};
-ghost use Rattle.state_store.specs.Stores.{IsWhyUntaken, lines_in, path_of_store};
+ghost use Rattle.state_store.specs.Stores.{lines_in, path_of_store};
 ghost use Rattle.state_keeping.specs.Keepers.{waiting_in};
-ghost use Rattle.agent_ledger.specs.Ledgers.{AreCompacted, FilledWith, IsFilledOn, IsTakenOn, ReloadsOn, StaysOnDisk, apart_line, ledger_rest, rest_while};
+ghost use Rattle.agent_ledger.specs.Ledgers.{AreCompacted, FilledWith, IsFilledOn, IsTakenOn, IsWhyUntakenOn, ReloadsOn, StaysOnDisk, apart_line, ledger_rest, rest_while};
 ghost use Rattle.agent_words.specs.Noting.{left_lines, said_notes};
 ghost use Rattle.agent_words.specs.Reading.{IsWellWritten, IsWide};
 ghost use Rattle.agent_words.specs.Reasons.{bare_words, left_words, table_words};
@@ -96,6 +96,7 @@ impl<'a, D: Disk, I: Inputs, L: Lanes> Ledger<'a, D, I, L> {
     // The bytes of the file; or why it is not read, in words.
     fn read(&mut self, alloc: Global) -> Result<Text, Option<Text>>
         ensures stand { IfOk result (λ bytes. AreBytesOf D.is_known D.state self.old.state bytes) }
+        ensures left { IfOk result (λ bytes. AreBytesOf D.is_known D.state self.new.state bytes) }
         ensures refused { IfErr result (λ why. IfSome why (SaysUnread D.is_known D.state self.old.state)) }
         ensures keeper { self.new.state.keeper ≡ self.old.state.keeper }
         ensures places { self.new.state.places ≡ self.old.state.places }
@@ -111,6 +112,7 @@ impl<'a, D: Disk, I: Inputs, L: Lanes> Ledger<'a, D, I, L> {
     #[tactic(auto, using(crate::proofs::WhyUnserved::unread_why, crate::proofs::WhyUnserved::unserved_why, crate::proofs::WhyUnserved::wanting_why))]
     fn judged(&mut self, alloc: Global) -> Result<Text, Vec<Text>>
         ensures stand { IfOk result (λ bytes. AreBytesOf D.is_known D.state self.old.state bytes) }
+        ensures left { IfOk result (λ bytes. AreBytesOf D.is_known D.state self.new.state bytes) }
         ensures written { IfOk result (λ bytes. IsWellWritten self.old.demands bytes) }
         ensures refused { IfErr result (λ whys. IsWhyNotReread D.is_known D.state self.old.demands self.old.state whys.items) }
         ensures keeper { self.new.state.keeper ≡ self.old.state.keeper }
@@ -155,6 +157,7 @@ impl<'a, D: Disk, I: Inputs, L: Lanes> Ledger<'a, D, I, L> {
             × SaysNotes (book_in self.new.state).file.margin (records_in (lines_in (store_in self.new.state))) notes r.notes.items)) }
         ensures copied { IfOk result (λ r. (copy : Option DiskFault) × (IsCopied D.is_known self.old.state.places bytes.now copy (D.state self.new.state.disk) × SaysCopy copy r.unkept)) }
         ensures lines { OnOk result (lines_in (store_in self.new.state) ≡ lines_in (store_in self.old.state)) }
+        ensures file { OnOk result (IsTrue D.is_known → (D.state self.new.state.disk).seen self.new.state.places.file ≡ (D.state self.old.state.disk).seen self.old.state.places.file) }
         ensures why { IfErr result (λ why. IfSome why (SaysNoBook bytes.now)) }
         ensures waiting { OnOk result (waiting_in self.new.state.keeper ≡ changed (waiting_in self.old.state.keeper) now) }
         ensures refused { OnErr result (IsAsItWas self.old.state self.new.state) }
@@ -308,7 +311,7 @@ fn take_on<D: Disk>(
     what: What,
 ) -> Result<(), TakeFault>
     ensures taken { OnOk result (IsTakenOn D.is_known D.state now name what state.old state.new) }
-    ensures refused { IfErr result (IsWhyUntaken (store_in state.old) name what) }
+    ensures refused { IfErr result (IsWhyUntakenOn D.is_known D.state name what state.old state.new) }
     ensures unchanged { OnErr result (IsAsItWas state.old state.new) }
 {
     state.take(now, name, what)?;

@@ -77,6 +77,12 @@ TellsFailure old new (Err (faults.Failed why)) = (new.faults ≡ one_more old.fa
 TellsFailure old new (Err faults.TooLong) = new.faults ≡ old.faults
 TellsFailure old new (Err faults.OutOfMemory) = new.faults ≡ old.faults
 
+-- it is not that a file is too long: only a read tells that
+abbrev pub IsNotTooLong : DiskFault → Type 0
+IsNotTooLong (faults.Failed why) = Unit {0}
+IsNotTooLong faults.TooLong = ⊥
+IsNotTooLong faults.OutOfMemory = Unit {0}
+
 -- this file stands beside its place, and is on the disk
 abbrev pub StandsBeside : List ℕ → File → DiskState → Type 0
 StandsBeside path file s = s.beside ≡ Some (record { path = path; file = file; is_synced = true })

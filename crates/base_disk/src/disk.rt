@@ -1,8 +1,8 @@
-ghost use Rattle.std.specs.Prelude.{◌≡◌, ◌≤◌, ◌⊎◌, ℕ, length, take, true, false, Bool, Some, None, List, OnOk, IfOk, IfSome, MatchOption, IsTrue, is_none};
+ghost use Rattle.std.specs.Prelude.{◌≡◌, ◌≤◌, ◌⊎◌, ℕ, length, take, true, false, Bool, Some, None, List, OnOk, IfErr, IfOk, IfSome, MatchOption, IsTrue, is_none};
 ghost use Rattle.std.specs.Str.{bytes_eq};
 ghost use Rattle.base_disk.specs.Image.{Image, File, image_changed, with_file_at, with_bytes, overwritten};
 ghost use Rattle.base_disk.specs.Torn.{Torn, Tears, MovesFile};
-ghost use Rattle.base_disk.specs.State.{DiskState, OutcomesFollow, Touches, LeavesAlone, Elapses, TellsFailure, StandsBeside};
+ghost use Rattle.base_disk.specs.State.{DiskState, OutcomesFollow, Touches, LeavesAlone, Elapses, IsNotTooLong, TellsFailure, StandsBeside};
 
 use crate::{DiskFault, Lock};
 use base_moment::Text;
@@ -25,7 +25,7 @@ pub struct Stamp {
 ///
 /// Contracts know what stands on a disk in memory. Of a real one they know nothing (`is_known` is false there): that it is
 /// such a disk is what one trusts. Each call says what a crash at any moment in it may leave: any bytes in the range of a write
-/// that is under way, nothing to rely on of what is not synced, and the old or the new file at the end of a move.
+/// that is under way, nothing to rely on of what is not synced, and the old or the new file at the end of a move. `TooLong` is told by a read alone.
 pub trait Disk {
     /// Whether contracts know what stands on it.
     ghost is_known: { Bool };
@@ -52,7 +52,8 @@ pub trait Disk {
         ensures alone { IsTrue is_known → LeavesAlone (state self.old) (state self.new) }
         ensures beside { IsTrue is_known → (state self.new).beside ≡ (state self.old).beside }
         ensures time { IsTrue is_known → Elapses (state self.old) (state self.new) }
-        ensures cause { TellsFailure (state self.old) (state self.new) result };
+        ensures cause { TellsFailure (state self.old) (state self.new) result }
+        ensures which { IfErr result IsNotTooLong };
 
     /// Writes over what is in the file at `path`, and past its end. Until a sync, a crash may leave any bytes in the range.
     fn write_at(&mut self, path: &str, at: usize, bytes: &[u8]) -> Result<(), DiskFault>
@@ -63,7 +64,8 @@ pub trait Disk {
         ensures touches { IsTrue is_known → Touches path.now (state self.old) (state self.new) }
         ensures crash { IsTrue is_known → OutcomesFollow (Tears path.now (Torn at (length bytes.now))) (state self.old) (state self.new) }
         ensures time { IsTrue is_known → Elapses (state self.old) (state self.new) }
-        ensures cause { TellsFailure (state self.old) (state self.new) result };
+        ensures cause { TellsFailure (state self.old) (state self.new) result }
+        ensures which { IfErr result IsNotTooLong };
 
     /// After it, a crash leaves the file at `path` as a read gives it, where no earlier call on that file has failed. That a
     /// file was moved there is on the disk then too.
@@ -75,7 +77,8 @@ pub trait Disk {
         ensures touches { IsTrue is_known → Touches path.now (state self.old) (state self.new) }
         ensures crash { IsTrue is_known → (c : Image) → (state self.new).may_leave c → (state self.old).may_leave c }
         ensures time { IsTrue is_known → Elapses (state self.old) (state self.new) }
-        ensures cause { TellsFailure (state self.old) (state self.new) result };
+        ensures cause { TellsFailure (state self.old) (state self.new) result }
+        ensures which { IfErr result IsNotTooLong };
 
     /// Writes a new file beside `path`, in the place of one that was begun there. What stands at `path` is left alone.
     fn write_beside(&mut self, path: &str, mode: u32, bytes: &[u8]) -> Result<(), DiskFault>
@@ -83,7 +86,8 @@ pub trait Disk {
             ≡ Some (record { path = path.now; file = record { mode = mode; bytes = bytes.now }; is_synced = false })) }
         ensures alone { IsTrue is_known → LeavesAlone (state self.old) (state self.new) }
         ensures time { IsTrue is_known → Elapses (state self.old) (state self.new) }
-        ensures cause { TellsFailure (state self.old) (state self.new) result };
+        ensures cause { TellsFailure (state self.old) (state self.new) result }
+        ensures which { IfErr result IsNotTooLong };
 
     /// Syncs the file that was written beside `path`.
     fn sync_beside(&mut self, path: &str) -> Result<(), DiskFault>
@@ -91,7 +95,8 @@ pub trait Disk {
             → (state self.old).beside ≡ Some (record { path = path.now; file = file; is_synced = false }) → StandsBeside path.now file (state self.new)) }
         ensures alone { IsTrue is_known → LeavesAlone (state self.old) (state self.new) }
         ensures time { IsTrue is_known → Elapses (state self.old) (state self.new) }
-        ensures cause { TellsFailure (state self.old) (state self.new) result };
+        ensures cause { TellsFailure (state self.old) (state self.new) result }
+        ensures which { IfErr result IsNotTooLong };
 
     /// Moves the file that was written beside `path`, and synced, to its place. Until a sync of `path`, a crash leaves
     /// it there or what was there before.
@@ -104,7 +109,8 @@ pub trait Disk {
         ensures sound { IsTrue is_known → (other : List ℕ) → bytes_eq path.now other ≡ false → (state self.new).is_sound other ≡ (state self.old).is_sound other }
         ensures crash { IsTrue is_known → (file : File) → StandsBeside path.now file (state self.old) → OutcomesFollow (MovesFile path.now file) (state self.old) (state self.new) }
         ensures time { IsTrue is_known → Elapses (state self.old) (state self.new) }
-        ensures cause { TellsFailure (state self.old) (state self.new) result };
+        ensures cause { TellsFailure (state self.old) (state self.new) result }
+        ensures which { IfErr result IsNotTooLong };
 
     /// Holds the lock of the file at `path`, which is made where there is none, until the process ends; `None` where another
     /// process holds it. One that this process holds already is given again.
@@ -114,7 +120,8 @@ pub trait Disk {
         ensures alone { IsTrue is_known → LeavesAlone (state self.old) (state self.new) }
         ensures beside { IsTrue is_known → (state self.new).beside ≡ (state self.old).beside }
         ensures time { IsTrue is_known → Elapses (state self.old) (state self.new) }
-        ensures cause { TellsFailure (state self.old) (state self.new) result };
+        ensures cause { TellsFailure (state self.old) (state self.new) result }
+        ensures which { IfErr result IsNotTooLong };
 
     /// This moment is one of those since an earlier one.
     ghost counts_now: { (disk : Self) (t : ℕ) (c : Image) → t ≤ (state disk).moment → (state disk).may_leave c → (state disk).left_since t c };

@@ -1,7 +1,7 @@
-ghost use Rattle.std.specs.Prelude.{◌≡◌, true, false, if◌then◌else◌, Ok, Err, IfOk, OnOk, List, ℕ};
+ghost use Rattle.std.specs.Prelude.{◌≡◌, true, false, if◌then◌else◌, Ok, Err, IfErr, IfOk, OnOk, List, ℕ};
 ghost use Rattle.base_device.specs.Failures.{one_more};
 ghost use Rattle.base_disk.specs.declared.fault.DiskFault.TheVariants as faults;
-ghost use Rattle.base_disk.specs.State.{DiskKeeps, Elapses, LeavesAlone, TellsFailure};
+ghost use Rattle.base_disk.specs.State.{DiskKeeps, Elapses, IsNotTooLong, LeavesAlone, TellsFailure};
 ghost use Rattle.base_disk.specs.MemoryLaws.{memory_lawful};
 ghost use Rattle.std.proofs.Common.{le_refl};
 ghost use Rattle.base_disk.specs.Memory.{IsFreshDisk, IsSame, EntersCall, image_of, calls_of_disk, memory_state, held_file, is_turn, next_turn};
@@ -115,6 +115,7 @@ impl MemoryDisk {
         ensures beside { self.new.beside ≡ self.old.beside }
         ensures taken { self.new.taken ≡ self.old.taken }
         ensures fault { self.new.fault ≡ self.old.fault }
+        ensures which { IfErr result IsNotTooLong }
     {
         let fails = self.failing.is_turn();
         self.failing = self.failing.next();
@@ -131,6 +132,7 @@ impl MemoryDisk {
         ensures same { IsSame self.old self.new }
         ensures done { OnOk result (is_turn self.old.failing ≡ false) }
         ensures cause { TellsFailure (memory_state self.old) (memory_state self.new) result }
+        ensures which { IfErr result IsNotTooLong }
     {
         let path = Vec::from_slice(self.alloc, path.as_bytes())?;
         self.calls.push(Call { path, what })?;

@@ -1,8 +1,8 @@
-ghost use Rattle.std.specs.Prelude.{◌≡◌, OnOk, IsTrue, true, false, List, ℕ};
+ghost use Rattle.std.specs.Prelude.{◌≡◌, IfErr, OnOk, IsTrue, true, false, List, ℕ};
 ghost use Rattle.std.specs.Str.{bytes_eq};
 ghost use Rattle.base_disk.specs.Image.{with_file_at};
 ghost use Rattle.base_disk.specs.Torn.{MovesFile};
-ghost use Rattle.base_disk.specs.State.{DiskKeeps, LeavesOnly, IsAfter, OutcomesFollow, TellsFailure};
+ghost use Rattle.base_disk.specs.State.{DiskKeeps, LeavesOnly, IsAfter, IsNotTooLong, OutcomesFollow, TellsFailure};
 
 use crate::{Disk, DiskFault};
 
@@ -23,6 +23,7 @@ pub fn replace<D: Disk>(disk: &mut D, path: &str, mode: u32, bytes: &[u8]) -> Re
     ensures sound { IsTrue D.is_known → (other : List ℕ) → bytes_eq path.now other ≡ false
         → (D.state disk.new).is_sound other ≡ (D.state disk.old).is_sound other }
     ensures cause { TellsFailure (D.state disk.old) (D.state disk.new) result }
+    ensures which { IfErr result IsNotTooLong }
 {
     disk.write_beside(path, mode, bytes)?;
     disk.sync_beside(path)?;

@@ -1,7 +1,7 @@
-ghost use Rattle.std.specs.Prelude.{◌≡◌, ◌≤◌, length, OnOk, IsTrue, IfSome, true};
+ghost use Rattle.std.specs.Prelude.{◌≡◌, ◌≤◌, length, IfErr, OnOk, IsTrue, IfSome, true};
 ghost use Rattle.base_disk.specs.Image.{image_changed, with_bytes, overwritten};
 ghost use Rattle.base_disk.specs.Torn.{Torn, Tears};
-ghost use Rattle.base_disk.specs.State.{DiskKeeps, Touches, OutcomesFollow, LeavesOnly, IsAfter, TellsFailure};
+ghost use Rattle.base_disk.specs.State.{DiskKeeps, Touches, OutcomesFollow, LeavesOnly, IsAfter, IsNotTooLong, TellsFailure};
 
 use crate::{Disk, DiskFault};
 
@@ -23,6 +23,7 @@ pub fn write_synced<D: Disk>(
     ensures crash { IsTrue D.is_known → OutcomesFollow (Tears path.now (Torn at (length bytes.now))) (D.state disk.old) (D.state disk.new) }
     ensures touches { IsTrue D.is_known → Touches path.now (D.state disk.old) (D.state disk.new) }
     ensures cause { TellsFailure (D.state disk.old) (D.state disk.new) result }
+    ensures which { IfErr result IsNotTooLong }
 {
     disk.write_at(path, at, bytes)?;
     disk.sync(path)

@@ -1,5 +1,5 @@
-ghost use Rattle.std.specs.Prelude.{◌≡◌, false};
-ghost use Rattle.base_disk.specs.State.{TellsFailure};
+ghost use Rattle.std.specs.Prelude.{◌≡◌, IfErr, false};
+ghost use Rattle.base_disk.specs.State.{IsNotTooLong, TellsFailure};
 ghost use Rattle.base_disk.specs.System.{system_state, refused};
 
 use crate::places::{beside_of, folder_of};
@@ -62,14 +62,16 @@ impl<'a, R: Files<File = File> + AllocGlobal> SystemDisk<'a, R> {
 
     /// Counts a call that failed, unless it failed because memory ran out.
     fn fail(&mut self, error: &io::Error) -> DiskFault
-        ensures { TellsFailure (system_state self.old.faults self.old.fault) (system_state self.new.faults self.new.fault) (refused result) }
+        ensures cause { TellsFailure (system_state self.old.faults self.old.fault) (system_state self.new.faults self.new.fault) (refused result) }
+        ensures which { IsNotTooLong result }
     {
         count(&mut self.faults, &mut self.fault, error)
     }
 
     /// What the system answered.
     fn answer<T: Drop>(&mut self, answer: io::Result<T>) -> Result<T, DiskFault>
-        ensures { TellsFailure (system_state self.old.faults self.old.fault) (system_state self.new.faults self.new.fault) result }
+        ensures cause { TellsFailure (system_state self.old.faults self.old.fault) (system_state self.new.faults self.new.fault) result }
+        ensures which { IfErr result IsNotTooLong }
     {
         match answer {
             Ok(x) => Ok(x),
@@ -212,7 +214,8 @@ fn is_unwritable(error: &io::Error) -> bool {
 
 /// Counts a call that failed, unless it failed because memory ran out.
 fn count(faults: &mut u64, fault: &mut Why, error: &io::Error) -> DiskFault
-    ensures { TellsFailure (system_state faults.old fault.old) (system_state faults.new fault.new) (refused result) }
+    ensures cause { TellsFailure (system_state faults.old fault.old) (system_state faults.new fault.new) (refused result) }
+    ensures which { IsNotTooLong result }
 {
     let why = match error.kind() {
         ErrorKind::OutOfMemory => return DiskFault::OutOfMemory,

@@ -1,13 +1,15 @@
 -- What each step of a journal leaves on its disk.
-use Rattle.std.proofs.Common.{◌≡◌, ◌⊎◌, inl, inr, ⊎_elim, ℕ, ◌≤◌, List, [], ◌∷◌, ◌++◌, Option, None, Some, Bool, true, false, if◌then◌else◌, Result, Ok, Err, OnOk, OnErr, refl, sym, ◌∙◌, ap, subst}
+use Rattle.std.proofs.Common.{◌≡◌, ◌⊎◌, inl, inr, ⊎_elim, ℕ, ◌≤◌, List, [], ◌∷◌, ◌++◌, Option, None, Some, Bool, true, false, if◌then◌else◌, Result, Ok, Err, IfErr, IsErrAnd, OnOk, OnErr, refl, sym, ◌∙◌, ap, subst}
 use Rattle.std.proofs.lemmas.Bool.{true≢false, cases_Bool}
 use Rattle.std.proofs.lemmas.Slice.Eq.{bytes_eq-Decides}
 use Rattle.std.specs.Str.{bytes_eq}
 use Rattle.base_disk.specs.Image.{File, Image, SameElsewhere, image_changed, with_bytes}
 use Rattle.base_disk.specs.Torn.{Tears, MovesFile, IsTornFile}
-use Rattle.base_disk.specs.State.{DiskState, DiskKeeps, OutcomesFollow, IsAfter, LeavesOnly}
+use Rattle.base_disk.specs.State.{DiskState, DiskKeeps, IsNotTooLong, OutcomesFollow, IsAfter, LeavesOnly}
+use Rattle.base_disk.specs.declared.fault.DiskFault.{DiskFault}
+use Rattle.base_disk.specs.declared.fault.DiskFault.TheVariants.{Failed, TooLong, OutOfMemory}
 use Rattle.base_journal.specs.Records.{StandsFor, IsBeforeOrAfter}
-use Rattle.base_journal.specs.Journals.{bytes_of_file, CrashLeaves, KeepsOthers, Exchanging}
+use Rattle.base_journal.specs.Journals.{bytes_of_file, CrashLeaves, KeepsOthers, Exchanging, TellsLength}
 
 pub other_side : {X : Type 0} (b : Bool) (x y : X) → b ≡ false → (if b then x else y) ≡ y
 other_side true x y is = absurd (true≢false is)
@@ -138,3 +140,14 @@ on_any (Err e) a = tt
 pub on_refused : {X E A : Type 0} (r : Result X E) → A → OnErr r A
 on_refused (Ok x) a = tt
 on_refused (Err e) a = a
+
+-- a fault that is handed on
+pub passed_on : {X E : Type 0} {e : E} (P : E → Type 0) (r : Result X E) → IsErrAnd r (λ f. f ≡ e) → P e → IfErr r P
+passed_on P (Ok x) is so = absurd is
+passed_on P (Err f) is so = subst P (sym is) so
+
+-- a call that finds nothing too long tells no length
+pub not_long : (size : ℕ) (fault : DiskFault) → IsNotTooLong fault → TellsLength size fault
+not_long size (Failed why) is = tt
+not_long size TooLong is = absurd is
+not_long size OutOfMemory is = tt

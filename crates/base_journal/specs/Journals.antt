@@ -1,11 +1,14 @@
 -- Journals: what a journal holds, and what a crash leaves of it.
 -- Source: this project's own.
-use Rattle.std.specs.Prelude.{◌≡◌, ◌⊎◌, ℕ, List, [], length, Bool, false, IsTrue, Option, None, Some}
+use Rattle.std.specs.Prelude.{◌≡◌, ◌⊎◌, ◌<◌, ℕ, List, [], length, Bool, false, IsTrue, Option, None, Some}
 use Rattle.std.specs.Str.{bytes_eq}
 use Rattle.base_disk.specs.Image.{File, Image, SameElsewhere}
 use Rattle.base_disk.specs.State.{DiskState, DiskKeeps}
+use Rattle.base_disk.specs.declared.fault.DiskFault.{DiskFault}
+use Rattle.base_disk.specs.declared.fault.DiskFault.TheVariants.{Failed, TooLong, OutOfMemory}
 use Rattle.base_journal.specs.Records.{AreLines, blocks, at_rest, StandsFor}
 use Rattle.base_journal.specs.declared.journal.Journal.{Journal}
+use Rattle.base_journal.specs.declared.journal.TheConstants.{MOST_BYTES}
 
 -- the bytes at a path; none where there is no file
 abbrev pub bytes_of_file : Option File → List ℕ
@@ -48,6 +51,12 @@ pub record KeepsOthers (path : List ℕ) (old new : DiskState) : Type 0 where
 -- all but the file at this path is as some crash might have left it before, and so is that file, or it has P
 abbrev pub CrashLeaves : List ℕ → (List ℕ → Type 0) → DiskState → Image → Type 0
 CrashLeaves path P old c = (d : Image) × old.may_leave d × SameElsewhere path d c × ((c path ≡ d path) ⊎ P (bytes_of_file (c path)))
+
+-- that a file would be too long is told only of so many bytes as a journal's may not have
+abbrev pub TellsLength : ℕ → DiskFault → Type 0
+TellsLength size (Failed why) = Unit {0}
+TellsLength size TooLong = MOST_BYTES < size
+TellsLength size OutOfMemory = Unit {0}
 
 -- what a crash leaves while a file takes its place and then the journal's is made anew: the two as they were; or that file in
 -- its place, and the journal's as it was, or with P; and all else as it was

@@ -1,7 +1,8 @@
-ghost use Rattle.std.specs.Prelude.{◌≡◌, ◌∷◌, [], ◌++◌, ◌≤◌, ◌<◌, ◌+◌, length, IsTrue, IfOk, OnOk, OnErr, List, ℕ, ◌^◌, Some, false, true};
-ghost use Rattle.base_disk.specs.State.{Elapses, LeavesAlone, LeavesOnly, TellsFailure, Touches};
-ghost use Rattle.base_journal.specs.Records.{IsRecordLine, AreLines, StandsFor, IsBeforeOrAfter};
-ghost use Rattle.base_journal.specs.Journals.{JournalIsAtRest, JournalIsWhole, JournalHolds, CrashLeaves, KeepsOthers, bytes_of_file, path_of_journal, lines_of_journal, may_have};
+ghost use Rattle.std.specs.Prelude.{◌≡◌, ◌∷◌, [], ◌++◌, ◌≤◌, ◌<◌, ◌+◌, length, IsTrue, IfErr, IfOk, OnOk, OnErr, List, ℕ, ◌^◌, Some, false, true};
+ghost use Rattle.base_disk.specs.State.{Elapses, IsNotTooLong, LeavesAlone, LeavesOnly, TellsFailure, Touches};
+ghost use Rattle.base_journal.specs.Records.{IsRecordLine, AreLines, StandsFor, IsBeforeOrAfter, at_rest};
+ghost use Rattle.base_journal.specs.Journals.{JournalIsAtRest, JournalIsWhole, JournalHolds, CrashLeaves, KeepsOthers, TellsLength, bytes_of_file, path_of_journal, lines_of_journal, may_have};
+ghost use Rattle.base_journal.specs.declared.journal.TheConstants.{MOST_BYTES};
 
 use crate::exchange::bytes_at;
 use crate::records::{OPEN, read_records, tail_of, text_of};
@@ -96,6 +97,7 @@ impl<'a> Journal<'a> {
             (CrashLeaves (path_of_journal self.old) (λ file. StandsFor file (lines_of_journal self.old)) (D.state disk.old))) }
         ensures others { IsTrue D.is_known → KeepsOthers (path_of_journal self.old) (D.state disk.old) (D.state disk.new) }
         ensures cause { TellsFailure (D.state disk.old) (D.state disk.new) result }
+        ensures long { IfErr result (λ fault. IsTrue D.is_known → TellsLength (length (at_rest (lines_of_journal self.old ++ line ∷ []))) fault) }
     {
         self.may_be_open = false;
         self.lines.reserve(1)?;
@@ -108,6 +110,7 @@ impl<'a> Journal<'a> {
 
     /// Makes sure of the file, and writes a record. That the file is at rest is left for the caller to say, who adds the record to
     /// those that are held.
+    #[tactic(auto, using(crate::proofs::Writing::longer_still, crate::proofs::Steps::not_long))]
     fn write<D: Disk>(&mut self, disk: &mut D, line: &Text) -> Result<(), DiskFault>
         requires line { IsRecordLine line.now }
         requires held { JournalHolds D.is_known self.old (D.state disk.old) }
@@ -123,12 +126,11 @@ impl<'a> Journal<'a> {
             (CrashLeaves (path_of_journal self.old) (λ file. StandsFor file (lines_of_journal self.old)) (D.state disk.old))) }
         ensures others { IsTrue D.is_known → KeepsOthers (path_of_journal self.old) (D.state disk.old) (D.state disk.new) }
         ensures cause { TellsFailure (D.state disk.old) (D.state disk.new) result }
+        ensures long { IfErr result (λ fault. IsTrue D.is_known → TellsLength (length (at_rest (lines_of_journal self.old ++ line.now ∷ []))) fault) }
     {
         self.refresh(disk)?;
         let len = line.list().len();
-        if self.size.saturating_add(len).saturating_add(3) > MOST_BYTES {
-            return Err(DiskFault::TooLong);
-        }
+        refuse_long(self.size.saturating_add(len).saturating_add(3))?;
         let tail = tail_of(self.alloc, line.list())?;
         self.is_whole = false;
         self.append(disk, line, &tail)?;
@@ -152,6 +154,7 @@ impl<'a> Journal<'a> {
             (CrashLeaves (path_of_journal self.old) (λ file. StandsFor file (lines_of_journal self.old)) (D.state disk.old))) }
         ensures touches { IsTrue D.is_known → Touches (path_of_journal self.old) (D.state disk.old) (D.state disk.new) }
         ensures cause { TellsFailure (D.state disk.old) (D.state disk.new) result }
+        ensures which { IfErr result IsNotTooLong }
     {
         write_synced(disk, self.path, self.size + 1, tail)?;
         self.may_be_open = true;
@@ -169,6 +172,7 @@ impl<'a> Journal<'a> {
             (CrashLeaves (path_of_journal self.old) (λ file. StandsFor file (lines_of_journal self.old)) (D.state disk.old)) }
         ensures others { IsTrue D.is_known → KeepsOthers (path_of_journal self.old) (D.state disk.old) (D.state disk.new) }
         ensures cause { TellsFailure (D.state disk.old) (D.state disk.new) result }
+        ensures long { IfErr result (TellsLength (length (at_rest (lines_of_journal self.old)))) }
     {
         if self.is_whole {
             return Ok(());
@@ -177,6 +181,17 @@ impl<'a> Journal<'a> {
         self.is_whole = true;
         Ok(())
     }
+}
+
+/// Refuses a file of more bytes than it may have.
+fn refuse_long(size: usize) -> Result<(), DiskFault>
+    ensures fits { OnOk result (size ≤ MOST_BYTES) }
+    ensures refused { IfErr result (λ fault. (fault ≡ DiskFault.TooLong) × (MOST_BYTES < size)) }
+{
+    if size > MOST_BYTES {
+        return Err(DiskFault::TooLong);
+    }
+    Ok(())
 }
 
 /// Makes these records, at rest, the file at `path`, and says where its closed gate stands.
@@ -194,11 +209,10 @@ pub(crate) fn write_anew<D: Disk>(
         (CrashLeaves path.now (λ file. StandsFor file lines.now) (D.state disk.old)) }
     ensures others { IsTrue D.is_known → KeepsOthers path.now (D.state disk.old) (D.state disk.new) }
     ensures cause { TellsFailure (D.state disk.old) (D.state disk.new) result }
+    ensures long { IfErr result (TellsLength (length (at_rest lines.now))) }
 {
     let text = text_of(alloc, lines)?;
-    if text.len() > MOST_BYTES {
-        return Err(DiskFault::TooLong);
-    }
+    refuse_long(text.len())?;
     replace(disk, path, FILE_MODE, &text)?;
     Ok(text.len() - 1)
 }

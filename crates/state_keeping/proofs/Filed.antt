@@ -20,6 +20,10 @@ use Rattle.state_keeping.proofs.Renewed.{file_is_no_journal, file_is_other}
 pub journal_is_other : (p : Places) → PlacesAreApart p → bytes_eq p.journal p.file ≡ false
 journal_is_other p apart = apart_back p.file p.journal (file_is_no_journal p apart)
 
+-- FILE is seen past a call on its copy
+pub seen_past_copy : (p : Places) (copy : List ℕ) (s t : DiskState) → PlacesAreApart p → copy ≡ p.copy → KeepsOthers copy s t → t.seen p.file ≡ s.seen p.file
+seen_past_copy p copy s t apart at others = others.seen p.file (ap (λ (q : List ℕ). bytes_eq q p.file) at ∙ apart_back p.file p.copy (file_is_other p apart))
+
 -- a call that changes nothing
 pub holds_alone : (known : Bool) (old new : Store) (target : List ℕ) (s t : DiskState) → (IsTrue known → LeavesAlone s t) → is_kept new ≡ is_kept old → FileHolds known old target s → FileHolds known new target t
 holds_alone known old new target s t alone same held is kept sound c left =

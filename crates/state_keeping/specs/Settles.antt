@@ -4,7 +4,7 @@ use Rattle.std.specs.Prelude.{◌≡◌, ◌⊎◌, ℕ, List, [], ◌∷◌, �
 use Rattle.std.specs.Str.{bytes_eq}
 use Rattle.state_changes.specs.Words.{fingerprint}
 use Rattle.base_disk.specs.Image.{File, Image}
-use Rattle.base_disk.specs.State.{DiskState}
+use Rattle.base_disk.specs.State.{DiskState, LeavesAlone}
 use Rattle.base_disk.specs.declared.fault.DiskFault.{DiskFault}
 use Rattle.vault_inventory.specs.Served.{Served}
 use Rattle.base_journal.specs.Journals.{FileIsThere, JournalIsWhole, bytes_of_file}
@@ -71,12 +71,19 @@ abbrev pub IsSettledIf : Bool → Store → Places → ℕ → Option (List ℕ)
 IsSettledIf known old places mode (Some text) left new t = IsSettled known old places mode text left new t
 IsSettledIf known old places mode None left new t = (left ≡ None) × ((new ≡ old) × SaysAlready (book_of old))
 
--- FILE was read, and has become what is kept; and what is not done says why
+-- where it has, the disk is left alone
+abbrev pub LeavesAloneIf : Bool → Option (List ℕ) → DiskState → DiskState → Type 0
+LeavesAloneIf known None s t = IsTrue known → LeavesAlone s t
+LeavesAloneIf known (Some text) s t = Unit {0}
+
+-- FILE was read, with the bytes of the last reading, and has become what is kept; and what is not done says why
 pub record IsSettledState {D : Type 0} (known : Bool) (old : Kept D) (left : Option DiskFault) (new : Kept D) (s t : DiskState) : Type 0 where
   pub read : FileRead
   pub was : IsTrue known → IsFileAt old.places.file s read
+  pub same : fingerprint read.bytes ≡ (book_in old).file.mark
   pub text : Option (List ℕ)
   pub settled : IsSettledIf known (store_in old) old.places (mode_of read.mode) text left (store_in new) t
+  pub alone : LeavesAloneIf known text s t
 
 -- FILE is read, and its bytes are those of the last reading, or not
 abbrev pub HasChanged : {D : Type 0} → Bool → Kept D → DiskState → Type 0

@@ -20,17 +20,18 @@ impl<'a> Keeper<'a> {
     ghost use Rattle.std.specs.Prelude.{◌≡◌, ℕ, List, Err, IfErr, IfOk, IsTrue, None, Ok, OnErr, OnOk, false, true, if◌then◌else◌, option_copied, option_map, string_bytes};
     ghost use Rattle.std.specs.Str.{bytes_eq};
     ghost use Rattle.agent_standing.specs.Waiting.{change_due_at, changed, is_change_due};
-    ghost use Rattle.base_disk.specs.State.{LeavesOnly};
+    ghost use Rattle.state_changes.specs.Words.{fingerprint};
+    ghost use Rattle.base_disk.specs.State.{LeavesOnly, TellsFailure};
     ghost use Rattle.base_journal.specs.Journals.{CrashLeaves, Exchanging, FileIsThere, JournalHolds, JournalIsWhole, KeepsOthers};
     ghost use Rattle.base_journal.specs.Records.{IsBeforeOrAfter, StandsFor};
     ghost use Rattle.state_store.specs.Books.{HasSecrets, IsBookIf, IsFileFaultOf};
     ghost use Rattle.state_store.specs.Compacted.{compacted_lines, damaged, is_worth};
     ghost use Rattle.state_store.specs.declared.fault.TakeFault.TheVariants.{Unread};
-    ghost use Rattle.state_store.specs.Entering.{TellsDisk, line_for_change, may_hold};
+    ghost use Rattle.state_store.specs.Entering.{FaultTellsLength, TellsDisk, line_for_change, may_hold};
     ghost use Rattle.state_store.specs.Moved.{FailsInSteps, HasMarkAtMost, IsMovedIf, IsStillThere, IsWhyUnsettled, LeftByMove, MovesInSteps, SaysByItself};
     ghost use Rattle.state_keeping.specs.Keepers.{InventoryIsGiven, store_of, waiting_in};
     ghost use Rattle.state_store.specs.Records.{records_in};
-    ghost use Rattle.state_store.specs.Stores.{ChangeIsTaken, FileHolds, IsKeptOrNone, IsReplayed, IsWhyUntaken, KeepsAllBut, book_of, is_kept, is_sure, journal_of, lines_in, path_of_store};
+    ghost use Rattle.state_store.specs.Stores.{ChangeIsTaken, FileHolds, IsKeptOrNone, IsReplayed, IsWhyUntaken, KeepsAllBut, book_of, is_kept, is_sure, journal_of, lines_in, path_of_store, size_with};
 
     /// A store of which no change waits.
     pub fn new(store: Store<'a>) -> Keeper<'a>
@@ -84,6 +85,7 @@ impl<'a> Keeper<'a> {
             (CrashLeaves (path_of_store (store_of self.old)) (λ file. StandsFor file (lines_in (store_of self.old))) (D.state disk.old))) }
         ensures others { IsTrue D.is_known → KeepsAllBut (path_of_store (store_of self.old)) target.now (D.state disk.old) (D.state disk.new) }
         ensures cause { TellsDisk (D.state disk.old) (D.state disk.new) result }
+        ensures long { IfErr result (λ fault. IsTrue D.is_known → FaultTellsLength (size_with (store_of self.old) name what) fault) }
     {
         let is_need = self.store.take(disk, target, name, what)?;
         if !is_need {
@@ -143,6 +145,7 @@ impl<'a> Keeper<'a> {
         requires file { FileHolds D.is_known (store_of self.old) target.now (D.state disk.old) }
         ensures settled { IfOk result (λ text. IsMovedIf D.is_known (store_of self.old) target.now mode (option_map string_bytes text) (store_of self.new) (D.state disk.new)) }
         ensures waiting { waiting_in self.new ≡ waiting_in self.old }
+        ensures same { OnOk result (fingerprint present.now ≡ (book_of (store_of self.old)).file.mark) }
         ensures refused { IfErr result (IsWhyUnsettled (book_of (store_of self.old)) present.now) }
         ensures book { OnErr result (book_of (store_of self.new) ≡ book_of (store_of self.old)) }
         ensures lines { OnErr result (HasMarkAtMost (store_of self.old) (store_of self.new)) }
@@ -183,6 +186,7 @@ impl<'a> Keeper<'a> {
             (Exchanging (path_of_store (store_of self.old)) copy.now (record { mode = FILE_MODE; bytes = bytes.now }) (λ file. StandsFor file (damaged (lines_in (store_of self.old)))) (D.state disk.old)) }
         ensures others { IsTrue D.is_known → (other : List ℕ) → bytes_eq (path_of_store (store_of self.old)) other ≡ false → bytes_eq copy.now other ≡ false
             → ((D.state disk.new).seen other ≡ (D.state disk.old).seen other) × ((D.state disk.new).is_sound other ≡ (D.state disk.old).is_sound other) }
+        ensures cause { TellsFailure (D.state disk.old) (D.state disk.new) result }
     {
         self.store.hand_over(disk, copy, bytes)
     }
@@ -204,6 +208,7 @@ impl<'a> Keeper<'a> {
         ensures any_moment { IsTrue D.is_known → LeavesOnly (D.state disk.old) (D.state disk.new)
             (CrashLeaves (path_of_store (store_of self.old)) (λ file. StandsFor file (compacted_lines (lines_in (store_of self.old)))) (D.state disk.old)) }
         ensures others { IsTrue D.is_known → KeepsOthers (path_of_store (store_of self.old)) (D.state disk.old) (D.state disk.new) }
+        ensures cause { TellsFailure (D.state disk.old) (D.state disk.new) result }
     {
         self.store.compact(disk)
     }

@@ -46,7 +46,7 @@ pub struct Reloaded {
 impl<'a, D: Disk> State<'a, D> {
     ghost use Rattle.std.specs.Prelude.{◌≡◌, ◌⊎◌, Err, IfErr, IfOk, IsTrue, None, Ok, OnErr, OnOk, Some, false, true, if◌then◌else◌};
     ghost use Rattle.agent_standing.specs.Waiting.{change_due_at, changed, is_change_due};
-    ghost use Rattle.base_disk.specs.State.{DiskKeeps, IsAfter, LeavesAlone, LeavesOnly};
+    ghost use Rattle.base_disk.specs.State.{DiskKeeps, IsAfter, LeavesAlone, LeavesOnly, TellsFailure};
     ghost use Rattle.base_disk.specs.Torn.{MovesFile};
     ghost use Rattle.base_journal.specs.Journals.{CrashLeaves, JournalIsWhole, KeepsOthers};
     ghost use Rattle.base_journal.specs.Records.{IsBeforeOrAfter, StandsFor};
@@ -54,9 +54,9 @@ impl<'a, D: Disk> State<'a, D> {
     ghost use Rattle.state_store.specs.Books.{HasSecrets, IsBookIf, IsFileFaultOf};
     ghost use Rattle.state_store.specs.Compacted.{compacted_lines, is_worth};
     ghost use Rattle.state_store.specs.declared.fault.TakeFault.TheVariants.{Unread};
-    ghost use Rattle.state_store.specs.Entering.{TellsDisk, line_for_change, may_hold};
+    ghost use Rattle.state_store.specs.Entering.{FaultTellsLength, TellsDisk, line_for_change, may_hold};
     ghost use Rattle.state_store.specs.Records.{records_in};
-    ghost use Rattle.state_store.specs.Stores.{ChangeIsTaken, IsWhyUntaken, KeepsAllBut, is_sure, journal_of, lines_in, path_of_store};
+    ghost use Rattle.state_store.specs.Stores.{ChangeIsTaken, IsWhyUntaken, KeepsAllBut, is_sure, journal_of, lines_in, path_of_store, size_with};
     ghost use Rattle.state_keeping.specs.Keepers.{InventoryIsGiven, waiting_in};
     ghost use Rattle.state_keeping.specs.Noted.{note_lines};
     ghost use Rattle.state_keeping.specs.Reading.{IsFileAt, IsWhyUnread};
@@ -97,6 +97,9 @@ impl<'a, D: Disk> State<'a, D> {
             (CrashLeaves (path_of_store (store_in self.old)) (λ file. StandsFor file (lines_in (store_in self.old))) (D.state self.old.disk))) }
         ensures others { IsTrue D.is_known → KeepsAllBut (path_of_store (store_in self.old)) self.old.places.file (D.state self.old.disk) (D.state self.new.disk) }
         ensures cause { TellsDisk (D.state self.old.disk) (D.state self.new.disk) result }
+
+        // `TooLong` only where the journal with it would have more than 128 MiB.
+        ensures long { IfErr result (λ fault. IsTrue D.is_known → FaultTellsLength (size_with (store_in self.old) name what) fault) }
     {
         self.keeper
             .take(&mut self.disk, self.paths.file(), now, name, what)
@@ -125,6 +128,7 @@ impl<'a, D: Disk> State<'a, D> {
         ensures any_moment { IsTrue D.is_known → LeavesOnly (D.state self.old.disk) (D.state self.new.disk)
             (IsAfter (MovesFile self.old.places.copy (copy_with bytes.now)) (D.state self.old.disk)) }
         ensures others { IsTrue D.is_known → KeepsOthers self.old.places.copy (D.state self.old.disk) (D.state self.new.disk) }
+        ensures file { IsTrue D.is_known → (D.state self.new.disk).seen self.old.places.file ≡ (D.state self.old.disk).seen self.old.places.file }
     {
         let notes = self.keeper.reload(now, Some(bytes))?;
         let kept = self
@@ -170,6 +174,7 @@ impl<'a, D: Disk> State<'a, D> {
         ensures any_moment { IsTrue D.is_known → LeavesOnly (D.state self.old.disk) (D.state self.new.disk)
             (CrashLeaves (path_of_store (store_in self.old)) (λ file. StandsFor file (compacted_lines (lines_in (store_in self.old)))) (D.state self.old.disk)) }
         ensures others { IsTrue D.is_known → KeepsOthers (path_of_store (store_in self.old)) (D.state self.old.disk) (D.state self.new.disk) }
+        ensures cause { TellsFailure (D.state self.old.disk) (D.state self.new.disk) result }
     {
         self.keeper.compact(&mut self.disk)
     }

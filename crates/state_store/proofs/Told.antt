@@ -1,7 +1,7 @@
 -- A change that is not taken tells exactly what the disk has met. For `take`.
 use Rattle.std.proofs.Common.{◌≡◌, ℕ, List, Bool, true, false, Err, refl, sym, ap, subst, ◌∙◌}
 use Rattle.base_device.specs.Failures.{one_more}
-use Rattle.base_disk.specs.State.{DiskState, TellsFailure}
+use Rattle.base_disk.specs.State.{DiskState, IsNotTooLong, TellsFailure}
 use Rattle.base_disk.specs.declared.fault.DiskFault.{DiskFault}
 use Rattle.base_disk.specs.declared.fault.DiskFault.TheVariants.{Failed, TooLong}
 use Rattle.base_disk.specs.declared.fault.DiskFault.TheVariants as disks
@@ -10,9 +10,11 @@ use Rattle.state_changes.specs.declared.change.What.{What}
 use Rattle.state_store.specs.declared.fault.TakeFault.{TakeFault}
 use Rattle.state_store.specs.declared.fault.TakeFault.TheVariants.{Unread, NoRecord, Refused, Unwritten, Disk, Unsure, OutOfMemory}
 use Rattle.state_store.specs.Books.{Book}
-use Rattle.state_store.specs.Entering.{FaultTellsDisk}
+use Rattle.state_store.specs.Entering.{FaultTellsDisk, FaultTellsLength}
 use Rattle.state_store.specs.code.Entered.{IsUnmade, IsUnrecorded}
-use Rattle.state_store.specs.code.Faults.{IsOfNoDisk, unkept}
+use Rattle.state_store.specs.code.Faults.{IsOfNoDisk, IsOfNoLength, unkept}
+use Rattle.base_journal.specs.Journals.{TellsLength}
+use Rattle.base_journal.proofs.Steps.{not_long}
 
 -- ---- what a call of the disk tells
 
@@ -59,3 +61,40 @@ unmade_alone b c (Unwritten fault) why = tt
 unmade_alone b c (Disk fault) why = absurd why
 unmade_alone b c (Unsure fault) why = absurd why
 unmade_alone b c OutOfMemory why = tt
+
+-- ---- that the journal would be too long
+
+pub long_told : (size : ℕ) (fault : DiskFault) (may_have : Bool) → TellsLength size fault → FaultTellsLength size (unkept fault may_have)
+long_told size fault true tells = tells
+long_told size (Failed why) false tells = tt
+long_told size TooLong false tells = tells
+long_told size disks.OutOfMemory false tells = tt
+
+-- no file is too long
+pub short : (fault : DiskFault) (may_have : Bool) → IsNotTooLong fault → IsOfNoLength (unkept fault may_have)
+short fault true is = is
+short (Failed why) false is = tt
+short TooLong false is = is
+short disks.OutOfMemory false is = tt
+
+pub short_told : (size : ℕ) (fault : TakeFault) → IsOfNoLength fault → FaultTellsLength size fault
+short_told size Unread is = tt
+short_told size NoRecord is = tt
+short_told size (Refused fault) is = tt
+short_told size (Unwritten fault) is = tt
+short_told size (Disk fault) is = not_long size fault is
+short_told size (Unsure fault) is = not_long size fault is
+short_told size OutOfMemory is = tt
+
+-- no call was made
+pub alone_long : (size : ℕ) (fault : TakeFault) → IsOfNoDisk fault → FaultTellsLength size fault
+alone_long size Unread alone = tt
+alone_long size NoRecord alone = tt
+alone_long size (Refused fault) alone = tt
+alone_long size (Unwritten fault) alone = tt
+alone_long size (Disk fault) alone = absurd alone
+alone_long size (Unsure fault) alone = absurd alone
+alone_long size OutOfMemory alone = tt
+
+pub unread_long : (size : ℕ) (fault : TakeFault) → fault ≡ Unread → FaultTellsLength size fault
+unread_long size fault same = subst (FaultTellsLength size) (sym same) tt

@@ -11,6 +11,7 @@ use Rattle.state_changes.specs.Changes.{change_refusal, rows_changed}
 use Rattle.state_changes.specs.Records.{IsRecord, record_of, record_text}
 use Rattle.state_changes.specs.Said.{said}
 use Rattle.base_disk.specs.State.{DiskState, TellsFailure}
+use Rattle.base_journal.specs.Journals.{TellsLength}
 use Rattle.state_store.specs.declared.fault.TakeFault.{TakeFault}
 use Rattle.state_store.specs.declared.fault.TakeFault.TheVariants.{Unread, NoRecord, Refused, Unwritten, Disk, Unsure, OutOfMemory}
 use Rattle.state_store.specs.Books.{Book}
@@ -54,6 +55,12 @@ FaultTellsDisk old new fault = new.faults ≡ old.faults
 abbrev pub TellsDisk : {X : Type 0} → DiskState → DiskState → Result X TakeFault → Type 0
 TellsDisk old new (Ok x) = new.faults ≡ old.faults
 TellsDisk old new (Err fault) = FaultTellsDisk old new fault
+
+-- that a journal would be too long is told only of so many bytes as one may not have
+abbrev pub FaultTellsLength : ℕ → TakeFault → Type 0
+FaultTellsLength size (Disk fault) = TellsLength size fault
+FaultTellsLength size (Unsure fault) = TellsLength size fault
+FaultTellsLength size fault = Unit {0}
 
 -- whether the disk may have a change that was not taken
 abbrev pub may_hold : TakeFault → Bool

@@ -1,6 +1,6 @@
 -- Stores: a book beside the journal of its changes.
 -- Source: this project's own.
-use Rattle.std.specs.Prelude.{◌≡◌, ◌⊎◌, ℕ, List, ◌++◌, ◌∷◌, [], Bool, true, false, IsTrue, if◌then◌else◌, Option, Some, None, option_to_list}
+use Rattle.std.specs.Prelude.{◌≡◌, ◌⊎◌, ℕ, List, ◌++◌, ◌∷◌, [], Bool, true, false, IsTrue, if◌then◌else◌, Option, Some, None, length, option_to_list}
 use Rattle.std.specs.List.{flat_map}
 use Rattle.std.specs.Str.{bytes_eq}
 use Rattle.state_changes.specs.declared.change.Change.{Change}
@@ -14,6 +14,7 @@ use Rattle.base_disk.specs.Image.{Image, SameElsewhere}
 use Rattle.base_disk.specs.State.{DiskState}
 use Rattle.base_journal.specs.declared.journal.Journal.{Journal}
 use Rattle.base_journal.specs.Journals.{lines_of_journal, path_of_journal}
+use Rattle.base_journal.specs.Records.{at_rest}
 use Rattle.state_store.specs.declared.fault.FileFault.{FileFault}
 use Rattle.state_store.specs.declared.fault.TakeFault.{TakeFault}
 use Rattle.state_store.specs.declared.fault.TakeFault.TheVariants.{Unread}
@@ -55,6 +56,10 @@ IsKeptOrNone known store target s = (is_kept store ≡ true) ⊎ (IsTrue known �
 pub record KeepsAllBut (path target : List ℕ) (old new : DiskState) : Type 0 where
   pub seen : SameElsewhere path old.seen new.seen
   pub sound : (other : List ℕ) → bytes_eq path other ≡ false → bytes_eq target other ≡ false → new.is_sound other ≡ old.is_sound other
+
+-- how many bytes the journal's file has with the line of that change
+abbrev pub size_with : Store → List ℕ → What → ℕ
+size_with store name w = length (at_rest (lines_in store ++ line_for_change (book_of store).file name w ∷ []))
 
 -- why a change is not taken: the file may be another one; or it is not taken beside this one
 abbrev pub IsWhyUntaken : Store → List ℕ → What → TakeFault → Type 0

@@ -16,7 +16,7 @@ const LOOK_EVERY: usize = 1000;
 
 impl<'a> Store<'a> {
     ghost use Rattle.std.specs.Prelude.{◌≡◌, IfOk, IsTrue, OnErr, if◌then◌else◌};
-    ghost use Rattle.base_disk.specs.State.{LeavesOnly};
+    ghost use Rattle.base_disk.specs.State.{LeavesOnly, TellsFailure};
     ghost use Rattle.base_journal.specs.Journals.{CrashLeaves, JournalHolds, KeepsOthers};
     ghost use Rattle.base_journal.specs.Records.{StandsFor};
     ghost use Rattle.state_store.specs.Compacted.{compacted_lines, is_worth};
@@ -45,6 +45,7 @@ impl<'a> Store<'a> {
         ensures any_moment { IsTrue D.is_known → LeavesOnly (D.state disk.old) (D.state disk.new)
             (CrashLeaves (path_of_store self.old) (λ file. StandsFor file (compacted_lines (lines_in self.old))) (D.state disk.old)) }
         ensures others { IsTrue D.is_known → KeepsOthers (path_of_store self.old) (D.state disk.old) (D.state disk.new) }
+        ensures cause { TellsFailure (D.state disk.old) (D.state disk.new) result }
     {
         let Some(voids) = worth(self.alloc, self.journal.records())? else {
             return Ok(false);

@@ -30,7 +30,7 @@ struct Moving {
 impl<'a> Store<'a> {
     ghost use Rattle.std.specs.Prelude.{◌≡◌, ℕ, List, IfErr, IfOk, IsTrue, OnErr, OnOk, false, true, option_map, string_bytes};
     ghost use Rattle.std.specs.Str.{bytes_eq};
-    ghost use Rattle.base_disk.specs.State.{IsAfter, LeavesOnly};
+    ghost use Rattle.base_disk.specs.State.{IsAfter, LeavesOnly, TellsFailure};
     ghost use Rattle.base_disk.specs.Torn.{MovesFile};
     ghost use Rattle.base_journal.specs.Journals.{Exchanging, FileIsThere, JournalHolds, JournalIsWhole, bytes_of_file};
     ghost use Rattle.base_journal.specs.Records.{StandsFor};
@@ -58,6 +58,7 @@ impl<'a> Store<'a> {
         requires replayed { IsReplayed self.old }
         requires file { FileHolds D.is_known self.old target.now (D.state disk.old) }
         ensures settled { IfOk result (λ text. IsMovedIf D.is_known self.old target.now mode (option_map string_bytes text) self.new (D.state disk.new)) }
+        ensures same { OnOk result (fingerprint present.now ≡ (book_of self.old).file.mark) }
         ensures refused { IfErr result (IsWhyUnsettled (book_of self.old) present.now) }
         ensures book { OnErr result (book_of self.new ≡ book_of self.old) }
         ensures lines { OnErr result (HasMarkAtMost self.old self.new) }
@@ -113,6 +114,7 @@ impl<'a> Store<'a> {
             (Exchanging (path_of_store self.old) copy.now (record { mode = FILE_MODE; bytes = bytes.now }) (λ file. StandsFor file (damaged (lines_in self.old))) (D.state disk.old)) }
         ensures others { IsTrue D.is_known → (other : List ℕ) → bytes_eq (path_of_store self.old) other ≡ false → bytes_eq copy.now other ≡ false
             → ((D.state disk.new).seen other ≡ (D.state disk.old).seen other) × ((D.state disk.new).is_sound other ≡ (D.state disk.old).is_sound other) }
+        ensures cause { TellsFailure (D.state disk.old) (D.state disk.new) result }
     {
         let written = written(self.alloc, self.journal.records())?;
         self.journal

@@ -1,7 +1,7 @@
-ghost use Rattle.std.specs.Prelude.{◌≡◌, ℕ, List, IfOk, IsTrue, None, OnOk, false, true};
+ghost use Rattle.std.specs.Prelude.{◌≡◌, ℕ, List, IfErr, IfOk, IsTrue, None, OnOk, false, true};
 ghost use Rattle.std.specs.Str.{bytes_eq};
 ghost use Rattle.base_disk.specs.Image.{Image};
-ghost use Rattle.base_disk.specs.State.{LeavesOnly, TellsFailure};
+ghost use Rattle.base_disk.specs.State.{IsNotTooLong, LeavesOnly, TellsFailure};
 
 use crate::book::{Book, read_if};
 use crate::entering::Entered;
@@ -40,20 +40,20 @@ pub struct Opened<'a> {
 }
 
 impl<'a> Store<'a> {
-    ghost use Rattle.std.specs.Prelude.{◌≡◌, ◌∷◌, [], ◌++◌, ℕ, List, Ok, Err, IfErr, IfOk, OnErr, OnOk, IsTrue, true, false, option_copied};
+    ghost use Rattle.std.specs.Prelude.{◌≡◌, ◌∷◌, [], ◌++◌, ℕ, List, Ok, Err, IfErr, IfOk, OnErr, OnOk, IsTrue, length, true, false, option_copied};
     ghost use Rattle.std.specs.Str.{bytes_eq};
     ghost use Rattle.base_disk.specs.Image.{Image};
     ghost use Rattle.base_disk.specs.State.{DiskKeeps, IsAfter, LeavesOnly, OutcomesFollow, TellsFailure};
     ghost use Rattle.base_disk.specs.Torn.{MovesFile};
     ghost use Rattle.base_journal.specs.Journals.{CrashLeaves, FileIsThere, JournalHolds, JournalIsWhole, KeepsOthers};
-    ghost use Rattle.base_journal.specs.Records.{IsBeforeOrAfter, IsRecordLine, StandsFor};
+    ghost use Rattle.base_journal.specs.Records.{IsBeforeOrAfter, IsRecordLine, StandsFor, at_rest};
     ghost use Rattle.vault_served.specs.ForGood.{inventory_for_good};
     ghost use Rattle.state_store.specs.Books.{HasSecrets, IsBookIf, IsFileFaultOf};
     ghost use Rattle.state_store.specs.declared.fault.TakeFault.TheVariants.{Unread};
-    ghost use Rattle.state_store.specs.Entering.{TellsDisk, line_for_change, may_hold};
+    ghost use Rattle.state_store.specs.Entering.{FaultTellsLength, TellsDisk, line_for_change, may_hold};
     ghost use Rattle.state_store.specs.Records.{records_in};
-    ghost use Rattle.state_store.specs.code.Faults.{IsUnkept};
-    ghost use Rattle.state_store.specs.Stores.{ChangeIsTaken, FileHolds, IsKeptOrNone, IsReplayed, IsWhyUntaken, KeepsAllBut, book_of, is_kept, is_sure, journal_of, lines_in, path_of_store};
+    ghost use Rattle.state_store.specs.code.Faults.{IsOfNoLength, IsUnkept};
+    ghost use Rattle.state_store.specs.Stores.{ChangeIsTaken, FileHolds, IsKeptOrNone, IsReplayed, IsWhyUntaken, KeepsAllBut, book_of, is_kept, is_sure, journal_of, lines_in, path_of_store, size_with};
 
     /// What the file says, and what is served.
     pub fn book(&self) -> &Book
@@ -90,7 +90,7 @@ impl<'a> Store<'a> {
     /// # Errors
     ///
     /// The first in the order of [`TakeFault`]. All is as it was then; but that the disk may have the change, where that is said.
-    #[tactic(auto, using(crate::proofs::Taken::why_untaken, crate::proofs::Taken::unread_why, crate::proofs::Taken::unkept_untaken, crate::proofs::Told::unread_alone, crate::proofs::Told::alone_told))]
+    #[tactic(auto, using(crate::proofs::Taken::why_untaken, crate::proofs::Taken::unread_why, crate::proofs::Taken::unkept_untaken, crate::proofs::Told::unread_alone, crate::proofs::Told::alone_told, crate::proofs::Told::unread_long, crate::proofs::Told::alone_long))]
     pub fn take<D: Disk>(
         &mut self,
         disk: &mut D,
@@ -124,6 +124,7 @@ impl<'a> Store<'a> {
             (CrashLeaves (path_of_store self.old) (λ file. StandsFor file (lines_in self.old)) (D.state disk.old))) }
         ensures others { IsTrue D.is_known → KeepsAllBut (path_of_store self.old) target.now (D.state disk.old) (D.state disk.new) }
         ensures cause { TellsDisk (D.state disk.old) (D.state disk.new) result }
+        ensures long { IfErr result (λ fault. IsTrue D.is_known → FaultTellsLength (size_with self.old name what) fault) }
     {
         self.refuse_unread()?;
         let entered = self.book.enter(self.alloc, name, what)?;
@@ -139,7 +140,7 @@ impl<'a> Store<'a> {
     }
 
     // Puts a record in the journal, once the file that it stands beside is on the disk.
-    #[tactic(auto, using(crate::proofs::Kept::still_leaves_all, crate::proofs::Kept::but_synced, crate::proofs::Told::told_past))]
+    #[tactic(auto, using(crate::proofs::Kept::still_leaves_all, crate::proofs::Kept::but_synced, crate::proofs::Told::told_past, crate::proofs::Told::short_told))]
     fn add<D: Disk>(&mut self, disk: &mut D, target: &str, line: Text) -> Result<(), TakeFault>
         requires line { IsRecordLine line }
         requires apart { bytes_eq (path_of_store self.old) target.now ≡ false }
@@ -160,6 +161,7 @@ impl<'a> Store<'a> {
             (CrashLeaves (path_of_store self.old) (λ file. StandsFor file (lines_in self.old)) (D.state disk.old))) }
         ensures others { IsTrue D.is_known → KeepsAllBut (path_of_store self.old) target.now (D.state disk.old) (D.state disk.new) }
         ensures cause { TellsDisk (D.state disk.old) (D.state disk.new) result }
+        ensures long { IfErr result (λ fault. IsTrue D.is_known → FaultTellsLength (length (at_rest (lines_in self.old ++ line ∷ []))) fault) }
     {
         self.keep_file(disk, target)?;
         match self.journal.put(disk, line) {
@@ -169,7 +171,7 @@ impl<'a> Store<'a> {
     }
 
     // Syncs the file at that path, unless that was done since it was read or put there.
-    #[tactic(auto, using(crate::proofs::Kept::not_begun, crate::proofs::Told::told))]
+    #[tactic(auto, using(crate::proofs::Kept::not_begun, crate::proofs::Told::told, crate::proofs::Told::short))]
     fn keep_file<D: Disk>(&mut self, disk: &mut D, target: &str) -> Result<(), TakeFault>
         requires file { FileHolds D.is_known self.old target.now (D.state disk.old) }
         ensures kept { OnOk result (IsKeptOrNone D.is_known self.new target.now (D.state disk.old)) }
@@ -182,6 +184,7 @@ impl<'a> Store<'a> {
         ensures crash { IsTrue D.is_known → (c : Image) → (D.state disk.new).may_leave c → (D.state disk.old).may_leave c }
         ensures any_moment { IsTrue D.is_known → LeavesOnly (D.state disk.old) (D.state disk.new) (D.state disk.old).may_leave }
         ensures cause { TellsDisk (D.state disk.old) (D.state disk.new) result }
+        ensures which { IfErr result IsOfNoLength }
     {
         if self.is_kept {
             return Ok(());
@@ -320,6 +323,7 @@ fn sync_there<D: Disk>(disk: &mut D, path: &str) -> Result<bool, DiskFault>
     ensures crash { IsTrue D.is_known → (c : Image) → (D.state disk.new).may_leave c → (D.state disk.old).may_leave c }
     ensures any_moment { IsTrue D.is_known → LeavesOnly (D.state disk.old) (D.state disk.new) (D.state disk.old).may_leave }
     ensures cause { TellsFailure (D.state disk.old) (D.state disk.new) result }
+    ensures which { IfErr result IsNotTooLong }
 {
     let Some(_) = disk.stamp(path)? else {
         return Ok(false);

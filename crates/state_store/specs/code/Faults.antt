@@ -6,6 +6,7 @@ use Rattle.state_changes.specs.declared.change.Record.{Record}
 use Rattle.state_changes.specs.declared.change.Record.TheVariants.{Made, Settling}
 use Rattle.state_changes.specs.declared.fault.ChangeFault.{ChangeFault}
 use Rattle.state_changes.specs.declared.fault.ChangeFault.TheVariants as changes
+use Rattle.base_disk.specs.State.{IsNotTooLong}
 use Rattle.base_disk.specs.declared.fault.DiskFault.{DiskFault}
 use Rattle.base_disk.specs.declared.fault.DiskFault.TheVariants as disks
 use Rattle.vault_inventory.specs.declared.fault.InvFault.{InvFault}
@@ -42,6 +43,12 @@ abbrev pub IsOfNoDisk : TakeFault → Type 0
 IsOfNoDisk (takes.Disk fault) = ⊥
 IsOfNoDisk (takes.Unsure fault) = ⊥
 IsOfNoDisk fault = Unit {0}
+
+-- it is not that a file is too long
+abbrev pub IsOfNoLength : TakeFault → Type 0
+IsOfNoLength (takes.Disk fault) = IsNotTooLong fault
+IsOfNoLength (takes.Unsure fault) = IsNotTooLong fault
+IsOfNoLength fault = Unit {0}
 
 abbrev pub faulty : InvFault → FileFault
 faulty inventories.OutOfMemory = files.OutOfMemory

@@ -14,8 +14,9 @@ returns-in-Ok g c =
     let is = c.list.ensures in
     let did = c.in-Ok.ensures in (
       reread_as known g.D.Disk.state demands c.args.now c.list.result.now c.in-Ok.reread old c.judged.new.self.state c.reloaded.new.self.state
-          (subst (λ (b : List ℕ). AreBytesOf known g.D.Disk.state old b) (sym is) told.stand) (subst (λ (b : List ℕ). IsWellWritten demands b) (sym is) told.written)
-          told.keeper told.places did.reloaded did.copied did.lines did.waiting,
+          (subst (λ (b : List ℕ). AreBytesOf known g.D.Disk.state old b) (sym is) told.stand)
+          (subst (λ (b : List ℕ). AreBytesOf known g.D.Disk.state c.judged.new.self.state b) (sym is) told.left) (subst (λ (b : List ℕ). IsWellWritten demands b) (sym is) told.written)
+          told.keeper told.places did.reloaded did.copied did.lines did.file did.waiting,
       touched c.args.self.now c.judged.new.self c.reloaded.new.self told.rest did.rest,
     )
 

@@ -1,10 +1,11 @@
 -- FILE becomes what is kept; then the copy is FILE, and the journal without its records.
-use Rattle.std.proofs.Common.{◌≡◌, inl, ℕ, IsTrue, List, [], ◌∷◌, ◌++◌, true, false, Option, Some, OnOk, refl, sym, ap, subst, ◌∙◌}
+use Rattle.std.proofs.Common.{◌≡◌, inl, ℕ, IsTrue, List, [], ◌∷◌, ◌++◌, true, false, Option, None, Some, OnOk, refl, sym, ap, subst, ◌∙◌}
 use Rattle.std.specs.Prelude.{option_map, string_bytes}
 use Rattle.std.specs.Str.{bytes_eq}
 use Rattle.state_changes.specs.Replay.{replayed}
+use Rattle.state_changes.specs.Words.{fingerprint}
 use Rattle.base_disk.specs.Image.{File, Image}
-use Rattle.base_disk.specs.State.{LeavesOnly}
+use Rattle.base_disk.specs.State.{LeavesAlone, LeavesOnly}
 use Rattle.base_journal.specs.Journals.{Exchanging, FileIsThere, JournalIsAtRest, bytes_of_file}
 use Rattle.base_journal.specs.Records.{StandsFor}
 use Rattle.state_store.specs.Books.{Book}
@@ -46,6 +47,26 @@ returns-in_default-clause-any_moment g c known =
     subst (λ (k : Kept g.row.D.Denot). LeavesOnly (s k.disk) (s c.settle.new.disk) (LeftBySettling (store_in k) k.places (s k.disk))) c.self.view_is
     (not_copied (store_in k) k.places (s k.disk) file seen (s c.read_file.new.disk) (s c.settle.new.disk) (c.read_file.ensures.alone known) (c.read_file.ensures.any_moment known) (subst (λ (p : List ℕ). LeavesOnly (s c.read_file.new.disk) (s c.settle.new.disk) (LeftByMove (store_in k) p (mode_of c.in_ok-bytes.field-0.mode) (s c.read_file.new.disk))) c.file-2.ensures.value (c.settle.ensures.any_moment known)))
 
+pub returns-in_default-clause-settled : goal.returns-in_default-clause-settled
+returns-in_default-clause-settled g c =
+    let s = g.D.Disk.state in
+    let k : Kept g.row.D.Denot = record { keeper = c.self.inside.keeper; disk = c.self.inside.disk; places = c.self.inside.paths.now } in
+    let new : Kept g.row.D.Denot = record { keeper = c.settle.new.self; disk = c.settle.new.disk; places = c.self.inside.paths.now } in
+    let file : File = record { mode = c.in_ok-bytes.field-0.mode; bytes = c.in_ok-bytes.field-0.bytes } in
+    let mode = mode_of c.in_ok-bytes.field-0.mode in
+    let moved = subst (λ (o : Option _). IsMovedIf g.D.Disk.is_known (store_in k) c.file-2.result.now mode (option_map string_bytes o) (store_of c.settle.new.self) (s c.settle.new.disk)) c.in_default.is c.in_ok-moved.ensures.settled in
+    let steps : IsTrue g.D.Disk.is_known → MovesInSteps g.D.Disk.is_known s (store_in k) c.file-2.result.now mode c.list.result.now c.read_file.new.disk None (store_of c.settle.new.self) c.settle.new.disk =
+    λ known. subst (λ (o : Option _). MovesInSteps g.D.Disk.is_known s (store_in k) c.file-2.result.now mode c.list.result.now c.read_file.new.disk (option_map string_bytes o) (store_of c.settle.new.self) c.settle.new.disk) c.in_default.is (c.in_ok-moved.ensures.steps known) in
+    subst (λ (k : Kept g.row.D.Denot). IsSettledState g.D.Disk.is_known k None new (s k.disk) (s c.settle.new.disk)) c.self.view_is
+    (record {
+      read = record { bytes = c.in_ok-bytes.field-0.bytes; mode = c.in_ok-bytes.field-0.mode };
+      was = λ known. let seen : (s k.disk).seen k.places.file ≡ Some file = cc (c.in_ok-bytes.ensures.read known, c.file.ensures.value) in seen;
+      same = ap fingerprint (sym c.list.ensures) ∙ c.in_ok-moved.ensures.same;
+      text = None;
+      settled = (refl, moved);
+      alone = λ known. subst (λ (d : g.row.D.Denot). LeavesAlone (s k.disk) (s d)) (sym (steps known).1) (c.read_file.ensures.alone known);
+    })
+
 pub hand_over-left-requires-clause-said : goal.hand_over-left-requires-clause-said
 hand_over-left-requires-clause-said g c =
     let s = g.D.Disk.state in
@@ -77,6 +98,7 @@ returns-clause-settled g c =
     (record {
       read = record { bytes = c.in_ok-bytes.field-0.bytes; mode = c.in_ok-bytes.field-0.mode };
       was = λ known. let seen : (s k.disk).seen k.places.file ≡ Some file = cc (c.in_ok-bytes.ensures.read known, c.file.ensures.value) in seen;
+      same = ap fingerprint (sym c.list.ensures) ∙ c.in_ok-moved.ensures.same;
       text = Some text;
       settled = record {
         served = there.served;
@@ -91,6 +113,7 @@ returns-clause-settled g c =
             (on_ok c.hand_over-left.result (λ taken. (taken.0 ∙ same, taken.1)) c.hand_over-left.ensures.taken_out)
             (on_err c.hand_over-left.result (λ still. still ∙ there.lines) c.hand_over-left.ensures.refused);
       };
+      alone = tt;
     })
 
 pub returns-clause-any_moment : goal.returns-clause-any_moment

@@ -1,17 +1,18 @@
 -- The file is on the disk, and then the journal has the record, or not.
-use Rattle.std.proofs.Common.{◌≡◌, ℕ, List, [], false, IsTrue, refl, sym, ap, subst, ◌∙◌}
+use Rattle.std.proofs.Common.{◌≡◌, ℕ, List, [], ◌∷◌, ◌++◌, length, false, IsTrue, refl, sym, ap, subst, ◌∙◌}
 use Rattle.std.specs.Str.{bytes_eq}
 use Rattle.base_disk.specs.State.{LeavesOnly}
 use Rattle.base_journal.specs.declared.journal.Journal.{Journal}
-use Rattle.base_journal.specs.Journals.{CrashLeaves, JournalHolds, KeepsOthers, lines_of_journal, path_of_journal}
-use Rattle.base_journal.specs.Records.{IsBeforeOrAfter, StandsFor}
+use Rattle.base_journal.specs.Journals.{CrashLeaves, JournalHolds, KeepsOthers, TellsLength, lines_of_journal, path_of_journal}
+use Rattle.base_journal.specs.Records.{IsBeforeOrAfter, StandsFor, at_rest}
 use Rattle.state_store.specs.declared.fault.TakeFault.{TakeFault}
 use Rattle.state_store.specs.declared.store.Store.{Store}
-use Rattle.state_store.specs.Entering.{may_hold}
+use Rattle.state_store.specs.Entering.{FaultTellsLength, may_hold}
 use Rattle.state_store.specs.Stores.{journal_of, lines_in, path_of_store}
 use Rattle.state_store.proofs.Copied.{apart_back}
 use Rattle.state_store.proofs.Entered.{surely}
 use Rattle.state_store.proofs.Kept.{but_others, held_synced, holds_past, still_leaves_all, surely_unput, then_leaves}
+use Rattle.state_store.proofs.Told.{long_told}
 use Rattle.state_store.proofs.store.Store.add.Goals as goal
 
 pub put-requires-clause-held : goal.put-requires-clause-held
@@ -94,3 +95,9 @@ returns-in_err-keep_file-clause-gone g c =
     let without : List ℕ → Type 0 = λ file. StandsFor file (lines_in old) in
     surely_unput c.from_residual.result (IsTrue g.D.Disk.is_known → LeavesOnly (s c.args.disk.now) (s c.keep_file.new.disk) (CrashLeaves (path_of_store old) without (s c.args.disk.now)))
     (λ known. still_leaves_all (path_of_store old) without (s c.args.disk.now) (s c.keep_file.new.disk) (c.keep_file.ensures.any_moment known))
+
+pub returns-in-Err-clause-long : goal.returns-in-Err-clause-long
+returns-in-Err-clause-long g c known =
+    let size = length (at_rest (lines_of_journal c.args.self.now.journal ++ c.args.line ∷ [])) in
+    let tells = subst (λ (j : Journal). TellsLength (length (at_rest (lines_of_journal j ++ c.args.line ∷ []))) c.in-Err.fault) (ap journal_of c.keep_file.ensures.rest) (c.in-Err.ensures.long known) in
+    subst (FaultTellsLength size) (sym c.unkept.ensures) (long_told size c.in-Err.fault c.may_have.result tells)
