@@ -3,3 +3,5 @@ pub mod Compacting
 pub mod WhyUnserved
 pub mod Asking
 pub mod Due
+pub mod Holders
+pub mod Shared

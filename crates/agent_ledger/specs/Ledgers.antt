@@ -23,6 +23,7 @@ use Rattle.state_keeping.specs.Tables.{row_of_table}
 use Rattle.state_keeping.specs.declared.fault.TableFault.{TableFault}
 use Rattle.state_store.specs.Books.{HasSecrets, IsBookIf}
 use Rattle.state_store.specs.Compacted.{compacted_lines, is_worth}
+use Rattle.state_store.specs.Handed.{handed}
 use Rattle.state_store.specs.Records.{records_in}
 use Rattle.state_store.specs.Entering.{FaultTellsDisk, FaultTellsLength}
 use Rattle.state_store.specs.Stores.{ChangeIsTaken, IsWhyUntaken, journal_of, lines_in, path_of_store, size_with}
@@ -41,6 +42,7 @@ use Rattle.agent_words.specs.Reading.{IsWellWritten, IsWide}
 use Rattle.agent_words.specs.Reasons.{bare_words, left_over_words, settle_words, table_words, take_words}
 use Rattle.agent_words.specs.Rereading.{AreBytesOf, IsWhyNotReread, SaysCopy, SaysNotes}
 use Rattle.agent_words.specs.Starts.{is_bare_row}
+use Rattle.agent_ledger.specs.Shared.{may_be_apart}
 use Rattle.agent_ledger.specs.Takings.{LooksOrHears}
 use Rattle.agent_ledger.specs.Untouched.{IsAsItWas}
 use Rattle.agent_words.specs.declared.demands.Demands.{Demands}
@@ -92,11 +94,12 @@ SettlesOn known seen (Ok x) old new = IsSettledState known old None new (seen ol
 SettlesOn known seen (Err why) old new = ((book_in new ≡ book_in old) × SaysWhy (IsWhyUnsettledState known old (seen old.disk)) settle_words why)
     ⊎ ((fault : DiskFault) × (IsSettledState known old (Some fault) new (seen old.disk) (seen new.disk) × IfSome why (λ text. text ≡ left_over_words fault)))
 
--- what files have given is taken, and waits to be served; or it cannot be handed on, and all is as it was, as where they gave nothing
+-- what files have given is taken, and waits to be served; or what would be handed on with it may not go together, and all is as it was
 abbrev pub TakenIf : {D : Type 0} → Bool → ℕ → List Secret → Kept D → Kept D → Type 0
 TakenIf true now secrets old new = HasSecrets (book_in old) secrets (book_in new) × (waiting_in new.keeper ≡ changed (waiting_in old.keeper) now)
-TakenIf false now secrets old new = IsAsItWas old new
+TakenIf false now secrets old new = (may_be_apart (handed secrets (book_in old).rows) ≡ true) × IsAsItWas old new
 
+-- where they gave nothing all is as it was
 abbrev pub FilledWith : {D : Type 0} → Bool → ℕ → List Secret → Kept D → Kept D → Type 0
 FilledWith is_taken now secrets old new = ((length secrets ≡ 0) × ((is_taken ≡ true) × IsAsItWas old new)) ⊎ ((length secrets ≢ 0) × TakenIf is_taken now secrets old new)
 

@@ -4,4 +4,6 @@ pub mod Candidates
 pub mod Inquiries
 pub mod Askers
 pub mod Takings
+pub mod Shared
 pub mod Ledgers
+pub mod code

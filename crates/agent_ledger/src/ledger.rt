@@ -29,6 +29,7 @@ use crate::candidates::candidate_of;
 use crate::inquiry::{ask, hear, is_asking};
 use crate::keeping::{FileLook, Keeping, LookedUp};
 use crate::secret_changes::wanting;
+use crate::shared::may_be_apart;
 use agent_words::{
     Demands, Gathered, Reread, after, bare_words, book_words, disk_words, gather, is_bare_row,
     left_over_words, settle_words, table_words, take_words, unread_words, why_not_served, wide,
@@ -80,8 +81,11 @@ impl<'a, D: Disk, I: Inputs, L: Lanes> Ledger<'a, D, I, L> {
         wide(alloc, self.demands, self.state.text(), inventory)
     }
 
-    /// Has from now on what the files of credentials hold; where that cannot be handed on, that is said, and the old ones stay. An entry
-    /// whose file holds none is left out, which the first look at files says. The only error is out of memory: all is as it was then.
+    /// Has from now on what the files of credentials hold. An entry whose file holds none is left out, which the first look at files says.
+    /// Where two entries of a kind would have one credential, or more would be handed on than always fit into one inventory, what they hold
+    /// may not go together: if it does not, that is said, and the old ones stay.
+    ///
+    /// The only error is out of memory, as which counts what else would keep it from being handed on. All is as it was then.
     pub fn fill(&mut self, alloc: Global, now: u64) -> Result<Option<Text>, AllocError>
         ensures filled { IfOk result (λ said. IsFilledOn (I.bytes_at self.old.inputs) self.old.folder.now now said self.old.state self.new.state) }
         ensures unchanged { OnErr result (IsAsItWas self.old.state self.new.state) }
@@ -252,14 +256,16 @@ fn fill_state<D: Disk, I: Inputs>(
         folder.as_bytes(),
         inputs,
     )?;
-    if fill_with(state, now, secrets)? {
+    if fill_with(alloc, state, now, secrets)? {
         return Ok(None);
     }
     Ok(Some(apart_line(alloc)?))
 }
 
-// Has from now on what files have given, where they have given anything. Whether that can be handed on; the only error is out of memory.
+// Has from now on what files have given, where they have given anything. Whether that can be handed on. The only error is out of memory, as
+// which counts what would keep it from that where all go together.
 fn fill_with<D: Disk>(
+    alloc: Global,
     state: &mut State<'_, D>,
     now: u64,
     secrets: Vec<Secret>,
@@ -272,10 +278,12 @@ fn fill_with<D: Disk>(
     if secrets.is_empty() {
         return Ok(true);
     }
+    let is_reason = may_be_apart(alloc, &secrets, state.rows().list())?;
     match state.take_secrets(now, secrets) {
         Ok(()) => Ok(true),
         Err(SettleFault::OutOfMemory) => Err(AllocError),
-        Err(_) => Ok(false),
+        Err(_) if is_reason => Ok(false),
+        Err(_) => Err(AllocError),
     }
 }
 

@@ -14,6 +14,7 @@ mod inquiry;
 mod keeping;
 mod ledger;
 mod secret_changes;
+mod shared;
 
 pub use asked_file::AskedFile;
 pub use asker::{Asker, FileWord};

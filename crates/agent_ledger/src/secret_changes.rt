@@ -2,8 +2,10 @@
 ghost use Rattle.std.specs.Prelude.{◌≡◌, IfOk, OnErr};
 ghost use Rattle.state_changes.specs.Rows.{named};
 ghost use Rattle.state_keeping.specs.States.{book_in};
-ghost use Rattle.agent_ledger.specs.Takings.{IsWhyNotTaken, TakesCredential, TakesHeld, TakesUpFile, brings_others, has_credential, is_anothers, may_be_anothers, quiet, wanting};
+ghost use Rattle.state_secrets.specs.Outcomes.{is_own_file};
+ghost use Rattle.agent_ledger.specs.Takings.{IsWhyNotTaken, TakesCredential, TakesHeld, TakesUpFile, brings_others, is_anothers, may_be_anothers, quiet, wanting};
 ghost use Rattle.agent_ledger.specs.Untouched.{IsAsItWas};
+ghost use Rattle.agent_ledger.specs.code.Holders.{is_for, is_for_another, is_other, is_others_by_file, is_others_own};
 
 use base_disk::Disk;
 use base_moment::Text;
@@ -154,25 +156,64 @@ fn may_be_anothers(secrets: &[Secret], rows: &Rows, due: &DueFile, credential: &
     }
 }
 
-// Whether another entry of the kind has it.
+// Whether another entry of the kind has it. (It goes over the rows once, and once more for each secret that is this credential: a look-up
+// among the secrets for each row would take 16 million steps in a turn with 4,096 of both.)
 fn is_anothers(secrets: &[Secret], rows: &[Row], credential: &[u8], own: &Row) -> bool
     ensures { result ≡ is_anothers secrets.now rows.now credential.now own.now }
 {
+    is_others_own(rows, credential, own) || is_others_by_file(secrets, rows, credential, own)
+}
+
+// Whether another entry of the kind has it as its own.
+fn is_others_own(rows: &[Row], credential: &[u8], own: &Row) -> bool
+    ensures { result ≡ is_others_own rows.now credential.now own.now }
+{
     rows.iter().any(|row| {
-        row.name.list() != own.name.list()
-            && row.kind.is_lease() == own.kind.is_lease()
-            && has_credential(secrets, credential, row)
+        is_other(own, row) && row.file.is_none() && row.credential.list() == credential
     })
 }
 
-// Whether an entry has it, as its own or by its file.
-fn has_credential(secrets: &[Secret], credential: &[u8], row: &Row) -> bool
-    ensures { result ≡ has_credential secrets.now credential.now row.now row.now.file }
+// Whether it is what is held of the file of another entry of the kind.
+fn is_others_by_file(secrets: &[Secret], rows: &[Row], credential: &[u8], own: &Row) -> bool
+    ensures { result ≡ is_others_by_file secrets.now rows.now credential.now own.now }
+{
+    secrets.iter().any(|secret| {
+        secret.credential.list() == credential
+            && has_it(secrets, secret.name.list(), secret.file.list(), credential)
+            && is_for_another(rows, own, secret)
+    })
+}
+
+// Whether another entry of the kind names the file that this was taken from for it.
+fn is_for_another(rows: &[Row], own: &Row, secret: &Secret) -> bool
+    ensures { result ≡ is_for_another rows.now own.now secret.now }
+{
+    rows.iter()
+        .any(|row| is_other(own, row) && is_for(secret, row))
+}
+
+// Whether it was taken for this entry from the file that the entry names.
+fn is_for(secret: &Secret, row: &Row) -> bool
+    ensures { result ≡ is_for secret.now row.now }
+{
+    row.name.list() == secret.name.list() && is_own_file(row, secret.file.list())
+}
+
+// Whether the entry's credential stands in that file.
+fn is_own_file(row: &Row, file: &[u8]) -> bool
+    ensures { result ≡ is_own_file row.now.file file.now }
 {
     match &row.file {
-        None => row.credential.list() == credential,
-        Some(file) => has_it(secrets, row.name.list(), file.list(), credential),
+        None => false,
+        Some(own) => own.list() == file,
     }
+}
+
+// Whether it is another entry of the kind.
+fn is_other(own: &Row, row: &Row) -> bool
+    ensures { result ≡ is_other own.now row.now }
+{
+    row.name.list() != own.name.list() && row.kind.is_lease() == own.kind.is_lease()
 }
 
 // Whether entries under it come to be handed on with it.

@@ -10,11 +10,7 @@ use std::alloc::{AllocError, Global};
 /// The rows that are handed to a watch: with what their files have given, and without those whose file has given nothing yet and all
 /// under them. The only error is lack of memory.
 #[tactic(auto, unfolding(crate::specs::Handed::handed))]
-pub(crate) fn handed(
-    alloc: Global,
-    secrets: &[Secret],
-    rows: &[Row],
-) -> Result<Vec<Row>, AllocError>
+pub fn handed(alloc: Global, secrets: &[Secret], rows: &[Row]) -> Result<Vec<Row>, AllocError>
     ensures { IfOk result (λ left. left.items ≡ handed secrets.now rows.now) }
 {
     let filled = all_filled(alloc, secrets, rows)?;

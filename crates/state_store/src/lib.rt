@@ -22,6 +22,7 @@ mod store;
 pub use book::Book;
 pub use damaged::{count_damaged, set_damaged_aside};
 pub use fault::{FileFault, TakeFault, Unsettled};
+pub use handing::handed;
 pub use laws::{
     a_crash_while_settling_changes_nothing, a_restart_changes_nothing, changes_are_taken_as_given,
 };
