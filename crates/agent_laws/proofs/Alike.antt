@@ -33,8 +33,8 @@ use Rattle.vault_proving.specs.declared.verdict.Verdict.TheVariants as verdicts
 use Rattle.state_secrets.specs.Credentials.{placed}
 use Rattle.state_secrets.specs.Looking.{is_held}
 use Rattle.state_keeping.specs.Noted.{line_about, lines_in_note, note_lines}
-use Rattle.state_store.specs.Handed.{is_of, taken_from}
-use Rattle.state_store.specs.declared.secret.Secret.{Secret}
+use Rattle.state_changes.specs.Secrets.{is_of, taken_from}
+use Rattle.state_changes.specs.declared.secret.Secret.{Secret}
 use Rattle.plan_forest.specs.Forest.{Forest, index_named}
 use Rattle.plan_forest.specs.Push.{is_lease}
 use Rattle.watch_machine.specs.State.{WatchState}
@@ -50,7 +50,8 @@ use Rattle.agent_house.specs.Nexts.{next_there}
 use Rattle.agent_laws.specs.Alike.{AgentsAreAlike, FilesAreAlike, IsRecordBut, JudgedAlike, RecordsAreAlike, RowsAreAlike, SecretsAreAlike, ServedAreAlike}
 use Rattle.agent_house.specs.Commands.{end_known_at, end_named}
 use Rattle.agent_words.specs.Filling.{AreUnfilled, CannotFill, FillsFrom, FillsRow, IsFaultOfRow}
-use Rattle.agent_words.specs.Noting.{AreWhysNotServed, IsAlone, left_lines, said_faults, said_notes}
+use Rattle.agent_words.specs.Noting.{AreWhysNotServed, IsAlone, said_faults}
+use Rattle.agent_ledger.specs.Rereading.{left_lines, said_notes}
 use Rattle.agent_words.specs.Starts.{bare_at, bare_faults, fault_list, least_margin, margin_fault, written_faults}
 use Rattle.agent_words.specs.Telling.{replaced_text}
 use Rattle.agent_words.specs.VerdictWords.{kept_words}

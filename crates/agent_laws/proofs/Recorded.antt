@@ -33,7 +33,7 @@ use Rattle.state_store.specs.Entering.{line_for_change}
 use Rattle.state_store.specs.Moved.{SaysAlready}
 use Rattle.state_store.specs.Records.{records_in}
 use Rattle.state_store.specs.Stores.{book_of, journal_of, lines_in, path_of_store}
-use Rattle.state_store.specs.declared.secret.Secret.{Secret}
+use Rattle.state_changes.specs.declared.secret.Secret.{Secret}
 use Rattle.state_store.specs.declared.store.Store.{Store}
 use Rattle.state_store.proofs.Lists.{records_push}
 use Rattle.state_store.proofs.Staying.{damaged_records}
@@ -42,7 +42,7 @@ use Rattle.agent_words.specs.declared.reread.Reread.{Reread}
 use Rattle.agent_ledger.specs.Keeping.{KeepCall, Reload, Settle, Take}
 use Rattle.agent_ledger.specs.Ledgers.{AreCompacted, DoesLedger, IsTakenOn, ReadsTable}
 use Rattle.agent_ledger.specs.declared.ledger.Ledger.{Ledger}
-use Rattle.agent_words.specs.Rereading.{AreBytesOf}
+use Rattle.agent_ledger.specs.Rereading.{AreBytesOf}
 use Rattle.agent_laws.specs.Acknowledged.{FileHasAll, FileSaysAll, HasRecord, IsDone, IsOnDisk, IsReread}
 use Rattle.agent_laws.proofs.Owed.{AreDone, IsChangeOf}
 

@@ -23,7 +23,7 @@ use Rattle.state_secrets.specs.declared.news.Looked.{Looked}
 use Rattle.state_secrets.specs.declared.secret_files.FileStamp.{FileStamp}
 use Rattle.agent_turns.specs.Changes.{given_by}
 use Rattle.agent_turns.specs.Neighbours.{NeighbourCall}
-use Rattle.state_store.specs.declared.secret.Secret.{Secret}
+use Rattle.state_changes.specs.declared.secret.Secret.{Secret}
 use Rattle.agent_laws.specs.Disks.{AllAsked, AsksLittle, FewAreMade, KeeperIsCalled, LedgerIsSpared, LedgerLaw, SparesIf, SparesLedger, looks_of, makes_of, opens_of, stamps_of}
 use Rattle.agent_ledger.specs.Keeping.{KeepCall, Look, LookUp, MarkServed, Prove, Reload, RestFor, Settle, Take}
 use Rattle.agent_ledger.specs.Ledgers.{DoesLedger}

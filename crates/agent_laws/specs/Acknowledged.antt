@@ -50,7 +50,7 @@ use Rattle.state_store.specs.Entering.{line_for_change}
 use Rattle.state_store.specs.Moved.{SaysAlready}
 use Rattle.state_store.specs.Records.{records_in}
 use Rattle.state_store.specs.Stores.{journal_of, lines_in, path_of_store}
-use Rattle.agent_words.specs.Rereading.{AreBytesOf}
+use Rattle.agent_ledger.specs.Rereading.{AreBytesOf}
 use Rattle.agent_house.specs.Admitting.{asking_in}
 use Rattle.agent_house.specs.Houses.{ClientsAsk}
 use Rattle.agent_house.specs.declared.house.House.{House}

@@ -29,7 +29,7 @@ use Rattle.state_secrets.specs.Outcomes.{news_about, news_of}
 use Rattle.state_secrets.specs.declared.looking.FileSeen.{FileSeen}
 use Rattle.state_secrets.specs.declared.news.Became.{Became}
 use Rattle.state_store.specs.declared.fault.TakeFault.{TakeFault}
-use Rattle.state_store.specs.declared.secret.Secret.{Secret}
+use Rattle.state_changes.specs.declared.secret.Secret.{Secret}
 use Rattle.watch_machine.specs.declared.command.Request.{Request}
 use Rattle.watch_machine.specs.declared.event.Operation.{Operation}
 use Rattle.watch_machine.specs.declared.notes.Notes.{Notes}
@@ -40,8 +40,9 @@ use Rattle.agent_house.specs.Commands.{end_named}
 use Rattle.agent_words.specs.Filling.{AreUnfilled, FileHolds, FillingFails}
 use Rattle.agent_log.specs.LinesOfNexts.{next_lines}
 use Rattle.agent_house.specs.Nexts.{next_there}
-use Rattle.agent_words.specs.Noting.{AreWhysNotServed, said_notes}
-use Rattle.agent_words.specs.Reasons.{bare_words, take_words}
+use Rattle.agent_words.specs.Noting.{AreWhysNotServed}
+use Rattle.agent_ledger.specs.Reasons.{bare_words, take_words}
+use Rattle.agent_ledger.specs.Rereading.{said_notes}
 use Rattle.agent_words.specs.Refusing.{start_refusal_line}
 use Rattle.agent_log.specs.SecretLines.{news_lines}
 use Rattle.agent_log.specs.Sockets.{need_log_line}

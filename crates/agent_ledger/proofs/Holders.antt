@@ -8,8 +8,8 @@ use Rattle.std.specs.List.{list_any}
 use Rattle.plan_forest.specs.Push.{is_lease}
 use Rattle.state_changes.specs.declared.row.Row.{Row}
 use Rattle.state_secrets.specs.Outcomes.{has_it, is_credential_of, is_own_file}
-use Rattle.state_store.specs.Handed.{is_of, taken_from}
-use Rattle.state_store.specs.declared.secret.Secret.{Secret}
+use Rattle.state_changes.specs.Secrets.{is_of, taken_from}
+use Rattle.state_changes.specs.declared.secret.Secret.{Secret}
 use Rattle.agent_ledger.specs.Takings.{has_credential, is_anothers}
 use Rattle.agent_ledger.specs.code.Holders.{is_for, is_for_another, is_other, is_others_by_file, is_others_own}
 

@@ -13,7 +13,8 @@ use Rattle.state_keeping.specs.Keepers.{store_of, waiting_in}
 use Rattle.agent_words.specs.Outcomes.{Whys}
 use Rattle.agent_ledger.specs.Ledgers.{ReloadsOn}
 use Rattle.agent_words.specs.Reading.{IsWellWritten}
-use Rattle.agent_words.specs.Rereading.{AreAtMost, AreBytesOf, IsOneWhy, IsWhyNotReread, SaysCopy, SaysFaults, SaysNoBook, SaysNotes, SaysUnread}
+use Rattle.agent_words.specs.Noting.{SaysFaults}
+use Rattle.agent_ledger.specs.Rereading.{AreAtMost, AreBytesOf, IsOneWhy, IsWhyNotReread, SaysCopy, SaysNoBook, SaysNotes, SaysUnread}
 use Rattle.agent_words.specs.declared.demands.Demands.{Demands}
 use Rattle.agent_ledger.specs.Untouched.{IsAsItWas}
 use Rattle.agent_words.specs.declared.reread.Reread.{Reread}

@@ -28,7 +28,7 @@ use Rattle.state_store.specs.Records.{records_in}
 use Rattle.state_store.specs.Entering.{FaultTellsDisk, FaultTellsLength}
 use Rattle.state_store.specs.Stores.{ChangeIsTaken, IsWhyUntaken, journal_of, lines_in, path_of_store, size_with}
 use Rattle.state_store.specs.declared.fault.TakeFault.{TakeFault}
-use Rattle.state_store.specs.declared.secret.Secret.{Secret}
+use Rattle.state_changes.specs.declared.secret.Secret.{Secret}
 use Rattle.state_keeping.specs.Keepers.{InventoryIsGiven, waiting_in}
 use Rattle.state_secrets.specs.Looking.{begun_anew}
 use Rattle.state_secrets.specs.Stamps.{FileCall}
@@ -39,8 +39,8 @@ use Rattle.agent_ledger.specs.Inquiries.{AsksAbout, ProvesOn, asked_in}
 use Rattle.agent_ledger.specs.Keeping.{KeepCall, Look, LookUp, MarkServed, Prove, Reload, RestFor, Settle, Take}
 use Rattle.agent_words.specs.Outcomes.{Why, Whys}
 use Rattle.agent_words.specs.Reading.{IsWellWritten, IsWide}
-use Rattle.agent_words.specs.Reasons.{bare_words, left_over_words, settle_words, table_words, take_words}
-use Rattle.agent_words.specs.Rereading.{AreBytesOf, IsWhyNotReread, SaysCopy, SaysNotes}
+use Rattle.agent_ledger.specs.Reasons.{bare_words, left_over_words, settle_words, table_words, take_words}
+use Rattle.agent_ledger.specs.Rereading.{AreBytesOf, IsWhyNotReread, SaysCopy, SaysNotes}
 use Rattle.agent_words.specs.Starts.{is_bare_row}
 use Rattle.agent_ledger.specs.Shared.{may_be_apart}
 use Rattle.agent_ledger.specs.Takings.{LooksOrHears}

@@ -5,5 +5,7 @@ pub mod Inquiries
 pub mod Askers
 pub mod Takings
 pub mod Shared
+pub mod Reasons
+pub mod Rereading
 pub mod Ledgers
 pub mod code

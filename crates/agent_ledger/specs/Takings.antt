@@ -17,7 +17,7 @@ use Rattle.vault_proving.specs.declared.verdict.Verdict.TheVariants.{Good, Refus
 use Rattle.state_keeping.specs.States.{Kept, book_in, store_in}
 use Rattle.state_store.specs.Books.{Book, HasSecrets}
 use Rattle.state_store.specs.Stores.{lines_in}
-use Rattle.state_store.specs.declared.secret.Secret.{Secret}
+use Rattle.state_changes.specs.declared.secret.Secret.{Secret}
 use Rattle.state_keeping.specs.Keepers.{waiting_in}
 use Rattle.state_secrets.specs.Looking.{IsPassed, Passes, is_held, seen_of}
 use Rattle.state_secrets.specs.Outcomes.{IsNoted, MayRead, ReadsFile, has_it, names_file, news_about, news_of, secret_for, secrets_with, seen_after}

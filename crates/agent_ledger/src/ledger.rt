@@ -16,10 +16,9 @@ ghost use Rattle.state_store.specs.Records.{records_in};
 ghost use Rattle.state_store.specs.Stores.{lines_in, path_of_store};
 ghost use Rattle.state_keeping.specs.Keepers.{waiting_in};
 ghost use Rattle.agent_ledger.specs.Ledgers.{AreCompacted, FilledWith, IsFilledOn, IsTakenOn, IsWhyUntakenOn, ReloadsOn, StaysOnDisk, apart_line, ledger_rest, rest_while};
-ghost use Rattle.agent_words.specs.Noting.{left_lines, said_notes};
 ghost use Rattle.agent_words.specs.Reading.{IsWellWritten, IsWide};
-ghost use Rattle.agent_words.specs.Reasons.{bare_words, left_words, table_words};
-ghost use Rattle.agent_words.specs.Rereading.{AreAtMost, AreBytesOf, IsWhyNotReread, SaysCopy, SaysNoBook, SaysNotes, SaysUnread};
+ghost use Rattle.agent_ledger.specs.Reasons.{bare_words, left_words, table_words};
+ghost use Rattle.agent_ledger.specs.Rereading.{AreAtMost, AreBytesOf, IsWhyNotReread, SaysCopy, SaysNoBook, SaysNotes, SaysUnread, left_lines, said_notes};
 ghost use Rattle.agent_words.specs.Starts.{is_bare_row};
 ghost use Rattle.agent_ledger.specs.Untouched.{IsAsItWas};
 
@@ -28,22 +27,25 @@ use crate::asker::{Asker, FileWord, hear_first, is_any_asking};
 use crate::candidates::candidate_of;
 use crate::inquiry::{ask, hear, is_asking};
 use crate::keeping::{FileLook, Keeping, LookedUp};
+use crate::reasons::{
+    bare_words, book_words, left_over_words, settle_words, table_words, take_words,
+};
 use crate::secret_changes::wanting;
 use crate::shared::may_be_apart;
 use agent_words::{
-    Demands, Gathered, Reread, after, bare_words, book_words, disk_words, gather, is_bare_row,
-    left_over_words, settle_words, table_words, take_words, unread_words, why_not_served, wide,
+    Demands, Gathered, Reread, after, disk_words, gather, is_bare_row, unread_words,
+    why_not_served, wide,
 };
 use base_clock::{Reading, TRY_AGAIN, rest_until, shorter};
 use base_disk::{Disk, DiskFault};
 use base_files::Inputs;
 use base_moment::{Name, Text};
 use base_words::push_number;
-use state_changes::{Note, Row, What};
+use state_changes::{Note, Row, Secret, What};
 use state_file::SettleFault;
 use state_keeping::{Reloaded, State, TableFault, read_table};
 use state_secrets::{Looking, SecretFiles};
-use state_store::{Secret, TakeFault};
+use state_store::TakeFault;
 use std::alloc::{AllocError, Global};
 use vault_asking::SeenLanes;
 use vault_inventory::Inventory;
@@ -136,7 +138,7 @@ impl<'a, D: Disk, I: Inputs, L: Lanes> Ledger<'a, D, I, L> {
 
     /// What is said of these changes of the journal that are not made any more: a hundred lines, and how many more there are. The only
     /// error is out of memory.
-    #[tactic(auto, unfolding(agent_words::specs::Noting::said_notes))]
+    #[tactic(auto, unfolding(crate::specs::Rereading::said_notes))]
     pub fn note_lines(&self, alloc: Global, notes: &[Note]) -> Result<Vec<Text>, AllocError>
         ensures { IfOk result (λ lines. lines.items ≡ said_notes (book_in self.now.state).file.margin (records_in (lines_in (store_in self.now.state))) notes.now) }
     {

@@ -9,14 +9,13 @@ ghost use Rattle.agent_ledger.specs.code.Holders.{is_for, is_for_another, is_oth
 
 use base_disk::Disk;
 use base_moment::Text;
-use state_changes::{Row, Rows};
+use state_changes::{Row, Rows, Secret};
 use state_file::SettleFault;
 use state_keeping::State;
 use state_secrets::{
     Became, DueFile, Looked, Looking, SecretTrouble, has_it, is_held, news_about, news_of,
     secrets_with, seen_after, seen_of,
 };
-use state_store::Secret;
 use std::alloc::{AllocError, Global};
 
 /// So many entries always fit into one inventory: what is written of one with its credential takes less than 1,024 bytes.

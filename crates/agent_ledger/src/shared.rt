@@ -9,8 +9,8 @@ ghost use Rattle.agent_ledger.specs.code.OfKinds.{AreCredentialsOf};
 
 use crate::secret_changes::ALWAYS_FIT;
 use base_moment::Text;
-use state_changes::Row;
-use state_store::{Secret, handed};
+use state_changes::{Row, Secret};
+use state_store::handed;
 use std::alloc::{AllocError, Global};
 use std::collections::BTreeSet;
 

@@ -18,7 +18,7 @@ use Rattle.base_log.specs.declared.level.Level.TheVariants.{Alert}
 use Rattle.program_report.specs.declared.exit.Exit.{Exit}
 use Rattle.vault_served.specs.ForGood.{inventory_for_good}
 use Rattle.state_store.specs.Books.{Book, HasSecrets, IsBookOf}
-use Rattle.state_store.specs.declared.secret.Secret.{Secret}
+use Rattle.state_changes.specs.declared.secret.Secret.{Secret}
 use Rattle.agent_start.specs.Alone.{IsFilledBook, IsServedFile, IsServedHeld, IsServedUnkept, IsServedWhole, IsWrittenBook, ServesHeld, folder_of, is_slash}
 use Rattle.agent_start.specs.Saying.{said_as}
 use Rattle.agent_start.specs.Starts.{IsServedOf}

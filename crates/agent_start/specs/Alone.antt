@@ -10,7 +10,7 @@ use Rattle.base_files.specs.Files.{FileIsRead, Files}
 use Rattle.vault_inventory.specs.declared.limits.TheConstants.{MOST_INVENTORY}
 use Rattle.base_log.specs.declared.level.Level.TheVariants.{Alert}
 use Rattle.state_store.specs.Books.{Book, HasSecrets, IsBookOf}
-use Rattle.state_store.specs.declared.secret.Secret.{Secret}
+use Rattle.state_changes.specs.declared.secret.Secret.{Secret}
 use Rattle.agent_start.specs.Saying.{said_as}
 use Rattle.agent_start.specs.Starts.{IsServedOf}
 use Rattle.agent_start.specs.declared.reading.Inventories.{Inventories}

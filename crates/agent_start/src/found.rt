@@ -5,7 +5,8 @@ use agent_words::{Demands, unread_words, why_not_served};
 use base_disk::{Disk, DiskFault};
 use base_log::Level;
 use base_moment::Text;
-use state_keeping::{Paths, ReadFault, read_file};
+use state_file::ReadFault;
+use state_keeping::{Paths, read_file};
 use std::alloc::{AllocError, Global};
 use vault_inventory::MOST_INVENTORY;
 

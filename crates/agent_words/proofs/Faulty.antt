@@ -16,9 +16,8 @@ use Rattle.vault_inventory.specs.Served.{Served}
 use Rattle.vault_inventory.specs.declared.fault.InvFault.{InvFault}
 use Rattle.vault_inventory.specs.declared.fault.InvFault.TheVariants as inventories
 use Rattle.agent_words.specs.Filling.{AreUnfilled}
-use Rattle.agent_words.specs.Noting.{AreWhysNotServed}
+use Rattle.agent_words.specs.Noting.{AreWhysNotServed, SaysFaults}
 use Rattle.agent_words.specs.Reading.{AreAllOr, AreFaults, AreFaultsOf, AreLast, AreOfNoInventory, AreWrittenFaults, FirstIsWhy, IsStartFaultOf, IsWellWritten}
-use Rattle.agent_words.specs.Rereading.{SaysFaults}
 use Rattle.agent_words.specs.Starts.{first_listed_fault, first_start_fault, written_faults}
 use Rattle.agent_words.specs.declared.demands.Demands.{Demands}
 use Rattle.agent_words.specs.declared.fault.StartFault.{StartFault}

@@ -4,7 +4,7 @@ use Rattle.state_changes.specs.declared.row.Row.{Row}
 use Rattle.base_files.specs.Files.{FileIsRead, Files}
 use Rattle.state_secrets.specs.Credentials.{placed}
 use Rattle.state_secrets.specs.declared.credential.TheConstants.{MOST_SECRET}
-use Rattle.state_store.specs.declared.secret.Secret.{Secret}
+use Rattle.state_changes.specs.declared.secret.Secret.{Secret}
 use Rattle.agent_words.specs.Gathering.{AreGathered, Gives, line_given, secret_in}
 use Rattle.agent_words.proofs.Filled.{wants_as}
 

@@ -10,4 +10,3 @@ pub mod Refusing
 pub mod Reasons
 pub mod Noting
 pub mod Gathering
-pub mod Rereading

@@ -7,8 +7,7 @@ use crate::reasons::after;
 use crate::secret_files::credential_at;
 use base_files::Inputs;
 use base_moment::Text;
-use state_changes::Row;
-use state_store::Secret;
+use state_changes::{Row, Secret};
 use std::alloc::{AllocError, Global};
 
 /// What files of credentials hold, and what is said of those that hold none.

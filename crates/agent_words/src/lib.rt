@@ -1,10 +1,10 @@
-//! What `leasekeep serve` says in words to people: why an inventory is not served, why a change is not kept, and what came of what a
-//! client asks for. No text has a credential in it.
+//! What `leasekeep serve` says in words to people: why an inventory is not read or served, and what came of what a client asks for. No
+//! text has a credential in it.
 //!
 //! The contract for the layers above: [`read_to_serve`] gives what is served by the text of an inventory, or the first fault of the start
 //! (`specs/Reading`, `specs/Starts`), [`faults_to_serve`] all of them, and [`faults_as_written`] those of what is written alone;
 //! [`line_of_fault`] is the line that refuses a start (`specs/Refusing`), and [`why_not_served`] says the same of a file that is read anew
-//! (`specs/Noting`, `specs/Rereading`). [`gather`] reads the files of credentials that rows name, and says which hold none
+//! (`specs/Noting`). [`gather`] reads the files of credentials that rows name, and says which hold none
 //! (`specs/Filling`, `specs/Gathering`). Each text is that of its definition: a reason (`specs/Reasons`), what a client is told
 //! (`specs/Telling`), and what of the credential that it brings (`specs/VerdictWords`). Lack of memory is the only other thing that can
 //! come of a call. Begin with `specs/Starts`, `specs/Reasons` and `specs/Telling`, then `first_fault`, `reasons` and `client_words`.
@@ -37,10 +37,7 @@ pub use first_fault::is_bare_row;
 pub use gathered_secrets::{Gathered, gather};
 pub use moments::{moment_word, now_of, second_of};
 pub use reading::{read_to_serve, wide};
-pub use reasons::{
-    after, bare_words, book_words, disk_words, file_words, left_over_words, settle_words,
-    table_words, take_words, unread_words,
-};
+pub use reasons::{after, disk_words, file_words, inventory_words, unread_words};
 pub use reread::Reread;
 pub use unserved::why_not_served;
 pub use verdict_words::{endless_text, status_text, why_endless, why_later, why_refused};

@@ -1,8 +1,7 @@
 //! Why a file is not served, in words.
 ghost use Rattle.std.specs.Prelude.{◌≡◌, ◌++◌, IfOk, OnOk, map, take};
-ghost use Rattle.agent_words.specs.Noting.{AreWhysNotServed, IsAlone, more_faults, said_faults};
+ghost use Rattle.agent_words.specs.Noting.{AreWhysNotServed, IsAlone, SaysIfFaulty, more_faults, said_faults};
 ghost use Rattle.agent_words.specs.Reasons.{file_words, more_words};
-ghost use Rattle.agent_words.specs.Rereading.{SaysIfFaulty};
 
 use crate::all_faults::faults_as_written;
 use crate::demands::Demands;

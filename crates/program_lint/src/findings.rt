@@ -2,8 +2,7 @@
 use crate::judged::{Doubted, Judged};
 use agent_words::{Demands, StartFault, file_words, unread_words};
 use plan_forest::{Forest, Kind};
-use state_file::SettleFault;
-use state_keeping::ReadFault;
+use state_file::{ReadFault, SettleFault};
 use std::alloc::{AllocError, Global};
 use vault_inventory::{InvFault, Key};
 use vault_lint::{

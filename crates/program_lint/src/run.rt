@@ -11,7 +11,7 @@ use base_files::Inputs;
 use base_moment::{LAST, Moment};
 use program_report::{Exit, PROGRAM, Stop, send, tell};
 use program_words::SystemFiles;
-use state_keeping::ReadFault;
+use state_file::ReadFault;
 use std::alloc::{AllocError, Global};
 use std::fs;
 use std::io::ErrorKind;

@@ -1,4 +1,5 @@
 pub mod Rows
+pub mod Secrets
 pub mod Changes
 pub mod Words
 pub mod RowText

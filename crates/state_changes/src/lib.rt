@@ -2,7 +2,8 @@
 //!
 //! The contract for the layers above: [`Rows::change`] makes a change or names the first of its refusals; [`replay`] makes
 //! those of a list that still hold, and where the file says something else since, the file wins; [`text_of`] writes a
-//! record as a line, and [`read_record`] reads that line and no other. Begin with `row`, then `change`.
+//! record as a line, and [`read_record`] reads that line and no other. What was taken from files of credentials is a [`Secret`] each. Begin with
+//! `row`, then `change`.
 #![tactic(auto)]
 
 mod change;
@@ -17,6 +18,7 @@ mod row;
 mod row_text;
 mod rows;
 mod saying;
+mod secret;
 mod words;
 mod writer;
 
@@ -30,5 +32,6 @@ pub use replaying::{File, Note, Replayed, Why, replay};
 pub use row::Row;
 pub use rows::Rows;
 pub use saying::said;
+pub use secret::{Secret, copy_secrets, taken_from};
 pub use words::fingerprint;
 pub use writer::text_of;

@@ -1,3 +1,4 @@
 pub mod Order
 pub mod Settled
+pub mod Unread
 pub mod Laws

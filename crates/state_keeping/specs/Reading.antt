@@ -3,10 +3,8 @@
 use Rattle.std.specs.Prelude.{◌≡◌, ◌≢◌, ℕ, List, None, Some, bit_and}
 use Rattle.base_disk.specs.Image.{File}
 use Rattle.base_disk.specs.State.{DiskState}
-use Rattle.base_disk.specs.declared.fault.DiskFault.{DiskFault}
-use Rattle.base_disk.specs.declared.fault.DiskFault.TheVariants as disks
-use Rattle.state_keeping.specs.declared.fault.ReadFault.{ReadFault}
-use Rattle.state_keeping.specs.declared.fault.ReadFault.TheVariants.{Missing, NotRegular, ForOthers, Disk, OutOfMemory}
+use Rattle.state_file.specs.declared.fault.ReadFault.{ReadFault}
+use Rattle.state_file.specs.declared.fault.ReadFault.TheVariants.{Missing, NotRegular, ForOthers, Disk, OutOfMemory}
 use Rattle.state_keeping.specs.declared.reading.FileRead.{FileRead}
 
 -- the file at this path has that mode and those bytes
@@ -21,8 +19,3 @@ IsWhyUnread path s NotRegular = Unit {0}
 IsWhyUnread path s (ForOthers mode) = (file : File) × (s.seen path ≡ Some file) × (mode ≡ file.mode) × (bit_and mode 6 ≢ 0)
 IsWhyUnread path s (Disk fault) = Unit {0}
 IsWhyUnread path s OutOfMemory = Unit {0}
-
--- lack of memory is told as such
-abbrev pub unread : DiskFault → ReadFault
-unread disks.OutOfMemory = OutOfMemory
-unread fault = Disk fault

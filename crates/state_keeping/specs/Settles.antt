@@ -15,8 +15,8 @@ use Rattle.state_store.specs.declared.store.Store.{Store}
 use Rattle.state_store.specs.Compacted.{damaged}
 use Rattle.state_store.specs.Moved.{IsMovedBook, LeftByMove, SaysAllKept, SaysAlready, SaysByItself, mark_line}
 use Rattle.state_store.specs.Stores.{book_of, is_sure, journal_of, lines_in}
-use Rattle.state_keeping.specs.declared.fault.ReadFault.{ReadFault}
-use Rattle.state_keeping.specs.declared.fault.ReadFault.TheVariants as reads
+use Rattle.state_file.specs.declared.fault.ReadFault.{ReadFault}
+use Rattle.state_file.specs.declared.fault.ReadFault.TheVariants as reads
 use Rattle.state_keeping.specs.declared.fault.SettleWhy.{SettleWhy}
 use Rattle.state_keeping.specs.declared.fault.SettleWhy.TheVariants.{Unread, Changed, Unwritten, Disk, OutOfMemory}
 use Rattle.state_keeping.specs.declared.reading.FileRead.{FileRead}

@@ -1,17 +1,16 @@
 ghost use Rattle.std.specs.Prelude.{◌≡◌};
 ghost use Rattle.state_keeping.specs.declared.fault.OpenFault.TheVariants as opens;
 ghost use Rattle.state_keeping.specs.declared.fault.PathsFault.TheVariants as paths;
-ghost use Rattle.state_keeping.specs.declared.fault.ReadFault.TheVariants as reads;
+ghost use Rattle.state_file.specs.declared.fault.ReadFault.TheVariants as reads;
 ghost use Rattle.state_keeping.specs.declared.fault.SettleWhy.TheVariants as settles;
 ghost use Rattle.state_keeping.specs.declared.fault.TableFault.TheVariants as tables;
 ghost use Rattle.state_keeping.specs.Opens.{unheld, unserved};
-ghost use Rattle.state_keeping.specs.Reading.{unread};
 ghost use Rattle.state_keeping.specs.Settles.{unread_why, unsettled};
 ghost use Rattle.state_keeping.specs.Tables.{table_fault};
 
 use base_disk::DiskFault;
 use plan_forest::TreeFault;
-use state_file::SettleFault;
+use state_file::{ReadFault, SettleFault};
 use state_store::{FileFault, Unsettled};
 use std::alloc::{AllocError, AllocFailed};
 use thiserror::Error;
@@ -23,26 +22,6 @@ pub enum PathsFault {
     /// FILE is one of the files of the state folder.
     #[error("the inventory is a file of the state folder's own")]
     InFolder,
-    /// Memory was refused.
-    #[error("out of memory")]
-    OutOfMemory,
-}
-
-/// Why a file is not read that is to be served: the first that applies, in this order.
-#[derive(Clone, Copy, Debug, PartialEq, Eq, Error)]
-pub enum ReadFault {
-    /// There is none.
-    #[error("no such file")]
-    Missing,
-    /// It is a folder, a pipe or the like.
-    #[error("is not a regular file")]
-    NotRegular,
-    /// Others than its user and its group may read or write it; its permission bits.
-    #[error("others may read or write it")]
-    ForOthers(u32),
-    /// The disk failed; `TooLong`, it has more bytes than an inventory may.
-    #[error("{0}")]
-    Disk(DiskFault),
     /// Memory was refused.
     #[error("out of memory")]
     OutOfMemory,
@@ -116,17 +95,6 @@ impl From<AllocError> for PathsFault {
 
     fn from(_e: AllocError) -> PathsFault {
         PathsFault::OutOfMemory
-    }
-}
-
-impl From<DiskFault> for ReadFault {
-    ghost from_gives = { λ fault e. e ≡ unread fault };
-
-    fn from(fault: DiskFault) -> ReadFault {
-        match fault {
-            DiskFault::OutOfMemory => ReadFault::OutOfMemory,
-            fault => ReadFault::Disk(fault),
-        }
     }
 }
 

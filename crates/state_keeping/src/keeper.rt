@@ -1,9 +1,9 @@
 use agent_standing::Waiting;
 use base_disk::{Disk, DiskFault, FILE_MODE};
 use base_moment::Name;
-use state_changes::{Note, What};
+use state_changes::{Note, Secret, What};
 use state_file::SettleFault;
-use state_store::{FileFault, Secret, Store, TakeFault, Unsettled};
+use state_store::{FileFault, Store, TakeFault, Unsettled};
 use std::alloc::AllocError;
 use vault_inventory::Inventory;
 use watch_machine::Millis;

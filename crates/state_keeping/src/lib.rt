@@ -18,7 +18,7 @@ mod settling;
 mod state;
 mod table;
 
-pub use fault::{OpenFault, PathsFault, ReadFault, SettleWhy, TableFault};
+pub use fault::{OpenFault, PathsFault, SettleWhy, TableFault};
 pub use keeper::Keeper;
 pub use laws::what_was_acknowledged_is_served;
 pub use opening::{Opened, Unopened};

@@ -3,9 +3,9 @@ ghost use Rattle.base_disk.specs.State.{LeavesAlone, LeavesOnly};
 ghost use Rattle.vault_inventory.specs.declared.limits.TheConstants.{MOST_INVENTORY};
 ghost use Rattle.state_keeping.specs.Reading.{IsFileAt, IsWhyUnread};
 
-use crate::fault::ReadFault;
 use base_disk::Disk;
 use base_moment::Text;
+use state_file::ReadFault;
 use std::alloc::Global;
 use vault_inventory::MOST_INVENTORY;
 

@@ -1,15 +1,14 @@
 ghost use Rattle.std.specs.Prelude.{◌≡◌};
 
-use crate::fault::ReadFault;
 use crate::keeper::Keeper;
 use crate::noting::note_lines;
 use crate::paths::Paths;
 use crate::reading::{FileRead, read_file};
 use base_disk::{Disk, DiskFault};
 use base_moment::{Name, Text};
-use state_changes::{File, Note, Record, Rows, What};
-use state_file::SettleFault;
-use state_store::{FileFault, Secret, TakeFault};
+use state_changes::{File, Note, Record, Rows, Secret, What};
+use state_file::{ReadFault, SettleFault};
+use state_store::{FileFault, TakeFault};
 use std::alloc::{AllocError, Global};
 use std::marker::Model;
 use vault_inventory::Inventory;

@@ -1,7 +1,7 @@
 -- Passing: how a pass goes on. For the loop of `Looking::pass`.
 use Rattle.std.proofs.Common.{ℕ, List, Option, drop}
 use Rattle.state_changes.specs.declared.row.Row.{Row}
-use Rattle.state_store.specs.declared.secret.Secret.{Secret}
+use Rattle.state_changes.specs.declared.secret.Secret.{Secret}
 use Rattle.state_secrets.specs.Looking.{Passes}
 use Rattle.state_secrets.specs.Stamps.{FileCall}
 use Rattle.state_secrets.specs.declared.looking.FileMark.{FileMark}

@@ -5,7 +5,7 @@ use Rattle.std.proofs.lemmas.List.{take_all, take_more}
 use Rattle.std.proofs.lemmas.List.Elements.{filter-append}
 use Rattle.std.specs.List.{filter}
 use Rattle.state_changes.specs.declared.row.Row.{Row}
-use Rattle.state_store.specs.declared.secret.Secret.{Secret}
+use Rattle.state_changes.specs.declared.secret.Secret.{Secret}
 use Rattle.state_secrets.specs.Outcomes.{stays}
 
 module _ (rows : List Row) (name : List ℕ) (secrets : List Secret) (i : ℕ) where

@@ -3,8 +3,8 @@
 use Rattle.std.specs.Prelude.{◌≡◌, ◌≢◌, ◌⊎◌, ℕ, ◌+◌, ◌-◌, Bool, true, false, not, ◌&&◌, ◌||◌, if◌then◌else◌, List, [], ◌∷◌, ◌++◌, Option, Some, None, bytes_eq, is_none, is_some, length, min, nat_le, nat_lt, option_map, slice_set}
 use Rattle.std.specs.List.{find, position}
 use Rattle.state_changes.specs.declared.row.Row.{Row}
-use Rattle.state_store.specs.Handed.{taken_from}
-use Rattle.state_store.specs.declared.secret.Secret.{Secret}
+use Rattle.state_changes.specs.Secrets.{taken_from}
+use Rattle.state_changes.specs.declared.secret.Secret.{Secret}
 use Rattle.state_secrets.specs.Credentials.{placed}
 use Rattle.state_secrets.specs.Stamps.{FileCall, Made, Stamped, is_same_found}
 use Rattle.state_secrets.specs.declared.looking.DueFile.{DueFile}

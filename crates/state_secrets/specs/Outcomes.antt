@@ -6,8 +6,8 @@ use Rattle.state_changes.specs.Rows.{named}
 use Rattle.state_changes.specs.declared.row.Row.{Row}
 use Rattle.base_device.specs.declared.fault.InputFault.{InputFault}
 use Rattle.base_device.specs.declared.fault.InputFault.TheVariants as inputs
-use Rattle.state_store.specs.Handed.{taken_from}
-use Rattle.state_store.specs.declared.secret.Secret.{Secret}
+use Rattle.state_changes.specs.Secrets.{taken_from}
+use Rattle.state_changes.specs.declared.secret.Secret.{Secret}
 use Rattle.state_secrets.specs.Credentials.{credential_in}
 use Rattle.state_secrets.specs.Looking.{MaySet}
 use Rattle.state_secrets.specs.Stamps.{FileCall, Made, Opened, is_same_found}

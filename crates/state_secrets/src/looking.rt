@@ -1,15 +1,14 @@
 //! The look at files of credentials: which of them is to be read.
-ghost use Rattle.std.specs.Prelude.{◌≡◌, IfOk, drop, option_map};
+ghost use Rattle.std.specs.Prelude.{◌≡◌, IfOk, drop};
 ghost use Rattle.std.specs.List.{position};
-ghost use Rattle.state_store.specs.Handed.{is_of, taken_from};
+ghost use Rattle.state_changes.specs.Secrets.{taken_from};
 ghost use Rattle.state_secrets.specs.Credentials.{placed};
 ghost use Rattle.state_secrets.specs.Looking.{IsBegun, IsDueFile, IsPassed, MaySet, Passes, Steps, begun_anew, is_held, is_mark_of, is_to_be_read, seen_of};
 
 use crate::place::placed;
 use crate::secret_files::{FileStamp, SecretFiles, is_same_found};
 use base_moment::{Name, Text};
-use state_changes::Row;
-use state_store::Secret;
+use state_changes::{Row, Secret, taken_from};
 use std::alloc::{AllocError, Global};
 
 /// The files of which the stamps are looked at in one turn at most.
@@ -252,20 +251,6 @@ pub fn is_held(secrets: &[Secret], name: &[u8], file: &[u8]) -> bool
         None => false,
         Some(_) => true,
     }
-}
-
-/// What is held of that file for the entry of that name.
-#[tactic(auto, unfolding(state_store::specs::Handed::taken_from))]
-pub(crate) fn taken_from<'a>(secrets: &'a [Secret], name: &[u8], file: &[u8]) -> Option<&'a Secret>
-    ensures { option_map (λ s. s.now) result ≡ taken_from secrets.now name.now file.now }
-{
-    secrets.iter().find(|secret| is_of(name, file, secret))
-}
-
-fn is_of(name: &[u8], file: &[u8], secret: &Secret) -> bool
-    ensures { result ≡ is_of name.now file.now secret.now }
-{
-    secret.name.list() == name && secret.file.list() == file
 }
 
 // Whether a file is to be read, by what was seen of it.

@@ -6,14 +6,13 @@ ghost use Rattle.state_secrets.specs.Outcomes.{IsNoted, MayRead, ReadsFile, agai
 
 use crate::credential::{MOST_SECRET, credential_in};
 use crate::looking::{
-    DueFile, FileMark, FileSeen, LOOK_EVERY, Looking, NEVER, SecretTrouble, set_mark, taken_from,
+    DueFile, FileMark, FileSeen, LOOK_EVERY, Looking, NEVER, SecretTrouble, set_mark,
 };
 use crate::news::{Became, SecretNews, SecretWord};
 use crate::secret_files::{FileStamp, SecretFiles, is_same_found};
 use base_device::InputFault;
 use base_moment::{Name, Text};
-use state_changes::Rows;
-use state_store::Secret;
+use state_changes::{Rows, Secret, taken_from};
 use std::alloc::{AllocError, Global};
 
 /// The longest pause after a reading of a file in trouble, in milliseconds.

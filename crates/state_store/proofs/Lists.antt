@@ -8,7 +8,7 @@ use Rattle.plan_forest.specs.declared.forest.TheConstants.{MAX_DEPTH}
 use Rattle.state_changes.specs.declared.change.Record.{Record}
 use Rattle.state_changes.specs.declared.row.Row.{Row}
 use Rattle.state_changes.specs.Records.{record_of}
-use Rattle.state_store.specs.declared.secret.Secret.{Secret}
+use Rattle.state_changes.specs.declared.secret.Secret.{Secret}
 use Rattle.state_store.specs.Handed.{all_filled, all_ready, filled, is_ready}
 use Rattle.state_store.specs.Records.{record_in, records_in}
 

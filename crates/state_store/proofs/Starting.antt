@@ -7,7 +7,7 @@ use Rattle.state_changes.specs.declared.row.Row.{Row}
 use Rattle.state_changes.specs.Replay.{ReplayState, replayed}
 use Rattle.state_store.specs.declared.fault.FileFault.{FileFault}
 use Rattle.state_store.specs.declared.fault.FileFault.TheVariants.{OutOfMemory}
-use Rattle.state_store.specs.declared.secret.Secret.{Secret}
+use Rattle.state_changes.specs.declared.secret.Secret.{Secret}
 use Rattle.state_store.specs.Books.{Book, IsBookIf, IsBookOf, IsFileFaultOf}
 use Rattle.state_store.specs.Stores.{BookIsFrom}
 

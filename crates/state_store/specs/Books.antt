@@ -14,7 +14,7 @@ use Rattle.state_changes.specs.Words.{fingerprint}
 use Rattle.state_file.specs.Settled.{TextIsSettled}
 use Rattle.state_store.specs.declared.fault.FileFault.{FileFault}
 use Rattle.state_store.specs.declared.fault.FileFault.TheVariants.{Unread, Faulty, Unwritten, OutOfMemory}
-use Rattle.state_store.specs.declared.secret.Secret.{Secret}
+use Rattle.state_changes.specs.declared.secret.Secret.{Secret}
 use Rattle.state_store.specs.Handed.{handed}
 
 pub record Book : Type 0 where

@@ -1,19 +1,13 @@
 -- Handed: the rows that are handed to a watch. A credential that stands in a file is what was taken from it last; an entry whose
 -- file has given none yet is left out, with all under it.
 -- Source: this project's own.
-use Rattle.std.specs.Prelude.{ℕ, zero, suc, Bool, true, false, ◌&&◌, List, Option, Some, None, is_none, bytes_eq, map}
-use Rattle.std.specs.List.{filter, find}
+use Rattle.std.specs.Prelude.{ℕ, zero, suc, Bool, true, false, ◌&&◌, List, Option, Some, None, is_none, map}
+use Rattle.std.specs.List.{filter}
 use Rattle.plan_forest.specs.declared.forest.TheConstants.{MAX_DEPTH}
 use Rattle.state_changes.specs.declared.row.Row.{Row}
 use Rattle.state_changes.specs.Rows.{named}
-use Rattle.state_store.specs.declared.secret.Secret.{Secret}
-
-abbrev pub is_of : List ℕ → List ℕ → Secret → Bool
-is_of name file s = bytes_eq s.name name && bytes_eq s.file file
-
--- what was taken last from the file of that path for the entry of that name
-unfoldable pub taken_from : List Secret → List ℕ → List ℕ → Option Secret
-taken_from secrets name file = find (is_of name file) secrets
+use Rattle.state_changes.specs.Secrets.{taken_from}
+use Rattle.state_changes.specs.declared.secret.Secret.{Secret}
 
 abbrev pub filled_with : Row → Option Secret → Row
 filled_with row None = row

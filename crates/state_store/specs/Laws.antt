@@ -11,7 +11,7 @@ use Rattle.state_changes.specs.Said.{said}
 use Rattle.state_changes.specs.Words.{fingerprint}
 use Rattle.vault_inventory.specs.Served.{Served}
 use Rattle.state_file.specs.Laws.{GivesRows}
-use Rattle.state_store.specs.declared.secret.Secret.{Secret}
+use Rattle.state_changes.specs.declared.secret.Secret.{Secret}
 use Rattle.state_store.specs.declared.store.Store.{Store}
 use Rattle.state_store.specs.Books.{Book, IsBookOf, file_of}
 use Rattle.state_store.specs.Entering.{IsReadAs, record_for}

@@ -1,10 +1,10 @@
-ghost use Rattle.std.specs.Prelude.{◌≡◌, IfOk, option_copied, option_map};
-ghost use Rattle.state_store.specs.Handed.{all_filled, all_ready, filled, filled_from, filled_with, handed, holds_if_parent, is_of, is_ready, taken_from};
+ghost use Rattle.std.specs.Prelude.{◌≡◌, IfOk, option_copied};
+ghost use Rattle.state_changes.specs.Secrets.{taken_from};
+ghost use Rattle.state_store.specs.Handed.{all_filled, all_ready, filled, filled_from, filled_with, handed, holds_if_parent, is_ready};
 
-use crate::secret::Secret;
 use base_moment::{Name, Text};
 use plan_forest::MAX_DEPTH;
-use state_changes::{Row, Rows};
+use state_changes::{Row, Rows, Secret, taken_from};
 use std::alloc::{AllocError, Global};
 
 /// The rows that are handed to a watch: with what their files have given, and without those whose file has given nothing yet and all
@@ -50,20 +50,6 @@ fn filled_with(row: &Row, secret: Option<&Secret>) -> Result<Row, AllocError>
     copy.credential = secret.credential.clone()?;
     copy.file = None;
     Ok(copy)
-}
-
-// What was taken last from the file of that path for the entry of that name.
-#[tactic(auto, unfolding(crate::specs::Handed::taken_from))]
-fn taken_from<'a>(secrets: &'a [Secret], name: &[u8], file: &[u8]) -> Option<&'a Secret>
-    ensures { option_map (λ s. s.now) result ≡ taken_from secrets.now name.now file.now }
-{
-    secrets.iter().find(|secret| is_of(name, file, secret))
-}
-
-fn is_of(name: &[u8], file: &[u8], secret: &Secret) -> bool
-    ensures { result ≡ is_of name.now file.now secret.now }
-{
-    secret.name.list() == name && secret.file.list() == file
 }
 
 // The rows whose credential is there, and that of each over them.

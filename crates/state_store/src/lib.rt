@@ -15,7 +15,6 @@ mod handing;
 mod laws;
 mod opening;
 mod records;
-mod secret;
 mod settling;
 mod store;
 
@@ -26,5 +25,4 @@ pub use handing::handed;
 pub use laws::{
     a_crash_while_settling_changes_nothing, a_restart_changes_nothing, changes_are_taken_as_given,
 };
-pub use secret::Secret;
 pub use store::{Opened, Store};

@@ -6,7 +6,7 @@ use Rattle.std.specs.List.{list_any}
 use Rattle.plan_forest.specs.Push.{is_lease}
 use Rattle.state_changes.specs.declared.row.Row.{Row}
 use Rattle.state_secrets.specs.Outcomes.{has_it, is_own_file}
-use Rattle.state_store.specs.declared.secret.Secret.{Secret}
+use Rattle.state_changes.specs.declared.secret.Secret.{Secret}
 
 -- another entry of the kind
 abbrev pub is_other : Row → Row → Bool

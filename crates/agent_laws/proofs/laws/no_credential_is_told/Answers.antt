@@ -5,7 +5,7 @@ use Rattle.state_notes.proofs.Secrecy.{why_shows_none}
 use Rattle.state_notes.specs.Laws.{IsSameBut}
 use Rattle.state_store.specs.declared.fault.TakeFault.{TakeFault}
 use Rattle.state_store.specs.declared.fault.TakeFault.TheVariants as takes
-use Rattle.agent_words.specs.Reasons.{take_words}
+use Rattle.agent_ledger.specs.Reasons.{take_words}
 use Rattle.agent_laws.proofs.Alike.{end_alike, keeps_alike, replaced_alike}
 use Rattle.agent_laws.proofs.laws.no_credential_is_told.Goals as goal
 

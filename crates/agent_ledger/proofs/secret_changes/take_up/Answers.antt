@@ -4,7 +4,7 @@ use Rattle.state_secrets.specs.Looking.{is_held, seen_of}
 use Rattle.state_secrets.specs.Outcomes.{news_about}
 use Rattle.state_secrets.specs.declared.looking.FileMark.{FileMark}
 use Rattle.state_keeping.specs.States.{book_in}
-use Rattle.state_store.specs.declared.secret.Secret.{Secret}
+use Rattle.state_changes.specs.declared.secret.Secret.{Secret}
 use Rattle.agent_ledger.proofs.TakenUp.{taken_up}
 use Rattle.agent_ledger.proofs.secret_changes.take_up.Goals as goal
 

@@ -1,7 +1,7 @@
 -- The file may be served, and is read with every change; or it is none with them.
 use Rattle.std.proofs.Common.{ℕ, List, subst, sym}
 use Rattle.agent_words.specs.Reading.{IsWellWritten}
-use Rattle.agent_words.specs.Rereading.{AreBytesOf}
+use Rattle.agent_ledger.specs.Rereading.{AreBytesOf}
 use Rattle.agent_ledger.proofs.WhyUnserved.{none_as, reread_as, touched}
 use Rattle.agent_ledger.proofs.ledger.Ledger.reread.Goals as goal
 

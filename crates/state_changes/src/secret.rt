@@ -1,4 +1,6 @@
-ghost use Rattle.std.specs.Prelude.{◌≡◌, IfOk};
+//! What was taken from files of credentials.
+ghost use Rattle.std.specs.Prelude.{◌≡◌, IfOk, option_map};
+ghost use Rattle.state_changes.specs.Secrets.{is_of, taken_from};
 
 use base_moment::{Name, Text};
 use std::alloc::{AllocError, Global};
@@ -39,7 +41,7 @@ impl Secret {
 }
 
 /// The same once more. The only error is lack of memory.
-pub(crate) fn copy_secrets(alloc: Global, secrets: &[Secret]) -> Result<Vec<Secret>, AllocError>
+pub fn copy_secrets(alloc: Global, secrets: &[Secret]) -> Result<Vec<Secret>, AllocError>
     ensures { IfOk result (λ copies. copies.items ≡ secrets.now) }
 {
     let mut copies = Vec::new(alloc);
@@ -47,4 +49,18 @@ pub(crate) fn copy_secrets(alloc: Global, secrets: &[Secret]) -> Result<Vec<Secr
         copies.push(secret.copy()?)?;
     }
     Ok(copies)
+}
+
+/// What was taken last from the file of that path for the entry of that name.
+#[tactic(auto, unfolding(crate::specs::Secrets::taken_from))]
+pub fn taken_from<'a>(secrets: &'a [Secret], name: &[u8], file: &[u8]) -> Option<&'a Secret>
+    ensures { option_map (λ s. s.now) result ≡ taken_from secrets.now name.now file.now }
+{
+    secrets.iter().find(|secret| is_of(name, file, secret))
+}
+
+fn is_of(name: &[u8], file: &[u8], secret: &Secret) -> bool
+    ensures { result ≡ is_of name.now file.now secret.now }
+{
+    secret.name.list() == name && secret.file.list() == file
 }

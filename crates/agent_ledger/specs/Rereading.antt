@@ -1,21 +1,20 @@
 -- Rereading: what is said of a file that is read again, or why it is not served.
 -- Source: docs/running.md, "What the operator sees".
-use Rattle.std.specs.Prelude.{◌≡◌, ◌⊎◌, ℕ, Bool, IsTrue, List, [], ◌∷◌, ◌++◌, Option, Some, None, codes}
+use Rattle.std.specs.Prelude.{◌≡◌, ◌⊎◌, ℕ, ◌-◌, ◌==◌, if◌then◌else◌, Bool, IsTrue, List, [], ◌∷◌, ◌++◌, Option, Some, None, codes, length, take}
 use Rattle.state_changes.specs.declared.change.Record.{Record}
 use Rattle.state_changes.specs.declared.replaying.Note.{Note}
 use Rattle.base_disk.specs.State.{DiskState}
 use Rattle.base_disk.specs.declared.fault.DiskFault.{DiskFault}
+use Rattle.state_file.specs.declared.fault.ReadFault.{ReadFault}
+use Rattle.state_keeping.specs.Noted.{note_lines}
 use Rattle.state_keeping.specs.Reading.{IsWhyUnread}
 use Rattle.state_keeping.specs.States.{Kept}
-use Rattle.state_keeping.specs.declared.fault.ReadFault.{ReadFault}
 use Rattle.state_store.specs.Books.{IsFileFaultOf}
 use Rattle.state_store.specs.declared.fault.FileFault.{FileFault}
-use Rattle.agent_words.specs.Outcomes.{Whys}
-use Rattle.agent_words.specs.Noting.{AreWhysNotServed, said_notes}
-use Rattle.agent_words.specs.Reading.{AreWrittenFaults, IsWellWritten}
-use Rattle.agent_words.specs.Reasons.{book_words, disk_words, unread_words}
+use Rattle.agent_words.specs.Noting.{SaysFaults}
+use Rattle.agent_words.specs.Reasons.{disk_words, unread_words}
 use Rattle.agent_words.specs.declared.demands.Demands.{Demands}
-use Rattle.agent_words.specs.declared.fault.StartFault.{StartFault}
+use Rattle.agent_ledger.specs.Reasons.{book_words, left_words}
 
 -- the file has these bytes
 abbrev pub AreBytesOf : {D : Type 0} → Bool → (D → DiskState) → Kept D → List ℕ → Type 0
@@ -26,15 +25,6 @@ AreBytesOf known seen kept bytes = (mode : ℕ) × (IsTrue known → (seen kept.
 -- it is not read
 abbrev pub SaysUnread : {D : Type 0} → Bool → (D → DiskState) → Kept D → List ℕ → Type 0
 SaysUnread known seen kept why = (fault : ReadFault) × ((IsTrue known → IsWhyUnread kept.places.file (seen kept.disk) fault) × (why ≡ unread_words fault))
-
--- it may not be served, for each of these reasons
-abbrev pub SaysFaults : Demands → List ℕ → List (List ℕ) → Type 0
-SaysFaults demands bytes whys = (fault : StartFault) × ((more : List StartFault) × (AreWrittenFaults demands bytes (fault ∷ more) × AreWhysNotServed demands bytes (fault ∷ more) whys))
-
--- it may be served, or these are the reasons why not
-abbrev pub SaysIfFaulty : Demands → List ℕ → Option Whys → Type 0
-SaysIfFaulty demands bytes None = IsWellWritten demands bytes
-SaysIfFaulty demands bytes (Some whys) = SaysFaults demands bytes whys.items
 
 -- it is none with the changes of the journal
 abbrev pub SaysNoBook : List ℕ → List ℕ → Type 0
@@ -60,6 +50,14 @@ IsWhyNotReread known seen demands kept whys =
     IsOneWhy (SaysUnread known seen kept) whys ⊎ ((bytes : List ℕ) × (AreBytesOf known seen kept bytes × SaysBad demands bytes whys))
 
 -- ---- what is said where it is served
+
+-- so many changes are not said one by one
+abbrev pub left_lines : ℕ → List (List ℕ)
+left_lines left = if left == 0 then [] else left_words left ∷ []
+
+-- a hundred changes at most are said, and then how many more there are
+unfoldable pub said_notes : ℕ → List Record → List Note → List (List ℕ)
+said_notes margin records notes = note_lines margin records (take 100 notes) ++ left_lines (length notes - 100)
 
 -- which changes do not hold any more; or nothing, where memory was wanting for that
 abbrev pub SaysNotes : ℕ → List Record → List Note → List (List ℕ) → Type 0
