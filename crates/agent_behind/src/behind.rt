@@ -154,7 +154,7 @@ fn requests_in<'a>(happened: &Happened<'a>) -> Option<&'a [Request]>
     match happened {
         Happened::Clocked { requests, .. } => Some(*requests),
         Happened::Shorts(_) => None,
-        Happened::Answered { .. } => None,
+        Happened::Answered(_) => None,
         Happened::Ahead { .. } => None,
         Happened::StepsIn { .. } => None,
         Happened::Refused => None,

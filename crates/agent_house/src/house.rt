@@ -89,15 +89,9 @@ impl<S: LogSink, T: Talk, D: Door<T>, K: Keeping, E: Disk> Neighbours for House<
                 self.hear_next(alloc, agent, *next);
             }
             Happened::Shorts(shorts) => self.desk.hear_shorts(alloc, agent, shorts),
-            Happened::Answered {
-                entry,
-                operation,
-                said,
-                notes,
-            } => {
-                self.hear_end(said.reply);
-                self.desk
-                    .hear_answer(alloc, agent, *entry, *operation, *said, notes);
+            Happened::Answered(handed) => {
+                self.hear_end(handed.said.reply);
+                self.desk.hear_answer(alloc, agent, handed);
             }
             Happened::Ahead { entry, end } => self.hear_ahead(alloc, agent, *entry, *end),
             Happened::StepsIn { lead, requests } => self.hear_steps(alloc, agent, *lead, requests),

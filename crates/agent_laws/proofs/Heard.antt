@@ -40,10 +40,10 @@ use Rattle.watch_machine.specs.State.{WatchState}
 use Rattle.watch_machine.specs.declared.outlook.Next.{Next}
 use Rattle.agent_log.specs.Lines.{AreSaid, IsSaid, Line}
 use Rattle.agent_log.specs.LinesBehind.{ahead_line, steps_in_count, steps_in_lines, with_steps}
-use Rattle.agent_log.specs.LinesOfClocks.{memory_line}
+use Rattle.agent_log.specs.LinesOfClocks.{memory_line, trouble_at}
 use Rattle.agent_log.specs.LinesOfNexts.{next_lines}
 use Rattle.agent_log.specs.LogDesk.{Desk, HearsWant, SaysLines}
-use Rattle.agent_log.specs.Marks.{mark_at}
+use Rattle.agent_log.specs.Marks.{mark_at, with_trouble}
 use Rattle.agent_log.specs.Sockets.{need_log_line}
 use Rattle.agent_log.specs.Wants.{HearsTimeBy, HearsUnmade, HearsWantingBy, SaysWant}
 use Rattle.agent_log.specs.declared.mark.Mark.{Mark}
@@ -127,7 +127,11 @@ module _ (a b : Agent) (alike : AgentsAreAlike a b) where
     }
     heard (Needs (Some shorts)) old new x = (says _ _ _ _ old.desk new.desk (shorts_alike a b alike shorts) refl x.0, x.1)
     heard (Needs None) old new x = (lacks old.desk.want old.desk new.desk x.0, x.1)
-    heard (Answer entry operation said notes) old new x = (says _ _ _ _ old.desk new.desk (answered_alike old.desk.place a b alike entry operation said notes (mark_at old.desk.marks entry).trouble) refl x.0, x.1)
+    heard (Answer entry operation said notes) old new x = (
+      says _ _ _ _ old.desk new.desk (answered_alike old.desk.place a b alike entry operation said notes (mark_at old.desk.marks entry).trouble)
+      (same (λ m f xs. with_trouble entry (trouble_at (bare m f xs) entry) old.desk.marks) a b alike) x.0,
+      x.1,
+    )
     heard (End entry end) old new x = (says _ _ _ _ old.desk new.desk (same (λ m f xs. ahead_line (bare m f xs) entry end ∷ []) a b alike) refl x.0, x.1)
     heard (Step lead requests) old new x = (
       says _ _ _ _ old.desk new.desk (same (λ m f xs. steps_in_lines (bare m f xs) lead old.desk.marks requests) a b alike) (ap (λ (m : WatchState). with_steps m lead requests old.desk.marks) alike.machine) x.0,

@@ -2,38 +2,30 @@
 -- Source: docs/running.md, "What the operator sees" and "Changes while it runs".
 use Rattle.std.specs.Prelude.{ℕ, List, [], ◌∷◌, ◌++◌, Option, Some, None, codes, map}
 use Rattle.base_log.specs.declared.level.Level.TheVariants.{Info, Note, Warning, Alert}
-use Rattle.base_log.specs.declared.line.Word.TheVariants as words
-use Rattle.agent_log.specs.Lines.{Line, said_line}
+use Rattle.agent_log.specs.Lines.{Line, said_line, text_line}
 use Rattle.agent_words.specs.declared.reread.Reread.{Reread}
 
 -- an entry has another credential, is added, or is dropped
 abbrev pub entry_log_line : List ℕ → List ℕ → Line
-entry_log_line event name = said_line Info event (words.Text name ∷ [])
+entry_log_line event name = text_line Info event name
 
 -- the file holds every change
 abbrev pub settled_line : Line
 settled_line = said_line Info (codes "settle") []
 
--- a change of the journal does not hold any more
-abbrev pub note_log_line : List ℕ → Line
-note_log_line why = said_line Note (codes "journal") (words.Text why ∷ [])
-
 -- the last good copy of the file could not be kept
 abbrev pub copy_lines : Option (List ℕ) → List Line
 copy_lines None = []
-copy_lines (Some said) = said_line Warning (codes "copy") (words.Text said ∷ []) ∷ []
+copy_lines (Some said) = text_line Warning (codes "copy") said ∷ []
 
--- the file was read anew, or is not served for this reason
+-- the file was read anew
 abbrev pub reread_line : Line
-reread_line = said_line Info (codes "file") (words.Text (codes "was read anew") ∷ [])
+reread_line = text_line Info (codes "file") (codes "was read anew")
 
-abbrev pub file_line : List ℕ → Line
-file_line why = said_line Alert (codes "file") (words.Text why ∷ [])
-
--- all that is said of a file that was read anew
+-- all that is said then: of the copy, and of each change of the journal that does not hold any more
 unfoldable pub reread_lines : Reread → List Line
-reread_lines reread = copy_lines reread.unkept ++ (reread_line ∷ map note_log_line reread.notes.items)
+reread_lines reread = copy_lines reread.unkept ++ (reread_line ∷ map (text_line Note (codes "journal")) reread.notes.items)
 
--- and of one that is not served, for each of these reasons
+-- the file is not served for each of these reasons
 abbrev pub fault_lines : List (List ℕ) → List Line
-fault_lines whys = map file_line whys
+fault_lines whys = map (text_line Alert (codes "file")) whys

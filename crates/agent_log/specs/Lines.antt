@@ -1,6 +1,6 @@
 -- Lines: what is said of an agent, and what becomes of it in the room of its log, and in the room of each of those who follow it.
 -- Source: docs/running.md, "What the operator sees".
-use Rattle.std.specs.Prelude.{◌≡◌, ◌⊎◌, ◌<◌, ℕ, Bool, true, false, List, [], ◌∷◌, ◌++◌, codes, Option, Some, None}
+use Rattle.std.specs.Prelude.{◌≡◌, ◌⊎◌, ◌<◌, ℕ, Bool, true, false, if◌then◌else◌, List, [], ◌∷◌, ◌++◌, codes, Option, Some, None}
 use Rattle.vault_lanes.specs.declared.loss.Loss.{Loss}
 use Rattle.vault_lanes.specs.declared.loss.Loss.TheVariants as losses
 use Rattle.vault_lanes.specs.declared.reason.ConnectReason.{ConnectReason}
@@ -27,6 +27,14 @@ pub record Line : Type 0 where
 
 abbrev pub said_line : Level → List ℕ → List Word → Line
 said_line level event ws = record { level = level; event = event; words = ws }
+
+-- of one text, a name for example
+abbrev pub text_line : Level → List ℕ → List ℕ → Line
+text_line level event text = said_line level event (words.Text text ∷ [])
+
+-- a line where something is so
+abbrev pub line_if : Bool → Line → List Line
+line_if is l = if is then l ∷ [] else []
 
 -- why there is no connection
 abbrev pub reason_text : ConnectReason → List ℕ

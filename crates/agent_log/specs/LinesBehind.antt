@@ -1,6 +1,6 @@
 -- LinesBehind: what an agent says that stands behind another: which ends it looked up, and for whom it steps in.
 -- Source: docs/running.md, "What the operator sees".
-use Rattle.std.specs.Prelude.{ℕ, ◌-◌, Bool, true, not, ◌&&◌, if◌then◌else◌, List, [], ◌∷◌, codes, filter, flat_map, length, nat_le, nat_lt, slice_set}
+use Rattle.std.specs.Prelude.{ℕ, ◌-◌, Bool, true, not, ◌&&◌, if◌then◌else◌, List, [], ◌∷◌, codes, filter, flat_map, length, nat_le, nat_lt}
 use Rattle.agent_standing.specs.Agent.{Agent}
 use Rattle.program_lines.specs.Text.{name_of}
 use Rattle.base_log.specs.declared.level.Level.TheVariants.{Info, Warning}
@@ -11,8 +11,8 @@ use Rattle.watch_machine.specs.Refusal.{is_same}
 use Rattle.watch_machine.specs.State.{WatchState, second}
 use Rattle.watch_machine.specs.declared.command.Request.{Request}
 use Rattle.watch_machine.specs.declared.event.Operation.TheVariants.{Renew}
-use Rattle.agent_log.specs.Lines.{Line, said_line}
-use Rattle.agent_log.specs.Marks.{mark_at}
+use Rattle.agent_log.specs.Lines.{Line, line_if, said_line, text_line}
+use Rattle.agent_log.specs.Marks.{mark_at, with_mark}
 use Rattle.agent_log.specs.declared.mark.Mark.{Mark}
 
 -- ---- an end that was looked up
@@ -33,7 +33,7 @@ abbrev pub is_first_step : WatchState → ℕ → List Mark → Request → Bool
 is_first_step w lead marks r = is_step w lead r && not (mark_at marks r.entry).steps_in
 
 abbrev pub steps_in_line : Agent → ℕ → List Mark → Request → List Line
-steps_in_line a lead marks r = if is_first_step a.machine lead marks r then said_line Warning (codes "steps-in") (words.Text (name_of a.inventory.forest r.entry) ∷ []) ∷ [] else []
+steps_in_line a lead marks r = line_if (is_first_step a.machine lead marks r) (text_line Warning (codes "steps-in") (name_of a.inventory.forest r.entry))
 
 abbrev pub steps_in_lines : Agent → ℕ → List Mark → List Request → List Line
 steps_in_lines a lead marks requests = flat_map (steps_in_line a lead marks) requests
@@ -44,7 +44,7 @@ steps_in_count w lead marks requests = length (filter (is_first_step w lead mark
 
 -- whether it was said of an entry, where there is a mark of it
 abbrev pub with_step : ℕ → Bool → List Mark → List Mark
-with_step i is marks = if nat_lt i (length marks) then slice_set marks i (record (mark_at marks i) { steps_in = is }) else marks
+with_step i is marks = with_mark i (record (mark_at marks i) { steps_in = is }) marks
 
 abbrev pub with_step_by : WatchState → ℕ → Request → List Mark → List Mark
 with_step_by w lead r marks = if is_step w lead r then with_step r.entry true marks else marks

@@ -23,7 +23,7 @@ use Rattle.watch_machine.specs.declared.event.Operation.TheVariants.{Look, Renew
 use Rattle.watch_machine.specs.declared.notes.Notes.{Notes}
 use Rattle.watch_machine.specs.declared.notes.Why.{Why}
 use Rattle.watch_machine.specs.declared.notes.Why.TheVariants.{Start, Asked, Jump, Day}
-use Rattle.agent_log.specs.Lines.{Line, said_line}
+use Rattle.agent_log.specs.Lines.{Line, line_if, said_line, text_line}
 use Rattle.agent_words.specs.Moments.{moment_word}
 use Rattle.agent_log.specs.Marks.{mark_at}
 use Rattle.agent_log.specs.declared.mark.Mark.{Mark}
@@ -38,7 +38,7 @@ why_text Day = codes "day"
 
 abbrev pub begin_lines : Option Why → List Line
 begin_lines None = []
-begin_lines (Some why) = said_line Info (codes "begin") (words.Text (why_text why) ∷ []) ∷ []
+begin_lines (Some why) = text_line Info (codes "begin") (why_text why) ∷ []
 
 abbrev pub name_words : Forest → List ℕ → List Word
 name_words g asked = flat_map (λ i. words.Text (name_of g i) ∷ []) asked
@@ -59,7 +59,7 @@ abbrev pub is_operation_asked : Operation → List Request → Bool
 is_operation_asked operation requests = list_any (λ r. is_same r.operation operation) requests
 
 abbrev pub asked_log_lines : Forest → List ℕ → Operation → List Request → List Line
-asked_log_lines g event operation requests = if is_operation_asked operation requests then said_line Info event (asked_words g operation requests) ∷ [] else []
+asked_log_lines g event operation requests = line_if (is_operation_asked operation requests) (said_line Info event (asked_words g operation requests))
 
 -- ---- ends that are past
 
@@ -83,7 +83,8 @@ end_in (Some end) = end
 
 -- that is said once, as long as it lasts
 abbrev pub ended_line : Agent → ℕ → Mark → List Line
-ended_line a i mark = if has_entry_ended a i && not mark.is_ended then said_line Alert (codes "ended") (words.Text (name_of a.inventory.forest i) ∷ moment_word (end_in (status_of_entry a i).end) ∷ []) ∷ [] else []
+ended_line a i mark =
+    line_if (has_entry_ended a i && not mark.is_ended) (said_line Alert (codes "ended") (words.Text (name_of a.inventory.forest i) ∷ moment_word (end_in (status_of_entry a i).end) ∷ []))
 
 abbrev pub ended_lines : Agent → ℕ → List Mark → List Line
 ended_lines a i [] = []
@@ -126,4 +127,4 @@ short_log_lines a shorts = map (short_log_line a.inventory.forest) shorts
 -- ---- memory that was refused
 
 abbrev pub memory_line : Line
-memory_line = said_line Warning (codes "memory") (words.Text (codes "refused") ∷ [])
+memory_line = text_line Warning (codes "memory") (codes "refused")

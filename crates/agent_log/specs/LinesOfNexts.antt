@@ -6,11 +6,11 @@ use Rattle.program_lines.specs.Text.{name_of}
 use Rattle.base_log.specs.declared.level.Level.TheVariants.{Info}
 use Rattle.base_log.specs.declared.line.Word.TheVariants as words
 use Rattle.watch_machine.specs.declared.outlook.Next.{Next}
-use Rattle.agent_log.specs.Lines.{Line, said_line}
+use Rattle.agent_log.specs.Lines.{Line, said_line, text_line}
 use Rattle.agent_words.specs.Moments.{moment_word}
 
 abbrev pub next_log_line : Agent → Option Next → Line
-next_log_line a None = said_line Info (codes "next") (words.Text (codes "none") ∷ [])
+next_log_line a None = text_line Info (codes "next") (codes "none")
 next_log_line a (Some next) = said_line Info (codes "next") (moment_word next.at ∷ words.Text (name_of a.inventory.forest next.entry) ∷ [])
 
 abbrev pub is_same_next : Next → Next → Bool

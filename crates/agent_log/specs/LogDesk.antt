@@ -11,14 +11,13 @@ use Rattle.base_device.specs.declared.tried.Tried.{Tried}
 use Rattle.base_log.specs.Turns.{TurnIsMade}
 use Rattle.base_log.specs.Waiting.{Waiting, after_turn, closed_if, giving, with_notice}
 use Rattle.base_log.specs.declared.level.Level.{Level}
-use Rattle.base_log.specs.declared.line.Word.TheVariants as words
 use Rattle.watch_machine.specs.declared.command.Request.{Request}
 use Rattle.watch_machine.specs.declared.event.Operation.{Operation}
 use Rattle.watch_machine.specs.declared.notes.Notes.{Notes}
 use Rattle.agent_log.specs.LinesBehind.{ahead_line, steps_in_lines, with_step, with_steps}
-use Rattle.agent_log.specs.LinesOfAnswers.{answered_lines, trouble_after}
-use Rattle.agent_log.specs.LinesOfClocks.{clocked_lines, marks_clocked, memory_line, short_log_lines}
-use Rattle.agent_log.specs.Lines.{AreSaid, Line, LineIsSaid, TellsDropped, said_line}
+use Rattle.agent_log.specs.LinesOfAnswers.{answered_lines}
+use Rattle.agent_log.specs.LinesOfClocks.{clocked_lines, marks_clocked, memory_line, short_log_lines, trouble_at}
+use Rattle.agent_log.specs.Lines.{AreSaid, Line, LineIsSaid, TellsDropped, text_line}
 use Rattle.agent_words.specs.Moments.{now_of, second_of}
 use Rattle.agent_log.specs.Marks.{fresh_mark, mark_at, with_trouble}
 use Rattle.agent_log.specs.Rooms.{Rooms, begun_rooms}
@@ -52,9 +51,9 @@ HearsClock a notes requests old new = SaysLines a (clocked_lines a notes request
 abbrev pub HearsShorts : Agent → List Short → Desk → Desk → Type 0
 HearsShorts a shorts old new = SaysLines a (short_log_lines a shorts) old.marks old new
 
+-- an answer is said by what was wrong with its entry when the last one was; what is wrong with it now is the agent's word
 abbrev pub HearsAnswer : Agent → ℕ → Operation → Said → Notes → Desk → Desk → Type 0
-HearsAnswer a i operation said notes old new =
-    SaysLines a (answered_lines old.place a i operation said notes (mark_at old.marks i).trouble) (with_trouble i (trouble_after (mark_at old.marks i).trouble operation said.reply) old.marks) old new
+HearsAnswer a i operation said notes old new = SaysLines a (answered_lines old.place a i operation said notes (mark_at old.marks i).trouble) (with_trouble i (trouble_at a i) old.marks) old new
 
 -- an end that was looked up; after it an entry may be stepped in for anew
 abbrev pub HearsAhead : Agent → ℕ → ℕ → Desk → Desk → Type 0
@@ -85,7 +84,7 @@ pub record HearsNoSocket (now : Reading) (socket why cost : List ℕ) (old new :
 
 -- something is said of the state folder or the file, in one text
 pub record HearsAtStart (now : Reading) (level : Level) (event text : List ℕ) (old new : Desk) : Type 0 where
-  pub said : LineIsSaid old.form (second_of now.wall) (said_line level event (words.Text text ∷ [])) old.room new.room
+  pub said : LineIsSaid old.form (second_of now.wall) (text_line level event text) old.room new.room
   pub rest : new ≡ record old { room = new.room }
 
 -- ---- what is given to the log's reader

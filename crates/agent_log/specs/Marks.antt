@@ -12,6 +12,9 @@ fresh_mark = record { trouble = None; is_ended = false; steps_in = false }
 abbrev pub mark_at : List Mark → ℕ → Mark
 mark_at marks i = slice_index_or marks i fresh_mark
 
--- another trouble of an entry, where there is a mark of it
+-- another mark of an entry, where there is one
+abbrev pub with_mark : ℕ → Mark → List Mark → List Mark
+with_mark i mark marks = if nat_lt i (length marks) then slice_set marks i mark else marks
+
 abbrev pub with_trouble : ℕ → Option Trouble → List Mark → List Mark
-with_trouble i trouble marks = if nat_lt i (length marks) then slice_set marks i (record (mark_at marks i) { trouble = trouble }) else marks
+with_trouble i trouble marks = with_mark i (record (mark_at marks i) { trouble = trouble }) marks

@@ -4,17 +4,17 @@ ghost use Rattle.agent_log.specs.Changed.{entry_log_line, fault_lines, reread_li
 ghost use Rattle.agent_log.specs.LinesBehind.{steps_in_count};
 ghost use Rattle.agent_log.specs.LinesOfClocks.{marks_anew};
 ghost use Rattle.agent_log.specs.LogDesk.{HearsAhead, HearsAnswer, HearsAtStart, HearsClock, HearsNoSocket, HearsRefusal, HearsShorts, HearsSteps, HearsWant, SaysLine, SaysLines, begun_desk};
-ghost use Rattle.agent_words.specs.Moments.{now_of};
+ghost use Rattle.agent_words.specs.Moments.{now_of, second_of};
 ghost use Rattle.agent_log.specs.Sockets.{need_log_line};
 
-use crate::log_answers::{say_answered, trouble_after};
+use crate::log_answers::say_answered;
 use crate::log_behind::{count_steps, mark_steps, say_ahead, say_steps, set_step};
-use crate::log_changes::{say_entry, say_faults, say_reread, say_settled};
+use crate::log_changes::{say_each, say_reread};
 use crate::log_clock::{say_clocked, say_memory, say_shorts};
-use crate::log_ended::{mark_anew, mark_ended};
-use crate::log_line::{Stamp, say_text};
+use crate::log_ended::{mark_anew, mark_ended, trouble_at};
+use crate::log_line::Pen;
 use crate::log_sockets::{say_need, say_no_socket};
-use crate::mark::{Mark, Want, fresh_marks, mark_at, set_trouble};
+use crate::mark::{Mark, Want, fresh_marks, mark_at, set_mark};
 use crate::rooms::Rooms;
 use agent_standing::{Agent, Short};
 use agent_words::{Reread, now_of, second_of};
@@ -23,8 +23,8 @@ use base_log::{Form, Level, LogRoom};
 use base_moment::Text;
 use std::alloc::{AllocError, Global};
 use std::marker::Model;
-use vault_asking::Said;
-use watch_machine::{Millis, Notes, Operation, Request};
+use vault_asking::HandedIn;
+use watch_machine::{Millis, Notes, Request};
 
 /// How lines are written, those that wait, and what was said last of each entry, and of a lack of memory. Lack of memory costs the
 /// line for which it is wanting: that is dropped and counted.
@@ -73,16 +73,8 @@ impl Desk {
     pub fn hear_clock(&mut self, alloc: Global, agent: &Agent, notes: &Notes, requests: &[Request])
         ensures { HearsClock agent.now notes.now requests.now self.old self.new }
     {
-        let stamp = self.stamp(agent);
-        say_clocked(
-            alloc,
-            &stamp,
-            agent,
-            notes,
-            requests,
-            &self.marks,
-            &mut self.room,
-        );
+        let pen = self.pen(alloc, agent);
+        say_clocked(pen, agent, notes, requests, &self.marks, &mut self.room);
         mark_ended(agent, &mut self.marks);
     }
 
@@ -90,38 +82,19 @@ impl Desk {
     pub fn hear_shorts(&mut self, alloc: Global, agent: &Agent, shorts: &[Short])
         ensures { HearsShorts agent.now shorts.now self.old self.new }
     {
-        let stamp = self.stamp(agent);
-        say_shorts(alloc, &stamp, agent, shorts, &mut self.room);
+        let pen = self.pen(alloc, agent);
+        say_shorts(pen, agent, shorts, &mut self.room);
     }
 
     /// Says what came of a request of the entry at an index, and what is noted of that.
-    pub fn hear_answer(
-        &mut self,
-        alloc: Global,
-        agent: &Agent,
-        entry: u32,
-        operation: Operation,
-        said: Said,
-        notes: &Notes,
-    )
-        ensures { HearsAnswer agent.now entry operation said notes.now self.old self.new }
+    pub fn hear_answer(&mut self, alloc: Global, agent: &Agent, handed: &HandedIn<'_>)
+        ensures { HearsAnswer agent.now handed.now.entry handed.now.operation handed.now.said handed.now.notes.now self.old self.new }
     {
-        let stamp = self.stamp(agent);
-        let before = mark_at(&self.marks, entry).trouble;
-        say_answered(
-            alloc,
-            &stamp,
-            &self.place,
-            agent,
-            entry,
-            operation,
-            said,
-            notes,
-            before,
-            &mut self.room,
-        );
-        let trouble = trouble_after(before, operation, said.reply);
-        set_trouble(&mut self.marks, entry, trouble);
+        let pen = self.pen(alloc, agent);
+        let mark = mark_at(&self.marks, handed.entry);
+        say_answered(pen, &self.place, agent, handed, mark.trouble, &mut self.room);
+        let trouble = trouble_at(agent, handed.entry as usize);
+        set_mark(&mut self.marks, handed.entry, Mark { trouble, ..mark });
     }
 
     /// Says that an end of an entry was looked up and handed in, for an agent that stands behind another.
@@ -129,8 +102,8 @@ impl Desk {
     pub fn hear_ahead(&mut self, alloc: Global, agent: &Agent, entry: u32, end: u64)
         ensures { HearsAhead agent.now entry end self.old self.new }
     {
-        let stamp = self.stamp(agent);
-        say_ahead(alloc, &stamp, agent, entry, end, &mut self.room);
+        let pen = self.pen(alloc, agent);
+        say_ahead(pen, agent, entry, end, &mut self.room);
         set_step(&mut self.marks, entry, false);
     }
 
@@ -145,16 +118,8 @@ impl Desk {
     pub fn hear_steps(&mut self, alloc: Global, agent: &Agent, lead: Millis, requests: &[Request])
         ensures { HearsSteps agent.now lead requests.now self.old self.new }
     {
-        let stamp = self.stamp(agent);
-        say_steps(
-            alloc,
-            &stamp,
-            agent,
-            lead,
-            requests,
-            &self.marks,
-            &mut self.room,
-        );
+        let pen = self.pen(alloc, agent);
+        say_steps(pen, agent, lead, requests, &self.marks, &mut self.room);
         mark_steps(agent.watch(), lead, requests, &mut self.marks);
     }
 
@@ -162,8 +127,8 @@ impl Desk {
     pub fn hear_refusal(&mut self, alloc: Global, agent: &Agent)
         ensures { HearsRefusal agent.now self.old self.new }
     {
-        let stamp = self.stamp(agent);
-        say_memory(alloc, &stamp, &mut self.room);
+        let pen = self.pen(alloc, agent);
+        say_memory(pen, &mut self.room);
     }
 
     /// Says that memory was refused, where it did not suffice.
@@ -180,8 +145,8 @@ impl Desk {
     pub fn hear_need(&mut self, alloc: Global, agent: &Agent, name: &[u8], until: u64)
         ensures { SaysLine agent.now (need_log_line name.now until) self.old self.new }
     {
-        let stamp = self.stamp(agent);
-        say_need(alloc, &stamp, name, until, &mut self.room);
+        let pen = self.pen(alloc, agent);
+        say_need(pen, name, until, &mut self.room);
     }
 
     /// Says that an entry has another credential, is added, or is dropped, as the event has it.
@@ -189,8 +154,8 @@ impl Desk {
     pub fn hear_entry(&mut self, alloc: Global, agent: &Agent, event: &'static str, name: &[u8])
         ensures { SaysLine agent.now (entry_log_line event.now name.now) self.old self.new }
     {
-        let stamp = self.stamp(agent);
-        say_entry(alloc, &stamp, event, name, &mut self.room);
+        let pen = self.pen(alloc, agent);
+        pen.say_text(Level::Info, event, name, &mut self.room);
     }
 
     /// Says that the file holds every change.
@@ -198,24 +163,24 @@ impl Desk {
     pub fn hear_settled(&mut self, alloc: Global, agent: &Agent)
         ensures { SaysLine agent.now settled_line self.old self.new }
     {
-        let stamp = self.stamp(agent);
-        say_settled(alloc, &stamp, &mut self.room);
+        let pen = self.pen(alloc, agent);
+        pen.say(Level::Info, "settle", Vec::new(alloc), &mut self.room);
     }
 
     /// Says that the file was read anew, and which changes do not hold any more.
     pub fn hear_reread(&mut self, alloc: Global, agent: &Agent, reread: &Reread)
         ensures { SaysLines agent.now (reread_lines reread.now) self.old.marks self.old self.new }
     {
-        let stamp = self.stamp(agent);
-        say_reread(alloc, &stamp, reread, &mut self.room);
+        let pen = self.pen(alloc, agent);
+        say_reread(pen, reread, &mut self.room);
     }
 
     /// Says why the file is not served, a line for each reason.
     pub fn hear_faults(&mut self, alloc: Global, agent: &Agent, whys: &[Text])
         ensures { SaysLines agent.now (fault_lines whys.now) self.old.marks self.old self.new }
     {
-        let stamp = self.stamp(agent);
-        say_faults(alloc, &stamp, whys, &mut self.room);
+        let pen = self.pen(alloc, agent);
+        say_each(pen, Level::Alert, "file", whys, &mut self.room);
     }
 
     /// The agent serves another inventory from now on: these marks are made those of its entries.
@@ -237,11 +202,8 @@ impl Desk {
     )
         ensures { HearsAtStart now level event.now text.now self.old self.new }
     {
-        let stamp = Stamp {
-            form: self.form,
-            moment: second_of(now.wall),
-        };
-        say_text(alloc, &stamp, level, event, text, &mut self.room);
+        let pen = self.pen_at(alloc, now);
+        pen.say_text(level, event, text, &mut self.room);
     }
 
     /// Says that a socket cannot be had, why, and what that costs, at a moment at which the agent may have heard no clock yet.
@@ -255,21 +217,31 @@ impl Desk {
     )
         ensures { HearsNoSocket now socket.now why.now cost.now self.old self.new }
     {
-        let stamp = Stamp {
-            form: self.form,
-            moment: second_of(now.wall),
-        };
-        say_no_socket(alloc, &stamp, socket, why, cost, &mut self.room);
+        let pen = self.pen_at(alloc, now);
+        say_no_socket(pen, socket, why, cost, &mut self.room);
     }
 
-    // How lines are written now.
-    pub(crate) fn stamp(&self, agent: &Agent) -> Stamp
+    // With what lines are written of the agent as it is.
+    pub(crate) fn pen(&self, alloc: Global, agent: &Agent) -> Pen
         ensures form { result.form ≡ self.now.form }
         ensures moment { result.moment ≡ now_of agent.now.machine }
     {
-        Stamp {
+        Pen {
+            alloc,
             form: self.form,
             moment: now_of(agent.watch()),
+        }
+    }
+
+    // With what they are written where the agent may have heard no clock yet.
+    pub(crate) fn pen_at(&self, alloc: Global, now: Reading) -> Pen
+        ensures form { result.form ≡ self.now.form }
+        ensures moment { result.moment ≡ second_of now.wall }
+    {
+        Pen {
+            alloc,
+            form: self.form,
+            moment: second_of(now.wall),
         }
     }
 }

@@ -4,10 +4,9 @@ ghost use Rattle.agent_log.specs.Feeding.{AreFed, BecomesFed, EachIsFed, Followe
 ghost use Rattle.agent_words.specs.Moments.{second_of};
 
 use crate::desk::Desk;
-use crate::log_line::Stamp;
+use crate::log_line::Pen;
 use crate::log_reader::tell_if;
 use agent_answers::RequestLines;
-use agent_words::second_of;
 use base_clients::{Clients, Fed, Talk};
 use base_clock::Reading;
 use base_log::Follower;
@@ -24,11 +23,7 @@ impl Desk {
         ensures fed { AreFed self.old.form (second_of now.wall) self.old.room self.new.room clients.old clients.new }
         ensures rest { self.new ≡ record self.old { room = self.new.room } }
     {
-        let stamp = Stamp {
-            form: self.form,
-            moment: second_of(now.wall),
-        };
-        feed_each(alloc, &stamp, &mut self.room.followers, clients);
+        feed_each(self.pen_at(alloc, now), &mut self.room.followers, clients);
         drop_gone(&mut self.room.followers);
     }
 }
@@ -41,51 +36,49 @@ fn drop_gone(followers: &mut Vec<Follower>)
 }
 
 fn feed_each<T: Talk>(
-    alloc: Global,
-    stamp: &Stamp,
+    pen: Pen,
     followers: &mut [Follower],
     clients: &mut Clients<T, RequestLines>,
 )
     ensures many { length followers.new ≡ length followers.old }
-    ensures fed { EachIsFed stamp.now.form stamp.now.moment followers.old followers.new clients.old clients.new }
+    ensures fed { EachIsFed pen.form pen.moment followers.old followers.new clients.old clients.new }
 {
     for follower in followers.iter_mut() {
-        feed_one(alloc, stamp, follower, clients);
+        feed_one(pen, follower, clients);
     }
 }
 
 #[tactic(auto, using(crate::proofs::Within::fed_within))]
 fn feed_one<T: Talk>(
-    alloc: Global,
-    stamp: &Stamp,
+    pen: Pen,
     follower: &mut Follower,
     clients: &mut Clients<T, RequestLines>,
 )
-    ensures { FollowerIsFed stamp.now.form stamp.now.moment follower.old follower.new clients.old clients.new }
+    ensures { FollowerIsFed pen.form pen.moment follower.old follower.new clients.old clients.new }
 {
     let fed = clients.feed(follower.id, follower.room.waiting());
-    become_fed(alloc, stamp, fed, follower);
+    become_fed(pen, fed, follower);
 }
 
 // What one becomes by what came of it.
-fn become_fed(alloc: Global, stamp: &Stamp, fed: Result<Fed, AllocError>, follower: &mut Follower)
+fn become_fed(pen: Pen, fed: Result<Fed, AllocError>, follower: &mut Follower)
     requires { IsFedAtMost (length follower.old.room.bytes) fed }
-    ensures { BecomesFed stamp.now.form stamp.now.moment fed follower.old follower.new }
+    ensures { BecomesFed pen.form pen.moment fed follower.old follower.new }
 {
     match fed {
         Ok(Fed::Gone) => follower.has_gone = true,
-        Ok(Fed::Taken(taken)) => pass(alloc, stamp, taken, follower),
+        Ok(Fed::Taken(taken)) => pass(pen, taken, follower),
         Ok(Fed::Full) | Err(AllocError) => {}
     }
 }
 
 // So many bytes were taken.
-fn pass(alloc: Global, stamp: &Stamp, taken: usize, follower: &mut Follower)
+fn pass(pen: Pen, taken: usize, follower: &mut Follower)
     requires { taken ≤ length follower.old.room.bytes }
-    ensures { IsGivenOf stamp.now.form stamp.now.moment taken follower.old follower.new }
+    ensures { IsGivenOf pen.form pen.moment taken follower.old follower.new }
 {
     follower.room.pass(taken);
-    tell_if(alloc, stamp, is_some(taken), &mut follower.room);
+    tell_if(pen, is_some(taken), &mut follower.room);
 }
 
 fn is_some(taken: usize) -> bool

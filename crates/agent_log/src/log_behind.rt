@@ -3,75 +3,55 @@ ghost use Rattle.std.specs.Prelude.{◌≡◌};
 ghost use Rattle.agent_log.specs.Lines.{AreSaid, LineIsSaid};
 ghost use Rattle.agent_log.specs.LinesBehind.{ahead_line, is_first_step, is_step, steps_in_count, steps_in_line, steps_in_lines, with_step, with_step_by, with_steps};
 
-use crate::log_line::{Stamp, say_of, say_text};
+use crate::log_line::Pen;
 use crate::log_words::is_same;
-use crate::mark::{Mark, mark_at};
+use crate::mark::{Mark, mark_at, set_mark};
 use crate::rooms::Rooms;
 use agent_standing::Agent;
 use base_log::{Level, Word};
 use program_lines::name_of;
-use std::alloc::Global;
 use watch_machine::{Millis, Operation, Request, Watch};
 
 /// Says that an entry was looked up, and how many seconds it has left.
 #[tactic(auto, unfolding(watch_machine::specs::Clocks::sec))]
-pub(crate) fn say_ahead(
-    alloc: Global,
-    stamp: &Stamp,
-    agent: &Agent,
-    entry: u32,
-    end: u64,
-    room: &mut Rooms,
-)
-    ensures { LineIsSaid stamp.now.form stamp.now.moment (ahead_line agent.now entry end) room.old room.new }
+pub(crate) fn say_ahead(pen: Pen, agent: &Agent, entry: u32, end: u64, room: &mut Rooms)
+    ensures { LineIsSaid pen.form pen.moment (ahead_line agent.now entry end) room.old room.new }
 {
-    let left = end.saturating_sub(agent.watch().clocks().at / 1000);
+    let left = Word::Number(end.saturating_sub(agent.watch().clocks().at / 1000));
     let name = name_of(agent.inventory().forest(), entry);
-    say_of(
-        alloc,
-        stamp,
-        Level::Info,
-        "ahead",
-        name,
-        Word::Number(left),
-        room,
-    );
+    pen.say_of(Level::Info, "ahead", name, left, room);
 }
 
 /// Says for which entries the agent steps in, where that was not said.
 pub(crate) fn say_steps(
-    alloc: Global,
-    stamp: &Stamp,
+    pen: Pen,
     agent: &Agent,
     lead: Millis,
     requests: &[Request],
     marks: &[Mark],
     room: &mut Rooms,
 )
-    ensures { AreSaid stamp.now.form stamp.now.moment (steps_in_lines agent.now lead marks.now requests.now) room.old room.new }
+    ensures { AreSaid pen.form pen.moment (steps_in_lines agent.now lead marks.now requests.now) room.old room.new }
 {
     for request in requests {
-        say_step(alloc, stamp, agent, lead, *request, marks, room);
+        say_step(pen, agent, lead, *request, marks, room);
     }
 }
 
 // Says so of the entry of a request, where that is a renewal by which the agent steps in.
-#[tactic(auto, using(crate::proofs::Said::one_said))]
 fn say_step(
-    alloc: Global,
-    stamp: &Stamp,
+    pen: Pen,
     agent: &Agent,
     lead: Millis,
     request: Request,
     marks: &[Mark],
     room: &mut Rooms,
 )
-    ensures { AreSaid stamp.now.form stamp.now.moment (steps_in_line agent.now lead marks.now request) room.old room.new }
+    ensures { AreSaid pen.form pen.moment (steps_in_line agent.now lead marks.now request) room.old room.new }
 {
-    if is_first_step(agent.watch(), lead, request, marks) {
-        let name = name_of(agent.inventory().forest(), request.entry);
-        say_text(alloc, stamp, Level::Warning, "steps-in", name, room);
-    }
+    let is_first = is_first_step(agent.watch(), lead, request, marks);
+    let name = name_of(agent.inventory().forest(), request.entry);
+    pen.say_if(is_first, Level::Warning, "steps-in", name, room);
 }
 
 /// Of how many entries that is said.
@@ -126,11 +106,9 @@ fn mark_step(watch: &Watch, lead: Millis, request: Request, marks: &mut [Mark])
 pub(crate) fn set_step(marks: &mut [Mark], entry: u32, steps_in: bool)
     ensures { marks.new ≡ with_step entry steps_in marks.old }
 {
-    let index = entry as usize;
-    if index < marks.len() {
-        marks[index] = Mark {
-            steps_in,
-            ..marks[index]
-        };
-    }
+    let mark = Mark {
+        steps_in,
+        ..mark_at(marks, entry)
+    };
+    set_mark(marks, entry, mark);
 }

@@ -3,34 +3,27 @@ ghost use Rattle.std.specs.Prelude.{◌≡◌, ◌<◌, length};
 ghost use Rattle.agent_log.specs.LinesOfClocks.{end_in, ended_line, ended_lines, has_entry_ended, is_ended, is_past_end, carried_mark, marks_anew, marks_clocked, trouble_at, with_ended};
 ghost use Rattle.agent_log.specs.Lines.{AreSaid};
 
-use crate::log_line::{Stamp, say_of};
+use crate::log_line::Pen;
 use crate::mark::Mark;
 use crate::rooms::Rooms;
 use agent_standing::{Agent, Condition, Trouble};
 use agent_words::moment_word;
 use base_log::Level;
 use program_lines::name_of;
-use std::alloc::Global;
 
 /// Says which entries have ended while they are needed, where that was not said.
-pub(crate) fn say_ended(
-    alloc: Global,
-    stamp: &Stamp,
-    agent: &Agent,
-    marks: &[Mark],
-    room: &mut Rooms,
-)
-    ensures { AreSaid stamp.now.form stamp.now.moment (ended_lines agent.now 0 marks.now) room.old room.new }
+pub(crate) fn say_ended(pen: Pen, agent: &Agent, marks: &[Mark], room: &mut Rooms)
+    ensures { AreSaid pen.form pen.moment (ended_lines agent.now 0 marks.now) room.old room.new }
 {
     for entry in 0..marks.len() {
-        say_end(alloc, stamp, agent, entry, marks[entry], room);
+        say_end(pen, agent, entry, marks[entry], room);
     }
 }
 
 // Says that an entry has ended, where that is so and was not said.
 #[tactic(auto, using(crate::proofs::Said::one_said))]
-fn say_end(alloc: Global, stamp: &Stamp, agent: &Agent, entry: usize, mark: Mark, room: &mut Rooms)
-    ensures { AreSaid stamp.now.form stamp.now.moment (ended_line agent.now entry mark) room.old room.new }
+fn say_end(pen: Pen, agent: &Agent, entry: usize, mark: Mark, room: &mut Rooms)
+    ensures { AreSaid pen.form pen.moment (ended_line agent.now entry mark) room.old room.new }
 {
     let names = agent.inventory().forest();
     if entry >= names.len() as usize {
@@ -40,7 +33,7 @@ fn say_end(alloc: Global, stamp: &Stamp, agent: &Agent, entry: usize, mark: Mark
     if is_past_end(agent, entry) && !mark.is_ended {
         let end = moment_word(end_in(agent.status(entry).end));
         let name = name_of(names, entry);
-        say_of(alloc, stamp, Level::Alert, "ended", name, end, room);
+        pen.say_of(Level::Alert, "ended", name, end, room);
     }
 }
 
@@ -110,8 +103,8 @@ fn carried_mark(agent: &Agent, entry: usize) -> Mark
     }
 }
 
-// What is wrong with an entry, of those that there are.
-fn trouble_at(agent: &Agent, entry: usize) -> Option<Trouble>
+/// What is wrong with an entry, of those that there are.
+pub(crate) fn trouble_at(agent: &Agent, entry: usize) -> Option<Trouble>
     ensures { result ≡ trouble_at agent.now entry }
 {
     if entry >= agent.inventory().forest().len() as usize {

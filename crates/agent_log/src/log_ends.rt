@@ -2,16 +2,16 @@
 ghost use Rattle.std.specs.Prelude.{◌≡◌, ◌∷◌, [], IfOk};
 ghost use Rattle.base_log.specs.declared.line.Word.TheVariants as kinds;
 ghost use Rattle.agent_log.specs.LogDesk.{SaysLines};
-ghost use Rattle.agent_log.specs.LinesOfEnds.{HearsUnread, ends_line, tried_lines, unkept_line, unread_line};
+ghost use Rattle.agent_log.specs.LinesOfEnds.{HearsUnread, ends_line, tried_lines};
 ghost use Rattle.agent_log.specs.Lines.{LineIsSaid};
 ghost use Rattle.agent_words.specs.Reasons.{disk_words};
 
 use crate::desk::Desk;
-use crate::log_line::{Stamp, say};
+use crate::log_line::Pen;
 use crate::log_words::{one_text, text_word};
 use crate::rooms::Rooms;
 use agent_standing::Agent;
-use agent_words::{disk_words, second_of};
+use agent_words::disk_words;
 use base_clock::Reading;
 use base_disk::DiskFault;
 use base_log::{Level, Word};
@@ -22,11 +22,8 @@ impl Desk {
     pub fn hear_unread(&mut self, alloc: Global, now: Reading, fault: DiskFault)
         ensures { HearsUnread now fault self.old self.new }
     {
-        let stamp = Stamp {
-            form: self.form,
-            moment: second_of(now.wall),
-        };
-        say_unread(alloc, &stamp, fault, &mut self.room);
+        let pen = self.pen_at(alloc, now);
+        say_ends(pen, Level::Alert, b"cannot be read:", fault, &mut self.room);
     }
 
     /// Says that the ends could not be kept, where that is so and was not so before.
@@ -42,48 +39,20 @@ impl Desk {
     {
         if let Some(Err(fault)) = tried {
             if !was_failing {
-                let stamp = self.stamp(agent);
-                say_unkept(alloc, &stamp, fault, &mut self.room);
+                let pen = self.pen(alloc, agent);
+                say_ends(pen, Level::Note, b"could not be kept:", fault, &mut self.room);
             }
         }
     }
 }
 
-// Says that the ends from before the start cannot be read.
-fn say_unread(alloc: Global, stamp: &Stamp, fault: DiskFault, room: &mut Rooms)
-    ensures { LineIsSaid stamp.now.form stamp.now.moment (unread_line fault) room.old room.new }
-{
-    say_ends(alloc, stamp, Level::Alert, b"cannot be read:", fault, room);
-}
-
-// Says that the ends could not be kept.
-fn say_unkept(alloc: Global, stamp: &Stamp, fault: DiskFault, room: &mut Rooms)
-    ensures { LineIsSaid stamp.now.form stamp.now.moment (unkept_line fault) room.old room.new }
-{
-    say_ends(
-        alloc,
-        stamp,
-        Level::Note,
-        b"could not be kept:",
-        fault,
-        room,
-    );
-}
-
 // Says what is wrong with the ends, and why.
 #[tactic(auto, using(crate::proofs::Said::missed))]
-fn say_ends(
-    alloc: Global,
-    stamp: &Stamp,
-    level: Level,
-    what: &[u8],
-    fault: DiskFault,
-    room: &mut Rooms,
-)
-    ensures { LineIsSaid stamp.now.form stamp.now.moment (ends_line level what.now fault) room.old room.new }
+fn say_ends(pen: Pen, level: Level, what: &[u8], fault: DiskFault, room: &mut Rooms)
+    ensures { LineIsSaid pen.form pen.moment (ends_line level what.now fault) room.old room.new }
 {
-    match fault_words(alloc, what, fault) {
-        Ok(words) => say(alloc, stamp, level, "ends", words, room),
+    match fault_words(pen.alloc, what, fault) {
+        Ok(words) => pen.say(level, "ends", words, room),
         Err(_) => room.miss(level),
     }
 }

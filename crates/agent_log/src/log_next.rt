@@ -7,7 +7,7 @@ ghost use Rattle.agent_words.specs.Moments.{moment_word};
 ghost use Rattle.agent_log.specs.LinesOfNexts.{is_same_next, next_lines, next_log_line, was_next_said};
 
 use crate::desk::Desk;
-use crate::log_line::{Stamp, say, say_text};
+use crate::log_line::Pen;
 use crate::log_words::{one_word, text_word};
 use crate::rooms::Rooms;
 use agent_standing::Agent;
@@ -30,24 +30,24 @@ impl Desk {
         ensures { SaysLines agent.now (next_lines agent.now last next) self.old.marks self.old self.new }
     {
         if !was_said(last, next) {
-            let stamp = self.stamp(agent);
-            say_next(alloc, &stamp, agent, next, &mut self.room);
+            let pen = self.pen(alloc, agent);
+            say_next(pen, agent, next, &mut self.room);
         }
     }
 }
 
 // Says the next time of an entry, by the broker's clock.
 #[tactic(auto, using(crate::proofs::Said::missed))]
-fn say_next(alloc: Global, stamp: &Stamp, agent: &Agent, next: Option<Next>, room: &mut Rooms)
-    ensures { LineIsSaid stamp.now.form stamp.now.moment (next_log_line agent.now next) room.old room.new }
+fn say_next(pen: Pen, agent: &Agent, next: Option<Next>, room: &mut Rooms)
+    ensures { LineIsSaid pen.form pen.moment (next_log_line agent.now next) room.old room.new }
 {
     let Some(next) = next else {
-        say_text(alloc, stamp, Level::Info, "next", b"none", room);
+        pen.say_text(Level::Info, "next", b"none", room);
         return;
     };
     let name = name_of(agent.inventory().forest(), next.entry);
-    match next_words(alloc, next.at, name) {
-        Ok(words) => say(alloc, stamp, Level::Info, "next", words, room),
+    match next_words(pen.alloc, next.at, name) {
+        Ok(words) => pen.say(Level::Info, "next", words, room),
         Err(_) => room.miss(Level::Info),
     }
 }

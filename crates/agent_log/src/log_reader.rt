@@ -5,8 +5,7 @@ ghost use Rattle.agent_log.specs.LogDesk.{MayTell, ReaderIsGiven, TellsIf};
 ghost use Rattle.agent_words.specs.Moments.{second_of};
 
 use crate::desk::Desk;
-use crate::log_line::{Stamp, notice_of};
-use agent_words::second_of;
+use crate::log_line::Pen;
 use base_clock::Reading;
 use base_log::{LogRoom, LogSink};
 use std::alloc::Global;
@@ -33,11 +32,7 @@ impl Desk {
         ensures told { TellsIf is_asked self.old.form (second_of now.wall) self.old.room.log self.new.room.log }
         ensures rest { self.new ≡ record self.old { room = record self.old.room { log = self.new.room.log } } }
     {
-        let stamp = Stamp {
-            form: self.form,
-            moment: second_of(now.wall),
-        };
-        tell_if(alloc, &stamp, is_asked, &mut self.room.log);
+        tell_if(self.pen_at(alloc, now), is_asked, &mut self.room.log);
     }
 }
 
@@ -56,20 +51,20 @@ fn goes_on(taken: usize, failed: bool) -> bool
 }
 
 /// Tells of dropped lines, where that is asked.
-pub(crate) fn tell_if(alloc: Global, stamp: &Stamp, is_asked: bool, room: &mut LogRoom)
-    ensures { TellsIf is_asked stamp.now.form stamp.now.moment room.old room.new }
+pub(crate) fn tell_if(pen: Pen, is_asked: bool, room: &mut LogRoom)
+    ensures { TellsIf is_asked pen.form pen.moment room.old room.new }
 {
     if is_asked {
-        tell(alloc, stamp, room);
+        tell(pen, room);
     }
 }
 
 // Puts the line that tells of dropped lines, where there are any and there is room for it. Where memory for it is wanting, it is not
 // put yet.
-fn tell(alloc: Global, stamp: &Stamp, room: &mut LogRoom)
-    ensures { MayTell stamp.now.form stamp.now.moment room.old room.new }
+fn tell(pen: Pen, room: &mut LogRoom)
+    ensures { MayTell pen.form pen.moment room.old room.new }
 {
-    if let Ok(notice) = notice_of(alloc, stamp, room.untold()) {
+    if let Ok(notice) = pen.notice_of(room.untold()) {
         room.tell(&notice);
     }
 }

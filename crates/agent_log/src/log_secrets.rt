@@ -8,7 +8,7 @@ ghost use Rattle.agent_log.specs.SecretLines.{event_of_secret, level_of, look_li
 
 use crate::desk::Desk;
 use crate::log_clock::say_memory;
-use crate::log_line::{Stamp, say_of};
+use crate::log_line::Pen;
 use crate::log_words::text_word;
 use crate::lookup_loss::line_with_loss;
 use crate::rooms::Rooms;
@@ -31,57 +31,50 @@ impl Desk {
     )
         ensures { SaysLines agent.now (look_lines looked.now unproved) self.old.marks self.old self.new }
     {
-        let stamp = self.stamp(agent);
-        say_look(alloc, &stamp, looked, unproved, &mut self.room);
+        let pen = self.pen(alloc, agent);
+        say_look(pen, looked, unproved, &mut self.room);
     }
 }
 
 #[tactic(auto, using(crate::proofs::Said::both_said), unfolding(crate::specs::SecretLines::look_lines))]
-fn say_look(alloc: Global, stamp: &Stamp, looked: &Looked, unproved: Option<Loss>, room: &mut Rooms)
-    ensures { AreSaid stamp.now.form stamp.now.moment (look_lines looked.now unproved) room.old room.new }
+fn say_look(pen: Pen, looked: &Looked, unproved: Option<Loss>, room: &mut Rooms)
+    ensures { AreSaid pen.form pen.moment (look_lines looked.now unproved) room.old room.new }
 {
-    say_news(alloc, stamp, &looked.news, unproved, room);
-    say_want(alloc, stamp, looked.is_enough, room);
+    say_news(pen, &looked.news, unproved, room);
+    say_want(pen, looked.is_enough, room);
 }
 
 #[tactic(auto, using(crate::proofs::Said::one_said))]
-fn say_news(
-    alloc: Global,
-    stamp: &Stamp,
-    news: &Option<SecretNews>,
-    unproved: Option<Loss>,
-    room: &mut Rooms,
-)
-    ensures { AreSaid stamp.now.form stamp.now.moment (news_lines news.now unproved) room.old room.new }
+fn say_news(pen: Pen, news: &Option<SecretNews>, unproved: Option<Loss>, room: &mut Rooms)
+    ensures { AreSaid pen.form pen.moment (news_lines news.now unproved) room.old room.new }
 {
     if let Some(news) = news {
-        say_word(alloc, stamp, news.name.list(), news.what, unproved, room);
+        say_word(pen, news.name.list(), news.what, unproved, room);
     }
 }
 
-fn say_want(alloc: Global, stamp: &Stamp, is_enough: bool, room: &mut Rooms)
-    ensures { AreSaid stamp.now.form stamp.now.moment (want_lines is_enough) room.old room.new }
+fn say_want(pen: Pen, is_enough: bool, room: &mut Rooms)
+    ensures { AreSaid pen.form pen.moment (want_lines is_enough) room.old room.new }
 {
     if !is_enough {
-        say_memory(alloc, stamp, room);
+        say_memory(pen, room);
     }
 }
 
 // Says what became of the file of an entry.
 #[tactic(auto, using(crate::proofs::Said::missed))]
 fn say_word(
-    alloc: Global,
-    stamp: &Stamp,
+    pen: Pen,
     name: &[u8],
     what: SecretWord,
     unproved: Option<Loss>,
     room: &mut Rooms,
 )
-    ensures { LineIsSaid stamp.now.form stamp.now.moment (secret_news_line name.now what unproved) room.old room.new }
+    ensures { LineIsSaid pen.form pen.moment (secret_news_line name.now what unproved) room.old room.new }
 {
     let level = level_of(what);
-    match word_of(alloc, what, unproved) {
-        Ok(word) => say_of(alloc, stamp, level, event_of(what), name, word, room),
+    match word_of(pen.alloc, what, unproved) {
+        Ok(word) => pen.say_of(level, event_of(what), name, word, room),
         Err(_) => room.miss(level),
     }
 }

@@ -4,7 +4,7 @@ ghost use Rattle.base_log.specs.declared.line.Word.TheVariants as kinds;
 ghost use Rattle.agent_log.specs.Lines.{LineIsSaid};
 ghost use Rattle.agent_log.specs.Sockets.{need_log_line, need_log_word, socket_log_line};
 
-use crate::log_line::{Stamp, say, say_of};
+use crate::log_line::Pen;
 use crate::log_words::text_word;
 use crate::rooms::Rooms;
 use agent_words::moment_word;
@@ -14,11 +14,11 @@ use std::alloc::{AllocError, Global};
 
 /// Says that a client has set another need.
 #[tactic(auto, using(crate::proofs::Said::missed))]
-pub(crate) fn say_need(alloc: Global, stamp: &Stamp, name: &[u8], until: u64, room: &mut Rooms)
-    ensures { LineIsSaid stamp.now.form stamp.now.moment (need_log_line name.now until) room.old room.new }
+pub(crate) fn say_need(pen: Pen, name: &[u8], until: u64, room: &mut Rooms)
+    ensures { LineIsSaid pen.form pen.moment (need_log_line name.now until) room.old room.new }
 {
-    match need_word(alloc, until) {
-        Ok(until) => say_of(alloc, stamp, Level::Info, "need", name, until, room),
+    match need_word(pen.alloc, until) {
+        Ok(until) => pen.say_of(Level::Info, "need", name, until, room),
         Err(_) => room.miss(Level::Info),
     }
 }
@@ -38,18 +38,11 @@ fn need_word(alloc: Global, until: u64) -> Result<Word, AllocError>
 
 /// Says that a socket cannot be had, why, and what that costs.
 #[tactic(auto, using(crate::proofs::Said::missed))]
-pub(crate) fn say_no_socket(
-    alloc: Global,
-    stamp: &Stamp,
-    socket: &[u8],
-    why: &[u8],
-    cost: &[u8],
-    room: &mut Rooms,
-)
-    ensures { LineIsSaid stamp.now.form stamp.now.moment (socket_log_line socket.now why.now cost.now) room.old room.new }
+pub(crate) fn say_no_socket(pen: Pen, socket: &[u8], why: &[u8], cost: &[u8], room: &mut Rooms)
+    ensures { LineIsSaid pen.form pen.moment (socket_log_line socket.now why.now cost.now) room.old room.new }
 {
-    match socket_words(alloc, socket, why, cost) {
-        Ok(words) => say(alloc, stamp, Level::Alert, "socket", words, room),
+    match socket_words(pen.alloc, socket, why, cost) {
+        Ok(words) => pen.say(Level::Alert, "socket", words, room),
         Err(_) => room.miss(Level::Alert),
     }
 }

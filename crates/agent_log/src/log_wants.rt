@@ -3,7 +3,6 @@ ghost use Rattle.std.specs.Prelude.{◌≡◌};
 ghost use Rattle.agent_log.specs.Wants.{HearsTime, HearsUnmade, HearsWanting, SaysWant, said_or};
 
 use crate::desk::Desk;
-use crate::log_line::try_text;
 use crate::mark::Want;
 use agent_standing::Agent;
 use base_log::Level;
@@ -47,15 +46,8 @@ impl Desk {
     fn say_want(&mut self, alloc: Global, agent: &Agent, said: Want)
         ensures { SaysWant agent.now said self.old self.new }
     {
-        let stamp = self.stamp(agent);
-        let is_said = try_text(
-            alloc,
-            &stamp,
-            Level::Warning,
-            "memory",
-            b"refused",
-            &mut self.room,
-        );
+        let pen = self.pen(alloc, agent);
+        let is_said = pen.try_text(Level::Warning, "memory", b"refused", &mut self.room);
         self.want = said_or(is_said, said);
     }
 }

@@ -1,5 +1,5 @@
 ghost use Rattle.std.specs.Prelude.{◌≡◌, IfOk, length, replicate};
-ghost use Rattle.agent_log.specs.Marks.{fresh_mark, mark_at, with_trouble};
+ghost use Rattle.agent_log.specs.Marks.{fresh_mark, mark_at, with_mark};
 
 use agent_standing::Trouble;
 use std::alloc::{AllocError, Global};
@@ -60,15 +60,12 @@ pub(crate) fn mark_at(marks: &[Mark], entry: u32) -> Mark
     }
 }
 
-/// Sets the trouble of an entry, where there is a mark of it.
-pub(crate) fn set_trouble(marks: &mut [Mark], entry: u32, trouble: Option<Trouble>)
-    ensures { marks.new ≡ with_trouble entry trouble marks.old }
+/// Sets the mark of an entry, where there is one.
+pub(crate) fn set_mark(marks: &mut [Mark], entry: u32, mark: Mark)
+    ensures { marks.new ≡ with_mark entry mark marks.old }
 {
     let index = entry as usize;
     if index < marks.len() {
-        marks[index] = Mark {
-            trouble,
-            ..marks[index]
-        };
+        marks[index] = mark;
     }
 }

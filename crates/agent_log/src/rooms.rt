@@ -3,7 +3,7 @@ ghost use Rattle.std.specs.Prelude.{◌≡◌, IfOk, OnErr, OnOk, length, map, o
 ghost use Rattle.agent_log.specs.Lines.{ArePut, EachIsTold, EarlyIsTold, FollowerIsTold, TextIsPut};
 ghost use Rattle.agent_log.specs.Rooms.{begun_rooms, left_for, misses, missing_in, newcomer, with_follower};
 
-use crate::log_line::{Stamp, notice_of};
+use crate::log_line::Pen;
 use base_log::{Follower, LOG_ROOM, Level, LogRoom};
 use std::alloc::{AllocError, Global};
 use std::marker::Model;
@@ -40,12 +40,12 @@ impl Rooms {
 
     /// Puts the text of a line of this level. Where memory is wanting for a line that tells how many were dropped, this one is dropped
     /// and counted in that room.
-    pub(crate) fn put(&mut self, alloc: Global, stamp: &Stamp, level: Level, text: &[u8])
-        ensures { ArePut stamp.now.form stamp.now.moment level text.now self.old self.new }
+    pub(crate) fn put(&mut self, pen: Pen, level: Level, text: &[u8])
+        ensures { ArePut pen.form pen.moment level text.now self.old self.new }
     {
-        put(alloc, stamp, text, &mut self.log);
-        tell_each(alloc, stamp, level, text, &mut self.followers);
-        tell_early(alloc, stamp, level, text, &mut self.early);
+        put(pen, text, &mut self.log);
+        tell_each(pen, level, text, &mut self.followers);
+        tell_early(pen, level, text, &mut self.early);
     }
 
     /// Counts a line of this level that could not be made, for lack of memory, as dropped.
@@ -88,39 +88,39 @@ fn newcomer(
 }
 
 // Puts a line's text into the log's room.
-fn put(alloc: Global, stamp: &Stamp, text: &[u8], room: &mut LogRoom)
-    ensures { TextIsPut stamp.now.form stamp.now.moment text.now room.old room.new }
+fn put(pen: Pen, text: &[u8], room: &mut LogRoom)
+    ensures { TextIsPut pen.form pen.moment text.now room.old room.new }
 {
-    match notice_of(alloc, stamp, room.untold()) {
+    match pen.notice_of(room.untold()) {
         Ok(notice) => room.put(&notice, text),
         Err(_) => room.miss(),
     }
 }
 
 // Tells each of those who follow the log.
-fn tell_each(alloc: Global, stamp: &Stamp, level: Level, text: &[u8], followers: &mut [Follower])
+fn tell_each(pen: Pen, level: Level, text: &[u8], followers: &mut [Follower])
     ensures many { length followers.new ≡ length followers.old }
-    ensures told { EachIsTold stamp.now.form stamp.now.moment level text.now followers.old followers.new }
+    ensures told { EachIsTold pen.form pen.moment level text.now followers.old followers.new }
 {
     for follower in followers.iter_mut() {
-        tell(alloc, stamp, level, text, follower);
+        tell(pen, level, text, follower);
     }
 }
 
 // Tells the first who will follow warnings and alerts alone, where none has come yet.
-fn tell_early(alloc: Global, stamp: &Stamp, level: Level, text: &[u8], early: &mut Option<Follower>)
-    ensures { EarlyIsTold stamp.now.form stamp.now.moment level text.now early.old early.new }
+fn tell_early(pen: Pen, level: Level, text: &[u8], early: &mut Option<Follower>)
+    ensures { EarlyIsTold pen.form pen.moment level text.now early.old early.new }
 {
     if let Some(first) = early {
-        tell(alloc, stamp, level, text, first);
+        tell(pen, level, text, first);
     }
 }
 
 // Tells one of them.
-fn tell(alloc: Global, stamp: &Stamp, level: Level, text: &[u8], follower: &mut Follower)
-    ensures { FollowerIsTold stamp.now.form stamp.now.moment level text.now follower.old follower.new }
+fn tell(pen: Pen, level: Level, text: &[u8], follower: &mut Follower)
+    ensures { FollowerIsTold pen.form pen.moment level text.now follower.old follower.new }
 {
-    match notice_of(alloc, stamp, follower.room.untold()) {
+    match pen.notice_of(follower.room.untold()) {
         Ok(notice) => follower.hear(level, &notice, text),
         Err(_) => follower.miss(level),
     }

@@ -118,8 +118,8 @@ handed_all (a ∷ rest) old new h =
       (
         mid.machine,
         (
-          record { request = one.request; said = one.said; output = one.output },
-          (record { is_out = one.is_out; said_is = one.said_is; turn = one.turn.machine }, subst (λ s. AreHandedIn s rest mid.machine new.machine) same more.0),
+          record { request = one.request; is_out = one.is_out; said = one.said; said_is = one.said_is; output = one.output; turn = one.turn.machine },
+          subst (λ s. AreHandedIn s rest mid.machine new.machine) same more.0,
         ),
       ),
       more.1 ∙ same,

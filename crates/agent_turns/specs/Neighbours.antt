@@ -29,7 +29,7 @@ pub data Thing : Type 0 where
 abbrev pub thing_of : Happened → Thing
 thing_of (happened.Clocked notes requests next) = Time notes.now requests.now next
 thing_of (happened.Shorts shorts) = Needs (Some shorts.now)
-thing_of (happened.Answered entry operation said notes) = Answer entry operation said notes.now
+thing_of (happened.Answered handed) = Answer handed.entry handed.operation handed.said handed.notes.now
 thing_of (happened.Ahead entry end) = End entry end
 thing_of (happened.StepsIn lead requests) = Step lead requests.now
 thing_of happened.Refused = Needs None

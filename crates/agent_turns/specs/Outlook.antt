@@ -15,7 +15,7 @@ IsOutlook s next = (s.out ≡ []) × IsNextTime s next
 abbrev pub IsToldNext : WatchState → Happened → Type 0
 IsToldNext s (happened.Clocked notes requests next) = IfSome next (IsOutlook s)
 IsToldNext s (happened.Shorts shorts) = Unit {0}
-IsToldNext s (happened.Answered entry operation said notes) = Unit {0}
+IsToldNext s (happened.Answered handed) = Unit {0}
 IsToldNext s (happened.Ahead entry end) = Unit {0}
 IsToldNext s (happened.StepsIn lead requests) = Unit {0}
 IsToldNext s happened.Refused = Unit {0}

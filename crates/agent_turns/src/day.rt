@@ -84,7 +84,7 @@ fn has_begun(happened: &Happened<'_>) -> bool
     match happened {
         Happened::Clocked { notes, .. } => notes.began.is_some(),
         Happened::Shorts(_)
-        | Happened::Answered { .. }
+        | Happened::Answered(_)
         | Happened::Ahead { .. }
         | Happened::StepsIn { .. }
         | Happened::Refused

@@ -9,8 +9,8 @@ use crate::change::Change;
 use agent_standing::{Agent, Short};
 use base_clock::Reading;
 use std::alloc::Global;
-use vault_asking::Said;
-use watch_machine::{Millis, Next, Notes, Operation, Request};
+use vault_asking::HandedIn;
+use watch_machine::{Millis, Next, Notes, Request};
 
 /// What has happened, for the log.
 #[derive(Debug, Drop)]
@@ -26,12 +26,7 @@ pub enum Happened<'a> {
     /// Needs were found to be past what their entries reach.
     Shorts(&'a [Short]),
     /// The answer to a request was handed in: what it says, and what is noted of it.
-    Answered {
-        entry: u32,
-        operation: Operation,
-        said: Said,
-        notes: &'a Notes,
-    },
+    Answered(HandedIn<'a>),
     /// An end of an entry was handed in that was looked up before its time, for an agent that stands behind another: it is this, in seconds
     /// of the clock that never steps.
     Ahead {

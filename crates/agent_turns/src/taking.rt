@@ -11,8 +11,8 @@ ghost use Rattle.agent_turns.specs.code.Firsts.{TakesFirst, calls_of_first};
 use crate::neighbours::{Happened, Neighbours};
 use crate::serving::Serving;
 use std::alloc::{AllocError, Global};
-use vault_asking::{event_of, out_of, said_to};
-use watch_machine::{Operation, Out};
+use vault_asking::{HandedIn, event_of, out_of, said_to};
+use watch_machine::Out;
 
 impl Serving {
     /// Hands in the answers that wait, in their order. The only error is out of memory: those that are left wait on.
@@ -56,12 +56,12 @@ impl Serving {
             return Err(AllocError);
         };
         self.pending.pop_front();
-        let happened = Happened::Answered {
+        let happened = Happened::Answered(HandedIn {
             entry,
             operation,
             said,
             notes: &output.notes,
-        };
+        });
         neighbours.hear(alloc, &self.agent, &happened);
         Ok(())
     }

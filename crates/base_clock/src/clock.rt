@@ -28,8 +28,4 @@ pub trait Clock {
     fn wait(&mut self, millis: u64)
         ensures made { CallIsMade (Wait millis) (Self.seen self.old) (Self.seen self.new) }
         ensures count { (Self.seen self.new).failed_calls ≡ (Self.seen self.old).failed_calls };
-
-    /// Whether the last wait may have ended for the neighbour with this number. Where it says no, the neighbour still waits for
-    /// what it waited for before.
-    fn is_ready(&self, neighbour: u32) -> bool;
 }

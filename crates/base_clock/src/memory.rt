@@ -12,8 +12,7 @@ use base_device::Failed;
 use std::alloc::{AllocError, Global};
 use std::marker::Model;
 
-/// A clock that reads what it was given. Its waits pass no time, and tell that every neighbour may go on. It keeps its calls,
-/// as long as there is room for them.
+/// A clock that reads what it was given. Its waits pass no time. It keeps its calls, as long as there is room for them.
 #[derive(Debug, Drop)]
 pub struct MemoryClock {
     readings: Vec<Option<Reading>>,
@@ -128,11 +127,5 @@ impl Clock for MemoryClock {
         ensures script { self.new ≡ with_call (Wait millis) self.old }
     {
         self.keep(Call::Wait { millis });
-    }
-
-    fn is_ready(&self, _neighbour: u32) -> bool
-        ensures { result ≡ true }
-    {
-        true
     }
 }

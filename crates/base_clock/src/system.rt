@@ -7,7 +7,7 @@ use crate::reading::Reading;
 use crate::times::millis_of;
 use base_device::Failed;
 use libc::types::timespec;
-use mio::{Events, Poll, Registry, Token};
+use mio::{Events, Poll, Registry};
 use std::alloc::{AllocError, Global};
 use std::net::Net;
 use std::thread;
@@ -110,13 +110,5 @@ impl<'a, R: Net + std::time::Clock> Clock for SystemClock<'a, R> {
         if ended.is_err() {
             thread::sleep(self.rt, Duration::from_millis(millis.min(REFUSED)));
         }
-    }
-
-    fn is_ready(&self, neighbour: u32) -> bool {
-        self.poll.is_none()
-            || self
-                .events
-                .iter()
-                .any(|event| event.token() == Token(neighbour as usize))
     }
 }

@@ -1,5 +1,5 @@
 -- What each step of a journal leaves on its disk.
-use Rattle.std.proofs.Common.{◌≡◌, ◌⊎◌, inl, inr, ⊎_elim, ℕ, ◌≤◌, List, [], ◌∷◌, ◌++◌, Option, None, Some, Bool, true, false, if◌then◌else◌, Result, Ok, Err, IfErr, IsErrAnd, OnOk, OnErr, refl, sym, ◌∙◌, ap, subst}
+use Rattle.std.proofs.Common.{◌≡◌, ◌⊎◌, inl, inr, ⊎_elim, ℕ, ◌≤◌, List, [], ◌∷◌, ◌++◌, Option, None, Some, Bool, true, false, if◌then◌else◌, Result, Ok, Err, OnOk, OnErr, refl, sym, ◌∙◌, ap, subst}
 use Rattle.std.proofs.lemmas.Bool.{true≢false, cases_Bool}
 use Rattle.std.proofs.lemmas.Slice.Eq.{bytes_eq-Decides}
 use Rattle.std.specs.Str.{bytes_eq}
@@ -140,11 +140,6 @@ on_any (Err e) a = tt
 pub on_refused : {X E A : Type 0} (r : Result X E) → A → OnErr r A
 on_refused (Ok x) a = tt
 on_refused (Err e) a = a
-
--- a fault that is handed on
-pub passed_on : {X E : Type 0} {e : E} (P : E → Type 0) (r : Result X E) → IsErrAnd r (λ f. f ≡ e) → P e → IfErr r P
-passed_on P (Ok x) is so = absurd is
-passed_on P (Err f) is so = subst P (sym is) so
 
 -- a call that finds nothing too long tells no length
 pub not_long : (size : ℕ) (fault : DiskFault) → IsNotTooLong fault → TellsLength size fault

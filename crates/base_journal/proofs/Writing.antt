@@ -1,11 +1,10 @@
 -- What the calls that write a journal's file make of it: a record that is added, a file that is made anew.
-use Rattle.std.proofs.Common.{◌≡◌, inl, ℕ, ◌+◌, ◌-◌, ◌<◌, ◌≤◌, List, [], ◌∷◌, ◌++◌, length, length-append, Some, ◌∙◌, ap, sym, subst, refl, arith}
+use Rattle.std.proofs.Common.{◌≡◌, inl, ℕ, ◌+◌, ◌-◌, List, [], ◌∷◌, ◌++◌, length, length-append, Some, ◌∙◌, ap, refl, arith}
 use Rattle.base_disk.specs.Image.{Image, image_changed, with_file_at, with_bytes, overwritten}
 use Rattle.base_disk.specs.Torn.{Torn, Tears}
 use Rattle.base_disk.specs.State.{DiskState, DiskKeeps, OutcomesFollow, IsAfter}
 use Rattle.base_disk.specs.declared.fault.DiskFault.{DiskFault}
 use Rattle.base_disk.specs.declared.fault.DiskFault.TheVariants.{Failed, TooLong, OutOfMemory}
-use Rattle.base_journal.specs.declared.journal.TheConstants.{MOST_BYTES}
 use Rattle.base_journal.specs.Records.{IsRecordLine, AreLines, block, blocks, at_rest, StandsFor, IsBeforeOrAfter}
 use Rattle.base_journal.specs.Journals.{JournalIsAtRest, CrashLeaves, TellsLength}
 use Rattle.base_journal.proofs.Readings.{staged, blocks_push, length-at_rest, length-block, torn_behind, written_behind, torn_gate, written_gate, size_then, lines_push}
@@ -73,9 +72,3 @@ pub longer_still : (lines : List (List ℕ)) (line : List ℕ) (fault : DiskFaul
 longer_still lines line (Failed why) tells = tt
 longer_still lines line TooLong tells = omega (arith, tells, longer lines line, length-append (blocks lines) (45 ∷ []))
 longer_still lines line OutOfMemory tells = tt
-
--- a file that is refused is as long as is told
-pub as_long : (size n : ℕ) (fault : DiskFault) → size ≤ n → (fault ≡ TooLong) × (MOST_BYTES < size) → TellsLength n fault
-as_long size n fault no_longer refused =
-    let more : MOST_BYTES < n = omega (arith, no_longer, refused.1) in
-    subst (TellsLength n) (sym refused.0) more

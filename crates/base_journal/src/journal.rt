@@ -2,7 +2,6 @@ ghost use Rattle.std.specs.Prelude.{◌≡◌, ◌∷◌, [], ◌++◌, ◌≤�
 ghost use Rattle.base_disk.specs.State.{Elapses, IsNotTooLong, LeavesAlone, LeavesOnly, TellsFailure, Touches};
 ghost use Rattle.base_journal.specs.Records.{IsRecordLine, AreLines, StandsFor, IsBeforeOrAfter, at_rest};
 ghost use Rattle.base_journal.specs.Journals.{JournalIsAtRest, JournalIsWhole, JournalHolds, CrashLeaves, KeepsOthers, TellsLength, bytes_of_file, path_of_journal, lines_of_journal, may_have};
-ghost use Rattle.base_journal.specs.declared.journal.TheConstants.{MOST_BYTES};
 
 use crate::exchange::bytes_at;
 use crate::records::{OPEN, read_records, tail_of, text_of};
@@ -130,7 +129,10 @@ impl<'a> Journal<'a> {
     {
         self.refresh(disk)?;
         let len = line.list().len();
-        refuse_long(self.size.saturating_add(len).saturating_add(3))?;
+        let size = self.size.saturating_add(len).saturating_add(3);
+        if size > MOST_BYTES {
+            return Err(DiskFault::TooLong);
+        }
         let tail = tail_of(self.alloc, line.list())?;
         self.is_whole = false;
         self.append(disk, line, &tail)?;
@@ -183,20 +185,10 @@ impl<'a> Journal<'a> {
     }
 }
 
-/// Refuses a file of more bytes than it may have.
-fn refuse_long(size: usize) -> Result<(), DiskFault>
-    ensures fits { OnOk result (size ≤ MOST_BYTES) }
-    ensures refused { IfErr result (λ fault. (fault ≡ DiskFault.TooLong) × (MOST_BYTES < size)) }
-{
-    if size > MOST_BYTES {
-        return Err(DiskFault::TooLong);
-    }
-    Ok(())
-}
-
 /// Makes these records, at rest, the file at `path`, and says where its closed gate stands.
 ///
 /// `TooLong`: the file would have more than 128 MiB.
+#[tactic(auto, using(crate::proofs::Steps::not_long))]
 pub(crate) fn write_anew<D: Disk>(
     alloc: Global,
     disk: &mut D,
@@ -212,7 +204,9 @@ pub(crate) fn write_anew<D: Disk>(
     ensures long { IfErr result (TellsLength (length (at_rest lines.now))) }
 {
     let text = text_of(alloc, lines)?;
-    refuse_long(text.len())?;
+    if text.len() > MOST_BYTES {
+        return Err(DiskFault::TooLong);
+    }
     replace(disk, path, FILE_MODE, &text)?;
     Ok(text.len() - 1)
 }

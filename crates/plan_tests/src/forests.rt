@@ -1,6 +1,6 @@
 use crate::rows::{LEASE, Row, WEB, entry_of};
 use base_moment::LAST;
-use plan_forest::{END_MAX, Ends, Forest, Indices, Kind, TreeFault};
+use plan_forest::{END_MAX, Forest, Kind, TreeFault};
 use std::alloc::{AllocError, Global};
 use std::test::Fail;
 
@@ -72,23 +72,5 @@ fn push_refuses_in_order(rt: HostRuntime) -> Result<(), Fail> {
     for (i, row) in PUSHED.iter().enumerate() {
         assert!(rt; pushes(rt.alloc(), &mut forest, row)?, "row {i}");
     }
-    Ok(())
-}
-
-// Whether lists of so many indices and ends are made as they are given.
-fn are_made(alloc: Global, count: u32) -> Result<bool, AllocError> {
-    let mut indices = Vec::new(alloc);
-    let mut ends = Vec::new(alloc);
-    for index in 0..count {
-        indices.push(index)?;
-        ends.push(END_MAX)?;
-    }
-    let is_so = Indices::of(alloc, &indices)?.list() == indices.as_slice();
-    Ok(is_so && Ends::of(alloc, &ends)?.list() == ends.as_slice())
-}
-
-#[test]
-fn lists_hold_what_they_were_made_of(rt: HostRuntime) -> Result<(), Fail> {
-    assert!(rt; are_made(rt.alloc(), 4096)?);
     Ok(())
 }

@@ -1,5 +1,5 @@
-//! Tests alone, of all that plans, where no command shows it: dates, the order in which a forest refuses an entry, carried needs,
-//! both schedules, the steps of a keeper, and the parts of agents that wake up apart.
+//! Tests alone, of all that plans, where no command shows it: dates, the order in which a forest refuses an entry, carried needs, the
+//! steps of a keeper, and the parts of agents that wake up apart.
 #![tactic(auto)]
 
 #[cfg(test)]
@@ -12,7 +12,5 @@ mod keepers;
 mod needs;
 #[cfg(test)]
 mod rows;
-#[cfg(test)]
-mod schedules;
 #[cfg(test)]
 mod spreads;

@@ -10,5 +10,5 @@ mod judged;
 mod open_files;
 mod run;
 
-pub use judged::{Doubted, Judged, judge};
-pub use run::{Linted, Read, lint_bytes, run_lint};
+pub use judged::{Doubted, Judged, Read, judge};
+pub use run::{Linted, lint_bytes, run_lint};

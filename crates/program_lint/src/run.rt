@@ -3,7 +3,7 @@ ghost use Rattle.std.specs.Prelude.{◌≡◌, is_some, true};
 ghost use Rattle.program_lint.specs.Ends.{EndsBy, ends_by, is_faulty};
 
 use crate::findings::{finding_of_file, push_findings};
-use crate::judged::{Judged, judge};
+use crate::judged::{Judged, Read, judge};
 use crate::open_files::{is_for_others, open_files};
 use agent_words::{Demands, StartFault};
 use base_device::Sink;
@@ -31,18 +31,6 @@ pub struct Linted<'a> {
     pub demands: Demands,
 }
 
-/// An inventory that was read.
-#[derive(Clone, Copy, Debug)]
-pub struct Read<'a> {
-    /// Why it may not be served whatever it holds.
-    pub refused: Option<ReadFault>,
-    pub bytes: &'a [u8],
-    /// What stands before a path that starts at the folder of the file.
-    pub folder: &'a str,
-    /// The moment at which it is judged.
-    pub at: Moment,
-}
-
 /// Writes every fault of the inventory in a file of the system and every doubt about it, and counts them on `errors`; paths of files of
 /// credentials start at `folder`. It ends as [`lint_bytes`] does, and with 6 where the file is not read.
 pub fn run_lint<R, I, W, E>(
@@ -68,13 +56,17 @@ where
     let mut files = SystemFiles::new(rt);
     match files.read(rt.alloc(), linted.file, MOST_INVENTORY) {
         Ok(bytes) => {
+            let Ok(open_files) = open_files(rt, bytes.list(), folder) else {
+                return Stop::Memory.report(PROGRAM, errors);
+            };
             let read = Read {
                 refused,
                 bytes: bytes.list(),
                 folder,
+                open_files: &open_files,
                 at: now_of(rt),
             };
-            lint_read(rt, linted, &read, inputs, out, errors)
+            lint_bytes(rt.alloc(), linted, &read, inputs, out, errors)
         }
         Err(fault) => {
             let exit = Stop::from(fault).report(PROGRAM, errors);
@@ -115,27 +107,6 @@ fn lint_unread<W: Sink, E: Sink>(
     }
 }
 
-// The same over what was read.
-fn lint_read<R, I, W, E>(
-    rt: &R,
-    linted: Linted<'_>,
-    read: &Read<'_>,
-    inputs: &mut I,
-    out: &mut W,
-    errors: &mut E,
-) -> Exit
-where
-    R: Files + AllocGlobal,
-    I: Inputs,
-    W: Sink,
-    E: Sink,
-{
-    match open_files(rt, read.bytes, read.folder) {
-        Ok(open_files) => lint_bytes(rt.alloc(), linted, read, open_files, inputs, out, errors),
-        Err(AllocError) => Stop::Memory.report(PROGRAM, errors),
-    }
-}
-
 // The second that the system's clock shows; the first one, where it shows none.
 fn now_of<R: Clock>(rt: &R) -> Moment {
     let seconds = match rt.since_1970() {
@@ -145,8 +116,7 @@ fn now_of<R: Clock>(rt: &R) -> Moment {
     Moment::new(seconds.min(LAST)).unwrap()
 }
 
-/// Writes every fault of an inventory that was read and every doubt about it, and counts them on `errors`; `open_files` says of which entries
-/// others may read or write the file.
+/// Writes every fault of an inventory that was read and every doubt about it, and counts them on `errors`.
 ///
 /// Exit 1: `serve` refuses it. Exit 0: `serve` takes it. Exit 6: a write failed. Exit 7: memory was refused.
 #[tactic(auto, using(crate::proofs::Ended::ended, crate::proofs::Ended::memory_ends))]
@@ -154,7 +124,6 @@ pub fn lint_bytes<I: Inputs, W: Sink, E: Sink>(
     alloc: Global,
     linted: Linted<'_>,
     read: &Read<'_>,
-    open_files: Vec<bool>,
     inputs: &mut I,
     out: &mut W,
     errors: &mut E,
@@ -162,15 +131,7 @@ pub fn lint_bytes<I: Inputs, W: Sink, E: Sink>(
     ensures { EndsBy linted.entry.demands (I.bytes_at inputs.old) read.now.folder.now read.now.bytes.now (is_some read.now.refused) result }
 {
     let demands = linted.demands;
-    let Ok(judged) = judge(
-        alloc,
-        read.bytes,
-        demands,
-        read.folder,
-        inputs,
-        open_files,
-        read.at,
-    ) else {
+    let Ok(judged) = judge(alloc, read, demands, inputs) else {
         return Stop::Memory.report(PROGRAM, errors);
     };
     let is_faulty = is_faulty(read.refused.is_some(), &judged.faults);

@@ -1,51 +1,22 @@
 //! An answer is handed in to the machine.
-ghost use Rattle.std.specs.Prelude.{◌≡◌, ◌≢◌, IfOk, None, Ok, OnErr, Some};
-ghost use Rattle.watch_machine.specs.History.{Turn};
-ghost use Rattle.watch_machine.specs.Refusal.{refusal};
-ghost use Rattle.vault_asking.specs.Handing.{IsHandedIn, out_of};
+ghost use Rattle.std.specs.Prelude.{◌≡◌};
+ghost use Rattle.vault_asking.specs.Handing.{out_of};
 ghost use Rattle.vault_asking.specs.Told.{event_as};
 
-use crate::told::{Said, said_to};
-use std::alloc::{AllocError, Global};
-use vault_inventory::Inventory;
-use vault_lanes::Answered;
-use watch_machine::{Event, Operation, Out, Output, Watch};
+use crate::told::Said;
+use watch_machine::{Event, Notes, Operation, Out};
 
 /// An answer that was handed in.
-#[derive(Debug, Drop)]
-pub struct HandedIn {
-    /// The request that it is the answer to.
-    pub request: Out,
+#[derive(Clone, Copy, Debug)]
+pub struct HandedIn<'a> {
+    /// The index of its entry.
+    pub entry: u32,
+    /// What was asked.
+    pub operation: Operation,
     /// What it says.
     pub said: Said,
-    /// What the machine made of it.
-    pub output: Output,
-}
-
-/// Hands an answer in to the machine, as the event of the request that is out of its entry, with what it says by the inventory
-/// that the machine was made of.
-///
-/// The only error is out of memory: then the machine is as it was.
-pub fn hand_in(
-    alloc: Global,
-    inventory: &Inventory,
-    watch: &mut Watch,
-    answered: Answered,
-) -> Result<HandedIn, AllocError>
-    requires { out_of watch.old.out answered.index ≢ None }
-    ensures handed { IfOk result (λ handed. IsHandedIn inventory.now answered watch.old handed watch.new) }
-    ensures kept { OnErr result (watch.new ≡ watch.old) }
-{
-    let entry = answered.index;
-    let request = request_of(watch, entry);
-    let said = said_to(alloc, inventory, request.operation, entry, &answered.answer)?;
-    let event = event_of(request.operation, entry, said);
-    let output = turn(alloc, watch, event)?;
-    Ok(HandedIn {
-        request,
-        said,
-        output,
-    })
+    /// What is noted of it.
+    pub notes: &'a Notes,
 }
 
 /// The request of these that is out of an entry, if one is.
@@ -53,14 +24,6 @@ pub fn out_of(out: &[Out], entry: u32) -> Option<Out>
     ensures { result ≡ out_of out.now entry }
 {
     out.iter().find(|request| request.entry == entry).copied()
-}
-
-/// The request that is out of an entry of which one is.
-fn request_of(watch: &Watch, entry: u32) -> Out
-    requires { out_of watch.now.out entry ≢ None }
-    ensures { out_of watch.now.out entry ≡ Some result }
-{
-    out_of(watch.out(), entry).unwrap()
 }
 
 /// The event of an answer that says this.
@@ -75,17 +38,5 @@ pub fn event_of(operation: Operation, entry: u32, said: Said) -> Event
             terms,
         },
         Operation::Renew => Event::Renewed { entry, reply },
-    }
-}
-
-/// One turn of the machine, by an event that it does not refuse. The only error is out of memory.
-fn turn(alloc: Global, watch: &mut Watch, event: Event) -> Result<Output, AllocError>
-    requires { refusal watch.old event ≡ None }
-    ensures turned { IfOk result (λ output. Turn watch.old event (Ok output) watch.new) }
-    ensures kept { OnErr result (watch.new ≡ watch.old) }
-{
-    match watch.step(alloc, event) {
-        Ok(output) => Ok(output),
-        Err(_) => Err(AllocError),
     }
 }

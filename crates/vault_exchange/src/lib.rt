@@ -23,7 +23,7 @@ pub use exchange::{Exchange, can_carry};
 pub use fault::ExchangeFault;
 pub use heard::{Heard, Terms, hear_lookup, hear_renewal, renewed_in};
 pub use looking::{look_up, lookup_for};
-pub use over::{count_after, here};
+pub use over::here;
 pub use patience::PATIENCE;
 pub use requests::{is_port, request_for};
 pub use tcp::TcpExchange;

@@ -32,7 +32,7 @@ pub(crate) fn exchange_over<L: Source + Sink + Timed>(
 }
 
 /// The count of failures after an exchange: one more where a connect, an accept, a write or a read failed.
-pub fn count_after(failures: u64, answer: &Result<Reply, ExchangeFault>) -> u64
+pub(crate) fn count_after(failures: u64, answer: &Result<Reply, ExchangeFault>) -> u64
     ensures { CountsExchange answer.now failures result }
 {
     match answer {

@@ -1,9 +1,17 @@
 //! What a lookup tells of an entry, applied to it or refused.
-use crate::broker::{WEB, moment};
+use base_moment::Moment;
 use std::alloc::Global;
 use std::test::Fail;
 use vault_inventory::{Inventory, LookupFault, read};
 use vault_json::Lookup;
+
+const WEB: &str =
+    "[[token]]\nname = \"web\"\nissued = 1000\nend = 1060\nincrement = 60\nmax_ttl = 9000\nneed = 1200\n";
+
+/// The moment so many seconds after 1970-01-01T00:00:00Z.
+pub(crate) fn moment(seconds: u64) -> Moment {
+    Moment::new(seconds).unwrap_or(Moment::new(0).unwrap())
+}
 
 // A periodic token under an explicit max, with an increment beside its period.
 const PAY: &str =

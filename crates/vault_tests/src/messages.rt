@@ -1,10 +1,16 @@
-//! HTTP messages, as they are read: one reply however it is framed and cut, what is refused and why, requests, and dates.
+//! HTTP messages, as they are read: replies however they are framed, what is refused and why, requests, and dates. (That it matters
+//! nothing how one is cut is a law of `vault_http`; `tests/prefixes` and `tests/hostile-replies` cut them.)
 use crate::devices::source;
 use base_moment::Moment;
-use std::alloc::{AllocError, Global};
-use std::process::Abort;
+use std::alloc::Global;
 use std::test::Fail;
-use vault_http::{HttpFault, Reply, read_dated_reply, read_reply, read_request};
+use vault_http::{HttpFault, read_dated_reply, read_reply, read_request};
+
+/// The bytes of a message at most.
+const MOST: usize = 1048576;
+
+/// How many bytes come at a time, first.
+const PIECES: [usize; 5] = [1, 1, 1, 7, 2];
 
 const GRANT: &[u8] = b"{\"auth\":{\"lease_duration\":60,\"renewable\":true}}";
 
@@ -17,49 +23,11 @@ const CHUNKED: &[u8] = b"HTTP/1.1 200 OK\r\nTransfer-Encoding: chunked\r\n\r\n\
 const TO_END: &[u8] = b"HTTP/1.1 200 OK\r\n\r\n\
 {\"auth\":{\"lease_duration\":60,\"renewable\":true}}";
 
-/// Reads a reply from its bytes, handed out in pieces of these lengths.
-fn reply_of(
-    alloc: Global,
-    bytes: &[u8],
-    pieces: &[usize],
-    max: usize,
-) -> Result<Result<Reply, HttpFault>, Fail> {
-    let mut source = source(alloc, bytes, pieces)?;
-    Ok(read_reply(alloc, &mut source, max))
-}
-
-fn is_read(
-    alloc: Global,
-    text: &[u8],
-    pieces: &[usize],
-    status: u16,
-    body: &[u8],
-) -> Result<bool, Fail> {
-    match reply_of(alloc, text, pieces, 1048576)? {
-        Ok(reply) => Ok(reply.status == status && reply.body.list() == body),
-        Err(_) => Ok(false),
-    }
-}
-
-// The reply is read in two pieces, wherever it is cut, and byte by byte.
-fn reads_in_pieces<R: AllocGlobal + Abort>(rt: &R, text: &[u8]) -> Result<(), Fail> {
-    for cut in 0..text.len() {
-        assert!(rt; is_read(rt.alloc(), text, &[cut + 1], 200, GRANT)?, "{cut}");
-    }
-    let ones = vec![in rt.alloc(); 1usize; 200]?;
-    assert!(rt; is_read(rt.alloc(), text, &ones, 200, GRANT)?);
-    Ok(())
-}
-
-#[test]
-fn reads_one_reply_however_it_is_framed_and_cut(rt: HostRuntime) -> Result<(), Fail> {
-    reads_in_pieces(&rt, COUNTED)?;
-    reads_in_pieces(&rt, CHUNKED)?;
-    reads_in_pieces(&rt, TO_END)
-}
-
-// Other replies, with their statuses and bodies.
-const OTHERS: [(&[u8], u16, &[u8]); 3] = [
+// Replies, with their statuses and bodies.
+const READ: [(&[u8], u16, &[u8]); 6] = [
+    (COUNTED, 200, GRANT),
+    (CHUNKED, 200, GRANT),
+    (TO_END, 200, GRANT),
     (
         b"HTTP/1.1 204 No Content\r\nContent-Length: 5\r\n\r\n",
         204,
@@ -73,10 +41,19 @@ const OTHERS: [(&[u8], u16, &[u8]); 3] = [
     ),
 ];
 
+// Whether a reply in these pieces has that status and that body.
+fn is_read(alloc: Global, text: &[u8], status: u16, body: &[u8]) -> Result<bool, Fail> {
+    let mut source = source(alloc, text, &PIECES)?;
+    match read_reply(alloc, &mut source, MOST) {
+        Ok(reply) => Ok(reply.status == status && reply.body.list() == body),
+        Err(_) => Ok(false),
+    }
+}
+
 #[test]
-fn reads_other_replies(rt: HostRuntime) -> Result<(), Fail> {
-    for (text, status, body) in OTHERS {
-        assert!(rt; is_read(rt.alloc(), text, &[], status, body)?, "{status}");
+fn reads_one_reply_however_it_is_framed(rt: HostRuntime) -> Result<(), Fail> {
+    for (text, status, body) in READ {
+        assert!(rt; is_read(rt.alloc(), text, status, body)?, "{status}");
     }
     Ok(())
 }
@@ -116,41 +93,19 @@ const REFUSED: [(&[u8], HttpFault); 10] = [
     (b"hello", HttpFault::BadHead),
 ];
 
-fn is_refused(alloc: Global, text: &[u8], max: usize, fault: HttpFault) -> Result<bool, Fail> {
-    Ok(reply_of(alloc, text, &[1, 1, 1, 7, 2], max)?.err() == Some(fault))
+fn is_refused(alloc: Global, text: &[u8], fault: HttpFault) -> Result<bool, Fail> {
+    let mut source = source(alloc, text, &PIECES)?;
+    match read_reply(alloc, &mut source, MOST) {
+        Ok(_) => Ok(false),
+        Err(why) => Ok(why == fault),
+    }
 }
 
 #[test]
 fn refuses_replies(rt: HostRuntime) -> Result<(), Fail> {
     for (text, fault) in REFUSED {
-        assert!(rt; is_refused(rt.alloc(), text, 1048576, fault)?, "{fault:?}");
+        assert!(rt; is_refused(rt.alloc(), text, fault)?, "{fault:?}");
     }
-    for text in [COUNTED, CHUNKED, TO_END] {
-        assert!(rt; is_refused(rt.alloc(), text, 20, HttpFault::TooLong)?);
-    }
-    Ok(())
-}
-
-// A reply whose head has so many fields.
-fn text_of_fields(alloc: Global, fields: usize) -> Result<Vec<u8>, AllocError> {
-    let mut text = Vec::from_slice(alloc, b"HTTP/1.1 204 No Content\r\n")?;
-    for _ in 0..fields {
-        text.extend_from_slice(b"A: b\r\n")?;
-    }
-    text.extend_from_slice(b"\r\n")?;
-    Ok(text)
-}
-
-// Why it is refused, if it is: no contract says which refusal more than 64 fields get.
-fn fault_of_fields(alloc: Global, fields: usize) -> Result<Option<HttpFault>, Fail> {
-    let text = text_of_fields(alloc, fields)?;
-    Ok(reply_of(alloc, &text, &[], 1048576)?.err())
-}
-
-#[test]
-fn refuses_heads_of_many_fields(rt: HostRuntime) -> Result<(), Fail> {
-    assert!(rt; fault_of_fields(rt.alloc(), 64)? == None);
-    assert!(rt; fault_of_fields(rt.alloc(), 65)? == Some(HttpFault::BadHead));
     Ok(())
 }
 
@@ -163,7 +118,7 @@ fn fault_of(alloc: Global, text: &[u8], max: usize) -> Result<Option<HttpFault>,
 // One whose input ends within its target, which no contract says, and one that is too long by then.
 #[test]
 fn refuses_requests(rt: HostRuntime) -> Result<(), Fail> {
-    assert!(rt; fault_of(rt.alloc(), b"GET /v1/abc", 1048576)? == Some(HttpFault::Truncated));
+    assert!(rt; fault_of(rt.alloc(), b"GET /v1/abc", MOST)? == Some(HttpFault::Truncated));
     assert!(rt; fault_of(rt.alloc(), b"GET /v1/abc", 11)? == Some(HttpFault::TooLong));
     Ok(())
 }

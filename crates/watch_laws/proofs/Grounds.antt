@@ -14,7 +14,7 @@ use Rattle.watch_machine.specs.declared.fault.WatchFault.{WatchFault}
 use Rattle.watch_machine.specs.declared.lanes.Out.{Out}
 use Rattle.watch_machine.specs.Answers.{noted, replied}
 use Rattle.watch_machine.specs.Clocks.{sec}
-use Rattle.watch_machine.specs.History.{History, Turn, Turned, after_all}
+use Rattle.watch_machine.specs.History.{AllHappen, Happening, History, Turn, Turned, after_all, state_after, state_after_all}
 use Rattle.watch_machine.specs.Looked.{looked}
 use Rattle.watch_machine.specs.Press.{pressed}
 use Rattle.watch_machine.specs.Refusal.{request_out}
@@ -168,6 +168,15 @@ first_turns (x ∷ xs) ys old h = (h.0, first_turns xs ys x.state h.1)
 pub last_turns : (xs ys : List Turned) (old : WatchState) → History old (xs ++ ys) → History (after_all old xs) ys
 last_turns [] ys old h = h
 last_turns (x ∷ xs) ys old h = last_turns xs ys x.state h.1
+
+-- and of all that happens
+pub first_happen : (xs ys : List Happening) (old : WatchState) → AllHappen old (xs ++ ys) → AllHappen old xs
+first_happen [] ys old h = tt
+first_happen (x ∷ xs) ys old h = (h.0, first_happen xs ys (state_after x) h.1)
+
+pub last_happen : (xs ys : List Happening) (old : WatchState) → AllHappen old (xs ++ ys) → AllHappen (state_after_all old xs) ys
+last_happen [] ys old h = h
+last_happen (x ∷ xs) ys old h = last_happen xs ys (state_after x) h.1
 
 -- the clock from which on it is lived
 pub record Starts (o : Outage) (old : WatchState) (last : Turned) : Type 0 where

@@ -18,7 +18,7 @@ use Rattle.watch_machine.specs.declared.lanes.Out.{Out}
 use Rattle.watch_machine.specs.declared.track.Track.{Track}
 use Rattle.watch_machine.specs.Answers.{noted, replied}
 use Rattle.watch_machine.specs.Clocks.{sec}
-use Rattle.watch_machine.specs.History.{History, Turn, Turned, after_all}
+use Rattle.watch_machine.specs.History.{AllHappen, Changed, Changes, Happening, Hands, IsChanged, Turn, Turned, state_after_all}
 use Rattle.watch_machine.specs.Looked.{looked}
 use Rattle.watch_machine.specs.Press.{pressed}
 use Rattle.watch_machine.specs.Refusal.{request_out}
@@ -30,20 +30,23 @@ use Rattle.watch_machine.specs.Step.{Step, StepLooked, StepRenewed, readied}
 use Rattle.watch_machine.specs.Wait.{wait}
 use Rattle.watch_laws.specs.Absence.{is_clock, is_event_taken}
 use Rattle.watch_laws.specs.Outage.{one_where}
-use Rattle.watch_laws.specs.Partial.{AreHolding, AreSettled, ClockIsInTime, IsHeld, IsHeldUp, IsHolding, Partial, PartialLaw, comes_before, coming_before, due_after, keeps_lane, longest, partial_next_after, partial_next_after_command, partial_next_by, partial_settled_by, stands_before, total, waiting_before, waits_before}
+use Rattle.watch_laws.specs.Partial.{AreHolding, AreSettled, ClockIsInTime, IsCarried, IsHeld, IsHeldUp, IsHolding, Partial, PartialLaw, comes_before, comes_before_over, coming_before, due_after, index_over, keeps_lane, longest, outage_then, partial_next_after, partial_next_after_command, partial_next_by, partial_settled_by, stands_before, total, waiting_before, waits_before}
 use Rattle.watch_laws.proofs.Answering.{looked_leaves, renewed_leaves, rest_of}
-use Rattle.watch_laws.proofs.Bases.{next_base}
+use Rattle.watch_laws.proofs.Bases.{changed_base, next_base}
+use Rattle.watch_laws.proofs.Carrying.{fewer_over, late_same}
 use Rattle.watch_laws.proofs.Clocking.{readied_clocks, refused_stays}
 use Rattle.watch_laws.proofs.Counting.{least_all}
+use Rattle.watch_laws.proofs.Following.{changed_entries}
 use Rattle.watch_laws.proofs.Foremost.{all_front as before}
 use Rattle.watch_laws.proofs.Fronts.{front_at, keeps_short, own_at, sent_front, sent_partial}
 use Rattle.watch_laws.proofs.Going.{entry_by, request_at}
-use Rattle.watch_laws.proofs.Grounds.{IsBase, first_turns, last_turns, turn_base}
+use Rattle.watch_laws.proofs.Grounds.{IsBase, first_happen, last_happen, turn_base}
 use Rattle.watch_laws.proofs.Lanes.{Ticks, all_left, each_named, pressed_count, ticks}
 use Rattle.watch_laws.proofs.Recovering.{full_lanes}
 use Rattle.watch_laws.proofs.Retrying.{IsPast, rises}
+use Rattle.watch_laws.proofs.Shapes.{turn_shape}
 use Rattle.watch_laws.proofs.Spacing.{free_of, looked_out, mid_flag, readied_out, went}
-use Rattle.watch_laws.proofs.Spans.{adds_most, mapped, span, span_append, span_later, span_most, span_replied, span_sent, totals}
+use Rattle.watch_laws.proofs.Spans.{adds_most, mapped, span, span_append, span_later, span_most, span_replied, span_same, span_sent, timely_same, totals}
 use Rattle.watch_laws.proofs.Topping.{readied_count}
 
 -- who goes out between two states and stood before i
@@ -296,14 +299,51 @@ turn_holds o width n i due bound rest old new event (Err fault) turn held base p
       ];
     }
 
+-- and another forest that is watched leaves the clock and all lanes
+change_holds :
+    (o p : Partial) (width n i due bound rest : ℕ) (old : WatchState) (c : Changed) → IsChanged old c → IsCarried o p old c → length old.forest.entries ≡ n →
+    Holds o width n due bound (waiting_before o n i old + (total (length c.forest.entries) (keeps_lane p) (comes_before_over i old c) + rest)) old →
+    Holds p width (length c.forest.entries) due bound (waiting_before p (length c.forest.entries) (index_over c i) c.state + rest) c.state
+change_holds o p width n i due bound rest old c h carried entries held =
+    let clock = ap (λ (s : WatchState). s.clocks.at) h.state in
+    let late = late_same o p old c carried in
+    let many = ap (λ m. waiting_before o m i old) entries in
+    let less = fewer_over old c h o p carried i in
+    record {
+      base = changed_base old c h width n entries held.base;
+      rest = elim held.rest as (λ _. (due < c.state.clocks.at) ⊎ Timed p width due bound (waiting_before p (length c.forest.entries) (index_over c i) c.state + rest) c.state) [
+        | inl early ↦ inl (omega (arith, early, clock))
+        | inr t ↦
+            let same = span_same o p late due old.out c.state.out carried.settled in
+            let area = t.area in
+            inr (record { timely = timely_same o p late due old.out c.state.out carried.settled t.timely; area = omega (arith, area, same, less, many) })
+      ];
+    }
+
+-- what holds of the last state: the next clock comes within the bound, or would come before this one
+record Ends (width due bound : ℕ) (s : WatchState) : Type 0 where
+  past : IsPast s
+  by : (due < s.clocks.at) ⊎ (width * due ≤ bound)
+
 along :
-    (o : Partial) (width n i bound : ℕ) (turns : List Turned) (due : ℕ) (old : WatchState) → History old turns → AreHolding o i due old turns →
-    Holds o width n due bound (waiting_before o n i old + coming_before o n i old turns) old → (k : ℕ) × Holds o width n (due_after o due turns) bound k (after_all old turns)
-along o width n i bound [] due old history holding p = (waiting_before o n i old + 0, p)
-along o width n i bound (turn ∷ turns) due old history holding p =
-    let base = turn_base width n old turn.state turn.event turn.result history.0 p.base in
-    along o width n i bound turns (partial_next_after o turn.result turn.state due) turn.state history.1 holding.1
-    (turn_holds o width n i due bound (coming_before o n i turn.state turns) old turn.state turn.event turn.result history.0 holding.0 base p)
+    (hs : List Happening) (o : ℕ → Partial) (width n i due bound : ℕ) (old : WatchState) → AllHappen old hs → AreHolding o i due old hs → length old.forest.entries ≡ n →
+    Holds (o 0) width n due bound (waiting_before (o 0) n i old + coming_before o i old hs) old → Ends width (due_after o due hs) bound (state_after_all old hs)
+along [] o width n i due bound old happens holding entries p =
+    record {
+      past = p.base.past;
+      by = elim p.rest as (λ _. (due < old.clocks.at) ⊎ (width * due ≤ bound)) [ inl early ↦ inl early | inr t ↦ (let area = t.area in inr (omega (arith, area))) ];
+    }
+along (Hands turn ∷ hs) o width n i due bound old happens holding entries p =
+    let new = turn.state in
+    let base = turn_base width n old new turn.event turn.result happens.0 p.base in
+    let rest = coming_before o i new hs in
+    along hs o width n i (partial_next_after (o 0) turn.result new due) bound new happens.1 holding.1 ((turn_shape old new turn.event turn.result happens.0).0 ∙ entries)
+    (turn_holds (o 0) width n i due bound rest old new turn.event turn.result happens.0 holding.0 base
+    (subst (λ m. Holds (o 0) width n due bound (waiting_before (o 0) n i old + (total m (keeps_lane (o 0)) (comes_before i old new) + rest)) old) entries p))
+along (Changes c ∷ hs) o width n i due bound old happens holding entries p =
+    let h = happens.0 in
+    along hs (outage_then o) width (length c.forest.entries) (index_over c i) due bound c.state happens.1 holding.1 (changed_entries old c h)
+    (change_holds (o 0) (outage_then o 0) width n i due bound (coming_before (outage_then o) (index_over c i) c.state hs) old c h holding.0 entries p)
 
 -- the clock from which on it is held up
 record Starts (o : Partial) (old : WatchState) (first : Turned) : Type 0 where
@@ -346,27 +386,28 @@ comes_in_time due old new Begin (Ok output) turn clock taken' in_time past = abs
 comes_in_time due old new (Known j end renewable) (Ok output) turn clock taken' in_time past = absurd (true≢false (sym clock))
 comes_in_time due old new event (Err fault) turn clock taken' in_time past = absurd (true≢false (sym taken'))
 
-ends_by : (o : Partial) (width n due bound k : ℕ) (s new : WatchState) → Holds o width n due bound k s → (s.clocks.at ≤ new.clocks.at) × (new.clocks.at ≤ due) → width * new.clocks.at ≤ bound
-ends_by o width n due bound k s new p between =
+ends_by : (width due bound : ℕ) (s new : WatchState) → Ends width due bound s → (s.clocks.at ≤ new.clocks.at) × (new.clocks.at ≤ due) → width * new.clocks.at ≤ bound
+ends_by width due bound s new ends between =
     let up = between.0 in
-    let by = between.1 in
-    elim p.rest as (λ _. width * new.clocks.at ≤ bound) [
-      | inl early ↦ absurd (omega (arith, early, up, by))
-      | inr t ↦ (let area = t.area in let less = mul-le-mul_left width by in omega (arith, area, less))
+    let in_time = between.1 in
+    elim ends.by as (λ _. width * new.clocks.at ≤ bound) [
+      | inl early ↦ absurd (omega (arith, early, up, in_time))
+      | inr most ↦ (let less = mul-le-mul_left width in_time in omega (arith, most, less))
     ]
 
 pub held_up : PartialLaw
-held_up o old first turns next i reached history clock taken' may out holding clock' taken'' in_time =
+held_up outages old first hs next i reached happens clock taken' may out holding clock' taken'' in_time =
+    let o = outages 0 in
     let n = length old.forest.entries in
     let width = old.width in
     let s = first.state in
     let at = s.clocks.at in
-    let start = starts o old first first.event first.result refl history.0 clock taken' in
-    let base = next_base old first (turns ++ next ∷ []) reached history in
+    let start = starts o old first first.event first.result refl happens.0 clock taken' in
+    let base = next_base old first [] reached (happens.0, tt) in
     let full' = full_lanes old s start.wall start.elapsed start.output i width start.ticks' may base.fits.0 in
     let fits = base.fits.1 in
     let full : length s.out ≡ width = omega (arith, full', fits) in
-    let k = waiting_before o n i s + coming_before o n i s turns in
+    let k = waiting_before o n i s + coming_before outages i s hs in
     let bound = width * (at + o.slow + o.late) + k in
     let due = partial_next_by o (wait s) s.out in
     let most = span_most o at (o.slow + o.late) s.out (All-weaker (λ (q : Out). partial_settled_by o q ≤ at + o.slow) (λ (q : Out). partial_settled_by o q + o.late ≤ at + (o.slow + o.late)) (λ q h. omega (arith, h)) s.out out) in
@@ -384,7 +425,7 @@ held_up o old first turns next i reached history clock taken' may out holding cl
     } in
     let first_due = partial_next_after o first.result s 0 in
     let begins' : Holds o width n first_due bound k s = subst (λ d. Holds o width n d bound k s) (sym start.due) begins in
-    let ran = along o width n i bound turns first_due s (first_turns turns (next ∷ []) s history.1) holding begins' in
-    let last = (last_turns turns (next ∷ []) s history.1).0 in
-    ends_by o width n (due_after o first_due turns) bound ran.0 (after_all s turns) next.state ran.1
-    (comes_in_time (due_after o first_due turns) (after_all s turns) next.state next.event next.result last clock' taken'' in_time ran.1.base.past)
+    let ends = along hs outages width n i first_due bound s (first_happen hs (Hands next ∷ []) s happens.1) holding (turn_shape old s first.event first.result happens.0).0 begins' in
+    let last = (last_happen hs (Hands next ∷ []) s happens.1).0 in
+    ends_by width (due_after outages first_due hs) bound (state_after_all s hs) next.state ends
+    (comes_in_time (due_after outages first_due hs) (state_after_all s hs) next.state next.event next.result last clock' taken'' in_time ends.past)

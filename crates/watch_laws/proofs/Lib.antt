@@ -86,6 +86,7 @@ pub mod Changing
 pub mod Reached
 pub mod Following
 pub mod Bases
+pub mod Carrying
 pub mod Always
 pub mod Apart
 pub mod Topped

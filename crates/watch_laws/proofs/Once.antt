@@ -1,6 +1,6 @@
 -- Once: an entry that is pressed and never answered comes to no first try again. For the law of one stand.
 use Rattle.std.proofs.Common.{◌≡◌, ◌⊎◌, ◌∙◌, ℕ, zero, suc, ◌+◌, ◌<◌, ◌≤◌, Bool, true, false, not, ◌&&◌, ◌||◌, ◌==◌, if◌then◌else◌, List, [], ◌∷◌, Option, Some, None, Result, Ok, Err, filter, length, min, nat_le, nat_lt, set, refl, sym, ap, ap₂, subst, arith, inl, inr}
-use Rattle.std.proofs.lemmas.Bool.{and_from, and_parts, cases_Bool, cond-false, cond-true, eqb-true}
+use Rattle.std.proofs.lemmas.Bool.{and_from, and_parts, cases_Bool, cond-false, cond-true, eqb-true, or_left, or_right}
 use Rattle.std.proofs.lemmas.Bool.Decides.{nat_tests}
 use Rattle.std.proofs.lemmas.Bool.{cases_eq, cases_lt}
 use Rattle.std.proofs.lemmas.List.{get_or-set_other, get_or-set_same, get_or_past, set_past}
@@ -11,6 +11,7 @@ use Rattle.plan_forest.specs.Forest.{Forest, end_of, entry_at}
 use Rattle.plan_forest.specs.Renewal.{capped}
 use Rattle.plan_forest.proofs.Entries.{entry_at_set_other, entry_at_set_same}
 use Rattle.plan_rule.specs.Asks.{asks, is_to_be_asked as is_asked_for}
+use Rattle.watch_machine.specs.declared.change.Was.TheVariants.{New}
 use Rattle.watch_machine.specs.declared.clocks.Clocks.{Clocks}
 use Rattle.watch_machine.specs.declared.command.Command.{Command}
 use Rattle.watch_machine.specs.declared.command.Command.TheVariants.{Go, Taken}
@@ -31,8 +32,9 @@ use Rattle.watch_machine.specs.declared.track.Track.{Track}
 use Rattle.watch_machine.specs.declared.track.Try.{Try}
 use Rattle.watch_machine.specs.Answers.{answers_all, failing, lane_freed, noted, replied, silent, with_track}
 use Rattle.watch_machine.specs.Beginning.{begun, is_called, is_pressed, is_pressed_try, is_start, owing, owing_lookup, soon, sooner_try, untopped, untopped_track}
+use Rattle.watch_machine.specs.Change.{former, former_at, index_or, place_now}
 use Rattle.watch_machine.specs.Clocks.{sec}
-use Rattle.watch_machine.specs.History.{History, Turn, Turned}
+use Rattle.watch_machine.specs.History.{AllHappen, Changed, Changes, Happening, Hands, IsChanged, Turn, Turned}
 use Rattle.watch_machine.specs.Lines.{is_first}
 use Rattle.watch_machine.specs.Looked.{after_look, by_terms, looked, refused_try, untold, untold_track}
 use Rattle.watch_machine.specs.Margins.{has_come, is_in_plan, lead}
@@ -46,24 +48,28 @@ use Rattle.watch_machine.specs.State.{WatchState, attempt_at, each, entry_of, ha
 use Rattle.watch_machine.specs.Step.{Step, StepClock, StepCommand, StepLooked, StepRenewed, known, readied, why, with_need_until}
 use Rattle.watch_machine.specs.Wanted.{believed, is_alive, is_open, is_unknown, is_wanted, need_of, seen_entry, wants}
 use Rattle.watch_machine.proofs.Cases.{if_both, if_cases, not_both}
+use Rattle.watch_machine.proofs.Moved.{place_said}
 use Rattle.watch_machine.proofs.Seeing.{SameSeen, both_seen, each_past, each_read, need_same}
 use Rattle.watch_machine.proofs.Unseen.{pressed_seen, sent_seen}
 use Rattle.watch_machine.proofs.Within.{out_entry}
 use Rattle.watch_laws.specs.Absence.{is_event_taken}
 use Rattle.watch_laws.specs.Outage.{one_where}
-use Rattle.watch_laws.specs.Partial.{AreHung, IsUntoldOf, OnceInFrontLaw, comes_before, is_own_first, is_own_try, often_before, stands_before, waits_before}
+use Rattle.watch_laws.specs.Partial.{AreHung, IsHung, IsUntoldOf, OnceInFrontLaw, comes_before, comes_before_over, index_over, is_own_first, is_own_try, is_put_before, is_put_from, often_before, put_before, stands_before, waits_before}
 use Rattle.watch_laws.specs.Presence.{is_told}
 use Rattle.watch_laws.specs.Time.{is_come}
 use Rattle.watch_laws.proofs.Answering.{looked_leaves, renewed_leaves, rest_of}
-use Rattle.watch_laws.proofs.Bases.{reached_base}
+use Rattle.watch_laws.proofs.Bases.{changed_base, reached_base}
 use Rattle.watch_laws.proofs.Believed.{written_at, written_count}
 use Rattle.watch_laws.proofs.Clocking.{readied_clocks, refused_stays}
+use Rattle.watch_laws.proofs.Counting.{at_some}
+use Rattle.watch_laws.proofs.Following.{changed_entries, kept_over}
 use Rattle.watch_laws.proofs.Forested.{readied_forest}
 use Rattle.watch_laws.proofs.Grounds.{IsBase, turn_base}
 use Rattle.watch_laws.proofs.Holding.{looked_presence}
 use Rattle.watch_laws.proofs.OnPlan.{sec_rises}
 use Rattle.watch_laws.proofs.Opener.{mid_bears}
 use Rattle.watch_laws.proofs.Retrying.{IsPast, rises}
+use Rattle.watch_laws.proofs.Shapes.{turn_shape}
 use Rattle.watch_laws.proofs.Spacing.{looked_other}
 use Rattle.watch_laws.proofs.Tracking.{each_at, each_kept, replied_forest}
 use Rattle.watch_laws.proofs.Trying.{time_same, time_sooner}
@@ -95,12 +101,10 @@ settled_alike margin at x = record { own = λ come. own' come x.attempt; pressed
   pressed'' None = refl
   pressed'' (Some t) = if_both (λ u. is_pressed_try u ≡ is_pressed_try (Some t)) t.failed _ (Some t) refl refl
 
-owing_alike : (at : ℕ) (first called : Bool) (x : Track) → Alike (owing at first called x) x
-unfolding owing
-owing_alike at first called x =
-    if_both (λ y. Alike y x) (called && (first || is_open (sec at) x)) (owing_lookup at x) x
-    (if_both (λ y. Alike y x) x.out (record x { owes = true }) (record x { owes = true; attempt = Some (sooner_try (soon at x) x.attempt) }) (record { own = λ come. refl; pressed' = refl; out = refl; end = refl; grant = refl; fewer = λ tries. tries })
-    (record { own = λ come. own' come x.attempt; pressed' = pressed'' x.attempt; out = refl; end = refl; grant = refl; fewer = λ tries. tries })) (same_alike x) where
+lookup_alike : (at : ℕ) (x : Track) → Alike (owing_lookup at x) x
+lookup_alike at x =
+    if_both (λ y. Alike y x) x.out (record x { owes = true }) (record x { owes = true; attempt = Some (sooner_try (soon at x) x.attempt) }) (record { own = λ come. refl; pressed' = refl; out = refl; end = refl; grant = refl; fewer = λ tries. tries })
+    (record { own = λ come. own' come x.attempt; pressed' = pressed'' x.attempt; out = refl; end = refl; grant = refl; fewer = λ tries. tries }) where
       own' : (come : Bool) (o : Option Try) → is_own_try come (Some (sooner_try (soon at x) o)) ≡ is_own_try come o
       own' come None = refl
       own' come (Some t) = refl
@@ -109,13 +113,20 @@ owing_alike at first called x =
       pressed'' None = refl
       pressed'' (Some t) = refl
 
+owing_alike : (at : ℕ) (first called : Bool) (x : Track) → Alike (owing at first called x) x
+unfolding owing
+owing_alike at first called x = if_both (λ y. Alike y x) (called && (first || is_open (sec at) x)) (owing_lookup at x) x (lookup_alike at x) (same_alike x)
+
+untopped_alike : (x : Track) → Alike (untopped_track x) x
+untopped_alike x = record { own = λ come. refl; pressed' = refl; out = refl; end = refl; grant = refl; fewer = λ tries. absurd cc }
+
 begun_alike : (s : WatchState) (w : Option Why) (j : ℕ) → Alike (track_at (begun s w) j) (track_at s j)
 begun_alike s None j = same_alike (track_at s j)
 begun_alike s (Some w) j =
     let xs = untopped s.tracks in
     both_alike (track_at (begun s (Some w)) j) (track_in xs j) (track_at s j)
     (each_kept Alike (same_alike no_track) (λ k. owing s.clocks.at (is_start w) (is_called s.forest xs s.clocks k)) xs (λ k x. owing_alike s.clocks.at (is_start w) (is_called s.forest xs s.clocks k) x) j)
-    (each_kept Alike (same_alike no_track) (λ k. untopped_track) s.tracks (λ k x. record { own = λ come. refl; pressed' = refl; out = refl; end = refl; grant = refl; fewer = λ tries. absurd cc }) j)
+    (each_kept Alike (same_alike no_track) (λ k. untopped_track) s.tracks (λ k x. untopped_alike x) j)
 
 readied_alike : (s : WatchState) (wall elapsed j : ℕ) → Alike (track_at (readied s wall elapsed) j) (track_at s j)
 unfolding readied
@@ -560,45 +571,166 @@ stands_own i j s h = (and_parts (is_own_try (is_come s j) (attempt_at s j)) (is_
 stands_pressed : (i j : ℕ) (s : WatchState) → stands_before i s j ≡ true → is_pressed (track_at s j) ≡ true
 stands_pressed i j s h = own_pressed (is_come s j) (attempt_at s j) (stands_own i j s h)
 
-counts_once :
-    (width n i j : ℕ) (turns : List Turned) (s : WatchState) → History s turns → AreHung i j s turns → IsBase width n s → s.presence.away ≡ false →
-    (is_pressed (track_at s j) ≡ true → NotAlong s j → often_before i j s turns ≡ 0) × (often_before i j s turns ≤ 1)
-counts_once width n i j [] s history hung base there = ((λ is apart. refl), omega arith)
-counts_once width n i j (turn ∷ turns) s history hung base there =
-    let new = turn.state in
-    let here = hung.0 in
-    let rest = counts_once width n i j turns new history.1 hung.1 (turn_base width n s new turn.event turn.result history.0 base) here.there in
-    let later = rest.0 in
-    let few = rest.1 in (
-      (λ is apart.
-          let stays = turn_stays s new turn.event turn.result j history.0 here.untold base.past there is here.wanted in
-          let none = ap one_where (no_coming i j s new stays apart here.same) in
-          let after = later stays.pressed' (stays.own_still apart) in
-          omega (arith, none, after)),
-      elim (cases_Bool (comes_before i s new j)) as (λ _. one_where (comes_before i s new j) + often_before i j new turns ≤ 1) [
-        | inl comes ↦
-            let one = ap one_where comes in
-            let stands = (and_parts (stands_before i new j) _ comes).0 in
-            let after = later (stands_pressed i j new stands) (λ _. stands_own i j new stands) in
-            omega (arith, one, after)
-        | inr none ↦ (let no' = ap one_where none in omega (arith, no', few))
-      ],
-    )
+-- ---- the place of an entry before others
 
-pub waits_once :
-    (width n i j : ℕ) (turns : List Turned) (s : WatchState) → History s turns → AreHung i j s turns → IsBase width n s → s.presence.away ≡ false → one_where (waits_before i s j) + often_before i j s turns ≤ 1
-waits_once width n i j turns s history hung base there =
-    let count = counts_once width n i j turns s history hung base there in
-    let pressed' = count.0 in
-    let few = count.1 in
-    elim (cases_Bool (waits_before i s j)) as (λ _. one_where (waits_before i s j) + often_before i j s turns ≤ 1) [
-      | inl waits ↦
-          let one = ap one_where waits in
-          let stands = (and_parts (stands_before i s j) (not (track_at s j).out) waits).0 in
-          let none = pressed' (stands_pressed i j s stands) (λ _. stands_own i j s stands) in
-          omega (arith, one, none)
-      | inr no' ↦ (let none = ap one_where no' in omega (arith, none, few))
+-- it is spent: the entry is pressed, and a first try of it, if it has one, goes along with no others
+abbrev pub is_spent : WatchState → ℕ → Bool
+is_spent s j = is_pressed (track_at s j) && (not (is_own_try true (attempt_at s j)) || is_own_try (is_come s j) (attempt_at s j))
+
+not_along : (a b : Bool) → not a || b ≡ true → a ≡ true → b ≡ true
+not_along true b h e = h
+not_along false b h e = absurd cc
+
+along_not : (a b : Bool) → (a ≡ true → b ≡ true) → not a || b ≡ true
+along_not true b h = h refl
+along_not false b h = refl
+
+spent_parts : (s : WatchState) (j : ℕ) → is_spent s j ≡ true → (is_pressed (track_at s j) ≡ true) × NotAlong s j
+spent_parts s j h =
+    let first = is_own_try true (attempt_at s j) in
+    let own = is_own_try (is_come s j) (attempt_at s j) in
+    let both = and_parts (is_pressed (track_at s j)) (not first || own) h in
+    (both.0, not_along first own both.1)
+
+spent_from : (s : WatchState) (j : ℕ) → is_pressed (track_at s j) ≡ true → NotAlong s j → is_spent s j ≡ true
+spent_from s j is apart =
+    let first = is_own_try true (attempt_at s j) in
+    let own = is_own_try (is_come s j) (attempt_at s j) in
+    and_from (is_pressed (track_at s j)) (not first || own) is (along_not first own apart)
+
+stands_spent : (i j : ℕ) (s : WatchState) → stands_before i s j ≡ true → is_spent s j ≡ true
+stands_spent i j s h = spent_from s j (stands_pressed i j s h) (λ _. stands_own i j s h)
+
+-- who waits there, or comes to, has spent it
+one_of : (a b : Bool) → (a ≡ true → b ≡ true) → one_where a + one_where (not b) ≤ 1
+one_of true true h = omega arith
+one_of true false h = absurd (let bad = h refl in cc)
+one_of false true h = omega arith
+one_of false false h = omega arith
+
+pub waits_first : (i j : ℕ) (s : WatchState) → one_where (waits_before i s j) + one_where (not (is_spent s j)) ≤ 1
+waits_first i j s = one_of (waits_before i s j) (is_spent s j) (λ waits. stands_spent i j s (and_parts (stands_before i s j) (not (track_at s j).out) waits).0)
+
+comes_first : (i j : ℕ) (old new : WatchState) → one_where (comes_before i old new j) + one_where (not (is_spent new j)) ≤ 1
+comes_first i j old new = one_of (comes_before i old new j) (is_spent new j) (λ comes. stands_spent i j new (and_parts (stands_before i new j) _ comes).0)
+
+comes_first_over : (i j : ℕ) (old : WatchState) (c : Changed) → one_where (comes_before_over i old c j) + one_where (not (is_spent c.state j)) ≤ 1
+comes_first_over i j old c =
+    one_of (comes_before_over i old c j) (is_spent c.state j) (λ comes. stands_spent (index_over c i) j c.state (and_parts (stands_before (index_over c i) c.state j) _ comes).0)
+
+-- at a turn at which the entry is hung it does so once
+pub spends_turn :
+    (i j : ℕ) (old : WatchState) (turn : Turned) → Turn old turn.event turn.result turn.state → IsHung i j old turn → IsPast old → old.presence.away ≡ false →
+    one_where (comes_before i old turn.state j) + one_where (not (is_spent turn.state j)) ≤ one_where (not (is_spent old j))
+spends_turn i j old turn is hung past there =
+    let new = turn.state in
+    elim (cases_Bool (is_spent old j)) as (λ _. one_where (comes_before i old new j) + one_where (not (is_spent new j)) ≤ one_where (not (is_spent old j))) [
+      | inl spent ↦
+          let parts = spent_parts old j spent in
+          let stays = turn_stays old new turn.event turn.result j is hung.untold past there parts.0 hung.wanted in
+          let none = ap one_where (no_coming i j old new stays parts.1 hung.same) in
+          let still = ap (λ b. one_where (not b)) (spent_from new j stays.pressed' (stays.own_still parts.1)) in
+          omega (arith, none, still)
+      | inr fresh ↦ (let one = ap (λ b. one_where (not b)) fresh in let most = comes_first i j old new in omega (arith, one, most))
     ]
 
+-- and over a change, but where that puts it there anew
+retold_alike : (at : ℕ) (x : Track) → Alike (owing_lookup at (untopped_track x)) x
+retold_alike at x = both_alike (owing_lookup at (untopped_track x)) (untopped_track x) x (lookup_alike at (untopped_track x)) (untopped_alike x)
+
+module _ (old : WatchState) (c : Changed) (h : IsChanged old c) (i k j : ℕ) (said : former_at c.was j ≡ Some k) where
+  abbrev moved_up : Bool
+  moved_up = is_own_first old k && comes_before_over i old c j
+
+  abbrev put_off : Bool
+  put_off = is_pressed (track_at old k) && (is_come old k && not (is_come c.state j))
+
+  alike : Alike (track_at c.state j) (track_at old k)
+  alike = kept_over old c h Alike same_alike (λ x. retold_alike old.clocks.at x) k j said
+
+  own_before : is_spent old k ≡ true → is_own_first c.state j ≡ true → is_own_first old k ≡ true
+  own_before spent own =
+      let both = and_parts (is_own_try (is_come c.state j) (attempt_at c.state j)) (is_alive (second c.state) (track_at c.state j)) own in
+      let first : is_own_try true (attempt_at old k) ≡ true = sym (alike.own true) ∙ own_more (is_come c.state j) true (attempt_at c.state j) (λ _. refl) both.0 in
+      let clock : second c.state ≡ second old = ap (λ (s : WatchState). second s) h.state in
+      let alive : is_alive (second c.state) (track_at c.state j) ≡ is_alive (second old) (track_at old k) = ap₂ (λ n e. nat_lt n (believed e)) clock alike.end in
+      and_from (is_own_try (is_come old k) (attempt_at old k)) (is_alive (second old) (track_at old k)) ((spent_parts old k spent).1 first) (sym alive ∙ both.1)
+
+  none_comes : is_spent old k ≡ true → moved_up || put_off ≡ false → comes_before_over i old c j ≡ false
+  none_comes spent unput =
+      elim (cases_Bool (comes_before_over i old c j)) as (λ _. comes_before_over i old c j ≡ false) [
+        | inl comes ↦
+            let stands = (and_parts (stands_before (index_over c i) c.state j) _ comes).0 in
+            let own = (and_parts (is_own_first c.state j) _ stands).0 in
+            absurd (not_both (or_left moved_up put_off (and_from (is_own_first old k) (comes_before_over i old c j) (own_before spent own) comes)) unput)
+        | inr none ↦ none
+      ]
+
+  still_spent : is_spent old k ≡ true → moved_up || put_off ≡ false → is_spent c.state j ≡ true
+  still_spent spent unput =
+      let parts = spent_parts old k spent in
+      spent_from c.state j (alike.pressed' ∙ parts.0)
+      (λ first. own_more (is_come old k) (is_come c.state j) (attempt_at c.state j) (still_come parts.0) (alike.own (is_come old k) ∙ parts.1 (sym (alike.own true) ∙ first))) where
+        still_come : is_pressed (track_at old k) ≡ true → is_come old k ≡ true → is_come c.state j ≡ true
+        still_come is come = elim (cases_Bool (is_come c.state j)) as (λ _. is_come c.state j ≡ true) [
+          | inl yes' ↦ yes'
+          | inr no' ↦
+              absurd (not_both (or_right moved_up put_off (and_from (is_pressed (track_at old k)) (is_come old k && not (is_come c.state j)) is (and_from (is_come old k) (not (is_come c.state j)) come (ap not no')))) unput)
+        ]
+
+  spends_kept : one_where (comes_before_over i old c j) + one_where (not (is_spent c.state j)) ≤ one_where (not (is_spent old k)) + one_where (moved_up || put_off)
+  spends_kept =
+      let most = comes_first_over i j old c in
+      elim (cases_Bool (moved_up || put_off)) as (λ _. one_where (comes_before_over i old c j) + one_where (not (is_spent c.state j)) ≤ one_where (not (is_spent old k)) + one_where (moved_up || put_off)) [
+        | inl put ↦ (let one = ap one_where put in omega (arith, one, most))
+        | inr unput ↦
+            elim (cases_Bool (is_spent old k)) as (λ _. one_where (comes_before_over i old c j) + one_where (not (is_spent c.state j)) ≤ one_where (not (is_spent old k)) + one_where (moved_up || put_off)) [
+              | inl spent ↦
+                  let none = ap one_where (none_comes spent unput) in
+                  let still = ap (λ b. one_where (not b)) (still_spent spent unput) in
+                  omega (arith, none, still)
+              | inr fresh ↦ (let one = ap (λ b. one_where (not b)) fresh in omega (arith, one, most))
+            ]
+      ]
+
+pub spends_over :
+    (old : WatchState) (c : Changed) → IsChanged old c → (i j : ℕ) →
+    one_where (comes_before_over i old c j) + one_where (not (is_spent c.state j)) ≤ one_where (at_some (λ k. not (is_spent old k)) (former_at c.was j)) + one_where (is_put_before i old c j)
+spends_over old c h i j = by (former_at c.was j) refl where
+  by : (was : Option ℕ) → former_at c.was j ≡ was → one_where (comes_before_over i old c j) + one_where (not (is_spent c.state j)) ≤ one_where (at_some (λ k. not (is_spent old k)) was) + one_where (is_put_from i old c was j)
+  by None said = (let most = comes_first_over i j old c in omega (arith, most))
+  by (Some k) said = spends_kept old c h i k j said
+
+-- ---- the law of one stand
+
+-- what is told of the index that an entry has after a change is that it was this one, if anything
+index_said : (p : ℕ → Bool) (c : Changed) (j : ℕ) → one_where (at_some p (former_at c.was (index_over c j))) ≤ one_where (p j)
+index_said p c j = by (place_now c.was j) refl where
+  by : (o : Option ℕ) → place_now c.was j ≡ o → one_where (at_some p (former_at c.was (index_or (length c.was) o))) ≤ one_where (p j)
+  by None place = (let none : one_where (at_some p (former_at c.was (length c.was))) ≡ 0 = ap (λ w. one_where (at_some p (former w))) (get_or_past c.was (length c.was) New (omega arith)) in omega (arith, none))
+  by (Some k) place = (let is = ap (λ o. one_where (at_some p o)) (place_said c.was j k place) in omega (arith, is))
+
+stands_often :
+    (hs : List Happening) (width n i j : ℕ) (s : WatchState) → AllHappen s hs → AreHung i j s hs → IsBase width n s → length s.forest.entries ≡ n → s.presence.away ≡ false →
+    often_before i j s hs ≤ one_where (not (is_spent s j)) + put_before i j s hs
+stands_often [] width n i j s happens hung base entries there = omega arith
+stands_often (Hands turn ∷ hs) width n i j s happens hung base entries there =
+    let new = turn.state in
+    let base' = turn_base width n s new turn.event turn.result happens.0 base in
+    let here = spends_turn i j s turn happens.0 hung.0 base.past there in
+    let rest = stands_often hs width n i j new happens.1 hung.1 base' ((turn_shape s new turn.event turn.result happens.0).0 ∙ entries) hung.0.there in
+    omega (arith, here, rest)
+stands_often (Changes c ∷ hs) width n i j s happens hung base entries there =
+    let h = happens.0 in
+    let k = index_over c j in
+    let here = spends_over s c h i k in
+    let was = index_said (λ m. not (is_spent s m)) c j in
+    let there' = ap (λ (t : WatchState). t.presence.away) h.state ∙ there in
+    let rest = stands_often hs width (length c.forest.entries) (index_over c i) k c.state happens.1 hung (changed_base s c h width n entries base) (changed_entries s c h) there' in
+    omega (arith, here, was, rest)
+
 pub stands_once : OnceInFrontLaw
-stands_once old turns i j reached history there hung = waits_once old.width (length old.forest.entries) i j turns old history hung (reached_base old reached) there
+stands_once old hs i j reached happens there hung =
+    let often = stands_often hs old.width (length old.forest.entries) i j old happens hung (reached_base old reached) refl there in
+    let first = waits_first i j old in
+    omega (arith, often, first)

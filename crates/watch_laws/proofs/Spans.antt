@@ -1,6 +1,6 @@
 -- Spans: how long lanes are kept, added up. For the law of partial outages.
-use Rattle.std.proofs.Common.{◌≡◌, ◌∙◌, ℕ, zero, suc, ◌+◌, ◌-◌, ◌*◌, ◌<◌, ◌≤◌, Bool, true, false, not, ◌||◌, ◌==◌, if◌then◌else◌, List, [], ◌∷◌, ◌++◌, All, filter, length, map, refl, sym, ap, subst, arith, inl, inr}
-use Rattle.std.proofs.Math.Nat.{mul-suc, mul-zero}
+use Rattle.std.proofs.Common.{◌≡◌, ◌∙◌, ℕ, zero, suc, ◌+◌, ◌-◌, ◌*◌, ◌<◌, ◌≤◌, Bool, true, false, not, ◌&&◌, ◌||◌, ◌==◌, if◌then◌else◌, List, [], ◌∷◌, ◌++◌, All, drop, filter, length, map, refl, sym, ap, ap₂, subst, arith, inl, inr}
+use Rattle.std.proofs.Math.Nat.{mul-add, mul-suc, mul-zero}
 use Rattle.std.proofs.lemmas.Bool.{cases_Bool, cases_eq, cond-false, cond-true, eqb-true, or_left, or_right}
 use Rattle.std.proofs.lemmas.Bool.Decides.{nat_tests}
 use Rattle.std.proofs.lemmas.List.Elements.{All-cons, All-head, All-nil, All-tail}
@@ -13,8 +13,8 @@ use Rattle.watch_machine.specs.Sending.{out_at}
 use Rattle.watch_machine.specs.Settling.{is_real}
 use Rattle.watch_machine.specs.State.{WatchState}
 use Rattle.watch_machine.proofs.Cases.{if_both}
-use Rattle.watch_laws.specs.Outage.{one_where}
-use Rattle.watch_laws.specs.Partial.{Partial, partial_settled_by, total}
+use Rattle.watch_laws.specs.Outage.{how_many, one_where}
+use Rattle.watch_laws.specs.Partial.{Partial, keeps_lane, partial_settled_by, total}
 use Rattle.watch_laws.proofs.Going.{counts, skips, times}
 
 -- what passes one test adds to what passes another
@@ -178,3 +178,66 @@ span_sent o at f rq (k ∷ is) entries all =
 pub mapped : (P : Request → Type 0) (rq : ℕ → Request) (is : List ℕ) → All P (map rq is) → All (λ k. P (rq k)) is
 mapped P rq [] all = All-nil (λ k. P (rq k))
 mapped P rq (k ∷ is) all = All-cons (λ j. P (rq j)) k is (All-head P (rq k) (map rq is) all) (mapped P rq is (All-tail P (rq k) (map rq is) all))
+
+-- ---- how long lanes are kept: so much for each that is hung, and so much for each other
+
+one_split : (h p : Bool) (a b : ℕ) → (if p then (if h then a else b) else 0) ≡ a * one_where (h && p) + b * one_where (not h && p)
+one_split true true a b = omega arith
+one_split true false a b = omega arith
+one_split false true a b = omega arith
+one_split false false a b = omega arith
+
+split : (n : ℕ) (h p : ℕ → Bool) (a b : ℕ) → total n (λ j. if h j then a else b) p ≡ a * how_many n (λ j. h j && p j) + b * how_many n (λ j. not (h j) && p j)
+split zero h p a b = omega arith
+split (suc n) h p a b =
+    let rest = split n h p a b in
+    let here = one_split (h n) (p n) a b in
+    let x = mul-add a (one_where (h n && p n)) (how_many n (λ j. h j && p j)) in
+    let y = mul-add b (one_where (not (h n) && p n)) (how_many n (λ j. not (h j) && p j)) in
+    omega (arith, rest, here, x, y)
+
+-- the lane is kept late, too
+one_late : (h p : Bool) (a b late : ℕ) → (if p then (if h then a else b) + late else 0) ≡ (if p then (if h then a + late else b + late) else 0)
+one_late true p a b late = refl
+one_late false p a b late = refl
+
+total_late : (n : ℕ) (h p : ℕ → Bool) (a b late : ℕ) → total n (λ j. (if h j then a else b) + late) p ≡ total n (λ j. if h j then a + late else b + late) p
+total_late zero h p a b late = refl
+total_late (suc n) h p a b late = let rest = total_late n h p a b late in let here = one_late (h n) (p n) a b late in omega (arith, rest, here)
+
+pub kept_is : (o : Partial) (n : ℕ) (p : ℕ → Bool) → total n (keeps_lane o) p ≡ (o.patience + o.late) * how_many n (λ j. o.hung j && p j) + (o.quick + o.late) * how_many n (λ j. not (o.hung j) && p j)
+kept_is o n p = total_late n o.hung p o.patience o.quick o.late ∙ split n o.hung p (o.patience + o.late) (o.quick + o.late)
+
+-- and so with those two numbers, as they are elsewhere
+pub kept_by :
+    (o : Partial) (long short n : ℕ) (p : ℕ → Bool) → o.patience + o.late ≡ long → o.quick + o.late ≡ short →
+    total n (keeps_lane o) p ≡ long * how_many n (λ j. o.hung j && p j) + short * how_many n (λ j. not (o.hung j) && p j)
+kept_by o long short n p is is' = kept_is o n p ∙ ap₂ (λ x y. x * how_many n (λ j. o.hung j && p j) + y * how_many n (λ j. not (o.hung j) && p j)) is is'
+
+-- ---- requests that are settled when others were to be
+
+abbrev first_of : List ℕ → ℕ
+first_of [] = 0
+first_of (n ∷ ns) = n
+
+module _ (o p : Partial) (late : p.late ≡ o.late) where
+  pub span_same : (at : ℕ) (xs ys : List Out) → map (partial_settled_by p) ys ≡ map (partial_settled_by o) xs → span p at ys ≡ span o at xs
+  span_same at [] [] same = refl
+  span_same at [] (y ∷ ys) same = let long : suc (length (map (partial_settled_by p) ys)) ≡ zero = ap length same in absurd (omega (arith, long))
+  span_same at (x ∷ xs) [] same = let long : zero ≡ suc (length (map (partial_settled_by o) xs)) = ap length same in absurd (omega (arith, long))
+  span_same at (x ∷ xs) (y ∷ ys) same =
+      let here : partial_settled_by p y ≡ partial_settled_by o x = ap first_of same in
+      let rest = span_same at xs ys (ap (λ (l : List ℕ). drop 1 l) same) in
+      omega (arith, here, rest, late)
+
+  pub timely_same :
+      (due : ℕ) (xs ys : List Out) → map (partial_settled_by p) ys ≡ map (partial_settled_by o) xs → All (λ (q : Out). due ≤ partial_settled_by o q + o.late) xs →
+      All (λ (q : Out). due ≤ partial_settled_by p q + p.late) ys
+  timely_same due [] [] same all = All-nil (λ (q : Out). due ≤ partial_settled_by p q + p.late)
+  timely_same due (x ∷ xs) [] same all = All-nil (λ (q : Out). due ≤ partial_settled_by p q + p.late)
+  timely_same due [] (y ∷ ys) same all = let long : suc (length (map (partial_settled_by p) ys)) ≡ zero = ap length same in absurd (omega (arith, long))
+  timely_same due (x ∷ xs) (y ∷ ys) same all =
+      let T : Out → Type 0 = λ q. due ≤ partial_settled_by o q + o.late in
+      let here : partial_settled_by p y ≡ partial_settled_by o x = ap first_of same in
+      let first = All-head T x xs all in
+      All-cons (λ (q : Out). due ≤ partial_settled_by p q + p.late) y ys (omega (arith, here, first, late)) (timely_same due xs ys (ap (λ (l : List ℕ). drop 1 l) same) (All-tail T x xs all))

@@ -7,5 +7,5 @@ abbrev pub invariant-loop-follower : goal.invariant-loop-follower
 invariant-loop-follower g l = record {
   many : length l.followers ≡ length l.fn.followers;
   rest : drop l.follower-index l.followers ≡ drop l.follower-index l.fn.followers;
-  fed : EachIsFed l.stamp.form l.stamp.moment (take l.follower-index l.fn.followers) (take l.follower-index l.followers) l.fn.clients l.clients;
+  fed : EachIsFed l.pen.form l.pen.moment (take l.follower-index l.fn.followers) (take l.follower-index l.followers) l.fn.clients l.clients;
 }

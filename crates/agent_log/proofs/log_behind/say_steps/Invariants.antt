@@ -6,5 +6,5 @@ use Rattle.agent_log.specs.Rooms.{Rooms}
 use Rattle.agent_log.proofs.log_behind.say_steps.Given as goal
 
 abbrev pub invariant-loop-request : goal.invariant-loop-request
-invariant-loop-request l = (last : Rooms) → AreSaid l.stamp.form l.stamp.moment (steps_in_lines l.agent l.lead l.marks (drop l.request-index l.requests)) l.room last
-    → AreSaid l.stamp.form l.stamp.moment (steps_in_lines l.agent l.lead l.marks l.requests) l.initial.room last
+invariant-loop-request l = (last : Rooms) → AreSaid l.pen.form l.pen.moment (steps_in_lines l.agent l.lead l.marks (drop l.request-index l.requests)) l.room last
+    → AreSaid l.pen.form l.pen.moment (steps_in_lines l.agent l.lead l.marks l.requests) l.initial.room last

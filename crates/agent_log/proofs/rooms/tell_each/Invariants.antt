@@ -7,5 +7,5 @@ abbrev pub invariant-loop-follower : goal.invariant-loop-follower
 invariant-loop-follower l = record {
   many : length l.followers ≡ length l.fn.followers;
   rest : drop l.follower-index l.followers ≡ drop l.follower-index l.fn.followers;
-  told : EachIsTold l.stamp.form l.stamp.moment l.level l.text (take l.follower-index l.fn.followers) (take l.follower-index l.followers);
+  told : EachIsTold l.pen.form l.pen.moment l.level l.text (take l.follower-index l.fn.followers) (take l.follower-index l.followers);
 }

@@ -34,8 +34,8 @@ module _ {S T D K E : Type 0} where
 
 pub returns-in-Answered-clause-does : goal.returns-in-Answered-clause-does
 returns-in-Answered-clause-does g c =
-    let a = c.in-Answered in
-    subst (λ h. HearsOf c.args.agent.now (thing_of h) c.args.self.now (record c.hear_end.new.self { desk = c.hear_answer.new.self })) (sym a.is)
+    let a = c.in-Answered.handed in
+    subst (λ h. HearsOf c.args.agent.now (thing_of h) c.args.self.now (record c.hear_end.new.self { desk = c.hear_answer.new.self })) (sym c.in-Answered.is)
     (answered c.args.agent.now a.entry a.operation a.said a.notes.now c.args.self.now c.hear_end.new.self c.hear_answer.new.self c.hear_end.ensures c.hear_answer.ensures)
 
 pub returns-in-Ahead-clause-does : goal.returns-in-Ahead-clause-does

@@ -1,11 +1,11 @@
-use Rattle.std.proofs.Common.{◌≡◌, ◌+◌, ◌≤◌, IsTrue, List, ℕ, [], ◌∷◌, ◌++◌, length, ap, arith, subst, ◌∙◌}
+use Rattle.std.proofs.Common.{◌≡◌, ◌<◌, List, ℕ, [], ◌∷◌, ◌++◌, length, ap, arith, subst, ◌∙◌}
 use Rattle.base_disk.specs.State.{LeavesOnly}
-use Rattle.base_disk.specs.declared.fault.DiskFault.{DiskFault}
+use Rattle.base_journal.specs.declared.journal.TheConstants.{MOST_BYTES}
 use Rattle.base_journal.specs.Records.{IsBeforeOrAfter, StandsFor, at_rest, blocks}
-use Rattle.base_journal.specs.Journals.{JournalIsAtRest, CrashLeaves, TellsLength, path_of_journal, lines_of_journal}
+use Rattle.base_journal.specs.Journals.{JournalIsAtRest, CrashLeaves, path_of_journal, lines_of_journal}
 use Rattle.base_journal.proofs.Runs.{put_leaves, unput_leaves}
-use Rattle.base_journal.proofs.Steps.{on_refused, passed_on}
-use Rattle.base_journal.proofs.Writing.{as_long, longer}
+use Rattle.base_journal.proofs.Steps.{on_refused}
+use Rattle.base_journal.proofs.Writing.{longer}
 use Rattle.base_journal.proofs.journal.Journal.write.Goals as goal
 
 pub returns-in_err-append-clause-any_moment : goal.returns-in_err-append-clause-any_moment
@@ -47,19 +47,15 @@ returns-in_err-append-clause-gone g c = on_refused c.from_residual-in_err-append
     unput_leaves (path_of_journal old) (lines_of_journal old) mid.size (s c.args.disk.now) (s c.refresh.new.disk) (s c.append.new.disk)
     (c.refresh.ensures.any_moment known) (g.met.D.Disk.counts_now c.refresh.new.disk) rest left)
 
-pub returns-in_err-refuse_long-clause-long : goal.returns-in_err-refuse_long-clause-long
-returns-in_err-refuse_long-clause-long g c =
+pub returns-then-size-gt-MOST_BYTES-clause-long : goal.returns-then-size-gt-MOST_BYTES-clause-long
+returns-then-size-gt-MOST_BYTES-clause-long g c known =
     let old = c.args.self.now in
     let mid = c.refresh.new.self in
     let line = c.args.line.now in
-    let n = length (at_rest (lines_of_journal old ++ line ∷ [])) in
-    let size = c.saturating_add-2.result in
-    passed_on (λ (fault : DiskFault). IsTrue g.D.Disk.is_known → TellsLength n fault) c.from_residual-in_err-refuse_long.result c.from_residual-in_err-refuse_long.ensures.1
-    (λ known.
     let is : mid.size ≡ length (blocks (lines_of_journal old)) = (c.in_ok-refresh.ensures.whole known).size_is ∙ ap (λ (ls : List (List ℕ)). length (blocks ls)) c.refresh.ensures.lines in
-    let len_is : c.len-len.result ≡ length line = c.len-len.ensures ∙ ap (λ (l : List ℕ). length l) c.list.ensures in
+    let len_is : length c.list-len.result.now ≡ length line = ap (λ (l : List ℕ). length l) c.list-len.ensures in
     let first = c.saturating_add.ensures in
-    let second = c.saturating_add-2.ensures in
+    let second = c.saturating_add-size.ensures in
     let all = longer (lines_of_journal old) line in
-    let no_longer : size ≤ n = omega (arith, is, len_is, first, second, all) in
-    as_long size n _ no_longer c.in_err-refuse_long.ensures.refused)
+    let more : MOST_BYTES < length (at_rest (lines_of_journal old ++ line ∷ [])) = omega (arith, is, len_is, first, second, all, c.if-size-gt-MOST_BYTES.true) in
+    more

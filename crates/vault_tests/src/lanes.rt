@@ -202,28 +202,37 @@ fn are(came: &[Answered], indices: &[u32], comes: Comes) -> bool {
             .all(|(answered, index)| is(answered, *index, comes))
 }
 
-/// Takes the steps with so many lanes to these peers, which have time-outs of 5 seconds, and asserts that each comes out as it is
-/// to.
-fn plays_with<R: AllocGlobal + Abort>(
-    rt: &R,
+/// The same of these steps with so many lanes to these peers, which have time-outs of 5 seconds.
+fn first_wrong_of(
+    alloc: Global,
     parts: &[Part],
     width: u32,
     steps: &[Step],
-) -> Result<(), Fail> {
+) -> Result<Option<usize>, AllocError> {
     let clock = Cell::new(0);
     let wires = Wired {
-        alloc: rt.alloc(),
+        alloc,
         parts,
         clock: &clock,
         otherwise: prompt(),
         dials: 0,
     };
     let mut play = Play {
-        alloc: rt.alloc(),
-        lanes: LanesOver::new(rt.alloc(), wires, 5, width),
+        alloc,
+        lanes: LanesOver::new(alloc, wires, 5, width),
         clock: &clock,
     };
-    assert_eq!(rt; play.first_wrong(steps)?, None);
+    play.first_wrong(steps)
+}
+
+/// Takes the steps, and asserts that each comes out as it is to.
+fn plays_with<R: AllocGlobal + Abort>(
+    rt: &R,
+    parts: &[Part],
+    width: u32,
+    steps: &[Step],
+) -> Result<(), Fail> {
+    assert_eq!(rt; first_wrong_of(rt.alloc(), parts, width, steps)?, None);
     Ok(())
 }
 
