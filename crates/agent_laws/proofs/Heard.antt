@@ -129,7 +129,7 @@ module _ (a b : Agent) (alike : AgentsAreAlike a b) where
     heard (Needs None) old new x = (lacks old.desk.want old.desk new.desk x.0, x.1)
     heard (Answer entry operation said notes) old new x = (
       says _ _ _ _ old.desk new.desk (answered_alike old.desk.place a b alike entry operation said notes (mark_at old.desk.marks entry).trouble)
-      (same (λ m f xs. with_trouble entry (trouble_at (bare m f xs) entry) old.desk.marks) a b alike) x.0,
+          (same (λ m f xs. with_trouble entry (trouble_at (bare m f xs) entry) old.desk.marks) a b alike) x.0,
       x.1,
     )
     heard (End entry end) old new x = (says _ _ _ _ old.desk new.desk (same (λ m f xs. ahead_line (bare m f xs) entry end ∷ []) a b alike) refl x.0, x.1)

@@ -130,8 +130,8 @@ module _ (secrets : List Secret) (rows : List Row) (credential : List ℕ) (own 
       has_at row one.0 one.2 one.3 both.0 (has_held row s its.0 more.0 row.file its.1)
 
   not_own : is_others_own rows credential own ≡ false → (is_others_own rows credential own ≡ true) ⊎ (is_others_by_file secrets rows credential own ≡ true) → is_others_by_file secrets rows credential own ≡ true
-  not_own none (inl yes) = absurd (true≢false (sym yes ∙ none))
-  not_own none (inr yes) = yes
+  not_own none (inl is) = absurd (true≢false (sym is ∙ none))
+  not_own none (inr is) = is
 
   -- and where none has it as its own, by its file
   pub else_by_file : is_others_own rows credential own ≡ false → is_others_by_file secrets rows credential own ≡ is_anothers secrets rows credential own

@@ -4,4 +4,4 @@ pub mod WhyUnserved
 pub mod Asking
 pub mod Due
 pub mod Holders
-pub mod Shared
+pub mod Sharing

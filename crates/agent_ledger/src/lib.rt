@@ -4,7 +4,8 @@
 //! for and what came of it (`specs/Keeping`). A [`Ledger`] keeps them in a state on a disk (`specs/Ledgers`): a change that it takes holds
 //! over a restart, and one that it refuses leaves all as it was (`specs/Untouched`). The credential that a change brings is looked up
 //! first, by itself (`specs/Candidates`, `specs/Inquiries`), and so is what a file holds before it is taken (`specs/Takings`), of as many
-//! files at once as there are askers (`specs/Askers`). Why something is not kept is said in exact words (`specs/Reasons`). Begin with `specs/Keeping` and `specs/Ledgers`, then `keeping` and `ledger`.
+//! files at once as there are askers (`specs/Askers`). At a start it is taken unless it may not go together (`specs/Shared`). Why something
+//! is not kept is said in exact words (`specs/Reasons`). Begin with `specs/Keeping` and `specs/Ledgers`, then `keeping` and `ledger`.
 #![tactic(auto)]
 
 mod asked_file;

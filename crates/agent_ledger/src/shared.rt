@@ -34,7 +34,7 @@ pub(crate) fn may_be_apart(
 }
 
 // Whether there are more rows than always fit, or two of a kind have one credential.
-#[tactic(auto, using(crate::proofs::Shared::apart_many, crate::proofs::Shared::apart_few))]
+#[tactic(auto, unfolding(crate::specs::Shared::may_be_apart))]
 fn is_any_apart(alloc: Global, rows: &[Row]) -> Result<bool, AllocError>
     ensures { IfOk result (λ may. may ≡ may_be_apart rows.now) }
 {
@@ -42,7 +42,7 @@ fn is_any_apart(alloc: Global, rows: &[Row]) -> Result<bool, AllocError>
 }
 
 // Whether two of these rows of one kind have one credential.
-#[tactic(auto, using(crate::proofs::Shared::none_shared, crate::proofs::Shared::none_held, crate::proofs::Shared::all_shared))]
+#[tactic(auto, using(crate::proofs::Sharing::none_shared, crate::proofs::Sharing::none_held, crate::proofs::Sharing::all_shared))]
 fn is_any_shared(alloc: Global, rows: &[Row]) -> Result<bool, AllocError>
     ensures { IfOk result (λ any. any ≡ is_any_shared rows.now) }
 {

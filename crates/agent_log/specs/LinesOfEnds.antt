@@ -14,13 +14,21 @@ use Rattle.agent_words.specs.Reasons.{disk_words}
 abbrev pub ends_line : Level → List ℕ → DiskFault → Line
 ends_line level what fault = said_line level (codes "ends") (words.Text what ∷ words.Text (disk_words fault) ∷ [])
 
--- they could not be kept: that is said once, as long as it lasts
+-- the ends from before the start cannot be read
+abbrev pub unread_line : DiskFault → Line
+unread_line fault = ends_line Alert (codes "cannot be read:") fault
+
+-- the ends cannot be kept
+abbrev pub unkept_line : DiskFault → Line
+unkept_line fault = ends_line Note (codes "could not be kept:") fault
+
+-- that is said once, as long as it lasts
 abbrev pub tried_lines : Bool → Option (Result (Unit {0}) DiskFault) → List Line
 tried_lines was_failing None = []
 tried_lines was_failing (Some (Ok kept)) = []
-tried_lines was_failing (Some (Err fault)) = if was_failing then [] else ends_line Note (codes "could not be kept:") fault ∷ []
+tried_lines was_failing (Some (Err fault)) = if was_failing then [] else unkept_line fault ∷ []
 
--- those from before the start cannot be read; the agent may have heard no clock yet
+-- the agent may have heard no clock yet
 pub record HearsUnread (now : Reading) (fault : DiskFault) (old new : Desk) : Type 0 where
-  pub said : LineIsSaid old.form (second_of now.wall) (ends_line Alert (codes "cannot be read:") fault) old.room new.room
+  pub said : LineIsSaid old.form (second_of now.wall) (unread_line fault) old.room new.room
   pub rest : new ≡ record old { room = new.room }

@@ -74,7 +74,7 @@ impl Desk {
         ensures { HearsClock agent.now notes.now requests.now self.old self.new }
     {
         let pen = self.pen(alloc, agent);
-        say_clocked(pen, agent, notes, requests, &self.marks, &mut self.room);
+        say_clocked(&pen, agent, notes, requests, &self.marks, &mut self.room);
         mark_ended(agent, &mut self.marks);
     }
 
@@ -83,7 +83,7 @@ impl Desk {
         ensures { HearsShorts agent.now shorts.now self.old self.new }
     {
         let pen = self.pen(alloc, agent);
-        say_shorts(pen, agent, shorts, &mut self.room);
+        say_shorts(&pen, agent, shorts, &mut self.room);
     }
 
     /// Says what came of a request of the entry at an index, and what is noted of that.
@@ -91,10 +91,11 @@ impl Desk {
         ensures { HearsAnswer agent.now handed.now.entry handed.now.operation handed.now.said handed.now.notes.now self.old self.new }
     {
         let pen = self.pen(alloc, agent);
-        let mark = mark_at(&self.marks, handed.entry);
-        say_answered(pen, &self.place, agent, handed, mark.trouble, &mut self.room);
+        let was = mark_at(&self.marks, handed.entry);
+        let before = was.trouble;
+        say_answered(&pen, &self.place, agent, handed, before, &mut self.room);
         let trouble = trouble_at(agent, handed.entry as usize);
-        set_mark(&mut self.marks, handed.entry, Mark { trouble, ..mark });
+        set_mark(&mut self.marks, handed.entry, Mark { trouble, ..was });
     }
 
     /// Says that an end of an entry was looked up and handed in, for an agent that stands behind another.
@@ -103,7 +104,7 @@ impl Desk {
         ensures { HearsAhead agent.now entry end self.old self.new }
     {
         let pen = self.pen(alloc, agent);
-        say_ahead(pen, agent, entry, end, &mut self.room);
+        say_ahead(&pen, agent, entry, end, &mut self.room);
         set_step(&mut self.marks, entry, false);
     }
 
@@ -119,7 +120,7 @@ impl Desk {
         ensures { HearsSteps agent.now lead requests.now self.old self.new }
     {
         let pen = self.pen(alloc, agent);
-        say_steps(pen, agent, lead, requests, &self.marks, &mut self.room);
+        say_steps(&pen, agent, lead, requests, &self.marks, &mut self.room);
         mark_steps(agent.watch(), lead, requests, &mut self.marks);
     }
 
@@ -128,7 +129,7 @@ impl Desk {
         ensures { HearsRefusal agent.now self.old self.new }
     {
         let pen = self.pen(alloc, agent);
-        say_memory(pen, &mut self.room);
+        say_memory(&pen, &mut self.room);
     }
 
     /// Says that memory was refused, where it did not suffice.
@@ -146,7 +147,7 @@ impl Desk {
         ensures { SaysLine agent.now (need_log_line name.now until) self.old self.new }
     {
         let pen = self.pen(alloc, agent);
-        say_need(pen, name, until, &mut self.room);
+        say_need(&pen, name, until, &mut self.room);
     }
 
     /// Says that an entry has another credential, is added, or is dropped, as the event has it.
@@ -172,7 +173,7 @@ impl Desk {
         ensures { SaysLines agent.now (reread_lines reread.now) self.old.marks self.old self.new }
     {
         let pen = self.pen(alloc, agent);
-        say_reread(pen, reread, &mut self.room);
+        say_reread(&pen, reread, &mut self.room);
     }
 
     /// Says why the file is not served, a line for each reason.
@@ -180,7 +181,7 @@ impl Desk {
         ensures { SaysLines agent.now (fault_lines whys.now) self.old.marks self.old self.new }
     {
         let pen = self.pen(alloc, agent);
-        say_each(pen, Level::Alert, "file", whys, &mut self.room);
+        say_each(&pen, Level::Alert, "file", whys, &mut self.room);
     }
 
     /// The agent serves another inventory from now on: these marks are made those of its entries.
@@ -218,7 +219,7 @@ impl Desk {
         ensures { HearsNoSocket now socket.now why.now cost.now self.old self.new }
     {
         let pen = self.pen_at(alloc, now);
-        say_no_socket(pen, socket, why, cost, &mut self.room);
+        say_no_socket(&pen, socket, why, cost, &mut self.room);
     }
 
     // With what lines are written of the agent as it is.

@@ -23,7 +23,7 @@ impl Desk {
         ensures fed { AreFed self.old.form (second_of now.wall) self.old.room self.new.room clients.old clients.new }
         ensures rest { self.new ≡ record self.old { room = self.new.room } }
     {
-        feed_each(self.pen_at(alloc, now), &mut self.room.followers, clients);
+        feed_each(&self.pen_at(alloc, now), &mut self.room.followers, clients);
         drop_gone(&mut self.room.followers);
     }
 }
@@ -35,13 +35,9 @@ fn drop_gone(followers: &mut Vec<Follower>)
     followers.retain(|follower| !follower.has_gone);
 }
 
-fn feed_each<T: Talk>(
-    pen: Pen,
-    followers: &mut [Follower],
-    clients: &mut Clients<T, RequestLines>,
-)
+fn feed_each<T: Talk>(pen: &Pen, followers: &mut [Follower], clients: &mut Clients<T, RequestLines>)
     ensures many { length followers.new ≡ length followers.old }
-    ensures fed { EachIsFed pen.form pen.moment followers.old followers.new clients.old clients.new }
+    ensures fed { EachIsFed pen.now.form pen.now.moment followers.old followers.new clients.old clients.new }
 {
     for follower in followers.iter_mut() {
         feed_one(pen, follower, clients);
@@ -49,21 +45,17 @@ fn feed_each<T: Talk>(
 }
 
 #[tactic(auto, using(crate::proofs::Within::fed_within))]
-fn feed_one<T: Talk>(
-    pen: Pen,
-    follower: &mut Follower,
-    clients: &mut Clients<T, RequestLines>,
-)
-    ensures { FollowerIsFed pen.form pen.moment follower.old follower.new clients.old clients.new }
+fn feed_one<T: Talk>(pen: &Pen, follower: &mut Follower, clients: &mut Clients<T, RequestLines>)
+    ensures { FollowerIsFed pen.now.form pen.now.moment follower.old follower.new clients.old clients.new }
 {
     let fed = clients.feed(follower.id, follower.room.waiting());
     become_fed(pen, fed, follower);
 }
 
 // What one becomes by what came of it.
-fn become_fed(pen: Pen, fed: Result<Fed, AllocError>, follower: &mut Follower)
+fn become_fed(pen: &Pen, fed: Result<Fed, AllocError>, follower: &mut Follower)
     requires { IsFedAtMost (length follower.old.room.bytes) fed }
-    ensures { BecomesFed pen.form pen.moment fed follower.old follower.new }
+    ensures { BecomesFed pen.now.form pen.now.moment fed follower.old follower.new }
 {
     match fed {
         Ok(Fed::Gone) => follower.has_gone = true,
@@ -73,9 +65,9 @@ fn become_fed(pen: Pen, fed: Result<Fed, AllocError>, follower: &mut Follower)
 }
 
 // So many bytes were taken.
-fn pass(pen: Pen, taken: usize, follower: &mut Follower)
+fn pass(pen: &Pen, taken: usize, follower: &mut Follower)
     requires { taken ≤ length follower.old.room.bytes }
-    ensures { IsGivenOf pen.form pen.moment taken follower.old follower.new }
+    ensures { IsGivenOf pen.now.form pen.now.moment taken follower.old follower.new }
 {
     follower.room.pass(taken);
     tell_if(pen, is_some(taken), &mut follower.room);

@@ -19,14 +19,14 @@ use watch_machine::{Link, Operation, Reply, Watch};
 /// says of the broker.
 #[tactic(auto, unfolding(crate::specs::LinesOfAnswers::answered_lines))]
 pub(crate) fn say_answered(
-    pen: Pen,
+    pen: &Pen,
     place: &[u8],
     agent: &Agent,
     handed: &HandedIn<'_>,
     before: Option<Trouble>,
     room: &mut Rooms,
 )
-    ensures { AreSaid pen.form pen.moment (answered_lines place.now agent.now handed.now.entry handed.now.operation handed.now.said handed.now.notes.now before) room.old room.new }
+    ensures { AreSaid pen.now.form pen.now.moment (answered_lines place.now agent.now handed.now.entry handed.now.operation handed.now.said handed.now.notes.now before) room.old room.new }
 {
     if handed.entry < agent.inventory().forest().len() {
         say_reply(pen, place, agent, handed, before, room);
@@ -38,14 +38,14 @@ pub(crate) fn say_answered(
 
 // Says what came of a request.
 fn say_reply(
-    pen: Pen,
+    pen: &Pen,
     place: &[u8],
     agent: &Agent,
     handed: &HandedIn<'_>,
     before: Option<Trouble>,
     room: &mut Rooms,
 )
-    ensures { LineIsSaid pen.form pen.moment (reply_line place.now (name_of agent.now.inventory.forest handed.now.entry) agent.now.machine handed.now.operation before handed.now.said.loss handed.now.said.reply) room.old room.new }
+    ensures { LineIsSaid pen.now.form pen.now.moment (reply_line place.now (name_of agent.now.inventory.forest handed.now.entry) agent.now.machine handed.now.operation before handed.now.said.loss handed.now.said.reply) room.old room.new }
 {
     let name = name_of(agent.inventory().forest(), handed.entry);
     match handed.said.reply {
@@ -88,14 +88,14 @@ fn told_word(watch: &Watch, operation: Operation, seconds: u64, date: Option<u64
 
 #[tactic(auto, using(crate::proofs::Said::missed))]
 fn say_lost(
-    pen: Pen,
+    pen: &Pen,
     place: &[u8],
     name: &[u8],
     before: Option<Trouble>,
     why: Loss,
     room: &mut Rooms,
 )
-    ensures { LineIsSaid pen.form pen.moment (lost_log_line place.now name.now before why) room.old room.new }
+    ensures { LineIsSaid pen.now.form pen.now.moment (lost_log_line place.now name.now before why) room.old room.new }
 {
     let level = trouble_level(before, Trouble::Lost);
     match name_and_loss(pen.alloc, place, name, why) {
@@ -121,14 +121,14 @@ fn trouble_level(before: Option<Trouble>, trouble: Trouble) -> Level
 // Says what is noted of an handed.
 #[tactic(auto, using(crate::proofs::Said::both_said))]
 fn say_noted(
-    pen: Pen,
+    pen: &Pen,
     place: &[u8],
     agent: &Agent,
     handed: &HandedIn<'_>,
     before: Option<Trouble>,
     room: &mut Rooms,
 )
-    ensures { AreSaid pen.form pen.moment (noted_log_lines place.now (name_of agent.now.inventory.forest handed.now.entry) agent.now.machine before handed.now.said.loss handed.now.notes.now) room.old room.new }
+    ensures { AreSaid pen.now.form pen.now.moment (noted_log_lines place.now (name_of agent.now.inventory.forest handed.now.entry) agent.now.machine before handed.now.said.loss handed.now.notes.now) room.old room.new }
 {
     let name = name_of(agent.inventory().forest(), handed.entry);
     let notes = handed.notes;
@@ -140,14 +140,8 @@ fn say_noted(
 }
 
 #[tactic(auto, using(crate::proofs::Said::one_said))]
-fn say_gone(
-    pen: Pen,
-    name: &[u8],
-    before: Option<Trouble>,
-    gone: Option<u16>,
-    room: &mut Rooms,
-)
-    ensures { AreSaid pen.form pen.moment (gone_lines name.now before gone) room.old room.new }
+fn say_gone(pen: &Pen, name: &[u8], before: Option<Trouble>, gone: Option<u16>, room: &mut Rooms)
+    ensures { AreSaid pen.now.form pen.now.moment (gone_lines name.now before gone) room.old room.new }
 {
     if let Some(status) = gone {
         let level = trouble_level(before, Trouble::Gone);
@@ -157,8 +151,8 @@ fn say_gone(
 }
 
 #[tactic(auto, using(crate::proofs::Said::one_said))]
-fn say_top(pen: Pen, name: &[u8], watch: &Watch, top: Option<u64>, room: &mut Rooms)
-    ensures { AreSaid pen.form pen.moment (top_lines name.now watch.now top) room.old room.new }
+fn say_top(pen: &Pen, name: &[u8], watch: &Watch, top: Option<u64>, room: &mut Rooms)
+    ensures { AreSaid pen.now.form pen.now.moment (top_lines name.now watch.now top) room.old room.new }
 {
     if let Some(end) = top {
         let end = moment_word(watch.broker_moment(end));
@@ -167,8 +161,8 @@ fn say_top(pen: Pen, name: &[u8], watch: &Watch, top: Option<u64>, room: &mut Ro
 }
 
 #[tactic(auto, using(crate::proofs::Said::one_said, crate::proofs::Said::missed))]
-fn say_link(pen: Pen, place: &[u8], why: Loss, link: Option<Link>, room: &mut Rooms)
-    ensures { AreSaid pen.form pen.moment (link_lines place.now why link) room.old room.new }
+fn say_link(pen: &Pen, place: &[u8], why: Loss, link: Option<Link>, room: &mut Rooms)
+    ensures { AreSaid pen.now.form pen.now.moment (link_lines place.now why link) room.old room.new }
 {
     match link {
         None => {}

@@ -14,8 +14,8 @@ use watch_machine::{Millis, Operation, Request, Watch};
 
 /// Says that an entry was looked up, and how many seconds it has left.
 #[tactic(auto, unfolding(watch_machine::specs::Clocks::sec))]
-pub(crate) fn say_ahead(pen: Pen, agent: &Agent, entry: u32, end: u64, room: &mut Rooms)
-    ensures { LineIsSaid pen.form pen.moment (ahead_line agent.now entry end) room.old room.new }
+pub(crate) fn say_ahead(pen: &Pen, agent: &Agent, entry: u32, end: u64, room: &mut Rooms)
+    ensures { LineIsSaid pen.now.form pen.now.moment (ahead_line agent.now entry end) room.old room.new }
 {
     let left = Word::Number(end.saturating_sub(agent.watch().clocks().at / 1000));
     let name = name_of(agent.inventory().forest(), entry);
@@ -24,14 +24,14 @@ pub(crate) fn say_ahead(pen: Pen, agent: &Agent, entry: u32, end: u64, room: &mu
 
 /// Says for which entries the agent steps in, where that was not said.
 pub(crate) fn say_steps(
-    pen: Pen,
+    pen: &Pen,
     agent: &Agent,
     lead: Millis,
     requests: &[Request],
     marks: &[Mark],
     room: &mut Rooms,
 )
-    ensures { AreSaid pen.form pen.moment (steps_in_lines agent.now lead marks.now requests.now) room.old room.new }
+    ensures { AreSaid pen.now.form pen.now.moment (steps_in_lines agent.now lead marks.now requests.now) room.old room.new }
 {
     for request in requests {
         say_step(pen, agent, lead, *request, marks, room);
@@ -40,14 +40,14 @@ pub(crate) fn say_steps(
 
 // Says so of the entry of a request, where that is a renewal by which the agent steps in.
 fn say_step(
-    pen: Pen,
+    pen: &Pen,
     agent: &Agent,
     lead: Millis,
     request: Request,
     marks: &[Mark],
     room: &mut Rooms,
 )
-    ensures { AreSaid pen.form pen.moment (steps_in_line agent.now lead marks.now request) room.old room.new }
+    ensures { AreSaid pen.now.form pen.now.moment (steps_in_line agent.now lead marks.now request) room.old room.new }
 {
     let is_first = is_first_step(agent.watch(), lead, request, marks);
     let name = name_of(agent.inventory().forest(), request.entry);

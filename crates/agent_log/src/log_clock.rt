@@ -18,14 +18,14 @@ use watch_machine::{Notes, Operation, Request, Why};
 /// Says what is noted of the time, whom is asked what, and whose ends are past.
 #[tactic(auto, using(crate::proofs::Said::both_said), unfolding(crate::specs::LinesOfClocks::clocked_lines))]
 pub(crate) fn say_clocked(
-    pen: Pen,
+    pen: &Pen,
     agent: &Agent,
     notes: &Notes,
     requests: &[Request],
     marks: &[Mark],
     room: &mut Rooms,
 )
-    ensures { AreSaid pen.form pen.moment (clocked_lines agent.now notes.now requests.now marks.now) room.old room.new }
+    ensures { AreSaid pen.now.form pen.now.moment (clocked_lines agent.now notes.now requests.now marks.now) room.old room.new }
 {
     say_begin(pen, notes.began, room);
     say_wake(pen, agent, &notes.round, room);
@@ -37,8 +37,8 @@ pub(crate) fn say_clocked(
 
 // Says why everything is looked up anew, where it is.
 #[tactic(auto, using(crate::proofs::Said::one_said))]
-fn say_begin(pen: Pen, began: Option<Why>, room: &mut Rooms)
-    ensures { AreSaid pen.form pen.moment (begin_lines began) room.old room.new }
+fn say_begin(pen: &Pen, began: Option<Why>, room: &mut Rooms)
+    ensures { AreSaid pen.now.form pen.now.moment (begin_lines began) room.old room.new }
 {
     if let Some(why) = began {
         pen.say_text(Level::Info, "begin", why_text(why), room);
@@ -58,8 +58,8 @@ fn why_text(why: Why) -> &'static [u8]
 
 // Says the round that opens, where one does.
 #[tactic(auto, using(crate::proofs::Said::one_said, crate::proofs::Said::missed), unfolding(watch_machine::specs::Clocks::sec))]
-fn say_wake(pen: Pen, agent: &Agent, round: &Option<Indices>, room: &mut Rooms)
-    ensures { AreSaid pen.form pen.moment (wake_lines agent.now round.now) room.old room.new }
+fn say_wake(pen: &Pen, agent: &Agent, round: &Option<Indices>, room: &mut Rooms)
+    ensures { AreSaid pen.now.form pen.now.moment (wake_lines agent.now round.now) room.old room.new }
 {
     if let Some(asked) = round {
         say_round(pen, agent, asked.list(), room);
@@ -67,8 +67,8 @@ fn say_wake(pen: Pen, agent: &Agent, round: &Option<Indices>, room: &mut Rooms)
 }
 
 #[tactic(auto, using(crate::proofs::Said::one_said, crate::proofs::Said::missed), unfolding(watch_machine::specs::Clocks::sec))]
-fn say_round(pen: Pen, agent: &Agent, asked: &[u32], room: &mut Rooms)
-    ensures { AreSaid pen.form pen.moment (wake_lines agent.now (Some asked.now)) room.old room.new }
+fn say_round(pen: &Pen, agent: &Agent, asked: &[u32], room: &mut Rooms)
+    ensures { AreSaid pen.now.form pen.now.moment (wake_lines agent.now (Some asked.now)) room.old room.new }
 {
     let watch = agent.watch();
     let moment = moment_word(watch.broker_moment(watch.clocks().at / 1000));
@@ -81,14 +81,14 @@ fn say_round(pen: Pen, agent: &Agent, asked: &[u32], room: &mut Rooms)
 // Says of whom this is asked, where it is of somebody.
 #[tactic(auto, using(crate::proofs::Said::one_said, crate::proofs::Said::missed))]
 fn say_asked(
-    pen: Pen,
+    pen: &Pen,
     names: &Forest,
     event: &'static str,
     operation: Operation,
     requests: &[Request],
     room: &mut Rooms,
 )
-    ensures { AreSaid pen.form pen.moment (asked_log_lines names.now event.now operation requests.now) room.old room.new }
+    ensures { AreSaid pen.now.form pen.now.moment (asked_log_lines names.now event.now operation requests.now) room.old room.new }
 {
     if !is_asked(operation, requests) {
         return;
@@ -110,22 +110,22 @@ fn is_asked(operation: Operation, requests: &[Request]) -> bool
 
 /// Says which needs are past what their entries reach.
 #[tactic(auto, unfolding(crate::specs::LinesOfClocks::short_log_lines))]
-pub(crate) fn say_shorts(pen: Pen, agent: &Agent, shorts: &[Short], room: &mut Rooms)
-    ensures { AreSaid pen.form pen.moment (short_log_lines agent.now shorts.now) room.old room.new }
+pub(crate) fn say_shorts(pen: &Pen, agent: &Agent, shorts: &[Short], room: &mut Rooms)
+    ensures { AreSaid pen.now.form pen.now.moment (short_log_lines agent.now shorts.now) room.old room.new }
 {
     say_each_short(pen, agent.inventory().forest(), shorts, room);
 }
 
-fn say_each_short(pen: Pen, names: &Forest, shorts: &[Short], room: &mut Rooms)
-    ensures { AreSaid pen.form pen.moment (map (short_log_line names.now) shorts.now) room.old room.new }
+fn say_each_short(pen: &Pen, names: &Forest, shorts: &[Short], room: &mut Rooms)
+    ensures { AreSaid pen.now.form pen.now.moment (map (short_log_line names.now) shorts.now) room.old room.new }
 {
     for short in shorts {
         say_short(pen, names, *short, room);
     }
 }
 
-fn say_short(pen: Pen, names: &Forest, short: Short, room: &mut Rooms)
-    ensures { LineIsSaid pen.form pen.moment (short_log_line names.now short) room.old room.new }
+fn say_short(pen: &Pen, names: &Forest, short: Short, room: &mut Rooms)
+    ensures { LineIsSaid pen.now.form pen.now.moment (short_log_line names.now short) room.old room.new }
 {
     let reach = moment_word(short.reach);
     let name = name_of(names, short.entry);
@@ -139,8 +139,8 @@ fn say_short(pen: Pen, names: &Forest, short: Short, room: &mut Rooms)
 
 /// Says that memory was refused.
 #[tactic(auto, using(crate::proofs::Said::one_said))]
-pub(crate) fn say_memory(pen: Pen, room: &mut Rooms)
-    ensures { AreSaid pen.form pen.moment (memory_line ∷ []) room.old room.new }
+pub(crate) fn say_memory(pen: &Pen, room: &mut Rooms)
+    ensures { AreSaid pen.now.form pen.now.moment (memory_line ∷ []) room.old room.new }
 {
     pen.say_text(Level::Warning, "memory", b"refused", room);
 }

@@ -12,8 +12,8 @@ use base_log::Level;
 use program_lines::name_of;
 
 /// Says which entries have ended while they are needed, where that was not said.
-pub(crate) fn say_ended(pen: Pen, agent: &Agent, marks: &[Mark], room: &mut Rooms)
-    ensures { AreSaid pen.form pen.moment (ended_lines agent.now 0 marks.now) room.old room.new }
+pub(crate) fn say_ended(pen: &Pen, agent: &Agent, marks: &[Mark], room: &mut Rooms)
+    ensures { AreSaid pen.now.form pen.now.moment (ended_lines agent.now 0 marks.now) room.old room.new }
 {
     for entry in 0..marks.len() {
         say_end(pen, agent, entry, marks[entry], room);
@@ -22,8 +22,8 @@ pub(crate) fn say_ended(pen: Pen, agent: &Agent, marks: &[Mark], room: &mut Room
 
 // Says that an entry has ended, where that is so and was not said.
 #[tactic(auto, using(crate::proofs::Said::one_said))]
-fn say_end(pen: Pen, agent: &Agent, entry: usize, mark: Mark, room: &mut Rooms)
-    ensures { AreSaid pen.form pen.moment (ended_line agent.now entry mark) room.old room.new }
+fn say_end(pen: &Pen, agent: &Agent, entry: usize, mark: Mark, room: &mut Rooms)
+    ensures { AreSaid pen.now.form pen.now.moment (ended_line agent.now entry mark) room.old room.new }
 {
     let names = agent.inventory().forest();
     if entry >= names.len() as usize {

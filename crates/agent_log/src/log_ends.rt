@@ -2,7 +2,7 @@
 ghost use Rattle.std.specs.Prelude.{◌≡◌, ◌∷◌, [], IfOk};
 ghost use Rattle.base_log.specs.declared.line.Word.TheVariants as kinds;
 ghost use Rattle.agent_log.specs.LogDesk.{SaysLines};
-ghost use Rattle.agent_log.specs.LinesOfEnds.{HearsUnread, ends_line, tried_lines};
+ghost use Rattle.agent_log.specs.LinesOfEnds.{HearsUnread, ends_line, tried_lines, unkept_line, unread_line};
 ghost use Rattle.agent_log.specs.Lines.{LineIsSaid};
 ghost use Rattle.agent_words.specs.Reasons.{disk_words};
 
@@ -23,7 +23,7 @@ impl Desk {
         ensures { HearsUnread now fault self.old self.new }
     {
         let pen = self.pen_at(alloc, now);
-        say_ends(pen, Level::Alert, b"cannot be read:", fault, &mut self.room);
+        say_unread(&pen, fault, &mut self.room);
     }
 
     /// Says that the ends could not be kept, where that is so and was not so before.
@@ -40,16 +40,30 @@ impl Desk {
         if let Some(Err(fault)) = tried {
             if !was_failing {
                 let pen = self.pen(alloc, agent);
-                say_ends(pen, Level::Note, b"could not be kept:", fault, &mut self.room);
+                say_unkept(&pen, fault, &mut self.room);
             }
         }
     }
 }
 
+// Says that the ends from before the start cannot be read.
+fn say_unread(pen: &Pen, fault: DiskFault, room: &mut Rooms)
+    ensures { LineIsSaid pen.now.form pen.now.moment (unread_line fault) room.old room.new }
+{
+    say_ends(pen, Level::Alert, b"cannot be read:", fault, room);
+}
+
+// Says that the ends could not be kept.
+fn say_unkept(pen: &Pen, fault: DiskFault, room: &mut Rooms)
+    ensures { LineIsSaid pen.now.form pen.now.moment (unkept_line fault) room.old room.new }
+{
+    say_ends(pen, Level::Note, b"could not be kept:", fault, room);
+}
+
 // Says what is wrong with the ends, and why.
 #[tactic(auto, using(crate::proofs::Said::missed))]
-fn say_ends(pen: Pen, level: Level, what: &[u8], fault: DiskFault, room: &mut Rooms)
-    ensures { LineIsSaid pen.form pen.moment (ends_line level what.now fault) room.old room.new }
+fn say_ends(pen: &Pen, level: Level, what: &[u8], fault: DiskFault, room: &mut Rooms)
+    ensures { LineIsSaid pen.now.form pen.now.moment (ends_line level what.now fault) room.old room.new }
 {
     match fault_words(pen.alloc, what, fault) {
         Ok(words) => pen.say(level, "ends", words, room),

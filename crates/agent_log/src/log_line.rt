@@ -10,7 +10,7 @@ use base_moment::Moment;
 use std::alloc::{AllocError, Global};
 
 /// What lines are written with: memory, their form, and their moment.
-#[derive(Clone, Copy, Debug)]
+#[derive(Debug, Drop)]
 pub(crate) struct Pen {
     pub(crate) alloc: Global,
     pub(crate) form: Form,
@@ -20,8 +20,8 @@ pub(crate) struct Pen {
 impl Pen {
     /// Says a line. Where memory is wanting for it, it is dropped and counted.
     #[tactic(auto, using(crate::proofs::Said::put_said, crate::proofs::Said::missed))]
-    pub(crate) fn say(self, level: Level, event: &'static str, words: Vec<Word>, room: &mut Rooms)
-        ensures { LineIsSaid self.form self.moment (said_line level event.now words.items) room.old room.new }
+    pub(crate) fn say(&self, level: Level, event: &'static str, words: Vec<Word>, room: &mut Rooms)
+        ensures { LineIsSaid self.now.form self.now.moment (said_line level event.now words.items) room.old room.new }
     {
         match self.written(level, event, words) {
             Ok(text) => room.put(self, level, &text),
@@ -32,14 +32,14 @@ impl Pen {
     /// Says a line of a name and a word.
     #[tactic(auto, using(crate::proofs::Said::missed))]
     pub(crate) fn say_of(
-        self,
+        &self,
         level: Level,
         event: &'static str,
         name: &[u8],
         word: Word,
         room: &mut Rooms,
     )
-        ensures { LineIsSaid self.form self.moment (said_line level event.now (words.Text name.now ∷ word ∷ [])) room.old room.new }
+        ensures { LineIsSaid self.now.form self.now.moment (said_line level event.now (words.Text name.now ∷ word ∷ [])) room.old room.new }
     {
         match name_and(self.alloc, name, word) {
             Ok(words) => self.say(level, event, words, room),
@@ -49,8 +49,8 @@ impl Pen {
 
     /// Says a line of one text, a name for example.
     #[tactic(auto, using(crate::proofs::Said::missed))]
-    pub(crate) fn say_text(self, level: Level, event: &'static str, text: &[u8], room: &mut Rooms)
-        ensures { LineIsSaid self.form self.moment (text_line level event.now text.now) room.old room.new }
+    pub(crate) fn say_text(&self, level: Level, event: &'static str, text: &[u8], room: &mut Rooms)
+        ensures { LineIsSaid self.now.form self.now.moment (text_line level event.now text.now) room.old room.new }
     {
         match one_text(self.alloc, text) {
             Ok(words) => self.say(level, event, words, room),
@@ -61,14 +61,14 @@ impl Pen {
     /// Says a line of one text, where something is so.
     #[tactic(auto, using(crate::proofs::Said::one_said))]
     pub(crate) fn say_if(
-        self,
+        &self,
         is: bool,
         level: Level,
         event: &'static str,
         text: &[u8],
         room: &mut Rooms,
     )
-        ensures { AreSaid self.form self.moment (line_if is (text_line level event.now text.now)) room.old room.new }
+        ensures { AreSaid self.now.form self.now.moment (line_if is (text_line level event.now text.now)) room.old room.new }
     {
         if is {
             self.say_text(level, event, text, room);
@@ -78,13 +78,13 @@ impl Pen {
     /// Says a line of one text, unless memory is wanting for it: then it is not counted as dropped, but to be said again. Whether it
     /// was said.
     pub(crate) fn try_text(
-        self,
+        &self,
         level: Level,
         event: &'static str,
         text: &[u8],
         room: &mut Rooms,
     ) -> bool
-        ensures { IsSaid result self.form self.moment (text_line level event.now text.now) room.old room.new }
+        ensures { IsSaid result self.now.form self.now.moment (text_line level event.now text.now) room.old room.new }
     {
         match self.written_text(level, event, text) {
             Ok(written) => {
@@ -97,19 +97,19 @@ impl Pen {
 
     // A line of one text, as it is written.
     fn written_text(
-        self,
+        &self,
         level: Level,
         event: &'static str,
         text: &[u8],
     ) -> Result<Vec<u8>, AllocError>
-        ensures { IfOk result (λ written. LineIsWritten self.form self.moment (text_line level event.now text.now) written.items) }
+        ensures { IfOk result (λ written. LineIsWritten self.now.form self.now.moment (text_line level event.now text.now) written.items) }
     {
         self.written(level, event, one_text(self.alloc, text)?)
     }
 
     /// The line that tells how many were dropped; nothing where none were. The only error is lack of memory.
-    pub(crate) fn notice_of(self, untold: u64) -> Result<Vec<u8>, AllocError>
-        ensures told { IfOk result (λ notice. TellsDropped self.form self.moment untold notice.items) }
+    pub(crate) fn notice_of(&self, untold: u64) -> Result<Vec<u8>, AllocError>
+        ensures told { IfOk result (λ notice. TellsDropped self.now.form self.now.moment untold notice.items) }
         ensures due { OnErr result (0 < untold) }
     {
         if untold == 0 {
@@ -120,12 +120,12 @@ impl Pen {
 
     // A line as it is written.
     fn written(
-        self,
+        &self,
         level: Level,
         event: &'static str,
         words: Vec<Word>,
     ) -> Result<Vec<u8>, AllocError>
-        ensures { IfOk result (λ text. LineIsWritten self.form self.moment (said_line level event.now words.items) text.items) }
+        ensures { IfOk result (λ text. LineIsWritten self.now.form self.now.moment (said_line level event.now words.items) text.items) }
     {
         let line = LogLine {
             moment: self.moment,

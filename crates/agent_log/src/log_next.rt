@@ -31,15 +31,15 @@ impl Desk {
     {
         if !was_said(last, next) {
             let pen = self.pen(alloc, agent);
-            say_next(pen, agent, next, &mut self.room);
+            say_next(&pen, agent, next, &mut self.room);
         }
     }
 }
 
 // Says the next time of an entry, by the broker's clock.
 #[tactic(auto, using(crate::proofs::Said::missed))]
-fn say_next(pen: Pen, agent: &Agent, next: Option<Next>, room: &mut Rooms)
-    ensures { LineIsSaid pen.form pen.moment (next_log_line agent.now next) room.old room.new }
+fn say_next(pen: &Pen, agent: &Agent, next: Option<Next>, room: &mut Rooms)
+    ensures { LineIsSaid pen.now.form pen.now.moment (next_log_line agent.now next) room.old room.new }
 {
     let Some(next) = next else {
         pen.say_text(Level::Info, "next", b"none", room);

@@ -32,7 +32,7 @@ impl Desk {
         ensures told { TellsIf is_asked self.old.form (second_of now.wall) self.old.room.log self.new.room.log }
         ensures rest { self.new ≡ record self.old { room = record self.old.room { log = self.new.room.log } } }
     {
-        tell_if(self.pen_at(alloc, now), is_asked, &mut self.room.log);
+        tell_if(&self.pen_at(alloc, now), is_asked, &mut self.room.log);
     }
 }
 
@@ -51,8 +51,8 @@ fn goes_on(taken: usize, failed: bool) -> bool
 }
 
 /// Tells of dropped lines, where that is asked.
-pub(crate) fn tell_if(pen: Pen, is_asked: bool, room: &mut LogRoom)
-    ensures { TellsIf is_asked pen.form pen.moment room.old room.new }
+pub(crate) fn tell_if(pen: &Pen, is_asked: bool, room: &mut LogRoom)
+    ensures { TellsIf is_asked pen.now.form pen.now.moment room.old room.new }
 {
     if is_asked {
         tell(pen, room);
@@ -61,8 +61,8 @@ pub(crate) fn tell_if(pen: Pen, is_asked: bool, room: &mut LogRoom)
 
 // Puts the line that tells of dropped lines, where there are any and there is room for it. Where memory for it is wanting, it is not
 // put yet.
-fn tell(pen: Pen, room: &mut LogRoom)
-    ensures { MayTell pen.form pen.moment room.old room.new }
+fn tell(pen: &Pen, room: &mut LogRoom)
+    ensures { MayTell pen.now.form pen.now.moment room.old room.new }
 {
     if let Ok(notice) = pen.notice_of(room.untold()) {
         room.tell(&notice);

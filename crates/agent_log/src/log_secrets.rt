@@ -32,29 +32,29 @@ impl Desk {
         ensures { SaysLines agent.now (look_lines looked.now unproved) self.old.marks self.old self.new }
     {
         let pen = self.pen(alloc, agent);
-        say_look(pen, looked, unproved, &mut self.room);
+        say_look(&pen, looked, unproved, &mut self.room);
     }
 }
 
 #[tactic(auto, using(crate::proofs::Said::both_said), unfolding(crate::specs::SecretLines::look_lines))]
-fn say_look(pen: Pen, looked: &Looked, unproved: Option<Loss>, room: &mut Rooms)
-    ensures { AreSaid pen.form pen.moment (look_lines looked.now unproved) room.old room.new }
+fn say_look(pen: &Pen, looked: &Looked, unproved: Option<Loss>, room: &mut Rooms)
+    ensures { AreSaid pen.now.form pen.now.moment (look_lines looked.now unproved) room.old room.new }
 {
     say_news(pen, &looked.news, unproved, room);
     say_want(pen, looked.is_enough, room);
 }
 
 #[tactic(auto, using(crate::proofs::Said::one_said))]
-fn say_news(pen: Pen, news: &Option<SecretNews>, unproved: Option<Loss>, room: &mut Rooms)
-    ensures { AreSaid pen.form pen.moment (news_lines news.now unproved) room.old room.new }
+fn say_news(pen: &Pen, news: &Option<SecretNews>, unproved: Option<Loss>, room: &mut Rooms)
+    ensures { AreSaid pen.now.form pen.now.moment (news_lines news.now unproved) room.old room.new }
 {
     if let Some(news) = news {
         say_word(pen, news.name.list(), news.what, unproved, room);
     }
 }
 
-fn say_want(pen: Pen, is_enough: bool, room: &mut Rooms)
-    ensures { AreSaid pen.form pen.moment (want_lines is_enough) room.old room.new }
+fn say_want(pen: &Pen, is_enough: bool, room: &mut Rooms)
+    ensures { AreSaid pen.now.form pen.now.moment (want_lines is_enough) room.old room.new }
 {
     if !is_enough {
         say_memory(pen, room);
@@ -63,14 +63,8 @@ fn say_want(pen: Pen, is_enough: bool, room: &mut Rooms)
 
 // Says what became of the file of an entry.
 #[tactic(auto, using(crate::proofs::Said::missed))]
-fn say_word(
-    pen: Pen,
-    name: &[u8],
-    what: SecretWord,
-    unproved: Option<Loss>,
-    room: &mut Rooms,
-)
-    ensures { LineIsSaid pen.form pen.moment (secret_news_line name.now what unproved) room.old room.new }
+fn say_word(pen: &Pen, name: &[u8], what: SecretWord, unproved: Option<Loss>, room: &mut Rooms)
+    ensures { LineIsSaid pen.now.form pen.now.moment (secret_news_line name.now what unproved) room.old room.new }
 {
     let level = level_of(what);
     match word_of(pen.alloc, what, unproved) {

@@ -14,8 +14,8 @@ use std::alloc::{AllocError, Global};
 
 /// Says that a client has set another need.
 #[tactic(auto, using(crate::proofs::Said::missed))]
-pub(crate) fn say_need(pen: Pen, name: &[u8], until: u64, room: &mut Rooms)
-    ensures { LineIsSaid pen.form pen.moment (need_log_line name.now until) room.old room.new }
+pub(crate) fn say_need(pen: &Pen, name: &[u8], until: u64, room: &mut Rooms)
+    ensures { LineIsSaid pen.now.form pen.now.moment (need_log_line name.now until) room.old room.new }
 {
     match need_word(pen.alloc, until) {
         Ok(until) => pen.say_of(Level::Info, "need", name, until, room),
@@ -38,8 +38,8 @@ fn need_word(alloc: Global, until: u64) -> Result<Word, AllocError>
 
 /// Says that a socket cannot be had, why, and what that costs.
 #[tactic(auto, using(crate::proofs::Said::missed))]
-pub(crate) fn say_no_socket(pen: Pen, socket: &[u8], why: &[u8], cost: &[u8], room: &mut Rooms)
-    ensures { LineIsSaid pen.form pen.moment (socket_log_line socket.now why.now cost.now) room.old room.new }
+pub(crate) fn say_no_socket(pen: &Pen, socket: &[u8], why: &[u8], cost: &[u8], room: &mut Rooms)
+    ensures { LineIsSaid pen.now.form pen.now.moment (socket_log_line socket.now why.now cost.now) room.old room.new }
 {
     match socket_words(pen.alloc, socket, why, cost) {
         Ok(words) => pen.say(Level::Alert, "socket", words, room),

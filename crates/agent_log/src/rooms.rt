@@ -40,8 +40,8 @@ impl Rooms {
 
     /// Puts the text of a line of this level. Where memory is wanting for a line that tells how many were dropped, this one is dropped
     /// and counted in that room.
-    pub(crate) fn put(&mut self, pen: Pen, level: Level, text: &[u8])
-        ensures { ArePut pen.form pen.moment level text.now self.old self.new }
+    pub(crate) fn put(&mut self, pen: &Pen, level: Level, text: &[u8])
+        ensures { ArePut pen.now.form pen.now.moment level text.now self.old self.new }
     {
         put(pen, text, &mut self.log);
         tell_each(pen, level, text, &mut self.followers);
@@ -88,8 +88,8 @@ fn newcomer(
 }
 
 // Puts a line's text into the log's room.
-fn put(pen: Pen, text: &[u8], room: &mut LogRoom)
-    ensures { TextIsPut pen.form pen.moment text.now room.old room.new }
+fn put(pen: &Pen, text: &[u8], room: &mut LogRoom)
+    ensures { TextIsPut pen.now.form pen.now.moment text.now room.old room.new }
 {
     match pen.notice_of(room.untold()) {
         Ok(notice) => room.put(&notice, text),
@@ -98,9 +98,9 @@ fn put(pen: Pen, text: &[u8], room: &mut LogRoom)
 }
 
 // Tells each of those who follow the log.
-fn tell_each(pen: Pen, level: Level, text: &[u8], followers: &mut [Follower])
+fn tell_each(pen: &Pen, level: Level, text: &[u8], followers: &mut [Follower])
     ensures many { length followers.new ≡ length followers.old }
-    ensures told { EachIsTold pen.form pen.moment level text.now followers.old followers.new }
+    ensures told { EachIsTold pen.now.form pen.now.moment level text.now followers.old followers.new }
 {
     for follower in followers.iter_mut() {
         tell(pen, level, text, follower);
@@ -108,8 +108,8 @@ fn tell_each(pen: Pen, level: Level, text: &[u8], followers: &mut [Follower])
 }
 
 // Tells the first who will follow warnings and alerts alone, where none has come yet.
-fn tell_early(pen: Pen, level: Level, text: &[u8], early: &mut Option<Follower>)
-    ensures { EarlyIsTold pen.form pen.moment level text.now early.old early.new }
+fn tell_early(pen: &Pen, level: Level, text: &[u8], early: &mut Option<Follower>)
+    ensures { EarlyIsTold pen.now.form pen.now.moment level text.now early.old early.new }
 {
     if let Some(first) = early {
         tell(pen, level, text, first);
@@ -117,8 +117,8 @@ fn tell_early(pen: Pen, level: Level, text: &[u8], early: &mut Option<Follower>)
 }
 
 // Tells one of them.
-fn tell(pen: Pen, level: Level, text: &[u8], follower: &mut Follower)
-    ensures { FollowerIsTold pen.form pen.moment level text.now follower.old follower.new }
+fn tell(pen: &Pen, level: Level, text: &[u8], follower: &mut Follower)
+    ensures { FollowerIsTold pen.now.form pen.now.moment level text.now follower.old follower.new }
 {
     match pen.notice_of(follower.room.untold()) {
         Ok(notice) => follower.hear(level, &notice, text),

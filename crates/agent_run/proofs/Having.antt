@@ -20,7 +20,7 @@ use Rattle.agent_start.specs.Numbers.{IsNumber}
 use Rattle.agent_start.specs.Starts.{IsStart}
 use Rattle.agent_start.specs.declared.start.Start.{Start}
 use Rattle.agent_run.specs.Doors.{DoorCall}
-use Rattle.agent_run.specs.Run.{HasRun, HasRunSo, IsDemanded, IsRun, demands_of, timeout_of, width_of}
+use Rattle.agent_run.specs.Run.{HasRun, HasRunSo, IsDemanded, IsRun, demands_of, ends_path, timeout_of, width_of}
 use Rattle.agent_run.specs.declared.begun.Parts.{Parts}
 
 pub is_demanded : (served : Served) (number : ℕ) (d : Demands) → IsNumber (option_copied served.name) served.file.now number → d ≡ demands_of served number → IsDemanded served d

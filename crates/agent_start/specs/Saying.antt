@@ -1,6 +1,7 @@
 -- Saying: what a start says in the log before anything else.
 -- Source: this project's own; docs/troubleshooting.md, "Lines of the log".
-use Rattle.std.specs.Prelude.{◌≡◌, ◌⊎◌, ℕ, List, [], ◌∷◌, ◌++◌, codes, decimal}
+use Rattle.std.specs.Prelude.{◌≡◌, ◌⊎◌, ℕ, List, [], ◌∷◌, ◌++◌, Option, Some, Result, Ok, Err, codes, decimal}
+use Rattle.std.specs.declared.alloc.AllocError.{AllocError}
 use Rattle.agent_log.specs.LogDesk.{Desk, HearsAtStart, begun_desk}
 use Rattle.base_clock.specs.declared.reading.Reading.{Reading}
 use Rattle.base_log.specs.declared.form.Form.{Form}
@@ -26,6 +27,12 @@ IsSaid now s old new = HearsAtStart now s.level (about_word s.about) s.text old 
 abbrev pub AreSaidAtStart : Reading → List Said → Desk → Desk → Type 0
 AreSaidAtStart now [] old new = new ≡ old
 AreSaidAtStart now (s ∷ rest) old new = (mid : Desk) × (IsSaid now s old mid × AreSaidAtStart now rest mid new)
+
+-- of what the files of credentials hold: what is said where it was to be taken at once; and where nothing of it was, that the looks at
+-- files take each by itself
+abbrev pub files_line : Result (Option (List ℕ)) AllocError → Option (List ℕ)
+files_line (Ok line) = line
+files_line (Err e) = Some (codes "what the files of credentials hold could not be taken together: each is taken by itself")
 
 -- the log of an agent with so many entries, in which that was said
 abbrev pub BeginsDesk : Form → List ℕ → ℕ → Reading → List Said → Desk → Type 0

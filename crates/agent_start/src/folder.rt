@@ -2,6 +2,7 @@
 ghost use Rattle.std.specs.Prelude.{◌≡◌, IfErr, IfOk, None, OnOk, is_some, true};
 ghost use Rattle.agent_start.specs.Alone.{folder_of};
 ghost use Rattle.agent_start.specs.Refusals.{RefusesStart};
+ghost use Rattle.agent_start.specs.Saying.{files_line};
 ghost use Rattle.agent_start.specs.Starts.{Begins, IsFreshLedger, IsLedgerAtStart, IsOfFolder, IsServedBy, IsStart};
 ghost use Rattle.agent_start.specs.declared.folder.NotBegun.TheVariants as nots;
 
@@ -264,12 +265,29 @@ fn filled<D: Disk, I: Inputs, L: Lanes>(
         About::Journal,
         ledger.note_lines(alloc, notes)?,
     )?;
-    if let Some(line) = ledger.fill(alloc, 0)? {
+    if let Some(line) = files_line(alloc, ledger.fill(alloc, 0))? {
         push(said, Level::Alert, About::SecretFile, line)?;
     }
     // What files hold at the start is served from the start on.
     ledger.state.mark_served();
     inventories_of(alloc, ledger)
+}
+
+/// What is said of what the files of credentials hold, which was to be taken at once. Where nothing of it was, the start goes on: the looks
+/// at files take each by itself. The only error is lack of memory.
+fn files_line(
+    alloc: Global,
+    filled: Result<Option<Text>, AllocError>,
+) -> Result<Option<Text>, AllocError>
+    ensures { IfOk result (λ line. line ≡ files_line filled) }
+{
+    match filled {
+        Ok(line) => Ok(line),
+        Err(AllocError) => Ok(Some(Text::of(
+            alloc,
+            b"what the files of credentials hold could not be taken together: each is taken by itself",
+        )?)),
+    }
 }
 
 /// What is served by a ledger. The only error is lack of memory.

@@ -6,7 +6,7 @@ ghost use Rattle.program_lint.specs.Judged.{AreDoubts};
 use agent_words::{Demands, StartFault, faults_to_serve};
 use base_files::Inputs;
 use base_moment::Moment;
-use state_keeping::ReadFault;
+use state_file::ReadFault;
 use std::alloc::{AllocError, Global};
 use vault_inventory::{InvFault, read_served};
 use vault_lint::{Doubt, Subject, doubts, subject_of};
@@ -61,11 +61,7 @@ pub fn judge<I: Inputs>(
 
 // What is doubted; nothing, where the text is no inventory.
 #[tactic(auto, using(crate::proofs::NoInventory::none_of))]
-fn doubted_of(
-    alloc: Global,
-    read: &Read<'_>,
-    timeout: u32,
-) -> Result<Option<Doubted>, AllocError>
+fn doubted_of(alloc: Global, read: &Read<'_>, timeout: u32) -> Result<Option<Doubted>, AllocError>
     ensures { IfOk result (λ doubted. AreDoubts read.now.bytes.now read.now.open_files.now read.now.at timeout doubted) }
 {
     match read_served(alloc, read.bytes) {

@@ -166,8 +166,7 @@ fn commands_show_no_secret(rt: HostRuntime) -> Result<(), Fail> {
 // Lines of a journal.
 const REPLACES: &[u8] = b"replace web absent db/creds";
 
-const ADDS: &[u8] =
-    b"add absent token web * told 1000 2000 renewable 900 0 2764800 0 0 db/creds";
+const ADDS: &[u8] = b"add absent token web * told 1000 2000 renewable 900 0 2764800 0 0 db/creds";
 
 // The numbers of the name `web`.
 const WEB: &str = "119, 101, 98";

@@ -1,6 +1,6 @@
 -- One row more in front of those that are known.
 use Rattle.std.proofs.Common.{◌≡◌, ◌+◌, ◌-◌, ◌<◌, arith, drop, length}
-use Rattle.agent_ledger.proofs.Shared.{any_next, held_next}
+use Rattle.agent_ledger.proofs.Sharing.{any_next, held_next}
 use Rattle.agent_ledger.proofs.shared.is_any_shared.Goals as goal
 
 pub loop-index-preserved : goal.loop-index-preserved

@@ -2,7 +2,7 @@
 use Rattle.std.proofs.Common.{rules, ◌≡◌, refl}
 use Rattle.plan_forest.specs.Push.{is_lease}
 use Rattle.agent_ledger.specs.declared.shared.OfKind.{OfKind}
-use Rattle.agent_ledger.proofs.Shared.{one_more}
+use Rattle.agent_ledger.proofs.Sharing.{one_more}
 use Rattle.agent_ledger.proofs.shared.is_shared.Goals as goal
 
 pub returns : goal.returns

@@ -10,6 +10,6 @@ loop-follower-preserved g c =
     let within : c.loop-follower.follower-index < length c.loop-follower.followers = omega arith in record {
       many = length-set _ _ _ ∙ i.many;
       rest = rest_next c.args.followers.now c.loop-follower.followers c.loop-follower.follower-index _ i.rest;
-      fed = fed_next c.args.pen.form c.args.pen.moment c.args.followers.now c.loop-follower.followers c.loop-follower.follower-index c.follower-item.result c.feed_one.new.follower
+      fed = fed_next c.args.pen.now.form c.args.pen.now.moment c.args.followers.now c.loop-follower.followers c.loop-follower.follower-index c.follower-item.result c.feed_one.new.follower
           c.args.clients.now c.loop-follower.clients c.feed_one.new.clients within i.rest i.fed c.feed_one.ensures;
     }

@@ -22,8 +22,8 @@ loop-request-preserved c last said =
     let rs = c.args.requests.now in
     let at = c.loop-request.request-index in
     let r : Request = get_or rs at none_asked in
-    let form = c.args.pen.form in
-    let moment = c.args.pen.moment in
+    let form = c.args.pen.now.form in
+    let moment = c.args.pen.now.moment in
     c.loop-request.invariant last
     (subst (λ xs. AreSaid form moment (steps_in_lines a lead ms xs) c.loop-request.room last) (sym (drop_more rs at none_asked c.loop-request-test.true))
     (both_said form moment (steps_in_line a lead ms r) (steps_in_lines a lead ms (drop (at + 1) rs)) c.loop-request.room c.say_step.new.room last c.say_step.ensures said))
@@ -32,4 +32,4 @@ pub returns : goal.returns
 returns c =
     let e : drop c.loop-request.request-index c.args.requests.now ≡ [] = grind (arith, common_steps) in
     c.loop-request.invariant c.loop-request.room
-    (subst (λ xs. AreSaid c.args.pen.form c.args.pen.moment (steps_in_lines c.args.agent.now c.args.lead c.args.marks.now xs) c.loop-request.room c.loop-request.room) (sym e) refl)
+    (subst (λ xs. AreSaid c.args.pen.now.form c.args.pen.now.moment (steps_in_lines c.args.agent.now c.args.lead c.args.marks.now xs) c.loop-request.room c.loop-request.room) (sym e) refl)

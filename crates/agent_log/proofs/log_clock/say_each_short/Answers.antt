@@ -10,10 +10,10 @@ pub loop-short-preserved : goal.loop-short-preserved
 loop-short-preserved c last said =
     let at = c.loop-short.short-index in
     c.loop-short.invariant last
-    (subst (λ xs. AreSaid c.args.pen.form c.args.pen.moment (map (short_log_line c.args.names.now) xs) c.loop-short.room last) (sym (drop_more c.args.shorts.now at _ c.loop-short-test.true)) (c.say_short.new.room, (c.say_short.ensures, said)))
+    (subst (λ xs. AreSaid c.args.pen.now.form c.args.pen.now.moment (map (short_log_line c.args.names.now) xs) c.loop-short.room last) (sym (drop_more c.args.shorts.now at _ c.loop-short-test.true)) (c.say_short.new.room, (c.say_short.ensures, said)))
 
 pub returns : goal.returns
 returns c =
     let e : drop c.loop-short.short-index c.args.shorts.now ≡ [] = grind (arith, common_steps) in
     c.loop-short.invariant c.loop-short.room
-    (subst (λ xs. AreSaid c.args.pen.form c.args.pen.moment (map (short_log_line c.args.names.now) xs) c.loop-short.room c.loop-short.room) (sym e) refl)
+    (subst (λ xs. AreSaid c.args.pen.now.form c.args.pen.now.moment (map (short_log_line c.args.names.now) xs) c.loop-short.room c.loop-short.room) (sym e) refl)

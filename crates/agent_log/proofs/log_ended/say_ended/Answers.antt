@@ -14,8 +14,8 @@ loop-entry-preserved c last said =
     let marks = c.args.marks.now in
     let at = c.loop-entry.entry in
     let mark = mark_at marks at in
-    let form = c.args.pen.form in
-    let moment = c.args.pen.moment in
+    let form = c.args.pen.now.form in
+    let moment = c.args.pen.now.moment in
     let e : drop at marks ≡ mark ∷ drop (at + 1) marks = drop_more marks at fresh_mark c.loop-entry-test.true in
     c.loop-entry.invariant last
     (subst (λ xs. AreSaid form moment (ended_lines a at xs) c.loop-entry.room last) (sym e)
@@ -25,4 +25,4 @@ pub returns : goal.returns
 returns c =
     let e : drop c.loop-entry.entry c.args.marks.now ≡ [] = grind (arith, common_steps) in
     c.loop-entry.invariant c.loop-entry.room
-    (subst (λ xs. AreSaid c.args.pen.form c.args.pen.moment (ended_lines c.args.agent.now c.loop-entry.entry xs) c.loop-entry.room c.loop-entry.room) (sym e) refl)
+    (subst (λ xs. AreSaid c.args.pen.now.form c.args.pen.now.moment (ended_lines c.args.agent.now c.loop-entry.entry xs) c.loop-entry.room c.loop-entry.room) (sym e) refl)

@@ -10,6 +10,6 @@ loop-follower-preserved c =
     let within : c.loop-follower.follower-index < length c.loop-follower.followers = omega arith in record {
       many = length-set _ _ _ ∙ i.many;
       rest = rest_next c.args.followers.now c.loop-follower.followers c.loop-follower.follower-index _ i.rest;
-      told = told_next c.args.pen.form c.args.pen.moment c.args.level c.args.text.now c.args.followers.now c.loop-follower.followers c.loop-follower.follower-index
+      told = told_next c.args.pen.now.form c.args.pen.now.moment c.args.level c.args.text.now c.args.followers.now c.loop-follower.followers c.loop-follower.follower-index
           c.follower-item.result c.tell.new.follower within i.rest i.told c.tell.ensures;
     }

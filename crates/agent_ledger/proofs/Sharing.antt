@@ -1,8 +1,7 @@
--- Shared: the credentials of the rows from a place on, by kind, and whether two of a kind have one. For `is_any_shared`.
-use Rattle.std.proofs.Common.{◌≡◌, ◌∙◌, ℕ, suc, ◌+◌, ◌<◌, ◌≤◌, Bool, true, false, not, cond, ◌&&◌, ◌||◌, List, [], ◌∷◌, bytes_eq, drop, get_or, length, nat_lt, arith, refl, sym, ap, subst}
+-- Sharing: the credentials of the rows from a place on, by kind, and whether two of a kind have one. For `is_any_shared`.
+use Rattle.std.proofs.Common.{◌≡◌, ◌∙◌, ℕ, suc, ◌+◌, ◌<◌, ◌≤◌, Bool, true, false, not, cond, ◌&&◌, ◌||◌, List, [], ◌∷◌, bytes_eq, drop, get_or, length, arith, refl, sym, ap, subst}
 use Rattle.std.proofs.Math.ListN.{drop_of_length-le}
 use Rattle.std.proofs.Math.Seq.{drop-cons}
-use Rattle.std.proofs.lemmas.Bool.Decides.{nat_tests}
 use Rattle.std.proofs.lemmas.Map.Text.{is_eq-slice_cmp}
 use Rattle.std.specs.BTreeSet.{BTreeSet, Updates, contains}
 use Rattle.std.specs.Bool.{beq}
@@ -13,9 +12,8 @@ use Rattle.std.specs.declared.cmp.Ordering.{Ordering}
 use Rattle.std.specs.declared.cmp.Ordering.TheVariants.{Less, Equal, Greater}
 use Rattle.plan_forest.specs.Push.{is_lease}
 use Rattle.state_changes.specs.declared.row.Row.{Row}
-use Rattle.agent_ledger.specs.Shared.{has_of_kind, is_any_shared, may_be_apart}
+use Rattle.agent_ledger.specs.Shared.{has_of_kind, is_any_shared}
 use Rattle.agent_ledger.specs.code.OfKinds.{AreCredentialsOf, of_kind_cmp}
-use Rattle.agent_ledger.specs.declared.secret_changes.TheConstants.{ALWAYS_FIT}
 use Rattle.agent_ledger.specs.declared.shared.OfKind.{OfKind}
 
 -- ---- of one row
@@ -98,19 +96,3 @@ held_next set rows k i x one h read are = subst (AreCredentialsOf set) (sym (in_
 
 pub all_shared : (rows : List Row) (i : ℕ) (is_any : Bool) → i ≡ 0 → is_any ≡ is_any_shared (drop i rows) → is_any ≡ is_any_shared rows
 all_shared rows i is_any none so = so ∙ ap (λ n. is_any_shared (drop n rows)) none
-
--- ---- whether they may not go together
-
-many : (rows : List Row) → ALWAYS_FIT < length rows → nat_lt ALWAYS_FIT (length rows) ≡ true
-many rows h = grind (arith, nat_tests)
-
-few : (rows : List Row) → length rows ≤ ALWAYS_FIT → nat_lt ALWAYS_FIT (length rows) ≡ false
-few rows h = grind (arith, nat_tests)
-
-pub apart_many : (rows : List Row) → ALWAYS_FIT < length rows → true ≡ may_be_apart rows
-unfolding may_be_apart
-apart_many rows h = sym (ap (λ b. b || is_any_shared rows) (many rows h))
-
-pub apart_few : (rows : List Row) (any : Bool) → length rows ≤ ALWAYS_FIT → any ≡ is_any_shared rows → any ≡ may_be_apart rows
-unfolding may_be_apart
-apart_few rows any h so = so ∙ sym (ap (λ b. b || is_any_shared rows) (few rows h))
