@@ -1,9 +1,10 @@
 -- Away: what each turn makes of the broker's presence, and of who has heard of an answer. For the law of presence.
-use Rattle.std.proofs.Common.{◌≡◌, ◌≢◌, ◌∙◌, ℕ, Bool, true, false, not, ◌&&◌, ◌||◌, ◌==◌, List, [], ◌∷◌, ◌++◌, Option, Some, None, All, Result, Ok, Err, map, refl, sym, ap, subst, arith}
+use Rattle.std.proofs.Common.{◌≡◌, ◌≢◌, ◌∙◌, ℕ, suc, ◌≤◌, Bool, true, false, not, ◌&&◌, ◌||◌, ◌==◌, List, [], ◌∷◌, ◌++◌, Option, Some, None, All, Result, Ok, Err, get_or, length, map, refl, sym, ap, subst, arith}
 use Rattle.std.proofs.lemmas.Bool.{and_parts, eqb-true}
 use Rattle.std.proofs.lemmas.Bool.Decides.{nat_tests}
-use Rattle.std.proofs.lemmas.List.Elements.{All-append, All-cons, All-filter, All-map, All-nil, All-weaker}
+use Rattle.std.proofs.lemmas.List.Elements.{All-append, All-cons, All-filter, All-head, All-map, All-nil, All-tail, All-weaker}
 use Rattle.std.specs.List.{list_any}
+use Rattle.watch_machine.specs.declared.change.Was.{Was}
 use Rattle.watch_machine.specs.declared.command.Command.{Command}
 use Rattle.watch_machine.specs.declared.command.Command.TheVariants.{Go, Taken}
 use Rattle.watch_machine.specs.declared.command.Output.{Output}
@@ -20,7 +21,8 @@ use Rattle.watch_machine.specs.declared.lanes.Out.{Out}
 use Rattle.watch_machine.specs.declared.lanes.Presence.{Presence}
 use Rattle.watch_machine.specs.declared.track.Track.{Track}
 use Rattle.watch_machine.specs.Answers.{answers_all, heard, lane_freed, noted, replied, silent, without_request}
-use Rattle.watch_machine.specs.History.{History, Turn, Turned, after_all}
+use Rattle.watch_machine.specs.Change.{index_or, moved_out, out_after, place_now}
+use Rattle.watch_machine.specs.History.{AllHappen, Changed, Changes, Happening, Happens, Hands, IsChanged, Turn, Turned, state_after, state_after_all}
 use Rattle.watch_machine.specs.Looked.{looked}
 use Rattle.watch_machine.specs.Press.{pressed}
 use Rattle.watch_machine.specs.Refusal.{request_out}
@@ -33,8 +35,9 @@ use Rattle.watch_machine.specs.Step.{Step, StepClock, StepCommand, StepLooked, S
 use Rattle.watch_machine.proofs.Cases.{if_both, if_cases, not_both, of_value}
 use Rattle.watch_machine.proofs.Within.{out_all, out_entry}
 use Rattle.watch_laws.specs.Load.{requests_asked_by, requests_at_turn}
-use Rattle.watch_laws.specs.Presence.{AwayLaw, answers, is_answer_taken, is_answered, is_asked_at_turn, is_loss, loses}
+use Rattle.watch_laws.specs.Presence.{AwayLaw, IsIndexNow, MayHaveBeen, NoneGoesOut, answers, is_answer_at, is_answer_taken, is_answered, is_loss, is_loss_at, loses}
 use Rattle.watch_laws.proofs.Clocking.{refused_stays}
+use Rattle.watch_laws.proofs.Following.{changed_out}
 use Rattle.watch_laws.proofs.Holding.{looked_presence, ready_presence}
 use Rattle.watch_laws.proofs.Spacing.{looked_out, readied_out}
 
@@ -336,27 +339,52 @@ turn_else :
 turn_else old new event (Ok output) turn no' none = else_same old new event (requests_asked_by output.command) (acts old new event output turn.1) no' none
 turn_else old new event (Err fault) turn no' none = ap (λ (x : WatchState). x.presence.away) (refused_stays old new event fault turn)
 
--- over turns
+-- a change of what is watched
+else_at : (old : WatchState) (happening : Happening) → Happens old happening → is_answer_at happening ≡ false → ((i : ℕ) → is_loss_at i happening ≡ false) → (state_after happening).presence.away ≡ old.presence.away
+else_at old (Hands turn) h no' none = turn_else old turn.state turn.event turn.result h no' none
+else_at old (Changes c) h no' none = ap (λ (x : WatchState). x.presence.away) h.state
+
+-- who has heard of an answer, and who has not
+heard_moved :
+    (b : Bool) (k many n : ℕ) (was : List Was) (out : List Out) → many ≤ n → All (λ (q : Out). IsIndexNow many (place_now was q.entry) k → q.heard ≡ b) out → AreHeard b k (out_after was n out)
+heard_moved b k many n was [] le all = All-nil (λ (q : Out). q.entry ≡ k → q.heard ≡ b)
+heard_moved b k many n was (r ∷ rest) le all =
+    let P : Out → Type 0 = λ q. IsIndexNow many (place_now was q.entry) k → q.heard ≡ b in
+    All-cons (λ (q : Out). q.entry ≡ k → q.heard ≡ b) (moved_out was n r) (out_after was (suc n) rest) (λ is. All-head P r rest all (by (place_now was r.entry) is))
+    (heard_moved b k many (suc n) was rest (omega (arith, le)) (All-tail P r rest all)) where
+      by : (o : Option ℕ) → index_or n o ≡ k → IsIndexNow many o k
+      by None is = let same : n ≡ k = is in let past : many ≤ k = omega (arith, le, same) in past
+      by (Some j) is = sym is
+
+heard_over :
+    (b : Bool) (old : WatchState) (c : Changed) (k : ℕ) → IsChanged old c → ((i : ℕ) → IsIndexNow (length c.forest.entries) (place_now c.was i) k → AreHeard b i old.out) → AreHeard b k c.state.out
+heard_over b old c k h all =
+    let n = length c.forest.entries in
+    subst (AreHeard b k) (sym (changed_out old c h)) (heard_moved b k n n c.was old.out (omega arith) (λ j d below now. all (get_or old.out j d).entry now j d below refl))
+
+-- over turns and changes
 ran_lost :
-    (between : List Turned) (old : WatchState) (loss : Turned) (i : ℕ) → History old (between ++ loss ∷ []) → AreHeard false i old.out → list_any is_answer_taken between ≡ false → is_loss i loss ≡ true →
-    loss.state.presence.away ≡ true
-ran_lost [] old loss i h all none is = turn_lost i old loss.state loss.event loss.result h.0 is all
-ran_lost (turn ∷ between) old loss i h all none is =
-    let parts = neither (is_answer_taken turn) (list_any is_answer_taken between) none in
-    ran_lost between turn.state loss i h.1 (turn_unheard i old turn.state turn.event turn.result h.0 parts.0 all) parts.1 is
+    (between : List Happening) (old : WatchState) (loss : Turned) (k : ℕ) → AllHappen old (between ++ Hands loss ∷ []) → ((i : ℕ) → MayHaveBeen between k i → AreHeard false i old.out) → list_any is_answer_at between ≡ false →
+    is_loss k loss ≡ true → loss.state.presence.away ≡ true
+ran_lost [] old loss k h all none is = turn_lost k old loss.state loss.event loss.result h.0 is (all k refl)
+ran_lost (Hands turn ∷ between) old loss k h all none is =
+    let parts = neither (is_answer_taken turn) (list_any is_answer_at between) none in
+    ran_lost between turn.state loss k h.1 (λ i was. turn_unheard i old turn.state turn.event turn.result h.0 parts.0 (all i was)) parts.1 is
+ran_lost (Changes c ∷ between) old loss k h all none is = ran_lost between c.state loss k h.1 (λ j was. heard_over false old c j h.0 (λ i now. all i (j, (now, was)))) none is
 
 ran_same :
-    (between : List Turned) (old : WatchState) (loss : Turned) (i : ℕ) → History old (between ++ loss ∷ []) → AreHeard true i old.out → list_any (is_asked_at_turn i) between ≡ false → is_loss i loss ≡ true →
-    loss.state.presence.away ≡ (after_all old between).presence.away
-ran_same [] old loss i h all none is = turn_same i old loss.state loss.event loss.result h.0 is all
-ran_same (turn ∷ between) old loss i h all none is =
-    let parts = neither (is_asked_at_turn i turn) (list_any (is_asked_at_turn i) between) none in
-    ran_same between turn.state loss i h.1 (turn_heard i old turn.state turn.event turn.result h.0 parts.0 all) parts.1 is
+    (between : List Happening) (old : WatchState) (loss : Turned) (k : ℕ) → AllHappen old (between ++ Hands loss ∷ []) → ((i : ℕ) → MayHaveBeen between k i → AreHeard true i old.out) → NoneGoesOut k between → is_loss k loss ≡ true →
+    loss.state.presence.away ≡ (state_after_all old between).presence.away
+ran_same [] old loss k h all none is = turn_same k old loss.state loss.event loss.result h.0 is (all k refl)
+ran_same (Hands turn ∷ between) old loss k h all none is =
+    ran_same between turn.state loss k h.1 (λ i was. turn_heard i old turn.state turn.event turn.result h.0 (none.0 i was) (all i was)) none.1 is
+ran_same (Changes c ∷ between) old loss k h all none is = ran_same between c.state loss k h.1 (λ j was. heard_over true old c j h.0 (λ i now. all i (j, (now, was)))) none is
 
 pub away_by : AwayLaw
 away_by = record {
-  lost = λ old between loss i h out none is. ran_lost between old loss i h (All-weaker (λ (q : Out). q.entry ≢ i) (λ (q : Out). q.entry ≡ i → q.heard ≡ false) (λ q other is'. absurd (other is')) old.out out) none is;
+  lost = λ old between loss k h out none is.
+      ran_lost between old loss k h (λ i was. All-weaker (λ (q : Out). q.entry ≢ i) (λ (q : Out). q.entry ≡ i → q.heard ≡ false) (λ q other is'. absurd (other is')) old.out (out i was)) none is;
   back = λ old turn h yes'. turn_back old turn.state turn.event turn.result h.0 yes';
-  heard = λ old answer loss between i h yes' none is. ran_same between answer.state loss i h.1 (turn_hears i old answer.state answer.event answer.result h.0 yes') none is;
-  others = λ old turn h no' none. turn_else old turn.state turn.event turn.result h.0 no' none;
+  heard = λ old answer loss between k h yes' none is. ran_same between answer.state loss k h.1 (λ i was. turn_hears i old answer.state answer.event answer.result h.0 yes') none is;
+  others = else_at;
 }

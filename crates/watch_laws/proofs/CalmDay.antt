@@ -20,7 +20,7 @@ use Rattle.watch_machine.specs.declared.notes.Notes.{Notes}
 use Rattle.watch_machine.specs.declared.track.Try.{Try}
 use Rattle.watch_machine.specs.Answers.{noted, replied}
 use Rattle.watch_machine.specs.Clocks.{sec}
-use Rattle.watch_machine.specs.History.{History, Turn, Turned}
+use Rattle.watch_machine.specs.History.{AllHappen, Changes, Happening, Hands, Turn}
 use Rattle.watch_machine.specs.Press.{pressed}
 use Rattle.watch_machine.specs.Refusal.{request_out}
 use Rattle.watch_machine.specs.Renewed.{state_renewed}
@@ -29,7 +29,7 @@ use Rattle.watch_machine.specs.Settling.{timed}
 use Rattle.watch_machine.specs.State.{WatchState, attempt_at, second}
 use Rattle.watch_machine.specs.Step.{Step, StepClock, StepCommand, StepRenewed, readied}
 use Rattle.watch_machine.proofs.Cases.{if_both}
-use Rattle.watch_laws.specs.Calm.{AreCalm, CalmLaw, EndAs, GoBy, GrantIsByRule, IsCalmClock, IsCalmEvent, IsCalmSecond, IsCalmTurn, NonePassed, OpensNextWakeUp, StateIsAtRest, believed_forest, ends, ends_left_by, began_after}
+use Rattle.watch_laws.specs.Calm.{AreCalm, CalmLaw, EndAs, GoBy, GrantIsByRule, IsCalmClock, IsCalmEvent, IsCalmSecond, IsCalmTurn, IsPlanNow, NonePassed, OpensNextWakeUp, StateIsAtRest, believed_forest, ends, ends_left_by, began_after, no_wake_up, wake_ups_from}
 use Rattle.watch_laws.specs.Load.{requests_asked_by as asked_for, requests_at_turn}
 use Rattle.watch_laws.specs.Time.{round_of}
 use Rattle.watch_laws.proofs.CalmClock.{IsStep, after_clock, forest_of, going_on, resting_on}
@@ -169,17 +169,6 @@ opened_at : (new : WatchState) (round : Option (List ℕ)) (last : Wake) (wakes 
 opened_at new None last wakes now next h = sym (ap (λ (w : Wake). w.at) h.0)
 opened_at new (Some asked) last wakes now next h = sym (ap (λ (w : Wake). w.at) h.0)
 
-goes_by :
-    (turns : List Turned) (s : WatchState) (g : Forest) (e : ℕ → ℕ) (last : Wake) (wakes : List Wake) (ts : List ℕ) (s0 : ℕ) → Goes s g e last ts → wakes ≡ with_asks g.entries g.margin s0 e ts → s0 ≤ second s →
-    History s turns → AreCalm last.at s turns → GoBy g e last wakes turns
-goes_by [] s g e last wakes ts s0 goes to_come from h calm = tt
-goes_by (turn ∷ turns) s g e last wakes ts s0 goes to_come from h calm =
-    let on = turn_on s turn.state turn.event turn.result g e last wakes ts s0 goes to_come from h.0 calm.0 in
-    let d = ends_left_by g e (round_of turn.result) on.now in
-    let ends' : EndAs d turn.state = subst (λ f. EndAs f turn.state) on.so (as_it_should turn.state g on.e on.now on.ts on.goes) in
-    let rest : GoBy g d on.now on.next turns = subst (λ f. GoBy g f on.now on.next turns) on.so (goes_by turns turn.state g on.e on.now on.next on.ts s0 on.goes on.to_come on.from h.1 (subst (λ n. AreCalm n turn.state turns) (opened_at turn.state (round_of turn.result) last wakes on.now on.next on.opens) calm.1)) in
-    (on.now, (on.next, (on.opens, (on.sends, (ends', rest)))))
-
 -- a watch at rest
 idle_at_rest : (s : WatchState) → StateIsAtRest s → (i : ℕ) → IsIdle s (ends s) i
 idle_at_rest s rest i = record {
@@ -192,20 +181,49 @@ idle_at_rest s rest i = record {
   led = λ wanted. rest.calm.led i (short_led s rest.forest rest.calm.keepable i (wanted_short s i wanted (rest.calm.untopped i wanted))).within wanted;
 }
 
-pub calm_days : CalmLaw
+-- there is a plan from it on
+record IsPlanned (s : WatchState) : Type 0 where
+  ts : List ℕ
+  best : IsPlanNow s ts
+  goes : Goes s (believed_forest s) (ends s) (no_wake_up s) ts
+  to_come : wake_ups_from s ts ≡ with_asks (believed_forest s).entries (believed_forest s).margin (second s) (ends s) ts
+
+planned : (s : WatchState) → StateIsAtRest s → IsPlanned s
 unfolding believed_forest
-calm_days s turns rest h calm =
+planned s rest =
     let some = there_is_plan s rest.forest rest.calm.keepable rest.calm.in_plan rest.calm.untopped in
-    let ts = some.0 in
-    let last : Wake = record { at = second s; asked = [] } in
-    let goes : Goes s (believed_forest s) (ends s) last ts = record {
-      forest = rest.forest;
-      count = rest.count;
-      begun = rest.begun;
-      there = rest.there;
-      same = refl;
-      plan = some.1.best;
-      each = λ i. inl (idle_at_rest s rest i);
-      waits = λ i waiting none. (let k = sym (ap (list_any (λ (r : Out). r.entry == i)) rest.out) ∙ waiting in absurd cc);
-    } in
-    (ts, (some.1.best, goes_by turns s (believed_forest s) (ends s) last (with_asks (believed_forest s).entries s.forest.margin (second s) (ends s) ts) ts (second s) goes refl (omega arith) h calm))
+    record {
+      ts = some.0;
+      best = some.1.best;
+      goes = record {
+        forest = rest.forest;
+        count = rest.count;
+        begun = rest.begun;
+        there = rest.there;
+        same = refl;
+        plan = some.1.best;
+        each = λ i. inl (idle_at_rest s rest i);
+        waits = λ i waiting none. (let k = sym (ap (list_any (λ (r : Out). r.entry == i)) rest.out) ∙ waiting in absurd cc);
+      };
+      to_come = refl;
+    }
+
+goes_by :
+    (hs : List Happening) (s : WatchState) (g : Forest) (e : ℕ → ℕ) (last : Wake) (wakes : List Wake) (ts : List ℕ) (s0 : ℕ) → Goes s g e last ts → wakes ≡ with_asks g.entries g.margin s0 e ts → s0 ≤ second s →
+    AllHappen s hs → AreCalm last.at s hs → GoBy g e last wakes hs
+goes_by [] s g e last wakes ts s0 goes to_come from h calm = tt
+goes_by (Hands turn ∷ hs) s g e last wakes ts s0 goes to_come from h calm =
+    let on = turn_on s turn.state turn.event turn.result g e last wakes ts s0 goes to_come from h.0 calm.0 in
+    let d = ends_left_by g e (round_of turn.result) on.now in
+    let ends' : EndAs d turn.state = subst (λ f. EndAs f turn.state) on.so (as_it_should turn.state g on.e on.now on.ts on.goes) in
+    let rest : GoBy g d on.now on.next hs = subst (λ f. GoBy g f on.now on.next hs) on.so (goes_by hs turn.state g on.e on.now on.next on.ts s0 on.goes on.to_come on.from h.1 (subst (λ n. AreCalm n turn.state hs) (opened_at turn.state (round_of turn.result) last wakes on.now on.next on.opens) calm.1)) in
+    (on.now, (on.next, (on.opens, (on.sends, (ends', rest)))))
+goes_by (Changes c ∷ hs) s g e last wakes ts s0 goes to_come from h calm =
+    let new = c.state in
+    let p = planned new calm.0 in
+    (p.ts, (p.best, goes_by hs new (believed_forest new) (ends new) (no_wake_up new) (wake_ups_from new p.ts) p.ts (second new) p.goes p.to_come (omega arith) h.1 calm.1))
+
+pub calm_days : CalmLaw
+calm_days s hs rest happens calm =
+    let p = planned s rest in
+    (p.ts, (p.best, goes_by hs s (believed_forest s) (ends s) (no_wake_up s) (wake_ups_from s p.ts) p.ts (second s) p.goes p.to_come (omega arith) happens calm))

@@ -37,7 +37,8 @@ use Rattle.watch_machine.proofs.View.{ceiling_low}
 use Rattle.watch_machine.proofs.Within.{out_entry}
 use Rattle.watch_laws.specs.Absence.{is_event_taken}
 use Rattle.watch_laws.specs.Backs.{replies_to}
-use Rattle.watch_laws.specs.Changes.{AreMoved, IsIndexNow, IsOfNobody, IsSoonerThan, IsWatchedAnew, KeepsAll, KeepsButTop, KeepsRequest, KeepsTerms, NothingElse}
+use Rattle.watch_laws.specs.Changes.{AreMoved, IsOfNobody, IsSoonerThan, IsWatchedAnew, KeepsAll, KeepsButTop, KeepsRequest, KeepsTerms, NothingElse}
+use Rattle.watch_laws.specs.Presence.{IsIndexNow}
 use Rattle.watch_laws.proofs.Tracking.{replied_forest}
 
 -- ---- an entry that owes a lookup at once

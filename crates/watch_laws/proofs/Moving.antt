@@ -1,4 +1,5 @@
--- Moving: what another forest that is watched makes of the stages of an outage. For the laws of outages.
+-- Moving: what another forest that is watched makes of the requests that are out, of those that wait, and of the stages of an outage. For the
+-- laws of recovery, starts and outages.
 use Rattle.std.proofs.Common.{◌≡◌, ◌⊎◌, ◌∙◌, ℕ, suc, ◌+◌, ◌≤◌, Bool, true, false, not, ◌&&◌, Option, Some, None, All, filter, length, nat_le, refl, sym, ap, subst, arith, inl, inr}
 use Rattle.std.proofs.lemmas.Bool.{and_from, and_parts, cases_Bool}
 use Rattle.std.proofs.lemmas.List.Elements.{All-weaker}
@@ -43,6 +44,10 @@ owed_pressed at x = owed_is (λ (y : Track). is_pressed y ≡ is_pressed x) at (
   by : (o : Option Try) → is_pressed_try (Some (sooner_try (soon at x) o)) ≡ is_pressed_try o
   by None = refl
   by (Some t) = refl
+
+-- what all requests are that are out stays so, if it does not look at the entry
+pub all_over : (old : WatchState) (c : Changed) → IsChanged old c → (X : Out → Type 0) → ((r : Out) (m : ℕ) → X r → X (record r { entry = m })) → All X old.out → All X c.state.out
+all_over old c h X moves all = subst (All X) (sym (changed_out old c h)) (all_after c.was X (λ m r x. moves r _ x) (length c.forest.entries) old.out all)
 
 module _ (old : WatchState) (c : Changed) (h : IsChanged old c) (i k : ℕ) (said : former_at c.was k ≡ Some i) where
   clocks : c.state.clocks ≡ old.clocks
@@ -116,11 +121,7 @@ module _ (old : WatchState) (c : Changed) (h : IsChanged old c) (i k : ℕ) (sai
         end_over : (track_at c.state k).end ≡ (track_at old i).end
         end_over = kept_over old c h (λ (y x : Track). y.end ≡ x.end) (λ x. refl) (λ x. owed_is (λ (y : Track). y.end ≡ x.end) old.clocks.at (untopped_track x) (λ out. refl) (λ free. refl)) i k said
 
-  -- what all requests are that are out stays so, if it does not look at the entry
-  pub all_over : (X : Out → Type 0) → ((r : Out) (m : ℕ) → X r → X (record r { entry = m })) → All X old.out → All X c.state.out
-  all_over X moves all = subst (All X) (sym (changed_out old c h)) (all_after c.was X (λ m r x. moves r _ x) (length c.forest.entries) old.out all)
-
-  served_over : (o : Outage) → is_request_served o c.state k ≡ is_request_served o old i
+  pub served_over : (o : Outage) → is_request_served o c.state k ≡ is_request_served o old i
   served_over o = any_over old c h i k (is_request_whole o) said
 
 -- ---- those that wait
@@ -156,6 +157,17 @@ module _ (o : Outage) (old : WatchState) (c : Changed) (h : IsChanged old c) whe
       let before = filtered_lanes (n + width) test old.out base.alone.single base.within in
       omega (arith, after, same, before)
 
+  -- those that wait after a change, where rest come to wait later, and those that are out anew
+  pub fewer_over :
+      (width n rest : ℕ) → length old.forest.entries ≡ n → IsBase width n old → (from : ℕ) →
+      (waiting o (length c.forest.entries) c.state + rest) + how_many (length c.forest.entries + width) (is_anew o from c.state)
+      ≤ (waiting o n old + (how_many (length c.forest.entries) (comes_over old c) + rest)) + how_many (n + width) (is_anew o from old)
+  fewer_over width n rest entries base from =
+      let waits = fewer_waiting in
+      let anew = fewer_anew from width n entries base in
+      let same = ap (λ m. waiting o m old) entries in
+      omega (arith, waits, anew, same)
+
 -- ---- the stages
 
 abbrev pub facts_over : Facts → Changed → ℕ → Facts
@@ -176,7 +188,7 @@ module _ (f : Facts) (due : ℕ) (old : WatchState) (c : Changed) (h : IsChanged
         entries = changed_entries old c h;
         time = late;
         end_is = end_kept ∙ going.end_is;
-        timely = all_over old c h f.i k said (λ (q : Out). due ≤ outage_settled_by f.o q.since + f.o.late) (λ r m le. le) going.timely;
+        timely = all_over old c h (λ (q : Out). due ≤ outage_settled_by f.o q.since + f.o.late) (λ r m le. le) going.timely;
         ahead = omega (arith, at, ahead);
         by = omega (arith, at, by, le);
       }
@@ -191,7 +203,7 @@ module _ (f : Facts) (due : ℕ) (old : WatchState) (c : Changed) (h : IsChanged
       inl (inl (record {
         endures = endures_over old c h f.i k said f.o f.end f.time due ⊥ e.endures;
         idle = kept_flag old c h f.i k said ∙ e.idle;
-        whole = all_over old c h f.i k said (λ (q : Out). is_request_whole f.o q.since ≡ true) (λ r m w. w) e.whole;
+        whole = all_over old c h (λ (q : Out). is_request_whole f.o q.since ≡ true) (λ r m w. w) e.whole;
         r = e.r;
         from = e.from;
         count = omega (arith, less, count);
@@ -224,7 +236,7 @@ module _ (f : Facts) (due : ℕ) (old : WatchState) (c : Changed) (h : IsChanged
       inr (inl (record {
         endures = endures_over old c h f.i k said f.o f.end _ due Unit e.endures;
         unserved = served_over old c h f.i k said f.o ∙ e.unserved;
-        back = all_over old c h f.i k said (λ (q : Out). f.o.until ≤ q.since) (λ r m le. le) e.back;
+        back = all_over old c h (λ (q : Out). f.o.until ≤ q.since) (λ r m le. le) e.back;
         r = e.r;
         from = e.from;
         last = e.last;
@@ -261,14 +273,3 @@ module _ (f : Facts) (due : ℕ) (old : WatchState) (c : Changed) (h : IsChanged
         count = omega (arith, less, count);
         next = e.next;
       })))
-
--- those that wait after a change, where rest come to wait later
-pub fewer_over :
-    (f : Facts) (due : ℕ) (old : WatchState) (c : Changed) (h : IsChanged old c) (rest : ℕ) → IsGoing f due old → (from : ℕ) →
-    (waiting f.o (length c.forest.entries) c.state + rest) + how_many (length c.forest.entries + f.width) (is_anew f.o from c.state)
-    ≤ (waiting f.o f.n old + (how_many (length c.forest.entries) (comes_over old c) + rest)) + how_many (f.n + f.width) (is_anew f.o from old)
-fewer_over f due old c h rest going from =
-    let waits = fewer_waiting f.o old c h in
-    let anew = fewer_anew f.o old c h from f.width f.n going.entries going.base in
-    let same = ap (λ n. waiting f.o n old) going.entries in
-    omega (arith, waits, anew, same)

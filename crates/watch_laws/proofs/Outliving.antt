@@ -299,7 +299,7 @@ changed_stays f due rest old c h k planned lived stays =
         through =
             postponed_through (facts_over f c k) from due (waiting f.o (length c.forest.entries) c.state + rest) c.state le planned'
             (through_over f due old c h k lived.kept (waiting f.o f.n old + (how_many (length c.forest.entries) (comes_over old c) + rest)) (waiting f.o (length c.forest.entries) c.state + rest)
-            (fewer_over f due old c h rest stays.going) stays.through);
+            (fewer_over f.o old c h f.width f.n rest stays.going.entries stays.going.base) stays.through);
       },
     )
 

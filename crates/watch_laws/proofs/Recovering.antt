@@ -13,7 +13,7 @@ use Rattle.watch_machine.specs.declared.event.Terms.{Terms}
 use Rattle.watch_machine.specs.declared.fault.WatchFault.{WatchFault}
 use Rattle.watch_machine.specs.declared.lanes.Out.{Out}
 use Rattle.watch_machine.specs.Answers.{noted, replied}
-use Rattle.watch_machine.specs.History.{History, Turn, Turned}
+use Rattle.watch_machine.specs.History.{AllHappen, Changed, Changes, Happening, Hands, IsChanged, Turn}
 use Rattle.watch_machine.specs.Looked.{looked}
 use Rattle.watch_machine.specs.Press.{pressed}
 use Rattle.watch_machine.specs.Refusal.{request_out}
@@ -24,16 +24,20 @@ use Rattle.watch_machine.specs.State.{WatchState}
 use Rattle.watch_machine.specs.Step.{Step, StepLooked, StepRenewed, readied}
 use Rattle.watch_machine.specs.Wait.{wait}
 use Rattle.watch_machine.proofs.Cases.{not_both}
-use Rattle.watch_laws.specs.Outage.{coming, comes, how_many, is_request_served, is_tried, is_request_whole, outage_next_after, outage_next_after_command, outage_next_by, outage_settled_by, waiting, waits_to_be_asked}
+use Rattle.watch_laws.specs.Outage.{comes, comes_over, coming_through, how_many, is_request_served, is_tried, is_request_whole, outage_next_after, outage_next_after_command, outage_next_by, outage_settled_by, waiting, waits_to_be_asked}
 use Rattle.watch_laws.specs.Recovery.{AllBy, ArePassing, IsPassedBy, IsPassing, MayGo, RecoveryLaw, without_outage}
 use Rattle.watch_laws.proofs.Answering.{looked_leaves, renewed_leaves, rest_of}
-use Rattle.watch_laws.proofs.Bases.{last_base}
+use Rattle.watch_laws.proofs.Bases.{changed_base, last_base}
+use Rattle.watch_laws.proofs.Changing.{low as low_over}
 use Rattle.watch_laws.proofs.Clocking.{readied_clocks, refused_stays}
 use Rattle.watch_laws.proofs.Counting.{lanes_apart, least_all, some}
+use Rattle.watch_laws.proofs.Following.{changed_entries}
 use Rattle.watch_laws.proofs.Grounds.{IsBase, fewer_wait, starts, tracked, turn_base}
 use Rattle.watch_laws.proofs.Lanes.{Sends, Ticks, all_left, is_anew, served_marked, ticks, turn_sends}
-use Rattle.watch_laws.proofs.Minding.{some_within, tended}
+use Rattle.watch_laws.proofs.Minding.{tended}
+use Rattle.watch_laws.proofs.Moving.{all_over, fewer_over}
 use Rattle.watch_laws.proofs.Requests.{anew_none, any_gives, later_than, none_passes, one_left, quick_if, round_of_lanes, some_lane, take_one, whole_after}
+use Rattle.watch_laws.proofs.Shapes.{turn_shape}
 use Rattle.watch_laws.proofs.Spacing.{looked_out}
 
 -- every request is whole
@@ -237,34 +241,63 @@ turn_passes quick late width n i by due rest old new event (Err fault) wide low 
       now = omega (arith, c, now);
     }
 
+-- and another forest that is watched leaves the clock and all lanes
+pub change_passes :
+    (quick late width n i k by due rest : ℕ) (old : WatchState) (c : Changed) → IsChanged old c → length old.forest.entries ≡ n →
+    Passes quick late width n i by due (waiting (without_outage quick late) n old + (how_many (length c.forest.entries) (comes_over old c) + rest)) old →
+    Passes quick late width (length c.forest.entries) k by due (waiting (without_outage quick late) (length c.forest.entries) c.state + rest) c.state
+change_passes quick late width n i k by due rest old c h entries p =
+    let less = fewer_over (without_outage quick late) old c h width n rest entries p.base (suc p.from) in
+    let count = p.count in
+    let now = p.now in
+    let clock = ap (λ (x : WatchState). x.clocks.at) h.state in
+    record {
+      base = changed_base old c h width n entries p.base;
+      timely = all_over old c h (Timely quick late due) (λ r m le. le) p.timely;
+      r = p.r;
+      from = p.from;
+      count = omega (arith, less, count);
+      start = p.start;
+      next = p.next;
+      now = omega (arith, now, clock);
+    }
+
 along :
-    (quick late width n i by : ℕ) → 0 < width → i < n → (turns : List Turned) (due : ℕ) (old : WatchState) → History old turns → ArePassing (without_outage quick late) i due old turns →
-    Passes quick late width n i by due (waiting (without_outage quick late) n old + coming (without_outage quick late) n old turns) old → AllBy by turns
-along quick late width n i by wide low [] due old history passing p = tt
-along quick late width n i by wide low (turn ∷ turns) due old history passing p =
-    let base = turn_base width n old turn.state turn.event turn.result history.0 p.base in
+    (hs : List Happening) (quick late width n i by due : ℕ) (old : WatchState) → 0 < width → i < n → length old.forest.entries ≡ n → AllHappen old hs → ArePassing (without_outage quick late) i due old hs →
+    Passes quick late width n i by due (waiting (without_outage quick late) n old + coming_through (without_outage quick late) old hs) old → AllBy by hs
+along [] quick late width n i by due old wide low entries happens passing p = tt
+along (Hands turn ∷ hs) quick late width n i by due old wide low entries happens passing p =
+    let o = without_outage quick late in
+    let new = turn.state in
+    let rest = coming_through o new hs in
+    let base = turn_base width n old new turn.event turn.result happens.0 p.base in
     let count = base.count in
-    let sends = turn_sends old turn.state turn.event turn.result n (omega (arith, count)) history.0 in
-    let here = turn_passes quick late width n i by due (coming (without_outage quick late) n turn.state turns) old turn.state turn.event turn.result wide low history.0 passing.0 base sends p in
-    (here.now, along quick late width n i by wide low turns (outage_next_after (without_outage quick late) turn.result turn.state due) turn.state history.1 passing.1 here)
+    let sends = turn_sends old new turn.event turn.result n (omega (arith, count)) happens.0 in
+    let many : length new.forest.entries ≡ n = (turn_shape old new turn.event turn.result happens.0).0 ∙ entries in
+    let here = turn_passes quick late width n i by due rest old new turn.event turn.result wide low happens.0 passing.0 base sends
+    (subst (λ m. Passes quick late width n i by due (waiting o n old + (how_many m (comes o old new) + rest)) old) entries p) in
+    (here.now, along hs quick late width n i by (outage_next_after o turn.result new due) new wide low many happens.1 passing.1 here)
+along (Changes c ∷ hs) quick late width n i by due old wide low entries happens passing p =
+    let k = passing.0 in
+    let said = passing.1.0 in
+    let here = change_passes quick late width n i k by due (coming_through (without_outage quick late) c.state hs) old c happens.0 entries p in
+    (here.now, along hs quick late width (length c.forest.entries) k by due c.state wide (low_over old c happens.0 i k said) (changed_entries old c happens.0) happens.1 passing.1.1 here)
 
 pub recovers : RecoveryLaw
-recovers quick late rounds old last turns i reached wide history clock taken' m passing few =
+recovers quick late rounds old last hs i reached wide happens clock taken' m passing few =
     let o = without_outage quick late in
     let width = old.width in
     let s = last.state in
     let n = length s.forest.entries in
-    let start = starts o old last last.event last.result refl history.0 clock taken' in
-    let base = last_base old last turns reached history in
+    let start = starts o old last last.event last.result refl happens.0 clock taken' in
+    let base = last_base old last [] reached (happens.0, tt) in
     let due = outage_next_by o (wait s) s.out in
     let timely : All (Timely quick late due) s.out = least_all (λ (q : Out). outage_settled_by o q.since + late) (wait s + late) s.out in
     let full = full_lanes old s start.wall start.elapsed start.output i width start.ticks' m base.fits.0 in
     let at = s.clocks.at in
     let by = at + (quick + late) * rounds in
     let zero' = anew_none o (suc at) (n + width) s base.since (omega arith) in
-    let below = some_within s.tracks i m.attempt m.attempt_is in
-    let count = base.count in
-    along quick late width n i by wide (omega (arith, below, count)) turns due s history.1 (subst (λ d. ArePassing o i d s turns) start.due passing)
+    along hs quick late width n i by due s wide m.within refl happens.1 (subst (λ d. ArePassing o i d s hs) start.due passing)
     (record {
       base = base;
       timely = timely;

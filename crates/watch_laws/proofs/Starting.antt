@@ -11,7 +11,7 @@ use Rattle.watch_machine.specs.declared.fault.WatchFault.{WatchFault}
 use Rattle.watch_machine.specs.History.{Turn, after_all}
 use Rattle.watch_machine.specs.State.{WatchState, opened}
 use Rattle.watch_machine.specs.Wait.{wait}
-use Rattle.watch_laws.specs.Outage.{Outage, coming, how_many, is_request_served, is_request_whole, is_tried, one_where, outage_next_by, outage_settled_by, waiting, waits_to_be_asked}
+use Rattle.watch_laws.specs.Outage.{Outage, coming_through, how_many, is_request_served, is_request_whole, is_tried, one_where, outage_next_by, outage_settled_by, waiting, waits_to_be_asked}
 use Rattle.watch_laws.specs.Recovery.{without_outage}
 use Rattle.watch_laws.specs.Starts.{AllSoon, AreWorked, NobodyLaw, StartLaw, all_asked, of_nobody}
 use Rattle.watch_laws.proofs.Bases.{last_base}
@@ -51,18 +51,18 @@ lanes_tried quick late width n s base =
     (λ k d below. (within k d below, all_whole quick late (get_or s.out k d).since))
 
 pub starts_soon : StartLaw
-starts_soon quick late rounds old last turns i reached wide history clock taken' low work working few =
+starts_soon quick late rounds old last hs i reached wide happens clock taken' low work working few =
     let o = without_outage quick late in
     let width = old.width in
     let s = last.state in
     let n = length s.forest.entries in
-    let start = starts o old last last.event last.result refl history.0 clock taken' in
-    let base = last_base old last turns reached history in
+    let start = starts o old last last.event last.result refl happens.0 clock taken' in
+    let base = last_base old last [] reached (happens.0, tt) in
     let due = outage_next_by o (wait s) s.out in
     let timely : All (Timely quick late due) s.out = least_all (λ (q : Out). outage_settled_by o q.since + late) (wait s + late) s.out in
     let at = s.clocks.at in
     let waits' = waiting o n s in
-    let k = waits' + coming o n s turns in
+    let k = waits' + coming_through o s hs in
     let all = all_tried o width n s refl base in
     let zero' = anew_none o (suc at) (n + width) s base.since (omega arith) in
     let tried : is_tried s i ≡ true = elim work as (λ _. is_tried s i ≡ true) [
@@ -70,7 +70,7 @@ starts_soon quick late rounds old last turns i reached wide history clock taken'
       | inr m ↦ ap is_some m.attempt_is
     ] in
     let one = some n i (is_tried s) low tried in
-    let q = one_left width rounds (all_asked o s turns) few (omega (arith, one)) in
+    let q = one_left width rounds (all_asked o s hs) few (omega (arith, one)) in
     let by = at + (quick + late) * q.0 in
     let g' = ap (λ x. (quick + late) * x) q.1 ∙ mul-suc (quick + late) q.0 in
     let served : is_request_served o s i ≡ true → Stage quick late width n i by due k s =
@@ -100,7 +100,7 @@ starts_soon quick late rounds old last turns i reached wide history clock taken'
         | inr none' ↦
             let full = full_lanes old s start.wall start.elapsed start.output i width start.ticks' m base.fits.0 in
             let lanes = lanes_tried quick late width n s base in
-            let less = take_one width rounds (all_asked o s turns) k wide (omega (arith, all, full, lanes)) few in
+            let less = take_one width rounds (all_asked o s hs) k wide (omega (arith, all, full, lanes)) few in
             let same = ap (λ x. (quick + late) * x) less.1.0 ∙ mul-suc (quick + late) less.0 in
             let fits = less.1.1 in
             inl (record {
@@ -118,8 +118,8 @@ starts_soon quick late rounds old last turns i reached wide history clock taken'
             })
       ]
     ] in
-    subst (λ b. AllSoon i (quick + late) b turns) (let e : by + (quick + late) ≡ at + (quick + late) * rounds = omega (arith, g') in e)
-    (along quick late width n i wide low turns by due s history.1 (subst (λ d. AreWorked o i d s turns) start.due working) stage base)
+    subst (λ b. AllSoon i (quick + late) b hs) (let e : by + (quick + late) ≡ at + (quick + late) * rounds = omega (arith, g') in e)
+    (along hs quick late width n i by due s wide low refl happens.1 (subst (λ d. AreWorked o i d s hs) start.due working) stage base)
 
 -- a turn leaves none out of an index at which there is no entry, where none was
 abbrev OfEntries : ℕ → WatchState → Type 0

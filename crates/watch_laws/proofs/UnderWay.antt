@@ -23,7 +23,8 @@ use Rattle.watch_machine.specs.declared.track.Try.{Try}
 use Rattle.watch_machine.specs.Answers.{failing, heard, lane_freed, noted, replied, with_track, without_request}
 use Rattle.watch_machine.specs.Beginning.{begun, hastened, is_called, is_pressed, is_pressed_try, is_start, owed, owing, owing_lookup, owing_past, soon, sooner_try, untopped, untopped_track}
 use Rattle.watch_machine.specs.Clocks.{sec}
-use Rattle.watch_machine.specs.History.{History, Turn, Turned}
+use Rattle.watch_machine.specs.Change.{former_at}
+use Rattle.watch_machine.specs.History.{AllHappen, Changed, Changes, Happening, Hands, IsChanged, Turn}
 use Rattle.watch_machine.specs.Lines.{is_first, later_at, ready}
 use Rattle.watch_machine.specs.Looked.{after_look, at_once, is_called_for, looked, refused_try, told_state, told_track, told_try, untold, untold_track}
 use Rattle.watch_machine.specs.Margins.{has_come}
@@ -43,12 +44,15 @@ use Rattle.watch_laws.specs.Outage.{IsReplyInOutage, Outage, is_request_served, 
 use Rattle.watch_laws.specs.Recovery.{without_outage}
 use Rattle.watch_laws.specs.Starts.{AreUnderWay, AreWorked, BrokerIsThere, FirstTryIsUnderWay, IsAtWork, IsThereAt, IsWorked, IsWorking, SoonLaw, is_first_try}
 use Rattle.watch_laws.proofs.Answering.{looked_rest}
-use Rattle.watch_laws.proofs.Bases.{last_base}
+use Rattle.watch_laws.proofs.Bases.{changed_base, kept_flag, last_base}
+use Rattle.watch_laws.proofs.Changing.{low as low_over}
 use Rattle.watch_laws.proofs.Clocking.{readied_clocks, refused_stays, sent_by}
+use Rattle.watch_laws.proofs.Following.{changed_entries, kept_over, owed_is}
 use Rattle.watch_laws.proofs.Grounds.{IsBase, turn_base}
 use Rattle.watch_laws.proofs.Holding.{looked_presence, ready_presence}
 use Rattle.watch_laws.proofs.Lanes.{goes_out_now, replied_lane, still_out, ticks}
 use Rattle.watch_laws.proofs.Minding.{some_within}
+use Rattle.watch_laws.proofs.Moving.{served_over}
 use Rattle.watch_laws.proofs.Once.{names_none}
 use Rattle.watch_laws.proofs.OnPlan.{attempt_sent, presence_away, stays}
 use Rattle.watch_laws.proofs.Opener.{mid_bears}
@@ -328,11 +332,15 @@ settled_runs margin at b x r = record {
 sooner_runs : (from b : ℕ) (o : Option Try) → Runs b o → Runs b (Some (sooner_try from o))
 sooner_runs from b o r = let s = r.soon' in record { try = hastened r.try from; is = ap (λ p. Some (sooner_try from p)) r.is; first = r.first; settled' = r.settled'; soon' = omega (arith, s) }
 
+-- an entry that owes a lookup
+lookup_runs : (at b : ℕ) (x : Track) → Runs b x.attempt → Runs b (owing_lookup at x).attempt
+lookup_runs at b x r = owed_is (λ (y : Track). Runs b y.attempt) at x (λ out. r) (λ free. sooner_runs (soon at x) b x.attempt r)
+
 owing_runs : (at b : ℕ) (first called : Bool) (x : Track) → Runs b x.attempt → Runs b (owing at first called x).attempt
 unfolding owing
 owing_runs at b first called x r =
     let P : Track → Type 0 = λ y. Runs b y.attempt in
-    if_both P (called && (first || is_open (sec at) x)) (owing_lookup at x) x (if_both P x.out (record x { owes = true }) (record x { owes = true; attempt = Some (sooner_try (soon at x) x.attempt) }) r (sooner_runs (soon at x) b x.attempt r)) r
+    if_both P (called && (first || is_open (sec at) x)) (owing_lookup at x) x (lookup_runs at b x r) r
 
 begun_runs : (s : WatchState) (w : Option Why) (b i : ℕ) → Runs b (attempt_at s i) → Runs b (attempt_at (begun s w) i)
 begun_runs s None b i r = r
@@ -424,6 +432,16 @@ turn_way :
 turn_way quick late width n i due old new event (Ok output) turn there base wanted first way = step_way quick late width n i due old new event output turn.1 there base wanted first way
 turn_way quick late width n i due old new event (Err fault) turn there base wanted first way = subst (λ (x : WatchState). FirstTryIsUnderWay (without_outage quick late) x i) (sym (refused_stays old new event fault turn)) way
 
+-- another forest that is watched lets it go out no later
+changed_way : (o : Outage) (old : WatchState) (c : Changed) → IsChanged old c → (i k : ℕ) → former_at c.was k ≡ Some i → FirstTryIsUnderWay o old i → FirstTryIsUnderWay o c.state k
+changed_way o old c h i k said way =
+    let b = old.clocks.at in
+    let clock = ap (λ (x : WatchState). x.clocks.at) h.state in
+    let runs : Runs b (attempt_at c.state k) =
+    kept_over old c h (λ y x. Runs b x.attempt → Runs b y.attempt) (λ x r. r) (λ x r. lookup_runs b b (untopped_track x) r) i k said (of_way o old i way) in
+    to_way o c.state k (later_runs b c.state.clocks.at (attempt_at c.state k) (omega (arith, clock)) runs)
+    (λ out. served_over old c h i k said o ∙ way.lane (sym (kept_flag old c h i k said) ∙ out)) (ap (λ (x : WatchState). x.presence.away) h.state ∙ way.there)
+
 -- ---- so it is at work at each clock
 
 works : (o : Outage) (i due : ℕ) (old new : WatchState) (event : Event) → BrokerIsThere o due old event → IsAtWork o new i → IsWorking o i due old event new
@@ -439,27 +457,33 @@ works_at o i due old new event (Ok output) there work = works o i due old new ev
 works_at o i due old new event (Err fault) there work = tt
 
 all_work :
-    (quick late width n i : ℕ) → i < n → (turns : List Turned) (due : ℕ) (old : WatchState) → History old turns → IsBase width n old → length old.forest.entries ≡ n → FirstTryIsUnderWay (without_outage quick late) old i →
-    AreUnderWay (without_outage quick late) i due old turns → AreWorked (without_outage quick late) i due old turns
-all_work quick late width n i low [] due old history base count way under = tt
-all_work quick late width n i low (turn ∷ turns) due old history base count way under =
+    (hs : List Happening) (quick late width n i due : ℕ) (old : WatchState) → i < n → length old.forest.entries ≡ n → AllHappen old hs → IsBase width n old → FirstTryIsUnderWay (without_outage quick late) old i →
+    AreUnderWay (without_outage quick late) i due old hs → AreWorked (without_outage quick late) i due old hs
+all_work [] quick late width n i due old low entries happens base way under = tt
+all_work (Hands turn ∷ hs) quick late width n i due old low entries happens base way under =
     let o = without_outage quick late in
     let new = turn.state in
-    let next = turn_base width n old new turn.event turn.result history.0 base in
-    let many : length new.forest.entries ≡ n = (turn_shape old new turn.event turn.result history.0).0 ∙ count in
-    let on = turn_way quick late width n i due old new turn.event turn.result history.0 under.0 base under.1.0 under.1.1.0 way in (
+    let next = turn_base width n old new turn.event turn.result happens.0 base in
+    let many : length new.forest.entries ≡ n = (turn_shape old new turn.event turn.result happens.0).0 ∙ entries in
+    let on = turn_way quick late width n i due old new turn.event turn.result happens.0 under.0 base under.1.0 under.1.1.0 way in (
       works_at o i due old new turn.event turn.result under.0 (at_work o new i (omega (arith, low, many)) on),
-      all_work quick late width n i low turns (outage_next_after o turn.result new due) new history.1 next many on under.1.1.1,
+      all_work hs quick late width n i (outage_next_after o turn.result new due) new low many happens.1 next on under.1.1.1,
     )
+all_work (Changes c ∷ hs) quick late width n i due old low entries happens base way under =
+    let h = happens.0 in
+    let k = under.0 in
+    let said = under.1.0 in
+    let on = changed_way (without_outage quick late) old c h i k said way in
+    (k, (said, all_work hs quick late width (length c.forest.entries) k due c.state (low_over old c h i k said) (changed_entries old c h) happens.1 (changed_base old c h width n entries base) on under.1.1))
 
 pub wanted_soon : SoonLaw
-wanted_soon quick late rounds old last turns i reached wide history clock taken' way under few =
+wanted_soon quick late rounds old last hs i reached wide happens clock taken' way under few =
     let o = without_outage quick late in
     let s = last.state in
     let n = length s.forest.entries in
-    let base = last_base old last turns reached history in
+    let base = last_base old last [] reached (happens.0, tt) in
     let inside = some_within s.tracks i way.attempt way.attempt_is in
     let count = base.count in
     let low : i < n = omega (arith, inside, count) in
-    starts_soon quick late rounds old last turns i reached wide history clock taken' low (at_work o s i low way)
-    (all_work quick late old.width n i low turns (outage_next_after o last.result s 0) s history.1 base refl way under) few
+    starts_soon quick late rounds old last hs i reached wide happens clock taken' low (at_work o s i low way)
+    (all_work hs quick late old.width n i (outage_next_after o last.result s 0) s low refl happens.1 base way under) few

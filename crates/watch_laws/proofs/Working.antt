@@ -1,5 +1,5 @@
 -- Working: while the broker is there, an entry that is being asked or may go out is answered within few rounds. For the law of a start.
-use Rattle.std.proofs.Common.{◌≡◌, ◌≢◌, ◌⊎◌, ◌∙◌, ℕ, suc, ◌+◌, ◌*◌, ◌<◌, ◌≤◌, Bool, true, false, not, ◌&&◌, ◌||◌, ◌==◌, if◌then◌else◌, List, [], ◌∷◌, Option, Some, None, All, Result, Ok, Err, get_or, nat_le, refl, sym, ap, subst, arith, inl, inr}
+use Rattle.std.proofs.Common.{◌≡◌, ◌≢◌, ◌⊎◌, ◌∙◌, ℕ, suc, ◌+◌, ◌*◌, ◌<◌, ◌≤◌, Bool, true, false, not, ◌&&◌, ◌||◌, ◌==◌, if◌then◌else◌, List, [], ◌∷◌, Option, Some, None, All, Result, Ok, Err, get_or, length, nat_le, refl, sym, ap, subst, arith, inl, inr}
 use Rattle.std.proofs.Math.Nat.{mul-suc}
 use Rattle.std.proofs.lemmas.Bool.{and_from, and_parts, cases_Bool, eqb-true}
 use Rattle.std.proofs.lemmas.Bool.Decides.{nat_tests}
@@ -13,7 +13,8 @@ use Rattle.watch_machine.specs.declared.event.Reply.{Reply}
 use Rattle.watch_machine.specs.declared.fault.WatchFault.{WatchFault}
 use Rattle.watch_machine.specs.declared.lanes.Out.{Out}
 use Rattle.watch_machine.specs.Answers.{noted, replied, without_request}
-use Rattle.watch_machine.specs.History.{History, Turn, Turned}
+use Rattle.watch_machine.specs.Change.{former_at}
+use Rattle.watch_machine.specs.History.{AllHappen, Changed, Changes, Happening, Hands, IsChanged, Turn, Turned}
 use Rattle.watch_machine.specs.Looked.{looked}
 use Rattle.watch_machine.specs.Refusal.{request_out}
 use Rattle.watch_machine.specs.Renewed.{state_renewed}
@@ -24,16 +25,21 @@ use Rattle.watch_machine.specs.Wait.{wait}
 use Rattle.watch_machine.proofs.Cases.{not_both}
 use Rattle.watch_machine.proofs.Within.{out_entry}
 use Rattle.watch_laws.specs.Absence.{is_event_taken}
-use Rattle.watch_laws.specs.Outage.{Outage, coming, comes, how_many, is_request_served, is_tried, is_request_whole, outage_next_after, outage_next_after_command, outage_next_by, outage_settled_by, waiting, waits_to_be_asked}
+use Rattle.watch_laws.specs.Outage.{Outage, comes, comes_over, coming_through, how_many, is_request_served, is_tried, is_request_whole, outage_next_after, outage_next_after_command, outage_next_by, outage_settled_by, waiting, waits_to_be_asked}
 use Rattle.watch_laws.specs.Recovery.{without_outage}
 use Rattle.watch_laws.specs.Starts.{AllSoon, AreWorked, IsAtWork, IsWorked, IsWorking, is_answer_to, later_by}
 use Rattle.watch_laws.proofs.Alone.{lanes_of, none_left, replied_lanes}
+use Rattle.watch_laws.proofs.Bases.{changed_base}
+use Rattle.watch_laws.proofs.Changing.{low as low_over}
 use Rattle.watch_laws.proofs.Clocking.{readied_clocks, refused_stays}
 use Rattle.watch_laws.proofs.Counting.{least_all, more as more_pass, no_lane, some}
+use Rattle.watch_laws.proofs.Following.{any_over, changed_entries}
 use Rattle.watch_laws.proofs.Grounds.{IsBase, fewer_wait, tracked, turn_base}
 use Rattle.watch_laws.proofs.Lanes.{Sends, Ticks, is_anew, is_of, passes, replied_any, replied_lane, served_tried, still_out, ticks, turn_sends}
-use Rattle.watch_laws.proofs.Recovering.{Passes, Quiet, Timely, clock_passes, looked_quiet, quiet_passes, renewed_quiet, same_quiet, settles_so}
+use Rattle.watch_laws.proofs.Moving.{all_over, fewer_over, served_over}
+use Rattle.watch_laws.proofs.Recovering.{Passes, Quiet, Timely, change_passes, clock_passes, looked_quiet, quiet_passes, renewed_quiet, same_quiet, settles_so}
 use Rattle.watch_laws.proofs.Requests.{any_gives, one_left}
+use Rattle.watch_laws.proofs.Shapes.{turn_shape}
 use Rattle.watch_laws.proofs.Spacing.{looked_out, same_index}
 
 -- a request of i is out that went out by then
@@ -469,18 +475,63 @@ turn_stage quick late width n i by due rest old turn wide low step working base 
       (later_stage quick late width n i by (by + later_by i (quick + late) turn) due (waiting (without_outage quick late) n turn.state + rest) turn.state (omega arith)
       (same_stage quick late width n i by due rest (waiting (without_outage quick late) n old + (how_many n (comes (without_outage quick late) old turn.state) + rest)) old turn.state same base (omega (arith, less, anew)) stage))
 
+-- and another forest that is watched leaves the clock and all lanes
+change_stage :
+    (quick late width n i k by due rest : ℕ) (old : WatchState) (c : Changed) → IsChanged old c → former_at c.was k ≡ Some i → length old.forest.entries ≡ n →
+    Stage quick late width n i by due (waiting (without_outage quick late) n old + (how_many (length c.forest.entries) (comes_over old c) + rest)) old →
+    Stage quick late width (length c.forest.entries) k by due (waiting (without_outage quick late) (length c.forest.entries) c.state + rest) c.state
+change_stage quick late width n i k by due rest old c h said entries (inl w) =
+    inl (record { passing = change_passes quick late width n i k by due rest old c h entries w.passing; unserved = served_over old c h i k said (without_outage quick late) ∙ w.unserved })
+change_stage quick late width n i k by due rest old c h said entries (inr v) =
+    let less = fewer_over (without_outage quick late) old c h width n rest entries v.base v.anew in
+    let count = v.count in
+    let now = v.now in
+    let clock = ap (λ (x : WatchState). x.clocks.at) h.state in
+    inr (record {
+      base = changed_base old c h width n entries v.base;
+      timely = all_over old c h (Timely quick late due) (λ r m le. le) v.timely;
+      r = v.r;
+      anew = v.anew;
+      turn = v.turn;
+      sent = v.sent;
+      served = any_over old c h i k (λ since. nat_le since v.sent) said ∙ v.served;
+      count = omega (arith, less, count);
+      order = v.order;
+      start = v.start;
+      sent_turn = v.sent_turn;
+      sent_by = v.sent_by;
+      next = v.next;
+      now = omega (arith, now, clock);
+    })
+
 pub along :
-    (quick late width n i : ℕ) → 0 < width → i < n → (turns : List Turned) (by due : ℕ) (old : WatchState) → History old turns → AreWorked (without_outage quick late) i due old turns →
-    Stage quick late width n i by due (waiting (without_outage quick late) n old + coming (without_outage quick late) n old turns) old → IsBase width n old → AllSoon i (quick + late) (by + (quick + late)) turns
-along quick late width n i wide low [] by due old history working stage base = tt
-along quick late width n i wide low (turn ∷ turns) by due old history working stage base =
+    (hs : List Happening) (quick late width n i by due : ℕ) (old : WatchState) → 0 < width → i < n → length old.forest.entries ≡ n → AllHappen old hs → AreWorked (without_outage quick late) i due old hs →
+    Stage quick late width n i by due (waiting (without_outage quick late) n old + coming_through (without_outage quick late) old hs) old → IsBase width n old → AllSoon i (quick + late) (by + (quick + late)) hs
+along [] quick late width n i by due old wide low entries happens working stage base = tt
+along (Hands turn ∷ hs) quick late width n i by due old wide low entries happens working stage base =
     let o = without_outage quick late in
     let span = quick + late in
     let new = turn.state in
-    let next = turn_base width n old new turn.event turn.result history.0 base in
+    let come = coming_through o new hs in
+    let next = turn_base width n old new turn.event turn.result happens.0 base in
     let count = next.count in
-    let sends = turn_sends old new turn.event turn.result n (omega (arith, count)) history.0 in
-    let here = turn_stage quick late width n i by due (coming o n new turns) old turn wide low history.0 working.0 next sends base stage in
-    let now = stage_now quick late width n i (by + later_by i span turn) (outage_next_after o turn.result new due) (waiting o n new + coming o n new turns) new here in
-    let rest = along quick late width n i wide low turns (by + later_by i span turn) (outage_next_after o turn.result new due) new history.1 working.1 here next in
-    (omega (arith, now), subst (λ b. AllSoon i span b turns) (let e : by + later_by i span turn + span ≡ by + span + later_by i span turn = omega arith in e) rest)
+    let sends = turn_sends old new turn.event turn.result n (omega (arith, count)) happens.0 in
+    let many : length new.forest.entries ≡ n = (turn_shape old new turn.event turn.result happens.0).0 ∙ entries in
+    let here = turn_stage quick late width n i by due come old turn wide low happens.0 working.0 next sends base
+    (subst (λ m. Stage quick late width n i by due (waiting o n old + (how_many m (comes o old new) + come)) old) entries stage) in
+    let now = stage_now quick late width n i (by + later_by i span turn) (outage_next_after o turn.result new due) (waiting o n new + come) new here in
+    let rest = along hs quick late width n i (by + later_by i span turn) (outage_next_after o turn.result new due) new wide low many happens.1 working.1 here next in
+    (omega (arith, now), subst (λ b. AllSoon i span b hs) (let e : by + later_by i span turn + span ≡ by + span + later_by i span turn = omega arith in e) rest)
+along (Changes c ∷ hs) quick late width n i by due old wide low entries happens working stage base = λ m told.
+    let o = without_outage quick late in
+    let span = quick + late in
+    let h = happens.0 in
+    let k = working.0 in
+    let said = working.1.0 in
+    let same : k ≡ m = h.may.once i k m said told in
+    let come = coming_through o c.state hs in
+    let n' = length c.forest.entries in
+    let here = change_stage quick late width n i k by due come old c h said entries stage in
+    let now = stage_now quick late width n' k by due (waiting o n' c.state + come) c.state here in
+    let rest = along hs quick late width n' k by due c.state wide (low_over old c h i k said) (changed_entries old c h) happens.1 working.1.1 here (changed_base old c h width n entries base) in
+    subst (λ j. (c.state.clocks.at ≤ by + span) × AllSoon j span (by + span) hs) same (now, rest)

@@ -20,7 +20,7 @@ use Rattle.watch_machine.specs.declared.fault.WatchFault.{WatchFault}
 use Rattle.watch_machine.specs.declared.lanes.Out.{Out}
 use Rattle.watch_machine.specs.Beginning.{is_pressed}
 use Rattle.watch_machine.specs.Clocks.{sec}
-use Rattle.watch_machine.specs.History.{History, IsReached, Turned}
+use Rattle.watch_machine.specs.History.{AllHappen, Changes, Happening, Hands, History, IsReached, Turned}
 use Rattle.watch_machine.specs.Margins.{is_in_plan, lead}
 use Rattle.watch_machine.specs.Outlook.{time_of}
 use Rattle.watch_machine.specs.Refusal.{request_out}
@@ -178,10 +178,11 @@ abbrev pub began_after : Option (List ℕ) → ℕ → ℕ → ℕ
 began_after None began now = began
 began_after (Some asked) began now = now
 
--- each event that is taken is such a one, where the last round before began in that second
-abbrev pub AreCalm : ℕ → WatchState → List Turned → Type 0
+-- each event that is taken is such a one, where the last round before began in that second; and each change leaves a state at rest
+abbrev pub AreCalm : ℕ → WatchState → List Happening → Type 0
 AreCalm began s [] = Unit {0}
-AreCalm began s (turn ∷ turns) = IsCalmTurn s began turn.event turn.result × AreCalm (began_after (round_of turn.result) began (second turn.state)) turn.state turns
+AreCalm began s (Hands turn ∷ hs) = IsCalmTurn s began turn.event turn.result × AreCalm (began_after (round_of turn.result) began (second turn.state)) turn.state hs
+AreCalm began s (Changes c ∷ hs) = StateIsAtRest c.state × AreCalm (second c.state) c.state hs
 
 -- no wake-up of a list has passed
 abbrev pub NonePassed : WatchState → List Wake → Type 0
@@ -207,18 +208,27 @@ ends_left_by g e (Some asked) now = ends_after_wake_up g.entries g.margin e now
 abbrev pub EndAs : (ℕ → ℕ) → WatchState → Type 0
 EndAs e s = (i : ℕ) → attempt_at s i ≡ None → ends s i ≡ e i
 
+-- the wake-ups of a plan from now on, with its Asks; and the one before them, of nobody
+abbrev pub wake_ups_from : WatchState → List ℕ → List Wake
+wake_ups_from s ts = with_asks (believed_forest s).entries s.forest.margin (second s) (ends s) ts
+
+abbrev pub no_wake_up : WatchState → Wake
+no_wake_up s = record { at = second s; asked = [] }
+
 -- turns that go by a list of wake-ups, as far as they have gone, where last is the wake-up before and e are the ends that it left: a
--- round opens at each, of those whom it asks, and at no other moment; each of them is renewed, and nothing else is asked
-abbrev pub GoBy : Forest → (ℕ → ℕ) → Wake → List Wake → List Turned → Type 0
+-- round opens at each, of those whom it asks, and at no other moment; each of them is renewed, and nothing else is asked. From a change on the
+-- wake-ups are those of the plan of the state after it
+abbrev pub GoBy : Forest → (ℕ → ℕ) → Wake → List Wake → List Happening → Type 0
 GoBy g e last wakes [] = Unit {0}
-GoBy g e last wakes (turn ∷ turns) =
+GoBy g e last wakes (Hands turn ∷ hs) =
     (now : Wake) × ((next : List Wake) × (OpensNextWakeUp turn.state (round_of turn.result) last wakes now next × (SendsOnly now turn
-    × (EndAs (ends_left_by g e (round_of turn.result) now) turn.state × GoBy g (ends_left_by g e (round_of turn.result) now) now next turns))))
+    × (EndAs (ends_left_by g e (round_of turn.result) now) turn.state × GoBy g (ends_left_by g e (round_of turn.result) now) now next hs))))
+GoBy g e last wakes (Changes c ∷ hs) = (ts : List ℕ) × (IsPlanNow c.state ts × GoBy (believed_forest c.state) (ends c.state) (no_wake_up c.state) (wake_ups_from c.state ts) hs)
 
 -- from a state at rest on, while each clock comes in time, every reply comes before the next round and each renewal is granted by the rule
 -- from the second of its round, the rounds are exactly the wake-ups of the least and latest plan with its Asks; they lead the ends as the
--- plan does, and nothing else is asked
+-- plan does, and nothing else is asked. After a change that leaves a state at rest they are those of the plan of that state
 abbrev pub CalmLaw : Type 0
 CalmLaw =
-    (s : WatchState) (turns : List Turned) → StateIsAtRest s → History s turns → AreCalm (second s) s turns →
-    (ts : List ℕ) × (IsPlanNow s ts × GoBy (believed_forest s) (ends s) (record { at = second s; asked = [] }) (with_asks (believed_forest s).entries s.forest.margin (second s) (ends s) ts) turns)
+    (s : WatchState) (hs : List Happening) → StateIsAtRest s → AllHappen s hs → AreCalm (second s) s hs →
+    (ts : List ℕ) × (IsPlanNow s ts × GoBy (believed_forest s) (ends s) (no_wake_up s) (wake_ups_from s ts) hs)

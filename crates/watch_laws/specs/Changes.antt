@@ -22,6 +22,7 @@ use Rattle.watch_machine.specs.Refusal.{request_out}
 use Rattle.watch_machine.specs.State.{WatchState, entry_of, track_at}
 use Rattle.watch_machine.specs.Step.{nothing_noted}
 use Rattle.watch_laws.specs.Backs.{is_reply_to}
+use Rattle.watch_laws.specs.Presence.{IsIndexNow}
 use Rattle.watch_laws.specs.Presses.{asked_again_at}
 
 -- ---- an entry that was watched before
@@ -95,10 +96,6 @@ pub record IsWatchedAnew (at : ℕ) (e : Entry) (x : Track) : Type 0 where
 -- ---- requests, and all else
 
 -- where a request is that was out: it is the same but for its index, which is that of its entry, or past the last where that is no more
-abbrev pub IsIndexNow : ℕ → Option ℕ → ℕ → Type 0
-IsIndexNow n None j = n ≤ j
-IsIndexNow n (Some k) j = j ≡ k
-
 pub record IsMoved (c : Changed) (old new : Out) : Type 0 where
   pub entry : IsIndexNow (length c.forest.entries) (place_now c.was old.entry) new.entry
   pub rest : new ≡ record old { entry = new.entry }

@@ -141,11 +141,6 @@ waiting o n s = how_many n (waits_to_be_asked o s)
 abbrev pub comes : Outage → WatchState → WatchState → ℕ → Bool
 comes o old new j = is_tried new j && (not (is_tried old j) || (is_request_served o old j && not (is_request_served o new j)))
 
--- how often one of n entries comes to wait in a list of turns
-abbrev pub coming : Outage → ℕ → WatchState → List Turned → ℕ
-coming o n old [] = 0
-coming o n old (turn ∷ turns) = how_many n (comes o old turn.state) + coming o n turn.state turns
-
 -- and at a change: something is to be asked of it, and nothing was before. So a change counts as the lookups that it brings
 abbrev pub was_tried : WatchState → Option ℕ → Bool
 was_tried s None = false

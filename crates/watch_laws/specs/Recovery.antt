@@ -6,12 +6,13 @@ use Rattle.watch_machine.specs.declared.event.Event.{Event}
 use Rattle.watch_machine.specs.declared.event.Event.TheVariants.{Clock, Looked, Renewed, Need, Begin, Known}
 use Rattle.watch_machine.specs.declared.fault.WatchFault.{WatchFault}
 use Rattle.watch_machine.specs.declared.track.Try.{Try}
-use Rattle.watch_machine.specs.History.{History, IsReached, Turned}
+use Rattle.watch_machine.specs.Change.{former_at}
+use Rattle.watch_machine.specs.History.{AllHappen, Changes, Happening, Hands, IsReached, Turned, state_after}
 use Rattle.watch_machine.specs.Lines.{ready}
 use Rattle.watch_machine.specs.Settling.{timed}
 use Rattle.watch_machine.specs.State.{WatchState, attempt_at, track_at}
 use Rattle.watch_laws.specs.Absence.{is_clock, is_event_taken}
-use Rattle.watch_laws.specs.Outage.{Outage, coming, outage_next_after, waiting}
+use Rattle.watch_laws.specs.Outage.{Outage, in_line, outage_next_after}
 
 -- no outage: every request is settled so soon, and every clock comes in time
 abbrev pub without_outage : ℕ → ℕ → Outage
@@ -38,21 +39,21 @@ abbrev pub IsPassedBy : ℕ → ℕ → WatchState → Event → Result Output W
 IsPassedBy i due old event (Ok output) new = IsPassing i due old event new
 IsPassedBy i due old event (Err fault) new = Unit {0}
 
--- turns that pass over i while the broker is there
-abbrev pub ArePassing : Outage → ℕ → ℕ → WatchState → List Turned → Type 0
+-- turns that pass over i while the broker is there, and changes over which i stays, under the index k
+abbrev pub ArePassing : Outage → ℕ → ℕ → WatchState → List Happening → Type 0
 ArePassing o i due s [] = Unit {0}
-ArePassing o i due s (turn ∷ turns) = IsPassedBy i due s turn.event turn.result turn.state × ArePassing o i (outage_next_after o turn.result turn.state due) turn.state turns
+ArePassing o i due s (Hands turn ∷ hs) = IsPassedBy i due s turn.event turn.result turn.state × ArePassing o i (outage_next_after o turn.result turn.state due) turn.state hs
+ArePassing o i due s (Changes c ∷ hs) = (k : ℕ) × ((former_at c.was k ≡ Some i) × ArePassing o k due c.state hs)
 
-abbrev pub AllBy : ℕ → List Turned → Type 0
+abbrev pub AllBy : ℕ → List Happening → Type 0
 AllBy by [] = Unit {0}
-AllBy by (turn ∷ turns) = (turn.state.clocks.at ≤ by) × AllBy by turns
+AllBy by (h ∷ hs) = ((state_after h).clocks.at ≤ by) × AllBy by hs
 
 -- while the broker is there, an entry that may go out and does not waits no longer than so many rounds of the lanes as hold those that
--- wait at first and come to wait meanwhile, itself among them
+-- wait at first and come to wait meanwhile, itself among them. Over changes, too: one counts as the lookups that it brings
 abbrev pub RecoveryLaw : Type 0
 RecoveryLaw =
-    (quick late rounds : ℕ) (old : WatchState) (last : Turned) (turns : List Turned) (i : ℕ) → IsReached old → 0 < old.width → History old (last ∷ turns) → is_clock last.event ≡ true →
+    (quick late rounds : ℕ) (old : WatchState) (last : Turned) (hs : List Happening) (i : ℕ) → IsReached old → 0 < old.width → AllHappen old (Hands last ∷ hs) → is_clock last.event ≡ true →
     is_event_taken last.result ≡ true → MayGo last.state i →
-    ArePassing (without_outage quick late) i (outage_next_after (without_outage quick late) last.result last.state 0) last.state turns →
-    waiting (without_outage quick late) (length last.state.forest.entries) last.state + coming (without_outage quick late) (length last.state.forest.entries) last.state turns ≤ old.width * rounds →
-    AllBy (last.state.clocks.at + (quick + late) * rounds) turns
+    ArePassing (without_outage quick late) i (outage_next_after (without_outage quick late) last.result last.state 0) last.state hs →
+    in_line (without_outage quick late) last.state hs ≤ old.width * rounds → AllBy (last.state.clocks.at + (quick + late) * rounds) hs

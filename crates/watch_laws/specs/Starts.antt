@@ -11,7 +11,8 @@ use Rattle.watch_machine.specs.declared.event.Operation.TheVariants.{Look, Renew
 use Rattle.watch_machine.specs.declared.fault.WatchFault.{WatchFault}
 use Rattle.watch_machine.specs.declared.lanes.Out.{Out}
 use Rattle.watch_machine.specs.declared.track.Try.{Try}
-use Rattle.watch_machine.specs.History.{History, IsReached, IsWatchRun, Turned, after_all}
+use Rattle.watch_machine.specs.Change.{former_at}
+use Rattle.watch_machine.specs.History.{AllHappen, Changes, Happening, Hands, History, IsReached, IsWatchRun, Turned, after_all}
 use Rattle.watch_machine.specs.Lines.{is_first}
 use Rattle.watch_machine.specs.Refusal.{request_out}
 use Rattle.watch_machine.specs.Settling.{timed}
@@ -19,7 +20,7 @@ use Rattle.watch_machine.specs.State.{WatchState, attempt_at, opened, second, tr
 use Rattle.watch_machine.specs.Wanted.{is_alive, is_wanted}
 use Rattle.watch_laws.specs.Absence.{is_clock, is_event_taken}
 use Rattle.watch_laws.specs.Load.{requests_at_turn}
-use Rattle.watch_laws.specs.Outage.{IsReplyInOutage, Outage, coming, how_many, is_request_served, is_tried, outage_next_after}
+use Rattle.watch_laws.specs.Outage.{IsReplyInOutage, Outage, coming_through, how_many, is_request_served, is_tried, outage_next_after}
 use Rattle.watch_laws.specs.Partial.{stands_before}
 use Rattle.watch_laws.specs.Recovery.{MayGo, without_outage}
 use Rattle.watch_laws.specs.Time.{is_come}
@@ -41,10 +42,11 @@ abbrev pub IsWorked : Outage → ℕ → ℕ → WatchState → Event → Result
 IsWorked o i due old event (Ok output) new = IsWorking o i due old event new
 IsWorked o i due old event (Err fault) new = Unit {0}
 
--- turns in which i is at work, while the broker is there
-abbrev pub AreWorked : Outage → ℕ → ℕ → WatchState → List Turned → Type 0
+-- turns in which i is at work, while the broker is there, and changes over which i stays, under the index k
+abbrev pub AreWorked : Outage → ℕ → ℕ → WatchState → List Happening → Type 0
 AreWorked o i due s [] = Unit {0}
-AreWorked o i due s (turn ∷ turns) = IsWorked o i due s turn.event turn.result turn.state × AreWorked o i (outage_next_after o turn.result turn.state due) turn.state turns
+AreWorked o i due s (Hands turn ∷ hs) = IsWorked o i due s turn.event turn.result turn.state × AreWorked o i (outage_next_after o turn.result turn.state due) turn.state hs
+AreWorked o i due s (Changes c ∷ hs) = (k : ℕ) × ((former_at c.was k ≡ Some i) × AreWorked o k due c.state hs)
 
 -- an answer to i
 abbrev pub is_answer_to : ℕ → Event → Bool
@@ -59,28 +61,29 @@ is_answer_to i (Known j end renewable) = false
 abbrev pub later_by : ℕ → ℕ → Turned → ℕ
 later_by i span turn = if is_event_taken turn.result && is_answer_to i turn.event then span else 0
 
--- no clock comes after that moment, which each answer to i sets so much later
-abbrev pub AllSoon : ℕ → ℕ → ℕ → List Turned → Type 0
+-- no clock and no change comes after that moment, which each answer to i sets so much later
+abbrev pub AllSoon : ℕ → ℕ → ℕ → List Happening → Type 0
 AllSoon i span by [] = Unit {0}
-AllSoon i span by (turn ∷ turns) = (turn.state.clocks.at ≤ by + later_by i span turn) × AllSoon i span (by + later_by i span turn) turns
+AllSoon i span by (Hands turn ∷ hs) = (turn.state.clocks.at ≤ by + later_by i span turn) × AllSoon i span (by + later_by i span turn) hs
+AllSoon i span by (Changes c ∷ hs) = (k : ℕ) → former_at c.was k ≡ Some i → (c.state.clocks.at ≤ by) × AllSoon k span by hs
 
 -- how many requests are out whose entries are no more
 abbrev pub of_nobody : WatchState → ℕ
 of_nobody s = length (filter (λ (q : Out). nat_le (length s.forest.entries) q.entry) s.out)
 
 -- those that are asked or to be asked at first, and those that come to wait meanwhile
-abbrev pub all_asked : Outage → WatchState → List Turned → ℕ
-all_asked o s turns = of_nobody s + (how_many (length s.forest.entries) (is_tried s) + coming o (length s.forest.entries) s turns)
+abbrev pub all_asked : Outage → WatchState → List Happening → ℕ
+all_asked o s hs = of_nobody s + (how_many (length s.forest.entries) (is_tried s) + coming_through o s hs)
 
 -- from a clock on, as a beginning, while the broker is there: as long as an entry is being asked or waits for a lane, no clock comes later than
--- all rounds that hold whatever is asked or to be asked at first and comes to wait meanwhile, and one round later for each answer to it
+-- all rounds that hold whatever is asked or to be asked at first and comes to wait meanwhile, and one round later for each answer to it. Over
+-- changes, too: one counts as the lookups that it brings
 abbrev pub StartLaw : Type 0
 StartLaw =
-    (quick late rounds : ℕ) (old : WatchState) (last : Turned) (turns : List Turned) (i : ℕ) → IsReached old → 0 < old.width → History old (last ∷ turns) → is_clock last.event ≡ true →
+    (quick late rounds : ℕ) (old : WatchState) (last : Turned) (hs : List Happening) (i : ℕ) → IsReached old → 0 < old.width → AllHappen old (Hands last ∷ hs) → is_clock last.event ≡ true →
     is_event_taken last.result ≡ true → i < length last.state.forest.entries → IsAtWork (without_outage quick late) last.state i →
-    AreWorked (without_outage quick late) i (outage_next_after (without_outage quick late) last.result last.state 0) last.state turns →
-    all_asked (without_outage quick late) last.state turns ≤ old.width * rounds →
-    AllSoon i (quick + late) (last.state.clocks.at + (quick + late) * rounds) turns
+    AreWorked (without_outage quick late) i (outage_next_after (without_outage quick late) last.result last.state 0) last.state hs →
+    all_asked (without_outage quick late) last.state hs ≤ old.width * rounds → AllSoon i (quick + late) (last.state.clocks.at + (quick + late) * rounds) hs
 
 -- until what is watched changes, no request is out whose entry is no more
 abbrev pub NobodyLaw : Type 0
@@ -112,22 +115,22 @@ abbrev pub IsThereAt : Outage → ℕ → WatchState → Event → Result Output
 IsThereAt o due s event (Ok output) = BrokerIsThere o due s event
 IsThereAt o due s event (Err fault) = Unit {0}
 
--- turns in which the broker is there, after each of which i is wanted and on its first try
-abbrev pub AreUnderWay : Outage → ℕ → ℕ → WatchState → List Turned → Type 0
+-- turns in which the broker is there, after each of which i is wanted and on its first try, and changes over which i stays, under the index k
+abbrev pub AreUnderWay : Outage → ℕ → ℕ → WatchState → List Happening → Type 0
 AreUnderWay o i due s [] = Unit {0}
-AreUnderWay o i due s (turn ∷ turns) =
+AreUnderWay o i due s (Hands turn ∷ hs) =
     IsThereAt o due s turn.event turn.result
-    × ((is_wanted turn.state i ≡ true) × ((is_first_try (attempt_at turn.state i) ≡ true) × AreUnderWay o i (outage_next_after o turn.result turn.state due) turn.state turns))
+    × ((is_wanted turn.state i ≡ true) × ((is_first_try (attempt_at turn.state i) ≡ true) × AreUnderWay o i (outage_next_after o turn.result turn.state due) turn.state hs))
+AreUnderWay o i due s (Changes c ∷ hs) = (k : ℕ) × ((former_at c.was k ≡ Some i) × AreUnderWay o k due c.state hs)
 
 -- so of an entry that is wanted: from a beginning on, while the broker is there, as long as it is on its first try, as one that is looked up
 -- and then renewed, no clock comes later than those rounds, and one round later once it is looked up
 abbrev pub SoonLaw : Type 0
 SoonLaw =
-    (quick late rounds : ℕ) (old : WatchState) (last : Turned) (turns : List Turned) (i : ℕ) → IsReached old → 0 < old.width → History old (last ∷ turns) → is_clock last.event ≡ true →
+    (quick late rounds : ℕ) (old : WatchState) (last : Turned) (hs : List Happening) (i : ℕ) → IsReached old → 0 < old.width → AllHappen old (Hands last ∷ hs) → is_clock last.event ≡ true →
     is_event_taken last.result ≡ true → FirstTryIsUnderWay (without_outage quick late) last.state i →
-    AreUnderWay (without_outage quick late) i (outage_next_after (without_outage quick late) last.result last.state 0) last.state turns →
-    all_asked (without_outage quick late) last.state turns ≤ old.width * rounds →
-    AllSoon i (quick + late) (last.state.clocks.at + (quick + late) * rounds) turns
+    AreUnderWay (without_outage quick late) i (outage_next_after (without_outage quick late) last.result last.state 0) last.state hs →
+    all_asked (without_outage quick late) last.state hs ≤ old.width * rounds → AllSoon i (quick + late) (last.state.clocks.at + (quick + late) * rounds) hs
 
 -- an entry of known end that is to be renewed now, whether a round asked it along before or not: it is wanted, its end is ahead and its own
 -- time has come, it has not failed since, and it may go out by now

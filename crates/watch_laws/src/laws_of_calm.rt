@@ -16,7 +16,8 @@ pub fn round_of_plan_law()
 
 /// The law of calm: from a state at rest on, while each clock comes in time, every reply comes before the next round opens, and each
 /// renewal is granted by the rule from the second of its round, the rounds are exactly the wake-ups of the least and latest plan with
-/// its Asks, and nothing else is asked. A round may take as long as it leaves room for the next one.
+/// its Asks, and nothing else is asked. A round may take as long as it leaves room for the next one. After a change of what is watched
+/// that leaves a state at rest, the rounds are the wake-ups of the plan of that state.
 pub fn calm_law()
     ensures { CalmLaw }
 {}

@@ -2,7 +2,7 @@ ghost use Rattle.watch_laws.specs.Backs.{BackLaw};
 ghost use Rattle.watch_laws.specs.Presence.{AwayLaw};
 
 /// The law of presence: the broker counts as away from the loss of a request on, if it answered none since that went out, and until it
-/// answers. Nothing else changes it.
+/// answers. Nothing else changes it, no change of what is watched either: requests whose entries are no more count as all others.
 pub fn away_law()
     ensures { AwayLaw }
 {}

@@ -4,8 +4,9 @@ ghost use Rattle.watch_laws.specs.Starts.{KnownFirstLaw, NobodyLaw, SoonLaw, Sta
 /// The law of a start: from a beginning, or any other clock, on, while the broker is there and an entry is being asked or waits for a
 /// lane, no clock comes later than all the rounds of the lanes that hold whatever is asked or to be asked at first and comes to wait
 /// meanwhile, and one round later for each answer to the entry. So it is answered the first time within those rounds, and the second
-/// time, as a renewal after its lookup, within one round more. Requests of entries that are no more are among what is asked at first;
-/// until what is watched changes there are none.
+/// time, as a renewal after its lookup, within one round more. What is watched may change meanwhile, as long as the entry stays: a change
+/// counts as the lookups that it brings. Requests of entries that are no more are among what is asked at first; until what is watched
+/// changes there are none.
 pub fn start_law()
     ensures rounds { StartLaw }
     ensures nobody { NobodyLaw }
