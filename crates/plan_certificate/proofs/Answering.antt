@@ -17,9 +17,4 @@ fails_along Trailing one other along h = along Trailing h
 
 pub fails_with : {Y : Type 0} (e : CertFault) (answer : Result Y CertFault) → answer ≡ Err e → FailsWithCertFault e answer
 fails_with OutOfMemory answer h = tt
-fails_with BadHeader answer h = h
-fails_with (BadLine n) answer h = h
-fails_with (UnknownName n) answer h = h
-fails_with (BadNumber n) answer h = h
-fails_with Truncated answer h = h
-fails_with Trailing answer h = h
+fails_with _ answer h = h

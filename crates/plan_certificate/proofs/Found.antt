@@ -33,35 +33,20 @@ some_same : {A : Type 0} (x y : A) → Some x ≡ Some y → x ≡ y
 some_same x y e = cc
 
 pub two_is : (ws : List (List ℕ)) (w : List ℕ × List ℕ) → two ws ≡ Some w → ws ≡ w.0 ∷ w.1 ∷ []
-two_is [] w e = cc
-two_is (a ∷ []) w e = cc
 two_is (a ∷ b ∷ []) w e = ap (λ p. p.0 ∷ p.1 ∷ []) (some_same {A = List ℕ × List ℕ} (a, b) w e)
-two_is (a ∷ b ∷ c ∷ ws) w e = cc
+two_is _ w e = cc
 
 pub three_is : (ws : List (List ℕ)) (w : List ℕ × List ℕ × List ℕ) → three ws ≡ Some w → ws ≡ w.0 ∷ w.1 ∷ w.2 ∷ []
-three_is [] w e = cc
-three_is (a ∷ []) w e = cc
-three_is (a ∷ b ∷ []) w e = cc
 three_is (a ∷ b ∷ c ∷ []) w e = ap (λ p. p.0 ∷ p.1 ∷ p.2 ∷ []) (some_same {A = List ℕ × List ℕ × List ℕ} (a, b, c) w e)
-three_is (a ∷ b ∷ c ∷ d ∷ ws) w e = cc
+three_is _ w e = cc
 
 pub four_is : (ws : List (List ℕ)) (w : List ℕ × List ℕ × List ℕ × List ℕ) → four ws ≡ Some w → ws ≡ w.0 ∷ w.1 ∷ w.2 ∷ w.3 ∷ []
-four_is [] w e = cc
-four_is (a ∷ []) w e = cc
-four_is (a ∷ b ∷ []) w e = cc
-four_is (a ∷ b ∷ c ∷ []) w e = cc
 four_is (a ∷ b ∷ c ∷ d ∷ []) w e = ap (λ p. p.0 ∷ p.1 ∷ p.2 ∷ p.3 ∷ []) (some_same {A = List ℕ × List ℕ × List ℕ × List ℕ} (a, b, c, d) w e)
-four_is (a ∷ b ∷ c ∷ d ∷ x ∷ ws) w e = cc
+four_is _ w e = cc
 
 pub six_is : (ws : List (List ℕ)) (w : List ℕ × List ℕ × List ℕ × List ℕ × List ℕ × List ℕ) → six ws ≡ Some w → ws ≡ w.0 ∷ w.1 ∷ w.2 ∷ w.3 ∷ w.4 ∷ w.5 ∷ []
-six_is [] w e = cc
-six_is (a ∷ []) w e = cc
-six_is (a ∷ b ∷ []) w e = cc
-six_is (a ∷ b ∷ c ∷ []) w e = cc
-six_is (a ∷ b ∷ c ∷ d ∷ []) w e = cc
-six_is (a ∷ b ∷ c ∷ d ∷ x ∷ []) w e = cc
 six_is (a ∷ b ∷ c ∷ d ∷ x ∷ y ∷ []) w e = ap (λ p. p.0 ∷ p.1 ∷ p.2 ∷ p.3 ∷ p.4 ∷ p.5 ∷ []) (some_same {A = List ℕ × List ℕ × List ℕ × List ℕ × List ℕ × List ℕ} (a, b, c, d, x, y) w e)
-six_is (a ∷ b ∷ c ∷ d ∷ x ∷ y ∷ z ∷ ws) w e = cc
+six_is _ w e = cc
 
 -- a line is its words, parted by spaces
 pub line_from_words : (line : List ℕ) (ws : List (List ℕ)) → pieces 32 line ≡ ws → line ++ 10 ∷ [] ≡ line_text ws

@@ -54,9 +54,8 @@ right_is n false u e = cc
 
 both_or_none : (a b : Bool) → beq a b ≡ true → (a ≡ true) ↔ (b ≡ true)
 both_or_none true true e = (λ h. refl, λ h. refl)
-both_or_none true false e = cc
-both_or_none false true e = cc
 both_or_none false false e = (λ h. h, λ h. h)
+both_or_none _ _ e = cc
 
 run_found : (n : ℕ) (es : List Entry) (before : ℕ) (line : List ℕ) (r : Run) → bytes_eq (keyword line) (run_keyword Two) ≡ true → run_of n es before line ≡ Ok r → IsRunLine Two es before line r
 unfolding run_of six_words run_text run_keyword is_run

@@ -84,10 +84,9 @@ module _ (g : Forest) (f : IsForest g) where
       (record { spaces = refl; feeds = refl }, (decimal_is_word r.first (omega (arith, s.first)), (decimal_is_word r.step (omega (arith, s.step)), (decimal_is_word r.count (omega (arith, s.count)), (name_word g f r.entry h.among.entry, (name_word g f r.needed h.among.needed, tt))))))
 
 both_same : (a b : Bool) → (a ≡ true) ↔ (b ≡ true) → beq a b ≡ true
-both_same true true h = refl
 both_same true false h = let e = h.0 refl in cc
 both_same false true h = let e = h.1 refl in cc
-both_same false false h = refl
+both_same _ _ h = refl
 
 is_run_back : (before first step count : ℕ) → before + count ≤ LIMIT → 0 < count → (step ≡ 0) ↔ (count ≡ 1) → first + (count - 1) * step ≤ LAST → is_run before first step count ≡ true
 unfolding is_run

@@ -15,13 +15,9 @@ NeedsFeed (UnknownName n) behind = behind ≢ []
 NeedsFeed fault behind = Unit {0}
 
 pub with_feed : (e : CertFault) (behind : List (List ℕ)) → behind ≢ [] → NeedsFeed e behind
-with_feed BadHeader behind some = tt
-with_feed (BadLine n) behind some = tt
 with_feed (BadNumber n) behind some = some
 with_feed (UnknownName n) behind some = some
-with_feed Truncated behind some = tt
-with_feed Trailing behind some = tt
-with_feed OutOfMemory behind some = tt
+with_feed _ behind some = tt
 
 -- reading stops at the line after these, the nth, whatever follows it
 pub record StopsAt {A : Type 0} (read : List (List ℕ) → Result A CertFault) (n : ℕ) (front ls : List (List ℕ)) (e : CertFault) : Type 0 where
@@ -64,9 +60,7 @@ module _ {A : Type 0} (read : List (List ℕ) → Result A CertFault) (n : ℕ) 
   stops_here line behind (BadLine k) at feed local = here line behind (BadLine k) at feed local
   stops_here line behind (BadNumber k) at feed local = here line behind (BadNumber k) at feed local
   stops_here line behind (UnknownName k) at feed local = here line behind (UnknownName k) at feed local
-  stops_here line behind Truncated at feed local = absurd at
-  stops_here line behind Trailing at feed local = absurd at
-  stops_here line behind OutOfMemory at feed local = absurd at
+  stops_here line behind _ at feed local = absurd at
 
   -- its first line has no line feed
   pub cut_here : (last : List ℕ) (e : CertFault) → cut_off n last ≡ e → Faulty read n Text (last ∷ []) e

@@ -1,9 +1,9 @@
 -- Bounding: whom `reach` names, for `bound_law`.
-use Rattle.std.proofs.Common.{◌≡◌, ◌≢◌, ◌∙◌, ◌==◌, ◌||◌, ℕ, zero, suc, ◌<◌, ◌≤◌, Bool, true, false, cond, List, [], ◌∷◌, Option, Some, None, map, min, nat_le, refl, sym, ap, subst, arith, inl, inr, ◌⊎◌}
-use Rattle.std.proofs.lemmas.Bool.{or_cases}
+use Rattle.std.proofs.Common.{◌≡◌, ◌≢◌, ◌∙◌, ◌==◌, ℕ, zero, suc, ◌<◌, ◌≤◌, Bool, true, false, cond, Option, Some, None, map, min, nat_le, refl, sym, ap, subst, arith, inl, inr, ◌⊎◌}
+use Rattle.std.proofs.lemmas.Bool.{or_cases, or_right}
 use Rattle.std.proofs.lemmas.Bool.Decides.{nat_tests}
 use Rattle.plan_forest.specs.Forest.{Forest, end_of, entry_at}
-use Rattle.plan_forest.specs.Over.{Over, chain, is_over}
+use Rattle.plan_forest.specs.Over.{Over, is_over}
 use Rattle.plan_forest.proofs.Chains.{ParentsFirst, cases_Option, chain_child, chain_root, over_child, over_root, over_self}
 use Rattle.plan_forest.proofs.Placed.{parents_first}
 use Rattle.tick_keeper.specs.Shorten.{least_of, least_reach, lesser}
@@ -13,24 +13,17 @@ use Rattle.plan_commands.specs.ReachLaws.{Binds, BoundLaw}
 use Rattle.plan_commands.specs.ReachText.{binding_reach, nearer}
 use Rattle.tick_keeper.proofs.Shortening.{least_reach_most}
 use Rattle.plan_commands.proofs.Reaching.{bound_child, bound_root}
-
-same_index : (a b : ℕ) → (a == b) ≡ true → a ≡ b
-same_index a b e = grind (arith, nat_tests)
-
-or_later : (a b : Bool) → b ≡ true → (a || b) ≡ true
-or_later true b e = refl
-or_later false b e = e
+use Rattle.plan_commands.proofs.Until.{is_same}
 
 -- ---- of two reaches
 
 nearer_least : (own : Option ℕ) (i : ℕ) (over : Option ℕ) (by : ℕ) → (nearer own i over by).most ≡ lesser own over
 nearer_least None i None by = refl
-nearer_least (Some r) i None by = refl
-nearer_least None i (Some m) by = refl
 nearer_least (Some r) i (Some m) by = by_test (nat_le m r) refl where
   by_test : (b : Bool) → nat_le m r ≡ b → (let chosen : Bound = cond b (record { most = Some m; by = by }) (record { most = Some r; by = i }) in chosen.most) ≡ Some (min r m)
   by_test true test = let less : m ≤ r = grind (arith, nat_tests) in let least : m ≡ min r m = omega arith in ap Some least
   by_test false test = let less : r < m = grind (arith, nat_tests) in let least : r ≡ min r m = omega arith in ap Some least
+nearer_least _ i _ by = refl
 
 -- the entry itself binds, or what binds its parent does: with the lesser of the two reaches
 abbrev Chosen : Option ℕ → ℕ → Option ℕ → ℕ → Bound → Type 0
@@ -74,7 +67,7 @@ module _ (g : Forest) (s : ℕ) where
     least = sym (lesser_none (p i)) ∙ sym (least_root i root);
     over = over_self g.entries i;
     reaches = refl;
-    nearest = λ a over other some. absurd (other (sym (same_index i a (sym (over_root g.entries a i root) ∙ over))));
+    nearest = λ a over other some. absurd (other (sym (is_same i a (sym (over_root g.entries a i root) ∙ over))));
     itself = λ none. refl;
   }
 
@@ -91,7 +84,7 @@ module _ (g : Forest) (s : ℕ) where
 
     above_or_itself : (a : ℕ) → Over g.entries a i → (a ≡ i) ⊎ Over g.entries a q
     above_or_itself a is =
-        elim (or_cases (i == a) (is_over g.entries a q) (sym (over_child g.entries a i q first child) ∙ is)) [ inl same ↦ inl (sym (same_index i a same)) | inr above ↦ inr above ]
+        elim (or_cases (i == a) (is_over g.entries a q) (sym (over_child g.entries a i q first child) ∙ is)) [ inl same ↦ inl (sym (is_same i a same)) | inr above ↦ inr above ]
 
     binds_itself : b.by ≡ i → b.most ≡ p i → ((m : ℕ) → over.most ≡ Some m → (r : ℕ) × (p i ≡ Some r) × (r < m)) → Binds g s i b
     binds_itself by most less = record {
@@ -110,7 +103,7 @@ module _ (g : Forest) (s : ℕ) where
     binds_above : b.by ≡ over.by → b.most ≡ over.most → over.most ≢ None → Binds g s i b
     binds_above by most some = record {
       least = least ∙ ap (lesser (p i)) up.least ∙ sym (least_child i q first child);
-      over = subst (λ k. Over g.entries k i) (sym by) (over_child g.entries over.by i q first child ∙ or_later (i == over.by) (is_over g.entries over.by q) up.over);
+      over = subst (λ k. Over g.entries k i) (sym by) (over_child g.entries over.by i q first child ∙ or_right (i == over.by) (is_over g.entries over.by q) up.over);
       reaches = ap p by ∙ up.reaches ∙ sym most;
       nearest = λ a is other given reaches. up.nearest a (subst (Over g.entries a) by is) (λ same. other (same ∙ sym by)) some (reaches ∙ most);
       itself = λ none. absurd (some (sym most ∙ none));

@@ -1,5 +1,5 @@
 -- Dated: the lines of `plan --dates`, and that they are told by the forest.
-use Rattle.std.proofs.Common.{◌≡◌, ◌∙◌, ℕ, ◌+◌, ◌<◌, ◌≤◌, ◌++◌, true, List, [], ◌∷◌, Result, Ok, Err, codes, decimal, get_or, length, take, refl, sym, ap, subst}
+use Rattle.std.proofs.Common.{◌≡◌, ◌∙◌, ℕ, ◌+◌, ◌<◌, ◌≤◌, ◌++◌, true, List, [], ◌∷◌, Ok, Err, codes, decimal, get_or, length, take, refl, sym, ap, subst}
 use Rattle.std.proofs.lemmas.List.{append_assoc, append-nil, take_all, take_more}
 use Rattle.base_moment.specs.declared.text.Text.{Text}
 use Rattle.plan_forest.specs.declared.entry.Entry.{Entry}
@@ -10,7 +10,6 @@ use Rattle.plan_search.specs.declared.decision.Decision.{Decision}
 use Rattle.plan_search.specs.declared.decision.Decision.TheVariants as decision
 use Rattle.plan_search.specs.Decides.{Decides}
 use Rattle.plan_certificate.specs.CertificateText.{end_line_text, line_text, name_of_entry, unkeepable_text}
-use Rattle.program_report.specs.declared.exit.Exit.{Exit}
 use Rattle.program_report.specs.declared.exit.Exit.TheVariants as exits
 use Rattle.program_report.specs.declared.stop.Stop.{Stop}
 use Rattle.program_report.specs.declared.stop.Stop.TheVariants as stops
@@ -88,13 +87,7 @@ dated_text g s decision.TooLong text decides dated = absurd dated
 pub dated_stop : (g : Forest) (s : ℕ) (d : Decision) (stop : Stop) → Decides g s d → DatesOf g.entries s (Err stop) d → MakesOf (PlanDatesTexts s) (PlanHalts s) g (Err stop)
 dated_stop g s d stops.Memory decides dated = tt
 dated_stop g s d stops.TooLong decides dated = (refl, subst (Decides g s) dated decides)
-dated_stop g s d (stops.Inventory fault) decides dated = absurd dated
-dated_stop g s d (stops.Moments fault) decides dated = absurd dated
-dated_stop g s d (stops.FaultWord position) decides dated = absurd dated
-dated_stop g s d stops.Read decides dated = absurd dated
-dated_stop g s d stops.Write decides dated = absurd dated
-dated_stop g s d (stops.Broker name) decides dated = absurd dated
-dated_stop g s d (stops.Line number) decides dated = absurd dated
+dated_stop g s d _ decides dated = absurd dated
 
 -- ---- one text
 
@@ -133,21 +126,6 @@ one_plan_in_dates g s exits.Done exits.Done text other a b = (refl, one_plan g s
 one_plan_in_dates g s exits.Unkeepable exits.Unkeepable text other a b = (refl, one_none g s text other a b)
 one_plan_in_dates g s exits.Done exits.Unkeepable text other a b = plan_or_none g s text other a b
 one_plan_in_dates g s exits.Unkeepable exits.Done text other a b = plan_or_none g s other text b a
-one_plan_in_dates g s exits.Done exits.Inventory text other a b = absurd b
-one_plan_in_dates g s exits.Done exits.CommandLine text other a b = absurd b
-one_plan_in_dates g s exits.Done exits.No text other a b = absurd b
-one_plan_in_dates g s exits.Done exits.TooLong text other a b = absurd b
-one_plan_in_dates g s exits.Done exits.Device text other a b = absurd b
-one_plan_in_dates g s exits.Done exits.Memory text other a b = absurd b
-one_plan_in_dates g s exits.Unkeepable exits.Inventory text other a b = absurd b
-one_plan_in_dates g s exits.Unkeepable exits.CommandLine text other a b = absurd b
-one_plan_in_dates g s exits.Unkeepable exits.No text other a b = absurd b
-one_plan_in_dates g s exits.Unkeepable exits.TooLong text other a b = absurd b
-one_plan_in_dates g s exits.Unkeepable exits.Device text other a b = absurd b
-one_plan_in_dates g s exits.Unkeepable exits.Memory text other a b = absurd b
-one_plan_in_dates g s exits.Inventory exit text other a b = absurd a
-one_plan_in_dates g s exits.CommandLine exit text other a b = absurd a
-one_plan_in_dates g s exits.No exit text other a b = absurd a
-one_plan_in_dates g s exits.TooLong exit text other a b = absurd a
-one_plan_in_dates g s exits.Device exit text other a b = absurd a
-one_plan_in_dates g s exits.Memory exit text other a b = absurd a
+one_plan_in_dates g s exits.Done _ text other a b = absurd b
+one_plan_in_dates g s exits.Unkeepable _ text other a b = absurd b
+one_plan_in_dates g s _ exit text other a b = absurd a

@@ -21,14 +21,7 @@ use Rattle.plan_commands.specs.Running.{Halted, Halts, RunOf, Texts}
 
 halted : (Text : Texts) (Halt : Halts) (answer : Result Inventory InvFault) (stop : Stop) → MakesOutcome Text Halt answer (Err stop) → Halted Halt answer stop
 halted Text Halt answer (stops.Inventory fault) makes = makes
-halted Text Halt answer (stops.Moments fault) makes = makes
-halted Text Halt answer (stops.FaultWord position) makes = makes
-halted Text Halt answer stops.TooLong makes = makes
-halted Text Halt answer stops.Read makes = makes
-halted Text Halt answer stops.Write makes = makes
-halted Text Halt answer (stops.Broker name) makes = makes
-halted Text Halt answer (stops.Line number) makes = makes
-halted Text Halt answer stops.Memory makes = makes
+halted Text Halt answer _ makes = makes
 
 pub run_delivered : (Text : Texts) (Halt : Halts) (answer : Result Inventory InvFault) (made : Result Outcome Stop) (exit : Exit) (out errors : Change) →
     MakesOutcome Text Halt answer made → Delivers made exit out errors → RunOf Text Halt answer exit out errors
@@ -46,6 +39,5 @@ decided_text g s (decision.Unkeepable entry needed) text decides printed = recor
 decided_text g s decision.TooLong text decides printed = absurd cc
 
 pub decided_long : (g : Forest) (s : ℕ) (d : Decision) → Decides g s d → PrintsClaim g.entries s (claim d) (Err NoCertificate) → PlanHalts s g stops.TooLong
-decided_long g s (decision.Keep p) decides printed = absurd cc
-decided_long g s (decision.Unkeepable entry needed) decides printed = absurd cc
 decided_long g s decision.TooLong decides printed = (refl, decides)
+decided_long g s _ decides printed = absurd cc

@@ -1,5 +1,5 @@
 -- Judgements: from the line about a certificate to that about its text, for `run_check`.
-use Rattle.std.proofs.Common.{◌≡◌, ℕ, List, Option, Some, Result, Ok, Err, length, inl, inr, ◌⊎◌, subst, sym}
+use Rattle.std.proofs.Common.{◌≡◌, ℕ, List, Option, Some, Result, Ok, Err, length, inl, inr, subst, sym}
 use Rattle.std.proofs.lemmas.Bool.{cases_lt}
 use Rattle.plan_forest.specs.Forest.{Forest}
 use Rattle.plan_rule.specs.Runs.{all_wakes}
@@ -30,15 +30,13 @@ use Rattle.plan_commands.specs.code.Making.{MakesOf}
 -- ---- an entry that is not kept is one of the forest
 
 named_in_body : (g : Forest) (s : ℕ) (b : Body) (why : Cause) → IsBodyAnswer g s b (No why) → CauseIsNamed (length g.entries) why
-named_in_body g s b (cause.NotRising k) says = tt
-named_in_body g s b (cause.NotForced k) says = tt
-named_in_body g s b cause.NotUnkeepable says = tt
 named_in_body g s (body.Unkeepable entry needed) (cause.NotKept i) says = absurd says
 named_in_body g s (body.Runs rs) (cause.NotKept i) says =
     elim (cases_lt i (length g.entries)) [
       | inl within ↦ within
       | inr past ↦ absurd (says.1.0 (kept_past g s (all_wakes rs) i past))
     ]
+named_in_body g s b _ says = tt
 
 pub cause_named : (g : Forest) (c : Cert) (why : Cause) → IsCertificateAnswer g c (No why) → CauseIsNamed (length g.entries) why
 cause_named g c why says = named_in_body g c.start c.body why says
@@ -48,12 +46,7 @@ cause_named g c why says = named_in_body g c.start c.body why says
 verdict_judged : (asked : Option ℕ) (g : Forest) (text : List ℕ) (c : Cert) (exit : Exit) (line : List ℕ) → WritesCertificate g.entries text c → StartsAsAsked asked c → IsVerdict g c exit line → IsJudged asked g text exit line
 verdict_judged asked g text c exits.Done line writes starts is = record { cert = c; writes = writes; starts = starts; answer = is.0; holds = is.1.0; spelled = is.1.1 }
 verdict_judged asked g text c exits.No line writes starts is = inl (record { cert = c; writes = writes; starts = starts; cause = is.0; answer = is.1; spelled = is.2 })
-verdict_judged asked g text c exits.Inventory line writes starts is = absurd is
-verdict_judged asked g text c exits.CommandLine line writes starts is = absurd is
-verdict_judged asked g text c exits.Unkeepable line writes starts is = absurd is
-verdict_judged asked g text c exits.TooLong line writes starts is = absurd is
-verdict_judged asked g text c exits.Device line writes starts is = absurd is
-verdict_judged asked g text c exits.Memory line writes starts is = absurd is
+verdict_judged asked g text c _ line writes starts is = absurd is
 
 start_judged : (asked : Option ℕ) (g : Forest) (text : List ℕ) (c : Cert) (exit : Exit) (line : List ℕ) → WritesCertificate g.entries text c → IsStartVerdict asked g c exit line → IsJudged asked g text exit line
 start_judged asked g text c exit line writes (inl is) = verdict_judged asked g text c exit line writes is.0 is.1
@@ -64,26 +57,12 @@ start_judged asked g text c exit line writes (inr is) =
 pub judged_from : (asked : Option ℕ) (g : Forest) (c : Cert) (made : Result Outcome Stop) → StartsAsAsked asked c → MakesOf (VerdictTexts c) NoHalts g made → MakesOf (StartTexts asked c) NoHalts g made
 judged_from asked g c (Ok outcome) starts judged = inl (starts, judged)
 judged_from asked g c (Err stops.Memory) starts judged = tt
-judged_from asked g c (Err (stops.Inventory fault)) starts judged = absurd judged
-judged_from asked g c (Err (stops.Moments fault)) starts judged = absurd judged
-judged_from asked g c (Err (stops.FaultWord position)) starts judged = absurd judged
-judged_from asked g c (Err stops.TooLong) starts judged = absurd judged
-judged_from asked g c (Err stops.Read) starts judged = absurd judged
-judged_from asked g c (Err stops.Write) starts judged = absurd judged
-judged_from asked g c (Err (stops.Broker name)) starts judged = absurd judged
-judged_from asked g c (Err (stops.Line number)) starts judged = absurd judged
+judged_from asked g c (Err _) starts judged = absurd judged
 
 pub text_judged : (asked : Option ℕ) (g : Forest) (text : List ℕ) (c : Cert) (made : Result Outcome Stop) → WritesCertificate g.entries text c → MakesOf (StartTexts asked c) NoHalts g made → MakesOf (CheckTexts asked text) NoHalts g made
 text_judged asked g text c (Ok outcome) writes judged = start_judged asked g text c outcome.exit outcome.text writes judged
 text_judged asked g text c (Err stops.Memory) writes judged = tt
-text_judged asked g text c (Err (stops.Inventory fault)) writes judged = absurd judged
-text_judged asked g text c (Err (stops.Moments fault)) writes judged = absurd judged
-text_judged asked g text c (Err (stops.FaultWord position)) writes judged = absurd judged
-text_judged asked g text c (Err stops.TooLong) writes judged = absurd judged
-text_judged asked g text c (Err stops.Read) writes judged = absurd judged
-text_judged asked g text c (Err stops.Write) writes judged = absurd judged
-text_judged asked g text c (Err (stops.Broker name)) writes judged = absurd judged
-text_judged asked g text c (Err (stops.Line number)) writes judged = absurd judged
+text_judged asked g text c (Err _) writes judged = absurd judged
 
 pub text_unreadable : (g : Forest) (text line : List ℕ) (fault : CertFault) → FailsWithCertFault fault (certificate_of g.entries text) → unreadable_line fault ≡ Some line → CertificateIsUnreadable g text line
 unfolding unreadable_line

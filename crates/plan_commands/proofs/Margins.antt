@@ -73,14 +73,7 @@ none_makes g h s most n found other (Err stop) same count is none spelled text m
 pub asked_makes : (q : MarginQuery) (g : Forest) (made : Result Outcome Stop) → MakesOf (TextsFrom q.start q.most_wakes) (HaltsFrom q.start q.most_wakes) (asked_about q g) made → MakesOf (MarginTexts q) (MarginHalts q) g made
 asked_makes q g (Ok outcome) makes = makes
 asked_makes q g (Err stops.Memory) makes = tt
-asked_makes q g (Err (stops.Inventory fault)) makes = makes
-asked_makes q g (Err (stops.Moments fault)) makes = makes
-asked_makes q g (Err (stops.FaultWord position)) makes = makes
-asked_makes q g (Err stops.TooLong) makes = makes
-asked_makes q g (Err stops.Read) makes = makes
-asked_makes q g (Err stops.Write) makes = makes
-asked_makes q g (Err (stops.Broker name)) makes = makes
-asked_makes q g (Err (stops.Line number)) makes = makes
+asked_makes q g (Err _) makes = makes
 
 -- ---- one text
 
@@ -148,21 +141,8 @@ IsDoneOrNot exit Done Not = ⊥
 
 by_exit : (g : Forest) (s : ℕ) (most : Option ℕ) (exit : Exit) (text : List ℕ) → IsMarginText g s most exit text → IsDoneOrNot exit (IsMarginText g s most exits.Done text) (IsMarginText g s most exits.Unkeepable text)
 by_exit g s None exits.Done text is = is
-by_exit g s None exits.Unkeepable text is = is
-by_exit g s None exits.Inventory text is = is
-by_exit g s None exits.CommandLine text is = is
-by_exit g s None exits.No text is = is
-by_exit g s None exits.TooLong text is = is
-by_exit g s None exits.Device text is = is
-by_exit g s None exits.Memory text is = is
 by_exit g s (Some most) exits.Done text is = is
-by_exit g s (Some most) exits.Unkeepable text is = is
-by_exit g s (Some most) exits.Inventory text is = is
-by_exit g s (Some most) exits.CommandLine text is = is
-by_exit g s (Some most) exits.No text is = is
-by_exit g s (Some most) exits.TooLong text is = is
-by_exit g s (Some most) exits.Device text is = is
-by_exit g s (Some most) exits.Memory text is = is
+by_exit g s _ _ text is = is
 
 one_done : (g : Forest) (s : ℕ) (most : Option ℕ) (text other : List ℕ) → IsMarginText g s most exits.Done text → IsMarginText g s most exits.Done other → text ≡ other
 one_done g s None text other a b = one_own g s text other a b
@@ -183,24 +163,9 @@ module _ (g : Forest) (s : ℕ) (most : Option ℕ) where
   two_exits exits.Unkeepable exits.Unkeepable text other a b = (refl, one_refusal g s most text other a b)
   two_exits exits.Done exits.Unkeepable text other a b = done_or_refusal g s most text other a b
   two_exits exits.Unkeepable exits.Done text other a b = done_or_refusal g s most other text b a
-  two_exits exits.Done exits.Inventory text other a b = absurd b
-  two_exits exits.Done exits.CommandLine text other a b = absurd b
-  two_exits exits.Done exits.No text other a b = absurd b
-  two_exits exits.Done exits.TooLong text other a b = absurd b
-  two_exits exits.Done exits.Device text other a b = absurd b
-  two_exits exits.Done exits.Memory text other a b = absurd b
-  two_exits exits.Unkeepable exits.Inventory text other a b = absurd b
-  two_exits exits.Unkeepable exits.CommandLine text other a b = absurd b
-  two_exits exits.Unkeepable exits.No text other a b = absurd b
-  two_exits exits.Unkeepable exits.TooLong text other a b = absurd b
-  two_exits exits.Unkeepable exits.Device text other a b = absurd b
-  two_exits exits.Unkeepable exits.Memory text other a b = absurd b
-  two_exits exits.Inventory exit' text other a b = absurd a
-  two_exits exits.CommandLine exit' text other a b = absurd a
-  two_exits exits.No exit' text other a b = absurd a
-  two_exits exits.TooLong exit' text other a b = absurd a
-  two_exits exits.Device exit' text other a b = absurd a
-  two_exits exits.Memory exit' text other a b = absurd a
+  two_exits exits.Done _ text other a b = absurd b
+  two_exits exits.Unkeepable _ text other a b = absurd b
+  two_exits _ exit' text other a b = absurd a
 
 pub one_margin_text : OneMarginText
 one_margin_text g s most exit exit' text other a b = two_exits g s most exit exit' text other (by_exit g s most exit text a) (by_exit g s most exit' other b)
@@ -222,12 +187,7 @@ long_or_own g s text own long =
 apart_by_exit : (g : Forest) (s : ℕ) (exit : Exit) (text : List ℕ) → IsDoneOrNot exit (IsMarginText g s None exits.Done text) (IsMarginText g s None exits.Unkeepable text) → PlanIsTooLong g s → ⊥
 apart_by_exit g s exits.Done text is long = long_or_own g s text is long
 apart_by_exit g s exits.Unkeepable text is long = is.0 long.some.0 long.some.1.0 long.some.1.1
-apart_by_exit g s exits.Inventory text is long = is
-apart_by_exit g s exits.CommandLine text is long = is
-apart_by_exit g s exits.No text is long = is
-apart_by_exit g s exits.TooLong text is long = is
-apart_by_exit g s exits.Device text is long = is
-apart_by_exit g s exits.Memory text is long = is
+apart_by_exit g s _ text is long = is
 
 pub text_or_reason : (g : Forest) (s : ℕ) (most : Option ℕ) (exit : Exit) (text : List ℕ) (stop : Stop) → IsMarginText g s most exit text → HasNoCount g s most stop → ⊥
 text_or_reason g s None exit text stop is none = apart_by_exit g s exit text (by_exit g s None exit text is) none.1

@@ -15,12 +15,9 @@ run_read known max Over exit out errors read bytes is same run = inl (read, is, 
 
 -- what is done depends on the files only path by path
 pub over_same : (command : Command) (files now : Files) (bytes : List ℕ) (exit : Exit) (out errors : Change) → ((path : List ℕ) → now path ≡ files path) → ObeysOver command now bytes exit out errors → ObeysOver command files bytes exit out errors
-over_same (commands.Ends file start moments) files now bytes exit out errors same run = run
-over_same (commands.Plan file start dates) files now bytes exit out errors same run = run
-over_same (commands.Margin file query) files now bytes exit out errors same run = run
-over_same (commands.Reach file start dates) files now bytes exit out errors same run = run
 over_same (commands.Check file certificate start) files now bytes exit out errors same run =
     subst (λ (known : Option (List ℕ)). RunFrom known MOST_CERTIFICATE (λ text. CheckRun bytes text start) exit out errors) (same (string_bytes certificate)) run
+over_same _ files now bytes exit out errors same run = run
 
 pub checks : (command : Command) (file certificate : String Global) (start : Option ℕ) (files : Files) (bytes : List ℕ) (exit : Exit) (out errors : Change) → command ≡ commands.Check file certificate start → RunFrom (files (string_bytes certificate)) MOST_CERTIFICATE (λ text. CheckRun bytes text start) exit out errors → ObeysOver command files bytes exit out errors
 checks command file certificate start files bytes exit out errors is run = subst (λ (c : Command). ObeysOver c files bytes exit out errors) (sym is) run

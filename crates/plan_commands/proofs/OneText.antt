@@ -121,24 +121,9 @@ one_plan_text g s exits.Done exits.Done text other a b = (refl, one_plan g s tex
 one_plan_text g s exits.Unkeepable exits.Unkeepable text other a b = (refl, one_pair g s text other a b)
 one_plan_text g s exits.Done exits.Unkeepable text other a b = plan_or_pair g s text other a b
 one_plan_text g s exits.Unkeepable exits.Done text other a b = plan_or_pair g s other text b a
-one_plan_text g s exits.Done exits.Inventory text other a b = absurd b
-one_plan_text g s exits.Done exits.CommandLine text other a b = absurd b
-one_plan_text g s exits.Done exits.No text other a b = absurd b
-one_plan_text g s exits.Done exits.TooLong text other a b = absurd b
-one_plan_text g s exits.Done exits.Device text other a b = absurd b
-one_plan_text g s exits.Done exits.Memory text other a b = absurd b
-one_plan_text g s exits.Unkeepable exits.Inventory text other a b = absurd b
-one_plan_text g s exits.Unkeepable exits.CommandLine text other a b = absurd b
-one_plan_text g s exits.Unkeepable exits.No text other a b = absurd b
-one_plan_text g s exits.Unkeepable exits.TooLong text other a b = absurd b
-one_plan_text g s exits.Unkeepable exits.Device text other a b = absurd b
-one_plan_text g s exits.Unkeepable exits.Memory text other a b = absurd b
-one_plan_text g s exits.Inventory exit text other a b = absurd a
-one_plan_text g s exits.CommandLine exit text other a b = absurd a
-one_plan_text g s exits.No exit text other a b = absurd a
-one_plan_text g s exits.TooLong exit text other a b = absurd a
-one_plan_text g s exits.Device exit text other a b = absurd a
-one_plan_text g s exits.Memory exit text other a b = absurd a
+one_plan_text g s exits.Done _ text other a b = absurd b
+one_plan_text g s exits.Unkeepable _ text other a b = absurd b
+one_plan_text g s _ exit text other a b = absurd a
 
 -- ---- check
 
@@ -204,32 +189,16 @@ one_check_text asked g text exits.Done exits.Done line other forest a b = (refl,
 one_check_text asked g text exits.No exits.No line other forest a b = (refl, one_no asked g forest text line other a b)
 one_check_text asked g text exits.Done exits.No line other forest a b = yes_and_no asked g forest text line other a b
 one_check_text asked g text exits.No exits.Done line other forest a b = yes_and_no asked g forest text other line b a
-one_check_text asked g text exits.Done exits.Inventory line other forest a b = absurd b
-one_check_text asked g text exits.Done exits.CommandLine line other forest a b = absurd b
-one_check_text asked g text exits.Done exits.Unkeepable line other forest a b = absurd b
-one_check_text asked g text exits.Done exits.TooLong line other forest a b = absurd b
-one_check_text asked g text exits.Done exits.Device line other forest a b = absurd b
-one_check_text asked g text exits.Done exits.Memory line other forest a b = absurd b
-one_check_text asked g text exits.No exits.Inventory line other forest a b = absurd b
-one_check_text asked g text exits.No exits.CommandLine line other forest a b = absurd b
-one_check_text asked g text exits.No exits.Unkeepable line other forest a b = absurd b
-one_check_text asked g text exits.No exits.TooLong line other forest a b = absurd b
-one_check_text asked g text exits.No exits.Device line other forest a b = absurd b
-one_check_text asked g text exits.No exits.Memory line other forest a b = absurd b
-one_check_text asked g text exits.Inventory exit line other forest a b = absurd a
-one_check_text asked g text exits.CommandLine exit line other forest a b = absurd a
-one_check_text asked g text exits.Unkeepable exit line other forest a b = absurd a
-one_check_text asked g text exits.TooLong exit line other forest a b = absurd a
-one_check_text asked g text exits.Device exit line other forest a b = absurd a
-one_check_text asked g text exits.Memory exit line other forest a b = absurd a
+one_check_text asked g text exits.Done _ line other forest a b = absurd b
+one_check_text asked g text exits.No _ line other forest a b = absurd b
+one_check_text asked g text _ exit line other forest a b = absurd a
 
 -- ---- ends
 
 same_truth : (a b : Bool) (P : Type 0) → (IsTrue a ↔ P) → (IsTrue b ↔ P) → a ≡ b
-same_truth true true P f g = refl
-same_truth false false P f g = refl
 same_truth true false P f g = absurd (let both : IsTrue false = g.1 (f.0 refl) in cc)
 same_truth false true P f g = absurd (let both : IsTrue false = f.1 (g.0 refl) in cc)
+same_truth _ _ P f g = refl
 
 pub one_ends_text : (g : Forest) (s : ℕ) (at text other : List ℕ) → IsEndsText g s at text → IsEndsText g s at other → text ≡ other
 one_ends_text g s at text other a b =

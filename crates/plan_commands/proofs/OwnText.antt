@@ -75,12 +75,7 @@ certified_is_own g s exits.Done text forest start is =
 certified_is_own g s exits.Unkeepable text forest start is =
     let pair = body.Unkeepable is.entry is.needed in
     body_accepted g s pair text forest start (claim_is_body g s (decision.Unkeepable is.entry is.needed) pair forest (is.short, is.none) refl) tt is.short.pair is.spelled
-certified_is_own g s exits.Inventory text forest start is = absurd is
-certified_is_own g s exits.CommandLine text forest start is = absurd is
-certified_is_own g s exits.No text forest start is = absurd is
-certified_is_own g s exits.TooLong text forest start is = absurd is
-certified_is_own g s exits.Device text forest start is = absurd is
-certified_is_own g s exits.Memory text forest start is = absurd is
+certified_is_own g s _ text forest start is = absurd is
 
 pub own_text : OwnTextLaw
 own_text bytes inventory s exit text read start is =

@@ -121,10 +121,9 @@ module _ (g : Forest) (s : ℕ) (dates : Bool) where
       a.4 ∙ ap (λ front. front ++ a.1) (one_lines n a.0 b.0 a.2 b.2) ∙ ap (λ line. b.0 ++ line) (one_line n a.1 b.1 a.3 b.3) ∙ sym b.4
 
   one_kept : (a b : Bool) → SaysWhetherKept g s a → SaysWhetherKept g s b → a ≡ b
-  one_kept true true x y = refl
-  one_kept false false x y = refl
   one_kept true false x y = absurd (y x.0 x.1.0 x.1.1)
   one_kept false true x y = absurd (x y.0 y.1.0 y.1.1)
+  one_kept _ _ x y = refl
 
 pub one_reach_text : OneReachText
 one_reach_text g s dates text other a b =

@@ -81,24 +81,12 @@ untouched_appends out none = subst (λ (s : Seen). Appends out.old.output.writte
 cut_front : (stop : Stop) (text : List ℕ) (out : Change) → SendsText (Err stop) text out → AppendsFront out.old.output.written out.new.output.written text
 cut_front stops.Write text out sends = sends.1
 cut_front stops.Memory text out sends = sends.1
-cut_front (stops.Inventory fault) text out sends = absurd sends
-cut_front (stops.Moments fault) text out sends = absurd sends
-cut_front (stops.FaultWord position) text out sends = absurd sends
-cut_front stops.TooLong text out sends = absurd sends
-cut_front stops.Read text out sends = absurd sends
-cut_front (stops.Broker name) text out sends = absurd sends
-cut_front (stops.Line number) text out sends = absurd sends
+cut_front _ text out sends = absurd sends
 
 not_cut : {X : Type 0} (stop : Stop) (text : List ℕ) (out : Change) → SendsText (Err stop) text out → RunIsWhole (exit_of stop) → X
 not_cut stops.Write text out sends whole = absurd whole
 not_cut stops.Memory text out sends whole = absurd whole
-not_cut (stops.Inventory fault) text out sends whole = absurd sends
-not_cut (stops.Moments fault) text out sends whole = absurd sends
-not_cut (stops.FaultWord position) text out sends whole = absurd sends
-not_cut stops.TooLong text out sends whole = absurd sends
-not_cut stops.Read text out sends whole = absurd sends
-not_cut (stops.Broker name) text out sends whole = absurd sends
-not_cut (stops.Line number) text out sends whole = absurd sends
+not_cut _ text out sends whole = absurd sends
 
 -- ---- any command
 
@@ -116,15 +104,11 @@ module _ (Text : Texts) (Halt : Halts) where
       ⊎ ((stop : Stop) × Halt g stop × (exit ≡ exit_of stop) × IsUntouched out × Reports (line_of_stop stop) errors)
 
   halted_in : (answer : Result Inventory InvFault) (inventory : Inventory) (stop : Stop) → answer ≡ Ok inventory → RunIsWhole (exit_of stop) → Halted Halt answer stop → Halt inventory.forest stop
-  halted_in answer inventory stops.Memory reads whole halted = absurd whole
   halted_in answer inventory (stops.Inventory fault) reads whole halted = absurd cc
   halted_in answer inventory (stops.Moments fault) reads whole halted = subst (λ g. Halt g (stops.Moments fault)) (one_inventory answer halted.0 inventory halted.1 reads) halted.2
   halted_in answer inventory (stops.FaultWord position) reads whole halted = subst (λ g. Halt g (stops.FaultWord position)) (one_inventory answer halted.0 inventory halted.1 reads) halted.2
   halted_in answer inventory stops.TooLong reads whole halted = subst (λ g. Halt g stops.TooLong) (one_inventory answer halted.0 inventory halted.1 reads) halted.2
-  halted_in answer inventory stops.Read reads whole halted = absurd whole
-  halted_in answer inventory stops.Write reads whole halted = absurd whole
-  halted_in answer inventory (stops.Broker name) reads whole halted = absurd whole
-  halted_in answer inventory (stops.Line number) reads whole halted = absurd whole
+  halted_in answer inventory _ reads whole halted = absurd whole
 
   ends_in : (answer : Result Inventory InvFault) (inventory : Inventory) (exit : Exit) (out errors : Change) → answer ≡ Ok inventory → RunIsWhole exit → RunOf Text Halt answer exit out errors → EndsIn inventory.forest exit out errors
   ends_in answer inventory exit out errors reads whole (inl run) =
@@ -200,12 +184,7 @@ long_or_none g s a none = absurd (none a.some.0 a.some.1.0 a.some.1.1)
 long_or_certified : (g : Forest) (s : ℕ) (exit : Exit) (text : List ℕ) → PlanIsTooLong g s → IsCertified g s exit text → ⊥
 long_or_certified g s exits.Done text long is = long_or_best g s is.runs long is.best
 long_or_certified g s exits.Unkeepable text long is = long_or_none g s long is.none
-long_or_certified g s exits.Inventory text long is = is
-long_or_certified g s exits.CommandLine text long is = is
-long_or_certified g s exits.No text long is = is
-long_or_certified g s exits.TooLong text long is = is
-long_or_certified g s exits.Device text long is = is
-long_or_certified g s exits.Memory text long is = is
+long_or_certified g s _ text long is = is
 
 one_plan : (s : ℕ) → IsOne (PlanTexts s) (PlanHalts s)
 one_plan s = record {
@@ -220,12 +199,7 @@ plan_secrecy bytes other s exit exit' out out' errors errors' d a b = runs_alike
 long_or_dated : (g : Forest) (s : ℕ) (exit : Exit) (text : List ℕ) → PlanIsTooLong g s → IsInDates g s exit text → ⊥
 long_or_dated g s exits.Done text long is = long_or_best g s is.runs long is.best
 long_or_dated g s exits.Unkeepable text long is = long_or_none g s long is.none
-long_or_dated g s exits.Inventory text long is = is
-long_or_dated g s exits.CommandLine text long is = is
-long_or_dated g s exits.No text long is = is
-long_or_dated g s exits.TooLong text long is = is
-long_or_dated g s exits.Device text long is = is
-long_or_dated g s exits.Memory text long is = is
+long_or_dated g s _ text long is = is
 
 one_dated : (s : ℕ) → IsOne (PlanDatesTexts s) (PlanHalts s)
 one_dated s = record {

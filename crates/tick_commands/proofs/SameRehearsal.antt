@@ -33,7 +33,7 @@ use Rattle.tick_runs.proofs.AlikeCourses.{courses_both, not_stopped, stops_both}
 use Rattle.tick_runs.proofs.AlikeFronts.{fronts_both, run_of_course, run_of_stopped}
 use Rattle.program_report.specs.FaultLine.{line_of_stop}
 use Rattle.plan_commands.specs.Secrecy.{RunIsWhole, TellSame, WriteFronts, WriteSame}
-use Rattle.tick_runs.proofs.Written.{untouched_appends}
+use Rattle.program_lines.proofs.LineByLine.{untouched_appends}
 use Rattle.tick_commands.specs.Secrecy.{RehearseSecrecy}
 
 -- ---- how a rehearsal of an inventory comes to its end

@@ -1,5 +1,5 @@
 -- Always: needs that are always, as they are set and as they are kept.
-use Rattle.std.proofs.Common.{◌≡◌, ℕ, ◌+◌, ◌<◌, ◌≤◌, Bool, true, false, cond, List, Option, Some, None, length, get_or, map, min, refl, sym, ap, ◌∙◌, subst, arith, inl, inr}
+use Rattle.std.proofs.Common.{◌≡◌, ℕ, ◌<◌, ◌≤◌, Bool, true, false, cond, List, Option, Some, None, length, get_or, map, min, refl, sym, ap, ◌∙◌, subst, arith, inl, inr}
 use Rattle.std.proofs.lemmas.Bool.{cases_Bool, cases_lt, cond-true, cond-false}
 use Rattle.std.proofs.lemmas.List.FromFn.{get_or-map-range_with_len, length-map-range_with_len}
 use Rattle.std.proofs.Math.Path.{fun_ext}
@@ -20,7 +20,7 @@ use Rattle.tick_keeper.specs.code.Passes.{needing}
 use Rattle.tick_keeper.proofs.Alike.{Alike, over_alike, reach_alike}
 use Rattle.tick_keeper.proofs.Needing.{length_needing, needing_alike, needing_at, needing_end, needing_forest, needing_past}
 use Rattle.tick_keeper.proofs.Passing.{needing_same}
-use Rattle.tick_keeper.proofs.Shortening.{IsCut, cut_parts, least_reach_is, least_reach_most, need_past}
+use Rattle.tick_keeper.proofs.Shortening.{cut_parts, least_reach_is, least_reach_most, need_past}
 
 pub from_is : (g : Forest) (always : List Bool) (s : ℕ) → forest_from g always s ≡ record { entries = needing g.entries (need_from g always s); margin = g.margin }
 unfolding forest_from entry_from needing

@@ -7,7 +7,7 @@ use Rattle.plan_forest.specs.Forest.{Forest, entry_at}
 use Rattle.plan_forest.specs.Push.{IsForest}
 use Rattle.plan_forest.proofs.Placed.{read_range, read_step, replaced_is_forest, replaces_read}
 use Rattle.tick_keeper.specs.declared.event.Event.{Event}
-use Rattle.tick_keeper.specs.declared.event.Event.TheVariants.{Tick, Told, Refused, Lost, Need}
+use Rattle.tick_keeper.specs.declared.event.Event.TheVariants.{Told, Refused}
 use Rattle.tick_keeper.specs.Refusal.{TellsSpan}
 use Rattle.tick_keeper.specs.Step.{entry_after_answer, with_entry_changed}
 
@@ -37,6 +37,4 @@ answered_forest g forest event seconds i within at late = by_event event seconds
   by_event : (event : Event) → TellsSpan event → IsForest (with_entry_changed g i (entry_after_answer at event))
   by_event (Told j n renewable) span = let old = read_range g forest i x within refl in changed_forest g forest i within (at + n) x.need renewable (omega arith) old.need
   by_event (Refused j) span = let old = read_range g forest i x within refl in changed_forest g forest i within x.end x.need false old.end old.need
-  by_event (Lost j) span = let old = read_range g forest i x within refl in changed_forest g forest i within x.end x.need x.renewable old.end old.need
-  by_event (Tick t) span = let old = read_range g forest i x within refl in changed_forest g forest i within x.end x.need x.renewable old.end old.need
-  by_event (Need j until) span = let old = read_range g forest i x within refl in changed_forest g forest i within x.end x.need x.renewable old.end old.need
+  by_event _ span = let old = read_range g forest i x within refl in changed_forest g forest i within x.end x.need x.renewable old.end old.need

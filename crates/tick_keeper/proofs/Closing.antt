@@ -42,7 +42,6 @@ none_met false false false x y z p q r = absurd cc
 
 not_refused : (s : CoreState) (event : Event) → IsAnswerEvent event → TellsSpan event → entry_of_event event < length s.forest.entries → waits_for s.round (entry_of_event event) ≡ true → step_refusal s event ≡ None
 unfolding step_refusal
-not_refused s (Tick t) answer span within waits = absurd answer
 not_refused s (Told i seconds renewable) answer span within waits =
     let one : nat_lt LONGEST seconds ≡ false = grind (arith, nat_tests) in
     let other : nat_le (length s.forest.entries) i ≡ false = grind (arith, nat_tests) in
@@ -53,15 +52,13 @@ not_refused s (Refused i) answer span within waits =
 not_refused s (Lost i) answer span within waits =
     let other : nat_le (length s.forest.entries) i ≡ false = grind (arith, nat_tests) in
     none_met false (nat_le (length s.forest.entries) i) (waits_for s.round i) OutOfRange BadIndex NotAsked refl other waits
-not_refused s (Need i until) answer span within waits = absurd answer
+not_refused s _ answer span within waits = absurd answer
 
 -- no answer is too long
 never_long : (old : CoreState) (event : Event) → IsAnswerEvent event → StepTooLong old event → ⊥
 never_long old (Tick t) answer long = absurd answer
-never_long old (Told i seconds renewable) answer long = absurd long
-never_long old (Refused i) answer long = absurd long
-never_long old (Lost i) answer long = absurd long
 never_long old (Need i until) answer long = absurd answer
+never_long old _ answer long = absurd long
 
 -- after the last answer there is no other
 none_behind :
@@ -88,10 +85,7 @@ step_closes old mid new round event rest (out.Round next) results state is all s
     let closed : mid.round ≡ None = ap (λ (s : CoreState). s.round) step.1.1.1.0.is in
     let end = none_behind mid new (left round (entry_of_event event)) rest results none all closed history in
     (end.0, λ _. end.1)
-step_closes old mid new round event rest out.Idle results state is all step history onward = absurd step
-step_closes old mid new round event rest (out.Sleep w) results state is all step history onward = absurd step
-step_closes old mid new round event rest (out.Ask list) results state is all step history onward = absurd step
-step_closes old mid new round event rest out.Planned results state is all step history onward = absurd step
+step_closes old mid new round event rest _ results state is all step history onward = absurd step
 
 history_closes :
     (events : List Event) (results : List (Result Output StepFault)) (old new : CoreState) (round : Round) → IsState old → old.round ≡ Some round → AnswerEach round events → NoneWants results →

@@ -12,10 +12,10 @@ use Rattle.plan_needs.specs.Carried.{IsCarried}
 use Rattle.plan_rule.specs.Runs.{moments_of}
 use Rattle.plan_search.specs.Planned.{Planned, to_come}
 use Rattle.tick_keeper.specs.declared.event.Event.{Event}
-use Rattle.tick_keeper.specs.declared.event.Event.TheVariants.{Tick, Told, Refused, Lost, Need}
+use Rattle.tick_keeper.specs.declared.event.Event.TheVariants.{Tick, Told, Need}
 use Rattle.tick_keeper.specs.declared.event.Output.{Output}
 use Rattle.tick_keeper.specs.declared.fault.StepFault.{StepFault}
-use Rattle.tick_keeper.specs.declared.fault.StepFault.TheVariants.{ClockBack, RoundOpen, NotAsked, BadIndex, OutOfRange, TooLong, OutOfMemory}
+use Rattle.tick_keeper.specs.declared.fault.StepFault.TheVariants.{TooLong, OutOfMemory}
 use Rattle.tick_keeper.specs.declared.round.OpenRound.{OpenRound}
 use Rattle.tick_keeper.specs.declared.shortened.ShortNeed.{ShortNeed}
 use Rattle.tick_keeper.specs.code.Hearing.{is_rules, others}
@@ -60,10 +60,7 @@ rules_told at (Told i seconds renewable) e rules =
     let able = and_left renewable (at + seconds == renewal e at) rules in
     let ends : (at + seconds == renewal e at) ≡ true = and_right renewable (at + seconds == renewal e at) rules in
     (at + seconds, (grind (arith, nat_tests), ap (λ b. record e { end = at + seconds; renewable = b }) able))
-rules_told at (Tick t) e rules = absurd cc
-rules_told at (Refused i) e rules = absurd cc
-rules_told at (Lost i) e rules = absurd cc
-rules_told at (Need i until) e rules = absurd cc
+rules_told at _ e rules = absurd cc
 
 pub by_rule_more :
     (h : Forest) (last : ℕ) (p : Planned) (r : OpenRound) (event : Event) → IsOpen h last p r → Takes h r event → r.by_rule ≡ true → is_rules r.at event (entry_at h.entries (entry_of_event event)) ≡ true →
@@ -99,11 +96,7 @@ answer_fits h last p r event keeper taken long =
 pub only_memory : (g : Forest) (t : ℕ) (fault : StepFault) → PlanFails g t fault → (ReplanTooLong g t → ⊥) → fault ≡ OutOfMemory
 only_memory g t OutOfMemory fails fits = refl
 only_memory g t TooLong fails fits = absurd (fits fails)
-only_memory g t ClockBack fails fits = absurd fails
-only_memory g t RoundOpen fails fits = absurd fails
-only_memory g t NotAsked fails fits = absurd fails
-only_memory g t BadIndex fails fits = absurd fails
-only_memory g t OutOfRange fails fits = absurd fails
+only_memory g t _ fails fits = absurd fails
 
 -- one answer more, and others are waited for
 pub heard_keeper :
@@ -193,17 +186,13 @@ stays_planned s t k p is closed stay =
 
 pub as_answer : (old : CoreState) (event : Event) (output : Output) (new : CoreState) → IsAnswerEvent event → StepAnswer old event output new → CoreStep old event output new
 as_answer old (Tick t) output new answer step = absurd answer
-as_answer old (Told i seconds renewable) output new answer step = step
-as_answer old (Refused i) output new answer step = step
-as_answer old (Lost i) output new answer step = step
 as_answer old (Need i until) output new answer step = absurd answer
+as_answer old _ output new answer step = step
 
 as_last : (old : CoreState) (event : Event) → IsAnswerEvent event → IsLastAnswer old event → StepMayWantMemory old event
 as_last old (Tick t) answer last = absurd answer
-as_last old (Told i seconds renewable) answer last = last
-as_last old (Refused i) answer last = last
-as_last old (Lost i) answer last = last
 as_last old (Need i until) answer last = absurd answer
+as_last old _ answer last = last
 
 pub wants_turn :
     (old new : CoreState) (event : Event) (round : Round) → IsAnswerEvent event → step_refusal old event ≡ None → old.round ≡ Some round → (left round (entry_of_event event)).unanswered ≡ [] →

@@ -12,7 +12,7 @@ use Rattle.plan_forest.specs.Over.{chain, chain_of, is_over}
 use Rattle.plan_forest.proofs.Entries.{entry_at_set_other, entry_at_set_same}
 use Rattle.plan_needs.specs.Carried.{CarriedNeed, IsCarried, NamesFrom}
 use Rattle.tick_keeper.specs.declared.event.Event.{Event}
-use Rattle.tick_keeper.specs.declared.event.Event.TheVariants.{Tick, Told, Refused, Lost, Need}
+use Rattle.tick_keeper.specs.declared.event.Event.TheVariants.{Tick, Lost, Need}
 use Rattle.tick_keeper.specs.code.Keeping.{flag_of, waited_for}
 use Rattle.tick_keeper.specs.Refusal.{waits_for}
 use Rattle.tick_keeper.specs.State.{Round}
@@ -28,18 +28,12 @@ waits_in (Some r) i e = (r, refl)
 answered_parent : (at : ℕ) (event : Event) (e : Entry) → (entry_after_answer at event e).parent ≡ e.parent
 unfolding entry_after_answer
 answered_parent at (Tick t) e = refl
-answered_parent at (Told i seconds renewable) e = refl
-answered_parent at (Refused i) e = refl
-answered_parent at (Lost i) e = refl
-answered_parent at (Need i until) e = refl
+answered_parent at _ e = refl
 
 answered_need : (at : ℕ) (event : Event) (e : Entry) → (entry_after_answer at event e).need ≡ e.need
 unfolding entry_after_answer
 answered_need at (Tick t) e = refl
-answered_need at (Told i seconds renewable) e = refl
-answered_need at (Refused i) e = refl
-answered_need at (Lost i) e = refl
-answered_need at (Need i until) e = refl
+answered_need at _ e = refl
 
 field_kept : {X : Type 0} (field : Entry → X) (es : List Entry) (i : ℕ) (e : Entry) → i < length es → field e ≡ field (entry_at es i) → (j : ℕ) → field (entry_at (set es i e) j) ≡ field (entry_at es j)
 field_kept field es i e within same j =
@@ -199,10 +193,7 @@ set_own g i within =
 own_again : (at : ℕ) (event : Event) (e : Entry) → record (entry_after_answer at event e) { end = e.end; renewable = e.renewable } ≡ e
 unfolding entry_after_answer
 own_again at (Tick t) e = refl
-own_again at (Told i seconds renewable) e = refl
-own_again at (Refused i) e = refl
-own_again at (Lost i) e = refl
-own_again at (Need i until) e = refl
+own_again at _ e = refl
 
 -- an end and a word on renewals, set back after an answer
 pub answer_back :

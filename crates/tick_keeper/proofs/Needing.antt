@@ -48,11 +48,10 @@ needing_end es f i = field_kept (λ e. e.end) (λ e n. refl) es f i
 named_alike : (es fs : List Entry) → length fs ≡ length es → ((i : ℕ) → (entry_at fs i).name ≡ (entry_at es i).name) → (q : List ℕ) → index_named fs q ≡ index_named es q
 unfolding index_named entry_at
 named_alike [] [] count names q = refl
-named_alike [] (y ∷ fs) count names q = absurd (omega arith)
-named_alike (x ∷ es) [] count names q = absurd (omega arith)
 named_alike (x ∷ es) (y ∷ fs) count names q =
     ap (λ name. cond (bytes_eq name q) (Some 0) (option_map (λ i. suc i) (index_named fs q))) (names 0)
     ∙ ap (λ o. cond (bytes_eq x.name q) (Some 0) (option_map (λ i. suc i) o)) (named_alike es fs (omega arith) (λ i. names (suc i)) q)
+named_alike _ _ count names q = absurd (omega arith)
 
 under_alike : (es fs : List Entry) → ((i : ℕ) → (entry_at fs i).kind ≡ (entry_at es i).kind) → (o : Option ℕ) → is_under_lease fs o ≡ is_under_lease es o
 unfolding is_under_lease

@@ -78,17 +78,11 @@ tick_comes old t (out.Ask asked) new step =
           ∙ ap (λ ts. Ok (tick_says mid t ts)) (sym front),
       step.1.1.1.1.1 ∙ ap (λ b. cond b mid (record mid { to_come = rest; round = Some (round_opened mid t (first_of rest)) })) (sym now) ∙ ap (tick_leaves mid t) (sym front),
     )
-tick_comes old t out.Waiting new step = absurd step
-tick_comes old t (out.Round next) new step = absurd step
-tick_comes old t out.Planned new step = absurd step
+tick_comes old t _ new step = absurd step
 
 need_comes : (old : CoreState) (i until : ℕ) (output : Output) (new : CoreState) → StepNeed old i until output new → Comes old (with_new_need old i until) old.last (λ mid. out.Planned) (λ mid. mid) (Ok output) new
 need_comes old i until out.Planned new step = inl (new, step, refl, refl)
-need_comes old i until out.Idle new step = absurd step
-need_comes old i until (out.Sleep w) new step = absurd step
-need_comes old i until (out.Ask asked) new step = absurd step
-need_comes old i until out.Waiting new step = absurd step
-need_comes old i until (out.Round next) new step = absurd step
+need_comes old i until _ new step = absurd step
 
 -- an answer to a round: it waits for others, or is the last
 abbrev Answered : CoreState → Event → Round → Result Output StepFault → CoreState → Type 0
@@ -120,10 +114,7 @@ one_round old event a b x y one two =
 answer_comes : (old : CoreState) (event : Event) (output : Output) (new : CoreState) → StepAnswer old event output new → AnswerComes old event (Ok output) new
 answer_comes old event out.Waiting new step = (step.0, step.1.0, inl (step.1.1.0, refl, step.1.1.1))
 answer_comes old event (out.Round next) new step = (step.0, step.1.0, inr (step.1.1.0, inl (new, step.1.1.1.0, ap (λ o. Ok (out.Round o)) step.1.1.1.1, refl)))
-answer_comes old event out.Idle new step = absurd step
-answer_comes old event (out.Sleep w) new step = absurd step
-answer_comes old event (out.Ask asked) new step = absurd step
-answer_comes old event out.Planned new step = absurd step
+answer_comes old event _ new step = absurd step
 
 -- what an event gives that is not refused
 abbrev EventComes : CoreState → Event → Result Output StepFault → CoreState → Type 0
@@ -153,10 +144,6 @@ turn_comes old (Told i seconds renewable) (Ok output) x memory turn = inr (turn.
 turn_comes old (Refused i) (Ok output) x memory turn = inr (turn.0, answer_comes old (Refused i) output x turn.1)
 turn_comes old (Lost i) (Ok output) x memory turn = inr (turn.0, answer_comes old (Lost i) output x turn.1)
 turn_comes old (Need i until) (Ok output) x memory turn = inr (turn.0, need_comes old i until output x turn.1)
-turn_comes old (Tick t) (Err TooLong) x memory turn = absurd turn.1.0
-turn_comes old (Told i seconds renewable) (Err TooLong) x memory turn = absurd turn.1.0
-turn_comes old (Refused i) (Err TooLong) x memory turn = absurd turn.1.0
-turn_comes old (Lost i) (Err TooLong) x memory turn = absurd turn.1.0
 turn_comes old (Need i until) (Err TooLong) x memory turn = inr (turn.0, inr (turn.1.0, refl, turn.1.1))
 turn_comes old event (Err ClockBack) x memory turn = inl (ClockBack, turn.0, refl, turn.1)
 turn_comes old event (Err RoundOpen) x memory turn = inl (RoundOpen, turn.0, refl, turn.1)
@@ -164,6 +151,7 @@ turn_comes old event (Err NotAsked) x memory turn = inl (NotAsked, turn.0, refl,
 turn_comes old event (Err BadIndex) x memory turn = inl (BadIndex, turn.0, refl, turn.1)
 turn_comes old event (Err OutOfRange) x memory turn = inl (OutOfRange, turn.0, refl, turn.1)
 turn_comes old event (Err OutOfMemory) x memory turn = absurd (memory refl)
+turn_comes old _ (Err TooLong) x memory turn = absurd turn.1.0
 
 pub once : OneResultLaw
 once old x y event a b memory other_memory one two = elim (turn_comes old event a x memory one) [

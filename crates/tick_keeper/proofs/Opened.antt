@@ -11,7 +11,7 @@ use Rattle.plan_forest.proofs.Entries.{entry_at_set_other, entry_at_set_same}
 use Rattle.plan_rule.specs.Asks.{asking, asks, first_of}
 use Rattle.plan_rule.specs.Ends.{is_asked}
 use Rattle.tick_keeper.specs.declared.event.Event.{Event}
-use Rattle.tick_keeper.specs.declared.event.Event.TheVariants.{Tick, Told, Refused, Lost, Need}
+use Rattle.tick_keeper.specs.declared.event.Event.TheVariants.{Tick}
 use Rattle.tick_keeper.specs.Refusal.{waits_for}
 use Rattle.tick_keeper.specs.Replan.{IsPlanOf, ReplanTooLong}
 use Rattle.tick_keeper.specs.State.{Round}
@@ -41,10 +41,7 @@ opens h t rest forest best few = record {
 pub answered_only : (at : ℕ) (event : Event) (e : Entry) → entry_after_answer at event e ≡ record e { end = (entry_after_answer at event e).end; renewable = (entry_after_answer at event e).renewable }
 unfolding entry_after_answer
 answered_only at (Tick t) e = refl
-answered_only at (Told i seconds renewable) e = refl
-answered_only at (Refused i) e = refl
-answered_only at (Lost i) e = refl
-answered_only at (Need i until) e = refl
+answered_only at _ e = refl
 
 -- who is waited for after an answer, was before it
 still_waits : (round : Round) (i j : ℕ) → waits_for (Some (left round i)) j ≡ true → waits_for (Some round) j ≡ true

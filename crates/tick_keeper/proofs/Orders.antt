@@ -199,18 +199,15 @@ never_asked s i closed none =
 
 taken : (s : CoreState) (event : Event) → IsAnswerEvent event → step_refusal s event ≡ None → unless_waited_for s (entry_of_event event) ≡ None
 unfolding step_refusal
-taken s (Tick t) answer none = absurd answer
 taken s (Told i seconds renewable) answer none = (first_none (nat_lt LONGEST seconds) OutOfRange (unless_waited_for s i) none).1
 taken s (Refused i) answer none = none
 taken s (Lost i) answer none = none
-taken s (Need i until) answer none = absurd answer
+taken s _ answer none = absurd answer
 
 pub step_taken : (old : CoreState) (event : Event) (output : Output) (new : CoreState) → IsAnswerEvent event → CoreStep old event output new → StepAnswer old event output new
 step_taken old (Tick t) output new answer step = absurd answer
-step_taken old (Told i seconds renewable) output new answer step = step
-step_taken old (Refused i) output new answer step = step
-step_taken old (Lost i) output new answer step = step
 step_taken old (Need i until) output new answer step = absurd answer
+step_taken old _ output new answer step = step
 
 -- no answer is taken once the round is closed
 closed_end : (s new : CoreState) (rest : List Event) (results : List (Result Output StepFault)) → s.round ≡ None → AreAnswers rest → AllTaken results → CoreHistory s rest results new → (rest ≡ []) × (new ≡ s)
@@ -305,10 +302,7 @@ step_outcome old mid new round event rest (out.Round next) results is asked answ
     let end = closed_end mid new rest results closed answers well history in
     let here = last_closes old mid round event parts.0 there none replan in
     subst (λ s. Outcome old round (answer_for (event ∷ rest)) s) (sym end.1) (subst (λ es. Outcome old round (answer_for (event ∷ es)) mid) (sym end.0) here)
-step_outcome old mid new round event rest out.Idle results is asked answers well step history onward = absurd step
-step_outcome old mid new round event rest (out.Sleep w) results is asked answers well step history onward = absurd step
-step_outcome old mid new round event rest (out.Ask list) results is asked answers well step history onward = absurd step
-step_outcome old mid new round event rest out.Planned results is asked answers well step history onward = absurd step
+step_outcome old mid new round event rest _ results is asked answers well step history onward = absurd step
 
 no_answers : (old new : CoreState) (round : Round) → old.round ≡ Some round → round.unanswered ≢ [] → new ≡ old → Outcome old round (answer_for []) new
 no_answers old new round is some same = record {

@@ -15,7 +15,7 @@ use Rattle.plan_rule.specs.Reach.{reach}
 use Rattle.plan_rule.proofs.Lists.{need_within}
 use Rattle.plan_search.proofs.Wanted.{asked_more}
 use Rattle.tick_keeper.specs.declared.fault.StepFault.{StepFault}
-use Rattle.tick_keeper.specs.declared.fault.StepFault.TheVariants.{ClockBack, RoundOpen, NotAsked, BadIndex, OutOfRange, TooLong, OutOfMemory}
+use Rattle.tick_keeper.specs.declared.fault.StepFault.TheVariants.{TooLong, OutOfMemory}
 use Rattle.tick_keeper.specs.declared.shortened.ShortNeed.{ShortNeed}
 use Rattle.tick_keeper.specs.code.Passes.{AreLeast, AreNeeds, ForestHasNeeds, PlanRefused, forest_with_needs, needing, shorter, so_far}
 use Rattle.tick_keeper.specs.Replan.{PlanFails}
@@ -197,8 +197,4 @@ fails g forest t TooLong long =
     let many = long.long best.1.plan best.1.in_order best.1.kept in
     record { moments = best.0; best = best.1; many = (let l = ap length best.1.at_these in let k = length-map best.1.plan (λ w. w.at) in omega arith) }
 fails g forest t OutOfMemory refused = tt
-fails g forest t ClockBack refused = absurd refused
-fails g forest t RoundOpen refused = absurd refused
-fails g forest t NotAsked refused = absurd refused
-fails g forest t BadIndex refused = absurd refused
-fails g forest t OutOfRange refused = absurd refused
+fails g forest t _ refused = absurd refused

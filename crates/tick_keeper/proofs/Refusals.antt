@@ -38,8 +38,6 @@ pub record IsTaken (s : CoreState) (event : Event) : Type 0 where
 
 pub answer_taken : (s : CoreState) (event : Event) → IsAnswerEvent event → step_refusal s event ≡ None → IsTaken s event
 unfolding step_refusal
-answer_taken s (Tick t) answer e = absurd answer
-answer_taken s (Need i until) answer e = absurd answer
 answer_taken s (Refused i) answer e = let taken = asked_parts s i e in record { seconds = tt; within = taken.0; waits = taken.1 }
 answer_taken s (Lost i) answer e = let taken = asked_parts s i e in record { seconds = tt; within = taken.0; waits = taken.1 }
 answer_taken s (Told i seconds renewable) answer e =
@@ -47,6 +45,7 @@ answer_taken s (Told i seconds renewable) answer e =
     let short : nat_lt LONGEST seconds ≡ false = test.0 in
     let taken = asked_parts s i test.1 in
     record { seconds = grind (arith, nat_tests); within = taken.0; waits = taken.1 }
+answer_taken s _ answer e = absurd answer
 
 pub need_taken : (s : CoreState) (i until : ℕ) → step_refusal s (Need i until) ≡ None → (until ≤ LAST) × (i < length s.forest.entries) × (s.round ≡ None)
 unfolding step_refusal

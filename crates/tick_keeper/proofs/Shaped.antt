@@ -9,7 +9,7 @@ use Rattle.tick_keeper.specs.declared.event.Event.{Event}
 use Rattle.tick_keeper.specs.declared.event.Event.TheVariants.{Tick, Told, Refused, Lost, Need}
 use Rattle.tick_keeper.specs.declared.event.Output.{Output}
 use Rattle.tick_keeper.specs.declared.event.Output.TheVariants as out
-use Rattle.tick_keeper.specs.declared.fault.StepFault.TheVariants.{ClockBack, RoundOpen, NotAsked, BadIndex, OutOfRange, TooLong, OutOfMemory}
+use Rattle.tick_keeper.specs.declared.fault.StepFault.TheVariants.{TooLong, OutOfMemory}
 use Rattle.tick_keeper.specs.Replan.{Replan}
 use Rattle.tick_keeper.specs.Shorten.{shorten}
 use Rattle.tick_keeper.specs.State.{CoreState}
@@ -68,10 +68,7 @@ changed g i f like =
 answer_like : (at : ℕ) (event : Event) (e : Entry) → Like e (entry_after_answer at event e)
 unfolding entry_after_answer
 answer_like at (Told i seconds renewable) e = refl
-answer_like at (Refused i) e = refl
-answer_like at (Lost i) e = refl
-answer_like at (Tick t) e = refl
-answer_like at (Need i until) e = refl
+answer_like at _ e = refl
 
 pub replanned : (g : Forest) (old : CoreState) (t : ℕ) (new : CoreState) → IsShaped g old.forest → Replan old t new → IsShaped g new.forest
 replanned g old t new a r = subst (λ (s : CoreState). IsShaped g s.forest) (sym r.is) (both_shaped g old.forest (shorten old.forest t) a (shortened old.forest t))
@@ -80,27 +77,18 @@ tick_shaped : (old : CoreState) (t : ℕ) (output : Output) (new : CoreState) �
 tick_shaped old t out.Idle new step = replanned old.forest old t new (same old.forest) step.0
 tick_shaped old t (out.Sleep w) new step = replanned old.forest old t new (same old.forest) step.0
 tick_shaped old t (out.Ask asked) new step = subst (λ (s : CoreState). IsShaped old.forest s.forest) (sym step.1.1.1.1.1) (replanned old.forest old t step.0 (same old.forest) step.1.0)
-tick_shaped old t out.Waiting new step = absurd step
-tick_shaped old t (out.Round next) new step = absurd step
-tick_shaped old t out.Planned new step = absurd step
+tick_shaped old t _ new step = absurd step
 
 answer_shaped : (old : CoreState) (event : Event) (output : Output) (new : CoreState) → StepAnswer old event output new → IsShaped old.forest new.forest
 answer_shaped old event out.Waiting new step =
     subst (λ (s : CoreState). IsShaped old.forest s.forest) (sym step.1.1.1) (changed old.forest (entry_of_event event) (entry_after_answer step.0.at event) (answer_like step.0.at event))
 answer_shaped old event (out.Round next) new step =
     replanned old.forest (state_after_answer old event step.0.at None) step.0.at new (changed old.forest (entry_of_event event) (entry_after_answer step.0.at event) (answer_like step.0.at event)) step.1.1.1.0
-answer_shaped old event out.Idle new step = absurd step
-answer_shaped old event (out.Sleep w) new step = absurd step
-answer_shaped old event (out.Ask asked) new step = absurd step
-answer_shaped old event out.Planned new step = absurd step
+answer_shaped old event _ new step = absurd step
 
 need_shaped : (old : CoreState) (i until : ℕ) (output : Output) (new : CoreState) → StepNeed old i until output new → IsShaped old.forest new.forest
 need_shaped old i until out.Planned new step = replanned old.forest (with_new_need old i until) old.last new (changed old.forest i (λ e. record e { need = until }) (λ e. refl)) step
-need_shaped old i until out.Idle new step = absurd step
-need_shaped old i until (out.Sleep w) new step = absurd step
-need_shaped old i until (out.Ask asked) new step = absurd step
-need_shaped old i until out.Waiting new step = absurd step
-need_shaped old i until (out.Round next) new step = absurd step
+need_shaped old i until _ new step = absurd step
 
 stays : (old new : CoreState) → new ≡ old → IsShaped old.forest new.forest
 stays old new is = subst (λ (s : CoreState). IsShaped old.forest s.forest) (sym is) (same old.forest)
@@ -113,8 +101,4 @@ shape old new (Lost i) (Ok output) turn = answer_shaped old (Lost i) output new 
 shape old new (Need i until) (Ok output) turn = need_shaped old i until output new turn.1
 shape old new event (Err TooLong) turn = stays old new turn.1.1
 shape old new event (Err OutOfMemory) turn = stays old new turn.1.1
-shape old new event (Err ClockBack) turn = stays old new turn.1
-shape old new event (Err RoundOpen) turn = stays old new turn.1
-shape old new event (Err NotAsked) turn = stays old new turn.1
-shape old new event (Err BadIndex) turn = stays old new turn.1
-shape old new event (Err OutOfRange) turn = stays old new turn.1
+shape old new event (Err _) turn = stays old new turn.1

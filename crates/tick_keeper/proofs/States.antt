@@ -16,7 +16,7 @@ use Rattle.tick_keeper.specs.declared.event.Event.TheVariants.{Tick, Told, Refus
 use Rattle.tick_keeper.specs.declared.event.Output.{Output}
 use Rattle.tick_keeper.specs.declared.event.Output.TheVariants as out
 use Rattle.tick_keeper.specs.declared.fault.StepFault.{StepFault}
-use Rattle.tick_keeper.specs.declared.fault.StepFault.TheVariants.{ClockBack, RoundOpen, NotAsked, BadIndex, OutOfRange, TooLong, OutOfMemory}
+use Rattle.tick_keeper.specs.declared.fault.StepFault.TheVariants.{TooLong, OutOfMemory}
 use Rattle.tick_keeper.specs.declared.shortened.ShortNeed.{ShortNeed}
 use Rattle.tick_keeper.specs.LawsOfHistories.{IsAnswerEvent}
 use Rattle.tick_keeper.specs.LawsOfNeeds.{IsShortened}
@@ -157,9 +157,7 @@ tick_leads old t output new state taken step = by_output output step where
           others = λ i whole. ap (λ (s : CoreState). (entry_at s.forest.entries i).need) is ∙ a.others i whole;
         },
       )
-  by_output out.Waiting step = absurd step
-  by_output (out.Round next) step = absurd step
-  by_output out.Planned step = absurd step
+  by_output _ step = absurd step
 
 answer_leads : (old : CoreState) (event : Event) (output : Output) (new : CoreState) → IsState old → Hears old event → state_with_need old event ≡ old → StepAnswer old event output new → Leads old event new
 answer_leads old event out.Waiting new state hears plain step =
@@ -194,10 +192,7 @@ answer_leads old event (out.Round next) new state hears plain step =
     let from = state_after_answer old event round.at None in
     let forest : IsForest from.forest = hears.forest round.at (omega arith) in
     (planned_state from round.at new forest (omega arith) refl step.1.1.1.0, subst (λ s. Adds s new) (sym plain) (planned_adds old from round.at new forest refl (length-set old.forest.entries (entry_of_event event) _) (heard_need old event hears round.at) step.1.1.1.0))
-answer_leads old event out.Idle new state hears plain step = absurd step
-answer_leads old event (out.Sleep w) new state hears plain step = absurd step
-answer_leads old event (out.Ask asked) new state hears plain step = absurd step
-answer_leads old event out.Planned new state hears plain step = absurd step
+answer_leads old event _ new state hears plain step = absurd step
 
 need_leads : (old : CoreState) (i until : ℕ) (output : Output) (new : CoreState) → IsState old → step_refusal old (Need i until) ≡ None → StepNeed old i until output new → Leads old (Need i until) new
 need_leads old i until out.Planned new state taken step =
@@ -205,11 +200,7 @@ need_leads old i until out.Planned new state taken step =
     let from = with_new_need old i until in
     let forest = needed_forest old.forest state.forest i parts.1 until parts.0 in
     (planned_state from old.last new forest state.last parts.2 step, planned_adds from from old.last new forest refl refl (λ k. refl) step)
-need_leads old i until out.Idle new state taken step = absurd step
-need_leads old i until (out.Sleep w) new state taken step = absurd step
-need_leads old i until (out.Ask asked) new state taken step = absurd step
-need_leads old i until out.Waiting new state taken step = absurd step
-need_leads old i until (out.Round next) new state taken step = absurd step
+need_leads old i until _ new state taken step = absurd step
 
 step_leads : (old : CoreState) (event : Event) (output : Output) (new : CoreState) → IsState old → CoreTurn old event (Ok output) new → Leads old event new
 step_leads old (Tick t) output new state turn = tick_leads old t output new state turn.0 turn.1
@@ -221,13 +212,9 @@ step_leads old (Need i until) output new state turn = need_leads old i until out
 -- a refusal leaves the state
 pub turn_state : (old : CoreState) (event : Event) (result : Result Output StepFault) (new : CoreState) → IsState old → CoreTurn old event result new → IsState new
 turn_state old event (Ok output) new state turn = (step_leads old event output new state turn).0
-turn_state old event (Err ClockBack) new state turn = subst IsState (sym turn.1) state
-turn_state old event (Err RoundOpen) new state turn = subst IsState (sym turn.1) state
-turn_state old event (Err NotAsked) new state turn = subst IsState (sym turn.1) state
-turn_state old event (Err BadIndex) new state turn = subst IsState (sym turn.1) state
-turn_state old event (Err OutOfRange) new state turn = subst IsState (sym turn.1) state
 turn_state old event (Err TooLong) new state turn = subst IsState (sym turn.1.1) state
 turn_state old event (Err OutOfMemory) new state turn = subst IsState (sym turn.1.1) state
+turn_state old event (Err _) new state turn = subst IsState (sym turn.1) state
 
 pub adds : AddsLaw
 adds = (
@@ -237,9 +224,8 @@ adds = (
 
 history_state : (old new : CoreState) (events : List Event) (results : List (Result Output StepFault)) → IsState old → CoreHistory old events results new → IsState new
 history_state old new [] [] state history = subst IsState (sym history) state
-history_state old new [] (result ∷ results) state history = absurd history
-history_state old new (event ∷ events) [] state history = absurd history
 history_state old new (event ∷ events) (result ∷ results) state history = history_state history.0 new events results (turn_state old event result history.0 state history.1.0) history.1.1
+history_state old new _ _ state history = absurd history
 
 pub states : StateLaw
 states g start old new events results forest late r history =
@@ -272,7 +258,4 @@ asked_at old new (Tick t) asked state turn =
         },
       ),
     )
-asked_at old new (Told i seconds renewable) asked state turn = absurd turn.1
-asked_at old new (Refused i) asked state turn = absurd turn.1
-asked_at old new (Lost i) asked state turn = absurd turn.1
-asked_at old new (Need i until) asked state turn = absurd turn.1
+asked_at old new _ asked state turn = absurd turn.1

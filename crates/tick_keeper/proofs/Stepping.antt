@@ -55,6 +55,5 @@ pub history_more :
     (old mid new : CoreState) (events : List Event) (event : Event) (results : List (Result Output StepFault)) (result : Result Output StepFault) →
     CoreHistory old events results mid → CoreTurn mid event result new → CoreHistory old (events ++ event ∷ []) (results ++ result ∷ []) new
 history_more old mid new [] event [] result history turn = (new, (subst (λ s. CoreTurn s event result new) history turn, refl))
-history_more old mid new [] event (r ∷ results) result history turn = absurd history
-history_more old mid new (e ∷ events) event [] result history turn = absurd history
 history_more old mid new (e ∷ events) event (r ∷ results) result history turn = (history.0, (history.1.0, history_more history.0 mid new events event results result history.1.1 turn))
+history_more old mid new _ event _ result history turn = absurd history

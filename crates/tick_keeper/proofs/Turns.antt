@@ -5,7 +5,7 @@ use Rattle.tick_keeper.specs.declared.event.Event.TheVariants.{Tick, Told, Refus
 use Rattle.tick_keeper.specs.declared.event.Output.{Output}
 use Rattle.tick_keeper.specs.declared.event.Output.TheVariants as out
 use Rattle.tick_keeper.specs.declared.fault.StepFault.{StepFault}
-use Rattle.tick_keeper.specs.declared.fault.StepFault.TheVariants.{ClockBack, RoundOpen, NotAsked, BadIndex, OutOfRange, TooLong, OutOfMemory}
+use Rattle.tick_keeper.specs.declared.fault.StepFault.TheVariants.{TooLong, OutOfMemory}
 use Rattle.tick_keeper.specs.InForce.{InForce, InForceBetweenRounds}
 use Rattle.tick_keeper.specs.LawsOfHistories.{InForceLaw}
 use Rattle.tick_keeper.specs.Replan.{Replan}
@@ -24,25 +24,16 @@ tick_sound : (old : CoreState) (t : ℕ) (output : Output) (new : CoreState) →
 tick_sound old t out.Idle new step = λ closed. replan_force old t new step.0
 tick_sound old t (out.Sleep w) new step = λ closed. replan_force old t new step.0
 tick_sound old t (out.Ask asked) new step = open_sound new _ (ap (λ (s : CoreState). s.round) step.1.1.1.1.1)
-tick_sound old t out.Waiting new step = absurd step
-tick_sound old t (out.Round next) new step = absurd step
-tick_sound old t out.Planned new step = absurd step
+tick_sound old t _ new step = absurd step
 
 answer_sound : (old : CoreState) (event : Event) (output : Output) (new : CoreState) → StepAnswer old event output new → InForceBetweenRounds new
 answer_sound old event out.Waiting new step = open_sound new _ (ap (λ (s : CoreState). s.round) step.1.1.1)
 answer_sound old event (out.Round next) new step = λ closed. replan_force _ _ new step.1.1.1.0
-answer_sound old event out.Idle new step = absurd step
-answer_sound old event (out.Sleep w) new step = absurd step
-answer_sound old event (out.Ask asked) new step = absurd step
-answer_sound old event out.Planned new step = absurd step
+answer_sound old event _ new step = absurd step
 
 need_sound : (old : CoreState) (i until : ℕ) (output : Output) (new : CoreState) → StepNeed old i until output new → InForceBetweenRounds new
 need_sound old i until out.Planned new step = λ closed. replan_force _ _ new step
-need_sound old i until out.Idle new step = absurd step
-need_sound old i until (out.Sleep w) new step = absurd step
-need_sound old i until (out.Ask asked) new step = absurd step
-need_sound old i until out.Waiting new step = absurd step
-need_sound old i until (out.Round next) new step = absurd step
+need_sound old i until _ new step = absurd step
 
 turn_sound : (old : CoreState) (event : Event) (result : Result Output StepFault) (new : CoreState) → InForceBetweenRounds old → CoreTurn old event result new → InForceBetweenRounds new
 turn_sound old (Tick t) (Ok output) new sound turn = tick_sound old t output new turn.1
@@ -50,16 +41,11 @@ turn_sound old (Told i seconds renewable) (Ok output) new sound turn = answer_so
 turn_sound old (Refused i) (Ok output) new sound turn = answer_sound old (Refused i) output new turn.1
 turn_sound old (Lost i) (Ok output) new sound turn = answer_sound old (Lost i) output new turn.1
 turn_sound old (Need i until) (Ok output) new sound turn = need_sound old i until output new turn.1
-turn_sound old event (Err ClockBack) new sound turn = subst InForceBetweenRounds (sym turn.1) sound
-turn_sound old event (Err RoundOpen) new sound turn = subst InForceBetweenRounds (sym turn.1) sound
-turn_sound old event (Err NotAsked) new sound turn = subst InForceBetweenRounds (sym turn.1) sound
-turn_sound old event (Err BadIndex) new sound turn = subst InForceBetweenRounds (sym turn.1) sound
-turn_sound old event (Err OutOfRange) new sound turn = subst InForceBetweenRounds (sym turn.1) sound
 turn_sound old event (Err TooLong) new sound turn = subst InForceBetweenRounds (sym turn.1.1) sound
 turn_sound old event (Err OutOfMemory) new sound turn = subst InForceBetweenRounds (sym turn.1.1) sound
+turn_sound old event (Err _) new sound turn = subst InForceBetweenRounds (sym turn.1) sound
 
 pub in_force : InForceLaw
 in_force old new [] [] sound history = subst InForceBetweenRounds (sym history) sound
-in_force old new [] (result ∷ results) sound history = absurd history
-in_force old new (event ∷ events) [] sound history = absurd history
 in_force old new (event ∷ events) (result ∷ results) sound history = in_force history.0 new events results (turn_sound old event result history.0 sound history.1.0) history.1.1
+in_force old new _ _ sound history = absurd history

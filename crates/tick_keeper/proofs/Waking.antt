@@ -199,6 +199,4 @@ tick_step old mid new t (out.Ask asked) r w =
     let Goal : ℕ → Type 0 = λ n.
     (mid.to_come ≡ n ∷ w.0) × ((asked ≡ (round_opened mid n (first_of w.0)).unanswered) × (new ≡ record mid { to_come = w.0; round = Some (round_opened mid n (first_of w.0)) })) in
     (mid, (r, (w.0, subst Goal last w.1)))
-tick_step old mid new t out.Waiting r w = absurd w
-tick_step old mid new t (out.Round next) r w = absurd w
-tick_step old mid new t out.Planned r w = absurd w
+tick_step old mid new t _ r w = absurd w

@@ -12,7 +12,7 @@ use Rattle.vault_http.specs.declared.reply.Reply.{Reply}
 use Rattle.vault_http.specs.declared.request.Request.{Request}
 use Rattle.broker_rule.specs.declared.call.Call.{Call}
 use Rattle.broker_rule.specs.declared.refusal.Refusal.{Refusal}
-use Rattle.broker_rule.specs.declared.refusal.Refusal.TheVariants.{UnsupportedPath, UnsupportedMethod, PermissionDenied, BadRequest, UnknownLease, NotRenewable}
+use Rattle.broker_rule.specs.declared.refusal.Refusal.TheVariants.{UnsupportedPath}
 use Rattle.broker_rule.specs.declared.row.Row.{Row}
 use Rattle.broker_rule.specs.declared.served.Served.{Served}
 use Rattle.broker_rule.specs.declared.served.Served.TheVariants as served
@@ -20,7 +20,7 @@ use Rattle.broker_rule.specs.Granted.{call_for}
 use Rattle.broker_rule.specs.Request.{status_of_refusal}
 use Rattle.broker_rule.specs.Step.{BrokerAnswer, SaysAnswer, TellsRow, broker_step, drops, refuses as answer_refuses, seconds_to, tells}
 use Rattle.tick_keeper.specs.declared.event.Event.{Event}
-use Rattle.tick_keeper.specs.declared.event.Event.TheVariants.{Tick, Told, Refused, Lost, Need}
+use Rattle.tick_keeper.specs.declared.event.Event.TheVariants.{Told, Refused, Lost}
 use Rattle.tick_keeper.specs.declared.event.Output.{Output}
 use Rattle.tick_keeper.specs.declared.fault.StepFault.{StepFault}
 use Rattle.tick_keeper.specs.History.{CoreTurn}
@@ -49,11 +49,7 @@ by_status kind id i body n = cond (n == 200) (told_by_body kind id i body) (even
 refused_status : (kind : Kind) (id : List ℕ) (i : ℕ) (body : List ℕ) (v : Refusal) → by_status kind id i body (status_of_refusal v) ≡ event_if_refused (status_of_refusal v) (Refused i) (Lost i)
 unfolding by_status
 refused_status kind id i body UnsupportedPath = refl
-refused_status kind id i body UnsupportedMethod = refl
-refused_status kind id i body PermissionDenied = refl
-refused_status kind id i body BadRequest = refl
-refused_status kind id i body UnknownLease = refl
-refused_status kind id i body NotRenewable = refl
+refused_status kind id i body _ = refl
 
 refused_by : (kind : Kind) (id : List ℕ) (i : ℕ) (v : Refusal) (r : Reply) → r.status ≡ status_of_refusal v → event_of kind id i (Some r) ≡ event_if_refused (status_of_refusal v) (Refused i) (Lost i)
 unfolding event_of by_status
@@ -122,11 +118,8 @@ module _ (g : Forest) (cs ds : List (List ℕ)) (ts : List Terms) (one : IsInven
     w = record { forest = names; credentials = ds; terms = us }
 
     line_same : (event : Event) (x y : Option Reply) → status_in y ≡ status_in x → answer_line names event y ≡ answer_line names event x
-    line_same (Told i seconds renewable) x y same = refl
     line_same (Refused i) x y same = ap (λ n. line (codes "refused" ∷ name_of names i ∷ decimal n ∷ [])) same
-    line_same (Lost i) x y same = refl
-    line_same (Tick t) x y same = refl
-    line_same (Need i until) x y same = refl
+    line_same _ x y same = refl
 
     -- what the answers x and y leave
     pub record AreAnswersAlike (x y : Exchanged) (new last : World) : Type 0 where
@@ -205,8 +198,6 @@ module _ (g : Forest) (cs ds : List (List ℕ)) (ts : List Terms) (one : IsInven
           text = refl;
           kept = subst (λ (z : World). KeepsSupplied g z.keeper.forest) (sym a) like;
         }
-    answers_both port other t k b c [] (y ∷ ys) new last like within who alike a d = absurd cc
-    answers_both port other t k b c (x ∷ xs) [] new last like within who alike a d = absurd cc
     answers_both port other t k b c (x ∷ xs) (y ∷ ys) new last like within who alike a d =
         let here : y.entry ≡ x.entry = cc in
         let rest : map (λ (z : Exchanged). z.entry) ys ≡ map (λ (z : Exchanged). z.entry) xs = cc in
@@ -223,3 +214,4 @@ module _ (g : Forest) (cs ds : List (List ℕ)) (ts : List Terms) (one : IsInven
           text = ap (λ l. l ++ flat_map (answer_text w) ys) first.text ∙ ap (λ l. answer_text v x ++ l) more.text;
           kept = more.kept;
         }
+    answers_both port other t k b c _ _ new last like within who alike a d = absurd cc

@@ -41,11 +41,7 @@ late_refused s k t output late turn =
 
 last_of : (o : Output) (xs ys : List Exchanged) → next_by o ys ≡ next_by o xs → last_tick_line o ys ≡ last_tick_line o xs
 last_of (out.Ask asked) xs ys same = ap next_tick_line same
-last_of (out.Sleep w) xs ys same = refl
-last_of out.Idle xs ys same = refl
-last_of out.Waiting xs ys same = refl
-last_of (out.Round next) xs ys same = refl
-last_of out.Planned xs ys same = refl
+last_of _ xs ys same = refl
 
 last_same : (o p : Output) (xs ys : List Exchanged) → p ≡ o → next_by p ys ≡ next_by o xs → last_tick_line p ys ≡ last_tick_line o xs
 last_same o p xs ys same next = ap (λ (q : Output). last_tick_line q ys) same ∙ last_of o xs ys (ap (λ (q : Output). next_by q ys) (sym same) ∙ next)

@@ -1,9 +1,9 @@
 -- Alike lookups: over two brokers whose tables differ in credentials alone, lookups make of two inventories that do the same, and
 -- a run is opened by one text.
-use Rattle.std.proofs.Common.{◌≡◌, ◌∙◌, ◌==◌, ℕ, zero, suc, ◌+◌, ◌<◌, ◌≤◌, Bool, true, false, cond, is_none, List, [], ◌∷◌, ◌++◌, Option, Some, None, IfSome, Result, Ok, Err, bytes_eq, length, nat_le, option_map, refl, sym, ap, subst, arith}
+use Rattle.std.proofs.Common.{◌≡◌, ◌∙◌, ◌==◌, ℕ, ◌+◌, ◌<◌, ◌≤◌, Bool, true, false, cond, is_none, List, [], ◌∷◌, ◌++◌, Option, Some, None, IfSome, Result, Ok, Err, bytes_eq, length, nat_le, option_map, refl, sym, ap, subst, arith}
 use Rattle.std.proofs.lemmas.Bool.{cond-true}
-use Rattle.std.proofs.lemmas.List.Elements.{All-head, All-nil, All-cons, All-tail}
-use Rattle.std.specs.List.{All, range_with_len}
+use Rattle.std.proofs.lemmas.List.Elements.{All-head, All-tail}
+use Rattle.std.specs.List.{All}
 use Rattle.tick_keeper.specs.Replan.{Replan}
 use Rattle.tick_keeper.specs.State.{CoreState, unplanned}
 use Rattle.tick_keeper.proofs.Orders.{replan_once}
@@ -26,7 +26,7 @@ use Rattle.plan_forest.specs.Forest.{Forest, entry_at}
 use Rattle.plan_forest.specs.Push.{is_lease}
 use Rattle.broker_rule.specs.declared.call.Call.TheVariants.{LookupSelf, LookupLease}
 use Rattle.broker_rule.specs.declared.refusal.Refusal.{Refusal}
-use Rattle.broker_rule.specs.declared.refusal.Refusal.TheVariants.{UnsupportedPath, UnsupportedMethod, PermissionDenied, BadRequest, UnknownLease, NotRenewable}
+use Rattle.broker_rule.specs.declared.refusal.Refusal.TheVariants.{UnsupportedPath}
 use Rattle.broker_rule.specs.declared.row.Row.{Row}
 use Rattle.broker_rule.specs.declared.served.Served.{Served}
 use Rattle.broker_rule.specs.declared.served.Served.TheVariants as served
@@ -51,6 +51,7 @@ use Rattle.tick_runs.specs.LiveRun.{IsLiveOpening}
 use Rattle.tick_runs.specs.Looking.{AreLookedUp, Looked, first_indices, looked_text}
 use Rattle.tick_runs.specs.Secrecy.{AlikeLookupsLaw, AlikeOpeningsLaw, AreLookedAlike, AreWorldsAlike}
 use Rattle.tick_runs.specs.Text.{short_need_lines}
+use Rattle.tick_runs.proofs.Within.{all_to}
 use Rattle.broker_alike.proofs.Kept.{kept_itself, kept_with}
 use Rattle.broker_alike.specs.Answers.{AnswersOf, Speaks, look_for}
 use Rattle.broker_alike.proofs.Dated.{if_both, step_dated}
@@ -129,11 +130,7 @@ mapped_if f false x y same = refl
 
 by_refusal : {X : Type 0} (v : Refusal) (x : Option X) → cond (status_of_refusal v == 200) x None ≡ None
 by_refusal UnsupportedPath x = refl
-by_refusal UnsupportedMethod x = refl
-by_refusal PermissionDenied x = refl
-by_refusal BadRequest x = refl
-by_refusal UnknownLease x = refl
-by_refusal NotRenewable x = refl
+by_refusal _ x = refl
 
 none_of_refusal : (v : Inventory) (i t : ℕ) (refusal : Refusal) (reply : Reply) → reply.status ≡ status_of_refusal refusal → inventory_after_lookup v i t (received (served.Reply reply)) ≡ None
 none_of_refusal v i t refusal reply is =
@@ -236,10 +233,9 @@ module _ (g : Forest) (cs ds : List (List ℕ)) (ts : List Terms) (one : IsInven
   -- ---- one lookup
 
   flag_same : (x y : Bool) (after behind : Inventory) → behind_if y behind ≡ option_map other_of (behind_if x after) → y ≡ x
-  flag_same true true after behind same = refl
-  flag_same false false after behind same = refl
   flag_same true false after behind same = absurd cc
   flag_same false true after behind same = absurd cc
+  flag_same _ _ after behind same = refl
 
   value_same : (x y : Inventory) → Some y ≡ Some (other_of x) → y ≡ other_of x
   value_same x y same = cc
@@ -330,10 +326,6 @@ module _ (g : Forest) (cs ds : List (List ℕ)) (ts : List Terms) (one : IsInven
 
   -- ---- the opening
 
-  all_first : (m n a : ℕ) → a + n ≤ m → All (λ i. i < m) (range_with_len a n)
-  all_first m zero a h = All-nil (λ i. i < m)
-  all_first m (suc n) a h = All-cons (λ i. i < m) a (range_with_len (a + 1) n) (omega arith) (all_first m n (a + 1) (omega arith))
-
   abbrev pub started : Inventory → Behind → Looked
   started v b = record { inventory = v; behind = Some b }
 
@@ -344,7 +336,7 @@ module _ (g : Forest) (cs ds : List (List ℕ)) (ts : List Terms) (one : IsInven
       (a : IsLiveOpening port start always (started s b) opening text) (d : IsLiveOpening other start always (started u c) last more) → AreLookedAlike g cs ds a.looked d.looked
   opened_looked port other start always b c opening last text more tables dated a d =
       let n = length g.entries in
-      all_both port other start (first_indices n) (started s b) (started u c) a.looked d.looked (all_first n n 0 (omega arith)) (fresh_both b c tables dated) a.all d.all
+      all_both port other start (first_indices n) (started s b) (started u c) a.looked d.looked (all_to n n 0 (omega arith)) (fresh_both b c tables dated) a.all d.all
 
   -- other credentials leave the forest from a start on as it is
   start_same : (v : Inventory) (always : List Bool) (start : ℕ) → (from_start (record v { credentials = ds }) always start).forest ≡ (from_start v always start).forest

@@ -1,7 +1,6 @@
 -- Alike runs: over two brokers whose tables differ in credentials alone, two runs of one keeper go on by the same ticks, as far
 -- as both go.
-use Rattle.std.proofs.Common.{◌≡◌, ◌∙◌, ℕ, suc, ◌+◌, ◌<◌, ◌⊎◌, cond, List, [], ◌∷◌, ◌++◌, Option, Some, None, Result, Ok, flat_map, inl, inr, length, map, refl, sym, ap, subst, arith}
-use Rattle.std.proofs.lemmas.List.Sums.{sum_by-append}
+use Rattle.std.proofs.Common.{◌≡◌, ◌∙◌, ℕ, suc, ◌+◌, ◌<◌, ◌⊎◌, cond, List, [], ◌∷◌, ◌++◌, Option, Some, None, Result, Ok, flat_map, inl, inr, length, map, refl, sym, ap, subst}
 use Rattle.std.specs.List.{All}
 use Rattle.plan_forest.specs.Forest.{Forest}
 use Rattle.vault_inventory.specs.Inventories.{IsInventory, Inventory}
@@ -20,6 +19,7 @@ use Rattle.tick_runs.specs.Closed.{AreAnswered, Beat, Exchanged, IsBeat, Played,
 use Rattle.tick_runs.specs.Stops.{both}
 use Rattle.tick_runs.specs.Text.{answer_text, beat_text, short_need_lines, wake_line_of_output}
 use Rattle.tick_runs.proofs.AlikeAnswers.{answers_both}
+use Rattle.tick_runs.proofs.Running.{more_requests}
 use Rattle.tick_runs.proofs.Shaped.{kept_shaped}
 use Rattle.tick_runs.proofs.Within.{asked_within}
 
@@ -43,11 +43,7 @@ module _ (g : Forest) (cs ds : List (List ℕ)) (ts : List Terms) (one : IsInven
 
   next_same : (o : Output) (xs ys : List Exchanged) → closing None ys ≡ closing None xs → next_by o ys ≡ next_by o xs
   next_same (out.Ask asked) xs ys same = same
-  next_same (out.Sleep w) xs ys same = refl
-  next_same out.Idle xs ys same = refl
-  next_same out.Waiting xs ys same = refl
-  next_same (out.Round next) xs ys same = refl
-  next_same out.Planned xs ys same = refl
+  next_same _ xs ys same = refl
 
   pub beats_both : (port other : ℕ) (k : CoreState) (b c : Option Behind) (x y : Beat) (new last : World) → KeepsSupplied g k.forest → y.at ≡ x.at → AreBrokersAlike g cs ds b c → IsBeat port cs (both k b) x new → IsBeat other ds (both k c) y last →
       AreBeatsAlike x y new last
@@ -115,24 +111,14 @@ module _ (g : Forest) (cs ds : List (List ℕ)) (ts : List Terms) (one : IsInven
 
   count_more : (o p : Output) (x y : Beat) (xs ys : List Beat) → p ≡ o → length ys ≡ length xs → length (cond (asks_some p) (y ∷ ys) ys) ≡ length (cond (asks_some o) (x ∷ xs) xs)
   count_more (out.Ask asked) p x y xs ys same rest = ap (λ (q : Output). length (cond (asks_some q) (y ∷ ys) ys)) same ∙ ap (λ n. suc n) rest
-  count_more (out.Sleep w) p x y xs ys same rest = ap (λ (q : Output). length (cond (asks_some q) (y ∷ ys) ys)) same ∙ rest
-  count_more out.Idle p x y xs ys same rest = ap (λ (q : Output). length (cond (asks_some q) (y ∷ ys) ys)) same ∙ rest
-  count_more out.Waiting p x y xs ys same rest = ap (λ (q : Output). length (cond (asks_some q) (y ∷ ys) ys)) same ∙ rest
-  count_more (out.Round next) p x y xs ys same rest = ap (λ (q : Output). length (cond (asks_some q) (y ∷ ys) ys)) same ∙ rest
-  count_more out.Planned p x y xs ys same rest = ap (λ (q : Output). length (cond (asks_some q) (y ∷ ys) ys)) same ∙ rest
-
-  requests_first : (x : Beat) (xs : List Beat) → request_count (x ∷ xs) ≡ length x.answers + request_count xs
-  unfolding request_count
-  requests_first x xs =
-      let join : request_count (x ∷ xs) ≡ (0 + length x.answers) + request_count xs = sum_by-append (λ (b : Beat). length b.answers) (x ∷ []) xs in
-      omega arith
+  count_more _ p x y xs ys same rest = ap (λ (q : Output). length (cond (asks_some q) (y ∷ ys) ys)) same ∙ rest
 
   one_more : (x y : Beat) (xs ys : List Beat) (mid mid' new last : World) (next then' : Option ℕ) → AreBeatsAlike x y mid mid' → AreRunsAlike xs ys new last next then' → AreRunsAlike (x ∷ xs) (y ∷ ys) new last next then'
   unfolding rounds
   one_more x y xs ys mid mid' new last next then' first rest =
       record {
         wakes = count_more x.output y.output x y (rounds xs) (rounds ys) first.output rest.wakes;
-        asked = requests_first y ys ∙ ap (λ n. n + request_count ys) first.count ∙ ap (λ n. length x.answers + n) rest.asked ∙ sym (requests_first x xs);
+        asked = more_requests y ys ∙ ap (λ n. n + request_count ys) first.count ∙ ap (λ n. length x.answers + n) rest.asked ∙ sym (more_requests x xs);
         text = ap (λ l. l ++ flat_map (beat_text w) ys) first.text ∙ ap (λ l. beat_text v x ++ l) rest.text;
         next_is = rest.next_is;
         keeper = rest.keeper;

@@ -121,14 +121,8 @@ module _ (port : ℕ) (bytes : List ℕ) (start : ℕ) (before : Option Behind) 
     by_result : (u : Result (Unit {0}) Stop) → RunHasListened port start (marks v.notes) (record { inventory = v.inventory; behind = before }) u final fed (change k a c) → LivesTo port bytes start before u fed (change k a c) final.behind
     by_result (Ok u) h = (v, read, (final, h, refl))
     by_result (Err stops.Memory) h = inr (v, read, inr (final, h, refl))
-    by_result (Err stops.Write) h = (v, read, inr (final, h, refl))
-    by_result (Err stops.TooLong) h = (v, read, inr (final, h, refl))
-    by_result (Err stops.Read) h = (v, read, inr (final, h, refl))
-    by_result (Err (stops.Line i)) h = (v, read, inr (final, h, refl))
-    by_result (Err (stops.Broker name)) h = (v, read, inr (final, h, refl))
-    by_result (Err (stops.Moments fault)) h = (v, read, inr (final, h, refl))
-    by_result (Err (stops.FaultWord i)) h = (v, read, inr (final, h, refl))
     by_result (Err (stops.Inventory fault)) h = absurd h.ends.1.1.1
+    by_result (Err _) h = (v, read, inr (final, h, refl))
 
   -- ---- by exit
 

@@ -1,5 +1,6 @@
 -- LiveOpening: the opening of a live run, and how it ends early: for `begin`.
 use Rattle.std.proofs.Common.{◌≡◌, ℕ, ◌⊎◌, inl, inr, Bool, List, [], ◌++◌, Option, Result, Ok, Err, arith, length, refl, sym, ap, ◌∙◌, subst}
+use Rattle.std.proofs.KnownBytes.{Appends-trans}
 use Rattle.std.specs.Io.KnownBytes.{Appends}
 use Rattle.std.specs.Result.{IfErr, IsErr, IsErrAnd}
 use Rattle.std.proofs.lemmas.List.{append-nil}
@@ -21,9 +22,11 @@ use Rattle.tick_runs.specs.LiveRun.{EndsEarly, IsLiveOpening, RunIsOpened}
 use Rattle.tick_runs.specs.Looking.{Looked, LooksAll, first_indices, looked_text}
 use Rattle.tick_runs.specs.Stops.{both}
 use Rattle.tick_runs.specs.Text.{short_need_lines}
-use Rattle.tick_runs.proofs.LookedUp.{left_alone, said_appends, same_credentials}
+use Rattle.tick_runs.proofs.LookedUp.{left_alone, same_credentials}
 use Rattle.tick_runs.proofs.Texts.{same_shorts}
-use Rattle.tick_runs.proofs.Written.{appends_then, front_then, whole_front}
+use Rattle.program_report.proofs.Pieces.{front_more}
+use Rattle.program_lines.proofs.LineByLine.{said_appends}
+use Rattle.tick_runs.proofs.Written.{whole_front}
 use Rattle.plan_forest.specs.Forest.{Forest}
 
 -- ---- after all lookups
@@ -61,16 +64,10 @@ module _ (port t : ℕ) (always : List Bool) (old : Looked) (inventory : Invento
       (keeper : CoreState) (shorts : List ℕ) (stop : Stop) → Replan (unplanned (from_start inventory always t).forest) t keeper → shorts ≡ short_need_lines keeper.forest keeper.shortened → SendsText (Err stop) shorts (change k b c) →
       EndsEarly port t always old stop (change k a c) middle
   unsent_early keeper shorts stops.Write planned is sends =
-      (subst (λ x. HasFailed x c.failed_calls) all.kept sends.0, inr (both (shorts_taken keeper) middle, lines ++ shorts, opening keeper shorts planned is, front_then _ _ _ lines shorts written sends.1, refl))
+      (subst (λ x. HasFailed x c.failed_calls) all.kept sends.0, inr (both (shorts_taken keeper) middle, lines ++ shorts, opening keeper shorts planned is, front_more _ _ _ lines shorts written sends.1, refl))
   unsent_early keeper shorts stops.Memory planned is sends =
-      inr (both (shorts_taken keeper) middle, lines ++ shorts, opening keeper shorts planned is, front_then _ _ _ lines shorts written sends.1, refl)
-  unsent_early keeper shorts stops.TooLong planned is sends = absurd sends
-  unsent_early keeper shorts stops.Read planned is sends = absurd sends
-  unsent_early keeper shorts (stops.Inventory fault) planned is sends = absurd sends
-  unsent_early keeper shorts (stops.Moments fault) planned is sends = absurd sends
-  unsent_early keeper shorts (stops.FaultWord x) planned is sends = absurd sends
-  unsent_early keeper shorts (stops.Broker name) planned is sends = absurd sends
-  unsent_early keeper shorts (stops.Line x) planned is sends = absurd sends
+      inr (both (shorts_taken keeper) middle, lines ++ shorts, opening keeper shorts planned is, front_more _ _ _ lines shorts written sends.1, refl)
+  unsent_early keeper shorts _ planned is sends = absurd sends
 
   pub opened :
       (keeper : CoreState) (shorts : List ℕ) → Replan (unplanned (from_start inventory always t).forest) t keeper → shorts ≡ short_need_lines keeper.forest keeper.shortened → IsAll shorts (change k b c) → c.failed_calls ≡ b.failed_calls →
@@ -79,7 +76,7 @@ module _ (port t : ℕ) (always : List Bool) (old : Looked) (inventory : Invento
     same = same_credentials port t old (first_indices (length old.inventory.forest.entries)) (record { inventory = inventory; behind = middle }) all.looked;
     text = lines ++ shorts;
     opened = opening keeper shorts planned is;
-    sent = (appends_then _ _ _ lines shorts written sends.0, sends.1);
+    sent = (Appends-trans _ _ _ lines shorts written sends.0, sends.1);
     kept = more ∙ all.kept;
   }
 

@@ -37,9 +37,7 @@ pub only_idle : (t : ℕ) (old new : CoreState) (output : Output) → CoreTurn o
 only_idle t old new (out.Ask asked) turn no_ask no_sleep = absurd (no_ask asked refl)
 only_idle t old new (out.Sleep w) turn no_ask no_sleep = absurd (no_sleep w refl)
 only_idle t old new out.Idle turn no_ask no_sleep = refl
-only_idle t old new out.Waiting turn no_ask no_sleep = absurd turn.1
-only_idle t old new (out.Round next) turn no_ask no_sleep = absurd turn.1
-only_idle t old new out.Planned turn no_ask no_sleep = absurd turn.1
+only_idle t old new _ turn no_ask no_sleep = absurd turn.1
 
 -- ---- a tick
 
@@ -179,11 +177,7 @@ round_as port cs t old new lent asked result out same h = subst (λ (is : List �
 pub need_stops :
     (old new : CoreState) (i at until : ℕ) (fault : StepFault) (stop : Stop) (behind : Option Behind) → at ≡ until → IsPlanFault fault → CoreTurn old (events.Need i at) (Err fault) new → stop ≡ stop_of fault →
     StopsNeed (both old behind) (Need i until) stop (both new behind)
-need_stops old new i at until steps.ClockBack stop behind same is turn e = absurd is
-need_stops old new i at until steps.RoundOpen stop behind same is turn e = absurd is
-need_stops old new i at until steps.NotAsked stop behind same is turn e = absurd is
-need_stops old new i at until steps.BadIndex stop behind same is turn e = absurd is
-need_stops old new i at until steps.OutOfRange stop behind same is turn e = absurd is
 need_stops old new i at until steps.TooLong stop behind same is turn e =
     subst (λ (q : Stop). StopsNeed (both old behind) (Need i until) q (both new behind)) (sym e) (subst (λ n. CoreTurn old (events.Need i n) (Err steps.TooLong) new) same turn, refl)
 need_stops old new i at until steps.OutOfMemory stop behind same is turn e = subst (λ (q : Stop). StopsNeed (both old behind) (Need i until) q (both new behind)) (sym e) tt
+need_stops old new i at until _ stop behind same is turn e = absurd is

@@ -3,6 +3,7 @@ use Rattle.std.specs.Prelude.{◌≢◌, is_none}
 use Rattle.std.specs.Result.{IsErr, IsErrAnd}
 use Rattle.std.proofs.Common.{◌≡◌, ℕ, zero, suc, ◌+◌, ◌<◌, ◌≤◌, ◌==◌, inl, inr, Bool, true, false, cond, List, [], ◌∷◌, ◌++◌, Option, Some, None, Result, Ok, Err, arith, flat_map, length, refl, sym, ap, ◌∙◌, subst}
 use Rattle.std.specs.List.{range_with_len}
+use Rattle.std.proofs.KnownBytes.{Appends-trans}
 use Rattle.std.specs.Io.KnownBytes.{Appends}
 use Rattle.std.proofs.lemmas.List.{append-nil, length-set}
 use Rattle.std.proofs.lemmas.Grind.{flat_map-append}
@@ -17,7 +18,9 @@ use Rattle.program_report.specs.declared.stop.Stop.{Stop}
 use Rattle.program_report.specs.declared.stop.Stop.TheVariants as stops
 use Rattle.program_report.specs.Sent.{IsUntouched}
 use Rattle.tick_runs.specs.Looking.{Applies, AreLookedUp, Looked, LookingIsCut, LooksAllUp, LooksOneUp, first_indices, looked_line, looked_text}
-use Rattle.tick_runs.proofs.Written.{appends_then, front_then, untouched_appends, whole_front}
+use Rattle.program_report.proofs.Pieces.{front_more}
+use Rattle.program_lines.proofs.LineByLine.{said_appends, untouched_appends}
+use Rattle.tick_runs.proofs.Written.{whole_front}
 use Rattle.plan_forest.specs.declared.entry.Entry.{Entry}
 use Rattle.plan_forest.specs.Forest.{entry_at}
 use Rattle.plan_forest.proofs.Entries.{entry_at_set_other}
@@ -105,10 +108,6 @@ no_text s = refl
 
 -- ---- what a device was sent
 
-pub said_appends : (x : List ℕ) (out : Change) → TextIsSaid x out → Appends out.old.output.written out.new.output.written x
-said_appends x out (inl all) = all.0
-said_appends x out (inr none) = subst (Appends out.old.output.written out.new.output.written) (sym none.0) (untouched_appends out none.1)
-
 said_still : (a b c : Seen) (k : Bool) (x : List ℕ) → TextIsSaid x (change k a b) → IsUntouched (change k b c) → TextIsSaid x (change k a c)
 said_still a b c k x said none = subst (λ (s : Seen). TextIsSaid x (change k a s)) (sym none) said
 
@@ -151,7 +150,7 @@ module _ (port t : ℕ) (old : Looked) (i : ℕ) (mid : Inventory) (middle : Opt
     count = (told_by port t now i new after one.0).count ∙ g.count;
     looked = looked_on new after one.0;
     said = inl (
-      subst (Appends a.output.written c.output.written) (sym (text_on new after one.0)) (appends_then _ _ _ (looked_text mid (first_indices i)) (looked_line new i) (said_appends (looked_text mid (first_indices i)) (change k a b) g.said) one.1.0),
+      subst (Appends a.output.written c.output.written) (sym (text_on new after one.0)) (Appends-trans _ _ _ (looked_text mid (first_indices i)) (looked_line new i) (said_appends (looked_text mid (first_indices i)) (change k a b) g.said) one.1.0),
       one.1.1,
     );
     kept = one.2 ∙ g.kept;
@@ -164,14 +163,14 @@ module _ (port t : ℕ) (old : Looked) (i : ℕ) (mid : Inventory) (middle : Opt
   cut_here none = record {
     within = g.within;
     looked = g.looked;
-    front = subst (AppendsFront a.output.written c.output.written) (append-nil (looked_text mid (first_indices i))) (whole_front a.output.written c.output.written (looked_text mid (first_indices i)) [] (subst (Appends a.output.written c.output.written) (append-nil (looked_text mid (first_indices i))) (appends_then _ _ _ (looked_text mid (first_indices i)) [] all_said none)));
+    front = subst (AppendsFront a.output.written c.output.written) (append-nil (looked_text mid (first_indices i))) (whole_front a.output.written c.output.written (looked_text mid (first_indices i)) [] (subst (Appends a.output.written c.output.written) (append-nil (looked_text mid (first_indices i))) (Appends-trans _ _ _ (looked_text mid (first_indices i)) [] all_said none)));
   }
 
   cut_next : (new : Inventory) (after : Option Behind) → Applies port t now i new after → AppendsFront b.output.written c.output.written (looked_line new i) → LookingIsCut port t old (record { inventory = new; behind = after }) (i + 1) (change k a c)
   cut_next new after one front = record {
     within = (let e = g.count in omega arith);
     looked = looked_on new after one;
-    front = subst (AppendsFront a.output.written c.output.written) (sym (text_on new after one)) (front_then _ _ _ (looked_text mid (first_indices i)) (looked_line new i) all_said front);
+    front = subst (AppendsFront a.output.written c.output.written) (sym (text_on new after one)) (front_more _ _ _ (looked_text mid (first_indices i)) (looked_line new i) all_said front);
   }
 
   pub ends :
@@ -188,12 +187,7 @@ module _ (port t : ℕ) (old : Looked) (i : ℕ) (mid : Inventory) (middle : Opt
   ends stops.Write new after one = (i + 1, record { inventory = new; behind = after }, cut_next new after one.0 one.2, refl, subst (λ x. HasFailed x c.failed_calls) g.kept one.1)
   ends stops.Memory new after (inl one) = (i, now, cut_here (untouched_appends (change k b c) one.0), one.1)
   ends stops.Memory new after (inr one) = (i + 1, record { inventory = new; behind = after }, cut_next new after one.0 one.1, left_alone port after t new (i + 1) after refl)
-  ends stops.TooLong new after one = absurd one
-  ends stops.Read new after one = absurd one
-  ends (stops.Inventory fault) new after one = absurd one
-  ends (stops.Moments fault) new after one = absurd one
-  ends (stops.FaultWord x) new after one = absurd one
-  ends (stops.Line x) new after one = absurd one
+  ends _ new after one = absurd one
 
 pub looking_stops :
     (port t : ℕ) (old : Looked) (i : ℕ) (mid : Inventory) (middle : Option Behind) (a b c : Seen) (k : Bool) (new : Inventory) (after : Option Behind) (result : Result (Unit {0}) Stop) (stop : Stop) →

@@ -16,7 +16,6 @@ use Rattle.plan_forest.specs.Renewal.{all_last, capped, renewal}
 use Rattle.plan_forest.proofs.Chains.{chain_same}
 use Rattle.plan_forest.proofs.Entries.{entry_at_set_other, entry_at_set_same}
 use Rattle.plan_forest.proofs.Placed.{parents_first, read_range, read_step, replaced_is_forest, replaces_read}
-use Rattle.plan_rule.proofs.Alive.{alive_from_last, last_from_alive}
 use Rattle.vault_inventory.specs.Inventories.{IsInventory, Inventory, credential_at, terms_at}
 use Rattle.vault_inventory.specs.declared.terms.Terms.{Terms}
 use Rattle.broker_rule.specs.declared.row.Row.{Row}
@@ -79,11 +78,6 @@ ended_alive g forest t i end within before after j =
           ∙ ap (λ n. nat_le (t + 1) (entry_at g.entries n).end) (sym here)
       | inr apart ↦ ap (λ (e : Entry). nat_le (t + 1) e.end) (ended_other g i end a apart)
     ])
-
-pub alive_before : (g : Forest) (t m i : ℕ) → t ≤ m → is_entry_alive g m i ≡ true → is_entry_alive g t i ≡ true
-unfolding is_entry_alive
-alive_before g t m i le alive =
-    last_from_alive g.entries (end_of g.entries) t i (λ a over. let l : m < end_of g.entries a = alive_from_last g.entries (end_of g.entries) m i alive a over in omega arith)
 
 -- ---- the rows
 

@@ -18,6 +18,7 @@ use Rattle.tick_runs.specs.Closed.{AreAnswered, Beat, Exchanged, RequestIsAnswer
 use Rattle.tick_runs.proofs.Goes.{wakes_join}
 use Rattle.tick_runs.proofs.OneAnswer.{answers_for}
 use Rattle.tick_runs.proofs.Refusing.{answer_steps}
+use Rattle.tick_runs.proofs.Running.{nobody_answers}
 
 -- the next tick, if there is one, is at the first moment of the plan in force
 abbrev AtNext : CoreState → Option ℕ → Type 0
@@ -52,10 +53,7 @@ answer_closes old new event out.Waiting before closes step = waits_on old new be
 answer_closes old new event (out.Round next) before closes step =
     let made = step.1.1.1.0 in
     closes_at new next (ap (λ (s : CoreState). s.round) made.is) (planned_next (state_after_answer old event step.0.at None) step.0.at new next made step.1.1.1.1)
-answer_closes old new event out.Idle before closes step = absurd step
-answer_closes old new event (out.Sleep w) before closes step = absurd step
-answer_closes old new event (out.Ask asked) before closes step = absurd step
-answer_closes old new event out.Planned before closes step = absurd step
+answer_closes old new event _ before closes step = absurd step
 
 taken_closes : (s : CoreState) (next : Option ℕ) → Closes s next → Closes (shorts_taken s) next
 taken_closes s None closes = tt
@@ -77,24 +75,17 @@ all_close port cs t (x ∷ xs) old new before closes answers =
 
 -- ---- ticks
 
-nobody : (xs : List Exchanged) → map (λ (y : Exchanged). y.entry) xs ≡ [] → xs ≡ []
-nobody [] e = refl
-nobody (x ∷ xs) e = absurd cc
-
 beat_next :
     (port : ℕ) (cs : List (List ℕ)) (t : ℕ) (output : Output) (xs : List Exchanged) (old keeper : CoreState) (begun new : World) → begun.keeper ≡ shorts_taken keeper → CoreTurn old (Tick t) (Ok output) keeper →
     map (λ (y : Exchanged). y.entry) xs ≡ asked_by_output output → AreAnswered port cs t begun xs new → AtNext new.keeper (next_by output xs)
 beat_next port cs t (out.Ask asked) xs old keeper begun new is turn who answers = at_next new.keeper (closing None xs) (all_close port cs t xs begun new None tt answers)
 beat_next port cs t (out.Sleep w) xs old keeper begun new is turn who answers =
-    let none = nobody xs who in
+    let none = nobody_answers xs who in
     let stays : new ≡ begun = subst (λ ys. AreAnswered port cs t begun ys new) none answers in
     let step = turn.1 in
     let at : AtNext keeper (Some w) = (replan_force old t keeper step.0, step.1.0) in
     subst (λ (s : CoreState). AtNext s (Some w)) (sym (ap (λ (v : World). v.keeper) stays ∙ is)) at
-beat_next port cs t out.Idle xs old keeper begun new is turn who answers = tt
-beat_next port cs t out.Waiting xs old keeper begun new is turn who answers = tt
-beat_next port cs t (out.Round next) xs old keeper begun new is turn who answers = tt
-beat_next port cs t out.Planned xs old keeper begun new is turn who answers = tt
+beat_next port cs t _ xs old keeper begun new is turn who answers = tt
 
 run_next : (port : ℕ) (cs : List (List ℕ)) (b : Beat) (bs : List Beat) (old new : World) (due next : Option ℕ) → Played port cs old due (b ∷ bs) new next → AtNext new.keeper next
 run_next port cs b bs old new None next played = absurd played

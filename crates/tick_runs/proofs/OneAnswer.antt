@@ -1,5 +1,5 @@
 -- One answer, from what the calls of its code say.
-use Rattle.std.proofs.Common.{◌≡◌, ℕ, ◌++◌, Bool, true, false, cond, List, Option, Some, None, IfSome, Result, Ok, Err, bytes_eq, refl, ap, ◌∙◌, sym, subst, ◌==◌}
+use Rattle.std.proofs.Common.{◌≡◌, ℕ, ◌++◌, Bool, true, false, cond, List, Option, Some, None, IfSome, Ok, refl, ap, ◌∙◌, sym, subst, ◌==◌}
 use Rattle.std.proofs.lemmas.List.{append_assoc}
 use Rattle.plan_forest.specs.declared.entry.Kind.{Kind}
 use Rattle.vault_json.specs.declared.renewed.Renewed.{Renewed}
@@ -12,7 +12,7 @@ use Rattle.vault_exchange.specs.Heard.{renewed_in}
 use Rattle.vault_exchange.specs.Requests.{RequestIsAsked, renewal_request}
 use Rattle.tick_keeper.specs.LawsOfSteps.{IsShaped}
 use Rattle.tick_keeper.specs.declared.event.Event.{Event}
-use Rattle.tick_keeper.specs.declared.event.Event.TheVariants.{Told, Refused, Lost}
+use Rattle.tick_keeper.specs.declared.event.Event.TheVariants.{Refused, Lost}
 use Rattle.tick_keeper.specs.declared.event.Output.{Output}
 use Rattle.tick_keeper.specs.History.{CoreTurn}
 use Rattle.tick_keeper.specs.State.{CoreState}

@@ -4,7 +4,7 @@ use Rattle.plan_forest.specs.Forest.{Forest}
 use Rattle.tick_keeper.specs.Replan.{PlanFails, Replan, ReplanTooLong}
 use Rattle.tick_keeper.specs.State.{CoreState, unplanned}
 use Rattle.tick_keeper.specs.declared.fault.StepFault.{StepFault}
-use Rattle.tick_keeper.specs.declared.fault.StepFault.TheVariants.{ClockBack, RoundOpen, NotAsked, BadIndex, OutOfRange, TooLong, OutOfMemory}
+use Rattle.tick_keeper.specs.declared.fault.StepFault.TheVariants.{TooLong, OutOfMemory}
 use Rattle.program_report.specs.declared.stop.Stop.{Stop}
 use Rattle.program_report.specs.declared.stop.Stop.TheVariants as stops
 use Rattle.tick_runs.specs.code.Playing.{IsPlanFault, stop_of}
@@ -12,20 +12,12 @@ use Rattle.tick_runs.specs.code.Playing.{IsPlanFault, stop_of}
 plan_fault : (g : Forest) (t : ℕ) (fault : StepFault) → PlanFails g t fault → IsPlanFault fault
 plan_fault g t TooLong fails = tt
 plan_fault g t OutOfMemory fails = tt
-plan_fault g t ClockBack fails = absurd fails
-plan_fault g t RoundOpen fails = absurd fails
-plan_fault g t NotAsked fails = absurd fails
-plan_fault g t BadIndex fails = absurd fails
-plan_fault g t OutOfRange fails = absurd fails
+plan_fault g t _ fails = absurd fails
 
 stops_long : (g : Forest) (t : ℕ) (fault : StepFault) (stop : Stop) → PlanFails g t fault → stop ≡ stop_of fault → (stop ≡ stops.Memory) ⊎ ((stop ≡ stops.TooLong) × ReplanTooLong g t)
 stops_long g t TooLong stop fails is = inr (is, fails)
 stops_long g t OutOfMemory stop fails is = inl is
-stops_long g t ClockBack stop fails is = absurd fails
-stops_long g t RoundOpen stop fails is = absurd fails
-stops_long g t NotAsked stop fails is = absurd fails
-stops_long g t BadIndex stop fails is = absurd fails
-stops_long g t OutOfRange stop fails is = absurd fails
+stops_long g t _ stop fails is = absurd fails
 
 same_keeper : (a b : CoreState) → ◌≡◌ {A = Result CoreState Stop} (Ok a) (Ok b) → a ≡ b
 same_keeper a b is = cc

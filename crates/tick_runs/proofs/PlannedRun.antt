@@ -94,7 +94,6 @@ planned_rehearsal bytes inventory start p exits.TooLong out old new read late de
     let same = one_inventory start bytes inventory run.0 read run.2.read in
     let none = none_written run.1 run.2.faults_are in
     not_long bytes inventory start p out new read late decides few (subst (λ s. RunsLong s [] start out new) same (subst (λ fs. RunsLong run.0 fs start out new) none run.3))
-planned_rehearsal bytes inventory start p exits.Device out old new read late decides few run = tt
-planned_rehearsal bytes inventory start p exits.Memory out old new read late decides few run = tt
 planned_rehearsal bytes inventory start p exits.Unkeepable out old new read late decides few run = absurd run
 planned_rehearsal bytes inventory start p exits.No out old new read late decides few run = absurd run
+planned_rehearsal bytes inventory start p _ out old new read late decides few run = tt

@@ -13,7 +13,7 @@ use Rattle.plan_rule.specs.Schedule.{RisesStrictly}
 use Rattle.plan_forest.specs.declared.entry.Entry.{Entry}
 use Rattle.vault_inventory.specs.Inventories.{credential_at}
 use Rattle.tick_keeper.specs.declared.event.Event.{Event}
-use Rattle.tick_keeper.specs.declared.event.Event.TheVariants.{Tick, Told, Refused, Lost, Need}
+use Rattle.tick_keeper.specs.declared.event.Event.TheVariants.{Tick, Told, Need}
 use Rattle.tick_keeper.specs.declared.event.Output.{Output}
 use Rattle.tick_keeper.specs.declared.event.Output.TheVariants as out
 use Rattle.tick_keeper.specs.declared.fault.StepFault.{StepFault}
@@ -36,7 +36,7 @@ use Rattle.tick_runs.specs.Replies.{IsAnswerOf, event_for}
 use Rattle.tick_runs.specs.Stops.{NeverRefusedLaw, StepIsTaken}
 use Rattle.tick_runs.proofs.Midway.{filter_rises, here_first, without_first}
 use Rattle.tick_runs.proofs.OneAnswer.{answers_for}
-use Rattle.tick_runs.proofs.Running.{within_last}
+use Rattle.tick_runs.proofs.Running.{nobody_answers, within_last}
 use Rattle.tick_runs.proofs.Within.{asked_within}
 
 -- no round is open, and the next tick comes, if there is one
@@ -84,10 +84,9 @@ answer_free s i (Told j seconds renewable) within waits of span =
     let small : seconds ≤ 4294967295 = span in
     let b : nat_lt 4294967295 seconds ≡ false = grind (arith, nat_tests) in
     cond-false (nat_lt 4294967295 seconds) _ (unless_waited_for s j) b ∙ ap (unless_waited_for s) of.1 ∙ asked_free s i within waits
-answer_free s i (Refused j) within waits of span = ap (unless_waited_for s) of.1 ∙ asked_free s i within waits
-answer_free s i (Lost j) within waits of span = ap (unless_waited_for s) of.1 ∙ asked_free s i within waits
 answer_free s i (Tick u) within waits of span = absurd of.0
 answer_free s i (Need j until) within waits of span = absurd of.0
+answer_free s i _ within waits of span = ap (unless_waited_for s) of.1 ∙ asked_free s i within waits
 
 free_taken :
     (s : CoreState) (event : Event) → step_refusal s event ≡ None → (StepTooLong s event → ⊥) → (result : Result Output StepFault) (new : CoreState) → CoreTurn s event result new → StepIsTaken result
@@ -104,11 +103,8 @@ pub tick_taken : (s : CoreState) (t : ℕ) → s.round ≡ None → MayCome s.la
 tick_taken s t closed comes = free_taken s (Tick t) (tick_free s t closed comes) (λ long. long)
 
 answer_short : (s : CoreState) (event : Event) → IsAnswerEvent event → StepTooLong s event → ⊥
-answer_short s (Told j seconds renewable) is long = long
-answer_short s (Refused j) is long = long
-answer_short s (Lost j) is long = long
-answer_short s (Tick u) is long = long
 answer_short s (Need j until) is long = is
+answer_short s _ is long = long
 
 pub answer_taken :
     (s : CoreState) (i : ℕ) (event : Event) → i < length s.forest.entries → waits_for s.round i ≡ true → IsAnswerOf i event → TellsSpan event →
@@ -118,12 +114,7 @@ answer_taken s i event within waits of span = free_taken s event (answer_free s 
 -- what is refused for lack of memory alone stops a run as just that
 pub taken_stop : (fault : StepFault) → StepIsTaken (Err fault) → IsPlanFault fault × (stop_of fault ≡ stops.Memory)
 taken_stop OutOfMemory is = (tt, refl)
-taken_stop TooLong is = absurd is
-taken_stop ClockBack is = absurd is
-taken_stop RoundOpen is = absurd is
-taken_stop NotAsked is = absurd is
-taken_stop BadIndex is = absurd is
-taken_stop OutOfRange is = absurd is
+taken_stop _ is = absurd is
 
 -- a new need is refused because the plan would be too long, or for lack of memory
 pub need_fault :
@@ -140,31 +131,24 @@ need_fault s i until fault new within late closed turn = by_fault fault turn whe
   free = cond-false (nat_lt LAST until) _ _ a ∙ cond-false (nat_le (length s.forest.entries) i) _ _ b ∙ ap (λ o. unless_closed (record s { round = o })) closed
 
   by_fault : (f : StepFault) → CoreTurn s (Need i until) (Err f) new → IsPlanFault f
-  by_fault TooLong turn' = tt
-  by_fault OutOfMemory turn' = tt
   by_fault ClockBack turn' = absurd (let bad : None ≡ Some ClockBack = sym free ∙ turn'.0 in cc)
   by_fault RoundOpen turn' = absurd (let bad : None ≡ Some RoundOpen = sym free ∙ turn'.0 in cc)
   by_fault NotAsked turn' = absurd (let bad : None ≡ Some NotAsked = sym free ∙ turn'.0 in cc)
   by_fault BadIndex turn' = absurd (let bad : None ≡ Some BadIndex = sym free ∙ turn'.0 in cc)
   by_fault OutOfRange turn' = absurd (let bad : None ≡ Some OutOfRange = sym free ∙ turn'.0 in cc)
+  by_fault _ turn' = tt
 
 -- it leaves no round open
 pub needed_closed : (old : CoreState) (i until : ℕ) (output : Output) (new : CoreState) → old.round ≡ None → CoreTurn old (Need i until) (Ok output) new → new.round ≡ None
 needed_closed old i until out.Planned new closed turn = (replanned (with_new_need old i until) old.last new closed turn.1).0
-needed_closed old i until out.Idle new closed turn = absurd turn.1
-needed_closed old i until (out.Sleep w) new closed turn = absurd turn.1
-needed_closed old i until (out.Ask asked) new closed turn = absurd turn.1
-needed_closed old i until out.Waiting new closed turn = absurd turn.1
-needed_closed old i until (out.Round next) new closed turn = absurd turn.1
+needed_closed old i until _ new closed turn = absurd turn.1
 
 -- ---- an answer
 
 pub answer_steps : (old new : CoreState) (event : Event) (output : Output) → IsAnswerEvent event → CoreTurn old event (Ok output) new → StepAnswer old event output new
-answer_steps old new (Told j seconds renewable) output is turn = turn.1
-answer_steps old new (Refused j) output is turn = turn.1
-answer_steps old new (Lost j) output is turn = turn.1
 answer_steps old new (Tick u) output is turn = absurd is
 answer_steps old new (Need j until) output is turn = absurd is
+answer_steps old new _ output is turn = turn.1
 
 change_count : (g : Forest) (i : ℕ) (f : Entry → Entry) → length (with_entry_changed g i f).entries ≡ length g.entries
 change_count g i f = length-set g.entries i (f (entry_at g.entries i))
@@ -213,10 +197,7 @@ answer_leads old new t i (j ∷ more) event (out.Round next) before a is step =
     let parts = round_is old t (i ∷ j ∷ more) round a.round step.1.0 in
     let gone : without_index (entry_of_event event) round.unanswered ≡ j ∷ more = ap (λ k. without_index k round.unanswered) is ∙ ap (without_index i) parts.1 ∙ without_first i (j ∷ more) a.rises.1 in
     absurd (let bad : j ∷ more ≡ [] = sym gone ∙ step.1.1.0 in cc)
-answer_leads old new t i todo event (out.Sleep w) before a is step = absurd step
-answer_leads old new t i todo event out.Idle before a is step = absurd step
-answer_leads old new t i todo event (out.Ask asked) before a is step = absurd step
-answer_leads old new t i todo event out.Planned before a is step = absurd step
+answer_leads old new t i todo event _ before a is step = absurd step
 
 waits_taken : (s : CoreState) (t : ℕ) (todo : List ℕ) → RoundWaits s t todo → RoundWaits (shorts_taken s) t todo
 waits_taken s t todo a = record { round = a.round; last = a.last; low = a.low; rises = a.rises; within = a.within }
@@ -312,9 +293,7 @@ tick_leaves old k new t (out.Sleep w) closed state turn is =
     let comes : MayCome k.last (Some w) = comes_at t k.last (Some w) anew.1.0 (subst (MayCome t) turn.1.1.0 anew.1.1) in
     subst (λ (s : CoreState). (s.round ≡ None) × MayCome s.last (Some w)) (sym is) (anew.0, comes)
 tick_leaves old k new t out.Idle closed state turn is = let anew = replanned old t k closed turn.1.0 in ap (λ (s : CoreState). s.round) is ∙ anew.0
-tick_leaves old k new t out.Waiting closed state turn is = absurd turn.1
-tick_leaves old k new t (out.Round next) closed state turn is = absurd turn.1
-tick_leaves old k new t out.Planned closed state turn is = absurd turn.1
+tick_leaves old k new t _ closed state turn is = absurd turn.1
 
 pub leaves_asked : (t : ℕ) (output : Output) (asked : List ℕ) (new : CoreState) → output ≡ out.Ask asked → TickLeaves t output new → RoundWaits new t asked × (asked ≢ [])
 leaves_asked t output asked new is leaves = subst (λ (o : Output). TickLeaves t o new) is leaves
@@ -326,34 +305,23 @@ pub leaves_closed :
     (t : ℕ) (output : Output) (new : CoreState) → ((asked : List ℕ) → output ≡ out.Ask asked → ⊥) → ((w : ℕ) → output ≡ out.Sleep w → ⊥) → TickLeaves t output new → new.round ≡ None
 leaves_closed t (out.Ask asked) new no_ask no_sleep leaves = absurd (no_ask asked refl)
 leaves_closed t (out.Sleep w) new no_ask no_sleep leaves = absurd (no_sleep w refl)
-leaves_closed t out.Idle new no_ask no_sleep leaves = leaves
-leaves_closed t out.Waiting new no_ask no_sleep leaves = leaves
-leaves_closed t (out.Round next) new no_ask no_sleep leaves = leaves
-leaves_closed t out.Planned new no_ask no_sleep leaves = leaves
-
-nobody : (xs : List Exchanged) → map (λ (y : Exchanged). y.entry) xs ≡ [] → xs ≡ []
-nobody [] e = refl
-nobody (x ∷ xs) e = absurd cc
+leaves_closed t _ new no_ask no_sleep leaves = leaves
 
 beat_rests :
     (port : ℕ) (cs : List (List ℕ)) (t : ℕ) (output : Output) (xs : List Exchanged) (old : CoreState) (keeper : CoreState) (start new : World) → old.round ≡ None → start.keeper ≡ shorts_taken keeper →
     CoreTurn old (Tick t) (Ok output) keeper → map (λ (y : Exchanged). y.entry) xs ≡ asked_by_output output → AreAnswered port cs t start xs new → Rests new.keeper (next_by output xs)
-beat_rests port cs t out.Idle xs old keeper start new closed is turn who answers = tt
 beat_rests port cs t (out.Sleep w) xs old keeper start new closed is turn who answers =
-    let none = nobody xs who in
+    let none = nobody_answers xs who in
     let stays : new ≡ start = subst (λ ys. AreAnswered port cs t start ys new) none answers in
     let step = turn.1 in
     let anew = replanned old t keeper closed step.0 in
     let rests : Rests keeper (Some w) = (anew.0, comes_at t keeper.last (Some w) anew.1.0 (subst (MayCome t) step.1.0 anew.1.1)) in
     subst (λ (s : CoreState). Rests s (Some w)) (sym (ap (λ (v : World). v.keeper) stays ∙ is)) rests
-beat_rests port cs t (out.Ask asked) [] old keeper start new closed is turn who answers = tt
 beat_rests port cs t (out.Ask asked) (x ∷ xs) old keeper start new closed is turn who answers =
     let opens = tick_opens old t asked keeper turn in
     all_lead port cs t x xs start new None
     (subst (λ (s : CoreState). RoundWaits s t (map (λ (y : Exchanged). y.entry) (x ∷ xs))) (sym is) (waits_taken keeper t (map (λ (y : Exchanged). y.entry) (x ∷ xs)) (subst (RoundWaits keeper t) (sym who) opens))) answers
-beat_rests port cs t out.Waiting xs old keeper start new closed is turn who answers = tt
-beat_rests port cs t (out.Round next) xs old keeper start new closed is turn who answers = tt
-beat_rests port cs t out.Planned xs old keeper start new closed is turn who answers = tt
+beat_rests port cs t _ _ old keeper start new closed is turn who answers = tt
 
 run_rests : (port : ℕ) (cs : List (List ℕ)) (bs : List Beat) (old new : World) (due next : Option ℕ) → Rests old.keeper due → Played port cs old due bs new next → Rests new.keeper next
 run_rests port cs [] old new due next rests played = subst (λ (w : World). Rests w.keeper next) (sym played.0) (subst (Rests old.keeper) (sym played.1) rests)

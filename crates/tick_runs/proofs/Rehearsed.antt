@@ -118,12 +118,7 @@ rehearsed found words inventory faults start k lines (Err stops.TooLong) new lef
     )
 rehearsed found words inventory faults start k lines (Err stops.Write) new left out old called r lines_are p is = (p.0, front_written found words inventory faults start k lines out called r lines_are p.1)
 rehearsed found words inventory faults start k lines (Err stops.Memory) new left out old called r lines_are p is = inr (front_written found words inventory faults start k lines out called r lines_are p)
-rehearsed found words inventory faults start k lines (Err stops.Read) new left out old called r lines_are p is = absurd p
-rehearsed found words inventory faults start k lines (Err (stops.Inventory fault)) new left out old called r lines_are p is = absurd p
-rehearsed found words inventory faults start k lines (Err (stops.Moments fault)) new left out old called r lines_are p is = absurd p
-rehearsed found words inventory faults start k lines (Err (stops.FaultWord n)) new left out old called r lines_are p is = absurd p
-rehearsed found words inventory faults start k lines (Err (stops.Broker name)) new left out old called r lines_are p is = absurd p
-rehearsed found words inventory faults start k lines (Err (stops.Line n)) new left out old called r lines_are p is = absurd p
+rehearsed found words inventory faults start k lines (Err _) new left out old called r lines_are p is = absurd p
 
 -- ---- by exit
 
@@ -133,10 +128,7 @@ run_stopped found start words (stops.FaultWord n) out old new r = (r.0, r.1, n, 
 run_stopped found start words stops.TooLong out old new r = r
 run_stopped found start words stops.Write out old new r = r
 run_stopped found start words stops.Memory out old new r = r
-run_stopped found start words stops.Read out old new r = absurd r
-run_stopped found start words (stops.Moments fault) out old new r = absurd r
-run_stopped found start words (stops.Broker name) out old new r = absurd r
-run_stopped found start words (stops.Line n) out old new r = absurd r
+run_stopped found start words _ out old new r = absurd r
 
 pub stopped_told :
     (found : Result Inventory InvFault) (start : ℕ) (words : List (List ℕ)) (stop : Stop) (out errors : Change) (old new : Behind) → RehearsesTo found start words (Err stop) out old new → Reports (line_of_stop stop) errors →
@@ -146,10 +138,7 @@ stopped_told found start words (stops.FaultWord n) out errors old new r told = (
 stopped_told found start words stops.TooLong out errors old new r told = told
 stopped_told found start words stops.Write out errors old new r told = told
 stopped_told found start words stops.Memory out errors old new r told = told
-stopped_told found start words stops.Read out errors old new r told = absurd r
-stopped_told found start words (stops.Moments fault) out errors old new r told = absurd r
-stopped_told found start words (stops.Broker name) out errors old new r told = absurd r
-stopped_told found start words (stops.Line n) out errors old new r told = absurd r
+stopped_told found start words _ out errors old new r told = absurd r
 
 -- ---- what the calls of the code give
 

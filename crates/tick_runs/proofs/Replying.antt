@@ -1,5 +1,5 @@
 -- The reply to a renewal that was granted: the keeper is told the renewal rule's end.
-use Rattle.std.proofs.Common.{◌≡◌, ◌==◌, ℕ, ◌-◌, ◌<◌, ◌≤◌, true, List, Option, Some, None, IsUtf8, bytes_eq, length, min, refl, ap, ◌∙◌, arith}
+use Rattle.std.proofs.Common.{◌≡◌, ◌==◌, ℕ, ◌-◌, ◌<◌, ◌≤◌, true, List, Some, None, IsUtf8, bytes_eq, length, min, refl, ap, ◌∙◌, arith}
 use Rattle.std.proofs.lemmas.Bool.{cond-true}
 use Rattle.std.specs.Cmp.Lexicographic.{bytes_decides}
 use Rattle.base_moment.specs.declared.moment.TheConstants.{LAST}
@@ -24,7 +24,8 @@ use Rattle.vault_exchange.specs.Heard.{renewed_of_lease, renewed_of_token}
 use Rattle.vault_exchange.specs.Requests.{reply_in_served}
 use Rattle.tick_runs.proofs.Mirroring.{renewal_within}
 use Rattle.broker_rule.specs.Granted.{call_for}
-use Rattle.tick_runs.proofs.Serving.{credential_in, renewable_in, renewed_row}
+use Rattle.broker_table.proofs.Granting.{credential_in, renewable_in}
+use Rattle.tick_runs.proofs.Serving.{renewed_row}
 
 ok_is_told : (kind : Kind) (id : List ℕ) (i : ℕ) (r : Reply) → r.status ≡ 200 → event_of kind id i (Some r) ≡ told_by_body kind id i r.body
 unfolding event_of

@@ -110,6 +110,9 @@ event_is : (port : ℕ) (cs : List (List ℕ)) (g : Forest) (x : Exchanged) → 
 unfolding event_in
 event_is port cs g x = refl
 
+pub ok_same : (a b : Output) → ◌≡◌ {A = Result Output StepFault} (Ok a) (Ok b) → a ≡ b
+ok_same a b e = cc
+
 pub grants :
     (inventory : Inventory) (port : ℕ) (w new : World) (g h : Forest) (t : ℕ) (rest : List ℕ) (i : ℕ) (todo : List ℕ) (x : Exchanged) → InRound inventory w g h t rest (i ∷ todo) →
     RequestIsAnswered port inventory.credentials t w x new → x.entry ≡ i → IsGranted inventory h t rest i todo x new
@@ -158,9 +161,7 @@ grants inventory port w new g h t rest i todo x r a here =
       known = left.1.0;
       mirrors = subst (Mirrors (with_forest inventory k) t) (sym rows) (mirrors_listed (with_forest inventory k) supplied.forest t);
       none = ap (λ (l : BrokerTable). l.faults) table;
-    } where
-      ok_same : (a b : Output) → ◌≡◌ {A = Result Output StepFault} (Ok a) (Ok b) → a ≡ b
-      ok_same a b e = cc
+    }
 
 -- what a whole round leaves
 pub record RoundDone (inventory : Inventory) (g : Forest) (t : ℕ) (rest : List ℕ) (xs : List Exchanged) (before : Option ℕ) (new : World) : Type 0 where

@@ -30,7 +30,7 @@ use Rattle.tick_runs.specs.Closed.{AreAnswered, Beat, Exchanged, IsBeat, Played,
 use Rattle.tick_runs.specs.Laws.{IsQuietBeat, IsToldByRule}
 use Rattle.tick_runs.proofs.Asking.{asks_on}
 use Rattle.tick_runs.proofs.Midway.{midway_first, settled, waiting}
-use Rattle.tick_runs.proofs.Round.{AtRest, InRound, round_goes}
+use Rattle.tick_runs.proofs.Round.{AtRest, InRound, ok_same, round_goes}
 
 -- when the next tick is, by the plan in force at t
 abbrev pub Awaits : ℕ → List ℕ → Option ℕ → Type 0
@@ -109,7 +109,7 @@ moved inventory w v t ts r same = record {
   none = r.none;
 }
 
-nobody_answers : (xs : List Exchanged) → map (λ (x : Exchanged). x.entry) xs ≡ [] → xs ≡ []
+pub nobody_answers : (xs : List Exchanged) → map (λ (x : Exchanged). x.entry) xs ≡ [] → xs ≡ []
 nobody_answers [] e = refl
 nobody_answers (x ∷ xs) e = absurd cc
 
@@ -203,9 +203,6 @@ opens inventory port w new t rest b r le late all beat asks_is is =
           ∙ ap (λ n. n + requests_from done.rests.g u rest) (sym count);
       quiet = record { short = beat.short ∙ ap (λ (q : CoreState). q.shortened) is; told = done.told };
     }
-
-ok_same : (a b : Output) → ◌≡◌ {A = Result Output StepFault} (Ok a) (Ok b) → a ≡ b
-ok_same a b e = cc
 
 at_moment : (inventory : Inventory) (w : World) (t v u : ℕ) (rest : List ℕ) → AtRest inventory w t (v ∷ rest) → v ≡ u → AtRest inventory w t (u ∷ rest)
 at_moment inventory w t v u rest r same = record {
@@ -333,7 +330,7 @@ more_moments b bs rest = elim (asks_some b.output) as (λ c. map (λ (d : Beat).
   | false ↦ refl
 ]
 
-more_requests : (b : Beat) (bs : List Beat) → request_count (b ∷ bs) ≡ length b.answers + request_count bs
+pub more_requests : (b : Beat) (bs : List Beat) → request_count (b ∷ bs) ≡ length b.answers + request_count bs
 unfolding request_count
 more_requests b bs = sum_by-cons (λ (c : Beat). length c.answers) b bs
 

@@ -21,7 +21,7 @@ use Rattle.program_lines.specs.declared.event_line.Heard.TheVariants.{Need}
 use Rattle.tick_runs.specs.code.Telling.{IsRoundBroken, IsRoundCut, StopsNeed, TellsRound}
 use Rattle.tick_runs.specs.code.Playing.{Ticks}
 use Rattle.tick_runs.specs.Stops.{both}
-use Rattle.tick_runs.proofs.Written.{untouched_appends}
+use Rattle.program_lines.proofs.LineByLine.{untouched_appends}
 use Rattle.program_lines.specs.Hearing.{joined_changes}
 use Rattle.tick_runs.proofs.LineByLine.{all_then, appends, sent_then}
 use Rattle.tick_runs.proofs.ToldRounds.{so_far}
@@ -34,19 +34,13 @@ module _ (port : ℕ) (cs : List (List ℕ)) where
   pub stops_short :
       (old new : World) (heard : Heard) (told own : List ℕ) (stop : Stop) (a b : Change) → a.new ≡ b.old → IsSentWhole told a →
       IsHeardUpTo port cs old heard new told own → SendsText (Err stop) own b → HearsTo port cs old heard (Err stop) new (joined_changes a b)
-  stops_short old new heard told own (stops.Inventory fault) a b same before up_to sent = absurd sent
-  stops_short old new heard told own (stops.Moments fault) a b same before up_to sent = absurd sent
-  stops_short old new heard told own (stops.FaultWord n) a b same before up_to sent = absurd sent
-  stops_short old new heard told own stops.TooLong a b same before up_to sent = absurd sent
-  stops_short old new heard told own stops.Read a b same before up_to sent = absurd sent
   stops_short old new heard told own stops.Write a b same before up_to sent = (
     subst (λ n. HasFailed n b.new.failed_calls) (sym (ap (λ (s : Seen). s.failed_calls) same) ∙ before.1) sent.0,
     record { told = told; own = own; up_to = up_to; n = sent.1.0; front = appends a b same told (take sent.1.0 own) before.0.0 sent.1.1 },
   )
-  stops_short old new heard told own (stops.Broker name) a b same before up_to sent = absurd sent
-  stops_short old new heard told own (stops.Line n) a b same before up_to sent = absurd sent
   stops_short old new heard told own stops.Memory a b same before up_to sent =
       inr (inr (sent.0, record { told = told; own = own; up_to = up_to; n = sent.1.0; front = appends a b same told (take sent.1.0 own) before.0.0 sent.1.1 }))
+  stops_short old new heard told own _ a b same before up_to sent = absurd sent
 
   -- the write of its first lines is
   pub stops_at_once :
@@ -107,16 +101,10 @@ module _ (port : ℕ) (cs : List (List ℕ)) where
     }
 
     pub round_stops : (stop : Stop) → TellsRound port cs t (both k o) asked (Err stop) (both final new) b → HearsTo port cs (both old o) (heards.Tick t) (Err stop) (both final new) (joined_changes a b)
-    round_stops (stops.Inventory fault) h = absurd h
-    round_stops (stops.Moments fault) h = absurd h
-    round_stops (stops.FaultWord n) h = absurd h
-    round_stops stops.TooLong h = absurd h
-    round_stops stops.Read h = absurd h
     round_stops stops.Write h = (subst (λ n. HasFailed n b.new.failed_calls) (sym (ap (λ (s : Seen). s.failed_calls) same) ∙ before.1) h.0, round_cut h.1)
-    round_stops (stops.Broker name) h = absurd h
-    round_stops (stops.Line n) h = absurd h
     round_stops stops.Memory (inl h) = inr (inl (round_broken h))
     round_stops stops.Memory (inr h) = inr (inr (h.0, round_cut h.1))
+    round_stops _ h = absurd h
 
     -- memory was wanting after the round
     pub round_memory : (next : Option ℕ) → TellsRound port cs t (both k o) asked (Ok next) (both final new) b → HearsTo port cs (both old o) (heards.Tick t) (Err stops.Memory) (both final new) (joined_changes a b)
@@ -144,18 +132,12 @@ module _ (port : ℕ) (cs : List (List ℕ)) (o : Option Behind) (old new : Core
   pub need_halts :
       (i until : ℕ) (heard : Heard) (stop : Stop) (out : Change) → heard ≡ Need i until → out.new ≡ out.old →
       StopsNeed (both old o) (Need i until) stop (both new o) → HearsTo port cs (both old o) heard (Err stop) (both new o) out
-  need_halts i until heard (stops.Inventory fault) out is same h = absurd h
-  need_halts i until heard (stops.Moments fault) out is same h = absurd h
-  need_halts i until heard (stops.FaultWord n) out is same h = absurd h
   need_halts i until heard stops.TooLong out is same h = (
     subst (λ (q : Heard). NeedIsOverlong (both old o) q (both new o)) (sym is) h,
     same,
   )
-  need_halts i until heard stops.Read out is same h = absurd h
-  need_halts i until heard stops.Write out is same h = absurd h
-  need_halts i until heard (stops.Broker name) out is same h = absurd h
-  need_halts i until heard (stops.Line n) out is same h = absurd h
   need_halts i until heard stops.Memory out is same h = inl (subst (λ (q : Heard). HearingMayWantMemory old q) (sym is) tt, (refl, untouched_appends out same))
+  need_halts i until heard _ out is same h = absurd h
 
   -- the lines of a need are sent
   pub need_sent :

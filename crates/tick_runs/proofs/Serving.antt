@@ -3,7 +3,7 @@ use Rattle.std.proofs.Common.{◌≡◌, ℕ, ◌+◌, ◌<◌, true, [], None, 
 use Rattle.std.proofs.lemmas.Bool.{and_from}
 use Rattle.plan_forest.specs.Forest.{end_of, entry_at}
 use Rattle.plan_forest.specs.Renewal.{all_last, is_granted, renewal}
-use Rattle.vault_inventory.specs.Inventories.{IsInventory, Inventory, credential_at}
+use Rattle.vault_inventory.specs.Inventories.{IsInventory, Inventory}
 use Rattle.broker_rule.specs.declared.row.Row.{Row}
 use Rattle.broker_rule.specs.Faults.{fault_at, next_number, without_fault}
 use Rattle.broker_rule.specs.Granted.{call_for}
@@ -20,14 +20,6 @@ use Rattle.broker_alike.proofs.Asking.{asks_renewal}
 -- the row of i, renewed at t
 abbrev pub renewed_row : Inventory → ℕ → ℕ → Row
 renewed_row s t i = record (broker_row s i) { end = renewal (entry_at s.forest.entries i) t }
-
-pub credential_in : (s : Inventory) (i : ℕ) → (broker_row s i).credential ≡ credential_at s.credentials i
-unfolding broker_row
-credential_in s i = refl
-
-pub renewable_in : (s : Inventory) (i : ℕ) → (broker_row s i).renewable ≡ (entry_at s.forest.entries i).renewable
-unfolding broker_row
-renewable_in s i = refl
 
 -- ---- what is granted
 

@@ -6,7 +6,7 @@ use Rattle.vault_inventory.specs.Inventories.{Inventory, credential_at}
 use Rattle.vault_http.specs.declared.reply.Reply.{Reply}
 use Rattle.tick_keeper.specs.LawsOfSteps.{IsShaped}
 use Rattle.tick_keeper.specs.declared.event.Event.{Event}
-use Rattle.tick_keeper.specs.declared.event.Event.TheVariants.{Tick, Told, Refused, Lost, Need}
+use Rattle.tick_keeper.specs.declared.event.Event.TheVariants.{Told, Refused, Lost}
 use Rattle.tick_keeper.specs.declared.event.Output.{Output}
 use Rattle.tick_keeper.specs.declared.event.Output.TheVariants as out
 use Rattle.tick_keeper.specs.declared.shortened.ShortNeed.{ShortNeed}
@@ -30,11 +30,7 @@ module _ (g h : Forest) (like : IsShaped g h) where
 
   pub same_wake : (t : ℕ) (output : Output) → wake_line_of_output h t output ≡ wake_line_of_output g t output
   same_wake t (out.Ask asked) = ap (λ ns. line (codes "wake" ∷ decimal t ∷ ns)) (same_names asked)
-  same_wake t out.Idle = refl
-  same_wake t (out.Sleep w) = refl
-  same_wake t out.Waiting = refl
-  same_wake t (out.Round next) = refl
-  same_wake t out.Planned = refl
+  same_wake t _ = refl
 
   pub same_event : (cs : List (List ℕ)) (x : Exchanged) → event_in cs h x ≡ event_in cs g x
   unfolding event_in
@@ -44,8 +40,7 @@ module _ (g h : Forest) (like : IsShaped g h) where
   same_answer (Told i seconds renewable) reply = ap (λ n. line (codes "told" ∷ n ∷ decimal seconds ∷ [])) (same_name i)
   same_answer (Refused i) reply = ap (λ n. line (codes "refused" ∷ n ∷ decimal (status_in reply) ∷ [])) (same_name i)
   same_answer (Lost i) reply = ap (λ n. line (codes "lost" ∷ n ∷ [])) (same_name i)
-  same_answer (Tick t) reply = refl
-  same_answer (Need i until) reply = refl
+  same_answer _ reply = refl
 
 -- of two inventories with the same credentials, and forests of one shape
 module _ (s u : Inventory) (like : IsShaped s.forest u.forest) (credentials : u.credentials ≡ s.credentials) where

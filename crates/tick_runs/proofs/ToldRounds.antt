@@ -120,13 +120,7 @@ module _ (port : ℕ) (cs : List (List ℕ)) (t : ℕ) (o mid : Option Behind) (
   -- why the round stops
   pub stopped_on :
       (stop : Stop) (new : Option Behind) (after : CoreState) → Before → TellsOne port cs t (both now mid) i (Err stop) (both after new) b → TellsRound port cs t (both start o) asked (Err stop) (both after new) (joined_changes a b)
-  stopped_on (stops.Inventory fault) new after h one = absurd one
-  stopped_on (stops.Moments fault) new after h one = absurd one
-  stopped_on (stops.FaultWord n) new after h one = absurd one
-  stopped_on stops.TooLong new after h one = absurd one
-  stopped_on stops.Read new after h one = absurd one
   stopped_on stops.Write new after h one = (subst (λ n. HasFailed n b.new.failed_calls) (sym (ap (λ (s : Seen). s.failed_calls) same) ∙ h.1.1.1) one.0, cut_on new after h one.1)
-  stopped_on (stops.Broker name) new after h one = absurd one
-  stopped_on (stops.Line n) new after h one = absurd one
   stopped_on stops.Memory new after h (inl none) = inl (broken_on (both after new) h none.0 none.1)
   stopped_on stops.Memory new after h (inr cut) = inr (cut.0, cut_on new after h cut.1)
+  stopped_on _ new after h one = absurd one

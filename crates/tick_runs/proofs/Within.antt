@@ -23,7 +23,7 @@ use Rattle.tick_keeper.specs.Step.{StepAnswer, StepNeed, StepTick, state_after_a
 use Rattle.tick_keeper.proofs.Shortening.{shorten_count}
 use Rattle.tick_runs.specs.Closed.{asked_by_output}
 
-all_to : (n k a : ℕ) → a + k ≤ n → All (λ i. i < n) (range_with_len a k)
+pub all_to : (n k a : ℕ) → a + k ≤ n → All (λ i. i < n) (range_with_len a k)
 all_to n zero a h = All-nil (λ i. i < n)
 all_to n (suc k) a h = All-cons (λ i. i < n) a (range_with_len (a + 1) k) (omega arith) (all_to n k (a + 1) (omega arith))
 
@@ -51,25 +51,16 @@ tick_within old t out.Idle new quiet step = replan_within old t new quiet step.0
 tick_within old t (out.Sleep w) new quiet step = replan_within old t new quiet step.0
 tick_within old t (out.Ask asked) new quiet step =
     subst (λ (s : CoreState). AreOf (length s.forest.entries) s.shortened) (sym step.1.1.1.1.1) (replan_within old t step.0 quiet step.1.0)
-tick_within old t out.Waiting new quiet step = absurd step
-tick_within old t (out.Round next) new quiet step = absurd step
-tick_within old t out.Planned new quiet step = absurd step
+tick_within old t _ new quiet step = absurd step
 
 answer_within : (old : CoreState) (event : Event) (output : Output) (new : CoreState) → old.shortened ≡ [] → StepAnswer old event output new → AreOf (length new.forest.entries) new.shortened
 answer_within old event out.Waiting new quiet step = none_within new (ap (λ (s : CoreState). s.shortened) step.1.1.1 ∙ quiet)
 answer_within old event (out.Round next) new quiet step = replan_within (state_after_answer old event step.0.at None) step.0.at new quiet step.1.1.1.0
-answer_within old event out.Idle new quiet step = absurd step
-answer_within old event (out.Sleep w) new quiet step = absurd step
-answer_within old event (out.Ask asked) new quiet step = absurd step
-answer_within old event out.Planned new quiet step = absurd step
+answer_within old event _ new quiet step = absurd step
 
 need_within : (old : CoreState) (i until : ℕ) (output : Output) (new : CoreState) → old.shortened ≡ [] → StepNeed old i until output new → AreOf (length new.forest.entries) new.shortened
 need_within old i until out.Planned new quiet step = replan_within (with_new_need old i until) old.last new quiet step
-need_within old i until out.Idle new quiet step = absurd step
-need_within old i until (out.Sleep w) new quiet step = absurd step
-need_within old i until (out.Ask asked) new quiet step = absurd step
-need_within old i until out.Waiting new quiet step = absurd step
-need_within old i until (out.Round next) new quiet step = absurd step
+need_within old i until _ new quiet step = absurd step
 
 -- what an event shortens is of entries
 pub short_within : (old new : CoreState) (event : Event) (output : Output) → old.shortened ≡ [] → CoreTurn old event (Ok output) new → AreOf (length new.forest.entries) new.shortened
@@ -92,11 +83,7 @@ asked_within old new t (out.Ask asked) turn =
     let mid = step.0 in
     let count : length new.forest.entries ≡ length mid.forest.entries = ap (λ (s : CoreState). length s.forest.entries) step.1.1.1.1.1 in
     subst (λ n. All (λ i. i < n) asked) (sym count) (subst (All (λ i. i < length mid.forest.entries)) (sym step.1.1.1.1.0) (asks_are_within mid.forest t (first_of step.1.1.0)))
-asked_within old new t out.Idle turn = All-nil (λ i. i < length new.forest.entries)
-asked_within old new t (out.Sleep w) turn = All-nil (λ i. i < length new.forest.entries)
-asked_within old new t out.Waiting turn = All-nil (λ i. i < length new.forest.entries)
-asked_within old new t (out.Round next) turn = All-nil (λ i. i < length new.forest.entries)
-asked_within old new t out.Planned turn = All-nil (λ i. i < length new.forest.entries)
+asked_within old new t _ turn = All-nil (λ i. i < length new.forest.entries)
 
 filter_few : (p : ℕ → Bool) (is : List ℕ) → length (filter p is) ≤ length is
 filter_few p [] = omega arith
@@ -123,11 +110,7 @@ asked_few old new t (out.Ask asked) turn =
     let who = ap length step.1.1.1.1.0 in
     let few = asks_few mid.forest t (first_of step.1.1.0) in
     omega arith
-asked_few old new t out.Idle turn = omega arith
-asked_few old new t (out.Sleep w) turn = omega arith
-asked_few old new t out.Waiting turn = omega arith
-asked_few old new t (out.Round next) turn = omega arith
-asked_few old new t out.Planned turn = omega arith
+asked_few old new t _ turn = omega arith
 
 -- a moment that is told is in range
 pub told_in_range : (old new : CoreState) (t : ℕ) (output : Output) → CoreTurn old (Tick t) (Ok output) new → t ≤ LAST

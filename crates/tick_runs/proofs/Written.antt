@@ -2,10 +2,10 @@
 use Rattle.std.proofs.Common.{◌≡◌, ◌∙◌, ℕ, ◌+◌, ◌*◌, ◌<◌, ◌≤◌, IsTrue, List, [], ◌++◌, Option, Some, None, Result, Ok, Err, ap, arith, inl, inr, length, refl, subst, sym, take}
 use Rattle.std.specs.Result.{IsErr, IsErrAnd}
 use Rattle.std.specs.Io.KnownBytes.{Appends, Keeps}
-use Rattle.std.proofs.KnownBytes.{Appends-kept, Appends-nil}
-use Rattle.std.proofs.Math.Seq.{take-append-add, take-append_seam}
+use Rattle.std.proofs.KnownBytes.{Appends-kept, Appends-trans}
+use Rattle.std.proofs.Math.Seq.{take-append_seam}
 use Rattle.std.proofs.lemmas.List.{append-nil, append_assoc}
-use Rattle.base_device.specs.Seen.{Change, Seen}
+use Rattle.base_device.specs.Seen.{Change}
 use Rattle.base_device.specs.Failures.{Counts, HasFailed, one_more}
 use Rattle.base_device.specs.Front.{AppendsFront}
 use Rattle.base_device.specs.declared.fault.SinkFault.{SinkFault}
@@ -19,7 +19,7 @@ use Rattle.program_report.specs.declared.stop.Stop.{Stop}
 use Rattle.program_report.specs.declared.stop.Stop.TheVariants as stops
 use Rattle.program_report.specs.Exits.{stop_of_sink}
 use Rattle.program_report.proofs.Counting.{failed_once}
-use Rattle.program_report.specs.Sent.{IsUntouched}
+use Rattle.program_report.proofs.Pieces.{front_more}
 use Rattle.tick_runs.specs.Closed.{World}
 use Rattle.tick_runs.specs.Hearing.{IsBetweenEvents}
 use Rattle.tick_runs.specs.code.Playing.{Finishes, IsText, LastFront, LastPlays, MayCome, Plays, PlaysFront, RunEnds, RunGoes}
@@ -28,15 +28,6 @@ use Rattle.tick_runs.specs.Text.{done_text, inventory_with}
 use Rattle.tick_runs.proofs.Goes.{ends_go, goes_as, goes_nowhere, goes_on}
 
 -- ---- one text after another
-
-pub appends_then : (a b c : Option (List ℕ)) (x y : List ℕ) → Appends a b x → Appends b c y → Appends a c (x ++ y)
-appends_then None b c x y first second = tt
-appends_then (Some p) None c x y first second = absurd first
-appends_then (Some p) (Some q) None x y first second = absurd second
-appends_then (Some p) (Some q) (Some r) x y first second = second ∙ ap (λ l. l ++ y) first ∙ append_assoc p x y
-
-pub front_then : (a b c : Option (List ℕ)) (x y : List ℕ) → Appends a b x → AppendsFront b c y → AppendsFront a c (x ++ y)
-front_then a b c x y first second = (length x + second.0, subst (Appends a c) (sym (take-append-add x y second.0)) (appends_then a b c x (take second.0 y) first second.1))
 
 pub whole_front : (a b : Option (List ℕ)) (x y : List ℕ) → Appends a b x → AppendsFront a b (x ++ y)
 whole_front a b x y all = (length x, subst (Appends a b) (sym (take-append_seam x y)) all)
@@ -93,7 +84,7 @@ module _ (cs : List (List ℕ)) (old : World) (start : ℕ) (before : List ℕ) 
   going_more new then' a text after failed_after more like ready comes few all count = record {
     lines = g.lines ++ text;
     goes = on new (Some then') 1 a text more;
-    all = subst (Appends first after) (append_assoc before g.lines text) (appends_then first written after (before ++ g.lines) text g.all all);
+    all = subst (Appends first after) (append_assoc before g.lines text) (Appends-trans first written after (before ++ g.lines) text g.all all);
     count = count ∙ g.count;
     ready = ready;
     comes = comes;
@@ -110,32 +101,29 @@ module _ (cs : List (List ℕ)) (old : World) (start : ℕ) (before : List ℕ) 
         (subst (λ o. AppendsFront first o (before ++ g.lines)) (sym new_is) (subst (AppendsFront first written) (append-nil (before ++ g.lines)) (whole_front first written (before ++ g.lines) [] g.all))),
   )
 
+  -- a front of a wake-up's lines was written
+  cut_in :
+      (new : World) (next : Option ℕ) (w a : ℕ) (text : List ℕ) (out : Change) → RunGoes (inventory_with cs now.keeper.forest) now (Some due) new next w a text → out.old.output.written ≡ first →
+      AppendsFront written out.new.output.written text → PlaysFront (inventory_with cs old.keeper.forest) old start before out
+  unfolding on
+  cut_in new next w a text out more old_is front = (
+    g.lines ++ text,
+    so_far (inventory_with cs old.keeper.forest) old new start next (wakes + w) (asked + a) (g.lines ++ text) (on new next w a text more),
+    subst (λ o. AppendsFront o out.new.output.written (before ++ (g.lines ++ text))) (sym old_is)
+        (subst (AppendsFront first out.new.output.written) (append_assoc before g.lines text) (front_more first written out.new.output.written (before ++ g.lines) text g.all front)),
+  )
+
   -- the lines of a wake-up were not written whole
   pub going_unwritten :
       (answer : Result (Unit {0}) Stop) (fault : SinkFault) (new final : World) (next : Option ℕ) (w a : ℕ) (text : List ℕ) (out : Change) → IsErr answer × IsErrAnd answer (λ stop. stop ≡ stop_of_sink fault) →
       RunGoes (inventory_with cs now.keeper.forest) now (Some due) new next w a text → out.old.output.written ≡ first → out.old.failed_calls ≡ failed → AppendsFront written out.new.output.written text → Counts {X = Unit {0}} (Err fault) failed_now out.new.failed_calls →
       Plays cs old start before answer final out
-  unfolding on
   going_unwritten (Ok u) fault new final next w a text out is more old_is failed_is front count = absurd (let no = is.0 in cc)
   going_unwritten (Err stop) sink.Failed new final next w a text out is more old_is failed_is front count =
       subst (λ (q : Stop). Plays cs old start before (Err q) final out) (sym is.1)
-      (failed_once out.old.failed_calls out.new.failed_calls (count ∙ ap one_more (g.count ∙ sym failed_is)), cut) where
-        cut : PlaysFront (inventory_with cs old.keeper.forest) old start before out
-        cut = (
-          g.lines ++ text,
-          so_far (inventory_with cs old.keeper.forest) old new start next (wakes + w) (asked + a) (g.lines ++ text) (on new next w a text more),
-          subst (λ o. AppendsFront o out.new.output.written (before ++ (g.lines ++ text))) (sym old_is)
-              (subst (AppendsFront first out.new.output.written) (append_assoc before g.lines text) (front_then first written out.new.output.written (before ++ g.lines) text g.all front)),
-        )
+      (failed_once out.old.failed_calls out.new.failed_calls (count ∙ ap one_more (g.count ∙ sym failed_is)), cut_in new next w a text out more old_is front)
   going_unwritten (Err stop) sink.OutOfMemory new final next w a text out is more old_is failed_is front count =
-      subst (λ (q : Stop). Plays cs old start before (Err q) final out) (sym is.1) cut where
-        cut : PlaysFront (inventory_with cs old.keeper.forest) old start before out
-        cut = (
-          g.lines ++ text,
-          so_far (inventory_with cs old.keeper.forest) old new start next (wakes + w) (asked + a) (g.lines ++ text) (on new next w a text more),
-          subst (λ o. AppendsFront o out.new.output.written (before ++ (g.lines ++ text))) (sym old_is)
-              (subst (AppendsFront first out.new.output.written) (append_assoc before g.lines text) (front_then first written out.new.output.written (before ++ g.lines) text g.all front)),
-        )
+      subst (λ (q : Stop). Plays cs old start before (Err q) final out) (sym is.1) (cut_in new next w a text out more old_is front)
 
 -- ---- the end
 
@@ -151,7 +139,7 @@ cut_at cs old start before new w a front rest written last out goes all ends old
     let part : AppendsFront written out.new.output.written (rest ++ done_text w a) = subst (λ o. AppendsFront o out.new.output.written (rest ++ done_text w a)) old_is (subst (λ o. AppendsFront last.old.output.written o (rest ++ done_text w a)) new_is ends) in (
       (front ++ rest) ++ done_text w a,
       with_done (inventory_with cs old.keeper.forest) old new start w a (front ++ rest) goes,
-      subst (AppendsFront out.old.output.written out.new.output.written) (regroup before front rest (done_text w a)) (front_then out.old.output.written written out.new.output.written (before ++ front) (rest ++ done_text w a) all part),
+      subst (AppendsFront out.old.output.written out.new.output.written) (regroup before front rest (done_text w a)) (front_more out.old.output.written written out.new.output.written (before ++ front) (rest ++ done_text w a) all part),
     )
 
 -- the run has come to its end; front of its lines is written, and what is left of them is sent with the last line
@@ -167,20 +155,14 @@ finished cs old start before new w a front rest written failed_now (Ok u) last o
       lines = front ++ rest;
       goes = goes;
       few = few;
-      sent = (subst (Appends out.old.output.written out.new.output.written) (regroup before front rest (done_text w a)) (appends_then out.old.output.written written out.new.output.written (before ++ front) (rest ++ done_text w a) all whole), subst IsTrue flushed_is ends.1);
+      sent = (subst (Appends out.old.output.written out.new.output.written) (regroup before front rest (done_text w a)) (Appends-trans out.old.output.written written out.new.output.written (before ++ front) (rest ++ done_text w a) all whole), subst IsTrue flushed_is ends.1);
     }
 finished cs old start before new w a front rest written failed_now (Err stops.Write) last out goes all few ends old_is new_is failed_is failed_after_is flushed_is = (
   subst (λ n. HasFailed n out.new.failed_calls) failed_is (subst (HasFailed last.old.failed_calls) failed_after_is ends.0),
   cut_at cs old start before new w a front rest written last out goes all ends.1 old_is new_is,
 )
 finished cs old start before new w a front rest written failed_now (Err stops.Memory) last out goes all few ends old_is new_is failed_is failed_after_is flushed_is = cut_at cs old start before new w a front rest written last out goes all ends old_is new_is
-finished cs old start before new w a front rest written failed_now (Err stops.TooLong) last out goes all few ends old_is new_is failed_is failed_after_is flushed_is = absurd ends
-finished cs old start before new w a front rest written failed_now (Err stops.Read) last out goes all few ends old_is new_is failed_is failed_after_is flushed_is = absurd ends
-finished cs old start before new w a front rest written failed_now (Err (stops.Inventory fault)) last out goes all few ends old_is new_is failed_is failed_after_is flushed_is = absurd ends
-finished cs old start before new w a front rest written failed_now (Err (stops.Moments fault)) last out goes all few ends old_is new_is failed_is failed_after_is flushed_is = absurd ends
-finished cs old start before new w a front rest written failed_now (Err (stops.FaultWord n)) last out goes all few ends old_is new_is failed_is failed_after_is flushed_is = absurd ends
-finished cs old start before new w a front rest written failed_now (Err (stops.Broker name)) last out goes all few ends old_is new_is failed_is failed_after_is flushed_is = absurd ends
-finished cs old start before new w a front rest written failed_now (Err (stops.Line n)) last out goes all few ends old_is new_is failed_is failed_after_is flushed_is = absurd ends
+finished cs old start before new w a front rest written failed_now (Err _) last out goes all few ends old_is new_is failed_is failed_after_is flushed_is = absurd ends
 
 last_cut :
     (cs : List (List ℕ)) (old : World) (start : ℕ) (before : List ℕ) (first : Option (List ℕ)) (failed : ℕ) (now : World) (due asked : ℕ) (written : Option (List ℕ)) (failed_now : ℕ) (last out : Change) →
@@ -221,7 +203,7 @@ last_played cs old start before first failed now due asked written failed_now (E
       goes = g.goes;
       more = ends.0;
       sent = (
-        subst (λ o. Appends o out.new.output.written (before ++ g.lines)) (sym old_is) (subst (Appends first out.new.output.written) (append-nil (before ++ g.lines)) (appends_then first written out.new.output.written (before ++ g.lines) [] g.all none)),
+        subst (λ o. Appends o out.new.output.written (before ++ g.lines)) (sym old_is) (subst (Appends first out.new.output.written) (append-nil (before ++ g.lines)) (Appends-trans first written out.new.output.written (before ++ g.lines) [] g.all none)),
         subst IsTrue flushed_is ends.1.1,
       );
     }
@@ -231,12 +213,7 @@ last_played cs old start before first failed now due asked written failed_now (E
 )
 last_played cs old start before first failed now due asked written failed_now (Err stops.Memory) keeper last out g ends old_is last_old_is new_is failed_is failed_after_is flushed_is =
     last_cut cs old start before first failed now due asked written failed_now last out g ends old_is last_old_is new_is
-last_played cs old start before first failed now due asked written failed_now (Err stops.Read) keeper last out g ends old_is last_old_is new_is failed_is failed_after_is flushed_is = absurd ends
-last_played cs old start before first failed now due asked written failed_now (Err (stops.Inventory fault)) keeper last out g ends old_is last_old_is new_is failed_is failed_after_is flushed_is = absurd ends
-last_played cs old start before first failed now due asked written failed_now (Err (stops.Moments fault)) keeper last out g ends old_is last_old_is new_is failed_is failed_after_is flushed_is = absurd ends
-last_played cs old start before first failed now due asked written failed_now (Err (stops.FaultWord n)) keeper last out g ends old_is last_old_is new_is failed_is failed_after_is flushed_is = absurd ends
-last_played cs old start before first failed now due asked written failed_now (Err (stops.Broker name)) keeper last out g ends old_is last_old_is new_is failed_is failed_after_is flushed_is = absurd ends
-last_played cs old start before first failed now due asked written failed_now (Err (stops.Line n)) keeper last out g ends old_is last_old_is new_is failed_is failed_after_is flushed_is = absurd ends
+last_played cs old start before first failed now due asked written failed_now (Err _) keeper last out g ends old_is last_old_is new_is failed_is failed_after_is flushed_is = absurd ends
 
 -- what `last` comes to, where the run is at its end
 pub last_ends :
@@ -253,21 +230,12 @@ last_ends cs behind old new due asked before text result out none e ends = by_re
   by_result (Ok u) is = (text, here, is)
   by_result (Err stops.Write) is = (is.0, inr (both new behind, text, here, is.1))
   by_result (Err stops.Memory) is = inr (both new behind, text, here, is)
-  by_result (Err stops.TooLong) is = absurd is
-  by_result (Err stops.Read) is = absurd is
-  by_result (Err (stops.Inventory fault)) is = absurd is
-  by_result (Err (stops.Moments fault)) is = absurd is
-  by_result (Err (stops.FaultWord n)) is = absurd is
-  by_result (Err (stops.Broker name)) is = absurd is
-  by_result (Err (stops.Line n)) is = absurd is
+  by_result (Err _) is = absurd is
 
 pub keeps_appends : (a b : Option (List ℕ)) → Keeps a b → Appends a b []
 keeps_appends None b kept = tt
 keeps_appends (Some p) None kept = absurd kept
 keeps_appends (Some p) (Some q) kept = kept ∙ sym (append-nil p)
-
-pub untouched_appends : (out : Change) → IsUntouched out → Appends out.old.output.written out.new.output.written []
-untouched_appends out none = subst (λ (s : Seen). Appends out.old.output.written s.output.written []) (sym none) (Appends-nil out.old.output.written)
 
 -- the lines before the run were not written whole
 pub unwritten_before :
@@ -321,7 +289,7 @@ going_done cs old start before first failed now due wakes asked written failed_n
     let whole = g.lines ++ text in
     finished cs old start before new (wakes + 1) (asked + a) whole rest after failed_now result last out
     (subst (RunGoes s old (Some start) new None (wakes + 1) (asked + a)) (sym (ap (λ l. whole ++ l) none ∙ append-nil whole)) goes)
-    (subst (λ o. Appends o after (before ++ whole)) (sym old_is) (subst (Appends first after) (append_assoc before g.lines text) (appends_then first written after (before ++ g.lines) text g.all all)))
+    (subst (λ o. Appends o after (before ++ whole)) (sym old_is) (subst (Appends first after) (append_assoc before g.lines text) (Appends-trans first written after (before ++ g.lines) text g.all all)))
     (omega arith) ends last_old_is new_is failed_is failed_after_is flushed_is
 
 pub for_memory :

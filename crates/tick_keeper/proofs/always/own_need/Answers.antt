@@ -1,5 +1,5 @@
 -- The need of an entry is a moment.
-use Rattle.std.proofs.Common.{◌≡◌, ℕ, ap, arith}
+use Rattle.std.proofs.Common.{ap, arith}
 use Rattle.plan_forest.specs.declared.entry.Entry.{Entry}
 use Rattle.plan_rule.proofs.Lists.{need_within}
 use Rattle.tick_keeper.proofs.always.own_need.Goals as goal
