@@ -72,16 +72,6 @@ The moment from which entries are kept, in whole seconds since
 };
 
 impl Described {
-    /// Appends it to these commands.
-    pub fn add_to<'a>(
-        &self,
-        alloc: Global,
-        commands: &mut Vec<Command<'a>>,
-    ) -> Result<(), AllocError> {
-        let command = self.command(alloc)?;
-        Ok(commands.push(command)?)
-    }
-
     /// The command with its words.
     pub fn command<'a>(&self, alloc: Global) -> Result<Command<'a>, AllocError> {
         let args = self.args(alloc)?;

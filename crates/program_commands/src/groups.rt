@@ -1,6 +1,7 @@
 //! The commands in groups, and the help that shows them so.
 use crate::agent_commands::{RUN, SERVE};
 use crate::call_commands::{ADD, DROP, FOLLOW, HEALTH, NEED, RELOAD, REPLACE, SETTLE, STATUS};
+use crate::described::Described;
 use crate::file_commands::{CHECK, ENDS, LINT, MARGIN, PLAN, REACH, REHEARSE};
 use clap::Command;
 use program_report::PROGRAM;
@@ -17,44 +18,20 @@ Options:
 `leasekeep COMMAND --help` shows the words of a command, with an example and its exit statuses.
 ";
 
-/// All commands, group by group.
+/// All commands, group by group: for plans, of an agent, of changes and of trials.
+const ALL: [Described; 18] = [
+    LINT, REACH, PLAN, MARGIN, CHECK, SERVE, STATUS, HEALTH, FOLLOW, NEED, REPLACE, ADD, DROP,
+    RELOAD, SETTLE, ENDS, REHEARSE, RUN,
+];
+
+/// The same, as the command line takes them.
 pub fn commands<'a>(alloc: Global) -> Result<Vec<Command<'a>>, AllocError> {
     let mut commands = Vec::new(alloc);
-    add_for_plans(alloc, &mut commands)?;
-    add_for_agents(alloc, &mut commands)?;
-    add_for_changes(alloc, &mut commands)?;
-    add_for_trials(alloc, &mut commands)?;
+    for described in &ALL {
+        let command = described.command(alloc)?;
+        commands.push(command)?;
+    }
     Ok(commands)
-}
-
-fn add_for_plans<'a>(alloc: Global, commands: &mut Vec<Command<'a>>) -> Result<(), AllocError> {
-    LINT.add_to(alloc, commands)?;
-    REACH.add_to(alloc, commands)?;
-    PLAN.add_to(alloc, commands)?;
-    MARGIN.add_to(alloc, commands)?;
-    CHECK.add_to(alloc, commands)
-}
-
-fn add_for_agents<'a>(alloc: Global, commands: &mut Vec<Command<'a>>) -> Result<(), AllocError> {
-    SERVE.add_to(alloc, commands)?;
-    STATUS.add_to(alloc, commands)?;
-    HEALTH.add_to(alloc, commands)?;
-    FOLLOW.add_to(alloc, commands)
-}
-
-fn add_for_changes<'a>(alloc: Global, commands: &mut Vec<Command<'a>>) -> Result<(), AllocError> {
-    NEED.add_to(alloc, commands)?;
-    REPLACE.add_to(alloc, commands)?;
-    ADD.add_to(alloc, commands)?;
-    DROP.add_to(alloc, commands)?;
-    RELOAD.add_to(alloc, commands)?;
-    SETTLE.add_to(alloc, commands)
-}
-
-fn add_for_trials<'a>(alloc: Global, commands: &mut Vec<Command<'a>>) -> Result<(), AllocError> {
-    ENDS.add_to(alloc, commands)?;
-    REHEARSE.add_to(alloc, commands)?;
-    RUN.add_to(alloc, commands)
 }
 
 /// The heading of the group that begins with this command, where one does.

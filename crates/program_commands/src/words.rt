@@ -193,8 +193,8 @@ fn served<'a>(matches: &ArgMatches<'a>) -> Result<Job<'a>, Unread> {
         width: number_or(matches, "width", WIDTH as u64).ok_or(Unread::Value)?,
         names_are_secrets: matches.get_flag("names-are-secrets"),
         form: form(matches),
-        control: control(matches)?,
-        listen: listen(matches)?,
+        control: socket_at(matches, "control", PlaceWord::Control)?,
+        listen: socket_at(matches, "listen", PlaceWord::Listen)?,
         room: room(matches),
         name: matches.get_str("name"),
         state: matches.get_str("state"),
@@ -222,20 +222,6 @@ fn rehearsed<'a>(alloc: Global, matches: &ArgMatches<'a>) -> Result<Job<'a>, Unr
     }))
 }
 
-/// Where commands come in, if a socket for them is asked for.
-fn control<'a>(matches: &ArgMatches<'a>) -> Result<Option<Socket<'a>>, Unread> {
-    let Some(word) = matches.get_str("control") else {
-        return Ok(None);
-    };
-    match entrance_of(word) {
-        Some(Entrance::Path(path)) if has_room(path) => Ok(Some(Socket {
-            word,
-            entrance: Entrance::Path(path),
-        })),
-        _ => Err(Unread::Place(PlaceWord::Control)),
-    }
-}
-
 /// Where the ends are kept over a restart: in the folder that is given, else beside the control socket, if there is one.
 fn room<'a>(matches: &ArgMatches<'a>) -> Option<Room<'a>> {
     match matches.get_str("runtime") {
@@ -244,21 +230,26 @@ fn room<'a>(matches: &ArgMatches<'a>) -> Option<Room<'a>> {
     }
 }
 
-/// Where pages are served, if a socket for them is asked for. At port 0 the system would choose one that nobody knows.
-fn listen<'a>(matches: &ArgMatches<'a>) -> Result<Option<Socket<'a>>, Unread> {
-    let Some(word) = matches.get_str("listen") else {
+/// Where guests come in, if a socket for them is asked for by this option.
+fn socket_at<'a>(
+    matches: &ArgMatches<'a>,
+    option: &str,
+    place: PlaceWord,
+) -> Result<Option<Socket<'a>>, Unread> {
+    let Some(word) = matches.get_str(option) else {
         return Ok(None);
     };
     match entrance_of(word) {
-        Some(entrance) if is_place(entrance) => Ok(Some(Socket { word, entrance })),
-        _ => Err(Unread::Place(PlaceWord::Listen)),
+        Some(entrance) if is_place(entrance, place) => Ok(Some(Socket { word, entrance })),
+        _ => Err(Unread::Place(place)),
     }
 }
 
-/// Whether it is one place, of which clients can know.
-fn is_place(entrance: Entrance<'_>) -> bool {
+/// Whether it is one place, of which clients can know: at port 0 the system would choose one that nobody knows. Commands come in by a path
+/// alone.
+fn is_place(entrance: Entrance<'_>, place: PlaceWord) -> bool {
     match entrance {
-        Entrance::Address(address) => address.port() != 0,
+        Entrance::Address(address) => matches!(place, PlaceWord::Listen) && address.port() != 0,
         Entrance::Path(path) => has_room(path),
     }
 }

@@ -93,8 +93,7 @@ called_alike bytes other h i =
 line_alike : (bytes other : List ℕ) (found : List Mark) (heads : List ℕ) (fault : InvFault) (n m : ℕ) → (fault ≡ faults.NotToml → ⊥) → IsLineOf bytes found heads fault n → IsLineOf other found heads fault m → m ≡ n
 line_alike bytes other found heads faults.NotToml n m toml is also = absurd (toml refl)
 line_alike bytes other found heads (faults.MissingKey i key) n m toml is also = also ∙ sym is
-line_alike bytes other found heads (faults.UnknownKey None) n m toml is also = also ∙ sym is
-line_alike bytes other found heads (faults.UnknownKey (Some i)) n m toml is also = also ∙ sym is
+line_alike bytes other found heads (faults.UnknownKey entry) n m toml is also = also ∙ sym is
 line_alike bytes other found heads (faults.BadValue entry key) n m toml is also = also ∙ sym is
 line_alike bytes other found heads (faults.Tree i fault) n m toml is also = also ∙ sym is
 line_alike bytes other found heads faults.OutOfMemory n m toml is also = also ∙ sym is

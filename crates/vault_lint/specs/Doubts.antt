@@ -4,9 +4,7 @@ use Rattle.std.specs.Prelude.{ℕ, zero, suc, ◌+◌, ◌*◌, ◌/◌, ◌==�
 use Rattle.plan_needs.specs.Carried.{load_at}
 use Rattle.plan_forest.specs.Forest.{entry_at}
 use Rattle.plan_forest.specs.declared.entry.Entry.{Entry}
-use Rattle.vault_lint.specs.EntryDoubts.{of_moments, of_names, of_needs, of_terms}
-use Rattle.vault_lint.specs.Judging.{facts_of}
-use Rattle.vault_lint.specs.declared.facts.Facts.{Facts}
+use Rattle.vault_lint.specs.EntryDoubts.{entry_list}
 use Rattle.vault_lint.specs.declared.subject.Subject.{Subject}
 use Rattle.vault_lint.specs.declared.what.Doubt.{Doubt}
 use Rattle.vault_lint.specs.declared.what.Doubt.TheVariants as variants
@@ -69,11 +67,8 @@ abbrev pub told : ℕ → List (Option What) → List Doubt
 told i [] = []
 told i (what ∷ whats) = told_of i what ++ told i whats
 
-abbrev pub doubts_by : ℕ → Facts → List Doubt
-doubts_by i f = told i (of_names f) ++ (told i (of_moments f) ++ (told i (of_terms f) ++ told i (of_needs f)))
-
 unfoldable pub entry_doubts : Subject → Option Whole → ℕ → List Doubt
-entry_doubts s whole i = doubts_by i (facts_of s whole i)
+entry_doubts s whole i = told i (entry_list s whole i)
 
 -- of each of the first n
 abbrev pub doubts_of_first : Subject → Option Whole → ℕ → List Doubt

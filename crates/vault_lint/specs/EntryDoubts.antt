@@ -5,7 +5,13 @@ use Rattle.vault_inventory.specs.declared.key.Key.{Key}
 use Rattle.vault_inventory.specs.declared.key.Key.TheVariants.{Issued, End, Need, Increment, Period}
 use Rattle.vault_inventory.specs.declared.terms.Terms.{Terms}
 use Rattle.base_moment.specs.declared.moment.TheConstants.{LAST}
-use Rattle.vault_lint.specs.declared.facts.Facts.{Facts}
+use Rattle.plan_needs.specs.Carried.{load_at}
+use Rattle.plan_forest.specs.Forest.{entry_at}
+use Rattle.vault_inventory.specs.Inventories.{terms_at}
+use Rattle.vault_lint.specs.FaultPlaces.{has_key}
+use Rattle.vault_lint.specs.Judging.{is_open, is_token_like, written_margin}
+use Rattle.vault_lint.specs.Limits.{is_told, limit}
+use Rattle.vault_lint.specs.declared.subject.Subject.{Subject}
 use Rattle.vault_lint.specs.declared.what.What.{What}
 use Rattle.vault_lint.specs.declared.what.What.TheVariants as doubts
 use Rattle.vault_lint.specs.declared.what.Whole.{Whole}
@@ -23,8 +29,8 @@ abbrev pub late_need : ℕ → Option What
 late_need need = if need == LAST then None else late Need need
 
 -- an end that is written, not before its issue, and past
-abbrev pub ended : Facts → Option What
-ended f = only_if ((f.is_told && nat_le f.terms.issued f.end) && nat_le f.end f.at) (doubts.Ended f.end)
+abbrev pub ended : Bool → Terms → ℕ → ℕ → Option What
+ended is_told t end at = only_if ((is_told && nat_le t.issued end) && nat_le end at) (doubts.Ended end)
 
 -- a duration of over 90 days that is a whole number of thousands
 abbrev pub milliseconds : Key → ℕ → Option What
@@ -42,12 +48,9 @@ abbrev pub beside_period : Terms → Option What
 beside_period t = only_if (not (t.period == 0) && not (asked t == 0) && not (asked t == t.period)) doubts.BesidePeriod
 
 -- a step under four thirds of the margin that is written
-abbrev pub near_margin_of : ℕ → Option ℕ → Option What
-near_margin_of step None = None
-near_margin_of step (Some margin) = only_if (nat_lt (step * 3) (margin * 4)) (doubts.NearMargin step)
-
-abbrev pub near_margin : Facts → Option What
-near_margin f = near_margin_of f.step f.margin
+abbrev pub near_margin : ℕ → Option ℕ → Option What
+near_margin step None = None
+near_margin step (Some margin) = only_if (nat_lt (step * 3) (margin * 4)) (doubts.NearMargin step)
 
 abbrev pub is_all_past : Option Whole → Bool
 is_all_past (Some wholes.AllPast) = true
@@ -58,29 +61,22 @@ has_no_needs (Some wholes.NoNeeds) = true
 has_no_needs whole = false
 
 -- a need that is past, where not all are
-abbrev pub need_past : Facts → Option What
-need_past f = only_if (nat_lt 0 f.need && nat_le f.need f.at && not (is_all_past f.whole)) (doubts.NeedPast f.need)
+abbrev pub need_past : ℕ → ℕ → Option Whole → Option What
+need_past need at whole = only_if (nat_lt 0 need && nat_le need at && not (is_all_past whole)) (doubts.NeedPast need)
 
 -- no need, here or under it, where some entry has one
-abbrev pub not_needed : Facts → Option What
-not_needed f = only_if ((f.carried == 0) && not (has_no_needs f.whole)) doubts.NotNeeded
+abbrev pub not_needed : ℕ → Option Whole → Option What
+not_needed carried whole = only_if ((carried == 0) && not (has_no_needs whole)) doubts.NotNeeded
 
--- ---- all of them, in the order in which they are said
+-- ---- all of them, in the order in which they are said: those of the name and the file, of the moments, of the terms and of the need. A table
+-- that is not found counts as one that has an increment
 
--- those of the name and of the file
-abbrev pub of_names : Facts → List (Option What)
-of_names f = only_if f.is_token_like doubts.TokenLike ∷ only_if f.is_open doubts.OpenFile ∷ []
-
--- those of the moments
-abbrev pub of_moments : Facts → List (Option What)
-of_moments f =
-    only_if (nat_lt f.end f.terms.issued) doubts.Swapped ∷ late Issued f.terms.issued ∷ late End f.end ∷ late_need f.need ∷ ended f ∷ []
-
--- those of the terms
-abbrev pub of_terms : Facts → List (Option What)
-of_terms f =
-    milliseconds Increment (asked f.terms) ∷ milliseconds Period f.terms.period ∷ over_max f.terms ∷ beside_period f.terms ∷ only_if f.lacks_step doubts.NoStep ∷ near_margin f ∷ []
-
--- those of the need
-abbrev pub of_needs : Facts → List (Option What)
-of_needs f = need_past f ∷ not_needed f ∷ f.limit ∷ []
+unfoldable pub entry_list : Subject → Option Whole → ℕ → List (Option What)
+entry_list s whole i =
+    let e = entry_at s.inventory.forest.entries i in
+    let t = terms_at s.inventory.terms i in
+    only_if (is_token_like e.name) doubts.TokenLike ∷ only_if (is_open s.open_files.items i) doubts.OpenFile ∷ only_if (nat_lt e.end t.issued) doubts.Swapped
+    ∷ late Issued t.issued ∷ late End e.end ∷ late_need e.need ∷ ended (is_told s.served.notes i) t e.end s.at ∷ milliseconds Increment (asked t)
+    ∷ milliseconds Period t.period ∷ over_max t ∷ beside_period t
+    ∷ only_if ((t.period == 0) && not (has_key s.places.marks.items s.places.heads.items i Increment true)) doubts.NoStep
+    ∷ near_margin e.step (written_margin s) ∷ need_past e.need s.at whole ∷ not_needed (load_at s.carried i).need whole ∷ limit s i ∷ []

@@ -31,13 +31,9 @@ sought_line found heads (Some i) sought = line_under found sought (slice_get hea
 abbrev pub line_of : List Mark → List ℕ → Option ℕ → Key → ℕ
 line_of found heads entry key = sought_line found heads entry (soughts.Key key)
 
-abbrev pub kind_in : Mark → Option Kind
-kind_in (marks.Table kind) = Some kind
-kind_in mark = None
-
 abbrev pub kind_at : Option Mark → Option Kind
-kind_at None = None
-kind_at (Some mark) = kind_in mark
+kind_at (Some (marks.Table kind)) = Some kind
+kind_at other = None
 
 abbrev pub kind_under : List Mark → Option ℕ → Option Kind
 kind_under found None = None
@@ -47,21 +43,13 @@ kind_under found (Some head) = kind_at (slice_get found (head - 1))
 abbrev pub kind_of : List Mark → List ℕ → ℕ → Option Kind
 kind_of found heads i = kind_under found (slice_get heads i)
 
-abbrev pub kind_if : List Mark → List ℕ → Option ℕ → Option Kind
-kind_if found heads None = None
-kind_if found heads (Some i) = kind_of found heads i
+-- the table with this head has a key; where it is not found, this is said of it
+abbrev pub has_key_under : List Mark → Key → Bool → Option ℕ → Bool
+has_key_under found key unfound None = unfound
+has_key_under found key unfound (Some head) = is_some (first_in (soughts.Key key) head (drop head found))
 
--- the line of the first key that the table of an entry, or the top level, does not have
-abbrev pub unknown_line : List Mark → List ℕ → Option ℕ → ℕ
-unknown_line found heads entry = sought_line found heads entry (soughts.Unknown (kind_if found heads entry))
-
--- the table with this head has a key
-abbrev pub has_key_under : List Mark → Key → Option ℕ → Bool
-has_key_under found key None = false
-has_key_under found key (Some head) = is_some (first_in (soughts.Key key) head (drop head found))
-
-abbrev pub has_key : List Mark → List ℕ → ℕ → Key → Bool
-has_key found heads i key = has_key_under found key (slice_get heads i)
+abbrev pub has_key : List Mark → List ℕ → ℕ → Key → Bool → Bool
+has_key found heads i key unfound = has_key_under found key unfound (slice_get heads i)
 
 -- a line that begins a table which no inventory has
 abbrev pub is_other : Mark → Bool
@@ -76,9 +64,10 @@ first_other at (mark ∷ later) = if is_other mark then at + 1 else first_other 
 abbrev pub line_unless_0 : ℕ → ℕ → ℕ
 line_unless_0 line other = if line == 0 then other else line
 
--- the line of the first key or table at the top level that no inventory has there
-abbrev pub unknown_top_line : List Mark → List ℕ → ℕ
-unknown_top_line found heads = line_unless_0 (unknown_line found heads None) (first_other 0 found)
+-- the line of the first key that the table of an entry does not have; of the first key or table at the top level that no inventory has there
+abbrev pub unknown_line : List Mark → List ℕ → Option ℕ → ℕ
+unknown_line found heads None = line_unless_0 (sought_line found heads None (soughts.Unknown None)) (first_other 0 found)
+unknown_line found heads (Some i) = sought_line found heads (Some i) (soughts.Unknown (kind_of found heads i))
 
 -- ---- the syntax
 

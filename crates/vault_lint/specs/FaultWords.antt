@@ -14,7 +14,7 @@ use Rattle.plan_forest.specs.declared.entry.Kind.TheVariants as kinds
 use Rattle.plan_forest.specs.declared.fault.TreeFault.{TreeFault}
 use Rattle.plan_forest.specs.declared.fault.TreeFault.TheVariants as trees
 use Rattle.vault_lint.specs.FaultNames.{called_if}
-use Rattle.vault_lint.specs.FaultPlaces.{IsSomeLine, has_key, kind_of, line_of, unknown_line, unknown_top_line}
+use Rattle.vault_lint.specs.FaultPlaces.{IsSomeLine, has_key, kind_of, line_of, unknown_line}
 use Rattle.vault_lint.specs.Marks.{marks_of}
 use Rattle.vault_lint.specs.Places.{heads_of}
 use Rattle.vault_lint.specs.declared.finding.Finding.{Finding}
@@ -22,32 +22,25 @@ use Rattle.vault_lint.specs.declared.mark.Mark.{Mark}
 
 -- ---- what is to stand there
 
--- at a key of the top level
-unfoldable pub expected_of_top : Key → List ℕ
-expected_of_top keys.Margin = codes "1 to 3600 seconds, or a text such as \"90s\" or \"15m\""
-expected_of_top keys.Token = codes "[[token]], with two brackets, over each token"
-expected_of_top keys.Lease = codes "[[lease]], with two brackets, over each lease"
-expected_of_top key = codes "whole seconds, 1 to 4294967295, or a text such as \"768h\""
-
--- at a key of an entry
-unfoldable pub expected : Key → List ℕ
-expected keys.Name = codes "1 to 64 letters, digits, -, _, . and /, in quotes"
-expected keys.Parent = codes "the name of a token, in quotes"
-expected keys.Token = codes "the name of a token, in quotes"
-expected keys.Issued = codes "whole seconds since 1970, or a date in quotes such as \"2027-01-31T08:00:00Z\""
-expected keys.End = codes "whole seconds since 1970, or a date in quotes such as \"2027-01-31T08:00:00Z\""
-expected keys.Need = codes "whole seconds since 1970, a date in quotes such as \"2027-01-31T08:00:00Z\", or \"always\""
-expected keys.Renewable = codes "true or false, without quotes"
-expected keys.Reissued = codes "true or false, without quotes"
-expected keys.Secret = codes "1 to 256 printable ASCII characters without blanks, in quotes, and each entry once"
-expected keys.LeaseId = codes "1 to 256 printable ASCII characters without blanks, in quotes, and each entry once"
-expected keys.SecretFile = codes "the path of a file, in quotes, or the credential itself, one of the two"
-expected keys.LeaseIdFile = codes "the path of a file, in quotes, or the credential itself, one of the two"
-expected key = codes "whole seconds, up to 4294967295, or a text such as \"90m\", \"1h\" or \"30d\""
-
-abbrev pub expected_at : Option ℕ → Key → List ℕ
-expected_at None key = expected_of_top key
-expected_at (Some i) key = expected key
+-- at a key of an entry, or of the top level
+unfoldable pub expected_at : Option ℕ → Key → List ℕ
+expected_at None keys.Margin = codes "1 to 3600 seconds, or a text such as \"90s\" or \"15m\""
+expected_at None keys.Token = codes "[[token]], with two brackets, over each token"
+expected_at None keys.Lease = codes "[[lease]], with two brackets, over each lease"
+expected_at None key = codes "whole seconds, 1 to 4294967295, or a text such as \"768h\""
+expected_at (Some i) keys.Name = codes "1 to 64 letters, digits, -, _, . and /, in quotes"
+expected_at (Some i) keys.Parent = codes "the name of a token, in quotes"
+expected_at (Some i) keys.Token = codes "the name of a token, in quotes"
+expected_at (Some i) keys.Issued = codes "whole seconds since 1970, or a date in quotes such as \"2027-01-31T08:00:00Z\""
+expected_at (Some i) keys.End = codes "whole seconds since 1970, or a date in quotes such as \"2027-01-31T08:00:00Z\""
+expected_at (Some i) keys.Need = codes "whole seconds since 1970, a date in quotes such as \"2027-01-31T08:00:00Z\", or \"always\""
+expected_at (Some i) keys.Renewable = codes "true or false, without quotes"
+expected_at (Some i) keys.Reissued = codes "true or false, without quotes"
+expected_at (Some i) keys.Secret = codes "1 to 256 printable ASCII characters without blanks, in quotes, and each entry once"
+expected_at (Some i) keys.LeaseId = codes "1 to 256 printable ASCII characters without blanks, in quotes, and each entry once"
+expected_at (Some i) keys.SecretFile = codes "the path of a file, in quotes, or the credential itself, one of the two"
+expected_at (Some i) keys.LeaseIdFile = codes "the path of a file, in quotes, or the credential itself, one of the two"
+expected_at (Some i) key = codes "whole seconds, up to 4294967295, or a text such as \"90m\", \"1h\" or \"30d\""
 
 -- which keys a table of that kind has
 unfoldable pub keys_words : Option Kind → List ℕ
@@ -56,23 +49,15 @@ keys_words kind = codes "look for a misspelling; the keys are name, parent, issu
 
 -- ---- a value
 
--- at a key of the top level
-unfoldable pub problem_of_top : Key → List ℕ
-problem_of_top keys.Token = codes "is not an array of tables"
-problem_of_top keys.Lease = codes "is not an array of tables"
-problem_of_top key = codes "is of the wrong type or out of range"
-
--- at a key of an entry
-unfoldable pub problem_of_entry : Key → List ℕ
-problem_of_entry keys.Secret = codes "is none, or another entry of this kind has it"
-problem_of_entry keys.LeaseId = codes "is none, or another entry of this kind has it"
-problem_of_entry keys.SecretFile = codes "is no path, or stands beside the credential itself"
-problem_of_entry keys.LeaseIdFile = codes "is no path, or stands beside the credential itself"
-problem_of_entry key = codes "is of the wrong type or out of range"
-
-abbrev pub value_problem : Option ℕ → Key → List ℕ
-value_problem None key = problem_of_top key
-value_problem (Some i) key = problem_of_entry key
+-- at a key of an entry, or of the top level
+unfoldable pub value_problem : Option ℕ → Key → List ℕ
+value_problem None keys.Token = codes "is not an array of tables"
+value_problem None keys.Lease = codes "is not an array of tables"
+value_problem (Some i) keys.Secret = codes "is none, or another entry of this kind has it"
+value_problem (Some i) keys.LeaseId = codes "is none, or another entry of this kind has it"
+value_problem (Some i) keys.SecretFile = codes "is no path, or stands beside the credential itself"
+value_problem (Some i) keys.LeaseIdFile = codes "is no path, or stands beside the credential itself"
+value_problem entry key = codes "is of the wrong type or out of range"
 
 -- ---- the tree of entries
 
@@ -86,7 +71,7 @@ tree_key found heads i trees.NoParent = over_key (kind_of found heads i)
 tree_key found heads i trees.ParentIsLease = over_key (kind_of found heads i)
 tree_key found heads i trees.LeaseWithoutToken = over_key (kind_of found heads i)
 tree_key found heads i trees.TooDeep = over_key (kind_of found heads i)
-tree_key found heads i trees.StepTooSmall = if has_key found heads i keys.Period then keys.Period else keys.Increment
+tree_key found heads i trees.StepTooSmall = if has_key found heads i keys.Period false then keys.Period else keys.Increment
 tree_key found heads i trees.OutOfRange = keys.MaxTtl
 tree_key found heads i fault = keys.Name
 
@@ -124,8 +109,7 @@ tree_mend trees.OutOfMemory = codes "memory"
 abbrev pub IsLineOf : List ℕ → List Mark → List ℕ → InvFault → ℕ → Type 0
 IsLineOf bytes found heads faults.NotToml line = IsSomeLine bytes line
 IsLineOf bytes found heads (faults.MissingKey i key) line = line ≡ line_of found heads (Some i) key
-IsLineOf bytes found heads (faults.UnknownKey None) line = line ≡ unknown_top_line found heads
-IsLineOf bytes found heads (faults.UnknownKey (Some i)) line = line ≡ unknown_line found heads (Some i)
+IsLineOf bytes found heads (faults.UnknownKey entry) line = line ≡ unknown_line found heads entry
 IsLineOf bytes found heads (faults.BadValue entry key) line = line ≡ line_of found heads entry key
 IsLineOf bytes found heads (faults.Tree i fault) line = line ≡ line_of found heads (Some i) (tree_key found heads i fault)
 IsLineOf bytes found heads faults.OutOfMemory line = line ≡ 0
@@ -178,7 +162,7 @@ unknown_mend found heads (Some i) = keys_words (kind_of found heads i)
 
 abbrev pub fault_mend : List ℕ → List Mark → List ℕ → InvFault → List ℕ
 fault_mend bytes found heads faults.NotToml = syntax_mend (is_utf8 bytes)
-fault_mend bytes found heads (faults.MissingKey i key) = codes "add " ++ (key_text key ++ (codes ": " ++ expected key))
+fault_mend bytes found heads (faults.MissingKey i key) = codes "add " ++ (key_text key ++ (codes ": " ++ expected_at (Some i) key))
 fault_mend bytes found heads (faults.UnknownKey entry) = unknown_mend found heads entry
 fault_mend bytes found heads (faults.BadValue entry key) = codes "write " ++ expected_at entry key
 fault_mend bytes found heads (faults.Tree i fault) = tree_mend fault

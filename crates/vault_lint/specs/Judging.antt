@@ -2,19 +2,9 @@
 -- Source: this project's own; Vault, "Tokens" (the prefixes of their values).
 use Rattle.std.specs.Prelude.{ℕ, ◌==◌, ◌&&◌, ◌||◌, Bool, false, true, not, nat_le, if◌then◌else◌, List, [], ◌∷◌, Option, Some, None, bytes_eq, codes, drop, is_some, length, slice_get}
 use Rattle.std.specs.List.{list_all}
-use Rattle.vault_inventory.specs.Inventories.{terms_at}
-use Rattle.vault_inventory.specs.declared.key.Key.TheVariants.{Increment}
-use Rattle.plan_needs.specs.Carried.{load_at}
-use Rattle.plan_forest.specs.Forest.{entry_at}
 use Rattle.base_words.specs.Pieces.{pieces}
-use Rattle.vault_lint.specs.Limits.{is_told, limit}
 use Rattle.vault_lint.specs.Marks.{is_word_byte}
-use Rattle.vault_lint.specs.Places.{first_in}
-use Rattle.vault_lint.specs.declared.facts.Facts.{Facts}
-use Rattle.vault_lint.specs.declared.mark.Mark.{Mark}
-use Rattle.vault_lint.specs.declared.places.Sought.TheVariants.{Key}
 use Rattle.vault_lint.specs.declared.subject.Subject.{Subject}
-use Rattle.vault_lint.specs.declared.what.Whole.{Whole}
 
 -- ---- a name that looks like the value of a token
 
@@ -39,31 +29,3 @@ is_true_at (Some b) = b
 
 abbrev pub is_open : List Bool → ℕ → Bool
 is_open open_files i = is_true_at (slice_get open_files i)
-
--- the table that begins at this line has an increment; where it is not found, it counts as one that has
-abbrev pub writes_increment_at : List Mark → Option ℕ → Bool
-writes_increment_at marks None = true
-writes_increment_at marks (Some head) = is_some (first_in (Key Increment) head (drop head marks))
-
-abbrev pub writes_increment : List Mark → List ℕ → ℕ → Bool
-writes_increment marks heads i = writes_increment_at marks (slice_get heads i)
-
-unfoldable pub facts_of : Subject → Option Whole → ℕ → Facts
-facts_of s whole i =
-    let e = entry_at s.inventory.forest.entries i in
-    let t = terms_at s.inventory.terms i in
-    record {
-      at = s.at;
-      margin = written_margin s;
-      whole = whole;
-      is_token_like = is_token_like e.name;
-      is_open = is_open s.open_files.items i;
-      is_told = is_told s.served.notes i;
-      lacks_step = (t.period == 0) && not (writes_increment s.places.marks.items s.places.heads.items i);
-      end = e.end;
-      step = e.step;
-      need = e.need;
-      carried = (load_at s.carried i).need;
-      terms = t;
-      limit = limit s i;
-    }

@@ -1,10 +1,10 @@
 pub mod Marks
 pub mod Places
-pub mod EntryDoubts
 pub mod Limits
 pub mod Judging
+pub mod FaultPlaces
+pub mod EntryDoubts
 pub mod Subjects
 pub mod Doubts
-pub mod FaultPlaces
 pub mod FaultNames
 pub mod FaultWords

@@ -24,12 +24,9 @@ abbrev pub life_of : Terms → Option ℕ
 life_of t = life_from t.issued (ceiling_of t)
 
 -- it is needed always, and lives a day or less
-abbrev pub short_life : ℕ → ℕ → Option What
-short_life over life = if nat_le life 86400 then Some (ShortLife over life) else None
-
 abbrev pub short_of : ℕ → Option ℕ → Option What
 short_of over None = None
-short_of over (Some life) = short_life over life
+short_of over (Some life) = if nat_le life 86400 then Some (ShortLife over life) else None
 
 abbrev pub days_limit : ℕ → Terms → Option What
 days_limit over t = short_of over (life_of t)

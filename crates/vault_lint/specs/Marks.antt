@@ -1,15 +1,16 @@
 -- Marks: what each line of an inventory's text begins. A line counts as it stands: one within a text of several lines does, too.
 -- Source: TOML 1.1, "Keys", "Table" and "Array of Tables"; that blanks and quotes are passed over is this project's own.
-use Rattle.std.specs.Prelude.{ℕ, ◌==◌, ◌&&◌, ◌||◌, Bool, true, false, not, nat_eq, nat_lt, if◌then◌else◌, List, [], ◌∷◌, Option, Some, None, bytes_eq, codes, filter, find, map}
+use Rattle.std.specs.Prelude.{ℕ, ◌==◌, ◌&&◌, ◌||◌, Bool, true, false, not, nat_eq, nat_lt, if◌then◌else◌, List, [], ◌∷◌, Option, Some, None, bytes_eq, codes, filter, find, is_some, map}
 use Rattle.std.specs.List.{list_all, starts_with}
 use Rattle.std.specs.Char.{is_ascii_alphanumeric}
 use Rattle.vault_inventory.specs.Keys.{key_text}
 use Rattle.vault_inventory.specs.declared.key.Key.{Key}
-use Rattle.vault_inventory.specs.declared.key.Key.TheVariants as keys
+use Rattle.plan_forest.specs.declared.entry.Kind.{Kind}
 use Rattle.plan_forest.specs.declared.entry.Kind.TheVariants as kinds
 use Rattle.base_words.specs.Pieces.{pieces}
 use Rattle.vault_lint.specs.declared.mark.Mark.{Mark}
 use Rattle.vault_lint.specs.declared.mark.Mark.TheVariants as marks
+use Rattle.vault_lint.specs.declared.mark.TheConstants.{LEASE_KEYS, TOKEN_KEYS, TOP_KEYS}
 
 -- all but blanks, quotes and what is not ASCII, such as a byte-order mark
 abbrev pub is_shown : ℕ → Bool
@@ -29,10 +30,22 @@ is_key_word word = is_some_word word && list_all is_word_byte word
 abbrev pub key_in : List ℕ → List Key → Option Key
 key_in word among = find (λ key. bytes_eq (key_text key) word) among
 
+abbrev pub first_key : Option Key → Option Key → Option Key
+first_key (Some key) other = Some key
+first_key None other = other
+
 -- the key of that text
 abbrev pub key_of : List ℕ → Option Key
-key_of word =
-    key_in word (keys.SystemMax ∷ keys.Margin ∷ keys.Token ∷ keys.Lease ∷ keys.Name ∷ keys.Parent ∷ keys.Issued ∷ keys.End ∷ keys.Renewable ∷ keys.Increment ∷ keys.Period ∷ keys.MaxTtl ∷ keys.ExplicitMaxTtl ∷ keys.Reissued ∷ keys.Need ∷ keys.Secret ∷ keys.SecretFile ∷ keys.LeaseId ∷ keys.LeaseIdFile ∷ [])
+key_of word = first_key (key_in word TOP_KEYS) (first_key (key_in word TOKEN_KEYS) (key_in word LEASE_KEYS))
+
+-- the keys of a table of this kind, or of the top level
+abbrev pub keys_of : Option Kind → List Key
+keys_of None = TOP_KEYS
+keys_of (Some kinds.Token) = TOKEN_KEYS
+keys_of (Some kinds.Lease) = LEASE_KEYS
+
+abbrev pub is_of_table : Option Kind → Key → Bool
+is_of_table table key = is_some (key_in (key_text key) (keys_of table))
 
 abbrev pub mark_by : Option Key → Mark
 mark_by (Some key) = marks.Key key

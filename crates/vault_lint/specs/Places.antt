@@ -2,10 +2,9 @@
 -- Source: this project's own.
 use Rattle.std.specs.Prelude.{ℕ, ◌+◌, ◌||◌, Bool, true, false, not, if◌then◌else◌, List, [], ◌∷◌, ◌++◌, Option, Some, None, bytes_eq}
 use Rattle.vault_inventory.specs.Keys.{key_text}
-use Rattle.vault_inventory.specs.declared.key.Key.{Key}
-use Rattle.vault_inventory.specs.declared.key.Key.TheVariants as keys
 use Rattle.plan_forest.specs.declared.entry.Kind.{Kind}
 use Rattle.plan_forest.specs.declared.entry.Kind.TheVariants as kinds
+use Rattle.vault_lint.specs.Marks.{is_of_table}
 use Rattle.vault_lint.specs.declared.mark.Mark.{Mark}
 use Rattle.vault_lint.specs.declared.mark.Mark.TheVariants as marks
 use Rattle.vault_lint.specs.declared.places.Sought.{Sought}
@@ -36,51 +35,6 @@ unfoldable pub heads_of : List Mark → List ℕ
 heads_of found = heads_from kinds.Token 0 found ++ heads_from kinds.Lease 0 found
 
 -- ---- keys
-
-abbrev pub is_of_top : Key → Bool
-is_of_top keys.SystemMax = true
-is_of_top keys.Margin = true
-is_of_top keys.Token = true
-is_of_top keys.Lease = true
-is_of_top key = false
-
--- a table of either kind has it
-abbrev pub is_of_entry : Key → Bool
-is_of_entry keys.Name = true
-is_of_entry keys.Issued = true
-is_of_entry keys.End = true
-is_of_entry keys.Renewable = true
-is_of_entry keys.Increment = true
-is_of_entry keys.MaxTtl = true
-is_of_entry keys.Reissued = true
-is_of_entry keys.Need = true
-is_of_entry key = false
-
-abbrev pub is_tokens_own : Key → Bool
-is_tokens_own keys.Parent = true
-is_tokens_own keys.Period = true
-is_tokens_own keys.ExplicitMaxTtl = true
-is_tokens_own keys.Secret = true
-is_tokens_own keys.SecretFile = true
-is_tokens_own key = false
-
-abbrev pub is_leases_own : Key → Bool
-is_leases_own keys.Token = true
-is_leases_own keys.LeaseId = true
-is_leases_own keys.LeaseIdFile = true
-is_leases_own key = false
-
-abbrev pub is_of_token : Key → Bool
-is_of_token key = is_of_entry key || is_tokens_own key
-
-abbrev pub is_of_lease : Key → Bool
-is_of_lease key = is_of_entry key || is_leases_own key
-
--- a table of this kind has it, or the top level
-abbrev pub is_of_table : Option Kind → Key → Bool
-is_of_table None key = is_of_top key
-is_of_table (Some kinds.Token) key = is_of_token key
-is_of_table (Some kinds.Lease) key = is_of_lease key
 
 -- the line begins the value that is sought
 abbrev pub is_sought : Sought → Mark → Bool

@@ -2,8 +2,7 @@
 ghost use Rattle.std.specs.Prelude.{◌≡◌, ◌++◌, ◌<◌, ◌≤◌, ◌+◌, ◌*◌, IfOk, OnOk, length};
 ghost use Rattle.vault_lint.specs.Doubts.{doubt_list, doubts, doubts_of_first, entry_doubts, falls_due, fullest_of_first, has_need_after, is_long, one_if, round_doubt, told, told_of, whole_doubt, whole_list};
 
-use crate::entry_doubts::{of_moments, of_names, of_needs, of_terms};
-use crate::judging::facts_of;
+use crate::entry_doubts::entry_list;
 use crate::subject::Subject;
 use crate::what::{Doubt, What, Whole};
 use std::alloc::{AllocError, Global};
@@ -144,11 +143,7 @@ fn push_entry(
     requires { index < length subject.now.inventory.forest.entries }
     ensures { OnOk result (found.new.items ≡ found.old.items ++ entry_doubts subject.now whole index) }
 {
-    let facts = facts_of(subject, whole, index);
-    push_told(index, &of_names(&facts), found)?;
-    push_told(index, &of_moments(&facts), found)?;
-    push_told(index, &of_terms(&facts), found)?;
-    push_told(index, &of_needs(&facts), found)
+    push_told(index, &entry_list(subject, whole, index), found)
 }
 
 // Appends those of these that there are.

@@ -1,8 +1,11 @@
 //! The doubts of one entry, each by itself.
-ghost use Rattle.std.specs.Prelude.{◌≡◌};
-ghost use Rattle.vault_lint.specs.EntryDoubts.{beside_period, ended, late, milliseconds, near_margin, late_need, need_past, not_needed, of_moments, of_names, of_needs, of_terms, only_if, over_max};
+ghost use Rattle.std.specs.Prelude.{◌≡◌, ◌<◌, length};
+ghost use Rattle.vault_lint.specs.EntryDoubts.{beside_period, ended, entry_list, late, late_need, milliseconds, near_margin, need_past, not_needed, only_if, over_max};
 
-use crate::facts::Facts;
+use crate::judging::{is_open, is_token_like, is_told, written_margin};
+use crate::limits::limit;
+use crate::place::has_key;
+use crate::subject::Subject;
 use crate::what::{What, Whole};
 use base_moment::LAST;
 use vault_inventory::{Key, Terms};
@@ -13,48 +16,34 @@ pub(crate) const YEAR_3000: u64 = 32_503_680_000;
 /// The longest duration that is not doubted, in seconds: 90 days.
 pub(crate) const LONG_STEP: u32 = 7_776_000;
 
-/// Those of its name and of its file.
-pub(crate) fn of_names(facts: &Facts) -> [Option<What>; 2]
-    ensures { result ≡ of_names facts.now }
+/// All of them, in the order in which they are said: those of its name and file, of its moments, of its terms and of its need.
+#[tactic(auto, unfolding(crate::specs::EntryDoubts::entry_list))]
+pub(crate) fn entry_list(subject: &Subject, whole: Option<Whole>, index: u32) -> [Option<What>; 16]
+    requires { index < length subject.now.inventory.forest.entries }
+    ensures { result ≡ entry_list subject.now whole index }
 {
+    let entry = subject.inventory.forest().get(index);
+    let terms = subject.inventory.terms(index);
+    let at = subject.at.get();
+    let lacks_step = terms.period == 0 && !has_key(&subject.places, index, Key::Increment, true);
     [
-        only_if(facts.is_token_like, What::TokenLike),
-        only_if(facts.is_open, What::OpenFile),
+        only_if(is_token_like(entry.name.list()), What::TokenLike),
+        only_if(is_open(&subject.open_files, index as usize), What::OpenFile),
+        only_if(terms.issued.get() > entry.end, What::Swapped),
+        late(Key::Issued, terms.issued.get()),
+        late(Key::End, entry.end),
+        late_need(entry.need),
+        ended(is_told(subject, index), &terms, entry.end, at),
+        milliseconds(Key::Increment, terms.increment.unwrap_or(0)),
+        milliseconds(Key::Period, terms.period),
+        over_max(&terms),
+        beside_period(&terms),
+        only_if(lacks_step, What::NoStep),
+        near_margin(entry.step, written_margin(subject)),
+        need_past(entry.need, at, whole),
+        not_needed(subject.carried.need(index), whole),
+        limit(subject, index),
     ]
-}
-
-/// Those of its moments.
-pub(crate) fn of_moments(facts: &Facts) -> [Option<What>; 5]
-    ensures { result ≡ of_moments facts.now }
-{
-    [
-        only_if(facts.terms.issued.get() > facts.end, What::Swapped),
-        late(Key::Issued, facts.terms.issued.get()),
-        late(Key::End, facts.end),
-        late_need(facts.need),
-        ended(facts),
-    ]
-}
-
-/// Those of its terms.
-pub(crate) fn of_terms(facts: &Facts) -> [Option<What>; 6]
-    ensures { result ≡ of_terms facts.now }
-{
-    [
-        milliseconds(Key::Increment, facts.terms.increment.unwrap_or(0)),
-        milliseconds(Key::Period, facts.terms.period),
-        over_max(&facts.terms),
-        beside_period(&facts.terms),
-        only_if(facts.lacks_step, What::NoStep),
-        near_margin(facts),
-    ]
-}
-
-/// Those of its need.
-pub(crate) fn of_needs(facts: &Facts) -> [Option<What>; 3]
-    ensures { result ≡ of_needs facts.now }
-{
-    [need_past(facts), not_needed(facts), facts.limit]
 }
 
 fn only_if(holds: bool, what: What) -> Option<What>
@@ -80,12 +69,12 @@ fn late_need(need: u64) -> Option<What>
     late(Key::Need, need)
 }
 
-// An end that is past.
-fn ended(facts: &Facts) -> Option<What>
-    ensures { result ≡ ended facts.now }
+// An end that is past, of an entry whose issue and end are written.
+fn ended(is_told: bool, terms: &Terms, end: u64, at: u64) -> Option<What>
+    ensures { result ≡ ended is_told terms.now end at }
 {
-    let is_sound = facts.is_told && facts.terms.issued.get() <= facts.end;
-    only_if(is_sound && facts.end <= facts.at, What::Ended(facts.end))
+    let is_sound = is_told && terms.issued.get() <= end;
+    only_if(is_sound && end <= at, What::Ended(end))
 }
 
 // A duration that is long and a whole number of thousands: milliseconds, perhaps.
@@ -121,33 +110,30 @@ fn beside_period(terms: &Terms) -> Option<What>
 }
 
 // A step for which the agent uses a margin of its own.
-fn near_margin(facts: &Facts) -> Option<What>
-    ensures { result ≡ near_margin facts.now }
+fn near_margin(step: u32, margin: Option<u32>) -> Option<What>
+    ensures { result ≡ near_margin step margin }
 {
-    match facts.margin {
+    match margin {
         None => None,
         Some(margin) => only_if(
-            u64::from(facts.step) * 3 < u64::from(margin) * 4,
-            What::NearMargin(facts.step),
+            u64::from(step) * 3 < u64::from(margin) * 4,
+            What::NearMargin(step),
         ),
     }
 }
 
 // A need that is past, where not all are.
-fn need_past(facts: &Facts) -> Option<What>
-    ensures { result ≡ need_past facts.now }
+fn need_past(need: u64, at: u64, whole: Option<Whole>) -> Option<What>
+    ensures { result ≡ need_past need at whole }
 {
-    let all_are = matches!(facts.whole, Some(Whole::AllPast));
-    only_if(
-        facts.need > 0 && facts.need <= facts.at && !all_are,
-        What::NeedPast(facts.need),
-    )
+    let all_are = matches!(whole, Some(Whole::AllPast));
+    only_if(need > 0 && need <= at && !all_are, What::NeedPast(need))
 }
 
 // No need, here or under it, where some entry has one.
-fn not_needed(facts: &Facts) -> Option<What>
-    ensures { result ≡ not_needed facts.now }
+fn not_needed(carried: u64, whole: Option<Whole>) -> Option<What>
+    ensures { result ≡ not_needed carried whole }
 {
-    let none_is = matches!(facts.whole, Some(Whole::NoNeeds));
-    only_if(facts.carried == 0 && !none_is, What::NotNeeded)
+    let none_is = matches!(whole, Some(Whole::NoNeeds));
+    only_if(carried == 0 && !none_is, What::NotNeeded)
 }

@@ -4,11 +4,11 @@ ghost use Rattle.std.specs.Prelude.{◌≡◌, ◌≤◌, ◌++◌, IfOk, codes,
 ghost use Rattle.std.specs.Str.{is_utf8};
 ghost use Rattle.vault_inventory.specs.Keys.{key_text};
 ghost use Rattle.vault_lint.specs.FaultPlaces.{IsSomeLine, is_line_feed, line_at};
-ghost use Rattle.vault_lint.specs.FaultWords.{IsLineOf, IsSaidOf, called_of, entry_of, expected, expected_at, expected_of_top, fault_entry, fault_key, fault_mend, fault_problem, keys_words, over_key, problem_of_entry, problem_of_top, syntax_mend, syntax_problem, tree_key, tree_key_text, tree_mend, tree_problem, unknown_mend, unknown_problem, value_problem};
+ghost use Rattle.vault_lint.specs.FaultWords.{IsLineOf, IsSaidOf, called_of, entry_of, expected_at, fault_entry, fault_key, fault_mend, fault_problem, keys_words, over_key, syntax_mend, syntax_problem, tree_key, tree_key_text, tree_mend, tree_problem, unknown_mend, unknown_problem, value_problem};
 
 use crate::fault_names::called_if;
 use crate::finding::{Finding, Severity};
-use crate::place::{has_key, kind_of, line_of, unknown_line, unknown_top_line};
+use crate::place::{has_key, kind_of, line_of, unknown_line};
 use crate::printing::{push_line_number, push_words};
 use crate::reading::places_of;
 use crate::subject::Places;
@@ -69,8 +69,7 @@ fn line_of_fault(
     match fault {
         InvFault::NotToml => syntax_line(alloc, bytes),
         InvFault::MissingKey(entry, key) => Ok(line_of(places, Some(entry), key)),
-        InvFault::UnknownKey(None) => Ok(unknown_top_line(places)),
-        InvFault::UnknownKey(Some(entry)) => Ok(unknown_line(places, Some(entry))),
+        InvFault::UnknownKey(entry) => Ok(unknown_line(places, entry)),
         InvFault::BadValue(entry, key) => Ok(line_of(places, entry, key)),
         InvFault::Tree(entry, fault) => {
             let key = tree_key(places, entry, fault);
@@ -162,7 +161,7 @@ fn tree_key(places: &Places, entry: u32, fault: TreeFault) -> Key
         | TreeFault::LeaseWithoutToken
         | TreeFault::TooDeep => over_key(kind_of(places, entry)),
         TreeFault::StepTooSmall => {
-            if has_key(places, entry, Key::Period) {
+            if has_key(places, entry, Key::Period, false) {
                 Key::Period
             } else {
                 Key::Increment
@@ -224,34 +223,17 @@ fn unknown_problem(entry: Option<u32>) -> &'static str
     }
 }
 
+// What is wrong with the value at a key of an entry, or of the top level.
+#[tactic(auto, unfolding(crate::specs::FaultWords::value_problem))]
 fn value_problem(entry: Option<u32>, key: Key) -> &'static str
     ensures { result.now ≡ value_problem entry key }
 {
-    match entry {
-        None => problem_of_top(key),
-        Some(_) => problem_of_entry(key),
-    }
-}
-
-// What is wrong with the value at a key of the top level.
-#[tactic(auto, unfolding(crate::specs::FaultWords::problem_of_top))]
-fn problem_of_top(key: Key) -> &'static str
-    ensures { result.now ≡ problem_of_top key }
-{
-    match key {
-        Key::Token | Key::Lease => "is not an array of tables",
-        _ => "is of the wrong type or out of range",
-    }
-}
-
-// What is wrong with the value at a key of an entry.
-#[tactic(auto, unfolding(crate::specs::FaultWords::problem_of_entry))]
-fn problem_of_entry(key: Key) -> &'static str
-    ensures { result.now ≡ problem_of_entry key }
-{
-    match key {
-        Key::Secret | Key::LeaseId => "is none, or another entry of this kind has it",
-        Key::SecretFile | Key::LeaseIdFile => "is no path, or stands beside the credential itself",
+    match (entry, key) {
+        (None, Key::Token | Key::Lease) => "is not an array of tables",
+        (Some(_), Key::Secret | Key::LeaseId) => "is none, or another entry of this kind has it",
+        (Some(_), Key::SecretFile | Key::LeaseIdFile) => {
+            "is no path, or stands beside the credential itself"
+        }
         _ => "is of the wrong type or out of range",
     }
 }
@@ -286,7 +268,7 @@ fn mend_of(
 {
     match fault {
         InvFault::NotToml => String::from_str(alloc, syntax_mend(is_utf8(bytes))),
-        InvFault::MissingKey(_, key) => missing_mend(alloc, key),
+        InvFault::MissingKey(entry, key) => missing_mend(alloc, entry, key),
         InvFault::UnknownKey(entry) => String::from_str(alloc, unknown_mend(places, entry)),
         InvFault::BadValue(entry, key) => value_mend(alloc, entry, key),
         InvFault::Tree(_, fault) => String::from_str(alloc, tree_mend(fault)),
@@ -304,11 +286,11 @@ fn syntax_mend(is_utf8: bool) -> &'static str
     }
 }
 
-fn missing_mend(alloc: Global, key: Key) -> Result<String, AllocError>
-    ensures { IfOk result (λ text. string_bytes text ≡ codes "add " ++ (key_text key ++ (codes ": " ++ expected key))) }
+fn missing_mend(alloc: Global, entry: u32, key: Key) -> Result<String, AllocError>
+    ensures { IfOk result (λ text. string_bytes text ≡ codes "add " ++ (key_text key ++ (codes ": " ++ expected_at (Some entry) key))) }
 {
     let word = key.text();
-    let expected = expected(key);
+    let expected = expected_at(Some(entry), key);
     format!(in alloc; "add {word}: {expected}")
 }
 
@@ -348,50 +330,34 @@ fn value_mend(alloc: Global, entry: Option<u32>, key: Key) -> Result<String, All
     format!(in alloc; "write {expected}")
 }
 
+// What is to stand at a key of an entry, or of the top level.
+#[tactic(auto, unfolding(crate::specs::FaultWords::expected_at))]
 fn expected_at(entry: Option<u32>, key: Key) -> &'static str
     ensures { result.now ≡ expected_at entry key }
 {
-    match entry {
-        None => expected_of_top(key),
-        Some(_) => expected(key),
-    }
-}
-
-// What is to stand at a key of the top level.
-#[tactic(auto, unfolding(crate::specs::FaultWords::expected_of_top))]
-fn expected_of_top(key: Key) -> &'static str
-    ensures { result.now ≡ expected_of_top key }
-{
-    match key {
-        Key::Margin => "1 to 3600 seconds, or a text such as \"90s\" or \"15m\"",
-        Key::Token => "[[token]], with two brackets, over each token",
-        Key::Lease => "[[lease]], with two brackets, over each lease",
-        _ => "whole seconds, 1 to 4294967295, or a text such as \"768h\"",
-    }
-}
-
-// What is to stand at a key of an entry.
-#[tactic(auto, unfolding(crate::specs::FaultWords::expected))]
-fn expected(key: Key) -> &'static str
-    ensures { result.now ≡ expected key }
-{
-    match key {
-        Key::Name => "1 to 64 letters, digits, -, _, . and /, in quotes",
-        Key::Parent | Key::Token => "the name of a token, in quotes",
-        Key::Issued | Key::End => {
+    match (entry, key) {
+        (None, Key::Margin) => "1 to 3600 seconds, or a text such as \"90s\" or \"15m\"",
+        (None, Key::Token) => "[[token]], with two brackets, over each token",
+        (None, Key::Lease) => "[[lease]], with two brackets, over each lease",
+        (None, _) => "whole seconds, 1 to 4294967295, or a text such as \"768h\"",
+        (Some(_), Key::Name) => "1 to 64 letters, digits, -, _, . and /, in quotes",
+        (Some(_), Key::Parent | Key::Token) => "the name of a token, in quotes",
+        (Some(_), Key::Issued | Key::End) => {
             "whole seconds since 1970, or a date in quotes such as \"2027-01-31T08:00:00Z\""
         }
-        Key::Need => {
+        (Some(_), Key::Need) => {
             "whole seconds since 1970, a date in quotes such as \"2027-01-31T08:00:00Z\", or \"always\""
         }
-        Key::Renewable | Key::Reissued => "true or false, without quotes",
-        Key::Secret | Key::LeaseId => {
+        (Some(_), Key::Renewable | Key::Reissued) => "true or false, without quotes",
+        (Some(_), Key::Secret | Key::LeaseId) => {
             "1 to 256 printable ASCII characters without blanks, in quotes, and each entry once"
         }
-        Key::SecretFile | Key::LeaseIdFile => {
+        (Some(_), Key::SecretFile | Key::LeaseIdFile) => {
             "the path of a file, in quotes, or the credential itself, one of the two"
         }
-        _ => "whole seconds, up to 4294967295, or a text such as \"90m\", \"1h\" or \"30d\"",
+        (Some(_), _) => {
+            "whole seconds, up to 4294967295, or a text such as \"90m\", \"1h\" or \"30d\""
+        }
     }
 }
 

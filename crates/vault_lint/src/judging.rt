@@ -1,42 +1,11 @@
 //! What the doubts of one entry go by.
 ghost use Rattle.std.specs.Prelude.{◌≡◌, ◌<◌, length};
-ghost use Rattle.std.specs.List.{list_all};
-ghost use Rattle.vault_lint.specs.Marks.{is_word_byte};
 ghost use Rattle.vault_lint.specs.Limits.{is_told};
-ghost use Rattle.vault_lint.specs.Judging.{facts_of, is_open, is_token_front, is_token_like, writes_increment, written_margin};
+ghost use Rattle.vault_lint.specs.Judging.{is_open, is_token_front, is_token_like, written_margin};
 
-use crate::facts::Facts;
-use crate::limits::limit;
-use crate::places::{Sought, first_in};
+use crate::mark::has_word_bytes;
 use crate::subject::Subject;
-use crate::what::Whole;
 use base_words::two_pieces;
-use vault_inventory::Key;
-
-/// The facts of the entry at an index.
-#[tactic(auto, unfolding(crate::specs::Judging::facts_of))]
-pub(crate) fn facts_of(subject: &Subject, whole: Option<Whole>, index: u32) -> Facts
-    requires { index < length subject.now.inventory.forest.entries }
-    ensures { result ≡ facts_of subject.now whole index }
-{
-    let entry = subject.inventory.forest().get(index);
-    let terms = subject.inventory.terms(index);
-    Facts {
-        at: subject.at.get(),
-        margin: written_margin(subject),
-        whole,
-        is_token_like: is_token_like(entry.name.list()),
-        is_open: is_open(&subject.open_files, index as usize),
-        is_told: is_told(subject, index),
-        lacks_step: terms.period == 0 && !writes_increment(subject, index as usize),
-        end: entry.end,
-        step: entry.step,
-        need: entry.need,
-        carried: subject.carried.need(index),
-        terms,
-        limit: limit(subject, index),
-    }
-}
 
 /// Whether the issue and the end of an entry are written.
 pub(crate) fn is_told(subject: &Subject, index: u32) -> bool
@@ -48,8 +17,8 @@ pub(crate) fn is_told(subject: &Subject, index: u32) -> bool
     notes[at].is_told
 }
 
-// The margin, where it is written.
-fn written_margin(subject: &Subject) -> Option<u32>
+/// The margin, where it is written.
+pub(crate) fn written_margin(subject: &Subject) -> Option<u32>
     ensures { result ≡ written_margin subject.now }
 {
     if subject.served.has_margin() {
@@ -59,25 +28,13 @@ fn written_margin(subject: &Subject) -> Option<u32>
     }
 }
 
-fn is_open(open_files: &[bool], index: usize) -> bool
+/// Whether others may read or write the file of an entry's credential.
+pub(crate) fn is_open(open_files: &[bool], index: usize) -> bool
     ensures { result ≡ is_open open_files.now index }
 {
     match open_files.get(index) {
         None => false,
         Some(is_open) => *is_open,
-    }
-}
-
-// Whether the table of an entry, where it can be found, has an increment; one that cannot be found counts as one that has.
-fn writes_increment(subject: &Subject, index: usize) -> bool
-    ensures { result ≡ writes_increment subject.now.places.marks.items subject.now.places.heads.items index }
-{
-    match subject.places.heads.get(index) {
-        None => true,
-        Some(head) => {
-            let key = Sought::Key(Key::Increment);
-            first_in(&subject.places.marks, key, *head).is_some()
-        }
     }
 }
 
@@ -87,7 +44,7 @@ pub(crate) fn is_token_like(name: &[u8]) -> bool
 {
     match two_pieces(name, b'.') {
         None => false,
-        Some((front, rest)) => is_token_front(front) && rest.len() >= 8 && has_token_bytes(rest),
+        Some((front, rest)) => is_token_front(front) && rest.len() >= 8 && has_word_bytes(rest),
     }
 }
 
@@ -99,10 +56,4 @@ fn is_token_front(front: &[u8]) -> bool
         || front == b"hvr".as_slice()
         || front == b"s".as_slice()
         || front == b"b".as_slice()
-}
-
-fn has_token_bytes(rest: &[u8]) -> bool
-    ensures { result ≡ list_all is_word_byte rest.now }
-{
-    rest.iter().all(|byte| byte.is_ascii_alphanumeric() || *byte == b'_' || *byte == b'-')
 }

@@ -10,7 +10,6 @@ mod all_doubts;
 mod doubt_mends;
 mod doubt_words;
 mod entry_doubts;
-mod facts;
 mod fault_names;
 mod fault_words;
 mod finding;

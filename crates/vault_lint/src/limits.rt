@@ -1,7 +1,7 @@
 //! Why no renewal leads to a need: the ceilings and the ends of an entry and of those over it.
 ghost use Rattle.std.specs.Prelude.{◌≡◌, ◌+◌, ◌^◌, ◌<◌, ◌≤◌, IfSome, length};
 ghost use Rattle.plan_forest.specs.declared.forest.TheConstants.{END_MAX};
-ghost use Rattle.vault_lint.specs.Limits.{days_limit, is_written_max, limit, limit_at, limit_in, life_of, past_ceiling, past_end, past_life, short_life, told_limit, untold_limit};
+ghost use Rattle.vault_lint.specs.Limits.{days_limit, is_written_max, limit, limit_at, limit_in, life_of, past_ceiling, past_end, past_life, told_limit, untold_limit};
 
 use crate::judging::is_told;
 use crate::subject::Subject;
@@ -62,18 +62,8 @@ fn days_limit(over: u32, terms: &Terms) -> Option<What>
     ensures { result ≡ days_limit over terms.now }
 {
     match life_of(terms) {
-        None => None,
-        Some(life) => short_life(over, life),
-    }
-}
-
-fn short_life(over: u32, life: u64) -> Option<What>
-    ensures { result ≡ short_life over life }
-{
-    if life <= SHORT_LIFE {
-        Some(What::ShortLife(over, life))
-    } else {
-        None
+        Some(life) if life <= SHORT_LIFE => Some(What::ShortLife(over, life)),
+        _ => None,
     }
 }
 

@@ -2,12 +2,47 @@
 ghost use Rattle.std.specs.Prelude.{◌≡◌, IfOk, bytes_eq, filter};
 ghost use Rattle.vault_inventory.specs.Keys.{key_text};
 ghost use Rattle.std.specs.List.{list_all};
-ghost use Rattle.vault_lint.specs.Marks.{is_key_word, is_shown, is_word_byte, key_in, key_of, mark_of, mark_of_key, mark_of_shown, mark_of_word};
+ghost use Rattle.vault_lint.specs.Marks.{is_key_word, is_of_table, is_shown, is_word_byte, key_in, key_of, keys_of, mark_of, mark_of_key, mark_of_shown, mark_of_word};
 
 use base_words::cut;
 use plan_forest::Kind;
 use std::alloc::{AllocError, Global};
 use vault_inventory::Key;
+
+/// The keys of the top level.
+const TOP_KEYS: [Key; 4] = [Key::SystemMax, Key::Margin, Key::Token, Key::Lease];
+
+/// Those of a token's table.
+const TOKEN_KEYS: [Key; 13] = [
+    Key::Name,
+    Key::Parent,
+    Key::Issued,
+    Key::End,
+    Key::Renewable,
+    Key::Increment,
+    Key::Period,
+    Key::MaxTtl,
+    Key::ExplicitMaxTtl,
+    Key::Reissued,
+    Key::Need,
+    Key::Secret,
+    Key::SecretFile,
+];
+
+/// Those of a lease's table.
+const LEASE_KEYS: [Key; 11] = [
+    Key::Name,
+    Key::Token,
+    Key::Issued,
+    Key::End,
+    Key::Renewable,
+    Key::Increment,
+    Key::MaxTtl,
+    Key::Reissued,
+    Key::Need,
+    Key::LeaseId,
+    Key::LeaseIdFile,
+];
 
 /// What a line begins.
 #[derive(Clone, Copy, Debug, PartialEq, Eq)]
@@ -92,7 +127,8 @@ fn is_key_word(word: &[u8]) -> bool
     !word.is_empty() && has_word_bytes(word)
 }
 
-fn has_word_bytes(word: &[u8]) -> bool
+/// Whether these are bytes of such a key, which are those of a token's value too.
+pub(crate) fn has_word_bytes(word: &[u8]) -> bool
     ensures { result ≡ list_all is_word_byte word.now }
 {
     word.iter().all(|byte| byte.is_ascii_alphanumeric() || *byte == b'_' || *byte == b'-')
@@ -102,30 +138,30 @@ fn has_word_bytes(word: &[u8]) -> bool
 fn key_of(word: &[u8]) -> Option<Key>
     ensures { result ≡ key_of word.now }
 {
-    key_in(
-        word,
-        &[
-            Key::SystemMax,
-            Key::Margin,
-            Key::Token,
-            Key::Lease,
-            Key::Name,
-            Key::Parent,
-            Key::Issued,
-            Key::End,
-            Key::Renewable,
-            Key::Increment,
-            Key::Period,
-            Key::MaxTtl,
-            Key::ExplicitMaxTtl,
-            Key::Reissued,
-            Key::Need,
-            Key::Secret,
-            Key::SecretFile,
-            Key::LeaseId,
-            Key::LeaseIdFile,
-        ],
-    )
+    match key_in(word, &TOP_KEYS) {
+        Some(key) => Some(key),
+        None => match key_in(word, &TOKEN_KEYS) {
+            Some(key) => Some(key),
+            None => key_in(word, &LEASE_KEYS),
+        },
+    }
+}
+
+/// Whether a table of this kind, or the top level, has that key.
+pub(crate) fn is_of_table(table: Option<Kind>, key: Key) -> bool
+    ensures { result ≡ is_of_table table key }
+{
+    key_in(key.text().as_bytes(), keys_of(table)).is_some()
+}
+
+fn keys_of(table: Option<Kind>) -> &'static [Key]
+    ensures { result.now ≡ keys_of table }
+{
+    match table {
+        None => &TOP_KEYS,
+        Some(Kind::Token) => &TOKEN_KEYS,
+        Some(Kind::Lease) => &LEASE_KEYS,
+    }
 }
 
 // Of these keys the first with that text.

@@ -1,6 +1,6 @@
 //! The lines of entries, keys and faults, counted from 1.
 ghost use Rattle.std.specs.Prelude.{◌≡◌, slice_get};
-ghost use Rattle.vault_lint.specs.FaultPlaces.{first_other, has_key, is_other, kind_at, kind_if, kind_in, kind_of, line_from, line_of, line_unless_0, sought_line, unknown_line, unknown_top_line};
+ghost use Rattle.vault_lint.specs.FaultPlaces.{first_other, has_key, is_other, kind_at, kind_of, line_from, line_of, line_unless_0, sought_line, unknown_line};
 
 use crate::mark::Mark;
 use crate::places::{Sought, first_in};
@@ -16,18 +16,20 @@ pub fn line_of(places: &Places, entry: Option<u32>, key: Key) -> u64
     sought_line(places, entry, Sought::Key(key))
 }
 
-/// The same of the first key that the table, or the top level, does not have.
+/// The same of the first key that the table of an entry does not have; of the first key or table that the top level does not have.
 pub(crate) fn unknown_line(places: &Places, entry: Option<u32>) -> u64
     ensures { result ≡ unknown_line places.now.marks.items places.now.heads.items entry }
 {
-    sought_line(places, entry, Sought::Unknown(kind_if(places, entry)))
-}
-
-/// The line of the first key or table that the top level does not have; 0 where it is not found.
-pub(crate) fn unknown_top_line(places: &Places) -> u64
-    ensures { result ≡ unknown_top_line places.now.marks.items places.now.heads.items }
-{
-    line_unless_0(unknown_line(places, None), first_other(&places.marks))
+    match entry {
+        None => line_unless_0(
+            sought_line(places, None, Sought::Unknown(None)),
+            first_other(&places.marks),
+        ),
+        Some(entry) => {
+            let kind = kind_of(places, entry);
+            sought_line(places, Some(entry), Sought::Unknown(kind))
+        }
+    }
 }
 
 fn line_unless_0(line: u64, other: u64) -> u64
@@ -36,12 +38,12 @@ fn line_unless_0(line: u64, other: u64) -> u64
     if line == 0 { other } else { line }
 }
 
-/// Whether the table of the entry at an index, where it is found, has that key.
-pub(crate) fn has_key(places: &Places, entry: u32, key: Key) -> bool
-    ensures { result ≡ has_key places.now.marks.items places.now.heads.items entry key }
+/// Whether the table of the entry at an index has that key; `unfound` where the table is not found.
+pub(crate) fn has_key(places: &Places, entry: u32, key: Key, unfound: bool) -> bool
+    ensures { result ≡ has_key places.now.marks.items places.now.heads.items entry key unfound }
 {
     match places.heads.get(entry as usize) {
-        None => false,
+        None => unfound,
         Some(head) => first_in(&places.marks, Sought::Key(key), *head).is_some(),
     }
 }
@@ -61,26 +63,8 @@ fn kind_on(marks: &[Mark], line: usize) -> Option<Kind>
     ensures { result ≡ kind_at (slice_get marks.now line) }
 {
     match marks.get(line) {
-        None => None,
-        Some(mark) => kind_in(*mark),
-    }
-}
-
-fn kind_in(mark: Mark) -> Option<Kind>
-    ensures { result ≡ kind_in mark }
-{
-    match mark {
-        Mark::Table(kind) => Some(kind),
+        Some(Mark::Table(kind)) => Some(*kind),
         _ => None,
-    }
-}
-
-fn kind_if(places: &Places, entry: Option<u32>) -> Option<Kind>
-    ensures { result ≡ kind_if places.now.marks.items places.now.heads.items entry }
-{
-    match entry {
-        None => None,
-        Some(entry) => kind_of(places, entry),
     }
 }
 

@@ -1,9 +1,9 @@
 //! Where in the text of an inventory the tables of its entries stand, and their keys.
 ghost use Rattle.std.specs.Prelude.{◌≡◌, ◌<◌, ◌++◌, IfOk, IfSome, OnOk, drop, length};
 ghost use Rattle.vault_lint.specs.Marks.{marks_of};
-ghost use Rattle.vault_lint.specs.Places.{begins_table, first_in, head_at, heads_from, is_of_entry, is_of_lease, is_of_table, is_of_token, is_of_top, is_sought, is_table_of, heads_of};
+ghost use Rattle.vault_lint.specs.Places.{begins_table, first_in, head_at, heads_from, is_sought, is_table_of, heads_of};
 
-use crate::mark::{Mark, mark_of};
+use crate::mark::{Mark, is_of_table, mark_of};
 use base_words::cut;
 use plan_forest::Kind;
 use std::alloc::{AllocError, Global};
@@ -106,54 +106,4 @@ fn is_sought(sought: Sought, mark: Mark) -> bool
         (Sought::Unknown(_), Mark::Unknown) => true,
         _ => false,
     }
-}
-
-// Whether a table of this kind, or the top level, has that key.
-fn is_of_table(table: Option<Kind>, key: Key) -> bool
-    ensures { result ≡ is_of_table table key }
-{
-    match table {
-        None => is_of_top(key),
-        Some(Kind::Token) => is_of_token(key),
-        Some(Kind::Lease) => is_of_lease(key),
-    }
-}
-
-fn is_of_top(key: Key) -> bool
-    ensures { result ≡ is_of_top key }
-{
-    matches!(key, Key::SystemMax | Key::Margin | Key::Token | Key::Lease)
-}
-
-fn is_of_token(key: Key) -> bool
-    ensures { result ≡ is_of_token key }
-{
-    is_of_entry(key)
-        || matches!(
-            key,
-            Key::Parent | Key::Period | Key::ExplicitMaxTtl | Key::Secret | Key::SecretFile
-        )
-}
-
-fn is_of_lease(key: Key) -> bool
-    ensures { result ≡ is_of_lease key }
-{
-    is_of_entry(key) || matches!(key, Key::Token | Key::LeaseId | Key::LeaseIdFile)
-}
-
-// Whether a table of either kind has that key.
-fn is_of_entry(key: Key) -> bool
-    ensures { result ≡ is_of_entry key }
-{
-    matches!(
-        key,
-        Key::Name
-            | Key::Issued
-            | Key::End
-            | Key::Renewable
-            | Key::Increment
-            | Key::MaxTtl
-            | Key::Reissued
-            | Key::Need
-    )
 }
