@@ -25,6 +25,7 @@ use Rattle.agent_house.specs.Admitting.{AdmitsIf, AnswerBeginsWith, FollowsLog, 
 use Rattle.agent_house.specs.Awaiting.{AddsRow, HearsFor, HearsOfAwaited, HearsVerdict, IsAddedLine, IsRefusedFor, Judges, LooksUpBy, LooksUpFirst, LooksUpIf, Makes, ProvesBy, Replaces, SetsAside, VerdictIs, addressed}
 use Rattle.agent_house.specs.Commands.{AddsEntry, AddsIf, AsksFor, AsksIf, CarriesIf, CarriesOut, ClosesClient, DropsEntry, GivesNeed, InventoryIsDue, NeedIsKept, StateIsServed, GoesOnIf, GoesOnWithClients, LacksMemory, Needs, NeedsIf, Reloads, RereadBy, ServesClients, SettlesFile, SettlesAnswer, SettlesAside, SettlesBy, SettlesGiven, SettlesNeed, SettlesServed, TellsNeed, TellsReload, end_named}
 use Rattle.agent_log.specs.Feeding.{FollowersGoOn}
+use Rattle.agent_house.specs.Retries.{KeeperTries, is_any_asked}
 use Rattle.agent_house.specs.Houses.{Attends, ClientIsAnswered, ClientIsAside, ClientIsSent, ClientsAsk, ClientsGoOn, Concludes, IsAnsweredAs, IsAnsweredAside, SendsAside, WillRefuse, WillTell, bytes_sent, changes_given, given_where}
 use Rattle.agent_ledger.specs.Keeping.{KeepCall, KeeperIsAsked, Settle, Take}
 use Rattle.agent_words.specs.Outcomes.{Outcome, Why, Whys}
@@ -44,6 +45,7 @@ use Rattle.agent_house.specs.declared.given.Given.TheVariants as givens
 use Rattle.agent_house.specs.declared.given.GivenNeed.{GivenNeed}
 use Rattle.agent_house.specs.declared.house.House.{House}
 use Rattle.agent_ledger.specs.declared.keeping.FileLook.{FileLook}
+use Rattle.agent_ledger.specs.declared.keeping.KeepNews.{KeepNews}
 use Rattle.agent_ledger.specs.declared.keeping.LookedUp.{LookedUp}
 use Rattle.agent_ledger.specs.declared.keeping.LookedUp.TheVariants as lookups
 use Rattle.agent_words.specs.declared.reread.Reread.{Reread}
@@ -71,17 +73,20 @@ comes does call Says outcome None new h = ap is_some h.0
 comes does call Says outcome (Some old) None h = absurd h
 comes does call Says outcome (Some old) (Some new) h = refl
 
-kept : {K : Type 0} (does : KeepCall → K → K → Type 0) (agent : Agent) (now : Reading) (name : List ℕ) (need : Need) (result : Result (Unit {0}) Why) (old new : Option K) → NeedIsKept does agent now name need result old new → is_some new ≡ is_some old
-kept does agent now name need result None new h = ap is_some h.1
-kept does agent now name need result (Some old) None h = absurd h
-kept does agent now name need result (Some old) (Some new) h = refl
+kept : {K : Type 0} (does : KeepCall → K → K → Type 0) (keeps : K → Bool) (agent : Agent) (now : Reading) (name : List ℕ) (need : Need) (result : Result (Unit {0}) Why) (old new : Option K) → NeedIsKept does keeps agent now name need result old new → is_some new ≡ is_some old
+kept does keeps agent now name need result None new h = ap is_some h.1
+kept does keeps agent now name need result (Some old) None h = absurd h
+kept does keeps agent now name need result (Some old) (Some new) h = refl
 
-reread : {K : Type 0} (does : KeepCall → K → K → Type 0) (now : Reading) (result : Option (Result Reread Whys)) (old new : Option K) → RereadBy does now result old new → is_some new ≡ is_some old
-reread does now None None new h = ap is_some h
-reread does now None (Some old) new h = absurd h
-reread does now (Some result) None new h = absurd h
-reread does now (Some result) (Some old) None h = absurd h
-reread does now (Some result) (Some old) (Some new) h = refl
+reread : {K : Type 0} (does : KeepCall → K → K → Type 0) (keeps : K → Bool) (now : Reading) (result : Option (Result Reread Whys)) (old new : Option K) → RereadBy does keeps now result old new → is_some new ≡ is_some old
+reread does keeps now result None new h = ap is_some h.1
+reread does keeps now result (Some old) None h = absurd h
+reread does keeps now result (Some old) (Some new) h = refl
+
+keeper_tried : {K : Type 0} (does : KeepCall → K → K → Type 0) (now : ℕ) (is_asked : Bool) (news : Option KeepNews) (old new : Option K) → KeeperTries does now is_asked news old new → is_some new ≡ is_some old
+keeper_tried does now is_asked news None new h = ap is_some h.1
+keeper_tried does now is_asked news (Some old) None h = absurd h
+keeper_tried does now is_asked news (Some old) (Some new) h = refl
 
 marked_served : {K : Type 0} (does : KeepCall → K → K → Type 0) (old new : Option K) → StateIsServed does old new → is_some new ≡ is_some old
 marked_served does None new h = ap is_some h
@@ -239,11 +244,11 @@ module _ {S T D K E : Type 0} where
   log_followed now alerts old new (inl h) = will_tell (Err h.why) now.elapsed old new h.will
   log_followed now alerts old new (inr h) = admits now alerts old new h.admits
 
-module _ {S T D K E : Type 0} (does : KeepCall → K → K → Type 0) (rows : K → List Row) (path : K → List ℕ) (reads : K → List ℕ → Result Row Why → Type 0)
+module _ {S T D K E : Type 0} (does : KeepCall → K → K → Type 0) (rows : K → List Row) (keeps : K → Bool) (path : K → List ℕ) (reads : K → List ℕ → Result Row Why → Type 0)
     (gives : ℕ → Result (Option Inventory) AllocError → K → Type 0) (agent : Agent) (now : Reading) where
-  carried_out : (a : Asked) (change : Change) (old new : House S T D K E) → CarriesOut does rows path reads gives agent now a change old new → AreSame old new
+  carried_out : (a : Asked) (change : Change) (old new : House S T D K E) → CarriesOut does rows keeps path reads gives agent now a change old new → AreSame old new
   carried_out (asked.Need name need) change old new h =
-      after_state h.state old new (kept does agent now name need h.result old.state h.state h.kept) (need_if agent now name _ h.result change (record old { state = h.state }) new h.then)
+      after_state h.state old new (kept does keeps agent now name need h.result old.state h.state h.kept) (need_if agent now name _ h.result change (record old { state = h.state }) new h.then)
   carried_out (asked.Replace name credential) change old new h = looked_up does rows agent now name (what.Replace credential) old new h.1
   carried_out (asked.Add table) change old new h = add_if does rows agent now h.1.read old new h.1.then
   carried_out (asked.Drop name) change old new h =
@@ -251,51 +256,56 @@ module _ {S T D K E : Type 0} (does : KeepCall → K → K → Type 0) (rows : K
   carried_out asked.Settle change old new h =
       after_state h.1.state old new (comes does Settle (λ k line. line ≡ settle_line (path k)) h.1.outcome old.state h.1.state h.1.comes) (concluded agent _ h.1.outcome now.elapsed (record old { state = h.1.state }) new h.1.concludes)
   carried_out asked.Reload change old new h =
-      after_state h.1.state old new (reread does now h.1.result old.state h.1.state h.1.asks) (reload_told path agent now h.1.result (record old { state = h.1.state }) new h.1.tells)
+      after_state h.1.state old new (reread does keeps now h.1.result old.state h.1.state h.1.asks) (reload_told path agent now h.1.result (record old { state = h.1.state }) new h.1.tells)
   carried_out (asked.Follow alerts) change old new h = log_followed now alerts old new h.1
 
-  lacked : (change : Option Change) (old new : House S T D K E) → LacksMemory does rows path reads gives agent now change old new → AreSame old new
+  lacked : (change : Option Change) (old new : House S T D K E) → LacksMemory does rows keeps path reads gives agent now change old new → AreSame old new
   lacked change old new h = record { sink = ap (λ x. x.sink) h.1.1; control = ap (λ x. is_some x.control) h.1.1; state = ap (λ x. is_some x.state) h.1.1 }
 
-  carried_if : (a : Result (Option Asked) AllocError) (change : Option Change) (old new : House S T D K E) → CarriesIf does rows path reads gives agent now a change old new → AreSame old new
+  carried_if : (a : Result (Option Asked) AllocError) (change : Option Change) (old new : House S T D K E) → CarriesIf does rows keeps path reads gives agent now a change old new → AreSame old new
   carried_if (Ok None) change old new h = same old new h.1
   carried_if (Ok (Some a)) None old new h = absurd h
   carried_if (Ok (Some a)) (Some change) old new h = carried_out a change old new h
   carried_if (Err e) change old new h = lacked change old new h
 
-  served_clients : (change : Option Change) (old new : House S T D K E) → ServesClients does rows path reads gives agent now change old new → AreSame old new
+  served_clients : (change : Option Change) (old new : House S T D K E) → ServesClients does rows keeps path reads gives agent now change old new → AreSame old new
   served_clients change old new h =
-      let all = carried_if h.asked change (record old { control = h.control }) new h.then in
-      record { sink = all.sink; control = all.control ∙ clients_asked now h.asked old.control h.control h.clients; state = all.state }
+      let all = carried_if h.asked change h.tried new h.then in
+      let tried = h.tries.rest in
+      record {
+        sink = all.sink ∙ ap (λ x. x.sink) tried;
+        control = all.control ∙ (ap (λ x. is_some x.control) tried ∙ clients_asked now h.asked old.control h.control h.clients);
+        state = all.state ∙ keeper_tried does now.elapsed (is_any_asked h.asked) h.tries.news old.state h.tried.state h.tries.tries;
+      }
 
-  goes_on_if : (heard : Bool) (change : Option Change) (old new : House S T D K E) → GoesOnIf does rows path reads gives agent now heard change old new → AreSame old new
+  goes_on_if : (heard : Bool) (change : Option Change) (old new : House S T D K E) → GoesOnIf does rows keeps path reads gives agent now heard change old new → AreSame old new
   goes_on_if true change old new h = same old new h.1
   goes_on_if false change old new h = served_clients change old new h
 
-  gone_on : (change : Option Change) (old new : House S T D K E) → GoesOnWithClients does rows path reads gives agent now change old new → AreSame old new
+  gone_on : (change : Option Change) (old new : House S T D K E) → GoesOnWithClients does rows keeps path reads gives agent now change old new → AreSame old new
   gone_on change old new h = both_same does rows agent now old h.mid new (heard_for does rows agent now old.awaited h.heard old h.mid h.hears) (goes_on_if h.heard change h.mid new h.then)
 
-  pub asked_for : (due : Result (Option (Inventory × Vec Mark Global)) AllocError) (change : Option Change) (old new : House S T D K E) → AsksIf does rows path reads gives agent now due change old new → AreSame old new
+  pub asked_for : (due : Result (Option (Inventory × Vec Mark Global)) AllocError) (change : Option Change) (old new : House S T D K E) → AsksIf does rows keeps path reads gives agent now due change old new → AreSame old new
   asked_for (Ok None) change old new h = gone_on change old new h
   asked_for (Ok (Some p)) change old new h = record { sink = ap (λ x. x.sink) h.1.1; control = ap (λ x. is_some x.control) h.1.1; state = ap (λ x. is_some x.state) h.1.1 }
   asked_for (Err e) change old new h = lacked change old new h
 
   -- nobody asks, and nothing is kept: none is given
-  no_client : (a : Result (Option Asked) AllocError) (change : Option Change) (old new : House S T D K E) → a ≡ Ok None → CarriesIf does rows path reads gives agent now a change old new → change ≡ None
+  no_client : (a : Result (Option Asked) AllocError) (change : Option Change) (old new : House S T D K E) → a ≡ Ok None → CarriesIf does rows keeps path reads gives agent now a change old new → change ≡ None
   no_client (Ok None) change old new is h = h.0
   no_client (Ok (Some a)) change old new is h = absurd (some_is_none a (Ok (Some a)) refl is)
   no_client (Err e) change old new is h = h.0
 
-  served_none : (change : Option Change) (old new : House S T D K E) → old.control ≡ None → ServesClients does rows path reads gives agent now change old new → change ≡ None
+  served_none : (change : Option Change) (old new : House S T D K E) → old.control ≡ None → ServesClients does rows keeps path reads gives agent now change old new → change ≡ None
   served_none change old new none h =
-      no_client h.asked change (record old { control = h.control }) new (subst (λ (o : Option (Control T D)). ClientsAsk now h.asked o h.control) none h.clients).0 h.then
+      no_client h.asked change h.tried new (subst (λ (o : Option (Control T D)). ClientsAsk now h.asked o h.control) none h.clients).0 h.then
 
-  none_if : (heard : Bool) (change : Option Change) (old new : House S T D K E) → heard ≡ false → old.control ≡ None → GoesOnIf does rows path reads gives agent now heard change old new → change ≡ None
+  none_if : (heard : Bool) (change : Option Change) (old new : House S T D K E) → heard ≡ false → old.control ≡ None → GoesOnIf does rows keeps path reads gives agent now heard change old new → change ≡ None
   none_if true change old new is none h = absurd (true≢false is)
   none_if false change old new is none h = served_none change old new none h
 
   none_of : (due : Result (Option (Inventory × Vec Mark Global)) AllocError) (change : Option Change) (old new : House S T D K E) (control : Option (Control T D)) (state : Option K) → old.control ≡ control → old.state ≡ state →
-      (is_some control || is_some state) ≡ false → InventoryIsDue gives now due state → AsksIf does rows path reads gives agent now due change old new → change ≡ None
+      (is_some control || is_some state) ≡ false → InventoryIsDue gives now due state → AsksIf does rows keeps path reads gives agent now due change old new → change ≡ None
   none_of due change old new (Some control) state c s is is_due h = absurd (true≢false is)
   none_of due change old new None (Some state) c s is is_due h = absurd (true≢false is)
   none_of (Ok None) change old new None None c s is is_due h =
@@ -327,8 +337,8 @@ same_fed form moment old new (Some before) None h = absurd h
 same_fed form moment old new (Some before) (Some after) h = refl
 
 pub none_by_attending : {S T D K E : Type 0} (given : S → Option (List ℕ)) (failures tries : S → ℕ) (tried : S → Option (List Tried)) (remaining written : T → Option (List ℕ)) (calls : T → Option (List Call)) (log : D → Option (DoorLog T))
-    (rows : K → List Row) (agent : Agent) (now : Reading) (goes_on : Bool) (old new : House S T D K E) → Attends given failures tries tried remaining written calls log rows agent now goes_on old new → changes_given new.control new.state ≡ changes_given old.control old.state
-none_by_attending given failures tries tried remaining written calls log rows agent now goes_on old new h =
+    (rows : K → List Row) (keeps : K → Bool) (agent : Agent) (now : Reading) (goes_on : Bool) (old new : House S T D K E) → Attends given failures tries tried remaining written calls log rows keeps agent now goes_on old new → changes_given new.control new.state ≡ changes_given old.control old.state
+none_by_attending given failures tries tried remaining written calls log rows keeps agent now goes_on old new h =
     ap (λ b. given_where (b || is_some new.state)) (same_goers remaining written calls log agent _ now h.answered h.fed new.control h.clients ∙ same_fed _ _ _ h.rooms old.control h.fed h.follow)
     ∙ ap (λ x. given_where (is_some old.control || is_some x.state)) h.rest
 
@@ -345,31 +355,31 @@ none_by_looking does agent now goes_on old new h =
 
 -- ---- a client gives one, or an inventory that is due
 
-pub one_by_asking : {S T D K E : Type 0} (does : KeepCall → K → K → Type 0) (rows : K → List Row) (path : K → List ℕ) (reads : K → List ℕ → Result Row Why → Type 0) (gives : ℕ → Result (Option Inventory) AllocError → K → Type 0)
-    (agent : Agent) (now : Reading) (change : Option Change) (old new : House S T D K E) → AsksFor does rows path reads gives agent now change old new →
+pub one_by_asking : {S T D K E : Type 0} (does : KeepCall → K → K → Type 0) (rows : K → List Row) (keeps : K → Bool) (path : K → List ℕ) (reads : K → List ℕ → Result Row Why → Type 0) (gives : ℕ → Result (Option Inventory) AllocError → K → Type 0)
+    (agent : Agent) (now : Reading) (change : Option Change) (old new : House S T D K E) → AsksFor does rows keeps path reads gives agent now change old new →
     AllGiven (option_to_list change) (changes_given old.control old.state) (changes_given new.control new.state)
-one_by_asking does rows path reads gives agent now change old new h =
-    subst (λ g. AllGiven (option_to_list change) (changes_given old.control old.state) g) (sym (given_as old new (asked_for does rows path reads gives agent now h.0 change old new h.1.1)))
-    (by_case (is_some old.control || is_some old.state) change (λ none. none_of does rows path reads gives agent now h.0 change old new old.control old.state refl refl none h.1.0 h.1.1))
+one_by_asking does rows keeps path reads gives agent now change old new h =
+    subst (λ g. AllGiven (option_to_list change) (changes_given old.control old.state) g) (sym (given_as old new (asked_for does rows keeps path reads gives agent now h.0 change old new h.1.1)))
+    (by_case (is_some old.control || is_some old.state) change (λ none. none_of does rows keeps path reads gives agent now h.0 change old new old.control old.state refl refl none h.1.0 h.1.1))
 
 -- ---- settling gives none
 
-settled_by : {S T D K E : Type 0} (does : KeepCall → K → K → Type 0) (agent : Agent) (is_made : Bool) (given : Option Given) (old new : House S T D K E) → SettlesBy does agent is_made given old new → AreSame old new
-settled_by does agent is_made None old new h = same old new h
-settled_by does agent true (Some (givens.Need need)) old new h = let all = sent agent h.sent need.at (record old { desk = h.desk }) new h.sends in record { sink = all.sink; control = all.control; state = all.state }
-settled_by does agent false (Some (givens.Need need)) old new h = record { sink = ap (λ x. x.sink) h.1; control = answered [] need.at old.control new.control h.0; state = ap (λ x. is_some x.state) h.1 }
-settled_by does agent true (Some (givens.Answer text at)) old new h = sent agent text at old new h
-settled_by does agent false (Some (givens.Answer text at)) old new h = record { sink = ap (λ x. x.sink) h.1; control = answered [] at old.control new.control h.0; state = ap (λ x. is_some x.state) h.1 }
-settled_by does agent true (Some (givens.Aside client text at)) old new h =
+settled_by : {S T D K E : Type 0} (does : KeepCall → K → K → Type 0) (keeps : K → Bool) (agent : Agent) (is_made : Bool) (given : Option Given) (old new : House S T D K E) → SettlesBy does keeps agent is_made given old new → AreSame old new
+settled_by does keeps agent is_made None old new h = same old new h
+settled_by does keeps agent true (Some (givens.Need need)) old new h = let all = sent agent h.sent need.at (record old { desk = h.desk }) new h.sends in record { sink = all.sink; control = all.control; state = all.state }
+settled_by does keeps agent false (Some (givens.Need need)) old new h = record { sink = ap (λ x. x.sink) h.1; control = answered [] need.at old.control new.control h.0; state = ap (λ x. is_some x.state) h.1 }
+settled_by does keeps agent true (Some (givens.Answer text at)) old new h = sent agent text at old new h
+settled_by does keeps agent false (Some (givens.Answer text at)) old new h = record { sink = ap (λ x. x.sink) h.1; control = answered [] at old.control new.control h.0; state = ap (λ x. is_some x.state) h.1 }
+settled_by does keeps agent true (Some (givens.Aside client text at)) old new h =
     record { sink = ap (λ x. x.sink) h.rest; control = told_aside client (bytes_sent text) at old.control new.control h.answered; state = ap (λ x. is_some x.state) h.rest }
-settled_by does agent false (Some (givens.Aside client text at)) old new h = record { sink = ap (λ x. x.sink) h.1; control = told_aside client [] at old.control new.control h.0; state = ap (λ x. is_some x.state) h.1 }
-settled_by does agent true (Some (givens.Served marks)) old new h = record { sink = ap (λ x. x.sink) h.1; control = ap (λ x. is_some x.control) h.1; state = marked_served does old.state new.state h.0 }
-settled_by does agent false (Some (givens.Served marks)) old new h = same old new h
-settled_by does agent true (Some givens.Unchanged) old new h = record { sink = ap (λ x. x.sink) h.1; control = ap (λ x. is_some x.control) h.1; state = marked_served does old.state new.state h.0 }
-settled_by does agent false (Some givens.Unchanged) old new h = same old new h
+settled_by does keeps agent false (Some (givens.Aside client text at)) old new h = record { sink = ap (λ x. x.sink) h.1; control = told_aside client [] at old.control new.control h.0; state = ap (λ x. is_some x.state) h.1 }
+settled_by does keeps agent true (Some (givens.Served marks)) old new h = record { sink = ap (λ x. x.sink) h.1; control = ap (λ x. is_some x.control) h.1; state = marked_served does old.state new.state h.0 }
+settled_by does keeps agent false (Some (givens.Served marks)) old new h = same old new h
+settled_by does keeps agent true (Some givens.Unchanged) old new h = record { sink = ap (λ x. x.sink) h.1; control = ap (λ x. is_some x.control) h.1; state = marked_served does old.state new.state h.0 }
+settled_by does keeps agent false (Some givens.Unchanged) old new h = same old new h
 
-pub settled_given : {S T D K E : Type 0} (does : KeepCall → K → K → Type 0) (agent : Agent) (is_made : Bool) (old new : House S T D K E) → SettlesGiven does agent is_made old new → AreSame old new
-settled_given does agent is_made old new h = let all = settled_by does agent is_made old.given (record old { given = None }) new h in record { sink = all.sink; control = all.control; state = all.state }
+pub settled_given : {S T D K E : Type 0} (does : KeepCall → K → K → Type 0) (keeps : K → Bool) (agent : Agent) (is_made : Bool) (old new : House S T D K E) → SettlesGiven does keeps agent is_made old new → AreSame old new
+settled_given does keeps agent is_made old new h = let all = settled_by does keeps agent is_made old.given (record old { given = None }) new h in record { sink = all.sink; control = all.control; state = all.state }
 
-pub none_by_settling : {S T D K E : Type 0} (does : KeepCall → K → K → Type 0) (agent : Agent) (is_made : Bool) (old new : House S T D K E) → SettlesGiven does agent is_made old new → changes_given new.control new.state ≡ changes_given old.control old.state
-none_by_settling does agent is_made old new h = given_as old new (settled_given does agent is_made old new h)
+pub none_by_settling : {S T D K E : Type 0} (does : KeepCall → K → K → Type 0) (keeps : K → Bool) (agent : Agent) (is_made : Bool) (old new : House S T D K E) → SettlesGiven does keeps agent is_made old new → changes_given new.control new.state ≡ changes_given old.control old.state
+none_by_settling does keeps agent is_made old new h = given_as old new (settled_given does keeps agent is_made old new h)

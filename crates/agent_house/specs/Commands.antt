@@ -1,6 +1,6 @@
 -- Commands: what clients ask for is carried out, and what comes of it.
 -- Source: this project's own; docs/running.md, "Changes while it runs".
-use Rattle.std.specs.Prelude.{◌≡◌, ◌≢◌, ◌/◌, ◌⊎◌, ◌==◌, ◌&&◌, ℕ, Bool, true, false, not, nat_lt, List, [], ◌∷◌, Option, Some, None, IfSome, Vec, Result, Ok, Err, codes, is_some, length, replicate}
+use Rattle.std.specs.Prelude.{◌≡◌, ◌≢◌, ◌⊎◌, ◌==◌, ◌&&◌, ℕ, Bool, true, false, not, nat_lt, List, [], ◌∷◌, Option, Some, None, IfSome, Vec, Result, Ok, Err, codes, length, replicate}
 use Rattle.std.specs.declared.alloc.AllocError.{AllocError}
 use Rattle.std.specs.declared.alloc.Global.{Global}
 use Rattle.agent_standing.specs.Agent.{Agent}
@@ -17,7 +17,6 @@ use Rattle.vault_inventory.specs.declared.need.Need.{Need}
 use Rattle.vault_inventory.specs.declared.need.Need.TheVariants as needs
 use Rattle.program_lines.specs.Text.{name_of}
 use Rattle.base_moment.specs.declared.moment.TheConstants.{LAST}
-use Rattle.agent_pages.specs.declared.board.FileReading.{FileReading}
 use Rattle.agent_turns.specs.declared.change.Change.{Change}
 use Rattle.agent_turns.specs.declared.change.Change.TheVariants as changes
 use Rattle.plan_forest.specs.Forest.{index_named}
@@ -28,6 +27,7 @@ use Rattle.agent_house.specs.Awaiting.{HearsVerdict, LooksUpFirst}
 use Rattle.agent_log.specs.Changed.{entry_log_line, fault_lines, reread_lines, settled_line}
 use Rattle.agent_log.specs.LinesOfClocks.{marks_anew}
 use Rattle.agent_log.specs.LogDesk.{Desk, HearsRefusal, SaysLine, SaysLines}
+use Rattle.agent_house.specs.Retries.{TriesAgain, is_any_asked, keeps_in, read_badly, read_well}
 use Rattle.agent_house.specs.Houses.{ClientIsAnswered, ClientIsSent, ClientsAsk, Concludes, IsAnsweredAside, SendsAside, WillRefuse, WillTell}
 use Rattle.agent_words.specs.Outcomes.{IsNotKept, Outcome, Why, Whys}
 use Rattle.agent_ledger.specs.Keeping.{KeepCall, KeeperIsAsked, MarkServed, Reload, Settle, Take}
@@ -49,13 +49,6 @@ end_known_at a (Some i) = (status_of_entry a i).end
 abbrev pub end_named : Agent → List ℕ → Option ℕ
 end_named a name = end_known_at a (index_named a.inventory.forest.entries name)
 
--- the file was read at this moment, in milliseconds of the wall's clock, and was good, or was not
-abbrev pub read_well : Reading → FileReading
-read_well now = record { is_good = true; at = Some (now.wall / 1000); good_at = Some (now.wall / 1000) }
-
-abbrev pub read_badly : Reading → FileReading → FileReading
-read_badly now before = record before { is_good = false; at = Some (now.wall / 1000) }
-
 -- ---- need
 
 -- the agent has the entry, where nobody keeps changes
@@ -68,11 +61,21 @@ EntryIsThere None (Ok x) = ⊥
 EntryIsThere None (Err None) = Unit {0}
 EntryIsThere None (Err (Some why)) = why ≡ no_entry_text
 
--- the need is kept, where somebody keeps changes
-abbrev pub NeedIsKept : {K : Type 0} → (KeepCall → K → K → Type 0) → Agent → Reading → List ℕ → Need → Result (Unit {0}) Why → Option K → Option K → Type 0
-NeedIsKept does agent now name need result None new = EntryIsThere (index_named agent.inventory.forest.entries name) result × (new ≡ None)
-NeedIsKept does agent now name need result (Some old) None = ⊥
-NeedIsKept does agent now name need result (Some old) (Some new) = does (Take now.elapsed name (what.Need need) result) old new
+-- whoever keeps changes takes the need; where they do not yet, the agent has to have the entry
+abbrev pub TakesIfThere : {K : Type 0} → (KeepCall → K → K → Type 0) → Reading → List ℕ → Need → Result (Unit {0}) Why → Result (Unit {0}) Why → K → K → Type 0
+TakesIfThere does now name need (Ok x) result old new = does (Take now.elapsed name (what.Need need) result) old new
+TakesIfThere does now name need (Err why) result old new = (result ≡ Err why) × (new ≡ old)
+
+abbrev pub TakesNeedBy : {K : Type 0} → (KeepCall → K → K → Type 0) → Bool → Agent → Reading → List ℕ → Need → Result (Unit {0}) Why → K → K → Type 0
+TakesNeedBy does keeps agent now name need result old new =
+    ((keeps ≡ true) × does (Take now.elapsed name (what.Need need) result) old new)
+    ⊎ ((keeps ≡ false) × ((there : Result (Unit {0}) Why) × (EntryIsThere (index_named agent.inventory.forest.entries name) there × TakesIfThere does now name need there result old new)))
+
+-- as it has where there is nobody
+abbrev pub NeedIsKept : {K : Type 0} → (KeepCall → K → K → Type 0) → (K → Bool) → Agent → Reading → List ℕ → Need → Result (Unit {0}) Why → Option K → Option K → Type 0
+NeedIsKept does keeps agent now name need result None new = EntryIsThere (index_named agent.inventory.forest.entries name) result × (new ≡ None)
+NeedIsKept does keeps agent now name need result (Some old) None = ⊥
+NeedIsKept does keeps agent now name need result (Some old) (Some new) = TakesNeedBy does (keeps old) agent now name need result old new
 
 -- it is given for the entry that the agent has; one that it is to have holds once it is served, and the log says so
 abbrev pub GivesNeed : {S T D K E : Type 0} → Agent → Reading → List ℕ → ℕ → Option ℕ → Change → House S T D K E → House S T D K E → Type 0
@@ -85,10 +88,10 @@ abbrev pub NeedsIf : {S T D K E : Type 0} → Agent → Reading → List ℕ →
 NeedsIf agent now name until (Ok x) change old new = GivesNeed agent now name until (index_named agent.inventory.forest.entries name) change old new
 NeedsIf agent now name until (Err why) change old new = (change ≡ changes.Kept) × WillTell (Err why) now.elapsed old new
 
-pub record Needs {S T D K E : Type 0} (does : KeepCall → K → K → Type 0) (agent : Agent) (now : Reading) (name : List ℕ) (need : Need) (change : Change) (old new : House S T D K E) : Type 0 where
+pub record Needs {S T D K E : Type 0} (does : KeepCall → K → K → Type 0) (keeps : K → Bool) (agent : Agent) (now : Reading) (name : List ℕ) (need : Need) (change : Change) (old new : House S T D K E) : Type 0 where
   pub result : Result (Unit {0}) Why
   pub state : Option K
-  pub kept : NeedIsKept does agent now name need result old.state state
+  pub kept : NeedIsKept does keeps agent now name need result old.state state
   pub then : NeedsIf agent now name (until_of_need need) result change (record old { state = state }) new
 
 -- ---- drop, settle
@@ -135,12 +138,17 @@ pub record AddsEntry {S T D K E : Type 0} (does : KeepCall → K → K → Type 
 -- ---- reload
 
 -- the file is read anew, where somebody keeps changes
-abbrev pub RereadBy : {K : Type 0} → (KeepCall → K → K → Type 0) → Reading → Option (Result Reread Whys) → Option K → Option K → Type 0
-RereadBy does now None None new = new ≡ None
-RereadBy does now None (Some old) new = ⊥
-RereadBy does now (Some result) None new = ⊥
-RereadBy does now (Some result) (Some old) None = ⊥
-RereadBy does now (Some result) (Some old) (Some new) = does (Reload now.elapsed result) old new
+abbrev pub AsksToReload : {K : Type 0} → (KeepCall → K → K → Type 0) → Reading → Option (Result Reread Whys) → K → K → Type 0
+AsksToReload does now None old new = ⊥
+AsksToReload does now (Some result) old new = does (Reload now.elapsed result) old new
+
+abbrev pub RereadIf : {K : Type 0} → (KeepCall → K → K → Type 0) → Bool → Reading → Option (Result Reread Whys) → K → K → Type 0
+RereadIf does keeps now result old new = ((keeps ≡ true) × AsksToReload does now result old new) ⊎ ((keeps ≡ false) × ((result ≡ None) × (new ≡ old)))
+
+abbrev pub RereadBy : {K : Type 0} → (KeepCall → K → K → Type 0) → (K → Bool) → Reading → Option (Result Reread Whys) → Option K → Option K → Type 0
+RereadBy does keeps now result None new = (result ≡ None) × (new ≡ None)
+RereadBy does keeps now result (Some old) None = ⊥
+RereadBy does keeps now result (Some old) (Some new) = RereadIf does (keeps old) now result old new
 
 abbrev pub path_if_kept : {K : Type 0} → (K → List ℕ) → Option K → List ℕ
 path_if_kept path None = []
@@ -169,10 +177,10 @@ TellsReload path agent now None old new = TellsNotKept agent now old new
 TellsReload path agent now (Some (Ok reread)) old new = TellsReread path agent now reread old new
 TellsReload path agent now (Some (Err whys)) old new = TellsUnread agent now whys.items old new
 
-pub record Reloads {S T D K E : Type 0} (does : KeepCall → K → K → Type 0) (path : K → List ℕ) (agent : Agent) (now : Reading) (old new : House S T D K E) : Type 0 where
+pub record Reloads {S T D K E : Type 0} (does : KeepCall → K → K → Type 0) (keeps : K → Bool) (path : K → List ℕ) (agent : Agent) (now : Reading) (old new : House S T D K E) : Type 0 where
   pub result : Option (Result Reread Whys)
   pub state : Option K
-  pub asks : RereadBy does now result old.state state
+  pub asks : RereadBy does keeps now result old.state state
   pub tells : TellsReload path agent now result (record old { state = state }) new
 
 -- ---- each of them, and an inventory that is due
@@ -195,15 +203,15 @@ IsGivenWith agent s marks (Some (givens.Aside client sent at)) = ⊥
 IsGivenWith agent s marks (Some (givens.Served given)) = (s ≢ agent.inventory) × (given.items ≡ marks)
 IsGivenWith agent s marks (Some givens.Unchanged) = s ≡ agent.inventory
 
-module _ {S T D K E : Type 0} (does : KeepCall → K → K → Type 0) (rows : K → List Row) (path : K → List ℕ) (reads : K → List ℕ → Result Row Why → Type 0)
+module _ {S T D K E : Type 0} (does : KeepCall → K → K → Type 0) (rows : K → List Row) (keeps : K → Bool) (path : K → List ℕ) (reads : K → List ℕ → Result Row Why → Type 0)
     (gives : ℕ → Result (Option Inventory) AllocError → K → Type 0) (agent : Agent) (now : Reading) where
   abbrev pub CarriesOut : Asked → Change → House S T D K E → House S T D K E → Type 0
-  CarriesOut (asked.Need name need) change old new = Needs does agent now name need change old new
+  CarriesOut (asked.Need name need) change old new = Needs does keeps agent now name need change old new
   CarriesOut (asked.Replace name credential) change old new = (change ≡ changes.Kept) × LooksUpFirst does rows agent now name (what.Replace credential) old new
   CarriesOut (asked.Add table) change old new = (change ≡ changes.Kept) × AddsEntry does rows reads agent now table old new
   CarriesOut (asked.Drop name) change old new = (change ≡ changes.Kept) × DropsEntry does agent now name old new
   CarriesOut asked.Settle change old new = (change ≡ changes.Kept) × SettlesFile does path agent now old new
-  CarriesOut asked.Reload change old new = (change ≡ changes.Kept) × Reloads does path agent now old new
+  CarriesOut asked.Reload change old new = (change ≡ changes.Kept) × Reloads does keeps path agent now old new
   CarriesOut (asked.Follow alerts) change old new = (change ≡ changes.Kept) × FollowsLog now alerts old new
 
   -- memory was wanting, and that is said
@@ -216,12 +224,14 @@ module _ {S T D K E : Type 0} (does : KeepCall → K → K → Type 0) (rows : K
   CarriesIf (Ok (Some asked)) (Some change) old new = CarriesOut asked change old new
   CarriesIf (Err e) change old new = LacksMemory change old new
 
-  -- what the first of the clients asks for is carried out
+  -- what the first of the clients asks for is carried out, once who does not keep changes yet has tried again to
   pub record ServesClients (change : Option Change) (old new : House S T D K E) : Type 0 where
     pub asked : Result (Option Asked) AllocError
     pub control : Option (Control T D)
     pub clients : ClientsAsk now asked old.control control
-    pub then : CarriesIf asked change (record old { control = control }) new
+    pub tried : House S T D K E
+    pub tries : TriesAgain does now (is_any_asked asked) (record old { control = control }) tried
+    pub then : CarriesIf asked change tried new
 
   -- what has waited for the broker's word comes before what the clients ask for
   abbrev pub GoesOnIf : Bool → Option Change → House S T D K E → House S T D K E → Type 0
@@ -264,23 +274,23 @@ reach_of_need m i until = reach_if (nat_lt i (length m.forest.entries) && not (u
 
 -- the log says that the entry is needed until then, and its client is told, also if it reaches less far; where nothing keeps changes,
 -- also that a restart ends it
-pub record TellsNeed {S T D K E : Type 0} (agent : Agent) (name : List ℕ) (reach : Option ℕ) (until now : ℕ) (old new : House S T D K E) : Type 0 where
+pub record TellsNeed {S T D K E : Type 0} (keeps : K → Bool) (agent : Agent) (name : List ℕ) (reach : Option ℕ) (until now : ℕ) (old new : House S T D K E) : Type 0 where
   pub desk : Desk
   pub heard : SaysLine agent (need_log_line name until) old.desk desk
   pub line : Option (List ℕ)
   pub says : IfSome line (IsNeedLine name until)
   pub sent : Option (List ℕ)
-  pub reply : IsNeedReply (is_some old.state) reach line sent
+  pub reply : IsNeedReply (keeps_in keeps old.state) reach line sent
   pub sends : ClientIsSent agent sent now (record old { desk = desk }) new
 
 -- where it was not made, the client is told nothing, and its connection is closed
 abbrev pub ClosesClient : {S T D K E : Type 0} → ℕ → House S T D K E → House S T D K E → Type 0
 ClosesClient now old new = ClientIsAnswered [] now old.control new.control × (new ≡ record old { control = new.control })
 
-abbrev pub SettlesNeed : {S T D K E : Type 0} → Agent → Bool → GivenNeed → House S T D K E → House S T D K E → Type 0
-SettlesNeed agent true need old new =
-    TellsNeed agent (name_of agent.inventory.forest need.entry) (reach_of_need agent.machine need.entry need.until) need.until need.at old new
-SettlesNeed agent false need old new = ClosesClient need.at old new
+abbrev pub SettlesNeed : {S T D K E : Type 0} → (K → Bool) → Agent → Bool → GivenNeed → House S T D K E → House S T D K E → Type 0
+SettlesNeed keeps agent true need old new =
+    TellsNeed keeps agent (name_of agent.inventory.forest need.entry) (reach_of_need agent.machine need.entry need.until) need.until need.at old new
+SettlesNeed keeps agent false need old new = ClosesClient need.at old new
 
 abbrev pub SettlesAnswer : {S T D K E : Type 0} → Agent → Bool → Option (List ℕ) → ℕ → House S T D K E → House S T D K E → Type 0
 SettlesAnswer agent true sent now old new = ClientIsSent agent sent now old new
@@ -307,13 +317,13 @@ abbrev pub SettlesUnchanged : {S T D K E : Type 0} → (KeepCall → K → K →
 SettlesUnchanged does true old new = StateIsServed does old.state new.state × (new ≡ record old { state = new.state })
 SettlesUnchanged does false old new = new ≡ old
 
-abbrev pub SettlesBy : {S T D K E : Type 0} → (KeepCall → K → K → Type 0) → Agent → Bool → Option Given → House S T D K E → House S T D K E → Type 0
-SettlesBy does agent is_made None old new = new ≡ old
-SettlesBy does agent is_made (Some (givens.Need need)) old new = SettlesNeed agent is_made need old new
-SettlesBy does agent is_made (Some (givens.Answer sent now)) old new = SettlesAnswer agent is_made sent now old new
-SettlesBy does agent is_made (Some (givens.Aside client sent now)) old new = SettlesAside agent is_made client sent now old new
-SettlesBy does agent is_made (Some (givens.Served marks)) old new = SettlesServed does agent is_made marks.items old new
-SettlesBy does agent is_made (Some givens.Unchanged) old new = SettlesUnchanged does is_made old new
+abbrev pub SettlesBy : {S T D K E : Type 0} → (KeepCall → K → K → Type 0) → (K → Bool) → Agent → Bool → Option Given → House S T D K E → House S T D K E → Type 0
+SettlesBy does keeps agent is_made None old new = new ≡ old
+SettlesBy does keeps agent is_made (Some (givens.Need need)) old new = SettlesNeed keeps agent is_made need old new
+SettlesBy does keeps agent is_made (Some (givens.Answer sent now)) old new = SettlesAnswer agent is_made sent now old new
+SettlesBy does keeps agent is_made (Some (givens.Aside client sent now)) old new = SettlesAside agent is_made client sent now old new
+SettlesBy does keeps agent is_made (Some (givens.Served marks)) old new = SettlesServed does agent is_made marks.items old new
+SettlesBy does keeps agent is_made (Some givens.Unchanged) old new = SettlesUnchanged does is_made old new
 
-abbrev pub SettlesGiven : {S T D K E : Type 0} → (KeepCall → K → K → Type 0) → Agent → Bool → House S T D K E → House S T D K E → Type 0
-SettlesGiven does agent is_made old new = SettlesBy does agent is_made old.given (record old { given = None }) new
+abbrev pub SettlesGiven : {S T D K E : Type 0} → (KeepCall → K → K → Type 0) → (K → Bool) → Agent → Bool → House S T D K E → House S T D K E → Type 0
+SettlesGiven does keeps agent is_made old new = SettlesBy does keeps agent is_made old.given (record old { given = None }) new

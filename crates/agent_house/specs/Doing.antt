@@ -60,18 +60,18 @@ abbrev pub HearsServedIf : {S T D K E : Type 0} → Bool → House S T D K E →
 HearsServedIf true old new = HearsServed old new
 HearsServedIf false old new = new ≡ old
 
-pub record SettlesChange {S T D K E : Type 0} (does : KeepCall → K → K → Type 0) (agent : Agent) (is_made : Bool) (old new : House S T D K E) : Type 0 where
+pub record SettlesChange {S T D K E : Type 0} (does : KeepCall → K → K → Type 0) (keeps : K → Bool) (agent : Agent) (is_made : Bool) (old new : House S T D K E) : Type 0 where
   pub heard : House S T D K E
   pub settled : House S T D K E
   pub served : HearsServedIf (is_made && is_served old.given) old heard
-  pub settles : SettlesGiven does agent is_made heard settled
+  pub settles : SettlesGiven does keeps agent is_made heard settled
   pub unmade : HearsUnmade is_made agent settled.desk new.desk
   pub rest : new ≡ record settled { desk = new.desk }
 
 -- ---- each call
 
 module _ {S T D K E : Type 0} (given : S → Option (List ℕ)) (failures tries : S → ℕ) (tried : S → Option (List Tried)) (remaining written : T → Option (List ℕ)) (calls : T → Option (List Call)) (log : D → Option (DoorLog T))
-    (does : KeepCall → K → K → Type 0) (rows : K → List Row) (path : K → List ℕ) (reads : K → List ℕ → Result Row Why → Type 0) (gives : ℕ → Result (Option Inventory) AllocError → K → Type 0)
+    (does : KeepCall → K → K → Type 0) (rows : K → List Row) (keeps : K → Bool) (path : K → List ℕ) (reads : K → List ℕ → Result Row Why → Type 0) (gives : ℕ → Result (Option Inventory) AllocError → K → Type 0)
     (known : Bool) (state : E → DiskState) where
   -- the ends are kept, then files of credentials are looked at, and then the log's reader, the onlookers and the clients are attended to
   pub record HouseGoesOn (agent : Agent) (now : Reading) (is_busy : Bool) (old new : House S T D K E) : Type 0 where
@@ -81,12 +81,12 @@ module _ {S T D K E : Type 0} (given : S → Option (List ℕ)) (failures tries 
     pub is_more : Bool
     pub ends : KeepsEnds known state agent now.elapsed old kept
     pub look : LooksAround does agent now goes_on kept looked
-    pub attend : Attends given failures tries tried remaining written calls log rows agent now is_more looked new
+    pub attend : Attends given failures tries tried remaining written calls log rows keeps agent now is_more looked new
     pub busy : is_busy ≡ (goes_on || is_more)
 
   abbrev pub DoesToHouse : NeighbourCall → House S T D K E → House S T D K E → Type 0
   DoesToHouse (Hear agent thing) old new = HearsOf agent thing old new
   DoesToHouse (GoOn agent now is_busy) old new = HouseGoesOn agent now is_busy old new
-  DoesToHouse (Give agent now change) old new = AsksFor does rows path reads gives agent now change old new
-  DoesToHouse (Settle agent is_made) old new = SettlesChange does agent is_made old new
+  DoesToHouse (Give agent now change) old new = AsksFor does rows keeps path reads gives agent now change old new
+  DoesToHouse (Settle agent is_made) old new = SettlesChange does keeps agent is_made old new
   DoesToHouse (Rest now rest) old new = (new ≡ old) × Rests does now rest old

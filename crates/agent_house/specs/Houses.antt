@@ -28,6 +28,7 @@ use Rattle.agent_words.specs.Outcomes.{Outcome}
 use Rattle.agent_log.specs.Lines.{Line}
 use Rattle.agent_words.specs.Moments.{second_of}
 use Rattle.agent_house.specs.Nexts.{next_wake_of}
+use Rattle.agent_house.specs.Retries.{keeps_in}
 use Rattle.agent_log.specs.Rooms.{Rooms}
 use Rattle.agent_words.specs.Telling.{IsRefusalFor, IsReplyTo}
 use Rattle.agent_house.specs.declared.given.Given.TheVariants as givens
@@ -41,11 +42,10 @@ abbrev pub around_of : Option (Option Next) → FileReading → Bool → Standby
 around_of next file keeps standby dropped wall =
     record { wall = wall / 1000; next_wake = next_wake_of next; file = file; keeps_changes = keeps; standby = standby; dropped_lines = dropped; dropped_alerts = 0 }
 
--- the entries that the inventory names: those after every change, and where nothing keeps changes those that the start has read
-abbrev pub named_in : {K : Type 0} → (K → List Row) → Option K → Option (List Row) → List Row
-named_in rows (Some state) read = rows state
-named_in rows None (Some read) = read
-named_in rows None None = []
+-- the entries that the inventory names: those after every change, or, where none is kept yet, those that the start has read
+abbrev pub named_in : {K : Type 0} → (K → List Row) → Option K → List Row
+named_in rows (Some state) = rows state
+named_in rows None = []
 
 -- ---- a turn
 
@@ -68,7 +68,7 @@ module _ {T D : Type 0} (remaining written : T → Option (List ℕ)) (calls : T
 -- itself, with the agent as it is and what is around it then; and where memory was wanting for one of them, that is said. Nothing else
 -- changes
 pub record Attends {S T D K E : Type 0} (given : S → Option (List ℕ)) (failures tries : S → ℕ) (tried : S → Option (List Tried)) (remaining written : T → Option (List ℕ)) (calls : T → Option (List Call)) (log : D → Option (DoorLog T))
-    (rows : K → List Row) (agent : Agent) (now : Reading) (goes_on : Bool) (old new : House S T D K E) : Type 0 where
+    (rows : K → List Row) (keeps : K → Bool) (agent : Agent) (now : Reading) (goes_on : Bool) (old new : House S T D K E) : Type 0 where
   pub room : Waiting
   pub rooms : Rooms
   pub fed : Option (Control T D)
@@ -79,7 +79,7 @@ pub record Attends {S T D K E : Type 0} (given : S → Option (List ℕ)) (failu
   pub few : tries new.sink ≤ tries old.sink + MOST_TRIES
   pub follow : FollowersGoOn old.desk.form (second_of now.wall) (record old.desk.room { log = room }) rooms old.control fed
   pub around : Around
-  pub around_is : around ≡ beside (around_of old.next old.file (is_some old.state) old.standby rooms.log.dropped now.wall) (named_in rows old.state old.read)
+  pub around_is : around ≡ beside (around_of old.next old.file (keeps_in keeps old.state) old.standby rooms.log.dropped now.wall) (named_in rows old.state)
   pub onlookers : OnlookersGoOn remaining written calls log agent around now shown old.onlookers new.onlookers
   pub clients : ClientsGoOn remaining written calls log agent around now answered fed new.control
   pub desk : HearsWant agent (shown.is_enough && answered.is_enough) (record old.desk { room = rooms }) new.desk

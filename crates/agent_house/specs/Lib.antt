@@ -1,6 +1,7 @@
 pub mod Nexts
 pub mod Ends
 pub mod Behind
+pub mod Retries
 pub mod Houses
 pub mod Admitting
 pub mod Awaiting

@@ -1,13 +1,15 @@
 //! What each neighbour is given of a turn.
-ghost use Rattle.std.specs.Prelude.{◌≡◌, ◌+◌, ◌≤◌, ◌&&◌, ◌||◌, is_some};
+ghost use Rattle.std.specs.Prelude.{◌≡◌, ◌+◌, ◌≤◌, ◌&&◌, ◌||◌};
 ghost use Rattle.agent_pages.specs.Naming.{beside};
 ghost use Rattle.base_log.specs.declared.writing.TheConstants.{MOST_TRIES};
 ghost use Rattle.agent_log.specs.Feeding.{FollowersGoOn};
 ghost use Rattle.agent_words.specs.Moments.{second_of};
 ghost use Rattle.agent_log.specs.LogDesk.{ReaderIsGiven};
+ghost use Rattle.agent_house.specs.Retries.{keeps_in};
 ghost use Rattle.agent_house.specs.Houses.{Attends, ClientsGoOn, OnlookersGoOn, around_of, idle, named_in};
 
 use crate::house::House;
+use crate::keep_news::keeps;
 use crate::next_time::next_wake_of;
 use agent_answers::{Control, Onlookers, Went};
 use agent_ledger::Keeping;
@@ -16,7 +18,7 @@ use agent_standing::Agent;
 use base_clients::{Door, Talk};
 use base_clock::Reading;
 use base_log::LogSink;
-use state_changes::{Row, Rows};
+use state_changes::Row;
 use std::alloc::Global;
 
 impl<S: LogSink, T: Talk, D: Door<T>, K: Keeping, E> House<S, T, D, K, E> {
@@ -24,12 +26,12 @@ impl<S: LogSink, T: Talk, D: Door<T>, K: Keeping, E> House<S, T, D, K, E> {
     /// client by one call of its connection at most, and answers one of each. The agent is read alone. Where memory was wanting for an
     /// onlooker or a client, that is said. Whether more could be done at once.
     pub fn attend(&mut self, alloc: Global, agent: &Agent, now: Reading) -> bool
-        ensures { Attends S.written S.failures S.tries S.tried T.remaining T.written T.calls D.log K.rows agent.now now result self.old self.new }
+        ensures { Attends S.written S.failures S.tries S.tried T.remaining T.written T.calls D.log K.rows K.keeps agent.now now result self.old self.new }
     {
         let is_more = self.give(alloc, now);
         self.feed(alloc, now);
         let around = self.around(now);
-        let named = named_in(&self.state, &self.read);
+        let named = named_in(&self.state);
         let shown = show(alloc, &mut self.onlookers, agent, around, named, now);
         let answered = answer(alloc, &mut self.control, agent, around, named, now);
         self.desk
@@ -62,16 +64,16 @@ impl<S, T: Talk, D: Door<T>, K, E> House<S, T, D, K, E> {
     }
 }
 
-impl<S, T, D, K, E> House<S, T, D, K, E> {
+impl<S, T, D, K: Keeping, E> House<S, T, D, K, E> {
     /// What is around the agent at a moment.
     fn around(&self, now: Reading) -> Surroundings
-        ensures { result ≡ around_of self.now.next self.now.file (is_some self.now.state) self.now.standby self.now.desk.room.log.dropped now.wall }
+        ensures { result ≡ around_of self.now.next self.now.file (keeps_in K.keeps self.now.state) self.now.standby self.now.desk.room.log.dropped now.wall }
     {
         Surroundings {
             wall: now.wall / 1000,
             next_wake: next_wake_of(self.next),
             file: self.file,
-            keeps_changes: self.state.is_some(),
+            keeps_changes: keeps(&self.state),
             standby: self.standby,
             dropped_lines: self.desk.room().dropped(),
             dropped_alerts: 0,
@@ -79,16 +81,13 @@ impl<S, T, D, K, E> House<S, T, D, K, E> {
     }
 }
 
-// The entries that the inventory names: those after every change, and where nothing keeps changes those that the start has read.
-fn named_in<'a, K: Keeping>(state: &'a Option<K>, read: &'a Option<Rows>) -> &'a [Row]
-    ensures { result.now ≡ named_in K.rows state.now read.now }
+// The entries that the inventory names: those after every change, or, where none is kept yet, those that the start has read.
+fn named_in<K: Keeping>(state: &Option<K>) -> &[Row]
+    ensures { result.now ≡ named_in K.rows state.now }
 {
-    if let Some(state) = state {
-        return state.rows();
-    }
-    match read {
+    match state {
         None => &[],
-        Some(read) => read.list(),
+        Some(state) => state.rows(),
     }
 }
 

@@ -13,7 +13,6 @@ use base_clients::{Door, Talk};
 use base_clock::Reading;
 use base_disk::Disk;
 use base_log::LogSink;
-use state_changes::Rows;
 use std::alloc::Global;
 use watch_machine::Next;
 
@@ -33,10 +32,8 @@ pub struct House<S, T, D, K, E> {
     pub file: FileReading,
     /// How the agent stands to others that serve the same inventory.
     pub standby: Standby,
-    /// What keeps changes over a restart, where something does.
+    /// What keeps changes over a restart, where something does, or comes to later.
     pub state: Option<K>,
-    /// The entries that the file named at the start, where nothing keeps changes and some of them are not served.
-    pub read: Option<Rows>,
     /// What was given to the loop last, as long as it is not settled.
     pub given: Option<Given>,
     /// The change that waits for the broker's word on its credential, where one does.
@@ -50,7 +47,7 @@ pub struct House<S, T, D, K, E> {
 impl<S, T, D, K, E> House<S, T, D, K, E> {
     /// The log alone: with no control socket, none for onlookers, and nothing that is kept.
     pub fn new(desk: Desk, sink: S, file: FileReading, standby: Standby) -> House<S, T, D, K, E>
-        ensures { result ≡ record { desk = desk; sink = sink; control = None; onlookers = None; file = file; standby = standby; state = None; read = None; given = None; awaited = None; next = None; ends = None } }
+        ensures { result ≡ record { desk = desk; sink = sink; control = None; onlookers = None; file = file; standby = standby; state = None; given = None; awaited = None; next = None; ends = None } }
     {
         House {
             desk,
@@ -60,7 +57,6 @@ impl<S, T, D, K, E> House<S, T, D, K, E> {
             file,
             standby,
             state: None,
-            read: None,
             given: None,
             awaited: None,
             next: None,
@@ -75,7 +71,7 @@ impl<S: LogSink, T: Talk, D: Door<T>, K: Keeping, E: Disk> Neighbours for House<
 
     ghost given = { λ h. changes_given h.control h.state };
 
-    ghost does = { λ call old new. DoesToHouse S.written S.failures S.tries S.tried T.remaining T.written T.calls D.log K.does K.rows K.path K.reads K.gives E.is_known E.state call old new };
+    ghost does = { λ call old new. DoesToHouse S.written S.failures S.tries S.tried T.remaining T.written T.calls D.log K.does K.rows K.keeps K.path K.reads K.gives E.is_known E.state call old new };
 
     fn hear(&mut self, alloc: Global, agent: &Agent, happened: &Happened<'_>) {
         match happened {

@@ -6,7 +6,8 @@
 //! (`specs/Houses`), [`House::next_change`] carries out what a client asks for, once a credential that it brings was looked up
 //! (`specs/Awaiting`), and [`House::settle_given`] tells what came of a change (`specs/Commands`); [`House::look`] what is read, looked up
 //! and taken of files of credentials (`specs/Looks`); [`House::agent_ends`] what the file of the ends keeps (`specs/Ends`), and
-//! [`House::hear_next`] what is said of the next time of an entry (`specs/Nexts`); [`House::hear_ahead`] and [`House::hear_steps`] count what
+//! [`House::hear_next`] what is said of the next time of an entry (`specs/Nexts`); who does not keep changes yet tries again to
+//! (`specs/Retries`); [`House::hear_ahead`] and [`House::hear_steps`] count what
 //! the agent has done behind another (`specs/Behind`). [`House::rest_for`] says for how long it may be left alone (`specs/Rests`). What the loop calls a house for does these things, in
 //! this order, and nothing else (`specs/Doing`). What a house is made of is named here too, so that who makes one looks no further. Begin
 //! with `specs/Houses` and `specs/Commands`, then `house`.
@@ -22,6 +23,7 @@ mod follow_command;
 mod given;
 mod guests;
 mod house;
+mod keep_news;
 mod need_command;
 mod next_change;
 mod next_time;

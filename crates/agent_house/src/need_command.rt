@@ -1,6 +1,6 @@
 //! A client asks that an entry is needed until then.
 ghost use Rattle.std.specs.Prelude.{◌≡◌};
-ghost use Rattle.agent_house.specs.Commands.{EntryIsThere, GivesNeed, NeedIsKept, Needs};
+ghost use Rattle.agent_house.specs.Commands.{EntryIsThere, GivesNeed, NeedIsKept, Needs, TakesIfThere, TakesNeedBy};
 ghost use Rattle.agent_words.specs.Telling.{until_of_need};
 ghost use Rattle.plan_forest.specs.Forest.{index_named};
 
@@ -27,7 +27,7 @@ impl<S, T: Talk, D: Door<T>, K: Keeping, E> House<S, T, D, K, E> {
         name: &[u8],
         need: &Need,
     ) -> Change
-        ensures { Needs K.does agent.now now name.now need.now result self.old self.new }
+        ensures { Needs K.does K.keeps agent.now now name.now need.now result self.old self.new }
     {
         match keep_need(alloc, &mut self.state, agent, now, name, *need) {
             Ok(()) => self.give_need(alloc, agent, now, name, until_of(*need)),
@@ -64,7 +64,7 @@ impl<S, T: Talk, D: Door<T>, K: Keeping, E> House<S, T, D, K, E> {
     }
 }
 
-// Keeps the need, where something keeps changes; else the agent has to have the entry.
+// Keeps the need, where something keeps changes; where nothing does, the agent has to have the entry.
 fn keep_need<K: Keeping>(
     alloc: Global,
     state: &mut Option<K>,
@@ -73,12 +73,53 @@ fn keep_need<K: Keeping>(
     name: &[u8],
     need: Need,
 ) -> Result<(), Option<Text>>
-    ensures { NeedIsKept K.does agent.now now name.now need result state.old state.new }
+    ensures { NeedIsKept K.does K.keeps agent.now now name.now need result state.old state.new }
 {
     match state {
-        None => is_there(alloc, agent.inventory().forest().find(name)),
-        Some(state) => state.take(alloc, now.elapsed, name, What::Need(need)),
+        None => entry_is_there(alloc, agent, name),
+        Some(state) => take_need(alloc, state, agent, now, name, need),
     }
+}
+
+// Whoever keeps changes takes the need; where they do not yet, the agent has to have the entry.
+fn take_need<K: Keeping>(
+    alloc: Global,
+    state: &mut K,
+    agent: &Agent,
+    now: Reading,
+    name: &[u8],
+    need: Need,
+) -> Result<(), Option<Text>>
+    ensures { TakesNeedBy K.does (K.keeps state.old) agent.now now name.now need result state.old state.new }
+{
+    if state.keeps() {
+        return state.take(alloc, now.elapsed, name, What::Need(need));
+    }
+    let there = entry_is_there(alloc, agent, name);
+    take_if_there(alloc, state, there, now, name, need)
+}
+
+fn take_if_there<K: Keeping>(
+    alloc: Global,
+    state: &mut K,
+    there: Result<(), Option<Text>>,
+    now: Reading,
+    name: &[u8],
+    need: Need,
+) -> Result<(), Option<Text>>
+    ensures { TakesIfThere K.does now name.now need there result state.old state.new }
+{
+    match there {
+        Ok(()) => state.take(alloc, now.elapsed, name, What::Need(need)),
+        Err(why) => Err(why),
+    }
+}
+
+// The agent has the entry; otherwise why not.
+fn entry_is_there(alloc: Global, agent: &Agent, name: &[u8]) -> Result<(), Option<Text>>
+    ensures { EntryIsThere (index_named agent.now.inventory.forest.entries name.now) result }
+{
+    is_there(alloc, agent.inventory().forest().find(name))
 }
 
 fn is_there(alloc: Global, entry: Option<u32>) -> Result<(), Option<Text>>

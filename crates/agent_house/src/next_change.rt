@@ -1,12 +1,13 @@
 //! What clients ask for is carried out, and what is given of it to the loop is settled.
 ghost use Rattle.std.specs.Prelude.{◌≡◌, Some};
-ghost use Rattle.agent_house.specs.Commands.{AsksFor, CarriesOut, GoesOnWithClients, InventoryIsDue, IsGivenWith, ServesClients, SettlesAnswer, SettlesAside, SettlesGiven, SettlesNeed, SettlesServed, SettlesUnchanged, StateIsServed, TellsNeed, reach_of_need};
+ghost use Rattle.agent_house.specs.Commands.{AsksFor, CarriesIf, CarriesOut, GoesOnWithClients, InventoryIsDue, IsGivenWith, ServesClients, SettlesAnswer, SettlesAside, SettlesGiven, SettlesNeed, SettlesServed, SettlesUnchanged, StateIsServed, TellsNeed, reach_of_need};
 ghost use Rattle.agent_house.specs.Houses.{ClientsAsk};
 ghost use Rattle.program_lines.specs.Text.{name_of};
 
 use crate::client_answer::{answer, answer_aside};
 use crate::given::{Given, GivenNeed};
 use crate::house::House;
+use crate::keep_news::keeps;
 use agent_answers::{Asked, Control};
 use agent_ledger::Keeping;
 use agent_log::{Mark, fresh_marks};
@@ -28,7 +29,7 @@ impl<S, T: Talk, D: Door<T>, K: Keeping, E> House<S, T, D, K, E> {
     /// broker's word, once that is there; else what the first of the clients asks for whose line has ended is carried out. Its client
     /// is told what came of it once the change is settled. Where memory was wanting, there is no change, and that is said.
     pub fn next_change(&mut self, alloc: Global, agent: &Agent, now: Reading) -> Option<Change>
-        ensures { AsksFor K.does K.rows K.path K.reads K.gives agent.now now result self.old self.new }
+        ensures { AsksFor K.does K.rows K.keeps K.path K.reads K.gives agent.now now result self.old self.new }
     {
         match due_with_marks(alloc, &self.state, now) {
             Ok(None) => self.go_on_with_clients(alloc, agent, now),
@@ -45,7 +46,7 @@ impl<S, T: Talk, D: Door<T>, K: Keeping, E> House<S, T, D, K, E> {
 
     // What has waited for the broker's word is carried out, or refused, once that is there; else what the first of the clients asks for.
     fn go_on_with_clients(&mut self, alloc: Global, agent: &Agent, now: Reading) -> Option<Change>
-        ensures { GoesOnWithClients K.does K.rows K.path K.reads K.gives agent.now now result self.old self.new }
+        ensures { GoesOnWithClients K.does K.rows K.keeps K.path K.reads K.gives agent.now now result self.old self.new }
     {
         if self.hear_verdict(alloc, agent, now) {
             return Some(Change::Kept);
@@ -53,11 +54,26 @@ impl<S, T: Talk, D: Door<T>, K: Keeping, E> House<S, T, D, K, E> {
         self.serve_clients(alloc, agent, now)
     }
 
-    // What the first of the clients asks for is carried out.
+    // What the first of the clients asks for is carried out, once who does not keep changes yet has tried again to.
     fn serve_clients(&mut self, alloc: Global, agent: &Agent, now: Reading) -> Option<Change>
-        ensures { ServesClients K.does K.rows K.path K.reads K.gives agent.now now result self.old self.new }
+        ensures { ServesClients K.does K.rows K.keeps K.path K.reads K.gives agent.now now result self.old self.new }
     {
-        match asked_of(alloc, &mut self.control, now) {
+        let asked = asked_of(alloc, &mut self.control, now);
+        self.try_again(alloc, now, &asked);
+        self.carry_out_if(alloc, agent, now, asked)
+    }
+
+    // Carries out what a client asks for, where one does.
+    fn carry_out_if(
+        &mut self,
+        alloc: Global,
+        agent: &Agent,
+        now: Reading,
+        asked: Result<Option<Asked>, AllocError>,
+    ) -> Option<Change>
+        ensures { CarriesIf K.does K.rows K.keeps K.path K.reads K.gives agent.now now asked result self.old self.new }
+    {
+        match asked {
             Ok(None) => None,
             Ok(Some(asked)) => Some(self.carry_out(alloc, agent, now, asked)),
             Err(AllocError) => {
@@ -69,7 +85,7 @@ impl<S, T: Talk, D: Door<T>, K: Keeping, E> House<S, T, D, K, E> {
 
     // Carries out what a client asks for.
     fn carry_out(&mut self, alloc: Global, agent: &Agent, now: Reading, asked: Asked) -> Change
-        ensures { CarriesOut K.does K.rows K.path K.reads K.gives agent.now now asked result self.old self.new }
+        ensures { CarriesOut K.does K.rows K.keeps K.path K.reads K.gives agent.now now asked result self.old self.new }
     {
         match asked {
             Asked::Need { name, need } => return self.need(alloc, agent, now, name.list(), &need),
@@ -88,7 +104,7 @@ impl<S, T: Talk, D: Door<T>, K: Keeping, E> House<S, T, D, K, E> {
     /// What was given last is settled: its client is told what came of it; where it was not made, it is told nothing, and its
     /// connection is closed. Once the inventory that was due is served, no change waits for it.
     pub fn settle_given(&mut self, alloc: Global, agent: &Agent, is_made: bool)
-        ensures { SettlesGiven K.does agent.now is_made self.old self.new }
+        ensures { SettlesGiven K.does K.keeps agent.now is_made self.old self.new }
     {
         match mem::replace(&mut self.given, None) {
             None => {}
@@ -103,7 +119,7 @@ impl<S, T: Talk, D: Door<T>, K: Keeping, E> House<S, T, D, K, E> {
     }
 
     fn settle_need(&mut self, alloc: Global, agent: &Agent, need: GivenNeed, is_made: bool)
-        ensures { SettlesNeed agent.now is_made need self.old self.new }
+        ensures { SettlesNeed K.keeps agent.now is_made need self.old self.new }
     {
         if is_made {
             self.tell_need(alloc, agent, need);
@@ -115,13 +131,13 @@ impl<S, T: Talk, D: Door<T>, K: Keeping, E> House<S, T, D, K, E> {
     // The log says that the entry is needed until then, and its client is told, also if it reaches less far; where nothing keeps
     // changes, also that a restart ends it.
     fn tell_need(&mut self, alloc: Global, agent: &Agent, need: GivenNeed)
-        ensures { TellsNeed agent.now (name_of agent.now.inventory.forest need.entry) (reach_of_need agent.now.machine need.entry need.until) need.until need.at self.old self.new }
+        ensures { TellsNeed K.keeps agent.now (name_of agent.now.inventory.forest need.entry) (reach_of_need agent.now.machine need.entry need.until) need.until need.at self.old self.new }
     {
         let name = name_of(agent.inventory().forest(), need.entry);
         let line = need_line(alloc, name, need.until).ok();
         self.desk.hear_need(alloc, agent, name, need.until);
         let reach = reach_of(agent.watch(), need.entry, need.until);
-        let reply = need_reply(alloc, line, reach, self.state.is_some());
+        let reply = need_reply(alloc, line, reach, keeps(&self.state));
         self.send(alloc, agent, reply, need.at);
     }
 

@@ -1,11 +1,11 @@
 //! A client asks that the file is read anew.
 ghost use Rattle.std.specs.Prelude.{◌≡◌, IfSome};
-ghost use Rattle.agent_house.specs.Commands.{Reloads, RereadBy, TellsNotKept, TellsReread, TellsUnread, path_if_kept, read_badly, read_well};
+ghost use Rattle.agent_house.specs.Commands.{Reloads, RereadBy, RereadIf, TellsNotKept, TellsReread, TellsUnread, path_if_kept};
 ghost use Rattle.agent_words.specs.Telling.{reload_line};
 
 use crate::house::House;
+use crate::keep_news::{read_badly, read_well};
 use agent_ledger::Keeping;
-use agent_pages::FileReading;
 use agent_standing::Agent;
 use agent_words::{Reread, reload_line, why_not_kept};
 use base_clients::{Door, Talk};
@@ -16,7 +16,7 @@ use std::alloc::Global;
 impl<S, T: Talk, D: Door<T>, K: Keeping, E> House<S, T, D, K, E> {
     /// The file is read anew, and served from then on; or it stays as it was, with an alert for each reason.
     pub(crate) fn reload(&mut self, alloc: Global, agent: &Agent, now: Reading)
-        ensures { Reloads K.does K.path agent.now now self.old self.new }
+        ensures { Reloads K.does K.keeps K.path agent.now now self.old self.new }
     {
         match reread_by(alloc, &mut self.state, now) {
             None => self.tell_not_kept(alloc, agent, now),
@@ -56,12 +56,26 @@ fn reread_by<K: Keeping>(
     state: &mut Option<K>,
     now: Reading,
 ) -> Option<Result<Reread, Vec<Text>>>
-    ensures { RereadBy K.does now result state.old state.new }
+    ensures { RereadBy K.does K.keeps now result state.old state.new }
 {
-    let Some(state) = state else {
-        return None;
-    };
-    Some(state.reload(alloc, now.elapsed))
+    match state {
+        None => None,
+        Some(state) => reread_if(alloc, state, now),
+    }
+}
+
+fn reread_if<K: Keeping>(
+    alloc: Global,
+    state: &mut K,
+    now: Reading,
+) -> Option<Result<Reread, Vec<Text>>>
+    ensures { RereadIf K.does (K.keeps state.old) now result state.old state.new }
+{
+    if state.keeps() {
+        Some(state.reload(alloc, now.elapsed))
+    } else {
+        None
+    }
 }
 
 // That the file was read anew; `None` where memory was wanting, and where there is none.
@@ -72,25 +86,4 @@ fn line_if<K: Keeping>(alloc: Global, state: &Option<K>) -> Option<Text>
         return None;
     };
     reload_line(alloc, state.path()).ok()
-}
-
-fn read_well(now: Reading) -> FileReading
-    ensures { result ≡ read_well now }
-{
-    let seconds = Some(now.wall / 1000);
-    FileReading {
-        is_good: true,
-        at: seconds,
-        good_at: seconds,
-    }
-}
-
-fn read_badly(now: Reading, before: FileReading) -> FileReading
-    ensures { result ≡ read_badly now before }
-{
-    FileReading {
-        is_good: false,
-        at: Some(now.wall / 1000),
-        ..before
-    }
 }

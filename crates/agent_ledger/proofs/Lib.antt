@@ -5,3 +5,4 @@ pub mod Asking
 pub mod Due
 pub mod Holders
 pub mod Sharing
+pub mod Recording

@@ -36,7 +36,7 @@ use Rattle.agent_ledger.specs.Askers.{is_any_asking}
 use Rattle.agent_ledger.specs.Candidates.{IsCandidateFor}
 use Rattle.agent_words.specs.Gathering.{AreGathered}
 use Rattle.agent_ledger.specs.Inquiries.{AsksAbout, ProvesOn, asked_in}
-use Rattle.agent_ledger.specs.Keeping.{KeepCall, Look, LookUp, MarkServed, Prove, Reload, RestFor, Settle, Take}
+use Rattle.agent_ledger.specs.Keeping.{KeepCall, Look, LookUp, MarkServed, Prove, Reload, RestFor, Settle, Take, TryAgain}
 use Rattle.agent_words.specs.Outcomes.{Why, Whys}
 use Rattle.agent_words.specs.Reading.{IsWellWritten, IsWide}
 use Rattle.agent_ledger.specs.Reasons.{bare_words, left_over_words, settle_words, table_words, take_words}
@@ -174,6 +174,7 @@ module _ {D I L : Type 0} (known : Bool) (seen : D → DiskState) (calls : I →
   DoesLedger MarkServed old new =
       (waiting_in new.state.keeper ≡ None) × ((store_in new.state ≡ store_in old.state) × ((new.state.disk ≡ old.state.disk) × (new ≡ record old { state = new.state })))
   DoesLedger (RestFor now rest) old new = (new ≡ old) × (rest ≡ ledger_rest now old)
+  DoesLedger (TryAgain now is_asked news) old new = (news ≡ None) × (new ≡ old)
 
 -- the row of a table, in an inventory with that maximum TTL of the system, unless its entry has no credential; or why there is none
 abbrev pub ReadsTable : Option ℕ → List ℕ → Result Row Why → Type 0

@@ -8,4 +8,6 @@ pub mod Shared
 pub mod Reasons
 pub mod Rereading
 pub mod Ledgers
+pub mod Openings
+pub mod Lates
 pub mod code

@@ -1,13 +1,13 @@
 //! What keeps the changes that clients give.
-ghost use Rattle.std.specs.Prelude.{◌≡◌, List, Option, Result, ℕ, option_map};
+ghost use Rattle.std.specs.Prelude.{◌≡◌, Bool, List, Option, Result, ℕ, option_map};
 ghost use Rattle.std.specs.declared.alloc.AllocError.{AllocError};
 ghost use Rattle.state_changes.specs.Rows.{named};
 ghost use Rattle.state_changes.specs.declared.row.Row.{Row};
 ghost use Rattle.vault_inventory.specs.Inventories.{Inventory};
-ghost use Rattle.agent_ledger.specs.Keeping.{KeepCall, Look, LookUp, MarkServed, Prove, Reload, RestFor, Settle, Take};
+ghost use Rattle.agent_ledger.specs.Keeping.{KeepCall, Look, LookUp, MarkServed, Prove, Reload, RestFor, Settle, Take, TryAgain};
 ghost use Rattle.agent_words.specs.Outcomes.{Why};
 
-use agent_words::Reread;
+use agent_words::{Reread, Said};
 use base_clock::Reading;
 use base_moment::Text;
 use state_changes::{Row, What};
@@ -37,13 +37,25 @@ pub struct FileLook {
     pub unproved: Option<Loss>,
 }
 
-/// Keeps the changes that clients give, over a restart too. A reason why something was not done is in words for the one who asked,
-/// without a credential, and `None` where memory was wanting for them.
+/// What is to be said once changes are kept that could not be before.
+#[derive(Debug, Drop)]
+pub struct KeepNews {
+    /// Whether the file itself was read, and not its copy.
+    pub is_good: bool,
+    /// The lines of the log about it.
+    pub said: Vec<Said>,
+}
+
+/// Keeps the changes that clients give, over a restart too; or cannot do so yet, and tries again. A reason why something was not done is in
+/// words for the one who asked, without a credential, and `None` where memory was wanting for them.
 ///
 /// To contracts it is what each call did to it, what it has from then on, and the inventories that it gives.
 pub trait Keeping {
     /// What a call did to it: what it was asked for and what came of it, what it was before, and what it is after.
     ghost does: { KeepCall → Self → Self → Type 0 };
+
+    /// Whether what it takes holds over a restart.
+    ghost keeps: { Self → Bool };
 
     /// The entries after every change.
     ghost rows: { Self → List Row };
@@ -57,7 +69,17 @@ pub trait Keeping {
     /// What is to be served from a moment on, where that is due.
     ghost gives: { ℕ → Result (Option Inventory) AllocError → Self → Type 0 };
 
-    /// Makes a change of the entry of that name. `now` is in milliseconds of the clock that never steps. At `Ok` it holds over a restart.
+    /// Whether what it takes holds over a restart. Where it does not it takes only needs, which it makes hold once it can.
+    fn keeps(&self) -> bool
+        ensures { result ≡ Self.keeps self.now };
+
+    /// Tries to keep what it takes over a restart, where it does not so far, and it is time for that or a client asks for a change. What is
+    /// to be said where it does from now on. `now` is in milliseconds of the clock that never steps.
+    fn try_again(&mut self, alloc: Global, now: u64, is_asked: bool) -> Option<KeepNews>
+        ensures { Self.does (TryAgain now is_asked result) self.old self.new };
+
+    /// Makes a change of the entry of that name. `now` is in milliseconds of the clock that never steps. At `Ok` it holds over a restart,
+    /// where it keeps what it takes.
     fn take(&mut self, alloc: Global, now: u64, name: &[u8], what: What) -> Result<(), Option<Text>>
         ensures { Self.does (Take now name.now what result) self.old self.new };
 

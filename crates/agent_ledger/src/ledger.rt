@@ -26,7 +26,7 @@ use crate::asked_file::unproved_by;
 use crate::asker::{Asker, FileWord, hear_first, is_any_asking};
 use crate::candidates::candidate_of;
 use crate::inquiry::{ask, hear, is_asking};
-use crate::keeping::{FileLook, Keeping, LookedUp};
+use crate::keeping::{FileLook, KeepNews, Keeping, LookedUp};
 use crate::reasons::{
     bare_words, book_words, left_over_words, settle_words, table_words, take_words,
 };
@@ -218,8 +218,8 @@ fn rest_while(is_asking: bool, is_looking: bool) -> Option<u64>
     }
 }
 
-// The one reason, where there is one, in a line of its own; none where memory is wanting for that.
-fn one_why(alloc: Global, why: Option<Text>) -> Vec<Text>
+/// The one reason, where there is one, in a line of its own; none where memory is wanting for that.
+pub(crate) fn one_why(alloc: Global, why: Option<Text>) -> Vec<Text>
     ensures { AreAtMost why result.items }
 {
     let mut whys = Vec::new(alloc);
@@ -383,11 +383,14 @@ fn push_left(alloc: Global, left: usize, lines: &mut Vec<Text>) -> Result<(), Al
 }
 
 impl<'a, D: Disk, I: Inputs + SecretFiles, L: Lanes> Keeping for Ledger<'a, D, I, L> {
+    ghost use Rattle.std.specs.Prelude.{true};
     ghost use Rattle.state_changes.specs.declared.row.Row.{Row};
     ghost use Rattle.agent_ledger.specs.Ledgers.{DoesLedger, GivesLedger, ReadsTable};
     ghost use Rattle.state_keeping.specs.States.{book_in};
 
     ghost does = { DoesLedger D.is_known D.state I.calls ⟦<L as SeenLanes>⟧.seen L.host_port };
+
+    ghost keeps = { λ _. true };
 
     ghost rows = { λ l. (book_in l.state).rows };
 
@@ -396,6 +399,14 @@ impl<'a, D: Disk, I: Inputs + SecretFiles, L: Lanes> Keeping for Ledger<'a, D, I
     ghost reads = { λ l. ReadsTable (book_in l.state).file.system_max };
 
     ghost gives = { GivesLedger };
+
+    fn keeps(&self) -> bool {
+        true
+    }
+
+    fn try_again(&mut self, _alloc: Global, _now: u64, _is_asked: bool) -> Option<KeepNews> {
+        None
+    }
 
     fn take(
         &mut self,

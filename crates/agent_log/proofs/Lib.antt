@@ -3,3 +3,4 @@ pub mod Marking
 pub mod Deciding
 pub mod EachOne
 pub mod Within
+pub mod AtStart

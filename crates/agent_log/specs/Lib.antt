@@ -7,6 +7,7 @@ pub mod LinesBehind
 pub mod Sockets
 pub mod Changed
 pub mod LogDesk
+pub mod AtStart
 pub mod LinesOfNexts
 pub mod LinesOfEnds
 pub mod Wants

@@ -2,7 +2,8 @@
 //!
 //! The contract for the layer above: a [`Desk`] says what happens to the agent (`specs/LogDesk`): what is asked and when the next time is
 //! (`specs/LinesOfClocks`, `specs/LinesOfNexts`), what came of a request (`specs/LinesOfAnswers`), what clients change (`specs/Changed`,
-//! `specs/Sockets`), what became of files of credentials and of the file of the ends (`specs/SecretLines`, `specs/LinesOfEnds`). A line
+//! `specs/Sockets`), what became of files of credentials and of the file of the ends (`specs/SecretLines`, `specs/LinesOfEnds`), and what
+//! there is to say of a start (`specs/AtStart`). A line
 //! goes into the room of the log, and into that of each of those who follow it, and no room changes another (`specs/Rooms`); lack of
 //! memory costs the line alone, which is counted as dropped (`specs/Lines`), and a lack that goes on is said once (`specs/Wants`).
 //! [`Desk::give`] gives the log's reader what it takes, and [`Desk::feed`] each of those who follow it (`specs/Feeding`). Begin with
@@ -23,6 +24,7 @@ mod log_reader;
 mod log_rest;
 mod log_secrets;
 mod log_sockets;
+mod log_start;
 mod log_wants;
 mod log_words;
 mod lookup_loss;
@@ -31,6 +33,7 @@ mod rooms;
 
 pub use desk::Desk;
 pub use log_reader::MOST_GIVEN;
+pub use log_start::say_at_start;
 pub use lookup_loss::line_with_loss;
 pub use mark::{Mark, Want, fresh_marks};
 pub use rooms::Rooms;

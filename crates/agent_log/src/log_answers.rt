@@ -118,7 +118,7 @@ fn trouble_level(before: Option<Trouble>, trouble: Trouble) -> Level
     }
 }
 
-// Says what is noted of an handed.
+// Says what is noted of an answer.
 #[tactic(auto, using(crate::proofs::Said::both_said))]
 fn say_noted(
     pen: &Pen,

@@ -1,6 +1,7 @@
 -- Having: an agent that has run has, of a start that the words demand. For the program.
 use Rattle.std.proofs.Common.{◌≡◌, ℕ, Bool, List, [], None, Option}
-use Rattle.std.specs.Prelude.{is_some, option_copied, option_map, string_bytes}
+use Rattle.std.specs.Prelude.{◌&&◌, is_none, is_some, option_copied, option_map, string_bytes}
+use Rattle.agent_ledger.specs.declared.late.Late.{Late}
 use Rattle.agent_ledger.specs.declared.ledger.Ledger.{Ledger}
 use Rattle.agent_words.specs.declared.demands.Demands.{Demands}
 use Rattle.vault_asking.specs.Sending.{Lanes}
@@ -26,18 +27,20 @@ use Rattle.agent_run.specs.declared.begun.Parts.{Parts}
 pub is_demanded : (served : Served) (number : ℕ) (d : Demands) → IsNumber (option_copied served.name) served.file.now number → d ≡ demands_of served number → IsDemanded served d
 is_demanded served number d its is = (number, (its, is))
 
-module _ {D I L S T O E C P F J : Type 0} (does : NeighbourCall → EarlyDay (Behind (House S T O (Ledger D I L) E) L) → EarlyDay (Behind (House S T O (Ledger D I L) E) L) → Type 0) (given : EarlyDay (Behind (House S T O (Ledger D I L) E) L) → Option (List Change)) (calls : P → Option (List FileCall)) (asked : P → Option (List (DoorCall O))) (known : Bool) (disk_seen : E → DiskState)
+module _ {D I L S T O E C P F J G : Type 0} (does : NeighbourCall → EarlyDay (Behind (House S T O (Late D I L G) E) L) → EarlyDay (Behind (House S T O (Late D I L G) E) L) → Type 0) (given : EarlyDay (Behind (House S T O (Late D I L G) E) L) → Option (List Change)) (calls : P → Option (List FileCall)) (asked : P → Option (List (DoorCall O))) (known : Bool) (disk_seen : E → DiskState)
     (clock_seen : C → ClockSeen) (seen : L → Lanes) (port width : L → ℕ) (file_bytes : F → Files) (secret_bytes : J → Files) where
   pub has_run :
-      (served : Served) (log : S) (demands : Demands) (start : Start (Ledger D I L)) (files : F) (secrets : J) (parts : Parts S E L) (doors : P) (clock clock_after : C) (lanes lanes_after : L) → IsDemanded served demands → IsStart demands (is_some served.state) start →
+      (served : Served) (log : S) (demands : Demands) (start : Start (Ledger D I L)) (later : Option G) (files : F) (secrets : J) (parts : Parts S E L) (doors : P) (clock clock_after : C) (lanes lanes_after : L) → IsDemanded served demands → IsStart demands (is_some served.state) start → is_some later ≡ (is_some served.state && is_none start.ledger) →
       (start.ledger ≡ None → IsServedAlone (is_some served.state) (file_bytes files) (secret_bytes secrets) served.file.now demands start) → parts.log ≡ log → option_map string_bytes parts.ends ≡ ends_path served.room → (seen lanes).out ≡ [] → port lanes ≡ port_of served.place → (seen lanes).seconds ≡ timeout_of served.patience → width lanes ≡ width_of served.width →
-      IsRun does given calls asked known disk_seen clock_seen seen port width served start parts doors clock lanes clock_after lanes_after → HasRun does given calls asked known disk_seen clock_seen seen port width file_bytes secret_bytes served log
-  has_run served log demands start files secrets parts doors clock clock_after lanes lanes_after demanded is alone log_is ends_at free ported seconds wide runs =
+      IsRun does given calls asked known disk_seen clock_seen seen port width served start later parts doors clock lanes clock_after lanes_after → HasRun does given calls asked known disk_seen clock_seen seen port width file_bytes secret_bytes served log
+  has_run served log demands start later files secrets parts doors clock clock_after lanes lanes_after demanded is opens alone log_is ends_at free ported seconds wide runs =
       record {
         demands = demands;
         demanded = demanded;
         start = start;
         start_is = is;
+        later = later;
+        opens = opens;
         files = files;
         secrets = secrets;
         alone = alone;

@@ -4,9 +4,13 @@ use Rattle.std.specs.Prelude.{IfOk, is_some}
 use Rattle.std.specs.Result.{result_ok}
 use Rattle.std.specs.declared.alloc.AllocError.{AllocError}
 use Rattle.std.specs.declared.alloc.Global.{Global}
+use Rattle.agent_ledger.specs.declared.asker.Asker.{Asker}
+use Rattle.agent_ledger.specs.declared.late.Late.{Late}
+use Rattle.agent_ledger.specs.declared.late.Shut.{Shut}
 use Rattle.agent_ledger.specs.declared.ledger.Ledger.{Ledger}
 use Rattle.agent_log.specs.LogDesk.{Desk, HearsNoSocket}
 use Rattle.vault_asking.specs.Sending.{Lanes}
+use Rattle.vault_proving.specs.declared.proving.Proving.{Proving}
 use Rattle.agent_behind.specs.Lookouts.{Ahead}
 use Rattle.agent_behind.specs.declared.behind.Behind.{Behind}
 use Rattle.base_clock.specs.Seen.{CallIsMade, ClockSeen, read_call}
@@ -17,6 +21,7 @@ use Rattle.base_disk.specs.State.{DiskState}
 use Rattle.agent_house.specs.declared.house.House.{House}
 use Rattle.vault_inventory.specs.Inventories.{Inventory}
 use Rattle.base_log.specs.declared.form.Form.{Form}
+use Rattle.state_changes.specs.declared.row.Row.{Row}
 use Rattle.state_secrets.specs.Stamps.{FileCall}
 use Rattle.agent_turns.specs.Neighbours.{NeighbourCall}
 use Rattle.agent_turns.specs.declared.change.Change.{Change}
@@ -26,10 +31,10 @@ use Rattle.agent_start.specs.Descriptors.{ArePlaces}
 use Rattle.agent_start.specs.Saying.{BeginsDesk}
 use Rattle.agent_start.specs.Stalls.{WarnsOfDisks}
 use Rattle.agent_start.specs.TakingOver.{TakesOver}
-use Rattle.agent_start.specs.declared.said.Said.{Said}
+use Rattle.agent_words.specs.declared.said.Said.{Said}
 use Rattle.agent_start.specs.declared.start.Start.{Start}
 use Rattle.watch_machine.specs.declared.event.Event.{Event}
-use Rattle.agent_run.specs.Begun.{BeginsLog, IsBegun, IsLookout, IsReady, LooksAhead, SaysIfBehind, beside, day_of, ends_folder, house_of, place_text, with_lanes}
+use Rattle.agent_run.specs.Begun.{BeginsLog, IsBegun, IsLateOf, IsLookout, IsReady, IsShutAtFirst, LooksAhead, SaysIfBehind, beside, day_of, ends_folder, house_of, place_text}
 use Rattle.agent_run.specs.Doors.{DoorCall, IsDoor, SaysNoDoor, cost_without}
 use Rattle.agent_run.specs.Run.{IsRun, ReadsFirst, reading_or_none}
 use Rattle.agent_run.specs.Running.{RunsFrom}
@@ -48,6 +53,12 @@ says_no_door now socket word why cost who old new same is hears =
 
 pub is_lookout : {L : Type 0} → (number : ℕ) (lanes : L) (l : Ahead L) → l.number ≡ number → l.own ≡ lanes → l.scout ≡ None → l.heard ≡ [] → IsLookout number lanes l
 is_lookout number lanes l its own none nothing = record { number = its; own = own; scout = none; heard = nothing }
+
+pub is_shut :
+    {F L : Type 0} → (opening : F) (lane : L) (askers : Vec (Asker L) Global) (named : Option (List Row)) (s : Shut F L) (proving : Proving L) → s ≡ record { opening = opening; proving = Some proving; askers = askers; next = 0; needs = s.needs; read = named } →
+    proving ≡ record { lanes = lane; asked = None } → s.needs.items ≡ [] → IsShutAtFirst opening lane askers named s
+is_shut {F} {L} opening lane askers named s proving is over none =
+    record { needs = none; is = subst (λ (p : Proving L). s ≡ record { opening = opening; proving = Some p; askers = askers; next = 0; needs = s.needs; read = named }) over is }
 
 pub begins_log :
     {P : Type 0} → (calls : P → Option (List FileCall)) (now : Reading) (form : Form) (place : Place) (words : List ℕ) (count : ℕ) (said heard : List Said) (warned : Vec Said Global) (path : Option (String Global)) (folder : Option (List ℕ)) (files after : P) (result : Result Desk AllocError) →
@@ -85,12 +96,12 @@ is_ready calls asked known seen now served behind inventory said path disk doors
     }
 
 pub put_together :
-    {D I L S T O E P : Type 0} → (calls : P → Option (List FileCall)) (asked : P → Option (List (DoorCall O))) (known : Bool) (seen : E → DiskState) (now : Reading) (served : Served) (start : Start (Ledger D I L)) (parts : Parts S E L) (doors doors_after : P) (width : ℕ) (b : Begun S T O (Ledger D I L) E L) (ready : Ready O E) (desk : Desk)
-    (lookout : Option (Ahead L)) (events : List Event) (ledger : Option (Ledger D I L)) (house : House S T O (Ledger D I L) E) (neighbours : Behind (House S T O (Ledger D I L) E) L) → IsReady calls asked known seen now served start.behind start.inventories.served start.said.items parts.ends parts.disk doors doors_after ready →
-    IsResumedFrom events start.inventories.served width b.serving → events ≡ ready.taken.known.items → WaitsFor events width now start.part b.serving.agent start.inventories.again b.wait ready.desk desk → ledger ≡ with_lanes parts.lane parts.askers start.ledger →
-    house ≡ house_of now start.is_good start.behind ledger start.inventories.named parts.log desk ready.entrances ready.taken.file → LooksAhead start.behind parts.ahead lookout → neighbours ≡ beside house lookout →
-    b.neighbours ≡ day_of start.part neighbours → IsBegun calls asked known seen now served start parts doors doors_after width b
-put_together calls asked known seen now served start parts doors doors_after width b ready desk lookout events ledger house neighbours is agent handed waits l h ahead by n =
+    {D I L S T O E P G : Type 0} → (calls : P → Option (List FileCall)) (asked : P → Option (List (DoorCall O))) (known : Bool) (seen : E → DiskState) (now : Reading) (served : Served) (start : Start (Ledger D I L)) (later : Option G) (parts : Parts S E L) (doors doors_after : P) (width : ℕ) (b : Begun S T O (Late D I L G) E L) (ready : Ready O E) (desk : Desk)
+    (lookout : Option (Ahead L)) (events : List Event) (state : Option (Late D I L G)) (house : House S T O (Late D I L G) E) (neighbours : Behind (House S T O (Late D I L G) E) L) → IsReady calls asked known seen now served start.behind start.inventories.served start.said.items parts.ends parts.disk doors doors_after ready →
+    IsResumedFrom events start.inventories.served width b.serving → events ≡ ready.taken.known.items → WaitsFor events width now start.part b.serving.agent start.inventories.again b.wait ready.desk desk → IsLateOf parts.lane parts.askers start.inventories.named start.ledger later state →
+    house ≡ house_of now start.is_good start.behind state parts.log desk ready.entrances ready.taken.file → LooksAhead start.behind parts.ahead lookout → neighbours ≡ beside house lookout →
+    b.neighbours ≡ day_of start.part neighbours → IsBegun calls asked known seen now served start later parts doors doors_after width b
+put_together calls asked known seen now served start later parts doors doors_after width b ready desk lookout events state house neighbours is agent handed waits keeps h ahead by n =
     record {
       ready = ready;
       desk = desk;
@@ -99,7 +110,9 @@ put_together calls asked known seen now served start parts doors doors_after wid
       agent = subst (λ k. IsResumedFrom k start.inventories.served width b.serving) handed agent;
       waits = subst (λ k. WaitsFor k width now start.part b.serving.agent start.inventories.again b.wait ready.desk desk) handed waits;
       ahead = ahead;
-      neighbours = n ∙ ap (day_of start.part) (by ∙ ap (λ k. beside k lookout) (h ∙ ap (λ led. house_of now start.is_good start.behind led start.inventories.named parts.log desk ready.entrances ready.taken.file) l));
+      state = state;
+      keeps = keeps;
+      neighbours = n ∙ ap (day_of start.part) (by ∙ ap (λ k. beside k lookout) h);
     }
 
 -- ---- what it reads first, and its run
@@ -113,10 +126,10 @@ module _ {C : Type 0} (clock_seen : C → ClockSeen) where
   reads_none result fault now old new is none made = record { reading = None; is = none; made = subst (λ r. CallIsMade (read_call (result_ok r)) (clock_seen old) (clock_seen new)) is made }
 
 pub runs_so :
-    {D I L S T O E C P : Type 0} → (does : NeighbourCall → EarlyDay (Behind (House S T O (Ledger D I L) E) L) → EarlyDay (Behind (House S T O (Ledger D I L) E) L) → Type 0) (given : EarlyDay (Behind (House S T O (Ledger D I L) E) L) → Option (List Change)) (calls : P → Option (List FileCall)) (asked : P → Option (List (DoorCall O))) (known : Bool) (disk_seen : E → DiskState)
-    (clock_seen : C → ClockSeen) (seen : L → Lanes) (port width : L → ℕ) (served : Served) (start : Start (Ledger D I L)) (parts : Parts S E L) (doors doors_after : P) (clock clock_read clock_after : C) (lanes lanes_after : L) (now : Reading) (begun : Begun S T O (Ledger D I L) E L)
-    (after : EarlyDay (Behind (House S T O (Ledger D I L) E) L)) → ReadsFirst clock_seen now clock clock_read → IsBegun calls asked known disk_seen now served start parts doors doors_after (width lanes) begun →
+    {D I L S T O E C P G : Type 0} → (does : NeighbourCall → EarlyDay (Behind (House S T O (Late D I L G) E) L) → EarlyDay (Behind (House S T O (Late D I L G) E) L) → Type 0) (given : EarlyDay (Behind (House S T O (Late D I L G) E) L) → Option (List Change)) (calls : P → Option (List FileCall)) (asked : P → Option (List (DoorCall O))) (known : Bool) (disk_seen : E → DiskState)
+    (clock_seen : C → ClockSeen) (seen : L → Lanes) (port width : L → ℕ) (served : Served) (start : Start (Ledger D I L)) (later : Option G) (parts : Parts S E L) (doors doors_after : P) (clock clock_read clock_after : C) (lanes lanes_after : L) (now : Reading) (begun : Begun S T O (Late D I L G) E L)
+    (after : EarlyDay (Behind (House S T O (Late D I L G) E) L)) → ReadsFirst clock_seen now clock clock_read → IsBegun calls asked known disk_seen now served start later parts doors doors_after (width lanes) begun →
     RunsFrom does given clock_seen seen port begun.wait begun.serving lanes clock_read begun.neighbours lanes_after clock_after after →
-    IsRun does given calls asked known disk_seen clock_seen seen port width served start parts doors clock lanes clock_after lanes_after
-runs_so does given calls asked known disk_seen clock_seen seen port width served start parts doors doors_after clock clock_read clock_after lanes lanes_after now begun after reads begins runs =
+    IsRun does given calls asked known disk_seen clock_seen seen port width served start later parts doors clock lanes clock_after lanes_after
+runs_so does given calls asked known disk_seen clock_seen seen port width served start later parts doors doors_after clock clock_read clock_after lanes lanes_after now begun after reads begins runs =
     record { now = now; clock_read = clock_read; doors_after = doors_after; begun = begun; after = after; reads = reads; begins = begins; runs = runs }

@@ -3,6 +3,9 @@
 use Rattle.std.specs.Prelude.{◌≡◌, ℕ, ◌/◌, Bool, false, if◌then◌else◌, List, [], Option, Some, None, String, Vec, ◌++◌, codes, decimal, is_some, length, min, option_map, string_bytes}
 use Rattle.std.specs.declared.alloc.Global.{Global}
 use Rattle.agent_ledger.specs.declared.asker.Asker.{Asker}
+use Rattle.agent_ledger.specs.declared.late.Late.{Late}
+use Rattle.agent_ledger.specs.declared.late.Late.TheVariants as lates
+use Rattle.agent_ledger.specs.declared.late.Shut.{Shut}
 use Rattle.agent_ledger.specs.declared.ledger.Ledger.{Ledger}
 use Rattle.agent_log.specs.LogDesk.{Desk}
 use Rattle.agent_answers.specs.Controlling.{nobody_asks}
@@ -29,7 +32,7 @@ use Rattle.agent_start.specs.Descriptors.{ArePlaces}
 use Rattle.agent_start.specs.Saying.{BeginsDesk, SaysBehind}
 use Rattle.agent_start.specs.Stalls.{WarnsOfDisks}
 use Rattle.agent_start.specs.TakingOver.{TakesOver}
-use Rattle.agent_start.specs.declared.said.Said.{Said}
+use Rattle.agent_words.specs.declared.said.Said.{Said}
 use Rattle.agent_start.specs.declared.start.Start.{Start}
 use Rattle.agent_run.specs.Doors.{DoorCall, IsDoor}
 use Rattle.agent_run.specs.Waits.{IsResumedFrom, WaitsFor, millis_of}
@@ -79,17 +82,33 @@ pub record IsReady {D E P : Type 0} (calls : P → Option (List FileCall)) (aske
   pub onlookers : IsDoor asked now served.listen Onlookers r.entrances.onlookers doors_opened doors_after opened r.desk
 
 -- a ledger has the credential of a client's change looked up over this lane before it takes it, and those of files by these askers
-abbrev pub with_lanes : {D I L : Type 0} → L → Vec (Asker L) Global → Option (Ledger D I L) → Option (Ledger D I L)
-with_lanes lane askers None = None
-with_lanes lane askers (Some ledger) = Some (record ledger { proving = Some (record { lanes = lane; asked = None }); askers = askers })
+abbrev pub with_lanes : {D I L : Type 0} → L → Vec (Asker L) Global → Ledger D I L → Ledger D I L
+with_lanes lane askers ledger = record ledger { proving = Some (record { lanes = lane; asked = None }); askers = askers }
+
+-- where its folder is opened later they wait for it, no need was given yet, and it is tried in the first turn
+pub record IsShutAtFirst {F L : Type 0} (opening : F) (lane : L) (askers : Vec (Asker L) Global) (named : Option (List Row)) (s : Shut F L) : Type 0 where
+  pub needs : s.needs.items ≡ []
+  pub is : s ≡ record { opening = opening; proving = Some (record { lanes = lane; asked = None }); askers = askers; next = 0; needs = s.needs; read = named }
+
+module _ {D I L F : Type 0} (lane : L) (askers : Vec (Asker L) Global) (named : Option (List Row)) where
+  abbrev pub IsShutOf : Option F → Option (Late D I L F) → Type 0
+  IsShutOf None state = state ≡ None
+  IsShutOf (Some opening) None = ⊥
+  IsShutOf (Some opening) (Some (lates.Open l)) = ⊥
+  IsShutOf (Some opening) (Some (lates.NotYet s)) = IsShutAtFirst opening lane askers named s
+
+  -- what keeps changes, or comes to later: a ledger, where there is one; else what opens a folder later, where something does
+  abbrev pub IsLateOf : Option (Ledger D I L) → Option F → Option (Late D I L F) → Type 0
+  IsLateOf (Some ledger) later state = state ≡ Some (lates.Open (with_lanes lane askers ledger))
+  IsLateOf None later state = IsShutOf later state
 
 -- the file was read at this moment
 abbrev pub read_at : Reading → Bool → FileReading
 read_at now is_good = record { is_good = is_good; at = Some (now.wall / 1000); good_at = if is_good then Some (now.wall / 1000) else None }
 
 -- the parts of a house: nobody has come, and nothing was given or said yet
-abbrev pub house_of : {S T D K E : Type 0} → Reading → Bool → Option ℕ → Option K → Option (List Row) → S → Desk → Entrances D → Option (EndsFile E) → House S T D K E
-house_of now is_good behind ledger named log desk entrances ends =
+abbrev pub house_of : {S T D K E : Type 0} → Reading → Bool → Option ℕ → Option K → S → Desk → Entrances D → Option (EndsFile E) → House S T D K E
+house_of now is_good behind state log desk entrances ends =
     record {
       desk = desk;
       sink = log;
@@ -97,8 +116,7 @@ house_of now is_good behind ledger named log desk entrances ends =
       onlookers = option_map (nobody entrances.places.onlookers) entrances.onlookers;
       file = read_at now is_good;
       standby = begun_standby (is_some behind);
-      state = ledger;
-      read = named;
+      state = state;
       given = None;
       awaited = None;
       next = None;
@@ -124,7 +142,7 @@ beside others lookout = record { others = others; lookout = lookout; giver = Oth
 abbrev pub day_of : {N : Type 0} → ℕ → N → EarlyDay N
 day_of part house = record { others = house; earlier = millis_of part; begun = None; is_own = false }
 
-pub record IsBegun {D I L S T O E P : Type 0} (calls : P → Option (List FileCall)) (asked : P → Option (List (DoorCall O))) (known : Bool) (seen : E → DiskState) (now : Reading) (served : Served) (start : Start (Ledger D I L)) (parts : Parts S E L) (doors doors_after : P) (width : ℕ) (b : Begun S T O (Ledger D I L) E L) : Type 0 where
+pub record IsBegun {D I L S T O E P G : Type 0} (calls : P → Option (List FileCall)) (asked : P → Option (List (DoorCall O))) (known : Bool) (seen : E → DiskState) (now : Reading) (served : Served) (start : Start (Ledger D I L)) (later : Option G) (parts : Parts S E L) (doors doors_after : P) (width : ℕ) (b : Begun S T O (Late D I L G) E L) : Type 0 where
   pub ready : Ready O E
   pub desk : Desk
   pub lookout : Option (Ahead L)
@@ -132,4 +150,6 @@ pub record IsBegun {D I L S T O E P : Type 0} (calls : P → Option (List FileCa
   pub agent : IsResumedFrom ready.taken.known.items start.inventories.served width b.serving
   pub waits : WaitsFor ready.taken.known.items width now start.part b.serving.agent start.inventories.again b.wait ready.desk desk
   pub ahead : LooksAhead start.behind parts.ahead lookout
-  pub neighbours : b.neighbours ≡ day_of start.part (beside (house_of now start.is_good start.behind (with_lanes parts.lane parts.askers start.ledger) start.inventories.named parts.log desk ready.entrances ready.taken.file) lookout)
+  pub state : Option (Late D I L G)
+  pub keeps : IsLateOf parts.lane parts.askers start.inventories.named start.ledger later state
+  pub neighbours : b.neighbours ≡ day_of start.part (beside (house_of now start.is_good start.behind state parts.log desk ready.entrances ready.taken.file) lookout)

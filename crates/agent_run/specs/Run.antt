@@ -1,9 +1,10 @@
 -- Run: an agent from its start to its last turn.
 -- Source: this project's own; docs/commands/serve.md.
-use Rattle.std.specs.Prelude.{◌≡◌, ℕ, Bool, Option, Some, None, if◌then◌else◌, List, [], ◌++◌, codes, is_some, length, max, min, option_copied, option_map, string_bytes, true}
+use Rattle.std.specs.Prelude.{◌≡◌, ℕ, Bool, Option, Some, None, if◌then◌else◌, ◌&&◌, List, [], ◌++◌, codes, is_none, is_some, length, max, min, option_copied, option_map, string_bytes, true}
 use Rattle.std.specs.List.{All}
 use Rattle.agent_ledger.specs.Askers.{is_free}
 use Rattle.agent_ledger.specs.declared.asker.Asker.{Asker}
+use Rattle.agent_ledger.specs.declared.late.Late.{Late}
 use Rattle.agent_ledger.specs.declared.ledger.Ledger.{Ledger}
 use Rattle.agent_words.specs.declared.demands.Demands.{Demands}
 use Rattle.vault_asking.specs.Sending.{Lanes}
@@ -95,25 +96,28 @@ pub record ReadsFirst {C : Type 0} (clock_seen : C → ClockSeen) (now : Reading
 
 -- the clocks are read once; by that an agent is put together of what is served from the start on and of its parts; and it runs from then
 -- on, among the neighbours that it was given
-pub record IsRun {D I L S T O E C P : Type 0} (does : NeighbourCall → EarlyDay (Behind (House S T O (Ledger D I L) E) L) → EarlyDay (Behind (House S T O (Ledger D I L) E) L) → Type 0) (given : EarlyDay (Behind (House S T O (Ledger D I L) E) L) → Option (List Change))
-    (calls : P → Option (List FileCall)) (asked : P → Option (List (DoorCall O))) (known : Bool) (disk_seen : E → DiskState) (clock_seen : C → ClockSeen) (seen : L → Lanes) (port width : L → ℕ) (served : Served) (start : Start (Ledger D I L)) (parts : Parts S E L) (doors : P) (clock : C) (lanes : L) (clock_after : C) (lanes_after : L) : Type 0 where
+pub record IsRun {D I L S T O E C P G : Type 0} (does : NeighbourCall → EarlyDay (Behind (House S T O (Late D I L G) E) L) → EarlyDay (Behind (House S T O (Late D I L G) E) L) → Type 0) (given : EarlyDay (Behind (House S T O (Late D I L G) E) L) → Option (List Change))
+    (calls : P → Option (List FileCall)) (asked : P → Option (List (DoorCall O))) (known : Bool) (disk_seen : E → DiskState) (clock_seen : C → ClockSeen) (seen : L → Lanes) (port width : L → ℕ) (served : Served) (start : Start (Ledger D I L)) (later : Option G) (parts : Parts S E L) (doors : P) (clock : C) (lanes : L) (clock_after : C) (lanes_after : L) : Type 0 where
   pub now : Reading
   pub clock_read : C
   pub doors_after : P
-  pub begun : Begun S T O (Ledger D I L) E L
-  pub after : EarlyDay (Behind (House S T O (Ledger D I L) E) L)
+  pub begun : Begun S T O (Late D I L G) E L
+  pub after : EarlyDay (Behind (House S T O (Late D I L G) E) L)
   pub reads : ReadsFirst clock_seen now clock clock_read
-  pub begins : IsBegun calls asked known disk_seen now served start parts doors doors_after (width lanes) begun
+  pub begins : IsBegun calls asked known disk_seen now served start later parts doors doors_after (width lanes) begun
   pub runs : RunsFrom does given clock_seen seen port begun.wait begun.serving lanes clock_read begun.neighbours lanes_after clock_after after
 
 -- an agent was put together of a start that these words demand, and has run, with this log and the file of the ends that the words name, over lanes of which none was taken,
--- with the time-out and the width of the words, whose requests name the port of their place. Without a ledger it serves what FILE says, by its files
-pub record HasRun {D I L S T O E C P F J : Type 0} (does : NeighbourCall → EarlyDay (Behind (House S T O (Ledger D I L) E) L) → EarlyDay (Behind (House S T O (Ledger D I L) E) L) → Type 0) (given : EarlyDay (Behind (House S T O (Ledger D I L) E) L) → Option (List Change))
+-- with the time-out and the width of the words, whose requests name the port of their place. Without a ledger it serves what FILE says, by its files,
+-- and where there is a state folder, that is opened later
+pub record HasRun {D I L S T O E C P F J G : Type 0} (does : NeighbourCall → EarlyDay (Behind (House S T O (Late D I L G) E) L) → EarlyDay (Behind (House S T O (Late D I L G) E) L) → Type 0) (given : EarlyDay (Behind (House S T O (Late D I L G) E) L) → Option (List Change))
     (calls : P → Option (List FileCall)) (asked : P → Option (List (DoorCall O))) (known : Bool) (disk_seen : E → DiskState) (clock_seen : C → ClockSeen) (seen : L → Lanes) (port width : L → ℕ) (file_bytes : F → Files) (secret_bytes : J → Files) (served : Served) (log : S) : Type 0 where
   pub demands : Demands
   pub demanded : IsDemanded served demands
   pub start : Start (Ledger D I L)
   pub start_is : IsStart demands (is_some served.state) start
+  pub later : Option G
+  pub opens : is_some later ≡ (is_some served.state && is_none start.ledger)
   pub files : F
   pub secrets : J
   pub alone : start.ledger ≡ None → IsServedAlone (is_some served.state) (file_bytes files) (secret_bytes secrets) served.file.now demands start
@@ -129,9 +133,9 @@ pub record HasRun {D I L S T O E C P F J : Type 0} (does : NeighbourCall → Ear
   pub ported : port lanes ≡ port_of served.place
   pub seconds : (seen lanes).seconds ≡ timeout_of served.patience
   pub wide : width lanes ≡ width_of served.width
-  pub runs : IsRun does given calls asked known disk_seen clock_seen seen port width served start parts doors clock lanes clock_after lanes_after
+  pub runs : IsRun does given calls asked known disk_seen clock_seen seen port width served start later parts doors clock lanes clock_after lanes_after
 
 -- with some log
-abbrev pub HasRunSo : {D I L S T O E C P F J : Type 0} → (NeighbourCall → EarlyDay (Behind (House S T O (Ledger D I L) E) L) → EarlyDay (Behind (House S T O (Ledger D I L) E) L) → Type 0) → (EarlyDay (Behind (House S T O (Ledger D I L) E) L) → Option (List Change)) → (P → Option (List FileCall)) → (P → Option (List (DoorCall O))) → Bool → (E → DiskState) →
+abbrev pub HasRunSo : {D I L S T O E C P F J G : Type 0} → (NeighbourCall → EarlyDay (Behind (House S T O (Late D I L G) E) L) → EarlyDay (Behind (House S T O (Late D I L G) E) L) → Type 0) → (EarlyDay (Behind (House S T O (Late D I L G) E) L) → Option (List Change)) → (P → Option (List FileCall)) → (P → Option (List (DoorCall O))) → Bool → (E → DiskState) →
     (C → ClockSeen) → (L → Lanes) → (L → ℕ) → (L → ℕ) → (F → Files) → (J → Files) → Served → Type 0
 HasRunSo {S} does given calls asked known disk_seen clock_seen seen port width file_bytes secret_bytes served = (log : S) × HasRun does given calls asked known disk_seen clock_seen seen port width file_bytes secret_bytes served log

@@ -3,7 +3,7 @@ ghost use Rattle.std.specs.Prelude.{◌≡◌, ◌<◌, [], IfOk, is_some, min, 
 ghost use Rattle.agent_answers.specs.Controlling.{nobody_asks};
 ghost use Rattle.agent_answers.specs.Onlooking.{nobody};
 ghost use Rattle.agent_turns.specs.Held.{IsInStep};
-ghost use Rattle.agent_run.specs.Begun.{BeginsLog, IsBegun, IsReady, LooksAhead, SaysIfBehind, beside, day_of, ends_folder, house_of, place_text, read_at, with_lanes};
+ghost use Rattle.agent_run.specs.Begun.{BeginsLog, IsBegun, IsLateOf, IsReady, IsShutOf, LooksAhead, SaysIfBehind, beside, day_of, ends_folder, house_of, place_text, read_at, with_lanes};
 ghost use Rattle.agent_run.specs.Waits.{IsResumedFrom, WaitsFor};
 
 use crate::doors::{Doors, Guests, open_door};
@@ -11,7 +11,7 @@ use crate::wait::{Wait, millis_of, resumed, wait_of};
 use agent_answers::{Control, Onlookers};
 use agent_behind::{Behind, Lookout};
 use agent_house::House;
-use agent_ledger::{Asker, Ledger};
+use agent_ledger::{Asker, Late, Ledger, Shut};
 use agent_log::Desk;
 use agent_pages::{FileReading, Standby};
 use agent_start::{
@@ -84,17 +84,19 @@ struct AtFirst {
     wait: Option<Wait>,
 }
 
-/// Puts an agent together, of what is served from the start on, over these lanes. The only error is lack of memory.
+/// Puts an agent together, of what is served from the start on, and of what opens its state folder later, where it has one that cannot be
+/// used, over these lanes. The only error is lack of memory.
 #[tactic(auto, using(crate::proofs::Putting::put_together))]
-pub fn begin<'a, D, I, L, S, T, O, E, P>(
+pub fn begin<'a, D, I, L, S, T, O, E, P, G>(
     alloc: Global,
     now: Reading,
     served: &Served<'_>,
     start: Start<Ledger<'a, D, I, L>>,
+    later: Option<G>,
     parts: Parts<S, E, L>,
     doors: &mut P,
     lanes: &L,
-) -> Result<Begun<S, T, O, Ledger<'a, D, I, L>, E, L>, AllocError>
+) -> Result<Begun<S, T, O, Late<'a, D, I, L, G>, E, L>, AllocError>
 where
     D: Disk + Drop,
     I: Drop,
@@ -104,10 +106,11 @@ where
     O: Door<T> + Drop,
     E: Disk + Drop,
     P: Doors<T, O> + Inputs + SecretFiles,
+    G: Drop,
     requires free { L.out lanes.now ≡ [] }
     requires lane_free { L.out parts.lane ≡ [] }
     requires lane_wide { 0 < L.width parts.lane }
-    ensures begun { IfOk result (λ b. IsBegun P.calls P.asked E.is_known E.state now served.now start.entry parts doors.old doors.new (L.width lanes.now) b) }
+    ensures begun { IfOk result (λ b. IsBegun P.calls P.asked E.is_known E.state now served.now start.entry later parts doors.old doors.new (L.width lanes.now) b) }
     ensures in_step { IfOk result (λ b. IsInStep (L.width lanes.now) (L.out lanes.now) b.serving) }
 {
     let Start {
@@ -137,8 +140,8 @@ where
     let known = &ready.taken.known;
     let desk = &mut ready.desk;
     let AtFirst { serving, wait } = resume(alloc, inventory, again, lanes, known, now, part, desk)?;
-    let ledger = with_lanes(ledger, lane, askers);
-    let house = house_of(alloc, now, is_good, behind, ledger, named, log, ready);
+    let state = late_of(alloc, ledger, later, named, lane, askers);
+    let house = house_of(alloc, now, is_good, behind, state, log, ready);
     let lookout = lookout_of(alloc, behind, ahead);
     Ok(Begun {
         serving,
@@ -153,12 +156,11 @@ fn house_of<S, T: Talk, D: Door<T>, K, E>(
     now: Reading,
     is_good: bool,
     behind: Option<u64>,
-    ledger: Option<K>,
-    named: Option<Rows>,
+    state: Option<K>,
     log: S,
     ready: Ready<D, E>,
 ) -> House<S, T, D, K, E>
-    ensures { result ≡ house_of now is_good behind ledger named log ready.desk ready.entrances ready.taken.file }
+    ensures { result ≡ house_of now is_good behind state log ready.desk ready.entrances ready.taken.file }
 {
     let Ready {
         desk,
@@ -172,8 +174,7 @@ fn house_of<S, T: Talk, D: Door<T>, K, E>(
         onlookers: onlookers_at(alloc, entrances.onlookers, entrances.places.onlookers),
         file: read_at(now, is_good),
         standby: Standby::new(behind.is_some()),
-        state: ledger,
-        read: named,
+        state,
         given: None,
         awaited: None,
         next: None,
@@ -361,26 +362,67 @@ pub fn most_out(served: &Served<'_>) -> u32
     served.width.min(u64::from(MOST_WIDTH)) as u32
 }
 
-/// A ledger, where there is one, that has the credential of a client's change looked up over this lane before it takes it, and those of
+/// What keeps changes, or comes to later: a ledger, where there is one; else what opens a state folder later, where something does, and
+/// these entries are named meanwhile. It has the credential of a client's change looked up over this lane before it takes it, and those of
 /// files by these askers.
-fn with_lanes<'a, D: Disk + Drop, I: Drop, L: Lanes + Drop>(
+fn late_of<'a, D: Disk + Drop, I: Drop, L: Lanes + Drop, G: Drop>(
+    alloc: Global,
     ledger: Option<Ledger<'a, D, I, L>>,
+    later: Option<G>,
+    named: Option<Rows>,
     lane: L,
     askers: Vec<Asker<L>>,
-) -> Option<Ledger<'a, D, I, L>>
+) -> Option<Late<'a, D, I, L, G>>
+    requires free { L.out lane ≡ [] }
+    requires wide { 0 < L.width lane }
+    ensures { IsLateOf lane askers named ledger.entry later result }
+{
+    match ledger {
+        Some(ledger) => Some(Late::Open(with_lanes(ledger, lane, askers))),
+        None => shut_of(alloc, later, named, lane, askers),
+    }
+}
+
+/// The same without a ledger: the folder is tried in the first turn.
+#[tactic(auto, using(crate::proofs::Putting::is_shut))]
+fn shut_of<'a, D: Disk + Drop, I: Drop, L: Lanes + Drop, G: Drop>(
+    alloc: Global,
+    later: Option<G>,
+    named: Option<Rows>,
+    lane: L,
+    askers: Vec<Asker<L>>,
+) -> Option<Late<'a, D, I, L, G>>
+    requires free { L.out lane ≡ [] }
+    requires wide { 0 < L.width lane }
+    ensures { IsShutOf lane askers named later result }
+{
+    match later {
+        None => None,
+        Some(opening) => Some(Late::NotYet(Shut {
+            opening,
+            proving: Some(Proving::new(lane)),
+            askers,
+            next: 0,
+            needs: Vec::new(alloc),
+            read: named,
+        })),
+    }
+}
+
+/// A ledger that has the credential of a client's change looked up over this lane before it takes it, and those of files by these askers.
+fn with_lanes<'a, D: Disk + Drop, I: Drop, L: Lanes + Drop>(
+    ledger: Ledger<'a, D, I, L>,
+    lane: L,
+    askers: Vec<Asker<L>>,
+) -> Ledger<'a, D, I, L>
     requires free { L.out lane ≡ [] }
     requires wide { 0 < L.width lane }
     ensures { result ≡ with_lanes lane askers ledger.entry }
 {
-    match ledger {
-        None => None,
-        Some(ledger) => {
-            let mut ledger = ledger;
-            ledger.proving = Some(Proving::new(lane));
-            ledger.askers = askers;
-            Some(ledger)
-        }
-    }
+    let mut ledger = ledger;
+    ledger.proving = Some(Proving::new(lane));
+    ledger.askers = askers;
+    ledger
 }
 
 /// The file was read at this moment, and was good or was not.

@@ -7,7 +7,7 @@ use crate::doors::Doors;
 use crate::running::run_from;
 use agent_behind::Behind;
 use agent_house::House;
-use agent_ledger::Ledger;
+use agent_ledger::{Late, Ledger, Opening};
 use agent_start::Start;
 use agent_turns::{EarlyDay, Neighbours};
 use base_clients::{Door, Talk};
@@ -21,13 +21,15 @@ use std::alloc::{AllocError, Global};
 use vault_asking::SeenLanes;
 use vault_lanes::Lanes;
 
-/// Serves what is served from the start on, as the words of the command line ask, over these lanes: an agent is put together, waits for its
-/// part of a spread where it may, and makes 2^64 - 1 turns. The only error is lack of memory before that: then nothing was sent.
+/// Serves what is served from the start on, as the words of the command line ask, over these lanes, and opens its state folder later, where
+/// it has one that cannot be used: an agent is put together, waits for its part of a spread where it may, and makes 2^64 - 1 turns. The
+/// only error is lack of memory before that: then nothing was sent.
 #[tactic(auto, using(crate::proofs::Putting::runs_so))]
-pub fn run_over<'a, D, I, L, S, T, O, E, P, C>(
+pub fn run_over<'a, D, I, L, S, T, O, E, P, C, G>(
     alloc: Global,
     served: &Served<'_>,
     start: Start<Ledger<'a, D, I, L>>,
+    later: Option<G>,
     parts: Parts<S, E, L>,
     doors: P,
     clock: &mut C,
@@ -43,6 +45,7 @@ where
     E: Disk + Drop,
     P: Doors<T, O> + Inputs + SecretFiles + Drop,
     C: Clock,
+    G: Opening<Ledger<'a, D, I, L>> + Drop,
     requires free { L.out lanes.old ≡ [] }
     requires seconds { L.seconds lanes.old ≡ timeout_of served.now.patience }
     requires width { L.width lanes.old ≡ width_of served.now.width }
@@ -51,7 +54,7 @@ where
     requires lane_width { L.width parts.lane ≡ 1 }
     requires askers { AreAskersFor (L.out) (L.seconds) (L.width) served.now parts.askers.items }
     requires ahead { AreOwnLanes (L.out) (L.seconds) (L.width) served.now parts.ahead }
-    ensures runs { OnOk result (IsRun (⟦<EarlyDay<Behind<House<S, T, O, Ledger<'a, D, I, L>, E>, L>> as Neighbours>⟧.does) (⟦<EarlyDay<Behind<House<S, T, O, Ledger<'a, D, I, L>, E>, L>> as Neighbours>⟧.given) P.calls P.asked E.is_known E.state C.seen ⟦<L as SeenLanes>⟧.seen L.host_port L.width served.now start.entry parts doors clock.old lanes.old clock.new lanes.new) }
+    ensures runs { OnOk result (IsRun (⟦<EarlyDay<Behind<House<S, T, O, Late<'a, D, I, L, G>, E>, L>> as Neighbours>⟧.does) (⟦<EarlyDay<Behind<House<S, T, O, Late<'a, D, I, L, G>, E>, L>> as Neighbours>⟧.given) P.calls P.asked E.is_known E.state C.seen ⟦<L as SeenLanes>⟧.seen L.host_port L.width served.now start.entry later parts doors clock.old lanes.old clock.new lanes.new) }
     ensures nothing { OnErr result (⟦<L as SeenLanes>⟧.seen lanes.new ≡ ⟦<L as SeenLanes>⟧.seen lanes.old) }
 {
     let mut doors = doors;
@@ -60,7 +63,7 @@ where
         serving,
         neighbours,
         wait,
-    } = begin(alloc, now, served, start, parts, &mut doors, lanes)?;
+    } = begin(alloc, now, served, start, later, parts, &mut doors, lanes)?;
     // What opens doors has done so: it holds nothing of the system's any more.
     drop(doors);
     let mut neighbours = neighbours;

@@ -23,8 +23,8 @@ use Rattle.agent_start.specs.Alone.{IsFilledBook, IsServedFile, IsServedHeld, Is
 use Rattle.agent_start.specs.Saying.{said_as}
 use Rattle.agent_start.specs.Starts.{IsServedOf}
 use Rattle.agent_start.specs.declared.reading.Inventories.{Inventories}
-use Rattle.agent_start.specs.declared.said.About.TheVariants.{SecretFile}
-use Rattle.agent_start.specs.declared.said.Said.{Said}
+use Rattle.agent_words.specs.declared.said.About.TheVariants.{SecretFile}
+use Rattle.agent_words.specs.declared.said.Said.{Said}
 
 -- ---- where paths start
 

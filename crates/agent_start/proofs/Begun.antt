@@ -17,8 +17,8 @@ use Rattle.agent_start.specs.Starts.{Begins, IsFreshLedger, IsLedgerAtStart, IsR
 use Rattle.agent_start.specs.declared.folder.NotBegun.{NotBegun}
 use Rattle.agent_start.specs.declared.folder.NotBegun.TheVariants as nots
 use Rattle.agent_start.specs.declared.reading.Inventories.{Inventories}
-use Rattle.agent_start.specs.declared.said.About.TheVariants.{SecretFile}
-use Rattle.agent_start.specs.declared.said.Said.{Said}
+use Rattle.agent_words.specs.declared.said.About.TheVariants.{SecretFile}
+use Rattle.agent_words.specs.declared.said.Said.{Said}
 use Rattle.agent_start.specs.declared.start.Start.{Start}
 
 is_reason : (has_folder : Bool) (why : NotBegun) → IsWhyNotBegun has_folder why → IsReason why
@@ -47,10 +47,11 @@ alone_is_start {D} {I} {L} d has_folder why s not_begun is =
     }
 
 pub with_ledger :
-    {D I L : Type 0} → (d : Demands) (s : Start (Ledger D I L)) (l : Ledger D I L) → s.ledger ≡ Some l → IsLedgerAtStart d l → IsServedBy l s.inventories.served → s.part ≡ d.earlier → s.behind ≡ d.behind → (d.earlier ≡ 0 → s.inventories.again ≡ None) → IsStart d true s
-with_ledger {D} {I} {L} d s l is at_start served part behind alone =
+    {D I L : Type 0} → (d e : Demands) (s : Start (Ledger D I L)) (l : Ledger D I L) → s.ledger ≡ Some l → IsLedgerAtStart e l → e ≡ d → IsServedBy l s.inventories.served → s.part ≡ d.earlier → s.behind ≡ d.behind → (e.earlier ≡ 0 → s.inventories.again ≡ None) → IsStart d true s
+with_ledger {D} {I} {L} d e s l is start_is same served part behind alone =
+    let at_start = subst (λ x. IsLedgerAtStart x l) same start_is in
     record {
-      spread = record { part = part; behind = behind; alone = alone };
+      spread = record { part = part; behind = behind; alone = λ first. alone (ap (λ x. x.earlier) same ∙ first) };
       ledger = subst (λ (k : Option (Ledger D I L)). IfSome k (λ m. (true ≡ true) × (IsLedgerAtStart d m × IsServedBy m s.inventories.served))) (sym is) (refl, (at_start, served));
       without = λ none. absurd (let e : Some l ≡ None = sym is ∙ none in cc);
     }

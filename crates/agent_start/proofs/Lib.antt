@@ -1,8 +1,10 @@
 mod Alone
 mod Begun
+mod OpenedLater
 mod Mounted
 mod Numbers
 mod Refusals
 mod Saying
 mod SetAside
 mod Taking
+mod Telling

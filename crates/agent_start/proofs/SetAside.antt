@@ -12,7 +12,7 @@ use Rattle.base_journal.specs.Journals.{FileIsThere, KeepsOthers, bytes_of_file}
 use Rattle.base_journal.specs.Records.{StandsFor, block, blocks}
 use Rattle.base_journal.proofs.Steps.{at_path, moves_elsewhere}
 use Rattle.agent_start.specs.SettingAside.{AddsUnread, IsUnread, KeepsUnread, SetsAside, file_with, is_closed, unread_of, unread_said, with_end}
-use Rattle.agent_start.specs.declared.said.Said.{Said}
+use Rattle.agent_words.specs.declared.said.Said.{Said}
 
 -- ---- what comes after the records
 

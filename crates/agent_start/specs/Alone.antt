@@ -14,8 +14,8 @@ use Rattle.state_changes.specs.declared.secret.Secret.{Secret}
 use Rattle.agent_start.specs.Saying.{said_as}
 use Rattle.agent_start.specs.Starts.{IsServedOf}
 use Rattle.agent_start.specs.declared.reading.Inventories.{Inventories}
-use Rattle.agent_start.specs.declared.said.About.TheVariants.{SecretFile}
-use Rattle.agent_start.specs.declared.said.Said.{Said}
+use Rattle.agent_words.specs.declared.said.About.TheVariants.{SecretFile}
+use Rattle.agent_words.specs.declared.said.Said.{Said}
 use Rattle.agent_start.specs.declared.start.Start.{Start}
 
 -- what stands before a path that starts at the folder of a file: the file's own path up to its last slash

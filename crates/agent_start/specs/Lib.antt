@@ -7,4 +7,6 @@ pub mod Saying
 pub mod SettingAside
 pub mod Stalls
 pub mod Starts
+pub mod Later
+pub mod Telling
 pub mod TakingOver

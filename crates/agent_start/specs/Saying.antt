@@ -1,32 +1,15 @@
 -- Saying: what a start says in the log before anything else.
 -- Source: this project's own; docs/troubleshooting.md, "Lines of the log".
-use Rattle.std.specs.Prelude.{◌≡◌, ◌⊎◌, ℕ, List, [], ◌∷◌, ◌++◌, Option, Some, Result, Ok, Err, codes, decimal}
+use Rattle.std.specs.Prelude.{◌≡◌, ◌⊎◌, ℕ, List, Option, Some, Result, Ok, Err, codes, decimal}
 use Rattle.std.specs.declared.alloc.AllocError.{AllocError}
+use Rattle.agent_log.specs.AtStart.{AreSaidAtStart}
 use Rattle.agent_log.specs.LogDesk.{Desk, HearsAtStart, begun_desk}
 use Rattle.base_clock.specs.declared.reading.Reading.{Reading}
 use Rattle.base_log.specs.declared.form.Form.{Form}
 use Rattle.base_log.specs.declared.level.Level.{Level}
 use Rattle.base_log.specs.declared.level.Level.TheVariants.{Info}
-use Rattle.agent_start.specs.declared.said.About.{About}
-use Rattle.agent_start.specs.declared.said.About.TheVariants as abouts
-use Rattle.agent_start.specs.declared.said.Said.{Said}
-
-abbrev pub about_word : About → List ℕ
-about_word abouts.Folder = codes "folder"
-about_word abouts.File = codes "file"
-about_word abouts.Copy = codes "copy"
-about_word abouts.Journal = codes "journal"
-about_word abouts.SecretFile = codes "secret-file"
-about_word abouts.Log = codes "log"
-about_word abouts.Ends = codes "ends"
-
-abbrev pub IsSaid : Reading → Said → Desk → Desk → Type 0
-IsSaid now s old new = HearsAtStart now s.level (about_word s.about) s.text old new
-
--- each of these is said, one after another, and nothing else is
-abbrev pub AreSaidAtStart : Reading → List Said → Desk → Desk → Type 0
-AreSaidAtStart now [] old new = new ≡ old
-AreSaidAtStart now (s ∷ rest) old new = (mid : Desk) × (IsSaid now s old mid × AreSaidAtStart now rest mid new)
+use Rattle.agent_words.specs.declared.said.About.{About}
+use Rattle.agent_words.specs.declared.said.Said.{Said}
 
 -- of what the files of credentials hold: what is said where it was to be taken at once; and where nothing of it was, that the looks at
 -- files take each by itself

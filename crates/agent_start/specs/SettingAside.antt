@@ -7,8 +7,8 @@ use Rattle.base_disk.specs.State.{DiskState, LeavesAlone}
 use Rattle.base_journal.specs.Journals.{FileIsThere, bytes_of_file}
 use Rattle.base_journal.specs.Records.{StandsFor}
 use Rattle.base_log.specs.declared.level.Level.TheVariants.{Alert}
-use Rattle.agent_start.specs.declared.said.About.TheVariants.{Journal}
-use Rattle.agent_start.specs.declared.said.Said.{Said}
+use Rattle.agent_words.specs.declared.said.About.TheVariants.{Journal}
+use Rattle.agent_words.specs.declared.said.Said.{Said}
 
 -- ---- what cannot be read
 

@@ -6,9 +6,9 @@ use Rattle.base_log.specs.declared.level.Level.TheVariants.{Warning}
 use Rattle.state_secrets.specs.Stamps.{FileCall, Made, Opened, Stamped}
 use Rattle.state_secrets.specs.declared.secret_files.FileStamp.{FileStamp}
 use Rattle.agent_start.specs.Mounts.{is_in_memory}
-use Rattle.agent_start.specs.declared.said.About.{About}
-use Rattle.agent_start.specs.declared.said.About.TheVariants as abouts
-use Rattle.agent_start.specs.declared.said.Said.{Said}
+use Rattle.agent_words.specs.declared.said.About.{About}
+use Rattle.agent_words.specs.declared.said.About.TheVariants as abouts
+use Rattle.agent_words.specs.declared.said.Said.{Said}
 use Rattle.agent_start.specs.declared.stalls.TheConstants.{MOST_MOUNTS}
 
 abbrev pub warning_of : About → List ℕ → List Said

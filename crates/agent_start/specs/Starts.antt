@@ -14,8 +14,8 @@ use Rattle.state_keeping.specs.Keepers.{waiting_in}
 use Rattle.agent_start.specs.Saying.{IsSaidAs}
 use Rattle.agent_start.specs.declared.folder.NotBegun.{NotBegun}
 use Rattle.agent_start.specs.declared.folder.NotBegun.TheVariants as nots
-use Rattle.agent_start.specs.declared.said.About.TheVariants.{Folder, SecretFile}
-use Rattle.agent_start.specs.declared.said.Said.{Said}
+use Rattle.agent_words.specs.declared.said.About.TheVariants.{Folder, SecretFile}
+use Rattle.agent_words.specs.declared.said.Said.{Said}
 use Rattle.agent_start.specs.declared.start.Start.{Start}
 
 -- ---- a folder that cannot be used

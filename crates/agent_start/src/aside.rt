@@ -6,7 +6,8 @@ ghost use Rattle.base_journal.specs.Journals.{FileIsThere, KeepsOthers, bytes_of
 ghost use Rattle.base_journal.specs.Records.{block, blocks};
 ghost use Rattle.agent_start.specs.SettingAside.{AddsUnread, IsUnread, KeepsUnread, SetsAside, file_with, is_closed, unread_of, unread_said, unread_words, with_end};
 
-use crate::said::{About, Said, push};
+use crate::said::push;
+use agent_words::{About, Said};
 use base_disk::{Disk, DiskFault, FILE_MODE, replace};
 use base_journal::{Journal, MOST_BYTES};
 use base_log::Level;

@@ -1,24 +1,26 @@
 //! The state folder of `serve`: what is served by it, and what is said of it.
-ghost use Rattle.std.specs.Prelude.{◌≡◌, IfErr, IfOk, None, OnOk, is_some, true};
+ghost use Rattle.std.specs.Prelude.{◌≡◌, ◌++◌, IfErr, IfOk, None, OnOk, is_none, is_some, true};
 ghost use Rattle.agent_start.specs.Alone.{folder_of};
 ghost use Rattle.agent_start.specs.Refusals.{RefusesStart};
 ghost use Rattle.agent_start.specs.Saying.{files_line};
 ghost use Rattle.agent_start.specs.Starts.{Begins, IsFreshLedger, IsLedgerAtStart, IsOfFolder, IsServedBy, IsStart};
+ghost use Rattle.agent_start.specs.Telling.{SaysAtStart, SaysFilled, SaysStart, after_opened, damage_words, said_of_copy, said_of_damage, said_of_file, said_of_files};
 ghost use Rattle.agent_start.specs.declared.folder.NotBegun.TheVariants as nots;
 
 use crate::aside::set_aside;
 use crate::found::{Found, find};
 use crate::reading::Inventories;
-use crate::said::{About, Said, push, push_each};
+use crate::said::{push, push_each};
 use crate::secrets::SystemSecrets;
 use crate::start::{Start, SystemLedger};
 use agent_ledger::Ledger;
-use agent_words::{Demands, disk_words};
+use agent_words::{About, Demands, Said, after, disk_words};
 use base_device::{Sink, Watched};
 use base_disk::{Disk, DiskFault, SystemDisk};
 use base_files::Inputs;
 use base_log::Level;
 use base_moment::Text;
+use base_words::push_number;
 use program_report::{Exit, PROGRAM, Stop, tell};
 use state_changes::Note;
 use state_keeping::{OpenFault, Opened, Paths, PathsFault, State, Unopened};
@@ -45,7 +47,7 @@ impl<'a> Folder<'a> {
     }
 
     /// The paths of the files in it.
-    fn paths(&self, alloc: Global) -> Result<&Paths, NotBegun>
+    pub(crate) fn paths(&self, alloc: Global) -> Result<&Paths, NotBegun>
         ensures { IfErr result IsOfFolder }
     {
         match &self.paths {
@@ -117,14 +119,43 @@ fn begin_in<'a, R: Files<File = File> + AllocGlobal, L: Lanes + Drop>(
 {
     let alloc = rt.alloc();
     let paths = folder.paths(alloc)?;
-    let mut disk = SystemDisk::new(rt);
-    make_folder(alloc, &mut disk, folder.name)?;
-    hold(alloc, &mut disk, paths, folder.name)?;
-    let mut found = find(alloc, &mut disk, paths, folder.name, demands)?;
-    keep_unread(alloc, &mut disk, paths, folder.name, &mut found.said)?;
-    let opened = open(alloc, disk, paths, folder.name, &found)?;
+    let (opened, said) = open_in(rt, paths, folder.name, demands)?;
     let files = SystemSecrets::new(rt);
-    Ok(start_with(alloc, paths, demands, files, opened, found.said)?)
+    Ok(start_with(alloc, paths, demands, files, opened, said)?)
+}
+
+/// The state of the folder of that name, and what is said of what was found there. What was opened is closed again where it cannot be used.
+pub(crate) fn open_in<'a, R: Files<File = File> + AllocGlobal>(
+    rt: &'a R,
+    paths: &'a Paths,
+    name: &str,
+    demands: Demands,
+) -> Result<(Opened<'a, SystemDisk<'a, R>>, Vec<Said>), NotBegun>
+    ensures { IfErr result IsOfFolder }
+{
+    let alloc = rt.alloc();
+    let mut disk = SystemDisk::new(rt);
+    let found = find_held(alloc, &mut disk, paths, name, demands)?;
+    let opened = open(alloc, disk, paths, name, &found)?;
+    Ok((opened, found.said))
+}
+
+/// What is found in the folder of that name, which is held from then on; what cannot be read in its journal is kept aside. The folder is
+/// made where there is none.
+fn find_held<R: Files<File = File> + AllocGlobal>(
+    alloc: Global,
+    disk: &mut SystemDisk<'_, R>,
+    paths: &Paths,
+    name: &str,
+    demands: Demands,
+) -> Result<Found, NotBegun>
+    ensures { IfErr result IsOfFolder }
+{
+    make_folder(alloc, disk, name)?;
+    hold(alloc, disk, paths, name)?;
+    let mut found = find(alloc, disk, paths, name, demands)?;
+    keep_unread(alloc, disk, paths, name, &mut found.said)?;
+    Ok(found)
 }
 
 /// Makes the folder, where there is none.
@@ -204,7 +235,7 @@ fn bytes_of(text: &Option<Text>) -> Option<&[u8]> {
 }
 
 /// What is served by a state that was opened, after what was said before. The only error is lack of memory.
-#[tactic(auto, using(crate::proofs::Begun::with_ledger))]
+#[tactic(auto, using(crate::proofs::Begun::with_ledger, crate::proofs::Telling::says_start))]
 pub fn start_with<'a, D: Disk + Drop, I: Inputs + Drop, L: Lanes + Drop>(
     alloc: Global,
     paths: &'a Paths,
@@ -215,6 +246,8 @@ pub fn start_with<'a, D: Disk + Drop, I: Inputs + Drop, L: Lanes + Drop>(
 ) -> Result<Start<Ledger<'a, D, I, L>>, AllocError>
     ensures start { IfOk result (IsStart demands true) }
     ensures there { IfOk result (λ s. is_some s.ledger ≡ true) }
+    ensures good { IfOk result (λ s. s.is_good ≡ is_none opened.entry.fault) }
+    ensures says { IfOk result (SaysStart (I.bytes_at files) paths.now opened.entry said.items) }
 {
     let mut said = said;
     say_opened(alloc, paths, &opened, &mut said)?;
@@ -225,15 +258,7 @@ pub fn start_with<'a, D: Disk + Drop, I: Inputs + Drop, L: Lanes + Drop>(
         fault,
         ..
     } = opened;
-    let mut ledger = Ledger {
-        state,
-        demands,
-        folder: folder_of(paths.file()),
-        inputs: files,
-        looking: Looking::new(alloc),
-        proving: None,
-        askers: Vec::new(alloc),
-    };
+    let mut ledger = ledger_of(alloc, paths, demands, files, state);
     let inventories = filled(alloc, &mut ledger, &notes, &mut said)?;
     Ok(Start {
         part: demands.earlier,
@@ -245,9 +270,34 @@ pub fn start_with<'a, D: Disk + Drop, I: Inputs + Drop, L: Lanes + Drop>(
     })
 }
 
+/// A ledger over a state, which has looked at no file of a credential yet.
+pub(crate) fn ledger_of<'a, D: Disk, I: Inputs, L: Lanes>(
+    alloc: Global,
+    paths: &'a Paths,
+    demands: Demands,
+    files: I,
+    state: State<'a, D>,
+) -> Ledger<'a, D, I, L>
+    ensures fresh { IsFreshLedger result }
+    ensures state { result.state ≡ state.entry }
+    ensures demands { result.demands ≡ demands }
+    ensures folder { result.folder.now ≡ folder_of paths.now.file }
+    ensures files { I.bytes_at result.inputs ≡ I.bytes_at files }
+{
+    Ledger {
+        state,
+        demands,
+        folder: folder_of(paths.file()),
+        inputs: files,
+        looking: Looking::new(alloc),
+        proving: None,
+        askers: Vec::new(alloc),
+    }
+}
+
 /// What is served by a ledger, once it has what the files of credentials hold; what is to be said of that and of its changes is said. The
 /// only error is lack of memory.
-#[tactic(auto, using(crate::proofs::Begun::at_start))]
+#[tactic(auto, using(crate::proofs::Begun::at_start, crate::proofs::Telling::says_at_start))]
 fn filled<D: Disk, I: Inputs, L: Lanes>(
     alloc: Global,
     ledger: &mut Ledger<'_, D, I, L>,
@@ -258,23 +308,50 @@ fn filled<D: Disk, I: Inputs, L: Lanes>(
     ensures at_start { OnOk result (IsLedgerAtStart ledger.old.demands ledger.new) }
     ensures served { IfOk result (λ i. IsServedBy ledger.new i.served) }
     ensures alone { IfOk result (λ i. ledger.old.demands.earlier ≡ 0 → i.again ≡ None) }
+    ensures says { OnOk result (SaysAtStart (I.bytes_at ledger.old.inputs) ledger.old.folder.now notes.now ledger.old.state ledger.new.state said.old.items said.new.items) }
 {
-    push_each(
-        said,
-        Level::Note,
-        About::Journal,
-        ledger.note_lines(alloc, notes)?,
-    )?;
-    if let Some(line) = files_line(alloc, ledger.fill(alloc, 0))? {
-        push(said, Level::Alert, About::SecretFile, line)?;
-    }
+    fill_and_say(alloc, 0, ledger, notes, said)?;
     // What files hold at the start is served from the start on.
     ledger.state.mark_served();
     inventories_of(alloc, ledger)
 }
 
-/// What is said of what the files of credentials hold, which was to be taken at once. Where nothing of it was, the start goes on: the looks
-/// at files take each by itself. The only error is lack of memory.
+/// A ledger has what the files of credentials hold, at a moment of the clock that never steps, in milliseconds; what is to be said of its
+/// changes and of that is said. The only error is lack of memory.
+#[tactic(auto, using(crate::proofs::Telling::says_filled))]
+pub(crate) fn fill_and_say<D: Disk, I: Inputs, L: Lanes>(
+    alloc: Global,
+    now: u64,
+    ledger: &mut Ledger<'_, D, I, L>,
+    notes: &[Note],
+    said: &mut Vec<Said>,
+) -> Result<(), AllocError>
+    ensures says { OnOk result (SaysFilled (I.bytes_at ledger.old.inputs) ledger.old.folder.now now notes.now ledger.old.state ledger.new.state said.old.items said.new.items) }
+    ensures rest { OnOk result (ledger.new ≡ record ledger.old { state = ledger.new.state; inputs = ledger.new.inputs }) }
+{
+    let lines = ledger.note_lines(alloc, notes)?;
+    push_each(said, Level::Note, About::Journal, lines)?;
+    let filled = ledger.fill(alloc, now);
+    say_files(alloc, filled, said)?;
+    Ok(())
+}
+
+/// Says what is to be said of what the files of credentials hold, which was to be taken at once. The only error is lack of memory.
+fn say_files(
+    alloc: Global,
+    filled: Result<Option<Text>, AllocError>,
+    said: &mut Vec<Said>,
+) -> Result<(), AllocError>
+    ensures { OnOk result (said.new.items ≡ said.old.items ++ said_of_files (files_line filled)) }
+{
+    match files_line(alloc, filled)? {
+        None => Ok(()),
+        Some(line) => push(said, Level::Alert, About::SecretFile, line),
+    }
+}
+
+/// What is said of what the files of credentials hold, which was to be taken at once. Where nothing of it was, it is served without, and the
+/// looks at files take each by itself. The only error is lack of memory.
 fn files_line(
     alloc: Global,
     filled: Result<Option<Text>, AllocError>,
@@ -311,80 +388,98 @@ fn inventories_of<D: Disk, I: Inputs, L: Lanes>(
     })
 }
 
-/// Says what is to be said of a state that was opened.
-fn say_opened<D: Disk>(
+/// Says what is to be said of a state that was opened. The only error is lack of memory.
+pub(crate) fn say_opened<D: Disk>(
     alloc: Global,
     paths: &Paths,
     opened: &Opened<'_, D>,
     said: &mut Vec<Said>,
-) -> Result<(), AllocError> {
-    say_folder(alloc, opened.fault.is_none(), opened.copy, said)?;
-    say_damaged(alloc, paths, opened.damaged, opened.aside, said)
+) -> Result<(), AllocError>
+    ensures { OnOk result (said.new.items ≡ after_opened paths.now opened.now said.old.items) }
+{
+    let is_good = opened.fault.is_none();
+    say_file(alloc, is_good, said)?;
+    say_copy(alloc, opened.copy, is_good, said)?;
+    say_damaged(alloc, paths.aside(), opened.damaged, opened.aside, said)?;
+    Ok(())
 }
 
-/// Says whether the file is served, and why its copy could not be kept, or synced where it is served.
-fn say_folder(
-    alloc: Global,
-    is_good: bool,
-    unkept: Option<DiskFault>,
-    said: &mut Vec<Said>,
-) -> Result<(), AllocError> {
-    if !is_good {
-        let text = Text::of(alloc, b"is not served: the last good copy is")?;
-        push(said, Level::Alert, About::File, text)?;
+/// Says that the file is not served, where it is not. The only error is lack of memory.
+fn say_file(alloc: Global, is_good: bool, said: &mut Vec<Said>) -> Result<(), AllocError>
+    ensures { OnOk result (said.new.items ≡ said.old.items ++ said_of_file is_good) }
+{
+    if is_good {
+        return Ok(());
     }
-    match unkept {
-        None => Ok(()),
-        Some(fault) => say_copy(alloc, is_good, fault, said),
-    }
+    let text = Text::of(alloc, b"is not served: the last good copy is")?;
+    push(said, Level::Alert, About::File, text)
 }
 
-/// Says why the copy of the file could not be kept; or synced, where it is served and the file is not.
+/// Says why the copy of the file could not be kept; or synced, where it is served and the file is not. The only error is lack of memory.
 fn say_copy(
     alloc: Global,
+    unkept: Option<DiskFault>,
     is_good: bool,
-    fault: DiskFault,
     said: &mut Vec<Said>,
-) -> Result<(), AllocError> {
-    let (level, what): (Level, &[u8]) = if is_good {
-        (Level::Warning, b"of the file could not be kept: ")
-    } else {
-        (
-            Level::Alert,
-            b"could not be synced, and no change is taken: ",
-        )
+) -> Result<(), AllocError>
+    ensures { OnOk result (said.new.items ≡ said.old.items ++ said_of_copy unkept is_good) }
+{
+    let Some(fault) = unkept else {
+        return Ok(());
     };
-    let mut text = Vec::from_slice(alloc, what)?;
-    text.extend_from_slice(disk_words(fault))?;
-    push(said, level, About::Copy, Text::from_vec(text))
+    if is_good {
+        let words = disk_words(fault);
+        let text = after(alloc, b"of the file could not be kept: ", words)?;
+        push(said, Level::Warning, About::Copy, text)
+    } else {
+        let words = disk_words(fault);
+        let text = after(
+            alloc,
+            b"could not be synced, and no change is taken: ",
+            words,
+        )?;
+        push(said, Level::Alert, About::Copy, text)
+    }
 }
 
-/// Says how many records of the journal are damaged, and where they are.
+/// Says how many lines of the journal are no records, and where they are. The only error is lack of memory.
 fn say_damaged(
     alloc: Global,
-    paths: &Paths,
+    aside: &str,
     damaged: usize,
-    aside: Option<DiskFault>,
+    unkept: Option<DiskFault>,
     said: &mut Vec<Said>,
-) -> Result<(), AllocError> {
+) -> Result<(), AllocError>
+    ensures { OnOk result (said.new.items ≡ said.old.items ++ said_of_damage aside.now damaged unkept) }
+{
     if damaged == 0 {
         return Ok(());
     }
-    let text = match aside {
+    let text = damage_words(alloc, aside, damaged, unkept)?;
+    push(said, Level::Alert, About::Journal, Text::from_vec(text))
+}
+
+fn damage_words(
+    alloc: Global,
+    aside: &str,
+    damaged: usize,
+    unkept: Option<DiskFault>,
+) -> Result<Vec<u8>, AllocError>
+    ensures { IfOk result (λ text. text.items ≡ damage_words aside.now damaged unkept) }
+{
+    let mut text = Vec::new(alloc);
+    push_number(alloc, damaged as u64, &mut text)?;
+    match unkept {
         None => {
-            format!(in alloc;
-                "{damaged} records cannot be read: they go to {}",
-                paths.aside()
-            )?
+            text.extend_from_slice(b" records cannot be read: they go to ")?;
+            text.extend_from_slice(aside.as_bytes())?;
+            Ok(text)
         }
-        Some(_) => format!(in alloc; "{damaged} records cannot be read, and stay where they are")?,
-    };
-    push(
-        said,
-        Level::Alert,
-        About::Journal,
-        Text::from_vec(text.into_bytes()),
-    )
+        Some(_) => {
+            text.extend_from_slice(b" records cannot be read, and stay where they are")?;
+            Ok(text)
+        }
+    }
 }
 
 fn unused_by(alloc: Global, folder: &str, fault: DiskFault) -> Result<NotBegun, AllocError>
@@ -403,7 +498,7 @@ fn unused(alloc: Global, folder: &str, why: &str) -> Result<NotBegun, AllocError
     ensures { IfOk result IsOfFolder }
 {
     let text = format!(in alloc;
-        "{folder} cannot be used ({why}): no change is kept, and files of credentials are not read again"
+        "{folder} cannot be used ({why}): until it can be, no change is kept, and files of credentials are not read again"
     )?;
     Ok(NotBegun::Unused(Said {
         level: Level::Alert,

@@ -1,50 +1,14 @@
 //! What is said in the log before anything else.
 ghost use Rattle.std.specs.Prelude.{◌≡◌, ◌∷◌, ◌++◌, [], IfOk, OnOk, decimal, map};
-ghost use Rattle.agent_start.specs.Saying.{AreSaidAtStart, BeginsDesk, IsSaid, SaysBehind, about_word, said_as};
+ghost use Rattle.agent_start.specs.Saying.{BeginsDesk, SaysBehind, said_as};
 
-use agent_log::Desk;
+use agent_log::{Desk, say_at_start};
+use agent_words::{About, Said};
 use base_clock::Reading;
 use base_log::{Form, Level};
 use base_moment::Text;
 use base_words::push_number;
 use std::alloc::{AllocError, Global};
-
-/// What a line of a start is about.
-#[derive(Clone, Copy, Debug)]
-pub enum About {
-    Folder,
-    File,
-    Copy,
-    Journal,
-    SecretFile,
-    Log,
-    Ends,
-}
-
-impl About {
-    /// Its word in the log.
-    fn word(self) -> &'static str
-        ensures { result.now ≡ about_word self }
-    {
-        match self {
-            About::Folder => "folder",
-            About::File => "file",
-            About::Copy => "copy",
-            About::Journal => "journal",
-            About::SecretFile => "secret-file",
-            About::Log => "log",
-            About::Ends => "ends",
-        }
-    }
-}
-
-/// What is said at the start: of the state folder or the file, or of a file for which the loop waits.
-#[derive(Debug, Drop)]
-pub struct Said {
-    pub level: Level,
-    pub about: About,
-    pub text: Text,
-}
 
 /// Says that the agent stands behind another, and with which margin, in seconds. Where memory is wanting it is not said.
 #[tactic(auto, using(crate::proofs::Saying::wants_words))]
@@ -104,20 +68,6 @@ pub fn desk_of(
     ensures { IfOk result (BeginsDesk form place.items count now said.now) }
 {
     let mut desk = Desk::new(alloc, form, place, count)?;
-    say_each(alloc, now, said, &mut desk);
+    say_at_start(alloc, now, said, &mut desk);
     Ok(desk)
-}
-
-fn say_each(alloc: Global, now: Reading, said: &[Said], desk: &mut Desk)
-    ensures { AreSaidAtStart now said.now desk.old desk.new }
-{
-    for line in said {
-        say(alloc, now, line, desk);
-    }
-}
-
-fn say(alloc: Global, now: Reading, line: &Said, desk: &mut Desk)
-    ensures { IsSaid now line.now desk.old desk.new }
-{
-    desk.hear_at_start(alloc, now, line.level, line.about.word(), line.text.list());
 }

@@ -3,7 +3,8 @@ ghost use Rattle.std.specs.Prelude.{◌≡◌, ◌++◌, OnOk, Ok, option_map};
 ghost use Rattle.agent_start.specs.Stalls.{WarnsBy, WarnsOfDisks, WarnsOfEnds, ends_warning, log_warning, warning_of};
 
 use crate::mounts::is_in_memory;
-use crate::said::{About, Said, push};
+use crate::said::push;
+use agent_words::{About, Said};
 use base_log::Level;
 use base_moment::Text;
 use state_secrets::{FileStamp, SecretFiles};

@@ -6,12 +6,11 @@ ghost use Rattle.agent_start.specs.Starts.{IsReason, IsStart, IsStartAlone, Says
 
 use crate::folder::{Folder, NotBegun, begin, refuse_changes, refuse_held};
 use crate::reading::{Inventories, Sources, read_inventory, refuse_written};
-use crate::said::Said;
 use crate::secrets::SystemSecrets;
 use crate::served_file::ServedFile;
 use crate::unkept::read_with_held;
 use agent_ledger::Ledger;
-use agent_words::Demands;
+use agent_words::{Demands, Said};
 use base_device::{Sink, Watched};
 use base_disk::SystemDisk;
 use base_files::Inputs;

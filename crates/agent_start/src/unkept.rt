@@ -6,9 +6,9 @@ ghost use Rattle.agent_start.specs.Starts.{IsServedOf};
 
 use crate::folder::folder_of;
 use crate::reading::{Inventories, Sources, read_bytes, refuse_bytes, serve_bytes};
-use crate::said::{About, Said, push_each};
+use crate::said::push_each;
 use crate::served_file::ServedFile;
-use agent_words::{Demands, Gathered, gather, wide};
+use agent_words::{About, Demands, Gathered, Said, gather, wide};
 use base_device::{Sink, Watched};
 use base_files::Inputs;
 use base_log::Level;

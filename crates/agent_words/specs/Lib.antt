@@ -10,3 +10,4 @@ pub mod Refusing
 pub mod Reasons
 pub mod Noting
 pub mod Gathering
+pub mod Saying

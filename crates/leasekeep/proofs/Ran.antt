@@ -1,6 +1,6 @@
 -- Ran: an agent that has ended with exit 0 has run, with the log that it was given. For `run_among` and `run`.
 use Rattle.std.proofs.Common.{◌≡◌, ◌∙◌, ℕ, Bool, List, Ok, Err, OnErr, OnOk, Option, Result, subst, sym}
-use Rattle.agent_ledger.specs.declared.ledger.Ledger.{Ledger}
+use Rattle.agent_ledger.specs.declared.late.Late.{Late}
 use Rattle.vault_asking.specs.Sending.{Lanes}
 use Rattle.agent_behind.specs.declared.behind.Behind.{Behind}
 use Rattle.base_clock.specs.Seen.{ClockSeen}
@@ -30,7 +30,7 @@ pub served_alone : {K : Type 0} (had has : Bool) (known_file known : Files) (giv
 served_alone had has known_file known given file d s same named alone =
     subst (λ b. IsServedAlone b known_file known file d s) same (subst (λ f. IsServedAlone had known_file known f d s) named alone)
 
-module _ {D I L S T O E C P F J : Type 0} (does : NeighbourCall → EarlyDay (Behind (House S T O (Ledger D I L) E) L) → EarlyDay (Behind (House S T O (Ledger D I L) E) L) → Type 0) (given : EarlyDay (Behind (House S T O (Ledger D I L) E) L) → Option (List Change)) (calls : P → Option (List FileCall)) (asked : P → Option (List (DoorCall O))) (known : Bool) (disk_seen : E → DiskState)
+module _ {D I L S T O E C P F J G : Type 0} (does : NeighbourCall → EarlyDay (Behind (House S T O (Late D I L G) E) L) → EarlyDay (Behind (House S T O (Late D I L G) E) L) → Type 0) (given : EarlyDay (Behind (House S T O (Late D I L G) E) L) → Option (List Change)) (calls : P → Option (List FileCall)) (asked : P → Option (List (DoorCall O))) (known : Bool) (disk_seen : E → DiskState)
     (clock_seen : C → ClockSeen) (seen : L → Lanes) (port width : L → ℕ) (file_bytes : F → Files) (secret_bytes : J → Files) where
   pub has_run_by :
       (served : Served) (log other : S) → log ≡ other → HasRun does given calls asked known disk_seen clock_seen seen port width file_bytes secret_bytes served log → HasRun does given calls asked known disk_seen clock_seen seen port width file_bytes secret_bytes served other

@@ -7,9 +7,10 @@ ghost use Rattle.agent_run.specs.Run.{AreAskersFor, AreOwnLanes, HasRun, IsDeman
 use crate::system_doors::{SystemDoors, registry_of};
 use agent_behind::Behind;
 use agent_house::{Demands, House};
+use agent_ledger::Late;
 use agent_run::{Doors, Parts, askers_by, most_out, run_over};
 use agent_start::{
-    Folder, Sources, SystemFile, SystemLedger, SystemSecrets, folder_of, make_start,
+    Folder, Sources, SystemFile, SystemFolder, SystemSecrets, folder_of, later_folder, make_start,
 };
 use agent_turns::{EarlyDay, Neighbours};
 use base_clients::{SocketDoor, SocketTalk};
@@ -41,8 +42,16 @@ type HouseOver<'a, R, L> = House<
     StandardOutput,
     SocketTalk,
     SocketDoor,
-    SystemLedger<'a, R, L>,
+    SystemLate<'a, R, L>,
     SystemDisk<'a, R>,
+>;
+
+type SystemLate<'a, R, L> = Late<
+    'a,
+    SystemDisk<'a, R>,
+    SystemSecrets<'a, R>,
+    L,
+    SystemFolder<'a, R>,
 >;
 
 /// Serves what the words ask, as it is demanded: the exit of the agent, once it was told why it does not start. Its clock and its lanes
@@ -107,11 +116,13 @@ where
     ensures runs { result ≡ Exit.Done → HasRun (⟦<DayOver<'a, R, L> as Neighbours>⟧.does) (⟦<DayOver<'a, R, L> as Neighbours>⟧.given) P.calls P.asked ⟦<SystemDisk<'a, R> as Disk>⟧.is_known ⟦<SystemDisk<'a, R> as Disk>⟧.state C.seen ⟦<L as SeenLanes>⟧.seen L.host_port L.width ⟦<SystemFile<'a, R> as Inputs>⟧.bytes_at ⟦<SystemSecrets<'a, R> as Inputs>⟧.bytes_at served.now parts.entry.log }
     ensures sent { result ≢ Exit.Done → ⟦<L as SeenLanes>⟧.seen lanes.new ≡ ⟦<L as SeenLanes>⟧.seen lanes.old }
 {
-    let folder = state_folder(rt.alloc(), served);
+    let kept = state_folder(rt.alloc(), served);
+    let folder = kept.as_ref();
     let mut sources = sources_of(rt, served.file);
-    match make_start(rt, folder.as_ref(), demands, &mut sources, errors) {
+    match make_start(rt, folder, demands, &mut sources, errors) {
         Ok(start) => {
-            let ran = run_over(rt.alloc(), served, start, parts, doors, clock, lanes);
+            let later = later_folder(rt, folder, demands, &start.ledger);
+            let ran = run_over(rt.alloc(), served, start, later, parts, doors, clock, lanes);
             ended(ran, errors)
         }
         Err(exit) => exit,

@@ -52,6 +52,8 @@ pub struct Setting {
     pub guest_fails: u64,
     /// The text of the inventory that is served.
     pub file: Vec<u8>,
+    /// From when on the state folder can be used, in milliseconds of the clock that never steps, where it cannot be at the start.
+    pub later: Option<u64>,
     /// Where changes are kept, and where ends.
     pub state: Store,
     pub ends: Store,
@@ -151,6 +153,7 @@ impl Setting {
             answers: Vec::new(alloc),
             guest_fails: u64::MAX,
             file: Vec::new(alloc),
+            later: None,
             state: Store::new(alloc),
             ends: Store::new(alloc),
             drawer: Drawer::new(alloc),
@@ -188,6 +191,10 @@ impl Setting {
             ["behind", word] => {
                 self.behind = Some(number(word, step.unread())?);
                 self.ahead = step.bytes(alloc)?;
+            }
+            ["state", "later", word] => {
+                self.later = Some(number(word, step.unread())?);
+                self.state.failing = Some(Failing::Never);
             }
             ["state", words @ ..] => {
                 self.state.failing = Some(failing(words, step.unread())?);

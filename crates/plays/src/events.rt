@@ -2,6 +2,7 @@
 use crate::guests::{Peer, guest_named};
 use crate::play::{Play, Told};
 use crate::running::Running;
+use agent_ledger::Late;
 use base_words::push_number;
 use plan_forest::Forest;
 use play_cases::{Fault, Setting, Step, lane_fault, number, put_file};
@@ -61,8 +62,8 @@ impl<'a> Play<'a> {
 
     fn put(&mut self, step: &Step<'_>, path: &str, words: &[&str]) -> Result<(), Fault> {
         match &mut self.house.others.others.state {
-            None => Err(step.refused()),
-            Some(ledger) => put_file(self.alloc, step, path, words, &mut ledger.inputs),
+            None | Some(Late::NotYet(_)) => Err(step.refused()),
+            Some(Late::Open(ledger)) => put_file(self.alloc, step, path, words, &mut ledger.inputs),
         }
     }
 

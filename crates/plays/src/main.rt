@@ -10,6 +10,7 @@ use std::process::ExitCode;
 
 mod endings;
 mod events;
+mod folder;
 mod guests;
 mod outcomes;
 mod play;

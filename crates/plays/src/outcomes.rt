@@ -3,6 +3,7 @@ use crate::guests::guest_named;
 use crate::play::Play;
 use crate::running::Running;
 use crate::starts::MemoryHouse;
+use agent_ledger::Late;
 use agent_standing::Agent;
 use base_clock::Call;
 use base_words::push_number;
@@ -118,14 +119,14 @@ fn pauses_after(alloc: Global, calls: &[Call], before: &mut usize) -> Result<Vec
 // How often files of credentials were looked at so far, and how often read.
 fn counts_of(house: &MemoryHouse<'_>) -> (u64, u64) {
     match &house.state {
-        None => (0, 0),
-        Some(ledger) => (ledger.inputs.looks, ledger.inputs.reads),
+        None | Some(Late::NotYet(_)) => (0, 0),
+        Some(Late::Open(ledger)) => (ledger.inputs.looks, ledger.inputs.reads),
     }
 }
 
 // The bytes of a file of the state, or of the ends.
 fn file_of(alloc: Global, house: &MemoryHouse<'_>, path: &str) -> Result<Vec<u8>, Fault> {
-    if let Some(ledger) = &house.state {
+    if let Some(Late::Open(ledger)) = &house.state {
         if let Some(held) = ledger.state.disk().file(alloc, path)? {
             return Ok(held.bytes);
         }

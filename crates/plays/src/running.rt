@@ -1,6 +1,7 @@
 //! An agent beside its lanes to the broker, in step with them between two turns.
 ghost use Rattle.std.specs.Prelude.{◌≡◌, []};
 
+use crate::folder::MemoryFolder;
 use crate::guests::PeerDoors;
 use crate::starts::{MemoryDay, MemoryLedger, MemoryParts};
 use agent_run::{Begun, begin};
@@ -50,6 +51,7 @@ impl Running {
         now: Reading,
         served: &Served<'_>,
         start: Start<MemoryLedger<'a>>,
+        later: Option<MemoryFolder<'a>>,
         parts: MemoryParts,
     ) -> Result<MemoryDay<'a>, Fault>
         requires free { parts.lane.out ≡ [] }
@@ -59,7 +61,7 @@ impl Running {
         self.lanes.forget();
         let mut doors = PeerDoors;
         let lanes = &self.lanes;
-        match begin(alloc, now, served, start, parts, &mut doors, lanes) {
+        match begin(alloc, now, served, start, later, parts, &mut doors, lanes) {
             Ok(
                 Begun {
                     serving,

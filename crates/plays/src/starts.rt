@@ -1,11 +1,13 @@
 //! How the agent of a play is started: as `leasekeep serve` starts one, over what the disks hold.
 ghost use Rattle.std.specs.Prelude.{◌≡◌, [], IfOk, max, min};
 
+use crate::folder::{MemoryFolder, later_of};
 use crate::guests::{Peer, PeerDoor, PeerDoors};
 use crate::play::Play;
 use crate::running::MemoryLanes;
 use agent_behind::Behind;
 use agent_house::{Asker, Demands, House, Ledger};
+use agent_ledger::Late;
 use agent_run::Parts;
 use agent_start::{Inventories, Start, start_with};
 use agent_turns::EarlyDay;
@@ -27,7 +29,10 @@ use vault_proving::Proving;
 
 pub type MemoryLedger<'a> = Ledger<'a, MemoryDisk, Drawer, MemoryLanes>;
 
-pub type MemoryHouse<'a> = House<MemorySink, Peer<'a>, PeerDoor<'a>, MemoryLedger<'a>, MemoryDisk>;
+/// The same, which may come later.
+pub type MemoryLate<'a> = Late<'a, MemoryDisk, Drawer, MemoryLanes, MemoryFolder<'a>>;
+
+pub type MemoryHouse<'a> = House<MemorySink, Peer<'a>, PeerDoor<'a>, MemoryLate<'a>, MemoryDisk>;
 
 /// The neighbours of an agent of a play.
 pub type MemoryDay<'a> = EarlyDay<Behind<MemoryHouse<'a>, MemoryLanes>>;
@@ -73,9 +78,12 @@ impl<'a> Play<'a> {
             elapsed: 0,
         });
         let start = started(alloc, self.paths, setting, refused)?;
+        let later = later_of(alloc, self.paths, setting)?;
         let parts = self.parts(setting, refused)?;
         let served = served_of(setting);
-        let house = self.running.start(alloc, now, &served, start, parts)?;
+        let house = self
+            .running
+            .start(alloc, now, &served, start, later, parts)?;
         put(&mut self.house, house);
         if !setting.looks_up {
             self.look_nothing_up();
@@ -85,10 +93,11 @@ impl<'a> Play<'a> {
 
     /// The agent is ended and started again, over the same disks, of which no call fails from now on.
     pub fn restart(&mut self, setting: &mut Setting, refused: Fault) -> Result<(), Fault> {
-        let Some(ledger) = &mut self.house.others.others.state else {
+        let Some(Late::Open(ledger)) = &mut self.house.others.others.state else {
             return Err(refused);
         };
         leave(self.alloc, self.paths, ledger, setting, refused)?;
+        setting.later = None;
         if let Some(ends) = &self.house.others.others.ends {
             setting.ends.keep(self.alloc, &ends.disk, &[ENDS, BOOT])?;
         }
@@ -101,23 +110,33 @@ impl<'a> Play<'a> {
         ensures one { IfOk result (λ parts. parts.lane.width ≡ 1) }
     {
         let alloc = self.alloc;
+        let ends = ends_path(alloc, setting)?;
         let lane = lane_of(alloc, setting, refused)?;
+        let askers = askers_of(alloc, setting, refused)?;
+        let ahead = lanes_ahead(alloc, setting, refused)?;
         let nobody = MemorySink::new(alloc, Vec::new(alloc));
         Ok(Parts {
             log: mem::replace(&mut self.house.others.others.sink, nobody),
-            ends: ends_path(alloc, setting)?,
+            ends,
             disk: ends_disk(alloc, setting),
             lane,
-            askers: askers_of(alloc, setting, refused)?,
-            ahead: lanes_ahead(alloc, setting, refused)?,
+            askers,
+            ahead,
         })
     }
 
     // Credentials are taken as they are.
     fn look_nothing_up(&mut self) {
-        if let Some(ledger) = &mut self.house.others.others.state {
-            put(&mut ledger.proving, None);
-            put(&mut ledger.askers, Vec::new(self.alloc));
+        match &mut self.house.others.others.state {
+            None => {}
+            Some(Late::Open(ledger)) => {
+                put(&mut ledger.proving, None);
+                put(&mut ledger.askers, Vec::new(self.alloc));
+            }
+            Some(Late::NotYet(shut)) => {
+                put(&mut shut.proving, None);
+                put(&mut shut.askers, Vec::new(self.alloc));
+            }
         }
     }
 }
@@ -130,8 +149,10 @@ fn started<'a>(
     refused: Fault,
 ) -> Result<Start<MemoryLedger<'a>>, Fault> {
     let mut start = match setting.state.failing {
-        None => of_file(alloc, setting, refused)?,
-        Some(failing) => of_state(alloc, paths, setting, failing, refused)?,
+        Some(failing) if setting.later.is_none() => {
+            of_state(alloc, paths, setting, failing, refused)?
+        }
+        Some(_) | None => of_file(alloc, setting, refused)?,
     };
     start.part = setting.part;
     Ok(start)
@@ -181,7 +202,7 @@ fn of_state<'a>(
 }
 
 /// What is demanded of an inventory.
-fn demands_of(setting: &Setting) -> Demands {
+pub fn demands_of(setting: &Setting) -> Demands {
     Demands {
         timeout: setting.timeout,
         names_are_secrets: false,

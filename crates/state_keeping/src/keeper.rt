@@ -232,6 +232,14 @@ impl<'a> Keeper<'a> {
         self.waiting.due_at()
     }
 
+    /// What is kept waits to be served from now on.
+    pub fn mark_changed(&mut self, now: Millis)
+        ensures waiting { waiting_in self.new ≡ changed (waiting_in self.old) now }
+        ensures store { store_of self.new ≡ store_of self.old }
+    {
+        self.waiting = self.waiting.changed(now);
+    }
+
     /// The inventory that was due is served: no change waits for it any more.
     pub fn mark_served(&mut self)
         ensures waiting { waiting_in self.new ≡ None }

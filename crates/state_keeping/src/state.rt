@@ -210,6 +210,17 @@ impl<'a, D: Disk> State<'a, D> {
         self.keeper.due_at()
     }
 
+    /// What is kept waits to be served from now on. `now` is in milliseconds of the clock that never steps.
+    #[tactic(auto, using(crate::proofs::Filed::keeps_store))]
+    pub fn mark_changed(&mut self, now: Millis)
+        ensures waiting { waiting_in self.new.keeper ≡ changed (waiting_in self.old.keeper) now }
+        ensures store { store_in self.new ≡ store_in self.old }
+        ensures disk { self.new.disk ≡ self.old.disk }
+        ensures places { self.new.places ≡ self.old.places }
+    {
+        self.keeper.mark_changed(now);
+    }
+
     /// The inventory that was due is served: no change waits for it any more.
     #[tactic(auto, using(crate::proofs::Filed::keeps_store))]
     pub fn mark_served(&mut self)

@@ -4,7 +4,7 @@ use Rattle.std.specs.declared.alloc.AllocError.{AllocError}
 use Rattle.state_secrets.specs.Stamps.{FileCall, Made, Stamped}
 use Rattle.state_secrets.specs.declared.secret_files.FileStamp.{FileStamp}
 use Rattle.agent_start.specs.Stalls.{WarnsBy, WarnsOfEnds, log_warning}
-use Rattle.agent_start.specs.declared.said.Said.{Said}
+use Rattle.agent_words.specs.declared.said.Said.{Said}
 use Rattle.agent_start.proofs.stalls.warn_by.Goals as goal
 
 warned :
