@@ -12,7 +12,6 @@ use Rattle.agent_answers.specs.Controlling.{FollowsAsking}
 use Rattle.agent_answers.specs.declared.asked.Asked.{Asked}
 use Rattle.agent_answers.specs.declared.asked.Asked.TheVariants as asked
 use Rattle.agent_answers.specs.declared.control.Control.{Control}
-use Rattle.agent_answers.specs.declared.lines.RequestLines.{RequestLines}
 use Rattle.state_changes.specs.declared.change.What.{What}
 use Rattle.state_changes.specs.declared.change.What.TheVariants as what
 use Rattle.state_changes.specs.declared.row.Row.{Row}
@@ -37,11 +36,12 @@ use Rattle.agent_ledger.specs.declared.keeping.LookedUp.{LookedUp}
 use Rattle.agent_ledger.specs.declared.keeping.LookedUp.TheVariants as lookups
 use Rattle.agent_house.specs.Admitting.{AdmitsIf, AnswerBeginsWith, FollowsLog, asking_in}
 use Rattle.agent_house.specs.Awaiting.{HearsFor, Judges, LooksUpIf, Makes, VerdictIs}
-use Rattle.agent_house.specs.Commands.{AddsIf, AsksFor, AsksIf, CarriesIf, CarriesOut, GivesNeed, GoesOnIf, NeedsIf, TellsReload, read_badly, read_well}
+use Rattle.agent_house.specs.Commands.{AddsIf, AsksFor, AsksIf, CarriesIf, CarriesOut, GivesNeed, GoesOnIf, NeedsIf, TellsReload}
+use Rattle.agent_house.specs.Retries.{read_badly, read_well}
 use Rattle.agent_house.specs.Houses.{ClientIsAside, ClientsAsk, Concludes, WillRefuse, WillTell}
 use Rattle.agent_house.specs.declared.given.Awaited.{Awaited}
 use Rattle.agent_house.specs.declared.house.House.{House}
-use Rattle.agent_laws.specs.Acknowledged.{HasOk, TellsOk, WasThere, answer_in, guests_in}
+use Rattle.agent_laws.specs.Acknowledged.{TellsOk, answer_in, guests_in}
 use Rattle.agent_laws.proofs.Owed.{IsTurnOf}
 
 abbrev the : {X : Type 0} → X → Option X → X
@@ -242,7 +242,7 @@ module _ {S T D K E : Type 0} (does : KeepCall → K → K → Type 0) (rows : K
 abbrev HasAskedBy : {T D : Type 0} → Reading → Option (Control T D) → ℕ → Bool → Type 0
 HasAskedBy now first id alerts = IsTurnOf now first id (asked.Follow alerts)
 
-module _ {S T D K E : Type 0} (does : KeepCall → K → K → Type 0) (rows : K → List Row) (path : K → List ℕ) (reads : K → List ℕ → Result Row Why → Type 0)
+module _ {S T D K E : Type 0} (does : KeepCall → K → K → Type 0) (rows : K → List Row) (keeps : K → Bool) (path : K → List ℕ) (reads : K → List ℕ → Result Row Why → Type 0)
     (gives : ℕ → Result (Option Inventory) AllocError → K → Type 0) (agent : Agent) (now : Reading) (first : Option (Control T D)) where
   abbrev IsTold : House S T D K E → Type 0
   IsTold new = TellsOk (guests_in first) (guests_in new.control) (Follows (HasAskedBy now first))
@@ -263,7 +263,7 @@ module _ {S T D K E : Type 0} (does : KeepCall → K → K → Type 0) (rows : K
     follows alerts asks (inl h) = left (ap guests_in (told (Err h.why) now.elapsed old new h.will))
     follows alerts asks (inr h) = admits alerts asks h.admits
 
-    carried : (x : Asked) (change : Change) → ((id : ℕ) → asking_in old.control ≡ Some id → IsTurnOf now first id x) → CarriesOut does rows path reads gives agent now x change old new → IsTold new
+    carried : (x : Asked) (change : Change) → ((id : ℕ) → asking_in old.control ≡ Some id → IsTurnOf now first id x) → CarriesOut does rows keeps path reads gives agent now x change old new → IsTold new
     carried (asked.Need name need) change asks h = left (ap guests_in (need_if agent now name _ h.result change (record old { state = h.state }) new h.then))
     carried (asked.Replace name credential) change asks h = left (looked_if does rows agent now name (what.Replace credential) h.1.looked_up (record old { state = h.1.state }) new h.1.then)
     carried (asked.Add table) change asks h = left (added_if does rows agent now h.1.read old new h.1.then)
@@ -272,28 +272,29 @@ module _ {S T D K E : Type 0} (does : KeepCall → K → K → Type 0) (rows : K
     carried asked.Reload change asks h = left (ap guests_in (reload_told path agent now h.1.result (record old { state = h.1.state }) new h.1.tells))
     carried (asked.Follow alerts) change asks h = follows alerts asks h.1
 
-  carried_if : (x : Result (Option Asked) AllocError) (change : Option Change) (control : Option (Control T D)) (old new : House S T D K E) → old.control ≡ first → ClientsAsk now x old.control control →
-      CarriesIf does rows path reads gives agent now x change (record old { control = control }) new → IsTold new
-  carried_if (Ok None) change control old new same asks h =
-      left (record old { control = control }) new (none_taken (guests_in first) (guests_in control) (ap guests_in (none_asked now old.control control asks ∙ same))) (ap (λ (x : House S T D K E). guests_in x.control) h.1)
-  carried_if (Ok (Some x)) None control old new same asks h = absurd h
-  carried_if (Ok (Some x)) (Some change) control old new same asks h =
-      let from_first : ClientsAsk now (Ok (Some x)) first control = subst (λ (c : Option (Control T D)). ClientsAsk now (Ok (Some x)) c control) same asks in
-      carried (record old { control = control }) new (asked_taken now x first control from_first) x change (λ id is. (control, (from_first, is))) h
-  carried_if (Err e) change control old new same asks h =
-      left (record old { control = control }) new (none_taken (guests_in first) (guests_in control) (ap guests_in (not_asked now e old.control control asks ∙ same))) (ap (λ (x : House S T D K E). guests_in x.control) h.1.1)
+  carried_if : (x : Result (Option Asked) AllocError) (change : Option Change) (control : Option (Control T D)) (old tried new : House S T D K E) → old.control ≡ first → ClientsAsk now x old.control control → tried.control ≡ control →
+      CarriesIf does rows keeps path reads gives agent now x change tried new → IsTold new
+  carried_if (Ok None) change control old tried new same asks kept h =
+      left tried new (none_taken (guests_in first) (guests_in tried.control) (ap guests_in (kept ∙ (none_asked now old.control control asks ∙ same)))) (ap (λ (x : House S T D K E). guests_in x.control) h.1)
+  carried_if (Ok (Some x)) None control old tried new same asks kept h = absurd h
+  carried_if (Ok (Some x)) (Some change) control old tried new same asks kept h =
+      let from_first : ClientsAsk now (Ok (Some x)) first tried.control =
+      subst (λ (c : Option (Control T D)). ClientsAsk now (Ok (Some x)) first c) (sym kept) (subst (λ (c : Option (Control T D)). ClientsAsk now (Ok (Some x)) c control) same asks) in
+      carried tried new (asked_taken now x first tried.control from_first) x change (λ id is. (tried.control, (from_first, is))) h
+  carried_if (Err e) change control old tried new same asks kept h =
+      left tried new (none_taken (guests_in first) (guests_in tried.control) (ap guests_in (kept ∙ (not_asked now e old.control control asks ∙ same)))) (ap (λ (x : House S T D K E). guests_in x.control) h.1.1)
 
-  goes_on_if : (heard : Bool) (change : Option Change) (mid new : House S T D K E) → mid.control ≡ first → GoesOnIf does rows path reads gives agent now heard change mid new → IsTold new
+  goes_on_if : (heard : Bool) (change : Option Change) (mid new : House S T D K E) → mid.control ≡ first → GoesOnIf does rows keeps path reads gives agent now heard change mid new → IsTold new
   goes_on_if true change mid new same h = same_ok (Follows (HasAskedBy now first)) (guests_in first) (guests_in new.control) (ap guests_in (ap (λ x. x.control) h.1 ∙ same))
-  goes_on_if false change mid new same h = carried_if h.asked change h.control mid new same h.clients h.then
+  goes_on_if false change mid new same h = carried_if h.asked change h.control mid h.tried new same h.clients (ap (λ (x : House S T D K E). x.control) h.tries.rest) h.then
 
-  asked_if : (due : Result (Option (Inventory × Vec Mark Global)) AllocError) (change : Option Change) (old new : House S T D K E) → old.control ≡ first → AsksIf does rows path reads gives agent now due change old new → IsTold new
+  asked_if : (due : Result (Option (Inventory × Vec Mark Global)) AllocError) (change : Option Change) (old new : House S T D K E) → old.control ≡ first → AsksIf does rows keeps path reads gives agent now due change old new → IsTold new
   asked_if (Ok None) change old new same h = goes_on_if h.heard change h.mid new (heard_for does rows agent now old.awaited h.heard old h.mid h.hears ∙ same) h.then
   asked_if (Ok (Some p)) change old new same h = same_ok (Follows (HasAskedBy now first)) (guests_in first) (guests_in new.control) (ap guests_in (ap (λ x. x.control) h.1.1 ∙ same))
   asked_if (Err e) change old new same h = same_ok (Follows (HasAskedBy now first)) (guests_in first) (guests_in new.control) (ap guests_in (ap (λ x. x.control) h.1.1 ∙ same))
 
 -- whoever is told `ok` where a change is asked for follows the log from then on
-pub admitted_alone : {S T D K E : Type 0} (does : KeepCall → K → K → Type 0) (rows : K → List Row) (path : K → List ℕ) (reads : K → List ℕ → Result Row Why → Type 0) (gives : ℕ → Result (Option Inventory) AllocError → K → Type 0)
-    (agent : Agent) (now : Reading) (change : Option Change) (old new : House S T D K E) → AsksFor does rows path reads gives agent now change old new →
+pub admitted_alone : {S T D K E : Type 0} (does : KeepCall → K → K → Type 0) (rows : K → List Row) (keeps : K → Bool) (path : K → List ℕ) (reads : K → List ℕ → Result Row Why → Type 0) (gives : ℕ → Result (Option Inventory) AllocError → K → Type 0)
+    (agent : Agent) (now : Reading) (change : Option Change) (old new : House S T D K E) → AsksFor does rows keeps path reads gives agent now change old new →
     TellsOk (guests_in old.control) (guests_in new.control) (Follows (λ id alerts. IsTurnOf now old.control id (asked.Follow alerts)))
-admitted_alone does rows path reads gives agent now change old new h = asked_if does rows path reads gives agent now old.control h.0 change old new refl h.1.1
+admitted_alone does rows keeps path reads gives agent now change old new h = asked_if does rows keeps path reads gives agent now old.control h.0 change old new refl h.1.1

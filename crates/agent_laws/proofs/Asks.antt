@@ -19,16 +19,18 @@ use Rattle.vault_proving.specs.declared.verdict.Verdict.TheVariants as verdicts
 use Rattle.agent_turns.specs.declared.change.Change.{Change}
 use Rattle.agent_house.specs.Admitting.{AdmitsIf, FollowsLog, asking_in}
 use Rattle.agent_house.specs.Awaiting.{HearsFor, Judges, LooksUpBy, LooksUpFirst, LooksUpIf, Makes, ProvesBy, VerdictIs}
-use Rattle.agent_house.specs.Commands.{AddsIf, AsksIf, CarriesIf, CarriesOut, GivesNeed, GoesOnIf, LacksMemory, NeedIsKept, NeedsIf, RereadBy, ServesClients, SettlesBy, SettlesGiven, StateIsServed, TellsReload}
-use Rattle.agent_laws.specs.Disks.{IsAskedWithin, KeeperIsCalled, looks_of, makes_of}
+use Rattle.agent_house.specs.Commands.{AddsIf, AsksIf, AsksToReload, CarriesIf, CarriesOut, GivesNeed, GoesOnIf, LacksMemory, NeedIsKept, NeedsIf, RereadBy, RereadIf, ServesClients, SettlesBy, SettlesGiven, StateIsServed, TakesIfThere, TakesNeedBy, TellsReload}
+use Rattle.agent_house.specs.Retries.{KeeperTries, is_any_asked}
+use Rattle.agent_laws.specs.Disks.{IsAskedWithin, KeeperIsCalled, looks_of, makes_of, tries_of}
 use Rattle.agent_house.specs.Houses.{ClientIsSent, Concludes, WillRefuse, WillTell}
-use Rattle.agent_ledger.specs.Keeping.{KeepCall, KeeperIsAsked, LookUp, MarkServed, Prove, Reload, Settle, Take}
+use Rattle.agent_ledger.specs.Keeping.{KeepCall, KeeperIsAsked, LookUp, MarkServed, Prove, Reload, Settle, Take, TryAgain}
 use Rattle.agent_words.specs.Outcomes.{Outcome, Why, Whys, done_of}
 use Rattle.agent_log.specs.Lines.{Line}
 use Rattle.agent_house.specs.declared.given.Awaited.{Awaited}
 use Rattle.agent_house.specs.declared.given.Given.{Given}
 use Rattle.agent_house.specs.declared.given.Given.TheVariants as givens
 use Rattle.agent_house.specs.declared.house.House.{House}
+use Rattle.agent_ledger.specs.declared.keeping.KeepNews.{KeepNews}
 use Rattle.agent_ledger.specs.declared.keeping.LookedUp.{LookedUp}
 use Rattle.agent_ledger.specs.declared.keeping.LookedUp.TheVariants as lookups
 use Rattle.agent_words.specs.declared.reread.Reread.{Reread}
@@ -43,11 +45,26 @@ module _ {K : Type 0} (does : KeepCall → K → K → Type 0) where
   keeper_asked call Says outcome (Some old) None h = absurd h
   keeper_asked call Says outcome (Some old) (Some new) h = (new, (h.0, refl))
 
-  need_kept : (agent : Agent) (now : Reading) (name : List ℕ) (need : Need) (result : Result (Unit {0}) Why) (old new : Option K) → NeedIsKept does agent now name need result old new →
-      KeeperIsCalled does (Take now.elapsed name (what.Need need) result ∷ []) old new
-  need_kept agent now name need result None new h = h.1
-  need_kept agent now name need result (Some old) None h = absurd h
-  need_kept agent now name need result (Some old) (Some new) h = (new, (h, refl))
+  taken_once : (now : Reading) (name : List ℕ) (need : Need) (result : Result (Unit {0}) Why) (old new : K) → does (Take now.elapsed name (what.Need need) result) old new → IsAskedWithin does 0 1 0 (Some old) (Some new)
+  taken_once now name need result old new h = within_one does (Take now.elapsed name (what.Need need) result) (Some old) (Some new) (new, (h, refl))
+
+  taken_if : (now : Reading) (name : List ℕ) (need : Need) (there result : Result (Unit {0}) Why) (old new : K) → TakesIfThere does now name need there result old new → IsAskedWithin does 0 1 0 (Some old) (Some new)
+  taken_if now name need (Ok x) result old new h = taken_once now name need result old new h
+  taken_if now name need (Err why) result old new h = within_more does 0 0 0 0 1 0 (Some old) (Some new) (omega arith) (omega arith) (omega arith) (within_none does (Some old) (Some new) (ap Some h.1))
+
+  taken_by : (keeps : Bool) (agent : Agent) (now : Reading) (name : List ℕ) (need : Need) (result : Result (Unit {0}) Why) (old new : K) → TakesNeedBy does keeps agent now name need result old new → IsAskedWithin does 0 1 0 (Some old) (Some new)
+  taken_by keeps agent now name need result old new (inl h) = taken_once now name need result old new h.1
+  taken_by keeps agent now name need result old new (inr h) = taken_if now name need h.1.0 result old new h.1.1.1
+
+  need_kept : (keeps : K → Bool) (agent : Agent) (now : Reading) (name : List ℕ) (need : Need) (result : Result (Unit {0}) Why) (old new : Option K) → NeedIsKept does keeps agent now name need result old new → IsAskedWithin does 0 1 0 old new
+  need_kept keeps agent now name need result None new h = within_more does 0 0 0 0 1 0 None new (omega arith) (omega arith) (omega arith) (within_none does None new h.1)
+  need_kept keeps agent now name need result (Some old) None h = absurd h
+  need_kept keeps agent now name need result (Some old) (Some new) h = taken_by (keeps old) agent now name need result old new h
+
+  keeper_tried : (now : ℕ) (is_asked : Bool) (news : Option KeepNews) (old new : Option K) → KeeperTries does now is_asked news old new → KeeperIsCalled does (TryAgain now is_asked news ∷ []) old new
+  keeper_tried now is_asked news None new h = h.1
+  keeper_tried now is_asked news (Some old) None h = absurd h
+  keeper_tried now is_asked news (Some old) (Some new) h = (new, (h, refl))
 
   looked_up_by : (now : Reading) (name : List ℕ) (w : What) (result : Result LookedUp AllocError) (old new : Option K) → LooksUpBy does now name w result old new → KeeperIsCalled does (LookUp now name w result ∷ []) old new
   looked_up_by now name w result None new h = h.1
@@ -59,14 +76,20 @@ module _ {K : Type 0} (does : KeepCall → K → K → Type 0) where
   proved_by now result (Some old) None h = absurd h
   proved_by now result (Some old) (Some new) h = (new, (h, refl))
 
-  reread_by : (now : Reading) (result : Option (Result Reread Whys)) (old new : Option K) → RereadBy does now result old new → IsAskedWithin does 0 1 old new
-  reread_by now None None new h = within_more does 0 0 0 1 None new (omega arith) (omega arith) (within_none does None new h)
-  reread_by now None (Some old) new h = absurd h
-  reread_by now (Some result) None new h = absurd h
-  reread_by now (Some result) (Some old) None h = absurd h
-  reread_by now (Some result) (Some old) (Some new) h = within_one does (Reload now.elapsed result) (Some old) (Some new) (new, (h, refl))
+  reload_asked : (now : Reading) (result : Option (Result Reread Whys)) (old new : K) → AsksToReload does now result old new → IsAskedWithin does 0 1 0 (Some old) (Some new)
+  reload_asked now None old new h = absurd h
+  reload_asked now (Some result) old new h = within_one does (Reload now.elapsed result) (Some old) (Some new) (new, (h, refl))
 
-  marked_by : (old new : Option K) → StateIsServed does old new → IsAskedWithin does 0 0 old new
+  reread_if : (keeps : Bool) (now : Reading) (result : Option (Result Reread Whys)) (old new : K) → RereadIf does keeps now result old new → IsAskedWithin does 0 1 0 (Some old) (Some new)
+  reread_if keeps now result old new (inl h) = reload_asked now result old new h.1
+  reread_if keeps now result old new (inr h) = within_more does 0 0 0 0 1 0 (Some old) (Some new) (omega arith) (omega arith) (omega arith) (within_none does (Some old) (Some new) (ap Some h.1.1))
+
+  reread_by : (keeps : K → Bool) (now : Reading) (result : Option (Result Reread Whys)) (old new : Option K) → RereadBy does keeps now result old new → IsAskedWithin does 0 1 0 old new
+  reread_by keeps now result None new h = within_more does 0 0 0 0 1 0 None new (omega arith) (omega arith) (omega arith) (within_none does None new h.1)
+  reread_by keeps now result (Some old) None h = absurd h
+  reread_by keeps now result (Some old) (Some new) h = reread_if (keeps old) now result old new h
+
+  marked_by : (old new : Option K) → StateIsServed does old new → IsAskedWithin does 0 0 0 old new
   marked_by None new h = within_none does None new h
   marked_by (Some old) None h = absurd h
   marked_by (Some old) (Some new) h = within_one does MarkServed (Some old) (Some new) (new, (h, refl))
@@ -120,9 +143,9 @@ module _ {S T D K E : Type 0} where
 
 -- ---- what a change asks for
 
--- so many changes at most are asked for, and the ends are left alone
-pub record Spares {S T D K E : Type 0} (does : KeepCall → K → K → Type 0) (makes : ℕ) (old new : House S T D K E) : Type 0 where
-  pub asked : IsAskedWithin does 0 makes old.state new.state
+-- so many changes at most are asked for, it is tried so often to keep them, and the ends are left alone
+pub record Spares {S T D K E : Type 0} (does : KeepCall → K → K → Type 0) (makes tries : ℕ) (old new : House S T D K E) : Type 0 where
+  pub asked : IsAskedWithin does 0 makes tries old.state new.state
   pub ends : new.ends ≡ old.ends
 
 abbrev pub makes_if : Bool → ℕ
@@ -134,49 +157,52 @@ makes_by None = 0
 makes_by (Some change) = 1
 
 module _ {S T D K E : Type 0} (does : KeepCall → K → K → Type 0) where
-  spares : (old new : House S T D K E) → AreLeft old new → Spares does 0 old new
+  spares : (old new : House S T D K E) → AreLeft old new → Spares does 0 0 old new
   spares old new h = record { asked = within_none does old.state new.state h.state; ends = h.ends }
 
-  spares_more : (i j : ℕ) (old new : House S T D K E) → i ≤ j → Spares does i old new → Spares does j old new
-  spares_more i j old new few h = record { asked = within_more does 0 i 0 j old.state new.state (omega arith) few h.asked; ends = h.ends }
+  spares_more : (i j s t : ℕ) (old new : House S T D K E) → i ≤ j → s ≤ t → Spares does i s old new → Spares does j t old new
+  spares_more i j s t old new few tries h = record { asked = within_more does 0 i s 0 j t old.state new.state (omega arith) few tries h.asked; ends = h.ends }
 
   -- from a house with another state
-  after : (i j most : ℕ) (state : Option K) (old new : House S T D K E) → i + j ≤ most → IsAskedWithin does 0 i old.state state → Spares does j (record old { state = state }) new → Spares does most old new
-  after i j most state old new few h k = record { asked = within_more does 0 (i + j) 0 most old.state new.state (omega arith) few (within_join does 0 i 0 j old.state state new.state h k.asked); ends = k.ends }
+  after : (i j most : ℕ) (state : Option K) (old new : House S T D K E) → i + j ≤ most → IsAskedWithin does 0 i 0 old.state state → Spares does j 0 (record old { state = state }) new → Spares does most 0 old new
+  after i j most state old new few h k =
+      record { asked = within_more does 0 (i + j) 0 0 most 0 old.state new.state (omega arith) few (omega arith) (within_join does 0 i 0 0 j 0 old.state state new.state h k.asked); ends = k.ends }
 
-  both : (i j most : ℕ) (old mid new : House S T D K E) → i + j ≤ most → Spares does i old mid → Spares does j mid new → Spares does most old new
-  both i j most old mid new few h k =
-      record { asked = within_more does 0 (i + j) 0 most old.state new.state (omega arith) few (within_join does 0 i 0 j old.state mid.state new.state h.asked k.asked); ends = k.ends ∙ h.ends }
+  both : (i j most tries : ℕ) (old mid new : House S T D K E) → i + j ≤ most → Spares does i 0 old mid → Spares does j tries mid new → Spares does most tries old new
+  both i j most tries old mid new few h k = record {
+    asked = within_more does 0 (i + j) (0 + tries) 0 most tries old.state new.state (omega arith) few (omega arith) (within_join does 0 i 0 0 j tries old.state mid.state new.state h.asked k.asked);
+    ends = k.ends ∙ h.ends;
+  }
 
   -- one change is asked for, and concluded
   concluded_after : (call : Result (Unit {0}) Why → KeepCall) (Says : K → List ℕ → Type 0) (agent : Agent) (l : Line) (outcome : Outcome) (now : ℕ) (state : Option K) (old new : House S T D K E) →
-      looks_of (call (done_of outcome)) ≡ 0 → makes_of (call (done_of outcome)) ≡ 1 →
-      KeeperIsAsked does call Says outcome old.state state → Concludes agent l outcome now (record old { state = state }) new → Spares does 1 old new
-  concluded_after call Says agent l outcome now state old new looks makes comes concludes =
+      looks_of (call (done_of outcome)) ≡ 0 → makes_of (call (done_of outcome)) ≡ 1 → tries_of (call (done_of outcome)) ≡ 0 →
+      KeeperIsAsked does call Says outcome old.state state → Concludes agent l outcome now (record old { state = state }) new → Spares does 1 0 old new
+  concluded_after call Says agent l outcome now state old new looks makes tries comes concludes =
       let one = within_one does (call (done_of outcome)) old.state state (keeper_asked does call Says outcome old.state state comes) in
-      after 1 0 1 state old new (omega arith) (within_more does _ _ 0 1 old.state state (omega (arith, looks)) (omega (arith, makes)) one)
+      after 1 0 1 state old new (omega arith) (within_more does _ _ _ 0 1 0 old.state state (omega (arith, looks)) (omega (arith, makes)) (omega (arith, tries)) one)
       (spares (record old { state = state }) new (concluded agent l outcome now (record old { state = state }) new concludes))
 
   module _ (rows : K → List Row) (agent : Agent) (now : Reading) where
-    made : (name : List ℕ) (w : What) (why : Option Loss) (old new : House S T D K E) → Makes does rows agent now name w why old new → Spares does 1 old new
-    made name (what.Need need) why old new h = spares_more 0 1 old new (omega arith) (spares old new (will_tell (Err None) now.elapsed old new h))
-    made name (what.Replace credential) why old new h = concluded_after (λ done. Take now.elapsed name (what.Replace credential) done) _ agent _ h.outcome now.elapsed h.state old new refl refl h.comes h.concludes
-    made name (what.Add row) why old new h = concluded_after (λ done. Take now.elapsed name (what.Add row) done) _ agent _ h.outcome now.elapsed h.state old new refl refl h.comes h.concludes
-    made name what.Drop why old new h = spares_more 0 1 old new (omega arith) (spares old new (will_tell (Err None) now.elapsed old new h))
+    made : (name : List ℕ) (w : What) (why : Option Loss) (old new : House S T D K E) → Makes does rows agent now name w why old new → Spares does 1 0 old new
+    made name (what.Need need) why old new h = spares_more 0 1 0 0 old new (omega arith) (omega arith) (spares old new (will_tell (Err None) now.elapsed old new h))
+    made name (what.Replace credential) why old new h = concluded_after (λ done. Take now.elapsed name (what.Replace credential) done) _ agent _ h.outcome now.elapsed h.state old new refl refl refl h.comes h.concludes
+    made name (what.Add row) why old new h = concluded_after (λ done. Take now.elapsed name (what.Add row) done) _ agent _ h.outcome now.elapsed h.state old new refl refl refl h.comes h.concludes
+    made name what.Drop why old new h = spares_more 0 1 0 0 old new (omega arith) (omega arith) (spares old new (will_tell (Err None) now.elapsed old new h))
 
-    judged : (name : List ℕ) (w : What) (verdict : Verdict) (old new : House S T D K E) → Judges does rows agent now name w verdict old new → Spares does 1 old new
+    judged : (name : List ℕ) (w : What) (verdict : Verdict) (old new : House S T D K E) → Judges does rows agent now name w verdict old new → Spares does 1 0 old new
     judged name w verdicts.Good old new h = made name w None old new h
-    judged name w (verdicts.Refused status) old new h = spares_more 0 1 old new (omega arith) (spares old new (will_tell (Err h.0) now.elapsed old new h.1.1))
-    judged name w verdicts.Endless old new h = spares_more 0 1 old new (omega arith) (spares old new (will_tell (Err h.0) now.elapsed old new h.1.1))
+    judged name w (verdicts.Refused status) old new h = spares_more 0 1 0 0 old new (omega arith) (omega arith) (spares old new (will_tell (Err h.0) now.elapsed old new h.1.1))
+    judged name w verdicts.Endless old new h = spares_more 0 1 0 0 old new (omega arith) (omega arith) (spares old new (will_tell (Err h.0) now.elapsed old new h.1.1))
     judged name w (verdicts.Missing why) old new h = made name w (Some why) old new h
 
-    looked_if : (name : List ℕ) (w : What) (result : Result LookedUp AllocError) (old new : House S T D K E) → LooksUpIf does rows agent now name w result old new → Spares does 1 old new
-    looked_if name w (Ok lookups.Out) old new h = spares_more 0 1 old new (omega arith) (spares old new (record { state = ap (λ x. x.state) h.rest; ends = ap (λ x. x.ends) h.rest }))
-    looked_if name w (Ok lookups.Later) old new h = spares_more 0 1 old new (omega arith) (spares old new (will_tell (Err h.0) now.elapsed old new h.1.1))
+    looked_if : (name : List ℕ) (w : What) (result : Result LookedUp AllocError) (old new : House S T D K E) → LooksUpIf does rows agent now name w result old new → Spares does 1 0 old new
+    looked_if name w (Ok lookups.Out) old new h = spares_more 0 1 0 0 old new (omega arith) (omega arith) (spares old new (record { state = ap (λ x. x.state) h.rest; ends = ap (λ x. x.ends) h.rest }))
+    looked_if name w (Ok lookups.Later) old new h = spares_more 0 1 0 0 old new (omega arith) (omega arith) (spares old new (will_tell (Err h.0) now.elapsed old new h.1.1))
     looked_if name w (Ok lookups.Nothing) old new h = made name w None old new h
-    looked_if name w (Err e) old new h = spares_more 0 1 old new (omega arith) (spares old new (will_tell (Err None) now.elapsed old new h))
+    looked_if name w (Err e) old new h = spares_more 0 1 0 0 old new (omega arith) (omega arith) (spares old new (will_tell (Err None) now.elapsed old new h))
 
-    looked_up : (name : List ℕ) (w : What) (old new : House S T D K E) → LooksUpFirst does rows agent now name w old new → Spares does 1 old new
+    looked_up : (name : List ℕ) (w : What) (old new : House S T D K E) → LooksUpFirst does rows agent now name w old new → Spares does 1 0 old new
     looked_up name w old new h =
         after 0 1 1 h.state old new (omega arith) (within_one does (LookUp now name w h.looked_up) old.state h.state (looked_up_by does now name w h.looked_up old.state h.state h.asks))
         (looked_if name w h.looked_up (record old { state = h.state }) new h.then)
@@ -185,70 +211,81 @@ module _ {S T D K E : Type 0} (does : KeepCall → K → K → Type 0) where
     given_left mid new given is = record { state = ap (λ x. x.state) is; ends = ap (λ x. x.ends) is }
 
     -- a change that has waited is made at most where the broker's word is there
-    verdict_is : (a : Awaited) (verdict : Result (Option Verdict) AllocError) (heard : Bool) (old new : House S T D K E) → VerdictIs does rows agent now a verdict heard old new → Spares does (makes_if heard) old new
-    verdict_is a (Ok None) heard old new h = subst (λ b. Spares does (makes_if b) old new) (sym h.0) (spares old new (record { state = ap (λ x. x.state) h.1; ends = ap (λ x. x.ends) h.1 }))
+    verdict_is : (a : Awaited) (verdict : Result (Option Verdict) AllocError) (heard : Bool) (old new : House S T D K E) → VerdictIs does rows agent now a verdict heard old new → Spares does (makes_if heard) 0 old new
+    verdict_is a (Ok None) heard old new h = subst (λ b. Spares does (makes_if b) 0 old new) (sym h.0) (spares old new (record { state = ap (λ x. x.state) h.1; ends = ap (λ x. x.ends) h.1 }))
     verdict_is a (Ok (Some verdict)) heard old new h =
-        subst (λ b. Spares does (makes_if b) old new) (sym h.0) (both 1 0 1 old h.1.0 new (omega arith) (judged a.name a.what verdict old h.1.0 h.1.1.0) (spares h.1.0 new (given_left h.1.0 new _ h.1.1.1)))
+        subst (λ b. Spares does (makes_if b) 0 old new) (sym h.0) (both 1 0 1 0 old h.1.0 new (omega arith) (judged a.name a.what verdict old h.1.0 h.1.1.0) (spares h.1.0 new (given_left h.1.0 new _ h.1.1.1)))
     verdict_is a (Err e) heard old new h =
-        subst (λ b. Spares does (makes_if b) old new) (sym h.0)
-        (both 0 0 1 old h.1.0 new (omega arith) (spares old h.1.0 (will_tell (Err None) now.elapsed old h.1.0 h.1.1.0)) (spares h.1.0 new (given_left h.1.0 new _ h.1.1.1)))
+        subst (λ b. Spares does (makes_if b) 0 old new) (sym h.0)
+        (both 0 0 1 0 old h.1.0 new (omega arith) (spares old h.1.0 (will_tell (Err None) now.elapsed old h.1.0 h.1.1.0)) (spares h.1.0 new (given_left h.1.0 new _ h.1.1.1)))
 
-    heard_for : (a : Option Awaited) (heard : Bool) (old new : House S T D K E) → HearsFor does rows agent now a heard old new → Spares does (makes_if heard) old new
-    heard_for None heard old new h = subst (λ b. Spares does (makes_if b) old new) (sym h.0) (spares old new (left old new h.1))
+    heard_for : (a : Option Awaited) (heard : Bool) (old new : House S T D K E) → HearsFor does rows agent now a heard old new → Spares does (makes_if heard) 0 old new
+    heard_for None heard old new h = subst (λ b. Spares does (makes_if b) 0 old new) (sym h.0) (spares old new (left old new h.1))
     heard_for (Some a) heard old new h =
         let all = verdict_is a h.verdict heard (record old { state = h.state; awaited = None }) new h.then in
         let one = within_one does (Prove now.elapsed h.verdict) old.state h.state (proved_by does now.elapsed h.verdict old.state h.state h.proves) in
-        record { asked = within_more does 0 (0 + makes_if heard) 0 (makes_if heard) old.state new.state (omega arith) (omega arith) (within_join does 0 0 0 (makes_if heard) old.state h.state new.state one all.asked); ends = all.ends }
+        record { asked = within_more does 0 (0 + makes_if heard) 0 0 (makes_if heard) 0 old.state new.state (omega arith) (omega arith) (omega arith) (within_join does 0 0 0 0 (makes_if heard) 0 old.state h.state new.state one all.asked); ends = all.ends }
 
-    add_if : (read : Result Row Why) (old new : House S T D K E) → AddsIf does rows agent now read old new → Spares does 1 old new
+    add_if : (read : Result Row Why) (old new : House S T D K E) → AddsIf does rows agent now read old new → Spares does 1 0 old new
     add_if (Ok row) old new h = looked_up row.name (what.Add row) old new h
-    add_if (Err why) old new h = spares_more 0 1 old new (omega arith) (spares old new (will_tell (Err why) now.elapsed old new h))
+    add_if (Err why) old new h = spares_more 0 1 0 0 old new (omega arith) (omega arith) (spares old new (will_tell (Err why) now.elapsed old new h))
 
-module _ {S T D K E : Type 0} (does : KeepCall → K → K → Type 0) (rows : K → List Row) (path : K → List ℕ) (reads : K → List ℕ → Result Row Why → Type 0)
+module _ {S T D K E : Type 0} (does : KeepCall → K → K → Type 0) (rows : K → List Row) (keeps : K → Bool) (path : K → List ℕ) (reads : K → List ℕ → Result Row Why → Type 0)
     (gives : ℕ → Result (Option Inventory) AllocError → K → Type 0) (agent : Agent) (now : Reading) where
-  carried_out : (a : Asked) (change : Change) (old new : House S T D K E) → CarriesOut does rows path reads gives agent now a change old new → Spares does 1 old new
+  carried_out : (a : Asked) (change : Change) (old new : House S T D K E) → CarriesOut does rows keeps path reads gives agent now a change old new → Spares does 1 0 old new
   carried_out (asked.Need name need) change old new h =
-      after does 1 0 1 h.state old new (omega arith) (within_one does (Take now.elapsed name (what.Need need) h.result) old.state h.state (need_kept does agent now name need h.result old.state h.state h.kept))
+      after does 1 0 1 h.state old new (omega arith) (need_kept does keeps agent now name need h.result old.state h.state h.kept)
       (spares does (record old { state = h.state }) new (need_if agent now name _ h.result change (record old { state = h.state }) new h.then))
   carried_out (asked.Replace name credential) change old new h = looked_up does rows agent now name (what.Replace credential) old new h.1
   carried_out (asked.Add table) change old new h = add_if does rows agent now h.1.read old new h.1.then
-  carried_out (asked.Drop name) change old new h = concluded_after does (λ done. Take now.elapsed name what.Drop done) _ agent _ h.1.outcome now.elapsed h.1.state old new refl refl h.1.comes h.1.concludes
-  carried_out asked.Settle change old new h = concluded_after does Settle _ agent _ h.1.outcome now.elapsed h.1.state old new refl refl h.1.comes h.1.concludes
+  carried_out (asked.Drop name) change old new h = concluded_after does (λ done. Take now.elapsed name what.Drop done) _ agent _ h.1.outcome now.elapsed h.1.state old new refl refl refl h.1.comes h.1.concludes
+  carried_out asked.Settle change old new h = concluded_after does Settle _ agent _ h.1.outcome now.elapsed h.1.state old new refl refl refl h.1.comes h.1.concludes
   carried_out asked.Reload change old new h =
-      after does 1 0 1 h.1.state old new (omega arith) (reread_by does now h.1.result old.state h.1.state h.1.asks)
+      after does 1 0 1 h.1.state old new (omega arith) (reread_by does keeps now h.1.result old.state h.1.state h.1.asks)
       (spares does (record old { state = h.1.state }) new (reload_told path agent now h.1.result (record old { state = h.1.state }) new h.1.tells))
-  carried_out (asked.Follow alerts) change old new h = spares_more does 0 1 old new (omega arith) (spares does old new (log_followed now alerts old new h.1))
+  carried_out (asked.Follow alerts) change old new h = spares_more does 0 1 0 0 old new (omega arith) (omega arith) (spares does old new (log_followed now alerts old new h.1))
 
-  lacked : (change : Option Change) (old new : House S T D K E) → LacksMemory does rows path reads gives agent now change old new → Spares does 0 old new
+  lacked : (change : Option Change) (old new : House S T D K E) → LacksMemory does rows keeps path reads gives agent now change old new → Spares does 0 0 old new
   lacked change old new h = spares does old new (record { state = ap (λ x. x.state) h.1.1; ends = ap (λ x. x.ends) h.1.1 })
 
-  any : (change : Option Change) (old new : House S T D K E) → Spares does 0 old new → Spares does (makes_by change) old new
-  any change old new h = spares_more does 0 (makes_by change) old new (omega arith) h
+  any : (change : Option Change) (old new : House S T D K E) → Spares does 0 0 old new → Spares does (makes_by change) 0 old new
+  any change old new h = spares_more does 0 (makes_by change) 0 0 old new (omega arith) (omega arith) h
 
-  carried_if : (a : Result (Option Asked) AllocError) (change : Option Change) (old new : House S T D K E) → CarriesIf does rows path reads gives agent now a change old new → Spares does (makes_by change) old new
+  any_tried : (change : Option Change) (old new : House S T D K E) → Spares does 0 0 old new → Spares does (makes_by change) 1 old new
+  any_tried change old new h = spares_more does 0 (makes_by change) 0 1 old new (omega arith) (omega arith) h
+
+  carried_if : (a : Result (Option Asked) AllocError) (change : Option Change) (old new : House S T D K E) → CarriesIf does rows keeps path reads gives agent now a change old new → Spares does (makes_by change) 0 old new
   carried_if (Ok None) change old new h = any change old new (spares does old new (left old new h.1))
   carried_if (Ok (Some a)) None old new h = absurd h
   carried_if (Ok (Some a)) (Some change) old new h = carried_out a change old new h
   carried_if (Err e) change old new h = any change old new (lacked change old new h)
 
-  served_clients : (change : Option Change) (old new : House S T D K E) → ServesClients does rows path reads gives agent now change old new → Spares does (makes_by change) old new
-  served_clients change old new h = (let all = carried_if h.asked change (record old { control = h.control }) new h.then in record { asked = all.asked; ends = all.ends })
+  -- it is tried to keep changes before that
+  served_clients : (change : Option Change) (old new : House S T D K E) → ServesClients does rows keeps path reads gives agent now change old new → Spares does (makes_by change) 1 old new
+  served_clients change old new h =
+      let all = carried_if h.asked change h.tried new h.then in
+      let one = within_one does (TryAgain now.elapsed (is_any_asked h.asked) h.tries.news) old.state h.tried.state (keeper_tried does now.elapsed (is_any_asked h.asked) h.tries.news old.state h.tried.state h.tries.tries) in
+      record {
+        asked = within_more does (0 + 0) (0 + makes_by change) (1 + 0) 0 (makes_by change) 1 old.state new.state (omega arith) (omega arith) (omega arith)
+            (within_join does 0 0 1 0 (makes_by change) 0 old.state h.tried.state new.state one all.asked);
+        ends = all.ends ∙ ap (λ x. x.ends) h.tries.rest;
+      }
 
   -- the change that has waited is one
-  goes_on_if : (heard : Bool) (change : Option Change) (old mid new : House S T D K E) → Spares does (makes_if heard) old mid → GoesOnIf does rows path reads gives agent now heard change mid new → Spares does (makes_by change) old new
+  goes_on_if : (heard : Bool) (change : Option Change) (old mid new : House S T D K E) → Spares does (makes_if heard) 0 old mid → GoesOnIf does rows keeps path reads gives agent now heard change mid new → Spares does (makes_by change) 1 old new
   goes_on_if true change old mid new all h =
-      subst (λ c. Spares does (makes_by c) old new) (sym h.0) (both does 1 0 1 old mid new (omega arith) all (spares does mid new (left mid new h.1)))
-  goes_on_if false change old mid new all h = both does 0 (makes_by change) (makes_by change) old mid new (omega arith) all (served_clients change mid new h)
+      subst (λ c. Spares does (makes_by c) 1 old new) (sym h.0) (spares_more does 1 1 0 1 old new (omega arith) (omega arith) (both does 1 0 1 0 old mid new (omega arith) all (spares does mid new (left mid new h.1))))
+  goes_on_if false change old mid new all h = both does 0 (makes_by change) (makes_by change) 1 old mid new (omega arith) all (served_clients change mid new h)
 
-  pub asked_for : (due : Result (Option (Inventory × Vec Mark Global)) AllocError) (change : Option Change) (old new : House S T D K E) → AsksIf does rows path reads gives agent now due change old new → Spares does (makes_by change) old new
+  pub asked_for : (due : Result (Option (Inventory × Vec Mark Global)) AllocError) (change : Option Change) (old new : House S T D K E) → AsksIf does rows keeps path reads gives agent now due change old new → Spares does (makes_by change) 1 old new
   asked_for (Ok None) change old new h = goes_on_if h.heard change old h.mid new (heard_for does rows agent now old.awaited h.heard old h.mid h.hears) h.then
-  asked_for (Ok (Some p)) change old new h = any change old new (spares does old new (record { state = ap (λ x. x.state) h.1.1; ends = ap (λ x. x.ends) h.1.1 }))
-  asked_for (Err e) change old new h = any change old new (lacked change old new h)
+  asked_for (Ok (Some p)) change old new h = any_tried change old new (spares does old new (record { state = ap (λ x. x.state) h.1.1; ends = ap (λ x. x.ends) h.1.1 }))
+  asked_for (Err e) change old new h = any_tried change old new (lacked change old new h)
 
 -- ---- what was given is settled
 
-module _ {S T D K E : Type 0} (does : KeepCall → K → K → Type 0) (agent : Agent) where
-  settled_by : (is_made : Bool) (given : Option Given) (old new : House S T D K E) → SettlesBy does agent is_made given old new → Spares does 0 old new
+module _ {S T D K E : Type 0} (does : KeepCall → K → K → Type 0) (keeps : K → Bool) (agent : Agent) where
+  settled_by : (is_made : Bool) (given : Option Given) (old new : House S T D K E) → SettlesBy does keeps agent is_made given old new → Spares does 0 0 old new
   settled_by is_made None old new h = spares does old new (left old new h)
   settled_by true (Some (givens.Need need)) old new h = (let all = sent agent h.sent need.at (record old { desk = h.desk }) new h.sends in spares does old new (record { state = all.state; ends = all.ends }))
   settled_by false (Some (givens.Need need)) old new h = spares does old new (record { state = ap (λ x. x.state) h.1; ends = ap (λ x. x.ends) h.1 })
@@ -261,5 +298,5 @@ module _ {S T D K E : Type 0} (does : KeepCall → K → K → Type 0) (agent : 
   settled_by true (Some givens.Unchanged) old new h = record { asked = marked_by does old.state new.state h.0; ends = ap (λ x. x.ends) h.1 }
   settled_by false (Some givens.Unchanged) old new h = spares does old new (left old new h)
 
-  pub settled_given : (is_made : Bool) (old new : House S T D K E) → SettlesGiven does agent is_made old new → Spares does 0 old new
+  pub settled_given : (is_made : Bool) (old new : House S T D K E) → SettlesGiven does keeps agent is_made old new → Spares does 0 0 old new
   settled_given is_made old new h = (let all = settled_by is_made old.given (record old { given = None }) new h in record { asked = all.asked; ends = all.ends })

@@ -1,6 +1,6 @@
 -- Heard: what a house does follows from the machine, the forest, the standings and the beginnings of its agent. For
 -- `a_house_shows_no_credential`.
-use Rattle.std.proofs.Common.{◌≡◌, ◌∙◌, ℕ, Bool, true, false, inl, inr, List, [], ◌∷◌, Option, Some, None, Result, ap, is_some, map, refl, subst, sym, Ok, Err, option_map}
+use Rattle.std.proofs.Common.{◌≡◌, ◌∙◌, ℕ, Bool, true, false, inl, inr, List, [], ◌∷◌, Option, Some, None, Result, ap, map, refl, subst, sym, Ok, Err, option_map}
 use Rattle.std.specs.Prelude.{Vec}
 use Rattle.std.specs.declared.alloc.AllocError.{AllocError}
 use Rattle.std.specs.declared.alloc.Global.{Global}
@@ -58,6 +58,7 @@ use Rattle.agent_house.specs.Awaiting.{HearsFor, VerdictIs}
 use Rattle.agent_house.specs.Commands.{AsksFor, AsksIf, CarriesIf, GoesOnIf, GoesOnWithClients, LacksMemory, SettlesBy, TellsNeed, reach_of_need}
 use Rattle.agent_house.specs.Doing.{HearsOf, HearsServedIf, HouseGoesOn, SettlesChange}
 use Rattle.agent_house.specs.Ends.{EndsGoOn, KeepsEnds}
+use Rattle.agent_house.specs.Retries.{keeps_in}
 use Rattle.agent_house.specs.Houses.{Attends, ClientIsSent, ClientsGoOn, OnlookersGoOn, SendsAside}
 use Rattle.agent_house.specs.Looks.{LooksAround}
 use Rattle.agent_house.specs.Nexts.{HearsNext, next_there}
@@ -82,7 +83,7 @@ module _ (a b : Agent) (alike : AgentsAreAlike a b) where
     rest = subst (λ (m : List Mark). new ≡ record old { room = new.room; marks = m }) (sym marks) x.rest;
   }
 
-  says_so : (l : List Line) (m : List Mark) (old new : Desk) → SaysLines a l m old new → SaysLines b l m old new
+  pub says_so : (l : List Line) (m : List Mark) (old new : Desk) → SaysLines a l m old new → SaysLines b l m old new
   says_so l m old new x = says l l m m old new refl refl x
 
   says_lack : (left : Lack) (old new : Desk) → SaysWant a left old new → SaysWant b left old new
@@ -147,17 +148,17 @@ module _ (a b : Agent) (alike : AgentsAreAlike a b) where
     sends_aside : (client : Option ℕ) (sent : Option (List ℕ)) (now : ℕ) (old new : House S T D K E) → SendsAside a client sent now old new → SendsAside b client sent now old new
     sends_aside client sent now old new x = record { answered = x.answered; desk = wants _ old.desk new.desk x.desk; rest = x.rest }
 
-    module _ (does : KeepCall → K → K → Type 0) where
-      settles : (is_made : Bool) (given : Option Given) (old new : House S T D K E) → SettlesBy does a is_made given old new → SettlesBy does b is_made given old new
+    module _ (does : KeepCall → K → K → Type 0) (keeps : K → Bool) where
+      settles : (is_made : Bool) (given : Option Given) (old new : House S T D K E) → SettlesBy does keeps a is_made given old new → SettlesBy does keeps b is_made given old new
       settles is_made None old new x = x
       settles true (Some (givens.Need need)) old new x =
-          subst (λ (f : Forest). TellsNeed b (name_of f need.entry) (reach_of_need b.machine need.entry need.until) need.until need.at old new) (sym alike.forest) (record {
+          subst (λ (f : Forest). TellsNeed keeps b (name_of f need.entry) (reach_of_need b.machine need.entry need.until) need.until need.at old new) (sym alike.forest) (record {
             desk = x.desk;
             heard = says_so (need_log_line (name_of a.inventory.forest need.entry) need.until ∷ []) old.desk.marks old.desk x.desk x.heard;
             line = x.line;
             says = x.says;
             sent = x.sent;
-            reply = subst (λ (r : Option ℕ). IsNeedReply (is_some old.state) r x.line x.sent) (ap (λ (m : WatchState). reach_of_need m need.entry need.until) (sym alike.machine)) x.reply;
+            reply = subst (λ (r : Option ℕ). IsNeedReply (keeps_in keeps old.state) r x.line x.sent) (ap (λ (m : WatchState). reach_of_need m need.entry need.until) (sym alike.machine)) x.reply;
             sends = sends x.sent need.at (record old { desk = x.desk }) new x.sends;
           })
       settles false (Some (givens.Need need)) old new x = x
@@ -170,7 +171,7 @@ module _ (a b : Agent) (alike : AgentsAreAlike a b) where
       settles true (Some givens.Unchanged) old new x = x
       settles false (Some givens.Unchanged) old new x = x
 
-      pub settled : (is_made : Bool) (old new : House S T D K E) → SettlesChange does a is_made old new → SettlesChange does b is_made old new
+      pub settled : (is_made : Bool) (old new : House S T D K E) → SettlesChange does keeps a is_made old new → SettlesChange does keeps b is_made old new
       settled is_made old new x = record {
         heard = x.heard;
         settled = x.settled;
@@ -182,10 +183,10 @@ module _ (a b : Agent) (alike : AgentsAreAlike a b) where
 
 -- ---- where no change is given
 
-module _ (a b : Agent) (alike : AgentsAreAlike a b) {S T D K E : Type 0} (does : KeepCall → K → K → Type 0) (rows : K → List Row) (path : K → List ℕ) (reads : K → List ℕ → Result Row Why → Type 0)
+module _ (a b : Agent) (alike : AgentsAreAlike a b) {S T D K E : Type 0} (does : KeepCall → K → K → Type 0) (rows : K → List Row) (keeps : K → Bool) (path : K → List ℕ) (reads : K → List ℕ → Result Row Why → Type 0)
     (gives : ℕ → Result (Option Inventory) AllocError → K → Type 0) (now : Reading) where
   abbrev Lacks : Agent → House S T D K E → House S T D K E → Type 0
-  Lacks agent old new = LacksMemory does rows path reads gives agent now None old new
+  Lacks agent old new = LacksMemory does rows keeps path reads gives agent now None old new
 
   lacks_memory : (old new : House S T D K E) → Lacks a old new → Lacks b old new
   lacks_memory old new h = (h.0, (says_so a b alike (memory_line ∷ []) old.desk.marks old.desk new.desk h.1.0, h.1.1))
@@ -199,29 +200,85 @@ module _ (a b : Agent) (alike : AgentsAreAlike a b) {S T D K E : Type 0} (does :
   hears_none None old new h = h
   hears_none (Some w) old new h = record { verdict = h.verdict; state = h.state; proves = h.proves; then = verdict_none w h.verdict (record old { awaited = None; state = h.state }) new h.then }
 
-  carries_none : (asked : Result (Option Asked) AllocError) (old new : House S T D K E) → CarriesIf does rows path reads gives a now asked None old new → CarriesIf does rows path reads gives b now asked None old new
+  carries_none : (asked : Result (Option Asked) AllocError) (old new : House S T D K E) → CarriesIf does rows keeps path reads gives a now asked None old new → CarriesIf does rows keeps path reads gives b now asked None old new
   carries_none (Ok None) old new h = h
   carries_none (Ok (Some it)) old new h = absurd h
   carries_none (Err e) old new h = lacks_memory old new h
 
-  goes_on_none : (is : Bool) (old mid new : House S T D K E) → HearsFor does rows a now old.awaited is old mid → GoesOnIf does rows path reads gives a now is None mid new → GoesOnWithClients does rows path reads gives b now None old new
+  goes_on_none : (is : Bool) (old mid new : House S T D K E) → HearsFor does rows a now old.awaited is old mid → GoesOnIf does rows keeps path reads gives a now is None mid new → GoesOnWithClients does rows keeps path reads gives b now None old new
   goes_on_none true old mid new hears h = absurd (let clash = h.0 in cc)
   goes_on_none false old mid new hears h = record {
     heard = false;
     mid = mid;
     hears = hears_none old.awaited old mid hears;
-    then = record { asked = h.asked; control = h.control; clients = h.clients; then = carries_none h.asked (record mid { control = h.control }) new h.then };
+    then = record { asked = h.asked; control = h.control; clients = h.clients; tried = h.tried; tries = h.tries; then = carries_none h.asked h.tried new h.then };
   }
 
-  asks_none : (due : Result (Option (Inventory × Vec Mark Global)) AllocError) (old new : House S T D K E) → AsksIf does rows path reads gives a now due None old new → AsksIf does rows path reads gives b now due None old new
+  asks_none : (due : Result (Option (Inventory × Vec Mark Global)) AllocError) (old new : House S T D K E) → AsksIf does rows keeps path reads gives a now due None old new → AsksIf does rows keeps path reads gives b now due None old new
   asks_none (Ok None) old new h = goes_on_none h.heard old h.mid new h.hears h.then
   asks_none (Ok (Some p)) old new h = absurd (let clash = h.0 in cc)
   asks_none (Err e) old new h = lacks_memory old new h
 
-  pub none_given_alike : (old new : House S T D K E) → AsksFor does rows path reads gives a now None old new → AsksFor does rows path reads gives b now None old new
+  pub none_given_alike : (old new : House S T D K E) → AsksFor does rows keeps path reads gives a now None old new → AsksFor does rows keeps path reads gives b now None old new
   none_given_alike old new h = (h.0, (h.1.0, asks_none h.0 old new h.1.1))
 
 -- ---- what is shown
+
+module _ (a b : Agent) (around more : Around) (boards : board_of b more ≡ board_of a around) where
+  shown_if : (enough : Bool) (page : Page) (sent : List ℕ) → ShownIf enough a around page sent → ShownIf enough b more page sent
+  shown_if true page sent x = (x.0, subst (λ (board : Board). IsTold board page x.0) (sym boards) x.1, x.2)
+  shown_if false page sent x = x
+
+  replies : {T : Type 0} (now : Reading) (it : Wanted) (enough : Bool) (old new : GuestTable T RequestLines) → RepliesTo a around now it enough old new → RepliesTo b more now it enough old new
+  replies now (wanted.Do x) enough old new h = h
+  replies now (wanted.Show page) enough old new h = (h.0, (shown_if enough page h.0 h.1.0, h.1.1))
+  replies now (wanted.Refused why) enough old new h = h
+
+  first_replied : {T : Type 0} (now : Reading) (first : Option (List ℕ)) (enough : Bool) (old new : GuestTable T RequestLines) → FirstIsReplied a around now first enough old new → FirstIsReplied b more now first enough old new
+  first_replied now None enough old new h = h
+  first_replied now (Some bytes) enough old new (inl h) = inl (h.0, (h.1.0, replies now h.0 enough old new h.1.1))
+  first_replied now (Some bytes) enough old new (inr h) = inr h
+
+  sent_if : (enough : Bool) (bytes sent : List ℕ) → IsSentIf enough a around bytes sent → IsSentIf enough b more bytes sent
+  sent_if true bytes sent (asked, answer, ask, is, bytes_are) = (asked, answer, ask, subst (λ (board : Board). IsAnswer board (question_of asked) answer) (sym boards) is, bytes_are)
+  sent_if false bytes sent x = x
+
+  first_sent : {T : Type 0} (now : ℕ) (first : Option (List ℕ)) (enough : Bool) (old new : GuestTable T Heads) → FirstIsSent a around now first enough old new → FirstIsSent b more now first enough old new
+  first_sent now None enough old new h = h
+  first_sent now (Some bytes) enough old new h = (h.0, (sent_if enough bytes h.0 h.1.0, h.1.1))
+
+  one_sent : {T : Type 0} (is_due : Bool) (now : ℕ) (enough : Bool) (old new : GuestTable T Heads) → OneIsSent is_due a around now enough old new → OneIsSent is_due b more now enough old new
+  one_sent true now enough old new h = first_sent now (first_asked old) enough old new h
+  one_sent false now enough old new h = h
+
+  module _ {T D : Type 0} (remaining written : T → Option (List ℕ)) (calls : T → Option (List Call)) (log : D → Option (DoorLog T)) (now : Reading) (went : Went) where
+    pub onlookers : (old new : Option (Onlookers T D)) → OnlookersGoOn remaining written calls log a around now went old new → OnlookersGoOn remaining written calls log b more now went old new
+    onlookers None new h = h
+    onlookers (Some old) None h = absurd h
+    onlookers (Some old) (Some new) h = record {
+      turned = h.turned;
+      turned_enough = h.turned_enough;
+      sent_enough = h.sent_enough;
+      turn = h.turn;
+      one = one_sent _ now.elapsed h.sent_enough h.turned new.clients h.one;
+      rest = h.rest;
+      busy = h.busy;
+      enough = h.enough;
+    }
+
+    pub clients : (old new : Option (Control T D)) → ClientsGoOn remaining written calls log a around now went old new → ClientsGoOn remaining written calls log b more now went old new
+    clients None new h = h
+    clients (Some old) None h = absurd h
+    clients (Some old) (Some new) h = record {
+      turned = h.turned;
+      turned_enough = h.turned_enough;
+      sent_enough = h.sent_enough;
+      turn = h.turn;
+      one = first_replied now (first_asked h.turned) h.sent_enough h.turned new.clients h.one;
+      asking = h.asking;
+      busy = h.busy;
+      enough = h.enough;
+    }
 
 module _ (a b : Agent) (alike : AgentsAreAlike a b) (begun : b.beginnings ≡ a.beginnings) where
   board_same : (around : Around) → board_of b around ≡ board_of a around
@@ -235,66 +292,10 @@ module _ (a b : Agent) (alike : AgentsAreAlike a b) (begun : b.beginnings ≡ a.
       ∙ ap (λ xs. shown a.machine a.inventory.forest xs b.beginnings) alike.standings
       ∙ ap (λ n. shown a.machine a.inventory.forest a.standings n) begun
 
-  module _ (around : Around) where
-    shown_if : (enough : Bool) (page : Page) (sent : List ℕ) → ShownIf enough a around page sent → ShownIf enough b around page sent
-    shown_if true page sent x = (x.0, subst (λ (board : Board). IsTold board page x.0) (sym (board_same around)) x.1, x.2)
-    shown_if false page sent x = x
-
-    replies : {T : Type 0} (now : Reading) (it : Wanted) (enough : Bool) (old new : GuestTable T RequestLines) → RepliesTo a around now it enough old new → RepliesTo b around now it enough old new
-    replies now (wanted.Do x) enough old new h = h
-    replies now (wanted.Show page) enough old new h = (h.0, (shown_if enough page h.0 h.1.0, h.1.1))
-    replies now (wanted.Refused why) enough old new h = h
-
-    first_replied : {T : Type 0} (now : Reading) (first : Option (List ℕ)) (enough : Bool) (old new : GuestTable T RequestLines) → FirstIsReplied a around now first enough old new → FirstIsReplied b around now first enough old new
-    first_replied now None enough old new h = h
-    first_replied now (Some bytes) enough old new (inl h) = inl (h.0, (h.1.0, replies now h.0 enough old new h.1.1))
-    first_replied now (Some bytes) enough old new (inr h) = inr h
-
-    sent_if : (enough : Bool) (bytes sent : List ℕ) → IsSentIf enough a around bytes sent → IsSentIf enough b around bytes sent
-    sent_if true bytes sent (asked, answer, ask, is, bytes_are) = (asked, answer, ask, subst (λ (board : Board). IsAnswer board (question_of asked) answer) (sym (board_same around)) is, bytes_are)
-    sent_if false bytes sent x = x
-
-    first_sent : {T : Type 0} (now : ℕ) (first : Option (List ℕ)) (enough : Bool) (old new : GuestTable T Heads) → FirstIsSent a around now first enough old new → FirstIsSent b around now first enough old new
-    first_sent now None enough old new h = h
-    first_sent now (Some bytes) enough old new h = (h.0, (sent_if enough bytes h.0 h.1.0, h.1.1))
-
-    one_sent : {T : Type 0} (is_due : Bool) (now : ℕ) (enough : Bool) (old new : GuestTable T Heads) → OneIsSent is_due a around now enough old new → OneIsSent is_due b around now enough old new
-    one_sent true now enough old new h = first_sent now (first_asked old) enough old new h
-    one_sent false now enough old new h = h
-
-    module _ {T D : Type 0} (remaining written : T → Option (List ℕ)) (calls : T → Option (List Call)) (log : D → Option (DoorLog T)) (now : Reading) (went : Went) where
-      onlookers : (old new : Option (Onlookers T D)) → OnlookersGoOn remaining written calls log a around now went old new → OnlookersGoOn remaining written calls log b around now went old new
-      onlookers None new h = h
-      onlookers (Some old) None h = absurd h
-      onlookers (Some old) (Some new) h = record {
-        turned = h.turned;
-        turned_enough = h.turned_enough;
-        sent_enough = h.sent_enough;
-        turn = h.turn;
-        one = one_sent _ now.elapsed h.sent_enough h.turned new.clients h.one;
-        rest = h.rest;
-        busy = h.busy;
-        enough = h.enough;
-      }
-
-      clients : (old new : Option (Control T D)) → ClientsGoOn remaining written calls log a around now went old new → ClientsGoOn remaining written calls log b around now went old new
-      clients None new h = h
-      clients (Some old) None h = absurd h
-      clients (Some old) (Some new) h = record {
-        turned = h.turned;
-        turned_enough = h.turned_enough;
-        sent_enough = h.sent_enough;
-        turn = h.turn;
-        one = first_replied now (first_asked h.turned) h.sent_enough h.turned new.clients h.one;
-        asking = h.asking;
-        busy = h.busy;
-        enough = h.enough;
-      }
-
   module _ {S T D K E : Type 0} (given : S → Option (List ℕ)) (failures tries : S → ℕ) (tried : S → Option (List Tried)) (remaining written : T → Option (List ℕ)) (calls : T → Option (List Call)) (log : D → Option (DoorLog T))
-      (does : KeepCall → K → K → Type 0) (rows : K → List Row) (path : K → List ℕ) (reads : K → List ℕ → Result Row Why → Type 0) (gives : ℕ → Result (Option Inventory) AllocError → K → Type 0)
+      (does : KeepCall → K → K → Type 0) (rows : K → List Row) (keeps : K → Bool) (path : K → List ℕ) (reads : K → List ℕ → Result Row Why → Type 0) (gives : ℕ → Result (Option Inventory) AllocError → K → Type 0)
       (known : Bool) (state : E → DiskState) (now : Reading) where
-    pub attended : (goes_on : Bool) (old new : House S T D K E) → Attends given failures tries tried remaining written calls log rows a now goes_on old new → Attends given failures tries tried remaining written calls log rows b now goes_on old new
+    pub attended : (goes_on : Bool) (old new : House S T D K E) → Attends given failures tries tried remaining written calls log rows keeps a now goes_on old new → Attends given failures tries tried remaining written calls log rows keeps b now goes_on old new
     attended goes_on old new h = record {
       room = h.room;
       rooms = h.rooms;
@@ -307,8 +308,8 @@ module _ (a b : Agent) (alike : AgentsAreAlike a b) (begun : b.beginnings ≡ a.
       follow = h.follow;
       around = h.around;
       around_is = h.around_is;
-      onlookers = onlookers h.around remaining written calls log now h.shown old.onlookers new.onlookers h.onlookers;
-      clients = clients h.around remaining written calls log now h.answered h.fed new.control h.clients;
+      onlookers = onlookers a b h.around h.around (board_same h.around) remaining written calls log now h.shown old.onlookers new.onlookers h.onlookers;
+      clients = clients a b h.around h.around (board_same h.around) remaining written calls log now h.answered h.fed new.control h.clients;
       desk = wants a b alike _ (record old.desk { room = h.rooms }) new.desk h.desk;
       rest = h.rest;
       more = h.more;
@@ -324,8 +325,8 @@ module _ (a b : Agent) (alike : AgentsAreAlike a b) (begun : b.beginnings ≡ a.
     looks : (goes_on : Bool) (old new : House S T D K E) → LooksAround does a now goes_on old new → LooksAround does b now goes_on old new
     looks goes_on old new h = record { look = h.look; asks = h.asks; desk = says_so a b alike _ old.desk.marks old.desk new.desk h.desk; rest = h.rest; more = h.more }
 
-    pub went_on : (is_busy : Bool) (old new : House S T D K E) → old.ends ≡ None → HouseGoesOn given failures tries tried remaining written calls log does rows path reads gives known state a now is_busy old new →
-        HouseGoesOn given failures tries tried remaining written calls log does rows path reads gives known state b now is_busy old new
+    pub went_on : (is_busy : Bool) (old new : House S T D K E) → old.ends ≡ None → HouseGoesOn given failures tries tried remaining written calls log does rows keeps path reads gives known state a now is_busy old new →
+        HouseGoesOn given failures tries tried remaining written calls log does rows keeps path reads gives known state b now is_busy old new
     went_on is_busy old new none h = record {
       kept = h.kept;
       looked = h.looked;
@@ -343,7 +344,7 @@ none_mapped : {E : Type 0} (f : EndsFile E → EndsFile E) (o : Option (EndsFile
 none_mapped f None none = refl
 none_mapped f (Some x) none = absurd cc
 
-ends_none : {E : Type 0} (known : Bool) (state : E → DiskState) (agent : Agent) (now : ℕ) (tried : Option (Result (Unit {0}) DiskFault)) (old new : Option (EndsFile E)) → old ≡ None → EndsGoOn known state agent now tried old new → new ≡ None
+pub ends_none : {E : Type 0} (known : Bool) (state : E → DiskState) (agent : Agent) (now : ℕ) (tried : Option (Result (Unit {0}) DiskFault)) (old new : Option (EndsFile E)) → old ≡ None → EndsGoOn known state agent now tried old new → new ≡ None
 ends_none known state agent now tried None new none h = h.1
 ends_none known state agent now tried (Some old) new none h = absurd cc
 
@@ -353,7 +354,7 @@ module _ {S T D K E : Type 0} where
   next_ends agent None old new h = ap (λ x. x.ends) h
   next_ends agent (Some next) old new h = ap (λ x. x.ends) h.rest
 
-  heard_ends : (agent : Agent) (thing : Thing) (old new : House S T D K E) → old.ends ≡ None → HearsOf agent thing old new → new.ends ≡ None
+  pub heard_ends : (agent : Agent) (thing : Thing) (old new : House S T D K E) → old.ends ≡ None → HearsOf agent thing old new → new.ends ≡ None
   heard_ends agent (Time notes requests next) old new none h = next_ends agent next (record old { desk = h.desk }) new h.then ∙ none
   heard_ends agent (Needs (Some shorts)) old new none h = ap (λ x. x.ends) h.1 ∙ none
   heard_ends agent (Needs None) old new none h = ap (λ x. x.ends) h.1 ∙ none
@@ -362,29 +363,29 @@ module _ {S T D K E : Type 0} where
   heard_ends agent (Step lead requests) old new none h = ap (λ x. x.ends) h.1 ∙ none
   heard_ends agent Want old new none h = ap (λ x. x.ends) h.1 ∙ none
 
-  served_ends : (is : Bool) (old new : House S T D K E) → old.ends ≡ None → HearsServedIf is old new → new.ends ≡ None
+  pub served_ends : (is : Bool) (old new : House S T D K E) → old.ends ≡ None → HearsServedIf is old new → new.ends ≡ None
   served_ends true old new none h = ap (λ x. x.ends) h ∙ none_mapped _ old.ends none
   served_ends false old new none h = ap (λ x. x.ends) h ∙ none
 
 module _ {S T D K E : Type 0} (given : S → Option (List ℕ)) (failures tries : S → ℕ) (tried : S → Option (List Tried)) (remaining written : T → Option (List ℕ)) (calls : T → Option (List Call)) (log : D → Option (DoorLog T))
-    (does : KeepCall → K → K → Type 0) (rows : K → List Row) (path : K → List ℕ) (reads : K → List ℕ → Result Row Why → Type 0) (gives : ℕ → Result (Option Inventory) AllocError → K → Type 0)
+    (does : KeepCall → K → K → Type 0) (rows : K → List Row) (keeps : K → Bool) (path : K → List ℕ) (reads : K → List ℕ → Result Row Why → Type 0) (gives : ℕ → Result (Option Inventory) AllocError → K → Type 0)
     (known : Bool) (state : E → DiskState) where
   abbrev Makes : NeighbourCall → House S T D K E → House S T D K E → Type 0
-  Makes call old new = Does given failures tries tried remaining written calls log does rows path reads gives known state call old new
+  Makes call old new = Does given failures tries tried remaining written calls log does rows keeps path reads gives known state call old new
 
   makes_alike : (call : Both) (old new : House S T D K E) → IsBothAlike call → old.ends ≡ None → Makes (of_one call) old new → Makes (of_other call) old new
   makes_alike (BothHear a b thing) old new alike none h = heard a b alike thing old new h
-  makes_alike (BothGoOn a b now is_busy) old new alike none h = went_on a b alike.0 alike.1 given failures tries tried remaining written calls log does rows path reads gives known state now is_busy old new none h
-  makes_alike (NeitherGives a b now) old new alike none h = none_given_alike a b alike does rows path reads gives now old new h
-  makes_alike (BothSettle a b is_made) old new alike none h = settled a b alike does is_made old new h
+  makes_alike (BothGoOn a b now is_busy) old new alike none h = went_on a b alike.0 alike.1 given failures tries tried remaining written calls log does rows keeps path reads gives known state now is_busy old new none h
+  makes_alike (NeitherGives a b now) old new alike none h = none_given_alike a b alike does rows keeps path reads gives now old new h
+  makes_alike (BothSettle a b is_made) old new alike none h = settled a b alike does keeps is_made old new h
   makes_alike (BothRest now rest) old new alike none h = h
 
   makes_none : (call : Both) (old new : House S T D K E) → old.ends ≡ None → Makes (of_one call) old new → new.ends ≡ None
   makes_none (BothHear a b thing) old new none h = heard_ends a thing old new none h
   makes_none (BothGoOn a b now is_busy) old new none h =
       ap (λ x. x.ends) h.attend.rest ∙ ap (λ x. x.ends) h.look.rest ∙ ends_none known state a now.elapsed h.ends.tried old.ends h.kept.ends none h.ends.ends
-  makes_none (NeitherGives a b now) old new none h = (asked_for does rows path reads gives a now h.0 None old new h.1.1).ends ∙ none
-  makes_none (BothSettle a b is_made) old new none h = ap (λ x. x.ends) h.rest ∙ (settled_given does a is_made h.heard h.settled h.settles).ends ∙ served_ends _ old h.heard none h.served
+  makes_none (NeitherGives a b now) old new none h = (asked_for does rows keeps path reads gives a now h.0 None old new h.1.1).ends ∙ none
+  makes_none (BothSettle a b is_made) old new none h = ap (λ x. x.ends) h.rest ∙ (settled_given does keeps a is_made h.heard h.settled h.settles).ends ∙ served_ends _ old h.heard none h.served
   makes_none (BothRest now rest) old new none h = ap (λ x. x.ends) h.0 ∙ none
 
   pub stretch_alike : (made : List Both) (old new : House S T D K E) → AreBothAlike made → old.ends ≡ None → AllCalled Makes (map of_one made) old new → AllCalled Makes (map of_other made) old new

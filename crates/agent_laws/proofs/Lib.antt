@@ -15,3 +15,6 @@ pub mod Truly
 pub mod Reaching
 pub mod Truths
 pub mod Heard
+pub mod Decided
+pub mod Kept
+pub mod Keepers

@@ -29,7 +29,8 @@ use Rattle.agent_ledger.specs.declared.keeping.LookedUp.{LookedUp}
 use Rattle.agent_ledger.specs.declared.keeping.LookedUp.TheVariants as lookups
 use Rattle.agent_house.specs.Admitting.{AdmitsIf, FollowsLog, asking_in}
 use Rattle.agent_house.specs.Awaiting.{HearsFor, Judges, LooksUpFirst, LooksUpIf, Makes, VerdictIs, addressed}
-use Rattle.agent_house.specs.Commands.{AddsIf, AsksFor, AsksIf, CarriesIf, CarriesOut, GivesNeed, GoesOnIf, IsGivenWith, NeedIsKept, NeedsIf, ReadsRow, RereadBy, TellsReload, read_badly, read_well}
+use Rattle.agent_house.specs.Commands.{AddsIf, AsksFor, AsksIf, CarriesIf, CarriesOut, GivesNeed, GoesOnIf, IsGivenWith, NeedIsKept, NeedsIf, ReadsRow, RereadBy, RereadIf, TakesIfThere, TakesNeedBy, TellsReload}
+use Rattle.agent_house.specs.Retries.{read_badly, read_well}
 use Rattle.agent_house.specs.Houses.{ClientIsAside, ClientsAsk, Concludes, WillRefuse, WillTell, bytes_sent}
 use Rattle.agent_house.specs.declared.given.Awaited.{Awaited}
 use Rattle.agent_house.specs.declared.given.Given.{Given}
@@ -180,19 +181,32 @@ module _ {K : Type 0} (does : KeepCall → K → K → Type 0) (reads : K → Li
   settler Says (Ok line) (Some l) (Some m) h done = so.settled tt l m h.0
   settler Says (Err why) old new h done = absurd done
 
-  need_done : (agent : Agent) (now : Reading) (name : List ℕ) (need : Need) (x : Unit {0}) (old new : Option K) → NeedIsKept does agent now name need (Ok x) old new → Done (asked.Need name need) new
-  need_done agent now name need x None new h = subst (Done (asked.Need name need)) (sym h.1) (so.unkept name need)
-  need_done agent now name need x (Some l) None h = absurd h
-  need_done agent now name need x (Some l) (Some m) h = so.taken (asked.Need name need) now.elapsed name (what.Need need) x l m (refl, refl) h
+  -- it was taken, whether it is kept or not
+  taken_if : (now : Reading) (name : List ℕ) (need : Need) (there : Result (Unit {0}) Why) (x : Unit {0}) (l m : K) → TakesIfThere does now name need there (Ok x) l m → does (Take now.elapsed name (what.Need need) (Ok x)) l m
+  taken_if now name need (Ok y) x l m h = h
+  taken_if now name need (Err why) x l m h = absurd (let clash = h.0 in cc)
+
+  taken_by : (keeps : Bool) (agent : Agent) (now : Reading) (name : List ℕ) (need : Need) (x : Unit {0}) (l m : K) → TakesNeedBy does keeps agent now name need (Ok x) l m → does (Take now.elapsed name (what.Need need) (Ok x)) l m
+  taken_by keeps agent now name need x l m (inl h) = h.1
+  taken_by keeps agent now name need x l m (inr h) = taken_if now name need h.1.0 x l m h.1.1.1
+
+  need_done : (keeps : K → Bool) (agent : Agent) (now : Reading) (name : List ℕ) (need : Need) (x : Unit {0}) (old new : Option K) → NeedIsKept does keeps agent now name need (Ok x) old new → Done (asked.Need name need) new
+  need_done keeps agent now name need x None new h = subst (Done (asked.Need name need)) (sym h.1) (so.unkept name need)
+  need_done keeps agent now name need x (Some l) None h = absurd h
+  need_done keeps agent now name need x (Some l) (Some m) h = so.taken (asked.Need name need) now.elapsed name (what.Need need) x l m (refl, refl) (taken_by (keeps l) agent now name need x l m h)
 
   read_is : (table : List ℕ) (row : Row) (state : Option K) → ReadsRow reads table (Ok row) state → IsChangeOf reads (asked.Add table) row.name (what.Add row)
   read_is table row None h = absurd h
   read_is table row (Some k) h = (k, (row, (h, (refl, refl))))
 
-  reload_done : (now : Reading) (reread : Reread) (old new : Option K) → RereadBy does now (Some (Ok reread)) old new → Done asked.Reload new
-  reload_done now reread None new h = absurd h
-  reload_done now reread (Some l) None h = absurd h
-  reload_done now reread (Some l) (Some m) h = so.reloaded now.elapsed reread l m h
+  reread_so : (keeps : Bool) (now : Reading) (reread : Reread) (l m : K) → RereadIf does keeps now (Some (Ok reread)) l m → does (Reload now.elapsed (Ok reread)) l m
+  reread_so keeps now reread l m (inl h) = h.1
+  reread_so keeps now reread l m (inr h) = absurd (let clash = h.1.0 in cc)
+
+  reload_done : (keeps : K → Bool) (now : Reading) (reread : Reread) (old new : Option K) → RereadBy does keeps now (Some (Ok reread)) old new → Done asked.Reload new
+  reload_done keeps now reread None new h = absurd (let clash = h.0 in cc)
+  reload_done keeps now reread (Some l) None h = absurd h
+  reload_done keeps now reread (Some l) (Some m) h = so.reloaded now.elapsed reread l m (reread_so (keeps l) now reread l m h)
 
 -- whoever keeps changes was asked for one, from which this follows
 module _ {K : Type 0} (does : KeepCall → K → K → Type 0) (now : ℕ) (name : List ℕ) (w : What) (Q : Option K → Type 0) (made : (x : Unit {0}) (l m : K) → does (Take now name w (Ok x)) l m → Q (Some m)) where
@@ -202,7 +216,7 @@ module _ {K : Type 0} (does : KeepCall → K → K → Type 0) (now : ℕ) (name
   keeper Says (Ok line) (Some l) (Some m) h done = made tt l m h.0
   keeper Says (Err why) old new h done = absurd done
 
-module _ {S T D K E : Type 0} (does : KeepCall → K → K → Type 0) (rows : K → List Row) (path : K → List ℕ) (reads : K → List ℕ → Result Row Why → Type 0)
+module _ {S T D K E : Type 0} (does : KeepCall → K → K → Type 0) (rows : K → List Row) (keeps : K → Bool) (path : K → List ℕ) (reads : K → List ℕ → Result Row Why → Type 0)
     (gives : ℕ → Result (Option Inventory) AllocError → K → Type 0) (Done : Asked → Option K → Type 0) (so : AreDone does reads Done) (has : ℕ → Asked → Type 0) where
   abbrev Owing : House S T D K E → Type 0
   Owing h = Owes reads Done has h
@@ -225,15 +239,15 @@ module _ {S T D K E : Type 0} (does : KeepCall → K → K → Type 0) (rows : K
     -- ---- a change is made, from which this follows
 
     module _ (name : List ℕ) (w : What) (Q : Option K → Type 0) (made : (x : Unit {0}) (l m : K) → does (Take now.elapsed name w (Ok x)) l m → Q (Some m)) where
-      keeps : (Says : K → List ℕ → Type 0) (l : Line) (outcome : Outcome) (state : Option K) (old new : House S T D K E) → KeeperIsAsked does (λ done. Take now.elapsed name w done) Says outcome old.state state →
+      taken_so : (Says : K → List ℕ → Type 0) (l : Line) (outcome : Outcome) (state : Option K) (old new : House S T D K E) → KeeperIsAsked does (λ done. Take now.elapsed name w done) Says outcome old.state state →
           Concludes agent l outcome now.elapsed (record old { state = state }) new → Answers Q old new
-      keeps Says l outcome state old new comes concludes =
+      taken_so Says l outcome state old new comes concludes =
           from Q (record old { state = state }) old new refl refl (conclude Q agent l outcome now.elapsed (record old { state = state }) new concludes (keeper does now.elapsed name w Q made Says outcome old.state state comes))
 
     makes : (name : List ℕ) (w : What) (Q : Option K → Type 0) → ((x : Unit {0}) (l m : K) → does (Take now.elapsed name w (Ok x)) l m → Q (Some m)) → (why : Option Loss) (old new : House S T D K E) → Makes does rows agent now name w why old new → Answers Q old new
     makes name (what.Need need) Q made why old new h = tell Q (Err None) now.elapsed old new h (λ done. absurd done)
-    makes name (what.Replace credential) Q made why old new h = keeps name (what.Replace credential) Q made _ _ h.outcome h.state old new h.comes h.concludes
-    makes name (what.Add row) Q made why old new h = keeps name (what.Add row) Q made _ _ h.outcome h.state old new h.comes h.concludes
+    makes name (what.Replace credential) Q made why old new h = taken_so name (what.Replace credential) Q made _ _ h.outcome h.state old new h.comes h.concludes
+    makes name (what.Add row) Q made why old new h = taken_so name (what.Add row) Q made _ _ h.outcome h.state old new h.comes h.concludes
     makes name what.Drop Q made why old new h = tell Q (Err None) now.elapsed old new h (λ done. absurd done)
 
     judges : (name : List ℕ) (w : What) (Q : Option K → Type 0) → ((x : Unit {0}) (l m : K) → does (Take now.elapsed name w (Ok x)) l m → Q (Some m)) → (verdict : Verdict) (old new : House S T D K E) → Judges does rows agent now name w verdict old new → Answers Q old new
@@ -315,9 +329,9 @@ module _ {S T D K E : Type 0} (does : KeepCall → K → K → Type 0) (rows : K
     need_given name need until None change old new done link waits h =
         owed (asked.Need name need) old new link waits (conclude (Done (asked.Need name need)) agent _ (Ok h.1.0) now.elapsed old new h.1.1.1 (λ was. done))
 
-    need_if : (name : List ℕ) (need : Need) (until : ℕ) (result : Result (Unit {0}) Why) (change : Change) (state : Option K) (old new : House S T D K E) → NeedIsKept does agent now name need result old.state state → Links (asked.Need name need) old → WaitsFor reads has old.awaited →
+    need_if : (name : List ℕ) (need : Need) (until : ℕ) (result : Result (Unit {0}) Why) (change : Change) (state : Option K) (old new : House S T D K E) → NeedIsKept does keeps agent now name need result old.state state → Links (asked.Need name need) old → WaitsFor reads has old.awaited →
         NeedsIf agent now name until result change (record old { state = state }) new → Owing new
-    need_if name need until (Ok x) change state old new kept link waits h = need_given name need until _ change (record old { state = state }) new (need_done does reads Done so agent now name need x old.state state kept) link waits h
+    need_if name need until (Ok x) change state old new kept link waits h = need_given name need until _ change (record old { state = state }) new (need_done does reads Done so keeps agent now name need x old.state state kept) link waits h
     need_if name need until (Err why) change state old new kept link waits h =
         owed (asked.Need name need) old new link waits (from (Done (asked.Need name need)) (record old { state = state }) old new refl refl (tell (Done (asked.Need name need)) (Err why) now.elapsed (record old { state = state }) new h.1 (λ done. absurd done)))
 
@@ -325,11 +339,11 @@ module _ {S T D K E : Type 0} (does : KeepCall → K → K → Type 0) (rows : K
     add_if table (Ok row) old new reads_row none link waits h = looks (asked.Add table) row.name (what.Add row) old new (read_is does reads Done so table row old.state reads_row) none link waits h
     add_if table (Err why) old new reads_row none link waits h = owed (asked.Add table) old new link waits (tell (Done (asked.Add table)) (Err why) now.elapsed old new h (λ done. absurd done))
 
-    reload_told : (result : Option (Result Reread Whys)) (state : Option K) (old new : House S T D K E) → RereadBy does now result old.state state → TellsReload path agent now result (record old { state = state }) new → Answers (Done asked.Reload) old new
+    reload_told : (result : Option (Result Reread Whys)) (state : Option K) (old new : House S T D K E) → RereadBy does keeps now result old.state state → TellsReload path agent now result (record old { state = state }) new → Answers (Done asked.Reload) old new
     reload_told None state old new asks h = from (Done asked.Reload) (record old { state = state }) old new refl refl (tell (Done asked.Reload) (Err h.why) now.elapsed (record old { state = state }) new h.will (λ done. absurd done))
     reload_told (Some (Ok r)) state old new asks h =
         from (Done asked.Reload) (record old { state = state; desk = h.desk; file = read_well now }) old new refl refl
-        (tell (Done asked.Reload) (Ok h.line) now.elapsed (record old { state = state; desk = h.desk; file = read_well now }) new h.will (λ done. reload_done does reads Done so now r old.state state asks))
+        (tell (Done asked.Reload) (Ok h.line) now.elapsed (record old { state = state; desk = h.desk; file = read_well now }) new h.will (λ done. reload_done does reads Done so keeps now r old.state state asks))
     reload_told (Some (Err whys)) state old new asks h =
         from (Done asked.Reload) (record old { state = state; desk = h.desk; file = read_badly now old.file }) old new refl refl
         (refuse (Done asked.Reload) whys.items now.elapsed (record old { state = state; desk = h.desk; file = read_badly now old.file }) new h.will)
@@ -346,13 +360,13 @@ module _ {S T D K E : Type 0} (does : KeepCall → K → K → Type 0) (rows : K
     follows alerts old new none link waits (inl h) = owed (asked.Follow alerts) old new link waits (tell (Done (asked.Follow alerts)) (Err h.why) now.elapsed old new h.will (λ done. absurd done))
     follows alerts old new none link waits (inr h) = admits alerts old new none link waits h.admits
 
-    carries : (x : Asked) (change : Change) (old new : House S T D K E) → old.given ≡ None → Links x old → WaitsFor reads has old.awaited → CarriesOut does rows path reads gives agent now x change old new → Owing new
+    carries : (x : Asked) (change : Change) (old new : House S T D K E) → old.given ≡ None → Links x old → WaitsFor reads has old.awaited → CarriesOut does rows keeps path reads gives agent now x change old new → Owing new
     carries (asked.Need name need) change old new none link waits h = need_if name need _ h.result change h.state old new h.kept link waits h.then
     carries (asked.Replace name credential) change old new none link waits h = looks (asked.Replace name credential) name (what.Replace credential) old new (refl, refl) none link waits h.1
     carries (asked.Add table) change old new none link waits h = add_if table h.1.read old new h.1.reads_row none link waits h.1.then
     carries (asked.Drop name) change old new none link waits h =
         owed (asked.Drop name) old new link waits
-        (keeps name what.Drop (Done (asked.Drop name)) (λ u l m taken. so.taken (asked.Drop name) now.elapsed name what.Drop u l m (refl, refl) taken) _ _ h.1.outcome h.1.state old new h.1.comes h.1.concludes)
+        (taken_so name what.Drop (Done (asked.Drop name)) (λ u l m taken. so.taken (asked.Drop name) now.elapsed name what.Drop u l m (refl, refl) taken) _ _ h.1.outcome h.1.state old new h.1.comes h.1.concludes)
     carries asked.Settle change old new none link waits h =
         owed asked.Settle old new link waits
         (from (Done asked.Settle) (record old { state = h.1.state }) old new refl refl
@@ -362,22 +376,24 @@ module _ {S T D K E : Type 0} (does : KeepCall → K → K → Type 0) (rows : K
 
     -- ---- a change is asked for
 
-    carries_if : (x : Result (Option Asked) AllocError) (change : Option Change) (control : Option (Control T D)) (old new : House S T D K E) → ((id : ℕ) (a : Asked) → IsTurnOf now old.control id a → has id a) → ClientsAsk now x old.control control → old.given ≡ None → WaitsFor reads has old.awaited →
-        CarriesIf does rows path reads gives agent now x change (record old { control = control }) new → Owing new
-    carries_if (Ok None) change control old new asks turn none waits h = none_owed old new (ap (λ y. y.given) h.1) none (subst (λ (a : Option Awaited). WaitsFor reads has a) (sym (ap (λ y. y.awaited) h.1)) waits)
-    carries_if (Ok (Some x)) None control old new asks turn none waits h = absurd h
-    carries_if (Ok (Some x)) (Some change) control old new asks turn none waits h = carries x change (record old { control = control }) new none (λ id e. asks id x (control, (turn, e))) waits h
-    carries_if (Err e) change control old new asks turn none waits h = none_owed old new (ap (λ y. y.given) h.1.1) none (subst (λ (a : Option Awaited). WaitsFor reads has a) (sym (ap (λ y. y.awaited) h.1.1)) waits)
+    carries_if : (x : Result (Option Asked) AllocError) (change : Option Change) (control : Option (Control T D)) (old tried new : House S T D K E) → ((id : ℕ) (a : Asked) → IsTurnOf now old.control id a → has id a) → ClientsAsk now x old.control control → tried.control ≡ control → tried.given ≡ None →
+        WaitsFor reads has tried.awaited → CarriesIf does rows keeps path reads gives agent now x change tried new → Owing new
+    carries_if (Ok None) change control old tried new asks turn same none waits h = none_owed tried new (ap (λ y. y.given) h.1) none (subst (λ (a : Option Awaited). WaitsFor reads has a) (sym (ap (λ y. y.awaited) h.1)) waits)
+    carries_if (Ok (Some x)) None control old tried new asks turn same none waits h = absurd h
+    carries_if (Ok (Some x)) (Some change) control old tried new asks turn same none waits h = carries x change tried new none (λ id e. asks id x (control, (turn, ap asking_in (sym same) ∙ e))) waits h
+    carries_if (Err e) change control old tried new asks turn same none waits h = none_owed tried new (ap (λ y. y.given) h.1.1) none (subst (λ (a : Option Awaited). WaitsFor reads has a) (sym (ap (λ y. y.awaited) h.1.1)) waits)
 
     goes_on_if : (heard : Bool) (change : Option Change) (old mid new : House S T D K E) → ((id : ℕ) (a : Asked) → IsTurnOf now old.control id a → has id a) → old.given ≡ None → WaitsFor reads has old.awaited → HearsFor does rows agent now old.awaited heard old mid →
-        GoesOnIf does rows path reads gives agent now heard change mid new → Owing new
+        GoesOnIf does rows keeps path reads gives agent now heard change mid new → Owing new
     goes_on_if true change old mid new asks none waits hears h = subst Owing (sym h.1) (heard_owed old.awaited old mid none waits hears)
     goes_on_if false change old mid new asks none waits hears h =
         let all = heard_stays old.awaited old mid refl waits hears in
-        carries_if h.asked change h.control mid new (λ id a turn. asks id a (subst (λ (c : Option (Control T D)). IsTurnOf now c id a) all.control turn)) h.clients (all.given ∙ none) all.waits h.then
+        let tried = h.tries.rest in
+        carries_if h.asked change h.control mid h.tried new (λ id a turn. asks id a (subst (λ (c : Option (Control T D)). IsTurnOf now c id a) all.control turn)) h.clients (ap (λ (x : House S T D K E). x.control) tried)
+        (ap (λ (x : House S T D K E). x.given) tried ∙ (all.given ∙ none)) (subst (λ (a : Option Awaited). WaitsFor reads has a) (sym (ap (λ (x : House S T D K E). x.awaited) tried)) all.waits) h.then
 
     asks_if : (due : Result (Option (Inventory × Vec Mark Global)) AllocError) (change : Option Change) (old new : House S T D K E) → ((id : ℕ) (a : Asked) → IsTurnOf now old.control id a → has id a) → old.given ≡ None → WaitsFor reads has old.awaited →
-        AsksIf does rows path reads gives agent now due change old new → Owing new
+        AsksIf does rows keeps path reads gives agent now due change old new → Owing new
     asks_if (Ok None) change old new asks none waits h = goes_on_if h.heard change old h.mid new asks none waits h.hears h.then
     asks_if (Ok (Some p)) change old new asks none waits h = record {
       given = given_with Done has agent p.0 p.1.items (asking_in new.control) new.state new.given h.1.0;
@@ -386,23 +402,23 @@ module _ {S T D K E : Type 0} (does : KeepCall → K → K → Type 0) (rows : K
     asks_if (Err e) change old new asks none waits h = none_owed old new (ap (λ y. y.given) h.1.1) none (subst (λ (a : Option Awaited). WaitsFor reads has a) (sym (ap (λ y. y.awaited) h.1.1)) waits)
 
     -- what is owed then
-    pub asked_for : (change : Option Change) (old new : House S T D K E) → ((id : ℕ) (a : Asked) → IsTurnOf now old.control id a → has id a) → old.given ≡ None → WaitsFor reads has old.awaited → AsksFor does rows path reads gives agent now change old new → Owing new
+    pub asked_for : (change : Option Change) (old new : House S T D K E) → ((id : ℕ) (a : Asked) → IsTurnOf now old.control id a → has id a) → old.given ≡ None → WaitsFor reads has old.awaited → AsksFor does rows keeps path reads gives agent now change old new → Owing new
     asked_for change old new asks none waits h = asks_if h.0 change old new asks none waits h.1.1
 
     -- where there is no change nothing is given
-    carried_none : (x : Result (Option Asked) AllocError) (old new : House S T D K E) → CarriesIf does rows path reads gives agent now x None old new → new.given ≡ old.given
+    carried_none : (x : Result (Option Asked) AllocError) (old new : House S T D K E) → CarriesIf does rows keeps path reads gives agent now x None old new → new.given ≡ old.given
     carried_none (Ok None) old new h = ap (λ y. y.given) h.1
     carried_none (Ok (Some x)) old new h = absurd h
     carried_none (Err e) old new h = ap (λ y. y.given) h.1.1
 
-    went_none : (heard : Bool) (old mid new : House S T D K E) → WaitsFor reads has old.awaited → HearsFor does rows agent now old.awaited heard old mid → GoesOnIf does rows path reads gives agent now heard None mid new → new.given ≡ old.given
+    went_none : (heard : Bool) (old mid new : House S T D K E) → WaitsFor reads has old.awaited → HearsFor does rows agent now old.awaited heard old mid → GoesOnIf does rows keeps path reads gives agent now heard None mid new → new.given ≡ old.given
     went_none true old mid new waits hears h = absurd (let clash = h.0 in cc)
-    went_none false old mid new waits hears h = carried_none h.asked (record mid { control = h.control }) new h.then ∙ (heard_stays old.awaited old mid refl waits hears).given
+    went_none false old mid new waits hears h = carried_none h.asked h.tried new h.then ∙ (ap (λ (x : House S T D K E). x.given) h.tries.rest ∙ (heard_stays old.awaited old mid refl waits hears).given)
 
-    asked_none : (due : Result (Option (Inventory × Vec Mark Global)) AllocError) (old new : House S T D K E) → WaitsFor reads has old.awaited → AsksIf does rows path reads gives agent now due None old new → new.given ≡ old.given
+    asked_none : (due : Result (Option (Inventory × Vec Mark Global)) AllocError) (old new : House S T D K E) → WaitsFor reads has old.awaited → AsksIf does rows keeps path reads gives agent now due None old new → new.given ≡ old.given
     asked_none (Ok None) old new waits h = went_none h.heard old h.mid new waits h.hears h.then
     asked_none (Ok (Some p)) old new waits h = absurd (let clash = h.0 in cc)
     asked_none (Err e) old new waits h = ap (λ y. y.given) h.1.1
 
-    pub none_given : (old new : House S T D K E) → WaitsFor reads has old.awaited → AsksFor does rows path reads gives agent now None old new → new.given ≡ old.given
+    pub none_given : (old new : House S T D K E) → WaitsFor reads has old.awaited → AsksFor does rows keeps path reads gives agent now None old new → new.given ≡ old.given
     none_given old new waits h = asked_none h.0 old new waits h.1.1

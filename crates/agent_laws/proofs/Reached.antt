@@ -50,17 +50,17 @@ module _ {S T D K E : Type 0} where
   served_heard false old new h = ap (λ x. x.sink) h
 
 module _ {S T D K E : Type 0} (given : S → Option (List ℕ)) (failures tries : S → ℕ) (tried : S → Option (List Tried)) (remaining written : T → Option (List ℕ)) (calls : T → Option (List Call)) (log : D → Option (DoorLog T))
-    (does : KeepCall → K → K → Type 0) (rows : K → List Row) (path : K → List ℕ) (reads : K → List ℕ → Result Row Why → Type 0) (gives : ℕ → Result (Option Inventory) AllocError → K → Type 0)
+    (does : KeepCall → K → K → Type 0) (rows : K → List Row) (keeps : K → Bool) (path : K → List ℕ) (reads : K → List ℕ → Result Row Why → Type 0) (gives : ℕ → Result (Option Inventory) AllocError → K → Type 0)
     (known : Bool) (state : E → DiskState) where
   abbrev Does : NeighbourCall → House S T D K E → House S T D K E → Type 0
-  Does call old new = DoesToHouse given failures tries tried remaining written calls log does rows path reads gives known state call old new
+  Does call old new = DoesToHouse given failures tries tried remaining written calls log does rows keeps path reads gives known state call old new
 
   pub reader_of : (call : NeighbourCall) (old new : House S T D K E) → Does call old new → DoesToReader tries call old.sink new.sink
   reader_of (Hear agent thing) old new h = heard_of agent thing old new h
   reader_of (GoOn agent now is_busy) old new h = subst (λ s. tries new.sink ≤ tries s + MOST_TRIES) (ap (λ x. x.sink) h.look.rest ∙ ap (λ x. x.sink) h.ends.rest) h.attend.few
-  reader_of (Give agent now change) old new h = (asked_for does rows path reads gives agent now h.0 change old new h.1.1).sink
+  reader_of (Give agent now change) old new h = (asked_for does rows keeps path reads gives agent now h.0 change old new h.1.1).sink
   reader_of (Settle agent is_made) old new h =
-      ap (λ x. x.sink) h.rest ∙ (settled_given does agent is_made h.heard h.settled h.settles).sink ∙ served_heard _ old h.heard h.served
+      ap (λ x. x.sink) h.rest ∙ (settled_given does keeps agent is_made h.heard h.settled h.settles).sink ∙ served_heard _ old h.heard h.served
   reader_of (Rest now rest) old new h = ap (λ x. x.sink) h.0
 
   -- ---- the same after one more neighbour

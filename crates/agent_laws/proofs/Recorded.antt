@@ -40,10 +40,14 @@ use Rattle.state_store.proofs.Staying.{damaged_records}
 use Rattle.agent_words.specs.Outcomes.{Why}
 use Rattle.agent_words.specs.declared.reread.Reread.{Reread}
 use Rattle.agent_ledger.specs.Keeping.{KeepCall, Reload, Settle, Take}
+use Rattle.agent_ledger.specs.Lates.{DoesLate, ReadsLate, TakesShut}
 use Rattle.agent_ledger.specs.Ledgers.{AreCompacted, DoesLedger, IsTakenOn, ReadsTable}
+use Rattle.agent_ledger.specs.declared.late.Late.{Late}
+use Rattle.agent_ledger.specs.declared.late.Late.TheVariants.{Open, NotYet}
+use Rattle.agent_ledger.specs.declared.late.Shut.{Shut}
 use Rattle.agent_ledger.specs.declared.ledger.Ledger.{Ledger}
 use Rattle.agent_ledger.specs.Rereading.{AreBytesOf}
-use Rattle.agent_laws.specs.Acknowledged.{FileHasAll, FileSaysAll, HasRecord, IsDone, IsOnDisk, IsReread}
+use Rattle.agent_laws.specs.Acknowledged.{FileHasAll, FileSaysAll, HasRecord, IsDone, IsDoneUnkept, IsKept, IsOnDisk, IsReread}
 use Rattle.agent_laws.proofs.Owed.{AreDone, IsChangeOf}
 
 -- ---- the last line of a journal stays where those are taken out that are void
@@ -210,7 +214,7 @@ module _ {D I L : Type 0} (known : Bool) (seen : D → DiskState) (counts : (dis
   abbrev reads_of : Ledger D I L → List ℕ → Result Row Why → Type 0
   reads_of l = ReadsTable (book_in l.state).file.system_max
 
-  taken : (a : Asked) (now : ℕ) (name : List ℕ) (w : What) (x : Unit {0}) (l m : Ledger D I L) → IsChangeOf reads_of a name w → Does (Take now name w (Ok x)) l m → IsDone {I = I} {L = L} known seen a (Some m)
+  taken : (a : Asked) (now : ℕ) (name : List ℕ) (w : What) (x : Unit {0}) (l m : Ledger D I L) → IsChangeOf reads_of a name w → Does (Take now name w (Ok x)) l m → IsKept known seen a m.state
   taken (asked.Need n need) now name w x l m is h = moved known seen name n w (what.Need need) m.state is.0 is.1 (on_disk known seen counts now name w l.state m.state h.0)
   taken (asked.Replace n credential) now name w x l m is h = moved known seen name n w (what.Replace credential) m.state is.0 is.1 (on_disk known seen counts now name w l.state m.state h.0)
   taken (asked.Add table) now name w x l m is h =
@@ -228,5 +232,59 @@ module _ {D I L : Type 0} (known : Bool) (seen : D → DiskState) (counts : (dis
   reloaded : (now : ℕ) (reread : Reread) (l m : Ledger D I L) → Does (Reload now (Ok reread)) l m → IsReread known seen m.state
   reloaded now reread l m h = reread_as known seen (lines_in (store_in l.state)) h.0.bytes h.0.notes l.state m.state h.0.left h.0.lines h.0.book
 
-  pub are_done : AreDone Does reads_of (IsDone {I = I} {L = L} known seen)
-  are_done = record { taken = taken; settled = settled; reloaded = reloaded; unkept = λ name need. tt }
+  -- ---- or that is to come
+
+  module _ (F : Type 0) where
+    abbrev DoesLater : KeepCall → Late D I L F → Late D I L F → Type 0
+    DoesLater = DoesLate known seen calls lanes_seen port
+
+    abbrev reads_later : Late D I L F → List ℕ → Result Row Why → Type 0
+    reads_later = ReadsLate
+
+    abbrev Done : Asked → Option (Late D I L F) → Type 0
+    Done = IsDone known seen
+
+    -- it is a ledger that reads a table
+    change_by : (table name : List ℕ) (w : What) (k : Late D I L F) → (row : Row) × (ReadsLate k table (Ok row) × ((name ≡ row.name) × (w ≡ what.Add row))) → IsChangeOf reads_of (asked.Add table) name w
+    change_by table name w (Open l) is = (l, is)
+    change_by table name w (NotYet s) is = absurd is.1.0
+
+    change_of : (a : Asked) (name : List ℕ) (w : What) → IsChangeOf reads_later a name w → IsChangeOf reads_of a name w
+    change_of (asked.Need n need) name w is = is
+    change_of (asked.Replace n credential) name w is = is
+    change_of (asked.Add table) name w is = change_by table name w is.0 is.1
+    change_of (asked.Drop n) name w is = is
+    change_of asked.Settle name w is = is
+    change_of asked.Reload name w is = is
+    change_of (asked.Follow alerts) name w is = is
+
+    -- as long as it is to come only needs are taken
+    shut_taken : (a : Asked) (name : List ℕ) (w : What) (x : Unit {0}) (s t : Shut F L) → IsChangeOf reads_of a name w → TakesShut name w (Ok x) s t → IsDoneUnkept a
+    shut_taken (asked.Need n need) name w x s t is h = tt
+    shut_taken (asked.Replace n credential) name w x s t is h = absurd (subst (λ (v : What). TakesShut name v (Ok x) s t) is.1 h).0
+    shut_taken (asked.Add table) name w x s t is h = absurd (subst (λ (v : What). TakesShut name v (Ok x) s t) is.1.1.1.1 h).0
+    shut_taken (asked.Drop n) name w x s t is h = absurd (subst (λ (v : What). TakesShut name v (Ok x) s t) is.1 h).0
+    shut_taken asked.Settle name w x s t is h = absurd is
+    shut_taken asked.Reload name w x s t is h = absurd is
+    shut_taken (asked.Follow alerts) name w x s t is h = absurd is
+
+    late_taken : (a : Asked) (now : ℕ) (name : List ℕ) (w : What) (x : Unit {0}) (l m : Late D I L F) → IsChangeOf reads_later a name w → DoesLater (Take now name w (Ok x)) l m → Done a (Some m)
+    late_taken a now name w x (Open l) (Open m) is h = taken a now name w x l m (change_of a name w is) h
+    late_taken a now name w x (Open l) (NotYet t) is h = absurd h
+    late_taken a now name w x (NotYet s) (Open m) is h = absurd h
+    late_taken a now name w x (NotYet s) (NotYet t) is h = shut_taken a name w x s t (change_of a name w is) h
+
+    late_settled : (x : Unit {0}) (l m : Late D I L F) → DoesLater (Settle (Ok x)) l m → Done asked.Settle (Some m)
+    late_settled x (Open l) (Open m) h = settled x l m h
+    late_settled x (Open l) (NotYet t) h = absurd h
+    late_settled x (NotYet s) (Open m) h = absurd h
+    late_settled x (NotYet s) (NotYet t) h = absurd h.0
+
+    late_reloaded : (now : ℕ) (reread : Reread) (l m : Late D I L F) → DoesLater (Reload now (Ok reread)) l m → Done asked.Reload (Some m)
+    late_reloaded now reread (Open l) (Open m) h = reloaded now reread l m h
+    late_reloaded now reread (Open l) (NotYet t) h = absurd h
+    late_reloaded now reread (NotYet s) (Open m) h = absurd h
+    late_reloaded now reread (NotYet s) (NotYet t) h = absurd h
+
+    pub are_done : AreDone DoesLater reads_later Done
+    are_done = record { taken = late_taken; settled = late_settled; reloaded = late_reloaded; unkept = λ name need. tt }

@@ -1,9 +1,9 @@
 -- Shown: while a house goes on, whoever's answer begins with `ok` was given it before, or is shown a page. For `whoever_is_told_ok_has_it`.
-use Rattle.std.proofs.Common.{◌≡◌, ◌∙◌, ◌⊎◌, ℕ, zero, suc, ◌/◌, Bool, true, false, ◌||◌, cond, inl, inr, List, [], ◌∷◌, ◌++◌, drop, filter, length, nat_lt, not, take, Option, Some, None, Result, Ok, Err, ap, arith, codes, refl, slice_get, slice_index, slice_set, subst, sym}
+use Rattle.std.proofs.Common.{◌≡◌, ◌∙◌, ◌⊎◌, ℕ, zero, suc, ◌/◌, Bool, true, false, ◌||◌, cond, inl, inr, List, [], ◌∷◌, ◌++◌, drop, filter, length, nat_lt, not, take, Option, Some, None, Result, ap, arith, codes, refl, slice_get, slice_index, slice_set, subst, sym}
 use Rattle.std.specs.List.{position, remove}
 use Rattle.std.specs.declared.alloc.AllocError.{AllocError}
 use Rattle.agent_standing.specs.Agent.{Agent}
-use Rattle.agent_answers.specs.Controlling.{ControlGoesOn, FirstIsReplied, IsShownText, OneIsReplied, RepliesTo, ShownIf, TextIf, refused_text}
+use Rattle.agent_answers.specs.Controlling.{ControlGoesOn, FirstIsReplied, IsShownText, RepliesTo, TextIf, refused_text}
 use Rattle.agent_answers.specs.Wanting.{ClientWants, TellsRequestLine}
 use Rattle.agent_answers.specs.declared.control.Control.{Control}
 use Rattle.agent_answers.specs.declared.lines.RequestLines.{RequestLines}

@@ -34,7 +34,7 @@ use Rattle.agent_house.specs.declared.house.House.{House}
 use Rattle.agent_laws.proofs.Asks.{Spares, asked_for, settled_given}
 use Rattle.agent_laws.proofs.Called.{within_join, within_more, within_none, within_one}
 use Rattle.agent_laws.proofs.Passed.{Passes, by_day, by_day_behind}
-use Rattle.agent_laws.proofs.Weighed.{gives, gives_few, goes, goes_once, weight}
+use Rattle.agent_laws.proofs.Weighed.{gives, gives_few, goes, goes_once, offers, offers_once, weight}
 
 -- ---- the ends
 
@@ -110,18 +110,19 @@ module _ {E : Type 0} (known : Bool) (state : E → DiskState) where
 -- ---- whoever keeps changes
 
 module _ {K N : Type 0} (asks : KeepCall → K → K → Type 0) (does : NeighbourCall → N → N → Type 0) (keeper : N → Option K)
-    (by : (call : NeighbourCall) (old new : N) → does call old new → IsAskedWithin asks (goes call) (gives call) (keeper old) (keeper new)) where
-  asked_of : (calls : List NeighbourCall) (old new : N) → AllCalled does calls old new → IsAskedWithin asks (weight goes calls) (weight gives calls) (keeper old) (keeper new)
+    (by : (call : NeighbourCall) (old new : N) → does call old new → IsAskedWithin asks (goes call) (gives call) (offers call) (keeper old) (keeper new)) where
+  asked_of : (calls : List NeighbourCall) (old new : N) → AllCalled does calls old new → IsAskedWithin asks (weight goes calls) (weight gives calls) (weight offers calls) (keeper old) (keeper new)
   asked_of [] old new h = within_none asks (keeper old) (keeper new) (ap keeper h)
   asked_of (call ∷ rest) old new h =
-      within_join asks (goes call) (gives call) (weight goes rest) (weight gives rest) (keeper old) (keeper h.0) (keeper new) (by call old h.0 h.1.0) (asked_of rest h.0 new h.1.1)
+      within_join asks (goes call) (gives call) (offers call) (weight goes rest) (weight gives rest) (weight offers rest) (keeper old) (keeper h.0) (keeper new) (by call old h.0 h.1.0) (asked_of rest h.0 new h.1.1)
 
   pub asks_law : AsksLittle does asks keeper
   asks_law t old new turn =
       let h = turn.1.1.1 in
       let calls = calls_in turn.0 turn.1.0 t turn.1.1.0 h.is in
       let last = turn.1.1.0.held.agent in
-      within_more asks (weight goes calls) (weight gives calls) 1 (length (given_by t.made)) (keeper old) (keeper new) (goes_once turn.0 t.reading turn.1.0 t h.is.mid last h.is.hears) (gives_few turn.0 t.reading turn.1.0 t h.is.mid last h.is.hears)
+      within_more asks (weight goes calls) (weight gives calls) (weight offers calls) 1 (length (given_by t.made)) 1 (keeper old) (keeper new) (goes_once turn.0 t.reading turn.1.0 t h.is.mid last h.is.hears)
+      (gives_few turn.0 t.reading turn.1.0 t h.is.mid last h.is.hears) (offers_once turn.0 t.reading turn.1.0 t h.is.mid last h.is.hears)
       (asked_of calls old new h.called)
 
 -- ---- a house
@@ -146,33 +147,33 @@ module _ {S T D K E : Type 0} where
   served_heard true old new h = (ap (λ x. x.state) h, marked to_be_kept (λ x. refl) old.ends new.ends (ap (λ x. x.ends) h))
   served_heard false old new h = (ap (λ x. x.state) h, left_same old.ends new.ends (ap (λ x. x.ends) h))
 
-looked_at : {K : Type 0} (asks : KeepCall → K → K → Type 0) (now : Reading) (look : FileLook) (old new : Option K) → AsksToLook asks now look old new → IsAskedWithin asks 1 0 old new
-looked_at asks now look None new h = within_more asks 0 0 1 0 None new (omega arith) (omega arith) (within_none asks None new h.1)
+looked_at : {K : Type 0} (asks : KeepCall → K → K → Type 0) (now : Reading) (look : FileLook) (old new : Option K) → AsksToLook asks now look old new → IsAskedWithin asks 1 0 0 old new
+looked_at asks now look None new h = within_more asks 0 0 0 1 0 0 None new (omega arith) (omega arith) (omega arith) (within_none asks None new h.1)
 looked_at asks now look (Some old) None h = absurd h
 looked_at asks now look (Some old) (Some new) h = within_one asks (Look now look) (Some old) (Some new) (new, (h, refl))
 
 module _ {S T D K E : Type 0} (given : S → Option (List ℕ)) (failures tries : S → ℕ) (tried : S → Option (List Tried)) (remaining written : T → Option (List ℕ)) (calls : T → Option (List Call)) (log : D → Option (DoorLog T))
-    (asks : KeepCall → K → K → Type 0) (rows : K → List Row) (path : K → List ℕ) (reads : K → List ℕ → Result Row Why → Type 0) (gives_served : ℕ → Result (Option Inventory) AllocError → K → Type 0)
+    (asks : KeepCall → K → K → Type 0) (rows : K → List Row) (keeps : K → Bool) (path : K → List ℕ) (reads : K → List ℕ → Result Row Why → Type 0) (gives_served : ℕ → Result (Option Inventory) AllocError → K → Type 0)
     (known : Bool) (state : E → DiskState) where
   abbrev Does : NeighbourCall → House S T D K E → House S T D K E → Type 0
-  Does = ToHouse given failures tries tried remaining written calls log asks rows path reads gives_served known state
+  Does = ToHouse given failures tries tried remaining written calls log asks rows keeps path reads gives_served known state
 
-  given_of : (agent : Agent) (now : Reading) (change : Option Change) (old new : House S T D K E) → Does (Give agent now change) old new → Spares asks (gives (Give agent now change)) old new
-  given_of agent now None old new h = asked_for asks rows path reads gives_served agent now h.0 None old new h.1.1
-  given_of agent now (Some change) old new h = asked_for asks rows path reads gives_served agent now h.0 (Some change) old new h.1.1
+  given_of : (agent : Agent) (now : Reading) (change : Option Change) (old new : House S T D K E) → Does (Give agent now change) old new → Spares asks (gives (Give agent now change)) 1 old new
+  given_of agent now None old new h = asked_for asks rows keeps path reads gives_served agent now h.0 None old new h.1.1
+  given_of agent now (Some change) old new h = asked_for asks rows keeps path reads gives_served agent now h.0 (Some change) old new h.1.1
 
-  pub asked_at : (call : NeighbourCall) (old new : House S T D K E) → Does call old new → IsAskedWithin asks (goes call) (gives call) old.state new.state
+  pub asked_at : (call : NeighbourCall) (old new : House S T D K E) → Does call old new → IsAskedWithin asks (goes call) (gives call) (offers call) old.state new.state
   asked_at (Hear agent thing) old new h = within_none asks old.state new.state (heard_of agent thing old new h).0
   asked_at (GoOn agent now is_busy) old new h =
-      subst (λ (s : Option K). IsAskedWithin asks 1 0 s new.state) (ap (λ x. x.state) h.ends.rest)
-      (subst (λ (s : Option K). IsAskedWithin asks 1 0 h.kept.state s) (sym (ap (λ x. x.state) h.attend.rest)) (looked_at asks now h.look.look h.kept.state h.looked.state h.look.asks))
+      subst (λ (s : Option K). IsAskedWithin asks 1 0 0 s new.state) (ap (λ x. x.state) h.ends.rest)
+      (subst (λ (s : Option K). IsAskedWithin asks 1 0 0 h.kept.state s) (sym (ap (λ x. x.state) h.attend.rest)) (looked_at asks now h.look.look h.kept.state h.looked.state h.look.asks))
   asked_at (Give agent now None) old new h = (given_of agent now None old new h).asked
   asked_at (Give agent now (Some change)) old new h = (given_of agent now (Some change) old new h).asked
   asked_at (Settle agent is_made) old new h =
       let heard = served_heard _ old h.heard h.served in
-      let settled = settled_given asks agent is_made h.heard h.settled h.settles in
-      subst (λ (s : Option K). IsAskedWithin asks 0 0 s new.state) heard.0
-      (subst (λ (s : Option K). IsAskedWithin asks 0 0 h.heard.state s) (sym (ap (λ x. x.state) h.rest)) settled.asked)
+      let settled = settled_given asks keeps agent is_made h.heard h.settled h.settles in
+      subst (λ (s : Option K). IsAskedWithin asks 0 0 0 s new.state) heard.0
+      (subst (λ (s : Option K). IsAskedWithin asks 0 0 0 h.heard.state s) (sym (ap (λ x. x.state) h.rest)) settled.asked)
   asked_at (Rest now rest) old new h = within_none asks old.state new.state (ap (λ x. x.state) h.0)
 
   pub ends_at : (call : NeighbourCall) (old new : House S T D K E) → Does call old new → DoesToEnds known state call old.ends new.ends
@@ -184,22 +185,22 @@ module _ {S T D K E : Type 0} (given : S → Option (List ℕ)) (failures tries 
   ends_at (Give agent now (Some change)) old new h = left_same old.ends new.ends (given_of agent now (Some change) old new h).ends
   ends_at (Settle agent is_made) old new h =
       let heard = served_heard _ old h.heard h.served in
-      let settled = settled_given asks agent is_made h.heard h.settled h.settles in
+      let settled = settled_given asks keeps agent is_made h.heard h.settled h.settles in
       left_join old.ends h.heard.ends new.ends heard.1 (left_same h.heard.ends new.ends (ap (λ x. x.ends) h.rest ∙ settled.ends))
   ends_at (Rest now rest) old new h = left_same old.ends new.ends (ap (λ x. x.ends) h.0)
 
   -- ---- the same after one more neighbour
 
   abbrev ToKeeper : NeighbourCall → House S T D K E → House S T D K E → Type 0
-  ToKeeper call old new = IsAskedWithin asks (goes call) (gives call) old.state new.state
+  ToKeeper call old new = IsAskedWithin asks (goes call) (gives call) (offers call) old.state new.state
 
   given_more : (a : Agent) (now : Reading) (change : Option Change) (x y : House S T D K E) → ToKeeper (Give a now None) x y → ToKeeper (Give a now change) x y
   given_more a now None x y h = h
-  given_more a now (Some change) x y h = within_more asks 0 0 0 1 x.state y.state (omega arith) (omega arith) h
+  given_more a now (Some change) x y h = within_more asks 0 0 1 0 1 1 x.state y.state (omega arith) (omega arith) (omega arith) h
 
   asks_on : Passes ToKeeper
   asks_on = record {
-    heard = λ a one other x y z h k. within_join asks 0 0 0 0 x.state y.state z.state h k;
+    heard = λ a one other x y z h k. within_join asks 0 0 0 0 0 0 x.state y.state z.state h k;
     settled = λ a thing is_made x y h. h;
     unsettled = λ a is_made x y same. within_none asks x.state y.state (ap (λ (v : House S T D K E). v.state) same);
     goes = λ a now b c x y h. h;
@@ -223,7 +224,7 @@ module _ {S T D K E : Type 0} (given : S → Option (List ℕ)) (failures tries 
   abbrev DoesOn : NeighbourCall → EarlyDay (House S T D K E) → EarlyDay (House S T D K E) → Type 0
   DoesOn call old new = PassesToOthers Does call old new
 
-  pub asked_day : (call : NeighbourCall) (old new : EarlyDay (House S T D K E)) → DoesOn call old new → IsAskedWithin asks (goes call) (gives call) old.others.state new.others.state
+  pub asked_day : (call : NeighbourCall) (old new : EarlyDay (House S T D K E)) → DoesOn call old new → IsAskedWithin asks (goes call) (gives call) (offers call) old.others.state new.others.state
   asked_day = by_day Does ToKeeper asks_on asked_at
 
   pub ends_day : (call : NeighbourCall) (old new : EarlyDay (House S T D K E)) → DoesOn call old new → DoesToEnds known state call old.others.ends new.others.ends
@@ -232,7 +233,7 @@ module _ {S T D K E : Type 0} (given : S → Option (List ℕ)) (failures tries 
   abbrev DoesBehind : {L : Type 0} → (ℕ → ℕ → L → ℕ) → NeighbourCall → EarlyDay (Behind (House S T D K E) L) → EarlyDay (Behind (House S T D K E) L) → Type 0
   DoesBehind {L} due_by call old new = PassesToOthers (λ (c : NeighbourCall) (a b : Behind (House S T D K E) L). PassesBehind due_by Does c a b) call old new
 
-  pub asked_behind : {L : Type 0} (due_by : ℕ → ℕ → L → ℕ) (call : NeighbourCall) (old new : EarlyDay (Behind (House S T D K E) L)) → DoesBehind due_by call old new → IsAskedWithin asks (goes call) (gives call) old.others.others.state new.others.others.state
+  pub asked_behind : {L : Type 0} (due_by : ℕ → ℕ → L → ℕ) (call : NeighbourCall) (old new : EarlyDay (Behind (House S T D K E) L)) → DoesBehind due_by call old new → IsAskedWithin asks (goes call) (gives call) (offers call) old.others.others.state new.others.others.state
   asked_behind due_by = by_day_behind due_by Does ToKeeper asks_on asked_at
 
   pub ends_behind : {L : Type 0} (due_by : ℕ → ℕ → L → ℕ) (call : NeighbourCall) (old new : EarlyDay (Behind (House S T D K E) L)) → DoesBehind due_by call old new → DoesToEnds known state call old.others.others.ends new.others.others.ends

@@ -24,12 +24,15 @@ use Rattle.state_secrets.specs.declared.secret_files.FileStamp.{FileStamp}
 use Rattle.agent_turns.specs.Changes.{given_by}
 use Rattle.agent_turns.specs.Neighbours.{NeighbourCall}
 use Rattle.state_changes.specs.declared.secret.Secret.{Secret}
-use Rattle.agent_laws.specs.Disks.{AllAsked, AsksLittle, FewAreMade, KeeperIsCalled, LedgerIsSpared, LedgerLaw, SparesIf, SparesLedger, looks_of, makes_of, opens_of, stamps_of}
-use Rattle.agent_ledger.specs.Keeping.{KeepCall, Look, LookUp, MarkServed, Prove, Reload, RestFor, Settle, Take}
+use Rattle.agent_laws.specs.Disks.{AllAsked, AsksLittle, FewAreMade, KeeperIsCalled, LedgerIsSpared, LedgerLaw, SparesIf, SparesLate, SparesLedger, looks_of, makes_of, opens_of, stamps_of}
+use Rattle.agent_ledger.specs.Keeping.{KeepCall, Look, LookUp, MarkServed, Prove, Reload, RestFor, Settle, Take, TryAgain}
+use Rattle.agent_ledger.specs.Lates.{DoesBoth, DoesLate}
 use Rattle.agent_ledger.specs.Ledgers.{DoesLedger}
 use Rattle.agent_ledger.specs.Takings.{AwaitsIf, IsEarly, IsFileReadAs, IsPass, JudgesFile, LooksBy, LooksByWord, LooksOn, LooksOrHears, LooksUpBy, LooksUpNew, ReadsNew, ReadsUp, TakesHeldUp, TakesRead, TakesUpFile}
 use Rattle.agent_ledger.specs.declared.asked_file.AskedFile.{AskedFile}
 use Rattle.agent_ledger.specs.declared.asker.FileWord.{FileWord}
+use Rattle.agent_ledger.specs.declared.late.Late.{Late}
+use Rattle.agent_ledger.specs.declared.late.Late.TheVariants.{Open, NotYet}
 use Rattle.agent_ledger.specs.declared.ledger.Ledger.{Ledger}
 use Rattle.agent_ledger.specs.declared.keeping.FileLook.{FileLook}
 
@@ -242,6 +245,7 @@ module _ {D I L : Type 0} (known : Bool) (seen : D → DiskState) (calls : I →
   by_call (Look now look) old new none h = looks_few calls lanes_seen port now look old new h
   by_call MarkServed old new none h = untouched old new (ap (λ l. l.inputs) h.1.1.1) h.1.1.0
   by_call (RestFor now rest) old new none h = untouched old new (ap (λ l. l.inputs) h.0) (ap (λ l. l.state.disk) h.0)
+  by_call (TryAgain now is_asked news) old new none h = untouched old new (ap (λ l. l.inputs) h.1) (ap (λ l. l.state.disk) h.1)
 
   pub ledger_law : LedgerLaw known seen calls lanes_seen port
   ledger_law = by_call
@@ -262,15 +266,46 @@ module _ {D I L : Type 0} (known : Bool) (seen : D → DiskState) (calls : I →
       spared_more (64 * looks_of call + 64 * sum_by looks_of rest) (looks_of call + sum_by looks_of rest) (64 * sum_by looks_of (call ∷ rest)) (sum_by looks_of (call ∷ rest)) old new (omega (arith, looks)) (omega (arith, looks))
       (spared_join (64 * looks_of call) (looks_of call) (64 * sum_by looks_of rest) (sum_by looks_of rest) old h.0 new (by_call call old h.0 (omega (arith, makes, none)) h.1.0) (spared_all rest h.0 new h.1.1 (omega (arith, makes, none))))
 
-  spared_by : (asked : List KeepCall) (old new : Option (Ledger D I L)) → KeeperIsCalled Does asked old new → sum_by makes_of asked ≤ 0 → sum_by looks_of asked ≤ 1 → SparesIf calls old new
-  spared_by asked None new h none few = h
-  spared_by asked (Some old) None h none few = absurd h
-  spared_by asked (Some old) (Some new) h none few =
-      spared_more (64 * sum_by looks_of asked) (sum_by looks_of asked) 64 1 old new (omega (arith, few)) few (spared_all asked old new h none)
+  -- ---- a ledger that is there stays
 
-  pub spares_law : {N : Type 0} → (does : NeighbourCall → N → N → Type 0) (ledger : N → Option (Ledger D I L)) → AsksLittle does Does ledger → SparesLedger does calls ledger
-  spares_law does ledger little t old new h none =
-      let within = little t old new h in
-      let makes = within.few_makes in
-      let no_change = ap (λ made. length (given_by made)) none in
-      spared_by within.calls (ledger old) (ledger new) within.asked (omega (arith, makes, no_change)) within.few_looks
+  module _ {F : Type 0} where
+    abbrev DoesLater : KeepCall → Late D I L F → Late D I L F → Type 0
+    DoesLater = DoesLate known seen calls lanes_seen port
+
+    both_open : (call : KeepCall) (old : Ledger D I L) (new : Late D I L F) → DoesBoth known seen calls lanes_seen port call (Open old) new → (l : Ledger D I L) × ((new ≡ Open l) × Does call old l)
+    both_open call old (Open new) h = (new, (refl, h))
+    both_open call old (NotYet new) h = absurd h
+
+    open_call : (call : KeepCall) (old : Ledger D I L) (new : Late D I L F) → DoesLater call (Open old) new → (l : Ledger D I L) × ((new ≡ Open l) × Does call old l)
+    open_call (Take now name w result) old new h = both_open (Take now name w result) old new h
+    open_call (LookUp now name w result) old new h = both_open (LookUp now name w result) old new h
+    open_call (Prove now result) old new h = both_open (Prove now result) old new h
+    open_call (Settle result) old new h = both_open (Settle result) old new h
+    open_call (Reload now result) old new h = both_open (Reload now result) old new h
+    open_call (Look now look) old new h = both_open (Look now look) old new h
+    open_call MarkServed old new h = both_open MarkServed old new h
+    open_call (RestFor now rest) old new h = both_open (RestFor now rest) old new h
+    open_call (TryAgain now is_asked news) old new h = (old, (h.1, (h.0, refl)))
+
+    open_all : (asked : List KeepCall) (old : Ledger D I L) (new : Late D I L F) → AllAsked DoesLater asked (Open old) new → (l : Ledger D I L) × ((new ≡ Open l) × AllAsked Does asked old l)
+    open_all [] old new h = (old, (h, refl))
+    open_all (call ∷ rest) old new h =
+        let first = open_call call old h.0 h.1.0 in
+        let all = open_all rest first.0 new (subst (λ (m : Late D I L F). AllAsked DoesLater rest m new) first.1.0 h.1.1) in
+        (all.0, (all.1.0, (first.0, (first.1.1, all.1.1))))
+
+    spared_by : (asked : List KeepCall) (old new : Option (Late D I L F)) → KeeperIsCalled DoesLater asked old new → sum_by makes_of asked ≤ 0 → sum_by looks_of asked ≤ 1 → SparesIf calls old new
+    spared_by asked None new h none few = h
+    spared_by asked (Some old) None h none few = absurd h
+    spared_by asked (Some (Open old)) (Some new) h none few =
+        let all = open_all asked old new h in
+        subst (λ (m : Late D I L F). SparesLate calls (Open old) m) (sym all.1.0)
+        (spared_more (64 * sum_by looks_of asked) (sum_by looks_of asked) 64 1 old all.0 (omega (arith, few)) few (spared_all asked old all.0 all.1.1 none))
+    spared_by asked (Some (NotYet old)) (Some new) h none few = tt
+
+    pub spares_law : {N : Type 0} → (does : NeighbourCall → N → N → Type 0) (ledger : N → Option (Late D I L F)) → AsksLittle does DoesLater ledger → SparesLedger does calls ledger
+    spares_law does ledger little t old new h none =
+        let within = little t old new h in
+        let makes = within.few_makes in
+        let no_change = ap (λ made. length (given_by made)) none in
+        spared_by within.calls (ledger old) (ledger new) within.asked (omega (arith, makes, no_change)) within.few_looks

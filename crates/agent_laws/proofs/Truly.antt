@@ -1,5 +1,5 @@
 -- Truly: where something is settled, whoever is told `ok` has asked for it, and it is done. For `whoever_is_told_ok_has_it`.
-use Rattle.std.proofs.Common.{◌≡◌, ◌∙◌, ◌⊎◌, ℕ, Bool, true, false, ◌&&◌, inl, inr, List, [], ◌∷◌, ◌++◌, Option, Some, None, Result, ap, arith, codes, refl, slice_get, slice_index, slice_set, subst, sym}
+use Rattle.std.proofs.Common.{◌≡◌, ◌∙◌, ◌⊎◌, ℕ, Bool, true, false, ◌&&◌, inl, inr, List, [], ◌++◌, Option, Some, None, Result, ap, arith, codes, refl, slice_get, slice_index, slice_set, subst, sym}
 use Rattle.std.specs.List.{position}
 use Rattle.agent_standing.specs.Agent.{Agent}
 use Rattle.agent_answers.specs.Controlling.{AnswersAsking}
@@ -104,7 +104,7 @@ record Tells {S T D K E : Type 0} (Told : Option ℕ → Option K → Type 0) (o
   given : new.given ≡ old.given
   awaited : new.awaited ≡ old.awaited
 
-module _ {S T D K E : Type 0} (does : KeepCall → K → K → Type 0) (reads : K → List ℕ → Result Row Why → Type 0) (Done : Asked → Option K → Type 0) (has : ℕ → Asked → Type 0) (agent : Agent) where
+module _ {S T D K E : Type 0} (does : KeepCall → K → K → Type 0) (keeps : K → Bool) (reads : K → List ℕ → Result Row Why → Type 0) (Done : Asked → Option K → Type 0) (has : ℕ → Asked → Type 0) (agent : Agent) where
   -- the clients are as they were
   same_tells : (old new : House S T D K E) → new.control ≡ old.control → new.given ≡ old.given → new.awaited ≡ old.awaited → Tells (IsTold Done has) old new
   same_tells old new control given awaited = record { told = λ ok. was_same (guests_in old.control) (guests_in new.control) ok _ (ap guests_in control); given = given; awaited = awaited }
@@ -129,7 +129,7 @@ module _ {S T D K E : Type 0} (does : KeepCall → K → K → Type 0) (reads : 
     awaited = awaited;
   }
 
-  settled_by : (is_made : Bool) (given : Option Given) (old new : House S T D K E) → IsOwed Done has (asking_in old.control) old.state given → SettlesBy does agent is_made given old new → Tells (IsTold Done has) old new
+  settled_by : (is_made : Bool) (given : Option Given) (old new : House S T D K E) → IsOwed Done has (asking_in old.control) old.state given → SettlesBy does keeps agent is_made given old new → Tells (IsTold Done has) old new
   settled_by is_made None old new owed h = same_tells old new (ap (λ y. y.control) h) (ap (λ y. y.given) h) (ap (λ y. y.awaited) h)
   settled_by true (Some (givens.Need need)) old new owed h =
       let rest = h.sends.rest in
@@ -160,7 +160,7 @@ module _ {S T D K E : Type 0} (does : KeepCall → K → K → Type 0) (reads : 
   served true old new h = record { control = ap (λ y. y.control) h; state = ap (λ y. y.state) h; given = ap (λ y. y.given) h; awaited = ap (λ y. y.awaited) h }
   served false old new h = record { control = ap (λ y. y.control) h; state = ap (λ y. y.state) h; given = ap (λ y. y.given) h; awaited = ap (λ y. y.awaited) h }
 
-  module _ (is_made : Bool) (old new : House S T D K E) (owes : Owes reads Done has old) (h : SettlesChange does agent is_made old new) where
+  module _ (is_made : Bool) (old new : House S T D K E) (owes : Owes reads Done has old) (h : SettlesChange does keeps agent is_made old new) where
     heard : IsServedNow old h.heard
     heard = served (is_made && is_served old.given) old h.heard h.served
 

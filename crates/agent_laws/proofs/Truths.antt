@@ -30,7 +30,7 @@ use Rattle.agent_house.specs.Nexts.{HearsNext}
 use Rattle.agent_house.specs.declared.given.Awaited.{Awaited}
 use Rattle.agent_house.specs.declared.given.Given.{Given}
 use Rattle.agent_house.specs.declared.house.House.{House}
-use Rattle.agent_laws.specs.Acknowledged.{AllTellTruly, Asks, HasOk, IsShown, TellsOk, TellsOkAmid, TurnsTellTruly, guests_in}
+use Rattle.agent_laws.specs.Acknowledged.{AllTellTruly, Asks, IsShown, TellsOk, TellsOkAmid, TurnsTellTruly, guests_in}
 use Rattle.agent_laws.proofs.Admitted.{Follows, admitted_alone, same_ok}
 use Rattle.agent_laws.proofs.Owed.{AreDone, IsOwed, IsTurnOf, Owes, WaitsFor, asked_for, none_given}
 use Rattle.agent_laws.proofs.Reaching.{AreLeft, IsChanged, IsHeard, Reaches, SettlesOr, unheard}
@@ -125,10 +125,10 @@ module _ {S T D K E : Type 0} where
   heard_of agent Want old new h = by_rest _ old new refl refl refl h.1
 
 module _ {S T D K E : Type 0} (given : S → Option (List ℕ)) (failures tries : S → ℕ) (tried : S → Option (List Tried)) (remaining written : T → Option (List ℕ)) (calls : T → Option (List Call)) (log : D → Option (DoorLog T))
-    (does : KeepCall → K → K → Type 0) (rows : K → List Row) (path : K → List ℕ) (reads : K → List ℕ → Result Row Why → Type 0) (gives : ℕ → Result (Option Inventory) AllocError → K → Type 0)
+    (does : KeepCall → K → K → Type 0) (rows : K → List Row) (keeps : K → Bool) (path : K → List ℕ) (reads : K → List ℕ → Result Row Why → Type 0) (gives : ℕ → Result (Option Inventory) AllocError → K → Type 0)
     (known : Bool) (state : E → DiskState) where
   abbrev pub Does : NeighbourCall → House S T D K E → House S T D K E → Type 0
-  Does call old new = DoesToHouse given failures tries tried remaining written calls log does rows path reads gives known state call old new
+  Does call old new = DoesToHouse given failures tries tried remaining written calls log does rows keeps path reads gives known state call old new
 
   went_on : (agent : Agent) (now : Reading) (is_busy : Bool) (old new : House S T D K E) → Does (GoOn agent now is_busy) old new → AreLeft old new
   went_on agent now is_busy old new h = record {
@@ -177,12 +177,12 @@ module _ {S T D K E : Type 0} (given : S → Option (List ℕ)) (failures tries 
     -- what is owed once a change was asked for
     owes_then : (has : ℕ → Asked → Type 0) (agent : Agent) (now : Reading) (by change : Option Change) (old new : House S T D K E) → Rests has old → Does (Give agent now change) old new → Owes reads Done (and_now has (Give agent now by) old) new
     owes_then has agent now by change old new rests h =
-        asked_for does rows path reads gives Done so (and_now has (Give agent now by) old) agent now change old new (λ id a it. inr it) rests.none
+        asked_for does rows keeps path reads gives Done so (and_now has (Give agent now by) old) agent now change old new (λ id a it. inr it) rests.none
         (waits_more has (and_now has (Give agent now by) old) (λ id a it. inl it) old.awaited rests.waits) h
 
     given_none : (has : ℕ → Asked → Type 0) (agent : Agent) (now : Reading) (by : Option Change) (old new : House S T D K E) → Rests has old → Does (Give agent now None) old new → Rests (and_now has (Give agent now by) old) new
     given_none has agent now by old new rests h = record {
-      none = none_given does rows path reads gives Done so has agent now old new rests.waits h ∙ rests.none;
+      none = none_given does rows keeps path reads gives Done so has agent now old new rests.waits h ∙ rests.none;
       waits = (owes_then has agent now by None old new rests h).waits;
     }
 
@@ -193,10 +193,10 @@ module _ {S T D K E : Type 0} (given : S → Option (List ℕ)) (failures tries 
 
     settled_one : (has : ℕ → Asked → Type 0) (by : Agent) (is_made : Bool) (old new : House S T D K E) → Owes reads Done has old → Does (Settle by is_made) old new → Settled has old new
     settled_one has by is_made old new owes h = record {
-      told = told_truly does reads Done has by is_made old new owes h;
+      told = told_truly does keeps reads Done has by is_made old new owes h;
       rests = record {
-        none = none_then does reads Done has by is_made old new owes h;
-        waits = subst (λ (a : Option Awaited). WaitsFor reads has a) (sym (awaited_then does reads Done has by is_made old new owes h)) owes.waits;
+        none = none_then does keeps reads Done has by is_made old new owes h;
+        waits = subst (λ (a : Option Awaited). WaitsFor reads has a) (sym (awaited_then does keeps reads Done has by is_made old new owes h)) owes.waits;
       };
     }
 
@@ -215,8 +215,8 @@ module _ {S T D K E : Type 0} (given : S → Option (List ℕ)) (failures tries 
     -- whoever is told `ok` where a change is given follows the log from then on
     asked_alone : (a : Agent) (now : Reading) (change : Option Change) (by : Agent) (is_made : Bool) (old mid new : House S T D K E) → IsChanged Does a now change by is_made old mid new →
         TellsOk (guests_in old.control) (guests_in mid.control) (Follows (λ id alerts. IsTurnOf now old.control id (asked.Follow alerts)))
-    asked_alone a now change by is_made old mid new (inl h) = admitted_alone does rows path reads gives a now change old mid h.0
-    asked_alone a now change by is_made old mid new (inr h) = admitted_alone does rows path reads gives a now None old mid h.0
+    asked_alone a now change by is_made old mid new (inl h) = admitted_alone does rows keeps path reads gives a now change old mid h.0
+    asked_alone a now change by is_made old mid new (inr h) = admitted_alone does rows keeps path reads gives a now None old mid h.0
 
     module _ {N : Type 0} (to : NeighbourCall → N → N → Type 0) (house : N → House S T D K E) (reaches : Reaches Does to house) where
       truly : (has : ℕ → Asked → Type 0) (made : List NeighbourCall) (old new : N) → EachIsSettled made → (run : AllCalled to made old new) → Rests has (house old) → AllTellTruly to house Done has made old new run
@@ -233,7 +233,7 @@ module _ {S T D K E : Type 0} (given : S → Option (List ℕ)) (failures tries 
           )
       truly has (Give agent now None ∷ made) old new each run rests =
           let all = reaches.none agent now old run.0 run.1.0 in
-          (admitted_alone does rows path reads gives agent now None (house old) (house run.0) all, truly (and_now has (Give agent now None) (house old)) made run.0 new each run.1.1 (given_none has agent now None (house old) (house run.0) rests all))
+          (admitted_alone does rows keeps path reads gives agent now None (house old) (house run.0) all, truly (and_now has (Give agent now None) (house old)) made run.0 new each run.1.1 (given_none has agent now None (house old) (house run.0) rests all))
       truly has (Give agent now (Some change) ∷ []) old new each run rests = absurd each
       truly has (Give agent now (Some change) ∷ Hear a thing ∷ made) old new each run rests = absurd each
       truly has (Give agent now (Some change) ∷ GoOn a r is_busy ∷ made) old new each run rests = absurd each

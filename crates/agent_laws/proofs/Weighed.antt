@@ -27,6 +27,14 @@ gives (Give agent now (Some change)) = 1
 gives (Settle agent is_made) = 0
 gives (Rest now rest) = 0
 
+-- and how often they are asked for a change
+abbrev pub offers : NeighbourCall → ℕ
+offers (Hear agent thing) = 0
+offers (GoOn agent now is_busy) = 0
+offers (Give agent now change) = 1
+offers (Settle agent is_made) = 0
+offers (Rest now rest) = 0
+
 abbrev pub weight : (NeighbourCall → ℕ) → List NeighbourCall → ℕ
 weight w [] = 0
 weight w (call ∷ rest) = w call + weight w rest
@@ -108,7 +116,7 @@ module _ (w : NeighbourCall → ℕ) (light : (agent : Agent) (thing : Thing) �
       let want = light_want t.is_whole agent in
       omega (arith, all, last, told, heard, want)
 
--- ---- a turn goes on once, and gives no more changes than it takes
+-- ---- a turn goes on once, asks for a change once, and gives no more changes than it takes
 
 goes_for_change : (a : Agent) (r : Reading) (told : Change → Agent) (made : Option MadeChange) → weight goes (calls_for_change a r told made) ≡ 0
 goes_for_change a r told None = refl
@@ -130,4 +138,15 @@ gives_few port None old t mid new h = omega arith
 gives_few port (Some r) old t mid new h =
     let all : weight gives (calls_at port (Some r) old t mid new h) ≡ 0 + (weight gives (calls_for_change mid.held.agent r (λ change. new) t.made) + 0) = weight_at gives (λ agent thing. refl) port r old t mid new h in
     let last = gives_for_change mid.held.agent r (λ change. new) t.made in
+    omega (arith, all, last)
+
+offers_for_change : (a : Agent) (r : Reading) (told : Change → Agent) (made : Option MadeChange) → weight offers (calls_for_change a r told made) ≡ 1
+offers_for_change a r told None = refl
+offers_for_change a r told (Some m) = refl
+
+pub offers_once : (port : ℕ) (reading : Option Reading) (old : ServingSide) (t : ServingTurn) (mid : ServingSide) (new : Agent) (h : TurnHears port reading old t.is_whole mid) → weight offers (calls_at port reading old t mid new h) ≤ 1
+offers_once port None old t mid new h = omega arith
+offers_once port (Some r) old t mid new h =
+    let all : weight offers (calls_at port (Some r) old t mid new h) ≡ 0 + (weight offers (calls_for_change mid.held.agent r (λ change. new) t.made) + 0) = weight_at offers (λ agent thing. refl) port r old t mid new h in
+    let last = offers_for_change mid.held.agent r (λ change. new) t.made in
     omega (arith, all, last)

@@ -54,7 +54,8 @@ use Rattle.agent_ledger.specs.Rereading.{AreBytesOf}
 use Rattle.agent_house.specs.Admitting.{asking_in}
 use Rattle.agent_house.specs.Houses.{ClientsAsk}
 use Rattle.agent_house.specs.declared.house.House.{House}
-use Rattle.agent_ledger.specs.declared.ledger.Ledger.{Ledger}
+use Rattle.agent_ledger.specs.declared.late.Late.{Late}
+use Rattle.agent_ledger.specs.declared.late.Late.TheVariants as lates
 use Rattle.agent_laws.specs.Disks.{ToLedger}
 
 -- ---- who is told so
@@ -174,7 +175,7 @@ IsKept known seen asked.Settle k = FileHasAll known seen k ⊎ FileSaysAll known
 IsKept known seen asked.Reload k = IsReread known seen k
 IsKept known seen (asked.Follow alerts) k = ⊥
 
--- where nothing keeps changes nothing is done but for a need
+-- where nothing keeps changes, or does not yet, nothing is done but for a need
 abbrev pub IsDoneUnkept : Asked → Type 0
 IsDoneUnkept (asked.Need name need) = Unit {0}
 IsDoneUnkept (asked.Replace name credential) = ⊥
@@ -184,9 +185,10 @@ IsDoneUnkept asked.Settle = ⊥
 IsDoneUnkept asked.Reload = ⊥
 IsDoneUnkept (asked.Follow alerts) = ⊥
 
-abbrev pub IsDone : {D I L : Type 0} → Bool → (D → DiskState) → Asked → Option (Ledger D I L) → Type 0
+abbrev pub IsDone : {D I L F : Type 0} → Bool → (D → DiskState) → Asked → Option (Late D I L F) → Type 0
 IsDone known seen a None = IsDoneUnkept a
-IsDone known seen a (Some l) = IsKept known seen a l.state
+IsDone known seen a (Some (lates.Open l)) = IsKept known seen a l.state
+IsDone known seen a (Some (lates.NotYet s)) = IsDoneUnkept a
 
 -- ---- in a run
 
@@ -226,14 +228,14 @@ module _ {N S T D K E : Type 0} (does : NeighbourCall → N → N → Type 0) (h
       (port : ℕ) (turns : List ServingTurn) (from to : ServingSide) (first last : N) → OwesNothing (house first) → (run : WithCalls does (AreTurns port from turns to) (calls_of port from turns to) first last) →
       AllTellTruly (λ id a. ⊥) (calls_of port from turns to run.is) first last run.called
 
--- these may be a house whose changes are kept by a ledger, an early day before one, or one with a lookout between them
-module _ {S T O D I L E : Type 0} (given : S → Option (List ℕ)) (failures tries : S → ℕ) (tried : S → Option (List Tried)) (remaining written : T → Option (List ℕ)) (calls : T → Option (List Call)) (log : O → Option (DoorLog T))
+-- these may be a house whose changes are kept by a ledger, or by one that is to come; an early day before one, or one with a lookout between them
+module _ {S T O D I L E : Type 0} (F : Type 0) (given : S → Option (List ℕ)) (failures tries : S → ℕ) (tried : S → Option (List Tried)) (remaining written : T → Option (List ℕ)) (calls : T → Option (List Call)) (log : O → Option (DoorLog T))
     (disk_known : Bool) (seen : D → DiskState) (file_calls : I → Option (List FileCall)) (lanes_seen : L → Lanes) (port : L → ℕ) (known : Bool) (state : E → DiskState) where
   abbrev pub HasIt : Type 0
-  HasIt = House S T O (Ledger D I L) E
+  HasIt = House S T O (Late D I L F) E
 
   abbrev pub ToIt : NeighbourCall → HasIt → HasIt → Type 0
-  ToIt = ToLedger given failures tries tried remaining written calls log disk_known seen file_calls lanes_seen port known state
+  ToIt = ToLedger F given failures tries tried remaining written calls log disk_known seen file_calls lanes_seen port known state
 
   abbrev pub AcknowledgedLaw : {M : Type 0} → (ℕ → ℕ → M → ℕ) → Type 0
   AcknowledgedLaw {M} due_by =

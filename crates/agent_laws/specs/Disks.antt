@@ -24,11 +24,13 @@ use Rattle.agent_turns.specs.Calls.{TurnCalls}
 use Rattle.agent_turns.specs.Neighbours.{NeighbourCall}
 use Rattle.agent_turns.specs.Turns.{ServingTurn}
 use Rattle.agent_turns.specs.declared.day.EarlyDay.{EarlyDay}
-use Rattle.state_keeping.specs.States.{book_in}
 use Rattle.agent_house.specs.Doing.{DoesToHouse}
-use Rattle.agent_ledger.specs.Keeping.{KeepCall, Look, LookUp, MarkServed, Prove, Reload, RestFor, Settle, Take}
+use Rattle.agent_ledger.specs.Keeping.{KeepCall, Look, LookUp, MarkServed, Prove, Reload, RestFor, Settle, Take, TryAgain}
 use Rattle.agent_words.specs.Outcomes.{Why}
-use Rattle.agent_ledger.specs.Ledgers.{DoesLedger, GivesLedger, ReadsTable}
+use Rattle.agent_ledger.specs.Lates.{DoesLate, GivesLate, ReadsLate, is_open, late_path, late_rows}
+use Rattle.agent_ledger.specs.Ledgers.{DoesLedger}
+use Rattle.agent_ledger.specs.declared.late.Late.{Late}
+use Rattle.agent_ledger.specs.declared.late.Late.TheVariants.{Open, NotYet}
 use Rattle.agent_house.specs.declared.house.House.{House}
 use Rattle.agent_ledger.specs.declared.ledger.Ledger.{Ledger}
 
@@ -55,8 +57,9 @@ looks_of (Reload now result) = 0
 looks_of (Look now looked) = 1
 looks_of MarkServed = 0
 looks_of (RestFor now rest) = 0
+looks_of (TryAgain now is_asked news) = 0
 
--- calls that make a change: no other but a look is to call a disk
+-- calls that make a change: no other but a look, or to try again, is to call a disk
 abbrev pub makes_of : KeepCall → ℕ
 makes_of (Take now name w result) = 1
 makes_of (LookUp now name w result) = 0
@@ -66,17 +69,32 @@ makes_of (Reload now result) = 1
 makes_of (Look now looked) = 0
 makes_of MarkServed = 0
 makes_of (RestFor now rest) = 0
+makes_of (TryAgain now is_asked news) = 0
 
--- so many looks at most, and so many changes
-pub record IsAskedWithin {K : Type 0} (asks : KeepCall → K → K → Type 0) (looks makes : ℕ) (old new : Option K) : Type 0 where
+-- tries again to keep changes
+abbrev pub tries_of : KeepCall → ℕ
+tries_of (Take now name w result) = 0
+tries_of (LookUp now name w result) = 0
+tries_of (Prove now result) = 0
+tries_of (Settle result) = 0
+tries_of (Reload now result) = 0
+tries_of (Look now looked) = 0
+tries_of MarkServed = 0
+tries_of (RestFor now rest) = 0
+tries_of (TryAgain now is_asked news) = 1
+
+-- so many looks at most, so many changes, and so many tries
+pub record IsAskedWithin {K : Type 0} (asks : KeepCall → K → K → Type 0) (looks makes tries : ℕ) (old new : Option K) : Type 0 where
   pub calls : List KeepCall
   pub asked : KeeperIsCalled asks calls old new
   pub few_looks : sum_by looks_of calls ≤ looks
   pub few_makes : sum_by makes_of calls ≤ makes
+  pub few_tries : sum_by tries_of calls ≤ tries
 
--- in a turn of neighbours to which each call does this there is one look at most, and no more changes are made than the turn took
+-- in a turn of neighbours to which each call does this there is one look at most, no more changes are made than the turn took, and it is
+-- tried once at most to keep them
 abbrev pub AsksLittle : {K N : Type 0} → (NeighbourCall → N → N → Type 0) → (KeepCall → K → K → Type 0) → (N → Option K) → Type 0
-AsksLittle {K} {N} does asks keeper = (t : ServingTurn) (old new : N) → TurnCalls does t old new → IsAskedWithin asks 1 (length (given_by t.made)) (keeper old) (keeper new)
+AsksLittle {K} {N} does asks keeper = (t : ServingTurn) (old new : N) → TurnCalls does t old new → IsAskedWithin asks 1 (length (given_by t.made)) 1 (keeper old) (keeper new)
 
 -- ---- the file of the ends
 
@@ -129,22 +147,28 @@ module _ {D I L : Type 0} (known : Bool) (seen : D → DiskState) (calls : I →
       (call : KeepCall) (old new : Ledger D I L) → makes_of call ≡ 0 → DoesLedger known seen calls lanes_seen port call old new →
       LedgerIsSpared calls (MOST_LOOKS * looks_of call) (looks_of call) old new
 
-abbrev pub SparesIf : {D I L : Type 0} → (I → Option (List FileCall)) → Option (Ledger D I L) → Option (Ledger D I L) → Type 0
+-- as long as a ledger is to come only its folder is tried, once a turn (AsksLittle)
+abbrev pub SparesLate : {D I L F : Type 0} → (I → Option (List FileCall)) → Late D I L F → Late D I L F → Type 0
+SparesLate calls (Open old) (Open new) = LedgerIsSpared calls MOST_LOOKS 1 old new
+SparesLate calls (Open old) (NotYet new) = ⊥
+SparesLate calls (NotYet old) new = Unit {0}
+
+abbrev pub SparesIf : {D I L F : Type 0} → (I → Option (List FileCall)) → Option (Late D I L F) → Option (Late D I L F) → Type 0
 SparesIf calls None new = new ≡ None
 SparesIf calls (Some old) None = ⊥
-SparesIf calls (Some old) (Some new) = LedgerIsSpared calls MOST_LOOKS 1 old new
+SparesIf calls (Some old) (Some new) = SparesLate calls old new
 
 -- so in a turn in which no change is taken
-abbrev pub SparesLedger : {D I L N : Type 0} → (NeighbourCall → N → N → Type 0) → (I → Option (List FileCall)) → (N → Option (Ledger D I L)) → Type 0
-SparesLedger {D} {I} {L} {N} does calls ledger = (t : ServingTurn) (old new : N) → TurnCalls does t old new → t.made ≡ None → SparesIf calls (ledger old) (ledger new)
+abbrev pub SparesLedger : {D I L F N : Type 0} → (NeighbourCall → N → N → Type 0) → (I → Option (List FileCall)) → (N → Option (Late D I L F)) → Type 0
+SparesLedger {D} {I} {L} {F} {N} does calls ledger = (t : ServingTurn) (old new : N) → TurnCalls does t old new → t.made ≡ None → SparesIf calls (ledger old) (ledger new)
 
 -- ---- these may be a house, an early day before one, or one with a lookout between them
 
 module _ {S T D K E : Type 0} (given : S → Option (List ℕ)) (failures tries : S → ℕ) (tried : S → Option (List Tried)) (remaining written : T → Option (List ℕ)) (calls : T → Option (List Call)) (log : D → Option (DoorLog T))
-    (asks : KeepCall → K → K → Type 0) (rows : K → List Row) (path : K → List ℕ) (reads : K → List ℕ → Result Row Why → Type 0) (gives : ℕ → Result (Option Inventory) AllocError → K → Type 0)
+    (asks : KeepCall → K → K → Type 0) (rows : K → List Row) (keeps : K → Bool) (path : K → List ℕ) (reads : K → List ℕ → Result Row Why → Type 0) (gives : ℕ → Result (Option Inventory) AllocError → K → Type 0)
     (known : Bool) (state : E → DiskState) where
   abbrev pub ToHouse : NeighbourCall → House S T D K E → House S T D K E → Type 0
-  ToHouse call old new = DoesToHouse given failures tries tried remaining written calls log asks rows path reads gives known state call old new
+  ToHouse call old new = DoesToHouse given failures tries tried remaining written calls log asks rows keeps path reads gives known state call old new
 
   abbrev pub ToDay : NeighbourCall → EarlyDay (House S T D K E) → EarlyDay (House S T D K E) → Type 0
   ToDay call old new = PassesToOthers ToHouse call old new
@@ -162,15 +186,15 @@ module _ {S T D K E : Type 0} (given : S → Option (List ℕ)) (failures tries 
       TriesEnds ToHouse known state (λ (h : House S T D K E). h.ends)
       × (TriesEnds ToDay known state (λ (d : EarlyDay (House S T D K E)). d.others.ends) × TriesEnds (ToBehind due_by) known state (λ (d : EarlyDay (Behind (House S T D K E) L)). d.others.others.ends))
 
--- a house whose changes are kept by a ledger
-module _ {S T O D I L E : Type 0} (given : S → Option (List ℕ)) (failures tries : S → ℕ) (tried : S → Option (List Tried)) (remaining written : T → Option (List ℕ)) (calls : T → Option (List Call)) (log : O → Option (DoorLog T))
+-- a house whose changes are kept by a ledger, or by one that is to come
+module _ {S T O D I L E : Type 0} (F : Type 0) (given : S → Option (List ℕ)) (failures tries : S → ℕ) (tried : S → Option (List Tried)) (remaining written : T → Option (List ℕ)) (calls : T → Option (List Call)) (log : O → Option (DoorLog T))
     (disk_known : Bool) (seen : D → DiskState) (file_calls : I → Option (List FileCall)) (lanes_seen : L → Lanes) (port : L → ℕ) (known : Bool) (state : E → DiskState) where
   abbrev pub HasLedger : Type 0
-  HasLedger = House S T O (Ledger D I L) E
+  HasLedger = House S T O (Late D I L F) E
 
   abbrev pub ToLedger : NeighbourCall → HasLedger → HasLedger → Type 0
   ToLedger =
-      ToHouse given failures tries tried remaining written calls log (DoesLedger disk_known seen file_calls lanes_seen port) (λ (l : Ledger D I L). (book_in l.state).rows) (λ (l : Ledger D I L). l.state.places.file) (λ (l : Ledger D I L). ReadsTable (book_in l.state).file.system_max) GivesLedger known state
+      ToHouse given failures tries tried remaining written calls log (DoesLate disk_known seen file_calls lanes_seen port) late_rows is_open late_path ReadsLate GivesLate known state
 
   abbrev pub SparesLaw : {M : Type 0} → (ℕ → ℕ → M → ℕ) → Type 0
   SparesLaw {M} due_by =

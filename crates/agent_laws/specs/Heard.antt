@@ -55,10 +55,10 @@ AreBothAlike [] = Unit {0}
 AreBothAlike (call ∷ calls) = IsBothAlike call × AreBothAlike calls
 
 module _ {S T D K E : Type 0} (given : S → Option (List ℕ)) (failures tries : S → ℕ) (tried : S → Option (List Tried)) (remaining written : T → Option (List ℕ)) (calls : T → Option (List Call)) (log : D → Option (DoorLog T))
-    (does : KeepCall → K → K → Type 0) (rows : K → List Row) (path : K → List ℕ) (reads : K → List ℕ → Result Row Why → Type 0) (gives : ℕ → Result (Option Inventory) AllocError → K → Type 0)
+    (does : KeepCall → K → K → Type 0) (rows : K → List Row) (keeps : K → Bool) (path : K → List ℕ) (reads : K → List ℕ → Result Row Why → Type 0) (gives : ℕ → Result (Option Inventory) AllocError → K → Type 0)
     (known : Bool) (state : E → DiskState) where
   abbrev pub Does : NeighbourCall → House S T D K E → House S T D K E → Type 0
-  Does call old new = DoesToHouse given failures tries tried remaining written calls log does rows path reads gives known state call old new
+  Does call old new = DoesToHouse given failures tries tried remaining written calls log does rows keeps path reads gives known state call old new
 
   -- whatever is heard of the one, the other leaves the same
   abbrev pub HeardAlike : Type 0
@@ -67,8 +67,8 @@ module _ {S T D K E : Type 0} (given : S → Option (List ℕ)) (failures tries 
   -- the log's reader, who follows the log, the onlookers and the clients are given the same
   abbrev pub AttendedAlike : Type 0
   AttendedAlike =
-      (a b : Agent) → AgentsAreAlike a b → b.beginnings ≡ a.beginnings → (now : Reading) (goes_on : Bool) (old new : House S T D K E) → Attends given failures tries tried remaining written calls log rows a now goes_on old new →
-      Attends given failures tries tried remaining written calls log rows b now goes_on old new
+      (a b : Agent) → AgentsAreAlike a b → b.beginnings ≡ a.beginnings → (now : Reading) (goes_on : Bool) (old new : House S T D K E) → Attends given failures tries tried remaining written calls log rows keeps a now goes_on old new →
+      Attends given failures tries tried remaining written calls log rows keeps b now goes_on old new
 
   -- so it is in all that goes on, but for the file of the ends, which has a fingerprint of each credential
   abbrev pub GoesOnAlike : Type 0

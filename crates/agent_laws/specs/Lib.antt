@@ -3,3 +3,5 @@ pub mod Disks
 pub mod Alike
 pub mod Acknowledged
 pub mod Heard
+pub mod Decided
+pub mod Keepers

@@ -27,15 +27,15 @@ IsTriedLittle {S} {N} does tries reader = (t : ServingTurn) (old new : N) → Tu
 
 -- these may be a house; a house, and one more, who asks that everything is looked up anew; or both of them, and one who looks ahead
 module _ {S T D K E : Type 0} (given : S → Option (List ℕ)) (failures tries : S → ℕ) (tried : S → Option (List Tried)) (remaining written : T → Option (List ℕ)) (calls : T → Option (List Call)) (log : D → Option (DoorLog T))
-    (does : KeepCall → K → K → Type 0) (rows : K → List Row) (path : K → List ℕ) (reads : K → List ℕ → Result Row Why → Type 0) (gives : ℕ → Result (Option Inventory) AllocError → K → Type 0)
+    (does : KeepCall → K → K → Type 0) (rows : K → List Row) (keeps : K → Bool) (path : K → List ℕ) (reads : K → List ℕ → Result Row Why → Type 0) (gives : ℕ → Result (Option Inventory) AllocError → K → Type 0)
     (known : Bool) (state : E → DiskState) where
   abbrev pub TriesLaw : Type 0
-  TriesLaw = IsTriedLittle (λ (call : NeighbourCall) (old new : House S T D K E). DoesToHouse given failures tries tried remaining written calls log does rows path reads gives known state call old new) tries (λ (h : House S T D K E). h.sink)
+  TriesLaw = IsTriedLittle (λ (call : NeighbourCall) (old new : House S T D K E). DoesToHouse given failures tries tried remaining written calls log does rows keeps path reads gives known state call old new) tries (λ (h : House S T D K E). h.sink)
 
   abbrev pub DayTriesLaw : Type 0
-  DayTriesLaw = IsTriedLittle (λ (call : NeighbourCall) (old new : EarlyDay (House S T D K E)). PassesToOthers (DoesToHouse given failures tries tried remaining written calls log does rows path reads gives known state) call old new) tries (λ (d : EarlyDay (House S T D K E)). d.others.sink)
+  DayTriesLaw = IsTriedLittle (λ (call : NeighbourCall) (old new : EarlyDay (House S T D K E)). PassesToOthers (DoesToHouse given failures tries tried remaining written calls log does rows keeps path reads gives known state) call old new) tries (λ (d : EarlyDay (House S T D K E)). d.others.sink)
 
   abbrev pub BehindTriesLaw : {L : Type 0} → (ℕ → ℕ → L → ℕ) → Type 0
   BehindTriesLaw {L} due_by =
-      IsTriedLittle (λ (call : NeighbourCall) (old new : EarlyDay (Behind (House S T D K E) L)). PassesToOthers (λ (c : NeighbourCall) (a b : Behind (House S T D K E) L). PassesBehind due_by (DoesToHouse given failures tries tried remaining written calls log does rows path reads gives known state) c a b) call old new) tries
+      IsTriedLittle (λ (call : NeighbourCall) (old new : EarlyDay (Behind (House S T D K E) L)). PassesToOthers (λ (c : NeighbourCall) (a b : Behind (House S T D K E) L). PassesBehind due_by (DoesToHouse given failures tries tried remaining written calls log does rows keeps path reads gives known state) c a b) call old new) tries
       (λ (d : EarlyDay (Behind (House S T D K E) L)). d.others.others.sink)

@@ -5,9 +5,9 @@ use Rattle.agent_laws.proofs.laws.a_turn_without_a_change_spares_disks.Goals as 
 
 pub returns : goal.returns
 returns g c = (
-  spares_law _ _ _ _ _ _ _ (asks_law _ _ _ (asked_at _ _ _ _ _ _ _ _ _ _ _ _ _ _ _)),
+  spares_law _ _ _ _ _ _ _ (asks_law _ _ _ (asked_at _ _ _ _ _ _ _ _ _ _ _ _ _ _ _ _)),
   (
-    spares_law _ _ _ _ _ _ _ (asks_law _ _ _ (asked_day _ _ _ _ _ _ _ _ _ _ _ _ _ _ _)),
-    spares_law _ _ _ _ _ _ _ (asks_law _ _ _ (asked_behind _ _ _ _ _ _ _ _ _ _ _ _ _ _ _ _)),
+    spares_law _ _ _ _ _ _ _ (asks_law _ _ _ (asked_day _ _ _ _ _ _ _ _ _ _ _ _ _ _ _ _)),
+    spares_law _ _ _ _ _ _ _ (asks_law _ _ _ (asked_behind _ _ _ _ _ _ _ _ _ _ _ _ _ _ _ _ _)),
   ),
 )
