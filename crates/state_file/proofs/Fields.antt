@@ -8,6 +8,9 @@ use Rattle.state_changes.specs.declared.row.Row.{Row}
 pub same_bytes : (a b : List ℕ) → bytes_eq a b ≡ true → a ≡ b
 same_bytes a b e = (bytes_decides a b).0 e
 
+pub bytes_same : (a b : List ℕ) → a ≡ b → bytes_eq a b ≡ true
+bytes_same a b e = (bytes_decides a b).1 e
+
 pub same_terms : (a b : Terms) → a.issued ≡ b.issued → a.increment ≡ b.increment → a.period ≡ b.period → a.max_ttl ≡ b.max_ttl → a.explicit_max ≡ b.explicit_max → a.reissued ≡ b.reissued → a ≡ b
 same_terms a b issued increment period max_ttl explicit_max reissued =
     let both : ◌≡◌ {A = Terms} (record { issued = a.issued; increment = a.increment; period = a.period; max_ttl = a.max_ttl; explicit_max = a.explicit_max; reissued = a.reissued })

@@ -8,6 +8,8 @@ use Rattle.state_changes.specs.declared.row.Row.{Row}
 use Rattle.state_changes.specs.Listed.{rows_of_served}
 use Rattle.state_changes.specs.Replay.{replayed}
 use Rattle.state_changes.specs.Words.{fingerprint}
+use Rattle.state_file.specs.declared.text.Form.{Form}
+use Rattle.state_file.specs.FileText.{IsFileText}
 use Rattle.state_file.specs.Order.{in_order}
 use Rattle.state_file.specs.Settled.{TextIsSettled}
 
@@ -21,3 +23,8 @@ abbrev pub SettledRowsLaw : Type 0
 SettledRowsLaw = (margin most : Option ℕ) (rows : List Row) (text : List ℕ) (v : Served) → TextIsSettled margin most rows text v
     → (f : File) → f.rows ≡ rows_of_served v → f.mark ≡ fingerprint text
     → (rs : List Record) → GivesRows f rows (rs ++ Settling (fingerprint text) ∷ []) × GivesRows f rows []
+
+-- in each form, rows with a margin and a maximum TTL of the system have one text
+abbrev pub OneFileText : Type 0
+OneFileText = (form : Form) (margin most : Option ℕ) (rows : List Row) (text other : List ℕ) → IsFileText form margin most rows text
+    → IsFileText form margin most rows other → text ≡ other

@@ -12,6 +12,6 @@ mod settling;
 mod text;
 
 pub use fault::{ReadFault, SettleFault};
-pub use laws::settled_rows_stay;
+pub use laws::{rows_have_one_text, settled_rows_stay};
 pub use order::in_order;
 pub use settling::{Settled, settle};

@@ -9,7 +9,8 @@ use vault_inventory::{Need, Terms};
 /// Whether two lists have the same rows in the same order.
 #[tactic(auto, using(crate::proofs::Fields::all_same))]
 pub(crate) fn are_same(rows: &[Row], others: &[Row]) -> bool
-    ensures { result ≡ true → rows.now ≡ others.now }
+    ensures same { result ≡ true → rows.now ≡ others.now }
+    ensures only { rows.now ≡ others.now → result ≡ true }
 {
     if rows.len() != others.len() {
         return false;
@@ -25,7 +26,8 @@ pub(crate) fn are_same(rows: &[Row], others: &[Row]) -> bool
 // Whether two rows are the same.
 #[tactic(auto, using(crate::proofs::Fields::same_row))]
 fn is_same(row: &Row, other: &Row) -> bool
-    ensures { result ≡ true → row.now ≡ other.now }
+    ensures same { result ≡ true → row.now ≡ other.now }
+    ensures only { row.now ≡ other.now → result ≡ true }
 {
     has_same_name(row, other)
         && has_same_life(row, other)
@@ -34,11 +36,12 @@ fn is_same(row: &Row, other: &Row) -> bool
         && has_same_credential(row, other)
 }
 
-#[tactic(auto, using(crate::proofs::Fields::same_bytes))]
+#[tactic(auto, using(crate::proofs::Fields::same_bytes, crate::proofs::Fields::bytes_same))]
 fn has_same_name(row: &Row, other: &Row) -> bool
     ensures name { result ≡ true → row.now.name ≡ other.now.name }
     ensures kind { result ≡ true → row.now.kind ≡ other.now.kind }
     ensures parent { result ≡ true → row.now.parent ≡ other.now.parent }
+    ensures only { row.now ≡ other.now → result ≡ true }
 {
     row.name.list() == other.name.list()
         && is_same_kind(row.kind, other.kind)
@@ -49,21 +52,24 @@ fn has_same_life(row: &Row, other: &Row) -> bool
     ensures told { result ≡ true → row.now.is_told ≡ other.now.is_told }
     ensures end { result ≡ true → row.now.end ≡ other.now.end }
     ensures renewable { result ≡ true → row.now.renewable ≡ other.now.renewable }
+    ensures only { row.now ≡ other.now → result ≡ true }
 {
     row.is_told == other.is_told && row.end == other.end && row.renewable == other.renewable
 }
 
-#[tactic(auto, using(crate::proofs::Fields::same_bytes))]
+#[tactic(auto, using(crate::proofs::Fields::same_bytes, crate::proofs::Fields::bytes_same))]
 fn has_same_credential(row: &Row, other: &Row) -> bool
     ensures credential { result ≡ true → row.now.credential ≡ other.now.credential }
     ensures file { result ≡ true → row.now.file ≡ other.now.file }
+    ensures only { row.now ≡ other.now → result ≡ true }
 {
     row.credential.list() == other.credential.list() && is_same_text(&row.file, &other.file)
 }
 
 #[tactic(auto, using(crate::proofs::Fields::same_terms))]
 fn is_same_terms(terms: &Terms, other: &Terms) -> bool
-    ensures { result ≡ true → terms.now ≡ other.now }
+    ensures same { result ≡ true → terms.now ≡ other.now }
+    ensures only { terms.now ≡ other.now → result ≡ true }
 {
     terms.issued.get() == other.issued.get()
         && is_same_span(terms.increment, other.increment)
@@ -75,7 +81,8 @@ fn is_same_terms(terms: &Terms, other: &Terms) -> bool
 
 /// Whether two durations that may be absent are the same.
 pub(crate) fn is_same_span(span: Option<Span>, other: Option<Span>) -> bool
-    ensures { result ≡ true → span ≡ other }
+    ensures same { result ≡ true → span ≡ other }
+    ensures only { span ≡ other → result ≡ true }
 {
     match (span, other) {
         (None, None) => true,
@@ -85,7 +92,8 @@ pub(crate) fn is_same_span(span: Option<Span>, other: Option<Span>) -> bool
 }
 
 fn is_same_kind(kind: Kind, other: Kind) -> bool
-    ensures { result ≡ true → kind ≡ other }
+    ensures same { result ≡ true → kind ≡ other }
+    ensures only { kind ≡ other → result ≡ true }
 {
     match kind {
         Kind::Token => !other.is_lease(),
@@ -94,7 +102,8 @@ fn is_same_kind(kind: Kind, other: Kind) -> bool
 }
 
 fn is_same_need(need: &Need, other: &Need) -> bool
-    ensures { result ≡ true → need.now ≡ other.now }
+    ensures same { result ≡ true → need.now ≡ other.now }
+    ensures only { need.now ≡ other.now → result ≡ true }
 {
     match need {
         Need::Until(moment) => is_until(moment.get(), other),
@@ -103,7 +112,8 @@ fn is_same_need(need: &Need, other: &Need) -> bool
 }
 
 fn is_until(seconds: u64, need: &Need) -> bool
-    ensures { result ≡ true → need.now ≡ Until seconds }
+    ensures same { result ≡ true → need.now ≡ Until seconds }
+    ensures only { need.now ≡ Until seconds → result ≡ true }
 {
     match need {
         Need::Until(moment) => moment.get() == seconds,
@@ -112,7 +122,8 @@ fn is_until(seconds: u64, need: &Need) -> bool
 }
 
 fn is_always(need: &Need) -> bool
-    ensures { result ≡ true → need.now ≡ Always }
+    ensures same { result ≡ true → need.now ≡ Always }
+    ensures only { need.now ≡ Always → result ≡ true }
 {
     match need {
         Need::Until(_) => false,
@@ -120,9 +131,10 @@ fn is_always(need: &Need) -> bool
     }
 }
 
-#[tactic(auto, using(crate::proofs::Fields::same_bytes))]
+#[tactic(auto, using(crate::proofs::Fields::same_bytes, crate::proofs::Fields::bytes_same))]
 fn is_same_text(text: &Option<Text>, other: &Option<Text>) -> bool
-    ensures { result ≡ true → text.now ≡ other.now }
+    ensures same { result ≡ true → text.now ≡ other.now }
+    ensures only { text.now ≡ other.now → result ≡ true }
 {
     match (text, other) {
         (None, None) => true,

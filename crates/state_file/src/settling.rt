@@ -1,7 +1,9 @@
-ghost use Rattle.std.specs.Prelude.{◌≡◌, ◌≤◌, IfOk, Ok, is_some, length, string_bytes, true, unwrap_or};
-ghost use Rattle.vault_inventory.specs.declared.limits.TheConstants.{MOST_INVENTORY};
+ghost use Rattle.std.specs.Prelude.{◌≡◌, IfErr, IfOk, Ok, is_some, string_bytes, true, unwrap_or};
 ghost use Rattle.vault_inventory.specs.Inventory.{read_served};
+ghost use Rattle.state_file.specs.FileText.{IsPrinted};
+ghost use Rattle.state_file.specs.Order.{in_order};
 ghost use Rattle.state_file.specs.Settled.{TextIsSettled};
+ghost use Rattle.state_file.specs.Unwritten.{IsWhyNoInventory, IsWhyUnprinted, IsWhyUnread, IsWhyUnwritten};
 
 use crate::fault::SettleFault;
 use crate::order::in_order;
@@ -25,14 +27,17 @@ pub struct Settled {
 ///
 /// # Errors
 ///
-/// The first in the order of [`SettleFault`].
+/// The first in the order of [`SettleFault`]. Out of memory tells nothing of the rows.
+#[tactic(auto, using(crate::proofs::Refusing::refusing))]
 pub fn settle(
     alloc: Global,
     margin: Option<u32>,
     system_max: Option<Span>,
     rows: &[Row],
 ) -> Result<Settled, SettleFault>
-    ensures { IfOk result (λ s. TextIsSettled margin system_max rows.now (string_bytes s.text) s.served) }
+    ensures settled { IfOk result (λ s. TextIsSettled margin system_max rows.now (string_bytes s.text) s.served) }
+    ensures text { IfOk result (λ s. IsPrinted margin system_max (in_order rows.now) (string_bytes s.text)) }
+    ensures refused { IfErr result (IsWhyUnwritten margin system_max rows.now) }
 {
     let ordered = in_order(alloc, rows)?;
     let text = print(alloc, margin, system_max, &ordered)?;
@@ -45,13 +50,15 @@ pub fn settle(
 }
 
 // The text of a file that is not too long: in words, or in seconds where only that fits.
+#[tactic(auto, using(crate::proofs::Refusing::printing))]
 fn print(
     alloc: Global,
     margin: Option<u32>,
     system_max: Option<Span>,
     rows: &[Row],
 ) -> Result<String, SettleFault>
-    ensures { IfOk result (λ text. length (string_bytes text) ≤ MOST_INVENTORY) }
+    ensures printed { IfOk result (λ text. IsPrinted margin system_max rows.now (string_bytes text)) }
+    ensures refused { IfErr result (IsWhyUnprinted margin system_max rows.now) }
 {
     let text = file_text(alloc, Form::Words, margin, system_max, rows)?;
     if text.len() <= MOST_INVENTORY {
@@ -65,6 +72,7 @@ fn print(
 }
 
 // What is served by a text that writes that margin and that maximum TTL of the system, or none.
+#[tactic(auto, unfolding(crate::specs::Unwritten::IsWhyUnread, crate::specs::Unwritten::IsWhyNoInventory))]
 fn read_back(
     alloc: Global,
     margin: Option<u32>,
@@ -75,6 +83,7 @@ fn read_back(
     ensures margin { IfOk result (λ served. served.inventory.forest.margin ≡ unwrap_or margin 1) }
     ensures has_margin { IfOk result (λ served. served.has_margin ≡ is_some margin) }
     ensures most { IfOk result (λ served. served.system_max ≡ system_max) }
+    ensures refused { IfErr result (IsWhyUnread margin system_max text.now) }
 {
     let served = read(alloc, text)?;
     if !is_with(margin, &served) || !is_same_span(served.system_max(), system_max) {
@@ -84,8 +93,10 @@ fn read_back(
 }
 
 // What is served by a text.
+#[tactic(auto, unfolding(crate::specs::Unwritten::IsWhyNoInventory))]
 fn read(alloc: Global, text: &[u8]) -> Result<Served, SettleFault>
-    ensures { IfOk result (λ served. read_served text.now ≡ Ok served) }
+    ensures read { IfOk result (λ served. read_served text.now ≡ Ok served) }
+    ensures refused { IfErr result (IsWhyNoInventory text.now) }
 {
     match read_served(alloc, text) {
         Ok(served) => Ok(served),
@@ -98,6 +109,7 @@ fn read(alloc: Global, text: &[u8]) -> Result<Served, SettleFault>
 fn is_with(margin: Option<u32>, served: &Served) -> bool
     ensures margin { result ≡ true → served.now.inventory.forest.margin ≡ unwrap_or margin 1 }
     ensures has_margin { result ≡ true → served.now.has_margin ≡ is_some margin }
+    ensures only { served.now.inventory.forest.margin ≡ unwrap_or margin 1 → served.now.has_margin ≡ is_some margin → result ≡ true }
 {
     served.inventory().forest().margin() == margin.unwrap_or(1)
         && served.has_margin() == margin.is_some()
