@@ -16,7 +16,7 @@ use Rattle.agent_pages.specs.Naming.{beside}
 use Rattle.agent_log.specs.LogDesk.{Desk, HearsWant, ReaderIsGiven}
 use Rattle.agent_log.specs.Feeding.{FollowersGoOn}
 use Rattle.agent_log.specs.Rooms.{Rooms}
-use Rattle.agent_house.specs.Retries.{keeps_in}
+use Rattle.agent_house.specs.Retries.{folder_in}
 use Rattle.agent_house.specs.Houses.{Attends, ClientsGoOn, OnlookersGoOn, around_of, named_in}
 use Rattle.agent_words.specs.Moments.{second_of}
 use Rattle.agent_house.specs.declared.house.House.{House}
@@ -38,18 +38,18 @@ module _ {S T D K E : Type 0} (given : S → Option (List ℕ)) (failures tries 
       → mid ≡ record old { desk = record old.desk { room = record old.desk.room { log = mid.desk.room.log } }; sink = mid.sink }
       → FollowersGoOn mid.desk.form (second_of now.wall) mid.desk.room fed.desk.room mid.control fed.control
       → fed ≡ record mid { desk = record mid.desk { room = fed.desk.room }; control = fed.control }
-      → around ≡ around_of fed.next fed.file (keeps_in keeps fed.state) fed.standby fed.desk.room.log.dropped now.wall → named ≡ named_in rows fed.state
+      → around ≡ around_of fed.next fed.file (folder_in keeps fed.state) fed.standby fed.desk.room.log.dropped now.wall → named ≡ named_in rows fed.state
       → OnlookersGoOn remaining written calls log agent (beside around named) now shown fed.onlookers onlookers
       → ClientsGoOn remaining written calls log agent (beside around named) now answered fed.control control
       → enough ≡ (shown.is_enough && answered.is_enough) → HearsWant agent enough fed.desk desk → goes_on ≡ (is_more || (shown.is_busy || answered.is_busy))
       → Attends given failures tries tried remaining written calls log rows keeps agent now goes_on old (record fed { desk = desk; control = control; onlookers = onlookers })
   attended agent now is_more goes_on enough shown answered old mid fed around named onlookers control desk gives few first follow second around_is named_is show answer both heard more =
       let sink : fed.sink ≡ mid.sink = ap (λ h. h.sink) second in
-      let there : around ≡ around_of old.next old.file (keeps_in keeps old.state) old.standby fed.desk.room.log.dropped now.wall =
-      around_is ∙ ap (λ n. around_of n fed.file (keeps_in keeps fed.state) fed.standby fed.desk.room.log.dropped now.wall) (ap (λ h. h.next) second ∙ ap (λ h. h.next) first)
-      ∙ ap (λ f. around_of old.next f (keeps_in keeps fed.state) fed.standby fed.desk.room.log.dropped now.wall) (ap (λ h. h.file) second ∙ ap (λ h. h.file) first)
-      ∙ ap (λ k. around_of old.next old.file k fed.standby fed.desk.room.log.dropped now.wall) (ap (λ (h : House S T D K E). keeps_in keeps h.state) second ∙ ap (λ (h : House S T D K E). keeps_in keeps h.state) first)
-      ∙ ap (λ s. around_of old.next old.file (keeps_in keeps old.state) s fed.desk.room.log.dropped now.wall) (ap (λ h. h.standby) second ∙ ap (λ h. h.standby) first) in
+      let there : around ≡ around_of old.next old.file (folder_in keeps old.state) old.standby fed.desk.room.log.dropped now.wall =
+      around_is ∙ ap (λ n. around_of n fed.file (folder_in keeps fed.state) fed.standby fed.desk.room.log.dropped now.wall) (ap (λ h. h.next) second ∙ ap (λ h. h.next) first)
+      ∙ ap (λ f. around_of old.next f (folder_in keeps fed.state) fed.standby fed.desk.room.log.dropped now.wall) (ap (λ h. h.file) second ∙ ap (λ h. h.file) first)
+      ∙ ap (λ k. around_of old.next old.file k fed.standby fed.desk.room.log.dropped now.wall) (ap (λ (h : House S T D K E). folder_in keeps h.state) second ∙ ap (λ (h : House S T D K E). folder_in keeps h.state) first)
+      ∙ ap (λ s. around_of old.next old.file (folder_in keeps old.state) s fed.desk.room.log.dropped now.wall) (ap (λ h. h.standby) second ∙ ap (λ h. h.standby) first) in
       let there_too : named ≡ named_in rows old.state =
       named_is ∙ ap (λ (h : House S T D K E). named_in rows h.state) second ∙ ap (λ (h : House S T D K E). named_in rows h.state) first in
       let at_desk : fed.desk ≡ record old.desk { room = fed.desk.room } = ap (λ h. h.desk) second ∙ ap (λ h. record h.desk { room = fed.desk.room }) first in
@@ -67,7 +67,7 @@ module _ {S T D K E : Type 0} (given : S → Option (List ℕ)) (failures tries 
         follow = follows_by mid.desk.form old.desk.form (second_of now.wall) mid.desk.room (record old.desk.room { log = mid.desk.room.log }) fed.desk.room mid.control old.control fed.control
             (ap (λ h. h.desk.form) first) (ap (λ h. h.desk.room) first) (ap (λ h. h.control) first) follow;
         around = beside around named;
-        around_is = ap (λ a. beside a named) there ∙ ap (beside (around_of old.next old.file (keeps_in keeps old.state) old.standby fed.desk.room.log.dropped now.wall)) there_too;
+        around_is = ap (λ a. beside a named) there ∙ ap (beside (around_of old.next old.file (folder_in keeps old.state) old.standby fed.desk.room.log.dropped now.wall)) there_too;
         onlookers = subst (λ o. OnlookersGoOn remaining written calls log agent (beside around named) now shown o onlookers) (ap (λ h. h.onlookers) second ∙ ap (λ h. h.onlookers) first) show;
         clients = answer;
         desk = hears_by enough (shown.is_enough && answered.is_enough) agent (record old.desk { room = fed.desk.room }) desk both (subst (λ d. HearsWant agent enough d desk) at_desk heard);

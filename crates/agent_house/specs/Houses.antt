@@ -19,6 +19,7 @@ use Rattle.base_log.specs.declared.writing.TheConstants.{MOST_TRIES}
 use Rattle.agent_pages.specs.declared.board.FileReading.{FileReading}
 use Rattle.agent_pages.specs.declared.board.Surroundings.{Surroundings}
 use Rattle.agent_pages.specs.declared.standby.Standby.{Standby}
+use Rattle.agent_pages.specs.declared.state_folder.StateFolder.{StateFolder}
 use Rattle.agent_pages.specs.Naming.{Around, beside}
 use Rattle.agent_turns.specs.declared.change.Change.{Change}
 use Rattle.watch_machine.specs.declared.outlook.Next.{Next}
@@ -28,7 +29,7 @@ use Rattle.agent_words.specs.Outcomes.{Outcome}
 use Rattle.agent_log.specs.Lines.{Line}
 use Rattle.agent_words.specs.Moments.{second_of}
 use Rattle.agent_house.specs.Nexts.{next_wake_of}
-use Rattle.agent_house.specs.Retries.{keeps_in}
+use Rattle.agent_house.specs.Retries.{folder_in}
 use Rattle.agent_log.specs.Rooms.{Rooms}
 use Rattle.agent_words.specs.Telling.{IsRefusalFor, IsReplyTo}
 use Rattle.agent_house.specs.declared.given.Given.TheVariants as givens
@@ -36,11 +37,11 @@ use Rattle.agent_house.specs.declared.house.House.{House}
 
 -- ---- what the agent does not know of itself
 
--- what was said last of the next time of an entry, how the inventory's file was last read, whether something keeps changes, how it stands to
--- others, how many lines of the log were dropped, and the wall's clock, in milliseconds
-abbrev pub around_of : Option (Option Next) → FileReading → Bool → Standby → ℕ → ℕ → Surroundings
-around_of next file keeps standby dropped wall =
-    record { wall = wall / 1000; next_wake = next_wake_of next; file = file; keeps_changes = keeps; standby = standby; dropped_lines = dropped; dropped_alerts = 0 }
+-- what was said last of the next time of an entry, how the inventory's file was last read, whether a state folder keeps changes, how it stands
+-- to others, how many lines of the log were dropped, and the wall's clock, in milliseconds
+abbrev pub around_of : Option (Option Next) → FileReading → StateFolder → Standby → ℕ → ℕ → Surroundings
+around_of next file folder standby dropped wall =
+    record { wall = wall / 1000; next_wake = next_wake_of next; file = file; state_folder = folder; standby = standby; dropped_lines = dropped; dropped_alerts = 0 }
 
 -- the entries that the inventory names: those after every change, or, where none is kept yet, those that the start has read
 abbrev pub named_in : {K : Type 0} → (K → List Row) → Option K → List Row
@@ -79,7 +80,7 @@ pub record Attends {S T D K E : Type 0} (given : S → Option (List ℕ)) (failu
   pub few : tries new.sink ≤ tries old.sink + MOST_TRIES
   pub follow : FollowersGoOn old.desk.form (second_of now.wall) (record old.desk.room { log = room }) rooms old.control fed
   pub around : Around
-  pub around_is : around ≡ beside (around_of old.next old.file (keeps_in keeps old.state) old.standby rooms.log.dropped now.wall) (named_in rows old.state)
+  pub around_is : around ≡ beside (around_of old.next old.file (folder_in keeps old.state) old.standby rooms.log.dropped now.wall) (named_in rows old.state)
   pub onlookers : OnlookersGoOn remaining written calls log agent around now shown old.onlookers new.onlookers
   pub clients : ClientsGoOn remaining written calls log agent around now answered fed new.control
   pub desk : HearsWant agent (shown.is_enough && answered.is_enough) (record old.desk { room = rooms }) new.desk

@@ -8,6 +8,8 @@ use Rattle.agent_ledger.specs.declared.keeping.KeepNews.{KeepNews}
 use Rattle.agent_log.specs.AtStart.{AreSaidAtStart}
 use Rattle.agent_log.specs.LogDesk.{Desk}
 use Rattle.agent_pages.specs.declared.board.FileReading.{FileReading}
+use Rattle.agent_pages.specs.declared.state_folder.StateFolder.{StateFolder}
+use Rattle.agent_pages.specs.declared.state_folder.StateFolder.TheVariants.{NotAskedFor, CannotBeUsed, IsOpen}
 use Rattle.base_clock.specs.declared.reading.Reading.{Reading}
 use Rattle.agent_house.specs.declared.house.House.{House}
 
@@ -15,6 +17,15 @@ use Rattle.agent_house.specs.declared.house.House.{House}
 abbrev pub keeps_in : {K : Type 0} → (K → Bool) → Option K → Bool
 keeps_in keeps None = false
 keeps_in keeps (Some keeper) = keeps keeper
+
+-- in a state folder: none was asked for where nobody is there to keep them, and it cannot be used yet where who is there does not
+abbrev pub folder_where : Bool → StateFolder
+folder_where true = IsOpen
+folder_where false = CannotBeUsed
+
+abbrev pub folder_in : {K : Type 0} → (K → Bool) → Option K → StateFolder
+folder_in keeps None = NotAskedFor
+folder_in keeps (Some keeper) = folder_where (keeps keeper)
 
 -- the file was read at this moment, in milliseconds of the wall's clock, and was good, or was not
 abbrev pub read_well : Reading → FileReading

@@ -5,11 +5,11 @@ ghost use Rattle.base_log.specs.declared.writing.TheConstants.{MOST_TRIES};
 ghost use Rattle.agent_log.specs.Feeding.{FollowersGoOn};
 ghost use Rattle.agent_words.specs.Moments.{second_of};
 ghost use Rattle.agent_log.specs.LogDesk.{ReaderIsGiven};
-ghost use Rattle.agent_house.specs.Retries.{keeps_in};
+ghost use Rattle.agent_house.specs.Retries.{folder_in};
 ghost use Rattle.agent_house.specs.Houses.{Attends, ClientsGoOn, OnlookersGoOn, around_of, idle, named_in};
 
 use crate::house::House;
-use crate::keep_news::keeps;
+use crate::keep_news::folder_of;
 use crate::next_time::next_wake_of;
 use agent_answers::{Control, Onlookers, Went};
 use agent_ledger::Keeping;
@@ -67,13 +67,13 @@ impl<S, T: Talk, D: Door<T>, K, E> House<S, T, D, K, E> {
 impl<S, T, D, K: Keeping, E> House<S, T, D, K, E> {
     /// What is around the agent at a moment.
     fn around(&self, now: Reading) -> Surroundings
-        ensures { result ≡ around_of self.now.next self.now.file (keeps_in K.keeps self.now.state) self.now.standby self.now.desk.room.log.dropped now.wall }
+        ensures { result ≡ around_of self.now.next self.now.file (folder_in K.keeps self.now.state) self.now.standby self.now.desk.room.log.dropped now.wall }
     {
         Surroundings {
             wall: now.wall / 1000,
             next_wake: next_wake_of(self.next),
             file: self.file,
-            keeps_changes: keeps(&self.state),
+            state_folder: folder_of(&self.state),
             standby: self.standby,
             dropped_lines: self.desk.room().dropped(),
             dropped_alerts: 0,

@@ -1,12 +1,12 @@
 //! Who does not keep changes yet tries again to.
 ghost use Rattle.std.specs.Prelude.{◌≡◌};
-ghost use Rattle.agent_house.specs.Retries.{KeeperTries, SaysNews, TriesAgain, is_any_asked, keeps_in, read_badly, read_so, read_well};
+ghost use Rattle.agent_house.specs.Retries.{KeeperTries, SaysNews, TriesAgain, folder_in, folder_where, is_any_asked, keeps_in, read_badly, read_so, read_well};
 
 use crate::house::House;
 use agent_answers::Asked;
 use agent_ledger::{KeepNews, Keeping};
 use agent_log::{Desk, say_at_start};
-use agent_pages::FileReading;
+use agent_pages::{FileReading, StateFolder};
 use base_clock::Reading;
 use std::alloc::{AllocError, Global};
 
@@ -66,6 +66,27 @@ pub(crate) fn keeps<K: Keeping>(state: &Option<K>) -> bool
     match state {
         None => false,
         Some(state) => state.keeps(),
+    }
+}
+
+/// Whether a state folder keeps changes over a restart.
+pub(crate) fn folder_of<K: Keeping>(state: &Option<K>) -> StateFolder
+    ensures { result ≡ folder_in K.keeps state.now }
+{
+    match state {
+        None => StateFolder::NotAskedFor,
+        Some(state) => folder_where(state.keeps()),
+    }
+}
+
+// One that was asked for.
+fn folder_where(keeps: bool) -> StateFolder
+    ensures { result ≡ folder_where keeps }
+{
+    if keeps {
+        StateFolder::IsOpen
+    } else {
+        StateFolder::CannotBeUsed
     }
 }
 

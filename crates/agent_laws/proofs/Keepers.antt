@@ -11,6 +11,7 @@ use Rattle.base_disk.specs.State.{DiskState}
 use Rattle.vault_inventory.specs.Inventories.{Inventory}
 use Rattle.watch_machine.specs.declared.outlook.Next.{Next}
 use Rattle.agent_pages.specs.Naming.{beside as around_with}
+use Rattle.agent_pages.specs.declared.state_folder.StateFolder.{StateFolder}
 use Rattle.agent_turns.specs.Neighbours.{AllCalled, Answer, End, Give, GoOn, Hear, Needs, NeighbourCall, Rest, Settle, Step, Thing, Time, Want}
 use Rattle.agent_words.specs.Outcomes.{Why}
 use Rattle.agent_words.specs.Telling.{IsNeedReply}
@@ -19,14 +20,14 @@ use Rattle.agent_house.specs.Commands.{SettlesBy, reach_of_need}
 use Rattle.agent_house.specs.Doing.{HearsOf, HearsServedIf, HouseGoesOn, SettlesChange}
 use Rattle.agent_house.specs.Houses.{Attends, ClientIsSent, around_of, named_in}
 use Rattle.agent_house.specs.Nexts.{HearsNext}
-use Rattle.agent_house.specs.Retries.{keeps_in}
+use Rattle.agent_house.specs.Retries.{folder_in}
 use Rattle.agent_house.specs.declared.given.Given.{Given}
 use Rattle.agent_house.specs.declared.given.Given.TheVariants as givens
 use Rattle.agent_house.specs.declared.house.House.{House}
 use Rattle.agent_laws.specs.Keepers.{AreKeepersBeside, AsksSame, DoesBy, agent_beside, call_beside, house_beside}
 use Rattle.agent_laws.proofs.Asks.{asked_for, settled_given}
 use Rattle.agent_laws.proofs.Heard.{clients, ends_none, heard, heard_ends, onlookers, served_ends, settled, went_on}
-use Rattle.agent_laws.proofs.Kept.{alike_beside, around_beside, asks_for, boards, keeps_same, looked_by, marked_by, named_beside_in, rests_so}
+use Rattle.agent_laws.proofs.Kept.{alike_beside, around_beside, asks_for, boards, folder_same, keeps_same, looked_by, marked_by, named_beside_in, rests_so}
 
 module _ {S T D K E : Type 0} (does : KeepCall → K → K → Type 0) (rows : K → List Row) (keeps : K → Bool) (path : K → List ℕ) (reads : K → List ℕ → Result Row Why → Type 0)
     (gives : ℕ → Result (Option Inventory) AllocError → K → Type 0) (beside : List ℕ → List ℕ) (other : K → K) (h : AreKeepersBeside does rows keeps path reads gives beside other) where
@@ -105,10 +106,10 @@ module _ {S T D K E : Type 0} (does : KeepCall → K → K → Type 0) (rows : K
       around = around_beside beside x.around;
       around_is =
           ap (around_beside beside) x.around_is
-          ∙ ap (λ (l : List Row). around_with (around_of old.next old.file (keeps_in keeps old.state) old.standby x.rooms.log.dropped now.wall) l)
+          ∙ ap (λ (l : List Row). around_with (around_of old.next old.file (folder_in keeps old.state) old.standby x.rooms.log.dropped now.wall) l)
           (sym (named_beside_in does rows keeps path reads gives beside other h old.state))
-          ∙ ap (λ (is : Bool). around_with (around_of old.next old.file is old.standby x.rooms.log.dropped now.wall) (named_in rows (option_map other old.state)))
-          (sym (keeps_same does rows keeps path reads gives beside other h old.state));
+          ∙ ap (λ (folder : StateFolder). around_with (around_of old.next old.file folder old.standby x.rooms.log.dropped now.wall) (named_in rows (option_map other old.state)))
+          (sym (folder_same does rows keeps path reads gives beside other h old.state));
       onlookers = onlookers a a x.around (around_beside beside x.around) (boards beside a x.around) remaining written calls log now x.shown old.onlookers new.onlookers x.onlookers;
       clients = clients a a x.around (around_beside beside x.around) (boards beside a x.around) remaining written calls log now x.answered x.fed new.control x.clients;
       desk = x.desk;

@@ -46,7 +46,7 @@ use Rattle.agent_house.specs.Commands.{AddsIf, AsksFor, AsksIf, AsksToReload, Ca
 use Rattle.agent_house.specs.Houses.{Concludes, WillRefuse, WillTell, named_in}
 use Rattle.agent_house.specs.Looks.{AsksToLook}
 use Rattle.agent_house.specs.Rests.{KeeperRests}
-use Rattle.agent_house.specs.Retries.{KeeperTries, is_any_asked, keeps_in, read_badly, read_well}
+use Rattle.agent_house.specs.Retries.{KeeperTries, folder_in, folder_where, is_any_asked, keeps_in, read_badly, read_well}
 use Rattle.agent_house.specs.declared.given.Awaited.{Awaited}
 use Rattle.agent_house.specs.declared.given.Given.{Given}
 use Rattle.agent_house.specs.declared.given.Given.TheVariants as givens
@@ -212,6 +212,10 @@ module _ {K : Type 0} (does : KeepCall → K → K → Type 0) (rows : K → Lis
   pub keeps_same : (k : Option K) → keeps_in keeps (option_map other k) ≡ keeps_in keeps k
   keeps_same None = refl
   keeps_same (Some k) = h.still k
+
+  pub folder_same : (k : Option K) → folder_in keeps (option_map other k) ≡ folder_in keeps k
+  folder_same None = refl
+  folder_same (Some k) = ap folder_where (h.still k)
 
   path_same : (k : Option K) → path_if_kept path (option_map other k) ≡ path_if_kept path k
   path_same None = refl

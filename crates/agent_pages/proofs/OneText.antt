@@ -2,6 +2,7 @@
 use Rattle.std.proofs.Common.{◌≡◌, ◌∙◌, ℕ, List, [], ◌∷◌, ◌++◌, Bool, true, false, ap, sym}
 use Rattle.base_moment.proofs.Moments.{one_date_text}
 use Rattle.agent_pages.specs.Answers.{IsAnswer, IsBody, IsPage, IsShown, IsTold, OneAnswer, OneTold, health_code, sent_to}
+use Rattle.agent_pages.specs.Folders.{folder_line}
 use Rattle.agent_pages.specs.Health.{IsMissingLine, IsMissingLineIf, SaysWhyMoment, is_healthy, is_missing, missing_line}
 use Rattle.agent_pages.specs.Lines.{AreEntryLines, IsEntryLine, IsHealthIf, IsHealthText, IsStandingText}
 use Rattle.agent_pages.specs.Points.{SaysPoint, point_at, point_of}
@@ -13,7 +14,6 @@ use Rattle.agent_pages.specs.declared.asked.Page.TheVariants.{Metrics, Health, L
 use Rattle.agent_pages.specs.declared.asked.Question.TheVariants.{Read, Unread, TooLong}
 use Rattle.agent_pages.specs.declared.board.Board.{Board}
 use Rattle.agent_pages.specs.declared.board.Row.{Row}
-use Rattle.agent_pages.specs.declared.family.Format.TheVariants.{Prometheus, OpenMetrics}
 use Rattle.agent_pages.specs.declared.lines.Lines.{Lines}
 use Rattle.agent_pages.specs.declared.lines.Lines.TheVariants.{Standing, Missing}
 use Rattle.agent_pages.specs.declared.point.Point.{Point}
@@ -74,14 +74,13 @@ one_health_if false b text other x y = one_lines (Missing b.broker_now) b.rows t
 
 one_health : (b : Board) (text other : List ℕ) → IsHealthText b text → IsHealthText b other → text ≡ other
 unfolding IsHealthText
-one_health b text other x y = one_health_if (is_healthy b) b text other x y
+one_health b text other (x, px, is) (y, py, js) = is ∙ ap (λ z. z ++ folder_line b.surroundings.state_folder) (one_health_if (is_healthy b) b x y px py) ∙ sym js
 
 -- ---- pages
 
 one_page : (b : Board) (page : Page) (s t : Shown) → IsPage b page s → IsPage b page t → s ≡ t
 unfolding IsPage
-one_page b (Metrics Prometheus) s t x y = x ∙ sym y
-one_page b (Metrics OpenMetrics) s t x y = x ∙ sym y
+one_page b (Metrics format) s t x y = x ∙ sym y
 one_page b Health s t (u, pu, is) (v, pv, js) =
     let shown : List ℕ → Shown = λ body. record { code = health_code b; content = contents.Plain; body = body } in
     is ∙ ap shown (one_health b u v pu pv) ∙ sym js

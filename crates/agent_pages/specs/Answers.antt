@@ -31,19 +31,15 @@ code_words codes_of.HeadTooLong = codes "431 Request Header Fields Too Large"
 code_words codes_of.Unavailable = codes "503 Service Unavailable"
 
 unfoldable pub content_words : Content → List ℕ
-content_words contents.Prometheus = codes "text/plain; version=0.0.4; charset=utf-8"
-content_words contents.OpenMetrics = codes "application/openmetrics-text; version=1.0.0; charset=utf-8"
+content_words (contents.Metrics Prometheus) = codes "text/plain; version=0.0.4; charset=utf-8"
+content_words (contents.Metrics OpenMetrics) = codes "application/openmetrics-text; version=1.0.0; charset=utf-8"
 content_words contents.Json = codes "application/json"
 content_words contents.Plain = codes "text/plain; charset=utf-8"
 
 -- the methods that are answered, where another one was asked with
 abbrev pub allow_line : Code → List ℕ
-allow_line codes_of.Good = []
-allow_line codes_of.BadRequest = []
-allow_line codes_of.NotFound = []
 allow_line codes_of.MethodNotAllowed = codes "Allow: GET, HEAD\r\n"
-allow_line codes_of.HeadTooLong = []
-allow_line codes_of.Unavailable = []
+allow_line code = []
 
 unfoldable pub head_text : Shown → List ℕ
 head_text s =
@@ -67,8 +63,7 @@ abbrev pub IsHealthPage : Board → Shown → Type 0
 IsHealthPage b shown = (text : List ℕ) × IsHealthText b text × (shown ≡ record { code = health_code b; content = contents.Plain; body = text })
 
 unfoldable pub IsPage : Board → Page → Shown → Type 0
-IsPage b (Metrics Prometheus) shown = shown ≡ shown_well contents.Prometheus (metrics_text Prometheus b)
-IsPage b (Metrics OpenMetrics) shown = shown ≡ shown_well contents.OpenMetrics (metrics_text OpenMetrics b)
+IsPage b (Metrics format) shown = shown ≡ shown_well (contents.Metrics format) (metrics_text format b)
 IsPage b Health shown = IsHealthPage b shown
 IsPage b Listing shown = shown ≡ shown_well contents.Json (listing_text b)
 IsPage b Nowhere shown = shown ≡ bare codes_of.NotFound
@@ -87,13 +82,10 @@ IsShown b Other Nowhere shown = shown ≡ bare codes_of.NotFound
 abbrev pub whole_answer : Shown → Answer
 whole_answer s = record { head = head_text s; body = s.body }
 
--- the head alone, which tells of the body that GET would be sent
-abbrev pub headed : Shown → Answer
-headed s = record { head = head_text s; body = [] }
-
+-- HEAD gets the head alone, which tells of the body that GET would be sent
 abbrev pub sent_to : Method → Shown → Answer
 sent_to Get s = whole_answer s
-sent_to Head s = headed s
+sent_to Head s = record { head = head_text s; body = [] }
 sent_to Other s = whole_answer s
 
 unfoldable pub IsAnswer : Board → Question → Answer → Type 0

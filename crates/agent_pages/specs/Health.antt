@@ -29,27 +29,16 @@ why_words Kept = codes "kept"
 
 -- the moment that follows: the end that is past, or until when the entry can be kept
 abbrev pub SaysWhyMoment : State → Row → List ℕ → Type 0
-SaysWhyMoment Gone row text = text ≡ []
 SaysWhyMoment Ended row text = SaysPoint (point_of row.end) text
-SaysWhyMoment Waiting row text = text ≡ []
 SaysWhyMoment Short row text = SaysPoint (point_at row.in_force) text
-SaysWhyMoment Unknown row text = text ≡ []
-SaysWhyMoment Trying row text = text ≡ []
-SaysWhyMoment Kept row text = text ≡ []
+SaysWhyMoment state row text = text ≡ []
 
 unfoldable pub needed_words : ℕ → List ℕ
 needed_words need = if nat_lt need LAST then codes ", and is needed until " else codes ", and is needed "
 
--- why an entry is not kept, and until when it is needed, with these texts of the moments
-unfoldable pub state_text : Row → List ℕ → List ℕ
-state_text row moment = why_words row.state ++ moment
-
-unfoldable pub needed_text : ℕ → List ℕ → List ℕ
-needed_text need moment = needed_words need ++ moment
-
 -- the line of an entry, where these are the text of the moment that follows why it is not kept, and that of its need
 unfoldable pub missing_line : Row → List ℕ → List ℕ → List ℕ
-missing_line row why need = row.name ++ codes " " ++ state_text row why ++ needed_text row.carried need ++ codes "\n"
+missing_line row why need = row.name ++ codes " " ++ (why_words row.state ++ why) ++ (needed_words row.carried ++ need) ++ codes "\n"
 
 abbrev pub IsMissingLine : Row → List ℕ → Type 0
 IsMissingLine row line =

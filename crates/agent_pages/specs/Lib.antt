@@ -1,5 +1,6 @@
 pub mod States
 pub mod Standby
+pub mod Folders
 pub mod Naming
 pub mod Waiting
 pub mod Board

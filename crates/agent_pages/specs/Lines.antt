@@ -1,6 +1,7 @@
 -- Lines: the status and health as lines for people, with dates in UTC.
 -- Source: this project's own, docs/running.md, "What the operator sees".
 use Rattle.std.specs.Prelude.{◌≡◌, ℕ, Bool, true, false, List, [], ◌∷◌, ◌++◌, codes}
+use Rattle.agent_pages.specs.Folders.{folder_line}
 use Rattle.agent_pages.specs.Health.{IsMissingLineIf, is_healthy, is_missing}
 use Rattle.agent_pages.specs.Points.{SaysPoint, point_of}
 use Rattle.agent_pages.specs.Standing.{IsStandingLine, first_line}
@@ -23,10 +24,11 @@ unfoldable pub IsStandingText : Board → List ℕ → Type 0
 IsStandingText b text =
     (next rows : List ℕ) × SaysPoint (point_of b.surroundings.next_wake) next × AreEntryLines Standing b.rows rows × (text ≡ first_line b next ++ rows)
 
--- one line where all is kept that is needed, else a line for each entry that is not
+-- of the entries: one line where all is kept that is needed, else a line for each that is not
 abbrev pub IsHealthIf : Bool → Board → List ℕ → Type 0
 IsHealthIf true b text = text ≡ codes "every needed entry is kept\n"
 IsHealthIf false b text = AreEntryLines (Missing b.broker_now) b.rows text
 
+-- and then what is said of the state folder
 unfoldable pub IsHealthText : Board → List ℕ → Type 0
-IsHealthText b text = IsHealthIf (is_healthy b) b text
+IsHealthText b text = (entries : List ℕ) × IsHealthIf (is_healthy b) b entries × (text ≡ entries ++ folder_line b.surroundings.state_folder)

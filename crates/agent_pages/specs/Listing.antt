@@ -1,20 +1,14 @@
 -- Listing: how the agent and each entry stand, as one text of JSON.
 -- Source: RFC 8259; the members are this project's own. Moments are seconds since 1970-01-01T00:00:00Z.
-use Rattle.std.specs.Prelude.{ℕ, Bool, true, false, List, [], ◌∷◌, ◌++◌, Option, Some, None, codes, decimal}
+use Rattle.std.specs.Prelude.{ℕ, List, [], ◌∷◌, ◌++◌, Option, Some, None, codes, decimal}
 use Rattle.agent_standing.specs.declared.standing.Trouble.{Trouble}
 use Rattle.agent_standing.specs.declared.standing.Trouble.TheVariants as troubles
 use Rattle.vault_inventory.specs.Kinds.{kind_word}
 use Rattle.agent_pages.specs.declared.board.Board.{Board}
 use Rattle.agent_pages.specs.declared.board.Row.{Row}
-use Rattle.agent_pages.specs.declared.board.Surroundings.{Surroundings}
-use Rattle.agent_pages.specs.declared.listing.Member.{Member}
-use Rattle.agent_pages.specs.declared.listing.Member.TheVariants as members
 use Rattle.agent_pages.specs.Escapes.{json_value}
+use Rattle.agent_pages.specs.Standby.{standby_word}
 use Rattle.agent_pages.specs.States.{state_word}
-
-abbrev pub number_or_null : Option ℕ → List ℕ
-number_or_null None = codes "null"
-number_or_null (Some n) = decimal n
 
 abbrev pub trouble_word : Option Trouble → List ℕ
 trouble_word None = codes "null"
@@ -29,33 +23,19 @@ words_text row =
     ++ codes "\",\"wrong\":" ++ trouble_word row.trouble
 
 -- a member with a number, its name first
-unfoldable pub member_name : Member → List ℕ
-member_name members.Now = codes ",\"now\":"
-member_name members.NextWake = codes ",\"next_wake\":"
-member_name members.Beginnings = codes ",\"beginnings\":"
-member_name members.Margin = codes ",\"margin\":"
-member_name members.End = codes ",\"end\":"
-member_name members.Need = codes ",\"need\":"
-member_name members.Carried = codes ",\"carried\":"
-member_name members.InForce = codes ",\"in_force\":"
-member_name members.LastSuccess = codes ",\"last_success\":"
-member_name members.Granted = codes ",\"granted\":"
-member_name members.Refused = codes ",\"refused\":"
-member_name members.Lost = codes ",\"lost\":"
+unfoldable pub member_text : List ℕ → Option ℕ → List ℕ
+member_text name None = name ++ codes "null"
+member_text name (Some n) = name ++ decimal n
 
-unfoldable pub member_text : Member → Option ℕ → List ℕ
-member_text name number = member_name name ++ number_or_null number
-
-unfoldable pub moments_text : Row → List ℕ
-moments_text row =
-    member_text members.End row.end ++ member_text members.Need (Some row.need) ++ member_text members.Carried (Some row.carried)
-    ++ member_text members.InForce (Some row.in_force) ++ member_text members.LastSuccess row.last_success
-
-unfoldable pub renewals_text : Row → List ℕ
-renewals_text row = member_text members.Granted (Some row.granted) ++ member_text members.Refused (Some row.refused) ++ member_text members.Lost (Some row.lost) ++ codes "}"
+unfoldable pub numbers_text : Row → List ℕ
+numbers_text row =
+    member_text (codes ",\"end\":") row.end ++ member_text (codes ",\"need\":") (Some row.need) ++ member_text (codes ",\"carried\":") (Some row.carried)
+    ++ member_text (codes ",\"in_force\":") (Some row.in_force) ++ member_text (codes ",\"last_success\":") row.last_success
+    ++ member_text (codes ",\"granted\":") (Some row.granted) ++ member_text (codes ",\"refused\":") (Some row.refused)
+    ++ member_text (codes ",\"lost\":") (Some row.lost) ++ codes "}"
 
 unfoldable pub board_row_text : Row → List ℕ
-board_row_text row = words_text row ++ moments_text row ++ renewals_text row
+board_row_text row = words_text row ++ numbers_text row
 
 -- each row after a comma
 abbrev pub more_rows : List Row → List ℕ
@@ -66,18 +46,13 @@ unfoldable pub rows_text : List Row → List ℕ
 rows_text [] = []
 rows_text (row ∷ rows) = board_row_text row ++ more_rows rows
 
-unfoldable pub entries_name : List ℕ
-entries_name = codes ",\"entries\":["
+-- the numbers of the agent
+unfoldable pub agent_numbers : Board → List ℕ
+agent_numbers b =
+    member_text (codes "\",\"now\":") (Some b.broker_now) ++ member_text (codes ",\"next_wake\":") b.surroundings.next_wake
+    ++ member_text (codes ",\"beginnings\":") (Some b.beginnings) ++ member_text (codes ",\"margin\":") (Some b.margin)
 
--- whether the agent is the first, or stands behind another: the first member
-abbrev pub standby_member : Bool → List ℕ
-standby_member true = codes "{\"standby\":\"behind\""
-standby_member false = codes "{\"standby\":\"first\""
-
-unfoldable pub front_text : Board → List ℕ
-front_text b =
-    standby_member b.surroundings.standby.is_behind ++ member_text members.Now (Some b.broker_now) ++ member_text members.NextWake b.surroundings.next_wake
-    ++ member_text members.Beginnings (Some b.beginnings) ++ member_text members.Margin (Some b.margin) ++ entries_name
-
+-- whether the agent is the first, or stands behind another, its numbers, and the entries
 unfoldable pub listing_text : Board → List ℕ
-listing_text b = front_text b ++ rows_text b.rows ++ codes "]}\n"
+listing_text b =
+    codes "{\"standby\":\"" ++ standby_word b.surroundings.standby.is_behind ++ agent_numbers b ++ codes ",\"entries\":[" ++ rows_text b.rows ++ codes "]}\n"

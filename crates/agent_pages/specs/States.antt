@@ -30,20 +30,6 @@ state_word Kept = codes "kept"
 
 -- an entry that lives and is asked again is kept
 abbrev pub is_kept : State → Bool
-is_kept Gone = false
-is_kept Ended = false
-is_kept Waiting = false
-is_kept Short = false
-is_kept Unknown = false
 is_kept Trying = true
 is_kept Kept = true
-
-abbrev pub is_same_state : State → State → Bool
-is_same_state Gone Gone = true
-is_same_state Ended Ended = true
-is_same_state Waiting Waiting = true
-is_same_state Short Short = true
-is_same_state Unknown Unknown = true
-is_same_state Trying Trying = true
-is_same_state Kept Kept = true
-is_same_state a b = false
+is_kept state = false

@@ -1,6 +1,6 @@
 //! What is sent.
 ghost use Rattle.std.specs.Prelude.{◌≡◌, IfOk};
-ghost use Rattle.agent_pages.specs.Answers.{IsAnswer, headed, sent_to, whole_answer};
+ghost use Rattle.agent_pages.specs.Answers.{IsAnswer, sent_to, whole_answer};
 
 use crate::asked::{Method, Question};
 use crate::board::Board;
@@ -34,12 +34,16 @@ pub fn answer_to(alloc: Global, board: &Board, question: Question) -> Result<Ans
     }
 }
 
+/// The head and the body, to `HEAD` the head alone.
 fn sent_to(alloc: Global, method: Method, shown: Shown) -> Result<Answer, AllocError>
     ensures { IfOk result (λ answer. answer ≡ sent_to method shown) }
 {
     match method {
         Method::Get | Method::Other => whole(alloc, shown),
-        Method::Head => headed(alloc, &shown),
+        Method::Head => Ok(Answer {
+            head: shown.head(alloc)?,
+            body: Text::from_vec(Vec::new(alloc)),
+        }),
     }
 }
 
@@ -51,15 +55,5 @@ fn whole(alloc: Global, shown: Shown) -> Result<Answer, AllocError>
     Ok(Answer {
         head,
         body: shown.body,
-    })
-}
-
-/// The head alone.
-fn headed(alloc: Global, shown: &Shown) -> Result<Answer, AllocError>
-    ensures { IfOk result (λ answer. answer ≡ headed shown.now) }
-{
-    Ok(Answer {
-        head: shown.head(alloc)?,
-        body: Text::from_vec(Vec::new(alloc)),
     })
 }

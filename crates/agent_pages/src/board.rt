@@ -1,6 +1,7 @@
 //! What onlookers are shown. There is no credential in it.
 use crate::standby::Standby;
 use crate::state::State;
+use crate::state_folder::StateFolder;
 use agent_standing::Trouble;
 use base_moment::Name;
 use plan_forest::{Kind, Listed};
@@ -26,7 +27,7 @@ pub struct Surroundings {
     /// How the inventory's file was last read.
     pub file: FileReading,
     /// Whether changes are kept over a restart.
-    pub keeps_changes: bool,
+    pub state_folder: StateFolder,
     /// How it stands to others that serve the same inventory.
     pub standby: Standby,
     /// How many lines of the log were dropped.

@@ -1,11 +1,4 @@
-//! Families of samples: the lines that tell of one, and a sample.
-ghost use Rattle.std.specs.Prelude.{◌≡◌, ◌++◌, OnOk};
-ghost use Rattle.agent_pages.specs.Metrics.{family_head, family_kind_word, family_name, help_line, help_of, kind_of_family, name_of_family, prefix, sample, sample_name, sample_of, total_of, type_line};
-
-use crate::column::Column;
-use crate::figure::{FamilyKind, Figure};
-use base_words::push_number;
-use std::alloc::{AllocError, Global};
+//! The families of samples: what each tells, in the order in which they are told.
 
 /// The text in which metrics are told.
 ///
@@ -16,166 +9,192 @@ pub enum Format {
     OpenMetrics,
 }
 
-/// A family of samples.
+/// What the samples of a family are.
+///
+/// Source: Prometheus, "Metric types"; OpenMetrics 1.0, "Metric Types".
 #[derive(Clone, Copy, Debug)]
-pub(crate) enum Family {
-    /// One of the agent as a whole.
+pub(crate) enum FamilyKind {
+    /// Numbers that go up and down.
+    Gauge,
+    /// Numbers that only go up while the agent runs.
+    Counter,
+}
+
+/// What a family tells.
+#[derive(Clone, Copy, Debug)]
+pub(crate) enum Tells {
+    /// What the build is.
+    Build,
+    /// How far the broker's clock is ahead.
+    ClockOffset,
+    /// A number of the agent, where it is known.
     Agent(Figure),
-    /// One that has samples of each entry.
+    /// Something of each entry.
     Entry(Column),
 }
 
-impl Family {
-    fn kind(self) -> FamilyKind
-        ensures { result ≡ kind_of_family self }
-    {
-        match self {
-            Family::Agent(figure) => figure.kind(),
-            Family::Entry(column) => column.kind(),
-        }
-    }
-
-    fn name(self) -> &'static str
-        ensures { result.now ≡ name_of_family self }
-    {
-        match self {
-            Family::Agent(figure) => figure.name(),
-            Family::Entry(column) => column.name(),
-        }
-    }
-
-    fn help(self) -> &'static str
-        ensures { result.now ≡ help_of self }
-    {
-        match self {
-            Family::Agent(figure) => figure.help(),
-            Family::Entry(column) => column.help(),
-        }
-    }
+/// A number of the agent.
+#[derive(Clone, Copy, Debug)]
+pub(crate) enum Figure {
+    Written,
+    NextWake,
+    Margin,
+    FileIsGood,
+    FileRead,
+    FileReadGood,
+    ChangesAreKept,
+    Beginnings,
+    DroppedLines,
+    DroppedAlerts,
+    Behind,
+    LookedAhead,
+    SteppedIn,
 }
 
-/// Appends the lines that tell of a family.
-#[tactic(auto, unfolding(crate::specs::Metrics::family_head))]
-pub(crate) fn push_head(
-    format: Format,
-    family: Family,
-    text: &mut Vec<u8>,
-) -> Result<(), AllocError>
-    ensures { OnOk result (text.new.items ≡ text.old.items ++ family_head format family) }
-{
-    match format {
-        Format::Prometheus => {
-            push_help(Format::Prometheus, family, text)?;
-            push_type(Format::Prometheus, family, text)
-        }
-        Format::OpenMetrics => {
-            push_type(Format::OpenMetrics, family, text)?;
-            push_help(Format::OpenMetrics, family, text)
-        }
-    }
+/// What is told of each entry.
+#[derive(Clone, Copy, Debug)]
+pub(crate) enum Column {
+    State,
+    End,
+    NeedWanted,
+    NeedCarried,
+    NeedInForce,
+    LastSuccess,
+    Renewals,
 }
 
-#[tactic(auto, unfolding(crate::specs::Metrics::help_line))]
-fn push_help(format: Format, family: Family, text: &mut Vec<u8>) -> Result<(), AllocError>
-    ensures { OnOk result (text.new.items ≡ text.old.items ++ help_line format family) }
-{
-    text.extend_from_slice(b"# HELP ")?;
-    push_family_name(format, family, text)?;
-    text.extend_from_slice(b" ")?;
-    text.extend_from_slice(family.help().as_bytes())?;
-    text.extend_from_slice(b"\n")
-}
-
-#[tactic(auto, unfolding(crate::specs::Metrics::type_line))]
-fn push_type(format: Format, family: Family, text: &mut Vec<u8>) -> Result<(), AllocError>
-    ensures { OnOk result (text.new.items ≡ text.old.items ++ type_line format family) }
-{
-    text.extend_from_slice(b"# TYPE ")?;
-    push_family_name(format, family, text)?;
-    text.extend_from_slice(b" ")?;
-    text.extend_from_slice(kind_word(family.kind()).as_bytes())?;
-    text.extend_from_slice(b"\n")
-}
-
-#[tactic(auto, unfolding(crate::specs::Metrics::family_name))]
-fn push_family_name(format: Format, family: Family, text: &mut Vec<u8>) -> Result<(), AllocError>
-    ensures { OnOk result (text.new.items ≡ text.old.items ++ family_name format family) }
-{
-    match format {
-        Format::Prometheus => push_sample_name(family, text),
-        Format::OpenMetrics => {
-            text.extend_from_slice(prefix().as_bytes())?;
-            text.extend_from_slice(family.name().as_bytes())
-        }
-    }
-}
-
-/// Appends the name of a family's samples.
-#[tactic(auto, unfolding(crate::specs::Metrics::sample_name))]
-pub(crate) fn push_sample_name(family: Family, text: &mut Vec<u8>) -> Result<(), AllocError>
-    ensures { OnOk result (text.new.items ≡ text.old.items ++ sample_name family) }
-{
-    text.extend_from_slice(prefix().as_bytes())?;
-    text.extend_from_slice(family.name().as_bytes())?;
-    text.extend_from_slice(total_of(family.kind()).as_bytes())
-}
-
-/// What every name begins with.
-#[tactic(auto, unfolding(crate::specs::Metrics::prefix))]
-fn prefix() -> &'static str
-    ensures { result.now ≡ prefix }
-{
-    "leasekeep_"
-}
-
-fn total_of(kind: FamilyKind) -> &'static str
-    ensures { result.now ≡ total_of kind }
-{
-    match kind {
-        FamilyKind::Gauge => "",
-        FamilyKind::Counter => "_total",
-    }
-}
-
-fn kind_word(kind: FamilyKind) -> &'static str
-    ensures { result.now ≡ family_kind_word kind }
-{
-    match kind {
-        FamilyKind::Gauge => "gauge",
-        FamilyKind::Counter => "counter",
-    }
-}
-
-/// Appends a sample, where its number is known.
-pub(crate) fn push_sample_of(
-    alloc: Global,
-    family: Family,
-    labels: &[u8],
-    value: Option<u64>,
-    text: &mut Vec<u8>,
-) -> Result<(), AllocError>
-    ensures { OnOk result (text.new.items ≡ text.old.items ++ sample_of family labels.now value) }
-{
-    match value {
-        None => Ok(()),
-        Some(value) => push_sample(alloc, family, labels, value, text),
-    }
-}
-
-/// Appends a sample.
-#[tactic(auto, unfolding(crate::specs::Metrics::sample))]
-pub(crate) fn push_sample(
-    alloc: Global,
-    family: Family,
-    labels: &[u8],
-    value: u64,
-    text: &mut Vec<u8>,
-) -> Result<(), AllocError>
-    ensures { OnOk result (text.new.items ≡ text.old.items ++ sample family labels.now value) }
-{
-    push_sample_name(family, text)?;
-    text.extend_from_slice(labels)?;
-    text.extend_from_slice(b" ")?;
-    push_number(alloc, value, text)?;
-    text.extend_from_slice(b"\n")
-}
+/// All families: the name of each, without `_total`, its kind, what it tells, and its help.
+pub(crate) const FAMILIES: [(&str, FamilyKind, Tells, &str); 22] = [
+    (
+        "leasekeep_build_info",
+        FamilyKind::Gauge,
+        Tells::Build,
+        "1, with the version and whether its build was proved.",
+    ),
+    (
+        "leasekeep_metrics_written_timestamp_seconds",
+        FamilyKind::Gauge,
+        Tells::Agent(Figure::Written),
+        "When these figures were written.",
+    ),
+    (
+        "leasekeep_next_wake_timestamp_seconds",
+        FamilyKind::Gauge,
+        Tells::Agent(Figure::NextWake),
+        "The next wake-up.",
+    ),
+    (
+        "leasekeep_margin_seconds",
+        FamilyKind::Gauge,
+        Tells::Agent(Figure::Margin),
+        "How long before its end an entry is renewed.",
+    ),
+    (
+        "leasekeep_clock_offset_seconds",
+        FamilyKind::Gauge,
+        Tells::ClockOffset,
+        "How far the broker's clock is ahead of this machine's, where they differ.",
+    ),
+    (
+        "leasekeep_config_last_reload_successful",
+        FamilyKind::Gauge,
+        Tells::Agent(Figure::FileIsGood),
+        "Whether the inventory's file was good when it was last read.",
+    ),
+    (
+        "leasekeep_config_last_reload_timestamp_seconds",
+        FamilyKind::Gauge,
+        Tells::Agent(Figure::FileRead),
+        "When the file was last read.",
+    ),
+    (
+        "leasekeep_config_last_reload_success_timestamp_seconds",
+        FamilyKind::Gauge,
+        Tells::Agent(Figure::FileReadGood),
+        "When the file was last read and good.",
+    ),
+    (
+        "leasekeep_changes_kept",
+        FamilyKind::Gauge,
+        Tells::Agent(Figure::ChangesAreKept),
+        "Whether changes are kept over a restart.",
+    ),
+    (
+        "leasekeep_beginnings",
+        FamilyKind::Counter,
+        Tells::Agent(Figure::Beginnings),
+        "Beginnings: everything is looked up.",
+    ),
+    (
+        "leasekeep_log_dropped_lines",
+        FamilyKind::Counter,
+        Tells::Agent(Figure::DroppedLines),
+        "Log lines that nobody took.",
+    ),
+    (
+        "leasekeep_alerts_dropped",
+        FamilyKind::Counter,
+        Tells::Agent(Figure::DroppedAlerts),
+        "Warnings and alerts that no program was run with.",
+    ),
+    (
+        "leasekeep_behind",
+        FamilyKind::Gauge,
+        Tells::Agent(Figure::Behind),
+        "Whether this agent stands behind another.",
+    ),
+    (
+        "leasekeep_looked_ahead",
+        FamilyKind::Counter,
+        Tells::Agent(Figure::LookedAhead),
+        "Later ends that were found by looking ahead.",
+    ),
+    (
+        "leasekeep_stepped_in",
+        FamilyKind::Counter,
+        Tells::Agent(Figure::SteppedIn),
+        "Times that this agent stepped in for the one in front.",
+    ),
+    (
+        "leasekeep_state",
+        FamilyKind::Gauge,
+        Tells::Entry(Column::State),
+        "1 for the state that the entry is in, 0 for the others.",
+    ),
+    (
+        "leasekeep_end_timestamp_seconds",
+        FamilyKind::Gauge,
+        Tells::Entry(Column::End),
+        "The end of the entry, as far as it is known.",
+    ),
+    (
+        "leasekeep_need_wanted_timestamp_seconds",
+        FamilyKind::Gauge,
+        Tells::Entry(Column::NeedWanted),
+        "Until when the entry is needed, 0 where it is not.",
+    ),
+    (
+        "leasekeep_need_carried_timestamp_seconds",
+        FamilyKind::Gauge,
+        Tells::Entry(Column::NeedCarried),
+        "Until when the entry is needed, by itself or by one under it.",
+    ),
+    (
+        "leasekeep_need_in_force_timestamp_seconds",
+        FamilyKind::Gauge,
+        Tells::Entry(Column::NeedInForce),
+        "Until when the entry can be kept, as far as is known, 0 where it is gone, has ended or waits.",
+    ),
+    (
+        "leasekeep_last_success_timestamp_seconds",
+        FamilyKind::Gauge,
+        Tells::Entry(Column::LastSuccess),
+        "When the entry was last renewed.",
+    ),
+    (
+        "leasekeep_renewals",
+        FamilyKind::Counter,
+        Tells::Entry(Column::Renewals),
+        "Renewals, by what came of them.",
+    ),
+];

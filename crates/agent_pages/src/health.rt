@@ -1,7 +1,7 @@
 //! Whether all that is needed is kept, and the line of an entry that is not.
 ghost use Rattle.std.specs.Prelude.{◌≡◌, ◌++◌, List, ℕ, IfOk, OnOk};
 ghost use Rattle.std.specs.List.{list_any};
-ghost use Rattle.agent_pages.specs.Health.{IsMissingLine, IsMissingLineIf, SaysWhyMoment, is_healthy, is_missing, missing_line, needed_text, needed_words, state_text, why_words};
+ghost use Rattle.agent_pages.specs.Health.{IsMissingLine, IsMissingLineIf, SaysWhyMoment, is_healthy, is_missing, missing_line, needed_words, why_words};
 
 use crate::board::{Board, Row};
 use crate::point::{point_at, point_of, point_text};
@@ -61,11 +61,9 @@ fn why_moment(alloc: Global, state: State, row: &Row) -> Result<Text, AllocError
     ensures { IfOk result (λ why. SaysWhyMoment state row.now why) }
 {
     match state {
-        State::Gone | State::Waiting | State::Unknown | State::Trying | State::Kept => {
-            Text::of(alloc, b"")
-        }
         State::Ended => point_text(alloc, point_of(row.end)),
         State::Short => point_text(alloc, point_at(row.in_force)),
+        _ => Text::of(alloc, b""),
     }
 }
 
@@ -76,27 +74,11 @@ fn push_line(row: &Row, why: &[u8], need: &[u8], text: &mut Vec<u8>) -> Result<(
 {
     text.extend_from_slice(row.name.list())?;
     text.extend_from_slice(b" ")?;
-    push_why(row, why, text)?;
-    push_needed(row.carried, need, text)?;
-    text.extend_from_slice(b"\n")
-}
-
-/// Appends why an entry is not kept, with the text of the moment that follows.
-#[tactic(auto, unfolding(crate::specs::Health::state_text))]
-fn push_why(row: &Row, moment: &[u8], text: &mut Vec<u8>) -> Result<(), AllocError>
-    ensures { OnOk result (text.new.items ≡ text.old.items ++ state_text row.now moment.now) }
-{
     text.extend_from_slice(why_words(row.state).as_bytes())?;
-    text.extend_from_slice(moment)
-}
-
-/// Appends until when an entry is needed, with the text of that moment.
-#[tactic(auto, unfolding(crate::specs::Health::needed_text))]
-fn push_needed(need: u64, moment: &[u8], text: &mut Vec<u8>) -> Result<(), AllocError>
-    ensures { OnOk result (text.new.items ≡ text.old.items ++ needed_text need moment.now) }
-{
-    text.extend_from_slice(needed_words(need).as_bytes())?;
-    text.extend_from_slice(moment)
+    text.extend_from_slice(why)?;
+    text.extend_from_slice(needed_words(row.carried).as_bytes())?;
+    text.extend_from_slice(need)?;
+    text.extend_from_slice(b"\n")
 }
 
 /// Why an entry is not kept, without the moment that may follow.

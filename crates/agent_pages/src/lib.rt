@@ -4,29 +4,28 @@
 //! inventory names (`specs/Waiting`); [`read_question`] says what the first
 //! bytes of an onlooker ask for; [`answer_to`] gives exactly the bytes that answer it, and [`told_of`] what a client of the control socket is
 //! told (`specs/Answers`). The metrics are in Prometheus' text format or in that of OpenMetrics (`specs/Metrics`), the status is JSON for
-//! onlookers (`specs/Listing`) and lines for clients (`specs/Lines`), and health is lines for both. Begin with `board`, then `answer`.
+//! onlookers (`specs/Listing`) and lines for clients (`specs/Lines`), and health is lines for both, of which the last one says where a state
+//! folder cannot be used (`specs/Folders`). Begin with `board`, then `answer`.
 #![tactic(auto)]
 
 mod accept;
-mod agent_metrics;
 mod answer;
 mod asked;
 mod board;
-mod column;
-mod entry_metrics;
 mod escapes;
 mod family;
-mod figure;
 mod gathering;
 mod health;
 mod laws;
 mod lines;
 mod listing;
+mod metrics;
 mod point;
 mod shown;
 mod standby;
 mod standing;
 mod state;
+mod state_folder;
 mod told;
 mod waiting;
 
@@ -38,4 +37,5 @@ pub use gathering::board_of;
 pub use laws::{limits_of_onlookers, no_credential_shows, nothing_else_is_told};
 pub use standby::Standby;
 pub use state::State;
+pub use state_folder::StateFolder;
 pub use told::told_of;

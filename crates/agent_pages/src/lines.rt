@@ -1,6 +1,7 @@
 //! The status and health as lines for people.
 ghost use Rattle.std.specs.Prelude.{◌≡◌, ◌++◌, List, ℕ, IfOk, OnOk};
-ghost use Rattle.agent_pages.specs.Lines.{AreEntryLines, IsEntryLine, IsHealthText, IsStandingText};
+ghost use Rattle.agent_pages.specs.Health.{is_healthy};
+ghost use Rattle.agent_pages.specs.Lines.{AreEntryLines, IsEntryLine, IsHealthIf, IsHealthText, IsStandingText};
 
 use crate::board::{Board, Row};
 use crate::health::{is_healthy, push_missing};
@@ -28,10 +29,19 @@ pub(crate) fn standing_text(alloc: Global, board: &Board) -> Result<Vec<u8>, All
     Ok(text)
 }
 
-/// A line for each entry that is needed and not kept, or one that says that there is none.
+/// What is wrong with the entries, or that nothing is; and then what is to be said of the state folder.
 #[tactic(auto, unfolding(crate::specs::Lines::IsHealthText))]
 pub(crate) fn health_text(alloc: Global, board: &Board) -> Result<Vec<u8>, AllocError>
     ensures { IfOk result (λ text. IsHealthText board.now text.items) }
+{
+    let mut text = entries_health(alloc, board)?;
+    text.extend_from_slice(board.surroundings.state_folder.line().as_bytes())?;
+    Ok(text)
+}
+
+/// A line for each entry that is needed and not kept, or one that says that there is none.
+fn entries_health(alloc: Global, board: &Board) -> Result<Vec<u8>, AllocError>
+    ensures { IfOk result (λ text. IsHealthIf (is_healthy board.now) board.now text.items) }
 {
     if is_healthy(board) {
         return Vec::from_slice(alloc, b"every needed entry is kept\n");

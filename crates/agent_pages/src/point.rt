@@ -1,6 +1,5 @@
 //! A moment as people are told it.
 ghost use Rattle.std.specs.Prelude.{◌≡◌, IfOk};
-ghost use Rattle.base_moment.specs.Rfc3339.{IsDateText};
 ghost use Rattle.agent_pages.specs.Points.{SaysPoint, point_at, point_of};
 
 use base_moment::{LAST, Moment, Text, date_text};
@@ -44,16 +43,10 @@ pub(crate) fn point_text(alloc: Global, point: Point) -> Result<Text, AllocError
 {
     match point {
         Point::Unknown => Text::of(alloc, b"-"),
-        Point::At(moment) => text_of_date(alloc, moment),
+        Point::At(moment) => match date_text(alloc, moment) {
+            Ok(text) => Ok(text),
+            Err(_) => Err(AllocError),
+        },
         Point::Always => Text::of(alloc, b"always"),
-    }
-}
-
-fn text_of_date(alloc: Global, moment: Moment) -> Result<Text, AllocError>
-    ensures { IfOk result (λ text. IsDateText text moment) }
-{
-    match date_text(alloc, moment) {
-        Ok(text) => Ok(text),
-        Err(_) => Err(AllocError),
     }
 }

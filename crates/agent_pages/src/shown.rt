@@ -4,11 +4,11 @@ ghost use Rattle.agent_pages.specs.Answers.{IsHealthPage, IsPage, IsShown, allow
 
 use crate::asked::{Method, Page};
 use crate::board::Board;
-use crate::entry_metrics::metrics_text;
 use crate::family::Format;
 use crate::health::is_healthy;
 use crate::lines::health_text;
 use crate::listing::listing_text;
+use crate::metrics::metrics_text;
 use base_moment::Text;
 use base_words::push_number;
 use std::alloc::{AllocError, Global};
@@ -29,8 +29,7 @@ pub(crate) enum Code {
 /// A media type.
 #[derive(Clone, Copy, Debug)]
 pub(crate) enum Content {
-    Prometheus,
-    OpenMetrics,
+    Metrics(Format),
     Json,
     Plain,
 }
@@ -65,11 +64,7 @@ impl Code {
     {
         match self {
             Code::MethodNotAllowed => "Allow: GET, HEAD\r\n",
-            Code::Good
-            | Code::BadRequest
-            | Code::NotFound
-            | Code::HeadTooLong
-            | Code::Unavailable => { "" }
+            _ => "",
         }
     }
 }
@@ -81,8 +76,9 @@ impl Content {
         ensures { result.now ≡ content_words self }
     {
         match self {
-            Content::Prometheus => "text/plain; version=0.0.4; charset=utf-8",
-            Content::OpenMetrics => "application/openmetrics-text; version=1.0.0; charset=utf-8",
+            Content::Metrics(Format::Prometheus) => "text/plain; version=0.0.4; charset=utf-8",
+            Content::Metrics(Format::OpenMetrics) =>
+                "application/openmetrics-text; version=1.0.0; charset=utf-8",
             Content::Json => "application/json",
             Content::Plain => "text/plain; charset=utf-8",
         }
@@ -149,13 +145,9 @@ pub(crate) fn page_of_board(alloc: Global, board: &Board, page: Page) -> Result<
     ensures { IfOk result (λ shown. IsPage board.now page shown) }
 {
     match page {
-        Page::Metrics(Format::Prometheus) => {
-            let body = metrics_text(alloc, Format::Prometheus, board)?;
-            Ok(shown_well(Content::Prometheus, body))
-        }
-        Page::Metrics(Format::OpenMetrics) => {
-            let body = metrics_text(alloc, Format::OpenMetrics, board)?;
-            Ok(shown_well(Content::OpenMetrics, body))
+        Page::Metrics(format) => {
+            let body = metrics_text(alloc, format, board)?;
+            Ok(shown_well(Content::Metrics(format), body))
         }
         Page::Health => health_page(alloc, board),
         Page::Listing => {

@@ -1,6 +1,6 @@
 //! What an operator has to know of an entry, in one word.
 ghost use Rattle.std.specs.Prelude.{◌≡◌};
-ghost use Rattle.agent_pages.specs.States.{is_kept, is_same_state, state_of, state_word, tried_state};
+ghost use Rattle.agent_pages.specs.States.{is_kept, state_of, state_word, tried_state};
 
 use agent_standing::Condition;
 
@@ -43,24 +43,7 @@ impl State {
     pub(crate) fn is_kept(self) -> bool
         ensures { result ≡ is_kept self }
     {
-        match self {
-            State::Gone | State::Ended | State::Waiting | State::Short | State::Unknown => false,
-            State::Trying | State::Kept => true,
-        }
-    }
-
-    pub(crate) fn is_same(self, other: State) -> bool
-        ensures { result ≡ is_same_state self other }
-    {
-        match self {
-            State::Gone => matches!(other, State::Gone),
-            State::Ended => matches!(other, State::Ended),
-            State::Waiting => matches!(other, State::Waiting),
-            State::Short => matches!(other, State::Short),
-            State::Unknown => matches!(other, State::Unknown),
-            State::Trying => matches!(other, State::Trying),
-            State::Kept => matches!(other, State::Kept),
-        }
+        matches!(self, State::Trying | State::Kept)
     }
 }
 

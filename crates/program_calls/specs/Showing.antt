@@ -25,12 +25,17 @@ use Rattle.program_calls.specs.declared.fault.CallFault.TheVariants as faults
 abbrev pub kept_text : List ℕ
 kept_text = codes "every needed entry is kept\n"
 
+-- the same of an agent whose state folder cannot be used
+abbrev pub kept_until_restart_text : List ℕ
+kept_until_restart_text = codes "every needed entry is kept\nchanges hold until a restart only: the state folder cannot be used\n"
+
 -- whether the lines of a health name no entry
 unfoldable pub names_no_entry : List ℕ → Bool
-names_no_entry lines = (length lines == 0) || bytes_eq lines kept_text
+names_no_entry lines = (length lines == 0) || (bytes_eq lines kept_text || bytes_eq lines kept_until_restart_text)
 
+-- a health without lines is shown as one that says so
 abbrev pub shown_text : Ask → List ℕ → List ℕ
-shown_text ask lines = if is_health ask && names_no_entry lines then kept_text else lines
+shown_text ask lines = if is_health ask && (length lines == 0) then kept_text else lines
 
 abbrev pub ended_by : Ask → List ℕ → Ended
 ended_by ask lines = if is_health ask && not (names_no_entry lines) then endings.Refused else endings.Done

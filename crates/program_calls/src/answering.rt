@@ -13,6 +13,9 @@ use base_device::{Sink, Watched};
 use program_report::{Stop, send};
 
 const KEPT: &[u8] = b"every needed entry is kept\n";
+/// The same of an agent whose state folder cannot be used.
+const KEPT_UNTIL_RESTART: &[u8] =
+    b"every needed entry is kept\nchanges hold until a restart only: the state folder cannot be used\n";
 
 /// Shows what was answered.
 pub(crate) fn show<W: Sink, E: Sink>(
@@ -60,7 +63,7 @@ fn print<W: Sink, E: Sink>(call: &Call<'_>, lines: &[u8], out: &mut W, errors: &
 fn shown_text<'t>(ask: &Ask<'_>, lines: &'t [u8]) -> &'t [u8]
     ensures { result.now ≡ shown_text ask.now lines.now }
 {
-    if ask.is_health() && is_kept(lines) {
+    if ask.is_health() && lines.is_empty() {
         KEPT
     } else {
         lines
@@ -78,10 +81,10 @@ fn ended_by(ask: &Ask<'_>, lines: &[u8]) -> Ended
     }
 }
 
-// Whether lines about needed entries that are not kept name none.
+// Whether the lines of a health name no entry that is needed and not kept.
 #[tactic(auto, unfolding(crate::specs::Showing::names_no_entry))]
 fn is_kept(lines: &[u8]) -> bool
     ensures { result ≡ names_no_entry lines.now }
 {
-    lines.is_empty() || lines == KEPT
+    lines.is_empty() || lines == KEPT || lines == KEPT_UNTIL_RESTART
 }
