@@ -17,7 +17,7 @@ use Rattle.vault_exchange.specs.Sockets.{port_of}
 use Rattle.agent_turns.specs.declared.day.EarlyDay.{EarlyDay}
 use Rattle.program_commands.specs.declared.job.Served.{Served}
 use Rattle.agent_start.specs.Alone.{IsServedAlone}
-use Rattle.agent_start.specs.Numbers.{IsNumber}
+use Rattle.agent_system.specs.Numbers.{IsNumber}
 use Rattle.agent_start.specs.Starts.{IsStart}
 use Rattle.agent_start.specs.declared.start.Start.{Start}
 use Rattle.agent_run.specs.Doors.{DoorCall}

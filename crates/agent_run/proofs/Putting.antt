@@ -27,10 +27,10 @@ use Rattle.agent_turns.specs.Neighbours.{NeighbourCall}
 use Rattle.agent_turns.specs.declared.change.Change.{Change}
 use Rattle.agent_turns.specs.declared.day.EarlyDay.{EarlyDay}
 use Rattle.program_commands.specs.declared.job.Served.{Served}
-use Rattle.agent_start.specs.Descriptors.{ArePlaces}
-use Rattle.agent_start.specs.Saying.{BeginsDesk}
-use Rattle.agent_start.specs.Stalls.{WarnsOfDisks}
-use Rattle.agent_start.specs.TakingOver.{TakesOver}
+use Rattle.agent_system.specs.Descriptors.{ArePlaces}
+use Rattle.agent_system.specs.Saying.{BeginsDesk}
+use Rattle.agent_system.specs.Stalls.{WarnsOfDisks}
+use Rattle.agent_system.specs.TakingOver.{TakesOver}
 use Rattle.agent_words.specs.declared.said.Said.{Said}
 use Rattle.agent_start.specs.declared.start.Start.{Start}
 use Rattle.watch_machine.specs.declared.event.Event.{Event}

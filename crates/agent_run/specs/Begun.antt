@@ -27,11 +27,11 @@ use Rattle.agent_pages.specs.declared.board.FileReading.{FileReading}
 use Rattle.state_secrets.specs.Stamps.{FileCall}
 use Rattle.agent_turns.specs.declared.day.EarlyDay.{EarlyDay}
 use Rattle.program_commands.specs.declared.job.Served.{Served}
-use Rattle.agent_start.specs.Alone.{folder_of}
-use Rattle.agent_start.specs.Descriptors.{ArePlaces}
-use Rattle.agent_start.specs.Saying.{BeginsDesk, SaysBehind}
-use Rattle.agent_start.specs.Stalls.{WarnsOfDisks}
-use Rattle.agent_start.specs.TakingOver.{TakesOver}
+use Rattle.agent_system.specs.Descriptors.{ArePlaces}
+use Rattle.agent_system.specs.Saying.{BeginsDesk, SaysBehind}
+use Rattle.agent_system.specs.Whole.{folder_of}
+use Rattle.agent_system.specs.Stalls.{WarnsOfDisks}
+use Rattle.agent_system.specs.TakingOver.{TakesOver}
 use Rattle.agent_words.specs.declared.said.Said.{Said}
 use Rattle.agent_start.specs.declared.start.Start.{Start}
 use Rattle.agent_run.specs.Doors.{DoorCall, IsDoor}

@@ -24,8 +24,9 @@ use Rattle.plan_spread.specs.Parts.{part_by}
 use Rattle.program_commands.specs.declared.job.Room.{Room}
 use Rattle.program_commands.specs.declared.job.Room.TheVariants as rooms
 use Rattle.program_commands.specs.declared.job.Served.{Served}
-use Rattle.agent_start.specs.Alone.{IsServedAlone, folder_of}
-use Rattle.agent_start.specs.Numbers.{IsNumber}
+use Rattle.agent_start.specs.Alone.{IsServedAlone}
+use Rattle.agent_system.specs.Numbers.{IsNumber}
+use Rattle.agent_system.specs.Whole.{folder_of}
 use Rattle.agent_start.specs.Starts.{IsStart}
 use Rattle.agent_start.specs.declared.start.Start.{Start}
 use Rattle.agent_run.specs.Begun.{IsBegun}

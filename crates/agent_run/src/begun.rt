@@ -14,11 +14,13 @@ use agent_house::House;
 use agent_ledger::{Asker, Late, Ledger, Shut};
 use agent_log::Desk;
 use agent_pages::{FileReading, Standby};
-use agent_start::{
-    Inventories, Places, Said, Start, TakenOver, desk_of, folder_of, places_for, say_behind,
-    take_over, warn_of_disks,
+use agent_start::Start;
+use agent_system::{
+    Inventories, Places, TakenOver, desk_of, folder_of, places_for, say_behind, take_over,
+    warn_of_disks,
 };
 use agent_turns::{EarlyDay, Serving};
+use agent_words::Said;
 use base_clients::{Door, Talk};
 use base_clock::Reading;
 use base_device::Place;

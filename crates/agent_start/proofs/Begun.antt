@@ -11,12 +11,13 @@ use Rattle.base_log.specs.declared.level.Level.TheVariants.{Alert}
 use Rattle.program_report.specs.declared.exit.Exit.{Exit}
 use Rattle.state_secrets.specs.Looking.{IsBegun}
 use Rattle.state_keeping.specs.Keepers.{waiting_in}
-use Rattle.agent_start.specs.Alone.{IsServedAlone, IsServedFile, IsServedUnkept, ServesHeld, folder_of}
-use Rattle.agent_start.specs.Saying.{said_as}
+use Rattle.agent_start.specs.Alone.{IsServedAlone, IsServedUnkept, ServesHeld}
+use Rattle.agent_system.specs.Saying.{said_as}
+use Rattle.agent_system.specs.Whole.{IsServedFile, folder_of}
 use Rattle.agent_start.specs.Starts.{Begins, IsFreshLedger, IsLedgerAtStart, IsReason, IsSaidAlone, IsServedBy, IsStart, IsStartAlone, IsWhyNotBegun, SaysUnheld, SaysUnused, StartsBy, is_unused}
 use Rattle.agent_start.specs.declared.folder.NotBegun.{NotBegun}
 use Rattle.agent_start.specs.declared.folder.NotBegun.TheVariants as nots
-use Rattle.agent_start.specs.declared.reading.Inventories.{Inventories}
+use Rattle.agent_system.specs.declared.reading.Inventories.{Inventories}
 use Rattle.agent_words.specs.declared.said.About.TheVariants.{SecretFile}
 use Rattle.agent_words.specs.declared.said.Said.{Said}
 use Rattle.agent_start.specs.declared.start.Start.{Start}

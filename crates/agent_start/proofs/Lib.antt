@@ -1,10 +1,4 @@
 mod Alone
 mod Begun
 mod OpenedLater
-mod Mounted
-mod Numbers
-mod Refusals
-mod Saying
-mod SetAside
-mod Taking
 mod Telling

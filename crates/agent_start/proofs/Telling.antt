@@ -17,10 +17,10 @@ use Rattle.state_keeping.specs.States.{Kept, book_in, store_in}
 use Rattle.state_keeping.specs.declared.opening.Opened.{Opened}
 use Rattle.state_store.specs.Records.{records_in}
 use Rattle.state_store.specs.Stores.{lines_in}
-use Rattle.agent_start.specs.Alone.{folder_of}
 use Rattle.agent_start.specs.Later.{open_text}
-use Rattle.agent_start.specs.Saying.{files_line, said_as}
-use Rattle.agent_start.specs.Telling.{SaysAtStart, SaysFilled, SaysLater, SaysStart, after_opened, said_of_files}
+use Rattle.agent_system.specs.Saying.{said_as}
+use Rattle.agent_system.specs.Whole.{folder_of}
+use Rattle.agent_start.specs.Telling.{SaysAtStart, SaysFilled, SaysLater, SaysStart, after_opened, files_line, said_of_files}
 use Rattle.agent_start.specs.declared.start.Start.{Start}
 
 -- the lines about the journal, and then that about files

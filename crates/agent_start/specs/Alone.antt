@@ -1,9 +1,8 @@
 -- Alone: what is served without a ledger: what FILE says, as it was read, with what the files of credentials hold that it names.
 -- Source: this project's own; docs/commands/serve.md, "The inventory" and "Secrets by file".
-use Rattle.std.specs.Prelude.{◌≡◌, ◌⊎◌, ℕ, ◌==◌, Bool, true, false, if◌then◌else◌, List, [], ◌∷◌, ◌++◌, Option, Some, None, Ok, map}
-use Rattle.std.specs.List.{list_any}
+use Rattle.std.specs.Prelude.{◌≡◌, ◌⊎◌, ℕ, Bool, true, false, List, [], ◌∷◌, ◌++◌, Option, Some, None, Ok, map}
 use Rattle.agent_words.specs.Gathering.{AreGathered}
-use Rattle.agent_words.specs.Reading.{IsToServe, IsWellWritten}
+use Rattle.agent_words.specs.Reading.{IsWellWritten}
 use Rattle.agent_words.specs.declared.demands.Demands.{Demands}
 use Rattle.state_changes.specs.declared.replaying.Note.{Note}
 use Rattle.base_files.specs.Files.{FileIsRead, Files}
@@ -11,27 +10,15 @@ use Rattle.vault_inventory.specs.declared.limits.TheConstants.{MOST_INVENTORY}
 use Rattle.base_log.specs.declared.level.Level.TheVariants.{Alert}
 use Rattle.state_store.specs.Books.{Book, HasSecrets, IsBookOf}
 use Rattle.state_changes.specs.declared.secret.Secret.{Secret}
-use Rattle.agent_start.specs.Saying.{said_as}
+use Rattle.agent_system.specs.Saying.{said_as}
+use Rattle.agent_system.specs.Whole.{IsServedFile, IsServedWhole, folder_of}
 use Rattle.agent_start.specs.Starts.{IsServedOf}
-use Rattle.agent_start.specs.declared.reading.Inventories.{Inventories}
+use Rattle.agent_system.specs.declared.reading.Inventories.{Inventories}
 use Rattle.agent_words.specs.declared.said.About.TheVariants.{SecretFile}
 use Rattle.agent_words.specs.declared.said.Said.{Said}
 use Rattle.agent_start.specs.declared.start.Start.{Start}
 
--- what stands before a path that starts at the folder of a file: the file's own path up to its last slash
-abbrev pub is_slash : ℕ → Bool
-is_slash b = b == 47
-
-abbrev pub folder_of : List ℕ → List ℕ
-folder_of [] = []
-folder_of (b ∷ bs) = if list_any is_slash (b ∷ bs) then b ∷ folder_of bs else []
-
 -- ---- of bytes of FILE, by the files of credentials and the folder at which their paths start
-
--- each of them holds a credential: all is served that FILE says
-pub record IsServedWhole (known : Files) (folder bytes : List ℕ) (d : Demands) (i : Inventories) : Type 0 where
-  pub served : IsToServe d known folder bytes (Ok i.served)
-  pub named : i.named ≡ None
 
 -- what FILE says, to which nothing was changed, and which holds no credential of a file yet
 pub record IsWrittenBook (bytes : List ℕ) (b : Book) : Type 0 where
@@ -67,13 +54,7 @@ ServesHeld known folder bytes d old new i = (IsServedWhole known folder bytes d 
 
 -- ---- of FILE, by its path
 
--- where there is no state folder
-pub record IsServedFile (known_file known : Files) (file : List ℕ) (d : Demands) (i : Inventories) : Type 0 where
-  pub bytes : List ℕ
-  pub read : FileIsRead (known_file file) MOST_INVENTORY (Ok bytes)
-  pub whole : IsServedWhole known (folder_of file) bytes d i
-
--- where it cannot be used
+-- where there is a state folder that cannot be used
 pub record IsServedUnkept (known_file known : Files) (file : List ℕ) (d : Demands) (old new : List Said) (i : Inventories) : Type 0 where
   pub bytes : List ℕ
   pub read : FileIsRead (known_file file) MOST_INVENTORY (Ok bytes)

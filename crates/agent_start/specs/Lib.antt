@@ -1,12 +1,4 @@
 pub mod Alone
-pub mod Descriptors
-pub mod Mounts
-pub mod Numbers
-pub mod Refusals
-pub mod Saying
-pub mod SettingAside
-pub mod Stalls
 pub mod Starts
 pub mod Later
 pub mod Telling
-pub mod TakingOver

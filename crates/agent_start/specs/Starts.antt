@@ -11,7 +11,7 @@ use Rattle.state_secrets.specs.Looking.{IsBegun}
 use Rattle.vault_served.specs.ForGood.{inventory_for_good}
 use Rattle.state_keeping.specs.States.{book_in}
 use Rattle.state_keeping.specs.Keepers.{waiting_in}
-use Rattle.agent_start.specs.Saying.{IsSaidAs}
+use Rattle.agent_system.specs.Saying.{IsSaidAs}
 use Rattle.agent_start.specs.declared.folder.NotBegun.{NotBegun}
 use Rattle.agent_start.specs.declared.folder.NotBegun.TheVariants as nots
 use Rattle.agent_words.specs.declared.said.About.TheVariants.{Folder, SecretFile}

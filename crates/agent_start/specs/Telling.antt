@@ -1,7 +1,7 @@
 -- Telling: what is said of a state folder that was opened: of FILE and its last good copy, of the journal, and of what the files of
 -- credentials hold, in this order.
 -- Source: docs/running.md, "What the operator sees".
-use Rattle.std.specs.Prelude.{◌≡◌, ℕ, ◌==◌, Bool, true, false, if◌then◌else◌, List, [], ◌∷◌, ◌++◌, Option, Some, None, Result, IfOk, OnErr, codes, decimal, is_none, map}
+use Rattle.std.specs.Prelude.{◌≡◌, ℕ, ◌==◌, Bool, true, false, if◌then◌else◌, List, [], ◌∷◌, ◌++◌, Option, Some, None, Result, Ok, Err, IfOk, OnErr, codes, decimal, is_none, map}
 use Rattle.std.specs.declared.alloc.AllocError.{AllocError}
 use Rattle.agent_ledger.specs.Ledgers.{IsFilledOn}
 use Rattle.agent_ledger.specs.Rereading.{said_notes}
@@ -19,9 +19,9 @@ use Rattle.state_keeping.specs.States.{Kept, book_in, store_in}
 use Rattle.state_keeping.specs.declared.opening.Opened.{Opened}
 use Rattle.state_store.specs.Records.{records_in}
 use Rattle.state_store.specs.Stores.{lines_in}
-use Rattle.agent_start.specs.Alone.{folder_of}
 use Rattle.agent_start.specs.Later.{open_text}
-use Rattle.agent_start.specs.Saying.{files_line, said_as}
+use Rattle.agent_system.specs.Saying.{said_as}
+use Rattle.agent_system.specs.Whole.{folder_of}
 use Rattle.agent_start.specs.declared.start.Start.{Start}
 
 -- ---- what was opened
@@ -50,6 +50,12 @@ abbrev pub after_opened : {D : Type 0} → Places → Opened D → List Said →
 after_opened places o said = ((said ++ said_of_file (is_none o.fault)) ++ said_of_copy o.copy (is_none o.fault)) ++ said_of_damage places.aside o.damaged o.aside
 
 -- ---- its ledger
+
+-- of what the files of credentials hold: what is said where it was to be taken at once; and where nothing of it was, that the looks at
+-- files take each by itself
+abbrev pub files_line : Result (Option (List ℕ)) AllocError → Option (List ℕ)
+files_line (Ok line) = line
+files_line (Err e) = Some (codes "what the files of credentials hold could not be taken together: each is taken by itself")
 
 abbrev pub said_of_files : Option (List ℕ) → List Said
 said_of_files None = []

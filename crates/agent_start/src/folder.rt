@@ -1,19 +1,15 @@
 //! The state folder of `serve`: what is served by it, and what is said of it.
 ghost use Rattle.std.specs.Prelude.{◌≡◌, ◌++◌, IfErr, IfOk, None, OnOk, is_none, is_some, true};
-ghost use Rattle.agent_start.specs.Alone.{folder_of};
-ghost use Rattle.agent_start.specs.Refusals.{RefusesStart};
-ghost use Rattle.agent_start.specs.Saying.{files_line};
+ghost use Rattle.agent_system.specs.Refusals.{RefusesStart};
+ghost use Rattle.agent_system.specs.Whole.{folder_of};
 ghost use Rattle.agent_start.specs.Starts.{Begins, IsFreshLedger, IsLedgerAtStart, IsOfFolder, IsServedBy, IsStart};
-ghost use Rattle.agent_start.specs.Telling.{SaysAtStart, SaysFilled, SaysStart, after_opened, damage_words, said_of_copy, said_of_damage, said_of_file, said_of_files};
+ghost use Rattle.agent_start.specs.Telling.{SaysAtStart, SaysFilled, SaysStart, after_opened, damage_words, files_line, said_of_copy, said_of_damage, said_of_file, said_of_files};
 ghost use Rattle.agent_start.specs.declared.folder.NotBegun.TheVariants as nots;
 
-use crate::aside::set_aside;
 use crate::found::{Found, find};
-use crate::reading::Inventories;
-use crate::said::{push, push_each};
-use crate::secrets::SystemSecrets;
 use crate::start::{Start, SystemLedger};
 use agent_ledger::Ledger;
+use agent_system::{Inventories, SystemSecrets, folder_of, push, push_each, set_aside};
 use agent_words::{About, Demands, Said, after, disk_words};
 use base_device::{Sink, Watched};
 use base_disk::{Disk, DiskFault, SystemDisk};
@@ -57,17 +53,6 @@ impl<'a> Folder<'a> {
             }
             Err(PathsFault::OutOfMemory) => Err(NotBegun::Memory),
         }
-    }
-}
-
-/// What stands before a path that starts at the folder of a file: the file's own path up to its last slash.
-#[tactic(auto, using(crate::proofs::Alone::folder_whole))]
-pub fn folder_of(file: &str) -> &str
-    ensures { result.now ≡ folder_of file.now }
-{
-    match file.rfind('/') {
-        None => "",
-        Some(end) => &file[..end + 1],
     }
 }
 

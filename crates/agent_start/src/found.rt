@@ -1,6 +1,6 @@
 //! What a start with a state folder finds of the file that is to be served, and of its last good copy.
 use crate::modes::{may_others_write, say_open};
-use crate::said::push_each;
+use agent_system::push_each;
 use agent_words::{About, Demands, Said, unread_words, why_not_served};
 use base_disk::{Disk, DiskFault};
 use base_log::Level;

@@ -4,10 +4,9 @@ ghost use Rattle.agent_start.specs.Later.{IsLaterLedger, open_text};
 ghost use Rattle.agent_start.specs.Telling.{SaysLater};
 
 use crate::folder::{Folder, NotBegun, fill_and_say, ledger_of, open_in, say_opened};
-use crate::said::push;
-use crate::secrets::SystemSecrets;
 use crate::start::SystemLedger;
 use agent_ledger::{KeepNews, Ledger, Opened, Opening};
+use agent_system::{SystemSecrets, push};
 use agent_words::{About, Demands, Said};
 use base_disk::Disk;
 use base_files::Inputs;

@@ -1,5 +1,5 @@
 //! Whether others than the agent's user and its group may reach what lies in the state folder.
-use crate::said::push;
+use agent_system::push;
 use agent_words::{About, Said};
 use base_disk::{Disk, DiskFault};
 use base_log::Level;

@@ -1,15 +1,15 @@
 //! What is served from the start on, or why nothing is.
 ghost use Rattle.std.specs.Prelude.{◌≡◌, ◌∷◌, [], IfErr, IfOk, None, false, is_some, true};
 ghost use Rattle.agent_start.specs.Alone.{IsServedAlone};
-ghost use Rattle.agent_start.specs.Refusals.{GivesOrRefuses};
+ghost use Rattle.agent_system.specs.Refusals.{GivesOrRefuses};
 ghost use Rattle.agent_start.specs.Starts.{IsReason, IsStart, IsStartAlone, SaysUnused, StartsBy, is_unused};
 
 use crate::folder::{Folder, NotBegun, begin, refuse_changes, refuse_held};
-use crate::reading::{Inventories, Sources, read_inventory, refuse_written};
-use crate::secrets::SystemSecrets;
-use crate::served_file::ServedFile;
 use crate::unkept::read_with_held;
 use agent_ledger::Ledger;
+use agent_system::{
+    Inventories, ServedFile, Sources, SystemSecrets, read_inventory, refuse_written,
+};
 use agent_words::{Demands, Said};
 use base_device::{Sink, Watched};
 use base_disk::SystemDisk;

@@ -1,13 +1,13 @@
 //! What is served of the file alone where its state folder cannot be used.
 ghost use Rattle.std.specs.Prelude.{◌≡◌, ℕ, IfOk, IfSome, List, None, Some};
-ghost use Rattle.agent_start.specs.Alone.{HoldsOrNot, IsFilledBook, IsServedUnkept, IsWrittenBook, ServesHeld, folder_of};
-ghost use Rattle.agent_start.specs.Refusals.{GivesOrRefuses};
+ghost use Rattle.agent_start.specs.Alone.{HoldsOrNot, IsFilledBook, IsServedUnkept, IsWrittenBook, ServesHeld};
+ghost use Rattle.agent_system.specs.Refusals.{GivesOrRefuses};
+ghost use Rattle.agent_system.specs.Whole.{folder_of};
 ghost use Rattle.agent_start.specs.Starts.{IsServedOf};
 
-use crate::folder::folder_of;
-use crate::reading::{Inventories, Sources, read_bytes, refuse_bytes, serve_bytes};
-use crate::said::push_each;
-use crate::served_file::ServedFile;
+use agent_system::{
+    Inventories, ServedFile, Sources, folder_of, push_each, read_bytes, refuse_bytes, serve_bytes,
+};
 use agent_words::{About, Demands, Gathered, Said, gather, wide};
 use base_device::{Sink, Watched};
 use base_files::Inputs;

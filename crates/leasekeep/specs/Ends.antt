@@ -4,7 +4,7 @@ use Rattle.base_device.specs.Seen.{Change}
 use Rattle.program_report.specs.declared.exit.Exit.{Exit}
 use Rattle.program_report.specs.declared.exit.Exit.TheVariants as exits
 use Rattle.program_report.specs.Sent.{IsUntouched}
-use Rattle.agent_start.specs.Refusals.{RefusesStart}
+use Rattle.agent_system.specs.Refusals.{RefusesStart}
 
 -- the end of `serve`: after the last turn, and then nothing was told; or a start that is refused
 abbrev pub EndsServe : Exit → Change → Type 0

@@ -1,5 +1,5 @@
 use agent_house::Demands;
-use agent_start::{SystemSecrets, folder_of};
+use agent_system::{SystemSecrets, folder_of};
 use base_device::{Counted, Sink};
 use program_commands::Linted;
 use program_lint::run_lint;

@@ -9,9 +9,8 @@ use agent_behind::Behind;
 use agent_house::{Demands, House};
 use agent_ledger::Late;
 use agent_run::{Doors, Parts, askers_by, most_out, run_over};
-use agent_start::{
-    Folder, Sources, SystemFile, SystemFolder, SystemSecrets, folder_of, later_folder, make_start,
-};
+use agent_start::{Folder, SystemFolder, later_folder, make_start};
+use agent_system::{Sources, SystemFile, SystemSecrets, folder_of};
 use agent_turns::{EarlyDay, Neighbours};
 use base_clients::{SocketDoor, SocketTalk};
 use base_clock::SystemClock;

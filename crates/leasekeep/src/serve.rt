@@ -2,13 +2,13 @@
 ghost use Rattle.std.specs.Prelude.{◌≡◌, IfOk, option_copied};
 ghost use Rattle.leasekeep.specs.Ends.{EndsServe};
 ghost use Rattle.agent_run.specs.Run.{HasRunSo, demands_of};
-ghost use Rattle.agent_start.specs.Numbers.{IsNumber};
+ghost use Rattle.agent_system.specs.Numbers.{IsNumber};
 
 use crate::running::{SystemDay, run};
 use crate::system_doors::SystemDoors;
 use agent_house::Demands;
 use agent_run::Doors;
-use agent_start::{SystemFile, SystemSecrets, own_number};
+use agent_system::{SystemFile, SystemSecrets, own_number};
 use agent_turns::Neighbours;
 use base_clients::{SocketDoor, SocketTalk};
 use base_clock::SystemClock;

@@ -1,6 +1,6 @@
 //! The sockets of the system at which guests of `serve` come in, and the files of which a start says something.
 use agent_run::Doors;
-use agent_start::SystemSecrets;
+use agent_system::SystemSecrets;
 use base_clients::{Entrance, SocketDoor, SocketTalk};
 use base_clock::SystemClock;
 use base_device::{InputFault, read_file};

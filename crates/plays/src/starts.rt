@@ -9,7 +9,8 @@ use agent_behind::Behind;
 use agent_house::{Asker, Demands, House, Ledger};
 use agent_ledger::Late;
 use agent_run::Parts;
-use agent_start::{Inventories, Start, start_with};
+use agent_start::{Start, start_with};
+use agent_system::Inventories;
 use agent_turns::EarlyDay;
 use agent_words::wide;
 use base_clients::Entrance;
@@ -20,7 +21,7 @@ use base_log::MemorySink;
 use broker_table::Table;
 use play_cases::{BOOT, Drawer, ENDS, FILE, Fault, Setting, put};
 use program_commands::{Served, Socket};
-use state_keeping::{Paths, State};
+use state_keeping::{Opened, Paths, State};
 use std::alloc::{AllocError, Global};
 use std::mem;
 use vault_inventory::{Inventory, read};
@@ -190,15 +191,26 @@ fn of_state<'a>(
     failing: Failing,
     refused: Fault,
 ) -> Result<Start<MemoryLedger<'a>>, Fault> {
-    let copy = setting.state.bytes_at(alloc, paths.copy())?;
-    let disk = setting.state.disk(alloc, failing);
-    let Ok(opened) = State::open(alloc, disk, paths, Some(&setting.file), copy.as_deref()) else {
-        return Err(refused);
-    };
+    let opened = opened(alloc, paths, setting, failing, refused)?;
     let drawer = mem::replace(&mut setting.drawer, Drawer::new(alloc));
     let demands = demands_of(setting);
-    let said = Vec::new(alloc);
-    Ok(start_with(alloc, paths, demands, drawer, opened, said)?)
+    Ok(start_with(alloc, paths, demands, drawer, opened, Vec::new(alloc))?)
+}
+
+/// The state that is kept.
+fn opened<'a>(
+    alloc: Global,
+    paths: &'a Paths,
+    setting: &mut Setting,
+    failing: Failing,
+    refused: Fault,
+) -> Result<Opened<'a, MemoryDisk>, Fault> {
+    let copy = setting.state.bytes_at(alloc, paths.copy())?;
+    let disk = setting.state.disk(alloc, failing);
+    match State::open(alloc, disk, paths, Some(&setting.file), copy.as_deref()) {
+        Ok(opened) => Ok(opened),
+        Err(_) => Err(refused),
+    }
 }
 
 /// What is demanded of an inventory.

@@ -15,8 +15,6 @@ use Rattle.vault_inventory.specs.Served.{Served, first_untold}
 use Rattle.program_report.specs.FaultLine.{before_colon}
 use Rattle.program_report.specs.Sent.{IsUntouched}
 use Rattle.program_report.specs.Told.{Reports}
-use Rattle.program_words.specs.declared.advice.Form.{Form}
-use Rattle.program_words.specs.declared.advice.Form.TheVariants as forms
 use Rattle.program_words.specs.declared.unread.Unread.{Unread}
 use Rattle.program_words.specs.declared.unread.Unread.TheVariants as unread
 
@@ -46,39 +44,38 @@ unread_reason unread.TooLong = codes "it is too long: an inventory has at most 1
 unread_reason unread.Failed = codes "it cannot be read"
 
 -- what is to be written, of a key that a table of an entry lacks, and of a key whose value is none
-abbrev pub missing_form : Key → Option Form
-missing_form keys.Issued = Some forms.Both
-missing_form keys.End = Some forms.Both
-missing_form key = None
+unfoldable pub missing_words : Key → Option (List ℕ)
+missing_words keys.Issued = Some (codes "write both issued and end, or neither: serve and run look them up")
+missing_words keys.End = Some (codes "write both issued and end, or neither: serve and run look them up")
+missing_words key = None
 
-abbrev pub value_form : Key → Option Form
-value_form keys.SystemMax = Some forms.Duration
-value_form keys.Margin = Some forms.Margin
-value_form keys.Increment = Some forms.Duration
-value_form keys.Period = Some forms.Duration
-value_form keys.MaxTtl = Some forms.Duration
-value_form keys.ExplicitMaxTtl = Some forms.Duration
-value_form keys.Issued = Some forms.Moment
-value_form keys.End = Some forms.Moment
-value_form keys.Need = Some forms.Need
-value_form key = None
+abbrev pub duration_words : List ℕ
+duration_words = codes "write whole seconds, or a duration in quotes with its units, as \"90m\" or \"1h30m\""
 
-abbrev pub form_words : Form → List ℕ
-form_words forms.Both = codes "write both issued and end, or neither: serve and run look them up"
-form_words forms.Duration = codes "write whole seconds, or a duration in quotes with its units, as \"90m\" or \"1h30m\""
-form_words forms.Margin = codes "write 1 to 3600 seconds, as a whole number or as a duration in quotes, as \"10m\""
-form_words forms.Moment = codes "write whole seconds since 1970, or a date in quotes with its offset, as \"2026-11-22T09:00:00Z\""
-form_words forms.Need = codes "write whole seconds since 1970, a date in quotes with its offset, as \"2026-11-22T09:00:00Z\", or \"always\""
+abbrev pub moment_words : List ℕ
+moment_words = codes "write whole seconds since 1970, or a date in quotes with its offset, as \"2026-11-22T09:00:00Z\""
+
+unfoldable pub value_words : Key → Option (List ℕ)
+value_words keys.SystemMax = Some duration_words
+value_words keys.Margin = Some (codes "write 1 to 3600 seconds, as a whole number or as a duration in quotes, as \"10m\"")
+value_words keys.Increment = Some duration_words
+value_words keys.Period = Some duration_words
+value_words keys.MaxTtl = Some duration_words
+value_words keys.ExplicitMaxTtl = Some duration_words
+value_words keys.Issued = Some moment_words
+value_words keys.End = Some moment_words
+value_words keys.Need = Some (codes "write whole seconds since 1970, a date in quotes with its offset, as \"2026-11-22T09:00:00Z\", or \"always\"")
+value_words key = None
 
 -- the line about a key
-abbrev pub key_line : List ℕ → Key → Option Form → Option (List ℕ)
+abbrev pub key_line : List ℕ → Key → Option (List ℕ) → Option (List ℕ)
 key_line program key None = None
-key_line program key (Some form) = Some (advice_line program (key_text key) (form_words form))
+key_line program key (Some words) = Some (advice_line program (key_text key) words)
 
 -- the line about a fault of an inventory
 unfoldable pub fault_advice : List ℕ → InvFault → Option (List ℕ)
-fault_advice program (inventories.MissingKey entry key) = key_line program key (missing_form key)
-fault_advice program (inventories.BadValue place key) = key_line program key (value_form key)
+fault_advice program (inventories.MissingKey entry key) = key_line program key (missing_words key)
+fault_advice program (inventories.BadValue place key) = key_line program key (value_words key)
 fault_advice program fault = None
 
 -- the line about the first entry whose table leaves its end to a lookup

@@ -1,30 +1,15 @@
 //! The line for people that a program may write after a fault line: which file it has not read, and why; or what to write in an
 //! inventory. It takes no memory.
-ghost use Rattle.std.specs.Prelude.{◌≡◌, ◌<◌, ◌++◌, codes, length};
+ghost use Rattle.std.specs.Prelude.{◌≡◌, ◌<◌, ◌++◌, codes, length, option_map};
 ghost use Rattle.program_report.specs.Sent.{Puts};
 ghost use Rattle.program_report.specs.Told.{Reports};
 ghost use Rattle.vault_inventory.specs.Served.{first_untold};
-ghost use Rattle.program_words.specs.Advice.{Advises, advice_line, fault_advice, form_words, key_line, missing_form, open_line, unread_reason, value_form};
+ghost use Rattle.program_words.specs.Advice.{Advises, advice_line, fault_advice, key_line, missing_words, open_line, unread_reason, value_words};
 
 use crate::unread::Unread;
 use base_device::{Sink, SinkFault, Watched};
 use program_report::{put_before_colon, put_both};
 use vault_inventory::{InvFault, Key, Note, Served};
-
-/// What is to be written for a key.
-#[derive(Clone, Copy, Debug, PartialEq, Eq)]
-enum Form {
-    /// Both the issue and the end, or neither.
-    Both,
-    /// A duration.
-    Duration,
-    /// A duration that a margin may be.
-    Margin,
-    /// A moment.
-    Moment,
-    /// A moment, or for good.
-    Need,
-}
 
 /// Tells that the file at a path was not read, and why.
 pub fn advise_on_file<E: Sink>(program: &str, path: &str, why: Unread, errors: &mut E)
@@ -44,8 +29,8 @@ pub fn advise_on_fault<E: Sink>(program: &str, fault: InvFault, errors: &mut E)
     ensures { Advises (fault_advice program.now fault) (⟦<E as Watched>⟧.change errors.old errors.new) }
 {
     match fault {
-        InvFault::MissingKey(_, key) => advise_on_key(program, key, missing_form(key), errors),
-        InvFault::BadValue(_, key) => advise_on_key(program, key, value_form(key), errors),
+        InvFault::MissingKey(_, key) => advise_on_key(program, key, missing_words(key), errors),
+        InvFault::BadValue(_, key) => advise_on_key(program, key, value_words(key), errors),
         _ => {}
     }
 }
@@ -81,59 +66,51 @@ fn first_untold(notes: &[Note]) -> Option<u32>
 }
 
 // Tells what to write for a key, if there is something to say.
-fn advise_on_key<E: Sink>(program: &str, key: Key, form: Option<Form>, errors: &mut E)
-    ensures { Advises (key_line program.now key form) (⟦<E as Watched>⟧.change errors.old errors.new) }
+fn advise_on_key<E: Sink>(program: &str, key: Key, words: Option<&str>, errors: &mut E)
+    ensures { Advises (key_line program.now key (option_map (λ w. w.now) words.entry)) (⟦<E as Watched>⟧.change errors.old errors.new) }
 {
-    if let Some(form) = form {
+    if let Some(words) = words {
         tell_line(
             errors,
             program.as_bytes(),
             key.text().as_bytes(),
-            words_of(form).as_bytes(),
+            words.as_bytes(),
         );
     }
 }
 
-fn missing_form(key: Key) -> Option<Form>
-    ensures { result ≡ missing_form key }
+// What is to be written for a key that a table of an entry lacks.
+#[tactic(auto, unfolding(crate::specs::Advice::missing_words))]
+fn missing_words(key: Key) -> Option<&'static str>
+    ensures { option_map (λ words. words.now) result ≡ missing_words key }
 {
     match key {
-        Key::Issued | Key::End => Some(Form::Both),
+        Key::Issued | Key::End => {
+            Some("write both issued and end, or neither: serve and run look them up")
+        }
         _ => None,
     }
 }
 
-fn value_form(key: Key) -> Option<Form>
-    ensures { result ≡ value_form key }
+// What is to be written for a key whose value is none.
+#[tactic(auto, unfolding(crate::specs::Advice::value_words))]
+fn value_words(key: Key) -> Option<&'static str>
+    ensures { option_map (λ words. words.now) result ≡ value_words key }
 {
     match key {
-        Key::SystemMax | Key::Increment | Key::Period | Key::MaxTtl | Key::ExplicitMaxTtl => {
-            Some(Form::Duration)
-        }
-        Key::Margin => Some(Form::Margin),
-        Key::Issued | Key::End => Some(Form::Moment),
-        Key::Need => Some(Form::Need),
+        Key::SystemMax | Key::Increment | Key::Period | Key::MaxTtl | Key::ExplicitMaxTtl => Some(
+            "write whole seconds, or a duration in quotes with its units, as \"90m\" or \"1h30m\"",
+        ),
+        Key::Margin => Some(
+            "write 1 to 3600 seconds, as a whole number or as a duration in quotes, as \"10m\"",
+        ),
+        Key::Issued | Key::End => Some(
+            "write whole seconds since 1970, or a date in quotes with its offset, as \"2026-11-22T09:00:00Z\"",
+        ),
+        Key::Need => Some(
+            "write whole seconds since 1970, a date in quotes with its offset, as \"2026-11-22T09:00:00Z\", or \"always\"",
+        ),
         _ => None,
-    }
-}
-
-fn words_of(form: Form) -> &'static str
-    ensures { result.now ≡ form_words form }
-{
-    match form {
-        Form::Both => "write both issued and end, or neither: serve and run look them up",
-        Form::Duration => {
-            "write whole seconds, or a duration in quotes with its units, as \"90m\" or \"1h30m\""
-        }
-        Form::Margin => {
-            "write 1 to 3600 seconds, as a whole number or as a duration in quotes, as \"10m\""
-        }
-        Form::Moment => {
-            "write whole seconds since 1970, or a date in quotes with its offset, as \"2026-11-22T09:00:00Z\""
-        }
-        Form::Need => {
-            "write whole seconds since 1970, a date in quotes with its offset, as \"2026-11-22T09:00:00Z\", or \"always\""
-        }
     }
 }
 

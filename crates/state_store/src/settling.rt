@@ -201,11 +201,11 @@ fn next_file(alloc: Global, book: &Book) -> Result<Option<Moving>, SettleFault>
         book.file().system_max,
         book.rows().list(),
     )?;
+    let line = mark_line(alloc, text.as_str())?;
     let moved = book.moved(alloc, text.as_str(), &served)?;
     if is_same(&moved.file().mark, &book.file().mark) {
         return Ok(None);
     }
-    let line = mark_line(alloc, text.as_str())?;
     Ok(Some(Moving {
         text,
         line,

@@ -2,7 +2,7 @@
 use Rattle.std.proofs.Common.{◌≡◌, ◌∙◌, ◌++◌, List, ℕ, [], ◌∷◌, OnOk, ap, codes, subst}
 use Rattle.agent_words.specs.declared.said.About.TheVariants as abouts
 use Rattle.base_log.specs.declared.level.Level.TheVariants as levels
-use Rattle.agent_start.specs.Saying.{said_as}
+use Rattle.agent_system.specs.Saying.{said_as}
 use Rattle.agent_start.proofs.folder.say_copy.Goals as goal
 
 pub returns-in_ok-text : goal.returns-in_ok-text

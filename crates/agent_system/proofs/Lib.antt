@@ -1,0 +1,7 @@
+mod Mounted
+mod Numbers
+mod Refusals
+mod Saying
+mod SetAside
+mod Taking
+mod Whole

@@ -1,0 +1,9 @@
+pub mod Descriptors
+pub mod Mounts
+pub mod Numbers
+pub mod Refusals
+pub mod Saying
+pub mod SettingAside
+pub mod Stalls
+pub mod TakingOver
+pub mod Whole
