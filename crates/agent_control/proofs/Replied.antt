@@ -150,9 +150,4 @@ reply_only text reply e =
 pub why_is_line : WhyIsLine
 unfolding request_fault_text
 why_is_line faults.TooLong = (refl, tt)
-why_is_line faults.NotWords = (refl, tt)
-why_is_line faults.NoCommand = (refl, tt)
-why_is_line faults.BadName = (refl, tt)
-why_is_line faults.BadWhen = (refl, tt)
-why_is_line faults.BadCredential = (refl, tt)
-why_is_line faults.OutOfMemory = (refl, tt)
+why_is_line _ = (refl, tt)

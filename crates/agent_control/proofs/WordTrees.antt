@@ -21,13 +21,10 @@ texts_back (w ∷ ws) = ap (option_map (λ us. w ∷ us)) (texts_back ws)
 texts_only : (ds : Items) (ws : List (List ℕ)) → texts_of ds ≡ Some ws → ds ≡ items_of ws
 texts_only no_items ws e = ap items_of (some_same [] ws e)
 texts_only (item null ds) ws e = cc
-texts_only (item (boolean b) ds) ws e = cc
-texts_only (item (number n) ds) ws e = cc
 texts_only (item (string s) ds) ws e =
     let m = mapped (λ us. s ∷ us) (texts_of ds) ws e in
     ap (λ rest. item (string s) rest) (texts_only ds m.0 m.1) ∙ ap items_of (sym m.2)
-texts_only (item (array js) ds) ws e = cc
-texts_only (item (object ms) ds) ws e = cc
+texts_only (item _ ds) ws e = cc
 
 one_more_is : (us ws : List (List ℕ)) → one_or_more us ≡ Some ws → us ≡ ws
 one_more_is [] ws e = cc
@@ -41,11 +38,8 @@ array_only ds ws e =
 pub words_only : (d : Data) (ws : List (List ℕ)) → words_in_tree d ≡ Some ws → d ≡ tree_of_words ws
 unfolding words_in_tree
 words_only null ws e = cc
-words_only (boolean b) ws e = cc
-words_only (number n) ws e = cc
-words_only (string s) ws e = cc
 words_only (array ds) ws e = array_only ds ws e
-words_only (object ms) ws e = cc
+words_only _ ws e = cc
 
 pub words_back : (w : List ℕ) (ws : List (List ℕ)) → words_in_tree (tree_of_words (w ∷ ws)) ≡ Some (w ∷ ws)
 unfolding words_in_tree

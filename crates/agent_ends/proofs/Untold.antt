@@ -24,9 +24,8 @@ use Rattle.agent_ends.specs.Laws.{OnlyToldLaw, tells_end}
 set_same : {X Y : Type 0} (f : X → Y) (d : X) (xs : List X) (j : ℕ) (y : X) → f y ≡ f (slice_index_or xs j d) → (i : ℕ) → f (slice_index_or (slice_set xs j y) i d) ≡ f (slice_index_or xs i d)
 set_same f d [] j y made i = refl
 set_same f d (x ∷ xs) zero y made zero = made
-set_same f d (x ∷ xs) zero y made (suc i) = refl
-set_same f d (x ∷ xs) (suc j) y made zero = refl
 set_same f d (x ∷ xs) (suc j) y made (suc i) = set_same f d xs j y made i
+set_same f d (x ∷ xs) _ y made _ = refl
 
 -- ---- what was told of each entry
 
@@ -34,7 +33,6 @@ set_told : (xs : List Standing) (j : ℕ) (y : Standing) → y.told ≡ (standin
 set_told xs = set_same (λ (x : Standing). x.told) fresh_standing xs
 
 told_same : (m : WatchState) (event : Event) (xs : List Standing) → tells_end event ≡ false → (i : ℕ) → (standing_in (standings_after m event xs) i).told ≡ (standing_in xs i).told
-told_same m (Clock wall elapsed) xs quiet i = refl
 told_same m (Looked j (Told seconds renewable date) terms) xs quiet i = cc
 told_same m (Looked j (Refused status date) terms) xs quiet i = set_told xs j _ refl i
 told_same m (Looked j Busy terms) xs quiet i = set_told xs j _ refl i
@@ -43,9 +41,8 @@ told_same m (Renewed j (Told seconds renewable date)) xs quiet i = cc
 told_same m (Renewed j (Refused status date)) xs quiet i = set_told xs j _ refl i
 told_same m (Renewed j Busy) xs quiet i = set_told xs j _ refl i
 told_same m (Renewed j Lost) xs quiet i = set_told xs j _ refl i
-told_same m (Need j until) xs quiet i = refl
-told_same m Begin xs quiet i = refl
 told_same m (Known j end renewable) xs quiet i = cc
+told_same m _ xs quiet i = refl
 
 -- ---- what each entry is known by
 
@@ -69,12 +66,8 @@ needed s j need = record {
 }
 
 served_alike : (event : Event) (s : Inventory) → AreKnownAlike s (inventory_after event s)
-served_alike (Clock wall elapsed) s = itself s
-served_alike (Looked i reply terms) s = itself s
-served_alike (Renewed i reply) s = itself s
 served_alike (Need i until) s = needed s i _
-served_alike Begin s = itself s
-served_alike (Known i end renewable) s = itself s
+served_alike _ s = itself s
 
 mark_same : (s t : Inventory) → AreKnownAlike s t → (i : ℕ) → mark_of t i ≡ mark_of s i
 mark_same s t alike i =

@@ -206,16 +206,14 @@ module _ {S T D K E : Type 0} where
 
 module _ {S T D K E : Type 0} (does : KeepCall → K → K → Type 0) (rows : K → List Row) (agent : Agent) (now : Reading) where
   made : (name : List ℕ) (w : What) (why : Option Loss) (old new : House S T D K E) → Makes does rows agent now name w why old new → new.control ≡ old.control
-  made name (what.Need need) why old new h = told (Err None) now.elapsed old new h
   made name (what.Replace credential) why old new h = concluded agent _ h.outcome now.elapsed (record old { state = h.state }) new h.concludes
   made name (what.Add row) why old new h = concluded agent _ h.outcome now.elapsed (record old { state = h.state }) new h.concludes
-  made name what.Drop why old new h = told (Err None) now.elapsed old new h
+  made name _ why old new h = told (Err None) now.elapsed old new h
 
   judged : (name : List ℕ) (w : What) (verdict : Verdict) (old new : House S T D K E) → Judges does rows agent now name w verdict old new → new.control ≡ old.control
   judged name w verdicts.Good old new h = made name w None old new h
-  judged name w (verdicts.Refused status) old new h = told (Err h.0) now.elapsed old new h.1.1
-  judged name w verdicts.Endless old new h = told (Err h.0) now.elapsed old new h.1.1
   judged name w (verdicts.Missing why) old new h = made name w (Some why) old new h
+  judged name w _ old new h = told (Err h.0) now.elapsed old new h.1.1
 
   looked_if : (name : List ℕ) (w : What) (result : Result LookedUp AllocError) (old new : House S T D K E) → LooksUpIf does rows agent now name w result old new → guests_in new.control ≡ guests_in old.control
   looked_if name w (Ok lookups.Out) old new h = aside_left h.client old.control new.control h.aside
@@ -267,10 +265,9 @@ module _ {S T D K E : Type 0} (does : KeepCall → K → K → Type 0) (rows : K
     carried (asked.Need name need) change asks h = left (ap guests_in (need_if agent now name _ h.result change (record old { state = h.state }) new h.then))
     carried (asked.Replace name credential) change asks h = left (looked_if does rows agent now name (what.Replace credential) h.1.looked_up (record old { state = h.1.state }) new h.1.then)
     carried (asked.Add table) change asks h = left (added_if does rows agent now h.1.read old new h.1.then)
-    carried (asked.Drop name) change asks h = left (ap guests_in (concluded agent _ h.1.outcome now.elapsed (record old { state = h.1.state }) new h.1.concludes))
-    carried asked.Settle change asks h = left (ap guests_in (concluded agent _ h.1.outcome now.elapsed (record old { state = h.1.state }) new h.1.concludes))
     carried asked.Reload change asks h = left (ap guests_in (reload_told path agent now h.1.result (record old { state = h.1.state }) new h.1.tells))
     carried (asked.Follow alerts) change asks h = follows alerts asks h.1
+    carried _ change asks h = left (ap guests_in (concluded agent _ h.1.outcome now.elapsed (record old { state = h.1.state }) new h.1.concludes))
 
   carried_if : (x : Result (Option Asked) AllocError) (change : Option Change) (control : Option (Control T D)) (old tried new : House S T D K E) → old.control ≡ first → ClientsAsk now x old.control control → tried.control ≡ control →
       CarriesIf does rows keeps path reads gives agent now x change tried new → IsTold new

@@ -104,32 +104,20 @@ carried_alike a b h count = same (λ m f xs. marks_anew (bare m f xs) count) a b
 
 pub keeps_alike : (name : List ℕ) (w v : What) → IsSameBut w v → kept_words name w ≡ kept_words name v
 keeps_alike name (what.Need until) (what.Need other) h = refl
-keeps_alike name (what.Need until) (what.Replace other) h = absurd h
-keeps_alike name (what.Need until) (what.Add other) h = absurd h
-keeps_alike name (what.Need until) what.Drop h = absurd h
-keeps_alike name (what.Replace credential) (what.Need other) h = absurd h
 keeps_alike name (what.Replace credential) (what.Replace other) h = refl
-keeps_alike name (what.Replace credential) (what.Add other) h = absurd h
-keeps_alike name (what.Replace credential) what.Drop h = absurd h
-keeps_alike name (what.Add row) (what.Need other) h = absurd h
-keeps_alike name (what.Add row) (what.Replace other) h = absurd h
 keeps_alike name (what.Add row) (what.Add other) h = refl
-keeps_alike name (what.Add row) what.Drop h = absurd h
-keeps_alike name what.Drop (what.Need other) h = absurd h
-keeps_alike name what.Drop (what.Replace other) h = absurd h
-keeps_alike name what.Drop (what.Add other) h = absurd h
 keeps_alike name what.Drop what.Drop h = refl
+keeps_alike name _ _ h = absurd h
 
 lease_alike : (name : List ℕ) (rows others : List Row) → RowsAreAlike rows others → is_lease_if (find (is_row_named name) others) ≡ is_lease_if (find (is_row_named name) rows)
 lease_alike name [] [] h = refl
-lease_alike name [] (t ∷ ts) h = absurd h
-lease_alike name (r ∷ rs) [] h = absurd h
 lease_alike name (r ∷ rs) (t ∷ ts) h =
     ap (λ b. is_lease_if (cond b (Some t) (find (is_row_named name) ts))) (ap (λ (x : Row). bytes_eq x.name name) (sym h.0))
     ∙ elim (bytes_eq r.name name) as (λ b. is_lease_if (cond b (Some t) (find (is_row_named name) ts)) ≡ is_lease_if (cond b (Some r) (find (is_row_named name) rs))) [
       | true ↦ ap (λ (x : Row). is_lease x.kind) (sym h.0)
       | false ↦ lease_alike name rs ts h.1
     ]
+lease_alike name _ _ h = absurd h
 
 pub replaced_alike : (rows others : List Row) (name : List ℕ) → RowsAreAlike rows others → replaced_text name (named others name) ≡ replaced_text name (named rows name)
 unfolding named
@@ -139,16 +127,14 @@ replaced_alike rows others name h = ap (λ b. name ++ (if b then codes " has a n
 
 line_alike : (margin : ℕ) (why : Why) (r t : Record) → IsRecordBut r t → line_about margin why (Some t) ≡ line_about margin why (Some r)
 line_alike margin why (Made c) (Made d) h = ap (λ (line : List ℕ). line ∷ []) (sym (note_shows_none margin c d why h.0 h.1))
-line_alike margin why (Made c) (Settling mark) h = absurd h
-line_alike margin why (Settling mark) (Made d) h = absurd h
 line_alike margin why (Settling mark) (Settling other) h = refl
+line_alike margin why _ _ h = absurd h
 
 about_alike : (margin : ℕ) (why : Why) (records others : List Record) (i : ℕ) → RecordsAreAlike records others → line_about margin why (slice_get others i) ≡ line_about margin why (slice_get records i)
 about_alike margin why [] [] i h = refl
-about_alike margin why [] (t ∷ ts) i h = absurd h
-about_alike margin why (r ∷ rs) [] i h = absurd h
 about_alike margin why (r ∷ rs) (t ∷ ts) zero h = line_alike margin why r t h.0
 about_alike margin why (r ∷ rs) (t ∷ ts) (suc i) h = about_alike margin why rs ts i h.1
+about_alike margin why _ _ i h = absurd h
 
 lines_alike : (margin : ℕ) (records others : List Record) (notes : List Note) → RecordsAreAlike records others → flat_map (lines_in_note margin others) notes ≡ flat_map (lines_in_note margin records) notes
 lines_alike margin records others [] h = refl
@@ -224,28 +210,25 @@ fault_alike known other folder i r t files is (Some fault) h = (h.0, (sym (ap (�
 pub unfilled_alike : (known other : Files) (folder : List ℕ) (i : ℕ) (rows others : List Row) (faults : List StartFault) → FilesAreAlike known other → RowsAreAlike rows others → AreUnfilled known folder i rows faults →
     AreUnfilled other folder i others faults
 unfilled_alike known other folder i [] [] faults files rows h = h
-unfilled_alike known other folder i [] (t ∷ ts) faults files rows h = absurd rows
-unfilled_alike known other folder i (r ∷ rs) [] faults files rows h = absurd rows
 unfilled_alike known other folder i (r ∷ rs) (t ∷ ts) faults files rows h =
     (h.0, (fault_alike known other folder i r t files rows.0 h.0 h.1.0, (h.1.1.0, (unfilled_alike known other folder (i + 1) rs ts h.1.1.0 files rows.1 h.1.1.1.0, h.1.1.1.1))))
+unfilled_alike known other folder i _ _ faults files rows h = absurd rows
 
 found_alike : (name file : List ℕ) (secrets others : List Secret) → SecretsAreAlike secrets others → is_some (find (is_of name file) others) ≡ is_some (find (is_of name file) secrets)
 found_alike name file [] [] h = refl
-found_alike name file [] (t ∷ ts) h = absurd h
-found_alike name file (s ∷ ss) [] h = absurd h
 found_alike name file (s ∷ ss) (t ∷ ts) h =
     ap (λ b. is_some (cond b (Some t) (find (is_of name file) ts))) (ap (λ (x : Secret). is_of name file x) (sym h.0))
     ∙ elim (is_of name file s) as (λ b. is_some (cond b (Some t) (find (is_of name file) ts)) ≡ is_some (cond b (Some s) (find (is_of name file) ss))) [
       | true ↦ refl
       | false ↦ found_alike name file ss ts h.1
     ]
+found_alike name file _ _ h = absurd h
 
 pub held_alike : (secrets others : List Secret) (name file : List ℕ) → SecretsAreAlike secrets others → is_held others name file ≡ is_held secrets name file
 unfolding taken_from
 held_alike secrets others name file h = found_alike name file secrets others h
 
 pub judged_alike : JudgedAlike
-judged_alike credential other verdicts.Good = inl (refl, refl)
 judged_alike credential other (verdicts.Refused status) = inr refl
 judged_alike credential other verdicts.Endless = inr refl
-judged_alike credential other (verdicts.Missing why) = inl (refl, refl)
+judged_alike credential other _ = inl (refl, refl)

@@ -185,16 +185,14 @@ module _ {S T D K E : Type 0} (does : KeepCall → K → K → Type 0) where
 
   module _ (rows : K → List Row) (agent : Agent) (now : Reading) where
     made : (name : List ℕ) (w : What) (why : Option Loss) (old new : House S T D K E) → Makes does rows agent now name w why old new → Spares does 1 0 old new
-    made name (what.Need need) why old new h = spares_more 0 1 0 0 old new (omega arith) (omega arith) (spares old new (will_tell (Err None) now.elapsed old new h))
     made name (what.Replace credential) why old new h = concluded_after (λ done. Take now.elapsed name (what.Replace credential) done) _ agent _ h.outcome now.elapsed h.state old new refl refl refl h.comes h.concludes
     made name (what.Add row) why old new h = concluded_after (λ done. Take now.elapsed name (what.Add row) done) _ agent _ h.outcome now.elapsed h.state old new refl refl refl h.comes h.concludes
-    made name what.Drop why old new h = spares_more 0 1 0 0 old new (omega arith) (omega arith) (spares old new (will_tell (Err None) now.elapsed old new h))
+    made name _ why old new h = spares_more 0 1 0 0 old new (omega arith) (omega arith) (spares old new (will_tell (Err None) now.elapsed old new h))
 
     judged : (name : List ℕ) (w : What) (verdict : Verdict) (old new : House S T D K E) → Judges does rows agent now name w verdict old new → Spares does 1 0 old new
     judged name w verdicts.Good old new h = made name w None old new h
-    judged name w (verdicts.Refused status) old new h = spares_more 0 1 0 0 old new (omega arith) (omega arith) (spares old new (will_tell (Err h.0) now.elapsed old new h.1.1))
-    judged name w verdicts.Endless old new h = spares_more 0 1 0 0 old new (omega arith) (omega arith) (spares old new (will_tell (Err h.0) now.elapsed old new h.1.1))
     judged name w (verdicts.Missing why) old new h = made name w (Some why) old new h
+    judged name w _ old new h = spares_more 0 1 0 0 old new (omega arith) (omega arith) (spares old new (will_tell (Err h.0) now.elapsed old new h.1.1))
 
     looked_if : (name : List ℕ) (w : What) (result : Result LookedUp AllocError) (old new : House S T D K E) → LooksUpIf does rows agent now name w result old new → Spares does 1 0 old new
     looked_if name w (Ok lookups.Out) old new h = spares_more 0 1 0 0 old new (omega arith) (omega arith) (spares old new (record { state = ap (λ x. x.state) h.rest; ends = ap (λ x. x.ends) h.rest }))
@@ -288,15 +286,13 @@ module _ {S T D K E : Type 0} (does : KeepCall → K → K → Type 0) (keeps : 
   settled_by : (is_made : Bool) (given : Option Given) (old new : House S T D K E) → SettlesBy does keeps agent is_made given old new → Spares does 0 0 old new
   settled_by is_made None old new h = spares does old new (left old new h)
   settled_by true (Some (givens.Need need)) old new h = (let all = sent agent h.sent need.at (record old { desk = h.desk }) new h.sends in spares does old new (record { state = all.state; ends = all.ends }))
-  settled_by false (Some (givens.Need need)) old new h = spares does old new (record { state = ap (λ x. x.state) h.1; ends = ap (λ x. x.ends) h.1 })
   settled_by true (Some (givens.Answer text at)) old new h = spares does old new (sent agent text at old new h)
-  settled_by false (Some (givens.Answer text at)) old new h = spares does old new (record { state = ap (λ x. x.state) h.1; ends = ap (λ x. x.ends) h.1 })
   settled_by true (Some (givens.Aside client text at)) old new h = spares does old new (record { state = ap (λ x. x.state) h.rest; ends = ap (λ x. x.ends) h.rest })
-  settled_by false (Some (givens.Aside client text at)) old new h = spares does old new (record { state = ap (λ x. x.state) h.1; ends = ap (λ x. x.ends) h.1 })
   settled_by true (Some (givens.Served marks)) old new h = record { asked = marked_by does old.state new.state h.0; ends = ap (λ x. x.ends) h.1 }
   settled_by false (Some (givens.Served marks)) old new h = spares does old new (left old new h)
   settled_by true (Some givens.Unchanged) old new h = record { asked = marked_by does old.state new.state h.0; ends = ap (λ x. x.ends) h.1 }
   settled_by false (Some givens.Unchanged) old new h = spares does old new (left old new h)
+  settled_by false (Some _) old new h = spares does old new (record { state = ap (λ x. x.state) h.1; ends = ap (λ x. x.ends) h.1 })
 
   pub settled_given : (is_made : Bool) (old new : House S T D K E) → SettlesGiven does keeps agent is_made old new → Spares does 0 0 old new
   settled_given is_made old new h = (let all = settled_by is_made old.given (record old { given = None }) new h in record { asked = all.asked; ends = all.ends })

@@ -370,17 +370,15 @@ module _ (beside : List ℕ → List ℕ) where
             | true ↦ made_beside_so at s c d h.0 h.1.0
             | false ↦ overruled_so at s c d h.0 h.1.0
           ]
-      step_so at s (Made c) (Settling mark) h = absurd h
-      step_so at s (Settling mark) (Made d) h = absurd h
       step_so at s (Settling mark) (Settling other) h =
           ap (λ b. cond b (replay_begun g) (state_beside s)) h
           ∙ elim (bytes_eq mark f.mark) as (λ b. cond b (replay_begun g) (state_beside s) ≡ state_beside (cond b (replay_begun f) s)) [ true ↦ begun_so | false ↦ refl ]
+      step_so at s _ _ h = absurd h
 
       from_so : (at : ℕ) (s : ReplayState) (records others : List Record) → AllZip (IsRecordBeside beside f g) records others → replay_from g at (state_beside s) others ≡ state_beside (replay_from f at s records)
       from_so at s [] [] zip = refl
-      from_so at s [] (t ∷ ts) zip = absurd zip
-      from_so at s (r ∷ rs) [] zip = absurd zip
       from_so at s (r ∷ rs) (t ∷ ts) zip = ap (λ (x : ReplayState). replay_from g (at + 1) x ts) (step_so at s r t zip.0) ∙ from_so (at + 1) (replay_step f at s r) rs ts zip.1
+      from_so at s _ _ zip = absurd zip
 
       pub replayed_so : (records others : List Record) → AllZip (IsRecordBeside beside f g) records others → replayed g others ≡ state_beside (replayed f records)
       unfolding replayed

@@ -90,16 +90,13 @@ module _ (a b : Agent) (alike : AgentsAreAlike a b) where
   says_lack left old new x = record { is_said = x.is_said; line = subst (λ (n : ℕ). IsSaid x.is_said old.form n memory_line old.room new.room) (sym now_same) x.line; rest = x.rest }
 
   lacks : (w : Lack) (old new : Desk) → HearsWantingBy w a old new → HearsWantingBy w b old new
-  lacks Over old new x = says_lack Said old new x
-  lacks Unsaid old new x = says_lack Said old new x
   lacks Said old new x = x
   lacks Passing old new x = x
+  lacks _ old new x = says_lack Said old new x
 
   passes : (w : Lack) (old new : Desk) → HearsTimeBy w a old new → HearsTimeBy w b old new
-  passes Over old new x = x
   passes Unsaid old new x = says_lack Passing old new x
-  passes Said old new x = x
-  passes Passing old new x = x
+  passes _ old new x = x
 
   unmade : (is_made : Bool) (old new : Desk) → HearsUnmade is_made a old new → HearsUnmade is_made b old new
   unmade true old new x = x
@@ -230,9 +227,8 @@ module _ (a b : Agent) (around more : Around) (boards : board_of b more ≡ boar
   shown_if false page sent x = x
 
   replies : {T : Type 0} (now : Reading) (it : Wanted) (enough : Bool) (old new : GuestTable T RequestLines) → RepliesTo a around now it enough old new → RepliesTo b more now it enough old new
-  replies now (wanted.Do x) enough old new h = h
   replies now (wanted.Show page) enough old new h = (h.0, (shown_if enough page h.0 h.1.0, h.1.1))
-  replies now (wanted.Refused why) enough old new h = h
+  replies now _ enough old new h = h
 
   first_replied : {T : Type 0} (now : Reading) (first : Option (List ℕ)) (enough : Bool) (old new : GuestTable T RequestLines) → FirstIsReplied a around now first enough old new → FirstIsReplied b more now first enough old new
   first_replied now None enough old new h = h

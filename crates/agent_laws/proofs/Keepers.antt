@@ -67,15 +67,13 @@ module _ {S T D K E : Type 0} (does : KeepCall → K → K → Type 0) (rows : K
     reply = subst (λ (is : Bool). IsNeedReply is (reach_of_need a.machine need.entry need.until) x.line x.sent) (sym (keeps_same does rows keeps path reads gives beside other h old.state)) x.reply;
     sends = sent_so a x.sent need.at (record old { desk = x.desk }) new x.sends;
   }
-  settles_so a false (Some (givens.Need need)) old new x = (x.0, ap twin x.1)
   settles_so a true (Some (givens.Answer sent at)) old new x = sent_so a sent at old new x
-  settles_so a false (Some (givens.Answer sent at)) old new x = (x.0, ap twin x.1)
   settles_so a true (Some (givens.Aside client sent at)) old new x = record { answered = x.answered; desk = x.desk; rest = ap twin x.rest }
-  settles_so a false (Some (givens.Aside client sent at)) old new x = (x.0, ap twin x.1)
   settles_so a true (Some (givens.Served marks)) old new x = (marked_by does rows keeps path reads gives beside other h old.state new.state x.0, ap twin x.1)
   settles_so a false (Some (givens.Served marks)) old new x = ap twin x
   settles_so a true (Some givens.Unchanged) old new x = (marked_by does rows keeps path reads gives beside other h old.state new.state x.0, ap twin x.1)
   settles_so a false (Some givens.Unchanged) old new x = ap twin x
+  settles_so a false (Some _) old new x = (x.0, ap twin x.1)
 
   settled_so : (a : Agent) (is_made : Bool) (old new : House S T D K E) → SettlesChange (AsksSame beside does) keeps a is_made old new → SettlesChange does keeps a is_made (twin old) (twin new)
   settled_so a is_made old new x = record {

@@ -121,11 +121,9 @@ module _ (beside : List ℕ → List ℕ) where
 
     given_with : (a : Agent) (s : Inventory) (marks : List Mark) (given : Option Given) → IsGivenWith a s marks given → IsGivenWith (agent_beside beside a) (inventory_beside beside s) marks given
     given_with a s marks None x = absurd x
-    given_with a s marks (Some (givens.Need need)) x = absurd x
-    given_with a s marks (Some (givens.Answer sent at)) x = absurd x
-    given_with a s marks (Some (givens.Aside client sent at)) x = absurd x
     given_with a s marks (Some (givens.Served given)) x = ((λ e. x.0 (inventory_back s a.inventory e)), x.1)
     given_with a s marks (Some givens.Unchanged) x = ap (inventory_beside beside) x
+    given_with a s marks (Some _) x = absurd x
 
 -- ---- what whoever keeps changes is asked for
 
@@ -317,10 +315,9 @@ module _ {S T D K E : Type 0} (does : KeepCall → K → K → Type 0) (rows : K
     }
 
     makes : (name : List ℕ) (w : What) (why : Option Loss) (old new : House S T D K E) → Makes (AsksSame beside does) rows a now name w why old new → Makes does rows (agent_beside beside a) now name w why (twin old) (twin new)
-    makes name (what.Need need) why old new x = will_tell (Err None) now.elapsed old new x
     makes name (what.Replace credential) why old new x = replaces name credential why old new x
     makes name (what.Add row) why old new x = adds_row name row why old new x
-    makes name what.Drop why old new x = will_tell (Err None) now.elapsed old new x
+    makes name _ why old new x = will_tell (Err None) now.elapsed old new x
 
     looks_up_if : (name : List ℕ) (w : What) (result : Result LookedUp AllocError) (old new : House S T D K E) → LooksUpIf (AsksSame beside does) rows a now name w result old new → LooksUpIf does rows (agent_beside beside a) now name w result (twin old) (twin new)
     looks_up_if name w (Ok lookups.Out) old new x = record { client = x.client; aside = x.aside; rest = ap twin x.rest }

@@ -145,8 +145,7 @@ module _ {K : Type 0} (Done : Asked → Option K → Type 0) (has : ℕ → Aske
   IsOwed who state (Some (givens.Need need)) = IsTold who state
   IsOwed who state (Some (givens.Answer sent at)) = BeginsOk sent → IsTold who state
   IsOwed who state (Some (givens.Aside client sent at)) = BeginsOk sent → IsTold client state
-  IsOwed who state (Some (givens.Served marks)) = Unit {0}
-  IsOwed who state (Some givens.Unchanged) = Unit {0}
+  IsOwed who state (Some _) = Unit {0}
 
 -- the client of a change that waits has asked for it
 abbrev pub WaitsFor : {K : Type 0} → (K → List ℕ → Result Row Why → Type 0) → (ℕ → Asked → Type 0) → Option Awaited → Type 0
@@ -168,11 +167,9 @@ set_aside client (Some old) (Some new) h = h.0
 
 given_with : {K : Type 0} (Done : Asked → Option K → Type 0) (has : ℕ → Asked → Type 0) (agent : Agent) (s : Inventory) (marks : List Mark) (who : Option ℕ) (state : Option K) (given : Option Given) → IsGivenWith agent s marks given → IsOwed Done has who state given
 given_with Done has agent s marks who state None h = tt
-given_with Done has agent s marks who state (Some (givens.Need need)) h = absurd h
-given_with Done has agent s marks who state (Some (givens.Answer sent at)) h = absurd h
-given_with Done has agent s marks who state (Some (givens.Aside client sent at)) h = absurd h
 given_with Done has agent s marks who state (Some (givens.Served given)) h = tt
 given_with Done has agent s marks who state (Some givens.Unchanged) h = tt
+given_with Done has agent s marks who state (Some _) h = absurd h
 
 module _ {K : Type 0} (does : KeepCall → K → K → Type 0) (reads : K → List ℕ → Result Row Why → Type 0) (Done : Asked → Option K → Type 0) (so : AreDone does reads Done) where
   settler : (Says : K → List ℕ → Type 0) (outcome : Outcome) (old new : Option K) → KeeperIsAsked does Settle Says outcome old new → WasDone outcome → Done asked.Settle new
@@ -245,16 +242,14 @@ module _ {S T D K E : Type 0} (does : KeepCall → K → K → Type 0) (rows : K
           from Q (record old { state = state }) old new refl refl (conclude Q agent l outcome now.elapsed (record old { state = state }) new concludes (keeper does now.elapsed name w Q made Says outcome old.state state comes))
 
     makes : (name : List ℕ) (w : What) (Q : Option K → Type 0) → ((x : Unit {0}) (l m : K) → does (Take now.elapsed name w (Ok x)) l m → Q (Some m)) → (why : Option Loss) (old new : House S T D K E) → Makes does rows agent now name w why old new → Answers Q old new
-    makes name (what.Need need) Q made why old new h = tell Q (Err None) now.elapsed old new h (λ done. absurd done)
     makes name (what.Replace credential) Q made why old new h = taken_so name (what.Replace credential) Q made _ _ h.outcome h.state old new h.comes h.concludes
     makes name (what.Add row) Q made why old new h = taken_so name (what.Add row) Q made _ _ h.outcome h.state old new h.comes h.concludes
-    makes name what.Drop Q made why old new h = tell Q (Err None) now.elapsed old new h (λ done. absurd done)
+    makes name _ Q made why old new h = tell Q (Err None) now.elapsed old new h (λ done. absurd done)
 
     judges : (name : List ℕ) (w : What) (Q : Option K → Type 0) → ((x : Unit {0}) (l m : K) → does (Take now.elapsed name w (Ok x)) l m → Q (Some m)) → (verdict : Verdict) (old new : House S T D K E) → Judges does rows agent now name w verdict old new → Answers Q old new
     judges name w Q made verdicts.Good old new h = makes name w Q made None old new h
-    judges name w Q made (verdicts.Refused status) old new h = tell Q (Err h.0) now.elapsed old new h.1.1 (λ done. absurd done)
-    judges name w Q made verdicts.Endless old new h = tell Q (Err h.0) now.elapsed old new h.1.1 (λ done. absurd done)
     judges name w Q made (verdicts.Missing why) old new h = makes name w Q made (Some why) old new h
+    judges name w Q made _ old new h = tell Q (Err h.0) now.elapsed old new h.1.1 (λ done. absurd done)
 
     -- ---- a client that was set aside
 

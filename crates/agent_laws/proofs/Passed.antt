@@ -53,9 +53,8 @@ module _ {N : Type 0} (does P : NeighbourCall → N → N → Type 0) (passes : 
 
 module _ {N L : Type 0} (due_by : ℕ → ℕ → L → ℕ) (does P : NeighbourCall → N → N → Type 0) (passes : Passes P) (by : (call : NeighbourCall) (old new : N) → does call old new → P call old new) where
   settled_behind : (giver : Giver) (a : Agent) (is_made : Bool) (old new : Behind N L) → SettlesBy does giver a is_made old new → P (Settle a is_made) old.others new.others
-  settled_behind Others a is_made old new h = by (Settle a is_made) old.others new.others h.0
-  settled_behind OthersServe a is_made old new h = by (Settle a is_made) old.others new.others h.0
   settled_behind (Lookout i end) a is_made old new h = passes.settled a (End i end) is_made old.others new.others (by (Hear a (End i end)) old.others new.others h.0)
+  settled_behind _ a is_made old new h = by (Settle a is_made) old.others new.others h.0
 
   given_behind : (a : Agent) (now : Reading) (change : Option Change) (old new : Behind N L) → OthersGive does a now change old new → P (Give a now change) old.others new.others
   given_behind a now None old new h = absurd h

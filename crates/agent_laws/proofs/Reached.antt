@@ -25,11 +25,8 @@ use Rattle.agent_laws.proofs.Passed.{Passes, by_day, by_day_behind}
 
 -- where the house goes on it is tried 16 times at most, and else left alone
 abbrev pub DoesToReader : {S : Type 0} → (S → ℕ) → NeighbourCall → S → S → Type 0
-DoesToReader tries (Hear agent thing) old new = new ≡ old
 DoesToReader tries (GoOn agent now is_busy) old new = tries new ≤ tries old + MOST_TRIES
-DoesToReader tries (Give agent now change) old new = new ≡ old
-DoesToReader tries (Settle agent is_made) old new = new ≡ old
-DoesToReader tries (Rest now rest) old new = new ≡ old
+DoesToReader tries _ old new = new ≡ old
 
 module _ {S T D K E : Type 0} where
   next_heard : (agent : Agent) (next : Option (Option Next)) (old new : House S T D K E) → HearsNext agent next old new → new.sink ≡ old.sink

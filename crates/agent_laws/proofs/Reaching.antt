@@ -88,16 +88,12 @@ module _ {S T D K E : Type 0} (does : NeighbourCall → House S T D K E → Hous
       steps_by a (Some requests) (Some lead) old new h = steps_if a (renews requests) lead requests old new h
 
       settles_by : (giver : Giver) (by : Agent) (is_made : Bool) (old new : Behind N L) → SettlesBy to giver by is_made old new → SettlesOr by is_made (house old.others) (house new.others)
-      settles_by Others by is_made old new h = reaches.settles by is_made old.others new.others h.0
-      settles_by OthersServe by is_made old new h = reaches.settles by is_made old.others new.others h.0
       settles_by (Lookout i end) by is_made old new h = inr (reaches.hears by (End i end) old.others new.others h.0)
+      settles_by _ by is_made old new h = reaches.settles by is_made old.others new.others h.0
 
       settles_own : (change : Change) (by : Agent) (is_made : Bool) (old new : Behind N L) → SettlesBy to (giver_of change) by is_made old new → to (Settle by is_made) old.others new.others
       settles_own (changes.Need i until) by is_made old new h = h.0
-      settles_own changes.Begin by is_made old new h = h.0
-      settles_own (changes.Known i end renewable) by is_made old new h = h.0
-      settles_own (changes.Serve s) by is_made old new h = h.0
-      settles_own changes.Kept by is_made old new h = h.0
+      settles_own _ by is_made old new h = h.0
 
       none_behind : (a : Agent) (now : Reading) (old new : Behind N L) → PassesBehind due_by to (Give a now None) old new → does (Give a now None) (house old.others) (house new.others)
       none_behind a now old new (inl h) = absurd h

@@ -221,9 +221,7 @@ module _ {D I L : Type 0} (known : Bool) (seen : D → DiskState) (counts : (dis
       let row = is.1.0 in
       ((book_in is.0.state).file.system_max, (row, (is.1.1.0, moved known seen name row.name w (what.Add row) m.state is.1.1.1.0 is.1.1.1.1 (on_disk known seen counts now name w l.state m.state h.0))))
   taken (asked.Drop n) now name w x l m is h = moved known seen name n w what.Drop m.state is.0 is.1 (on_disk known seen counts now name w l.state m.state h.0)
-  taken asked.Settle now name w x l m is h = absurd is
-  taken asked.Reload now name w x l m is h = absurd is
-  taken (asked.Follow alerts) now name w x l m is h = absurd is
+  taken _ now name w x l m is h = absurd is
 
   -- FILE was settled, or read anew
   settled : (x : Unit {0}) (l m : Ledger D I L) → Does (Settle (Ok x)) l m → FileHasAll known seen m.state ⊎ FileSaysAll known seen m.state
@@ -250,13 +248,8 @@ module _ {D I L : Type 0} (known : Bool) (seen : D → DiskState) (counts : (dis
     change_by table name w (NotYet s) is = absurd is.1.0
 
     change_of : (a : Asked) (name : List ℕ) (w : What) → IsChangeOf reads_later a name w → IsChangeOf reads_of a name w
-    change_of (asked.Need n need) name w is = is
-    change_of (asked.Replace n credential) name w is = is
     change_of (asked.Add table) name w is = change_by table name w is.0 is.1
-    change_of (asked.Drop n) name w is = is
-    change_of asked.Settle name w is = is
-    change_of asked.Reload name w is = is
-    change_of (asked.Follow alerts) name w is = is
+    change_of _ name w is = is
 
     -- as long as it is to come only needs are taken
     shut_taken : (a : Asked) (name : List ℕ) (w : What) (x : Unit {0}) (s t : Shut F L) → IsChangeOf reads_of a name w → TakesShut name w (Ok x) s t → IsDoneUnkept a
@@ -264,21 +257,17 @@ module _ {D I L : Type 0} (known : Bool) (seen : D → DiskState) (counts : (dis
     shut_taken (asked.Replace n credential) name w x s t is h = absurd (subst (λ (v : What). TakesShut name v (Ok x) s t) is.1 h).0
     shut_taken (asked.Add table) name w x s t is h = absurd (subst (λ (v : What). TakesShut name v (Ok x) s t) is.1.1.1.1 h).0
     shut_taken (asked.Drop n) name w x s t is h = absurd (subst (λ (v : What). TakesShut name v (Ok x) s t) is.1 h).0
-    shut_taken asked.Settle name w x s t is h = absurd is
-    shut_taken asked.Reload name w x s t is h = absurd is
-    shut_taken (asked.Follow alerts) name w x s t is h = absurd is
+    shut_taken _ name w x s t is h = absurd is
 
     late_taken : (a : Asked) (now : ℕ) (name : List ℕ) (w : What) (x : Unit {0}) (l m : Late D I L F) → IsChangeOf reads_later a name w → DoesLater (Take now name w (Ok x)) l m → Done a (Some m)
     late_taken a now name w x (Open l) (Open m) is h = taken a now name w x l m (change_of a name w is) h
-    late_taken a now name w x (Open l) (NotYet t) is h = absurd h
-    late_taken a now name w x (NotYet s) (Open m) is h = absurd h
     late_taken a now name w x (NotYet s) (NotYet t) is h = shut_taken a name w x s t (change_of a name w is) h
+    late_taken a now name w x _ _ is h = absurd h
 
     late_settled : (x : Unit {0}) (l m : Late D I L F) → DoesLater (Settle (Ok x)) l m → Done asked.Settle (Some m)
     late_settled x (Open l) (Open m) h = settled x l m h
-    late_settled x (Open l) (NotYet t) h = absurd h
-    late_settled x (NotYet s) (Open m) h = absurd h
     late_settled x (NotYet s) (NotYet t) h = absurd h.0
+    late_settled x _ _ h = absurd h
 
     late_reloaded : (now : ℕ) (reread : Reread) (l m : Late D I L F) → DoesLater (Reload now (Ok reread)) l m → Done asked.Reload (Some m)
     late_reloaded now reread (Open l) (Open m) h = reloaded now reread l m h

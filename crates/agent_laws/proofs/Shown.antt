@@ -85,9 +85,8 @@ module _ {X : Type 0} (P : X → Type 0) where
 set_at : {X : Type 0} (xs : List X) (i place : ℕ) (x after : X) → slice_get (slice_set xs i x) place ≡ Some after → (after ≡ x) ⊎ (slice_get xs place ≡ Some after)
 set_at [] i place x after is = absurd cc
 set_at (y ∷ ys) zero zero x after is = inl (ap (the x) (sym is))
-set_at (y ∷ ys) zero (suc place) x after is = inr is
-set_at (y ∷ ys) (suc i) zero x after is = inr is
 set_at (y ∷ ys) (suc i) (suc place) x after is = set_at ys i place x after is
+set_at (y ∷ ys) _ _ x after is = inr is
 
 -- ---- where a client comes from
 
@@ -101,12 +100,8 @@ IsFedTo old (stages.Following left) = (was : List ℕ) × (old ≡ stages.Follow
 IsFedTo old stages.Over = old ≡ stages.Over
 
 fed_itself : (s : Stage) → IsFedTo s s
-fed_itself (stages.Reading bytes) = refl
-fed_itself (stages.Asked bytes) = refl
-fed_itself stages.Waiting = refl
-fed_itself (stages.Answering left) = refl
 fed_itself (stages.Following left) = (left, refl)
-fed_itself stages.Over = refl
+fed_itself _ = refl
 
 module _ {T : Type 0} (old : List (Guest T)) where
   -- there was a client of that number, of whose stage this is so
@@ -125,12 +120,10 @@ module _ {T : Type 0} (old : List (Guest T)) where
 
   -- one that asks has sent that, and one that is answered was answered
   abbrev ComesBy : ℕ → Stage → Type 0
-  ComesBy id (stages.Reading bytes) = Unit {0}
   ComesBy id (stages.Asked bytes) = From id (λ s. HasSent s bytes)
-  ComesBy id stages.Waiting = Unit {0}
   ComesBy id (stages.Answering left) = From id (λ s. IsSameAnswer s (stages.Answering left))
   ComesBy id (stages.Following left) = From id (λ s. IsSameAnswer s (stages.Following left))
-  ComesBy id stages.Over = Unit {0}
+  ComesBy id _ = Unit {0}
 
   abbrev Comes : Guest T → Type 0
   Comes g = ComesBy g.id g.stage
@@ -144,14 +137,10 @@ module _ {T : Type 0} (old : List (Guest T)) where
   fed_as_was g n same h = subst IsFed (sym same) h
 
   fed_by : (stage : Stage) (bytes : List ℕ) (fed : Result Fed AllocError) (g n : Guest T) → g.stage ≡ stage → IsFed g → IsFedFrom stage bytes fed g n → IsFed n
-  fed_by (stages.Reading front) bytes fed g n is h k = fed_as_was g n k.1 h
-  fed_by (stages.Asked request) bytes fed g n is h k = fed_as_was g n k.1 h
-  fed_by stages.Waiting bytes fed g n is h k = fed_as_was g n k.1 h
-  fed_by (stages.Answering left) bytes fed g n is h k = fed_as_was g n k.1 h
   fed_by (stages.Following left) bytes fed g n is h k =
       let followed : From g.id (λ s. IsFedTo s (stages.Following left)) = subst (λ (x : Stage). From g.id (λ s. IsFedTo s x)) is h in
       subst IsFed (sym k.1.1) followed
-  fed_by stages.Over bytes fed g n is h k = fed_as_was g n k.1 h
+  fed_by _ bytes fed g n is h k = fed_as_was g n k.1 h
 
   fed_at : (place : Option ℕ) (bytes : List ℕ) (fed : Result Fed AllocError) (before after : GuestTable T RequestLines) → Each IsFed before.guests → FeedsAt place bytes fed before after → Each IsFed after.guests
   fed_at None bytes fed before after all h = subst (λ (t : GuestTable T RequestLines). Each IsFed t.guests) (sym h.1) all
@@ -174,11 +163,8 @@ module _ {T : Type 0} (old : List (Guest T)) where
 
   timed : (id now by : ℕ) (s : Stage) → ComesBy id s → ComesBy id (in_time now by s)
   timed id now by (stages.Reading bytes) h = timed_by id (nat_lt now by) (stages.Reading bytes) h
-  timed id now by (stages.Asked bytes) h = h
-  timed id now by stages.Waiting h = h
   timed id now by (stages.Answering left) h = timed_by id (nat_lt now by) (stages.Answering left) h
-  timed id now by (stages.Following left) h = h
-  timed id now by stages.Over h = h
+  timed id now by _ h = h
 
   read_whole : (id : ℕ) (whole : Bool) (bytes : List ℕ) → From id (λ s. HasSent s bytes) → ComesBy id (cond whole (stages.Asked bytes) (stages.Reading bytes))
   read_whole id true bytes h = h
@@ -187,27 +173,23 @@ module _ {T : Type 0} (old : List (Guest T)) where
   was_read : (id : ℕ) (tried : Tried) (whole : Bool) (most : ℕ) (bytes : List ℕ) → From id (λ s. HasSent s bytes) → ComesBy id (read_to tried whole most bytes)
   was_read id (Done zero) whole most bytes h = h
   was_read id (Done (suc n)) whole most bytes h = read_whole id (whole || nat_lt most (length bytes)) bytes h
-  was_read id Waits whole most bytes h = tt
-  was_read id Failed whole most bytes h = tt
+  was_read id _ whole most bytes h = tt
 
   was_left : (id : ℕ) (rest : List ℕ) → From id (λ s. IsSameAnswer s (stages.Answering rest)) → ComesBy id (answering_rest rest)
   was_left id [] h = tt
   was_left id (b ∷ bs) h = h
 
   was_written : (id : ℕ) (tried : Tried) (rest : List ℕ) → From id (λ s. IsSameAnswer s (stages.Answering rest)) → ComesBy id (written_to tried rest)
-  was_written id (Done n) rest h = was_left id rest h
-  was_written id Waits rest h = was_left id rest h
   was_written id Failed rest h = tt
+  was_written id _ rest h = was_left id rest h
 
   was_told : (id : ℕ) (tried : Tried) (rest : List ℕ) → From id (λ s. IsSameAnswer s (stages.Following rest)) → ComesBy id (told_to tried rest)
-  was_told id (Done n) rest h = h
-  was_told id Waits rest h = h
   was_told id Failed rest h = tt
+  was_told id _ rest h = h
 
   was_heard : (id : ℕ) (tried : Tried) → From id (λ s. IsSameAnswer s (stages.Following [])) → ComesBy id (heard_to tried [])
-  was_heard id (Done n) h = tt
   was_heard id Waits h = h
-  was_heard id Failed h = tt
+  was_heard id _ h = tt
 
   sends_more : (bytes more : List ℕ) (s : Stage) → s ≡ stages.Reading bytes → HasSent s (bytes ++ more)
   sends_more bytes more s is = subst (λ (x : Stage). HasSent x (bytes ++ more)) (sym is) (more, refl)
@@ -233,12 +215,11 @@ module _ {T : Type 0} (old : List (Guest T)) where
         subst Comes (sym k.same)
         (timed g.id now g.by (read_to k.tried k.whole most (bytes ++ k.came)) (was_read g.id k.tried k.whole most (bytes ++ k.came) (from_more g.id _ _ (sends_more bytes k.came) h)))
     goes_by (stages.Asked bytes) g n is h k = subst Comes (sym k) (subst (ComesBy g.id) (sym is) (from_more g.id _ _ (has_sent bytes) h))
-    goes_by stages.Waiting g n is h k = subst Comes (sym k) (subst (ComesBy g.id) (sym is) tt)
     goes_by (stages.Answering left) g n is h k =
         let rest : List ℕ = drop (count k.0) left in
         subst Comes (sym k.1.same) (timed g.id now g.by (written_to k.0 rest) (was_written g.id k.0 rest (from_more g.id _ _ (is_left left (count k.0)) h)))
     goes_by (stages.Following left) g n is h k = told_on left g n h k
-    goes_by stages.Over g n is h k = subst Comes (sym k) (subst (ComesBy g.id) (sym is) tt)
+    goes_by _ g n is h k = subst Comes (sym k) (subst (ComesBy g.id) (sym is) tt)
 
     goes_one : (enough : Bool) (g n : Guest T) → IsFed g → OneGoesOn remaining written calls tells most now enough g n → Comes n
     goes_one enough g n h (inl k) = goes_by g.stage g n refl h k
@@ -281,20 +262,13 @@ module _ {T : Type 0} (old : List (Guest T)) where
   -- ---- one of them is answered
 
   had_by : (id : ℕ) (s : Stage) (text : List ℕ) → answer_in s ≡ Some text → ComesBy id s → From id (λ b. IsSameAnswer b s)
-  had_by id (stages.Reading bytes) text is h = absurd cc
-  had_by id (stages.Asked bytes) text is h = absurd cc
-  had_by id stages.Waiting text is h = absurd cc
   had_by id (stages.Answering left) text is h = h
   had_by id (stages.Following left) text is h = h
-  had_by id stages.Over text is h = absurd cc
+  had_by id _ text is h = absurd cc
 
   asks_by : (id : ℕ) (s : Stage) (bytes : List ℕ) → asked_bytes s ≡ Some bytes → ComesBy id s → From id (λ b. HasSent b bytes)
-  asks_by id (stages.Reading front) bytes is h = absurd cc
   asks_by id (stages.Asked request) bytes is h = subst (λ (r : List ℕ). From id (λ b. HasSent b r)) (ap (the []) is) h
-  asks_by id stages.Waiting bytes is h = absurd cc
-  asks_by id (stages.Answering left) bytes is h = absurd cc
-  asks_by id (stages.Following left) bytes is h = absurd cc
-  asks_by id stages.Over bytes is h = absurd cc
+  asks_by id _ bytes is h = absurd cc
 
   module _ (agent : Agent) (around : Around) (now : Reading) where
     abbrev pub IsSo : Guest T → Guest T → Type 0

@@ -79,11 +79,8 @@ module _ {E : Type 0} (known : Bool) (state : E → DiskState) where
 
   -- they are tried where the house goes on, and else left alone
   abbrev DoesToEnds : NeighbourCall → Option (EndsFile E) → Option (EndsFile E) → Type 0
-  DoesToEnds (Hear agent thing) old new = AreEndsLeft old new
   DoesToEnds (GoOn agent now is_busy) old new = MayBeTried old new
-  DoesToEnds (Give agent now change) old new = AreEndsLeft old new
-  DoesToEnds (Settle agent is_made) old new = AreEndsLeft old new
-  DoesToEnds (Rest now rest) old new = AreEndsLeft old new
+  DoesToEnds _ old new = AreEndsLeft old new
 
   module _ {N : Type 0} (does : NeighbourCall → N → N → Type 0) (ends : N → Option (EndsFile E)) (by : (call : NeighbourCall) (old new : N) → does call old new → DoesToEnds call (ends old) (ends new)) where
     left_of : (calls : List NeighbourCall) (old new : N) → AllCalled does calls old new → weight goes calls ≡ 0 → AreEndsLeft (ends old) (ends new)

@@ -145,9 +145,8 @@ module _ {S T D K E : Type 0} (does : KeepCall → K → K → Type 0) (keeps : 
   settled_by false (Some (givens.Aside client sent at)) old new owed h =
       closed_tells at client old new (λ ok. told_aside [] at client old.control new.control ok h.0) (ap (λ y. y.given) h.1) (ap (λ y. y.awaited) h.1)
   settled_by true (Some (givens.Served marks)) old new owed h = same_tells old new (ap (λ y. y.control) h.1) (ap (λ y. y.given) h.1) (ap (λ y. y.awaited) h.1)
-  settled_by false (Some (givens.Served marks)) old new owed h = same_tells old new (ap (λ y. y.control) h) (ap (λ y. y.given) h) (ap (λ y. y.awaited) h)
   settled_by true (Some givens.Unchanged) old new owed h = same_tells old new (ap (λ y. y.control) h.1) (ap (λ y. y.given) h.1) (ap (λ y. y.awaited) h.1)
-  settled_by false (Some givens.Unchanged) old new owed h = same_tells old new (ap (λ y. y.control) h) (ap (λ y. y.given) h) (ap (λ y. y.awaited) h)
+  settled_by false (Some _) old new owed h = same_tells old new (ap (λ y. y.control) h) (ap (λ y. y.given) h) (ap (λ y. y.awaited) h)
 
   -- before it the ends are to be kept anew at most
   record IsServedNow (old new : House S T D K E) : Type 0 where

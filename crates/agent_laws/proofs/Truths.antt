@@ -72,10 +72,7 @@ join (Rest now rest ∷ xs) ys x y = join xs ys x y
 -- a call but to hear
 abbrev other : NeighbourCall → ℕ
 other (Hear agent thing) = 0
-other (GoOn agent now is_busy) = 1
-other (Give agent now change) = 1
-other (Settle agent is_made) = 1
-other (Rest now rest) = 1
+other _ = 1
 
 only_heard : (xs : List NeighbourCall) → weight other xs ≡ 0 → EachIsSettled xs
 only_heard [] e = tt

@@ -13,11 +13,8 @@ use Rattle.agent_turns.specs.declared.change.Change.{Change}
 
 -- how often they go on, and how many changes they give
 abbrev pub goes : NeighbourCall → ℕ
-goes (Hear agent thing) = 0
 goes (GoOn agent now is_busy) = 1
-goes (Give agent now change) = 0
-goes (Settle agent is_made) = 0
-goes (Rest now rest) = 0
+goes _ = 0
 
 abbrev pub gives : NeighbourCall → ℕ
 gives (Hear agent thing) = 0
@@ -29,11 +26,8 @@ gives (Rest now rest) = 0
 
 -- and how often they are asked for a change
 abbrev pub offers : NeighbourCall → ℕ
-offers (Hear agent thing) = 0
-offers (GoOn agent now is_busy) = 0
 offers (Give agent now change) = 1
-offers (Settle agent is_made) = 0
-offers (Rest now rest) = 0
+offers _ = 0
 
 abbrev pub weight : (NeighbourCall → ℕ) → List NeighbourCall → ℕ
 weight w [] = 0

@@ -12,9 +12,8 @@ use Rattle.agent_standing.proofs.Left.{Word}
 
 -- an end that was told just now
 told_end_believed : (c : Clocks) → c.phase < 1000 → (renewable : Bool) (end : End) → Believes end renewable (told_end c renewable end)
-told_end_believed c below renewable Unknown = refl
 told_end_believed c below renewable (At end) = (omega arith, (omega arith, refl))
-told_end_believed c below renewable Never = refl
+told_end_believed c below renewable _ = refl
 
 pub told_believed : (m : WatchState) (i : ℕ) → m.clocks.phase < 1000 → Believes (track_at m i).end (track_at m i).renewable (told_of m i)
 told_believed m i below = told_end_believed m.clocks below (track_at m i).renewable (track_at m i).end

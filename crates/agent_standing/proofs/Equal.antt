@@ -21,22 +21,19 @@ use Rattle.agent_standing.specs.code.Same.{IsAsLarge, IsSameAt}
 -- ---- what `==` says
 
 same_kind : (a b : Kind) → (kind_eq.ghosts).eq a b ≡ true → a ≡ b
-same_kind Token Token e = refl
 same_kind Token Lease e = absurd (true≢false (sym e))
 same_kind Lease Token e = absurd (true≢false (sym e))
-same_kind Lease Lease e = refl
+same_kind _ _ e = refl
 
 same_bool : (a b : Bool) → beq a b ≡ true → a ≡ b
-same_bool true true e = refl
 same_bool true false e = absurd (true≢false (sym e))
 same_bool false true e = absurd (true≢false (sym e))
-same_bool false false e = refl
+same_bool _ _ e = refl
 
 same_option : (a b : Option ℕ) → option_eq ◌==◌ a b ≡ true → a ≡ b
 same_option None None e = refl
-same_option None (Some y) e = absurd (true≢false (sym e))
-same_option (Some x) None e = absurd (true≢false (sym e))
 same_option (Some x) (Some y) e = ap (λ n. Some n) (eqb-true x y e)
+same_option _ _ e = absurd (true≢false (sym e))
 
 same_entry : (a b : Entry) → (entry_eq.ghosts).eq a b ≡ true → a ≡ b
 same_entry a b e =

@@ -62,9 +62,8 @@ each_word f xs made i =
 set_word : (xs : List Track) (j : ℕ) (y : Track) → Word y (track_in xs j) → (i : ℕ) → Word (track_in (slice_set xs j y) i) (track_in xs i)
 set_word [] j y made i = refl
 set_word (x ∷ xs) zero y made zero = made
-set_word (x ∷ xs) zero y made (suc i) = refl
-set_word (x ∷ xs) (suc j) y made zero = refl
 set_word (x ∷ xs) (suc j) y made (suc i) = set_word xs j y made i
+set_word (x ∷ xs) _ y made _ = refl
 
 -- ---- a clock
 
@@ -204,16 +203,12 @@ replied_shape s r reply =
 
 looked_shape : (s : WatchState) (r : Out) (reply : Reply) (terms : Terms) → Shape (looked s r reply terms) s
 looked_shape s r (Told seconds renewable date) terms = (length-set s.forest.entries r.entry _, (length-set _ r.entry _ ∙ length-set s.tracks r.entry _, refl))
-looked_shape s r (Refused status date) terms = (refl, (length-set s.tracks r.entry _, refl))
-looked_shape s r Busy terms = (refl, (length-set s.tracks r.entry _, refl))
-looked_shape s r Lost terms = (refl, (length-set s.tracks r.entry _, refl))
+looked_shape s r _ terms = (refl, (length-set s.tracks r.entry _, refl))
 
 -- an answer tells of the entry of that index
 abbrev pub Tells : Reply → ℕ → ℕ → Type 0
 Tells (Told seconds renewable date) j i = i ≡ j
-Tells (Refused status date) j i = ⊥
-Tells Busy j i = ⊥
-Tells Lost j i = ⊥
+Tells _ j i = ⊥
 
 untold_word : (at : ℕ) (heard : Bool) (reply : Reply) (x : Track) → Word (untold_track at heard reply x) x
 unfolding untold_track
@@ -241,12 +236,10 @@ renewed_word s r Lost i other = set_word s.tracks r.entry _ (ungranted_word s.cl
 
 -- it tells of the entry of that index
 abbrev pub TellsOf : Event → ℕ → Type 0
-TellsOf (Clock wall elapsed) i = ⊥
 TellsOf (Looked j reply terms) i = Tells reply j i
 TellsOf (Renewed j reply) i = Tells reply j i
-TellsOf (Need j until) i = ⊥
-TellsOf Begin i = ⊥
 TellsOf (Known j end renewable) i = i ≡ j
+TellsOf _ i = ⊥
 
 -- what is left by a turn that tells of that entry, if of any
 pub record IsLeft (old : WatchState) (event : Event) (new : WatchState) : Type 0 where
@@ -313,9 +306,8 @@ pub left_turn : (old new : WatchState) (event : Event) (output : Output) → Tur
 left_turn old new event output turn = left_step old new event output turn.1
 
 refused_stays : (old new : WatchState) (event : Event) (fault : WatchFault) → Turn old event (Err fault) new → new ≡ old
-refused_stays old new event NotAsked h = h.1
-refused_stays old new event BadIndex h = h.1
 refused_stays old new event OutOfMemory h = h.1.1
+refused_stays old new event _ h = h.1
 
 pub turn_entries : (old new : WatchState) (event : Event) (result : Result Output WatchFault) → Turn old event result new → length new.forest.entries ≡ length old.forest.entries
 turn_entries old new event (Ok output) turn = (left_turn old new event output turn).entries

@@ -23,15 +23,13 @@ use Rattle.agent_standing.proofs.Believing.{still_believed, told_believed}
 set_told : (xs : List Standing) (j : ℕ) (y : Standing) → y.told ≡ (standing_in xs j).told → (i : ℕ) → (standing_in (slice_set xs j y) i).told ≡ (standing_in xs i).told
 set_told [] j y made i = refl
 set_told (x ∷ xs) zero y made zero = made
-set_told (x ∷ xs) zero y made (suc i) = refl
-set_told (x ∷ xs) (suc j) y made zero = refl
 set_told (x ∷ xs) (suc j) y made (suc i) = set_told xs j y made i
+set_told (x ∷ xs) _ y made _ = refl
 
 other_told : (xs : List Standing) (j : ℕ) (y : Standing) (i : ℕ) → (i ≡ j → ⊥) → (standing_in (slice_set xs j y) i).told ≡ (standing_in xs i).told
 other_told xs j y i other = ap (λ (x : Standing). x.told) (get_or-set_other xs j i y fresh_standing other)
 
 told_same : (m : WatchState) (event : Event) (xs : List Standing) (i : ℕ) → (TellsOf event i → ⊥) → (standing_in (standings_after m event xs) i).told ≡ (standing_in xs i).told
-told_same m (Clock wall elapsed) xs i other = refl
 told_same m (Looked j (Told seconds renewable date) terms) xs i other = other_told xs j _ i other
 told_same m (Looked j (Refused status date) terms) xs i other = set_told xs j _ refl i
 told_same m (Looked j Busy terms) xs i other = set_told xs j _ refl i
@@ -40,9 +38,8 @@ told_same m (Renewed j (Told seconds renewable date)) xs i other = other_told xs
 told_same m (Renewed j (Refused status date)) xs i other = set_told xs j _ refl i
 told_same m (Renewed j Busy) xs i other = set_told xs j _ refl i
 told_same m (Renewed j Lost) xs i other = set_told xs j _ refl i
-told_same m (Need j until) xs i other = refl
-told_same m Begin xs i other = refl
 told_same m (Known j end renewable) xs i other = other_told xs j _ i other
+told_same m _ xs i other = refl
 
 -- ---- what is believed after a turn
 
@@ -109,24 +106,18 @@ turn_believed old new (Known j end renewable) output xs few tracked below turn i
 -- ---- the counts
 
 standings_count : (m : WatchState) (event : Event) (xs : List Standing) → length (standings_after m event xs) ≡ length xs
-standings_count m (Clock wall elapsed) xs = refl
 standings_count m (Looked j reply terms) xs = length-set xs j _
 standings_count m (Renewed j reply) xs = length-set xs j _
-standings_count m (Need j until) xs = refl
-standings_count m Begin xs = refl
 standings_count m (Known j end renewable) xs = length-set xs j _
+standings_count m _ xs = refl
 
 with_need_count : (s : Inventory) (i need : ℕ) → length (inventory_with_need s i need).forest.entries ≡ length s.forest.entries
 unfolding inventory_with_need
 with_need_count s i need = length-set s.forest.entries i _
 
 inventory_count : (event : Event) (s : Inventory) → length (inventory_after event s).forest.entries ≡ length s.forest.entries
-inventory_count (Clock wall elapsed) s = refl
-inventory_count (Looked j reply terms) s = refl
-inventory_count (Renewed j reply) s = refl
 inventory_count (Need j until) s = with_need_count s j _
-inventory_count Begin s = refl
-inventory_count (Known j end renewable) s = refl
+inventory_count _ s = refl
 
 pub turned_is_agent : (old new : Agent) (event : Event) (output : Output) → IsAgent old → EventIsTaken old event output new → All IsStanding new.standings → IsAgent new
 turned_is_agent old new event output agent taken bounded =

@@ -9,9 +9,6 @@ use Rattle.agent_standing.proofs.Left.{by_index}
 
 pub taken_within : (s : WatchState) (event : Event) → refusal s event ≡ None → IsEventWithin (length s.forest.entries) event
 unfolding refusal
-taken_within s (Clock wall elapsed) free = tt
-taken_within s (Looked i reply terms) free = tt
-taken_within s (Renewed i reply) free = tt
 taken_within s (Need i until) free = by_index s i None free
-taken_within s Begin free = tt
 taken_within s (Known i end renewable) free = by_index s i None free
+taken_within s _ free = tt

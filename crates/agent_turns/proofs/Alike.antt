@@ -48,12 +48,8 @@ unfolding inventory_with_need
 need_alike s t i need alike = ap (λ (x : Inventory). inventory_with_need x i need) alike
 
 inventory_alike : (event : Event) (s t : Inventory) → AreInventoriesAlike s t → AreInventoriesAlike (inventory_after event s) (inventory_after event t)
-inventory_alike (events.Clock wall elapsed) s t alike = alike
-inventory_alike (events.Looked i reply terms) s t alike = alike
-inventory_alike (events.Renewed i reply) s t alike = alike
 inventory_alike (events.Need i until) s t alike = need_alike s t i _ alike
-inventory_alike events.Begin s t alike = alike
-inventory_alike (events.Known i end renewable) s t alike = alike
+inventory_alike _ s t alike = alike
 
 same_agents : (old other a b : Agent) → a ≡ old → b ≡ other → AreAgentsAlike old other → AreAgentsAlike a b
 same_agents old other a b one two alike = subst (λ (x : Agent). AreAgentsAlike x b) (sym one) (subst (λ (y : Agent). AreAgentsAlike old y) (sym two) alike)
@@ -99,13 +95,12 @@ tail_of (x ∷ xs) = xs
 
 answers_alike : (xs ys : List Answered) (old other a b : Agent) → AreAgentsAlike old other → (one : AnswersAreTaken xs old a) (two : AnswersAreTaken ys other b) → contents_taken ys other b two ≡ contents_taken xs old a one → AreAgentsAlike a b
 answers_alike [] [] old other a b alike one two same = same_agents old other a b one two alike
-answers_alike [] (y ∷ ys) old other a b alike one two same = absurd cc
-answers_alike (x ∷ xs) [] old other a b alike one two same = absurd cc
 answers_alike (x ∷ xs) (y ∷ ys) old other a b alike one two same =
     let first : Content = record { index = x.index; said = one.1.0.said } in
     let head = ap (head_or first) same in
     let mid = one_alike x y old other one.0 two.0 alike one.1.0 two.1.0 (ap (λ (c : Content). c.index) head) (ap (λ (c : Content). c.said) head) in
     answers_alike xs ys one.0 two.0 a b mid one.1.1 two.1.1 (ap tail_of same)
+answers_alike _ _ old other a b alike one two same = absurd cc
 
 -- ---- the time
 
@@ -196,14 +191,13 @@ follows_alike w v h k a b sent out alike words one two same =
 
 pub alike_law : AlikeLaw
 alike_law [] [] h k new last sent out one two alike words same = (two.0 ∙ sym one.0, same_held h k new last one.1 two.1 alike)
-alike_law [] (v ∷ vs) h k new last sent out one two alike words same = absurd words
-alike_law (w ∷ ws) [] h k new last sent out one two alike words same = absurd words
 alike_law (w ∷ ws) (v ∷ vs) h k new last [] out one two alike words same = absurd one
 alike_law (w ∷ ws) (v ∷ vs) h k new last (s ∷ sent) [] one two alike words same = absurd two
 alike_law (w ∷ ws) (v ∷ vs) h k new last (s ∷ sent) (o ∷ out) one two alike words same =
     let here = follows_alike w v h k one.0 two.0 s o alike words.0 one.1.0 two.1.0 (ap (head_or []) same) in
     let later = alike_law ws vs one.0 two.0 new last sent out one.1.1 two.1.1 here.1 words.1 (ap tail_of same) in
     (ap₂ (λ x xs. x ∷ xs) here.0 later.0, later.1)
+alike_law _ _ h k new last sent out one two alike words same = absurd words
 
 -- ---- another inventory
 

@@ -52,9 +52,8 @@ taken_same old a b event x y one two =
 
 -- an event that wants no memory is taken, or it is refused
 pub not_both : (s : WatchState) (event : Event) (x : Output) (new : WatchState) (fault : WatchFault) → (TurnMayWantMemory event → ⊥) → Turn s event (Ok x) new → Turn s event (Err fault) s → ⊥
-not_both s event x new NotAsked wants one two = let e = sym one.0 ∙ two.0 in absurd cc
-not_both s event x new BadIndex wants one two = let e = sym one.0 ∙ two.0 in absurd cc
 not_both s event x new OutOfMemory wants one two = wants two.1.0
+not_both s event x new _ wants one two = let e = sym one.0 ∙ two.0 in absurd cc
 
 turned_same : (old a b : Agent) (event : Event) (x y : Result Output WatchFault) → (TurnMayWantMemory event → ⊥) → AgentTurn old event x a → AgentTurn old event y b → b ≡ a
 turned_same old a b event (Ok x) (Ok y) wants one two = (taken_same old a b event x y one two).1

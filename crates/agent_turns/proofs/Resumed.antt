@@ -21,13 +21,9 @@ resumed_on es i d old mid new within h one = subst (λ (l : List Event). AreResu
 
 -- it stays in step
 resumed_in_step : (width : ℕ) (out : List lanes.Out) (e : Event) (h : Held) (new : Agent) → IsResumed e h.agent new → IsInStep width out h → IsInStep width out (record h { agent = new })
-resumed_in_step width out (events.Clock wall elapsed) h new is step = subst (λ (a : Agent). IsInStep width out (record h { agent = a })) (sym is) step
-resumed_in_step width out (events.Looked i reply terms) h new is step = subst (λ (a : Agent). IsInStep width out (record h { agent = a })) (sym is) step
-resumed_in_step width out (events.Renewed i reply) h new is step = subst (λ (a : Agent). IsInStep width out (record h { agent = a })) (sym is) step
-resumed_in_step width out (events.Need i until) h new is step = subst (λ (a : Agent). IsInStep width out (record h { agent = a })) (sym is) step
-resumed_in_step width out events.Begin h new is step = subst (λ (a : Agent). IsInStep width out (record h { agent = a })) (sym is) step
 resumed_in_step width out (events.Known i end renewable) h new is step =
     turned_in_step width out (events.Known i end renewable) h new (λ output turn. turn_known h.agent.machine new.machine i end renewable output turn.machine step.sound) is.0 is.1 step
+resumed_in_step width out _ h new is step = subst (λ (a : Agent). IsInStep width out (record h { agent = a })) (sym is) step
 
 pub all_resumed_in_step : (width : ℕ) (out : List lanes.Out) (es : List Event) (h : Held) (new : Agent) → AreResumed es h.agent new → IsInStep width out h → IsInStep width out (record h { agent = new })
 all_resumed_in_step width out [] h new all step = subst (λ (a : Agent). IsInStep width out (record h { agent = a })) (sym all) step

@@ -18,12 +18,8 @@ same_machine : (old new : Agent) → new ≡ old → Lead old.machine [] new.mac
 same_machine old new same = nowhere old.machine new.machine (ap (λ (a : Agent). a.machine) same)
 
 known_leads : (e : Event) (old new : Agent) (h : IsResumed e old new) → Lead old.machine (happenings_of_known e old new h) new.machine
-known_leads (events.Clock wall elapsed) old new h = same_machine old new h
-known_leads (events.Looked i reply terms) old new h = same_machine old new h
-known_leads (events.Renewed i reply) old new h = same_machine old new h
-known_leads (events.Need i until) old new h = same_machine old new h
-known_leads events.Begin old new h = same_machine old new h
 known_leads (events.Known i end renewable) old new h = by_event (events.Known i end renewable) old new h.0 h.1
+known_leads _ old new h = same_machine old new h
 
 resuming_leads : (es : List Event) (old new : Agent) (h : AreResumed es old new) → Lead old.machine (happenings_of_resuming es old new h) new.machine
 resuming_leads [] old new h = same_machine old new h

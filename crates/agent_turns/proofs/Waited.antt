@@ -45,11 +45,8 @@ paused_without does until millis is_busy r seen shown s g h a b c before waits s
 -- what is not made now changes nothing
 still : (change : Change) (is_made : Bool) (old new : ServingSide) → ChangeIsMade change is_made old new → is_change_kept change || not is_made ≡ true → new ≡ old
 still change false old new made on = made.1
-still (Need i until) true old new made on = absurd (let e : false ≡ true = on in cc)
-still Begin true old new made on = absurd (let e : false ≡ true = on in cc)
-still (Known i end renewable) true old new made on = absurd (let e : false ≡ true = on in cc)
-still (Serve s) true old new made on = absurd (let e : false ≡ true = on in cc)
 still Kept true old new made on = made
+still _ true old new made on = absurd (let e : false ≡ true = on in cc)
 
 -- the calls of a pause in which a change is given
 called_for_one :
@@ -81,16 +78,13 @@ paused_with does until millis is_busy r seen shown change is_made old new g h a 
 
 -- a change is made now
 changes_now : (change : Change) (is_made : Bool) → false ≡ goes_on (Some (record { change = change; is_made = is_made })) → (is_change_kept change ≡ false) × (is_made ≡ true)
-changes_now (Need i end) true on = (refl, refl)
-changes_now Begin true on = (refl, refl)
-changes_now (Known i end renewable) true on = (refl, refl)
-changes_now (Serve s) true on = (refl, refl)
 changes_now Kept true on = absurd (let e : false ≡ true = on in cc)
 changes_now (Need i end) false on = absurd (let e : false ≡ true = on in cc)
 changes_now Begin false on = absurd (let e : false ≡ true = on in cc)
 changes_now (Known i end renewable) false on = absurd (let e : false ≡ true = on in cc)
 changes_now (Serve s) false on = absurd (let e : false ≡ true = on in cc)
 changes_now Kept false on = absurd (let e : false ≡ true = on in cc)
+changes_now _ true on = (refl, refl)
 
 pub ended_changed :
     {N : Type 0} → (does : NeighbourCall → N → N → Type 0) (until : ℕ) (is_busy : Bool) (r : Reading) (seen shown : Agent) (change : Change) (is_made : Bool) (old new : ServingSide) (g h : Option (List Change)) (a b c d : N) → r.elapsed < until →

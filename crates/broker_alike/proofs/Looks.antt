@@ -75,16 +75,14 @@ module _ (g : Forest) (cs ds : List (List ℕ)) where
 
   looked_both : (call : Call) (i : ℕ) (x y : Result Subject Refusal) → SubjectsOf g cs ds i x y → AnswersOf g cs ds call i (lookup_answer call x) (lookup_answer call y)
   looked_both call i (Err x) (Err y) same = same
-  looked_both call i (Err x) (Ok b) same = absurd same
-  looked_both call i (Ok a) (Err y) same = absurd same
   looked_both call i (Ok a) (Ok b) same = (refl, (refl, same.0))
+  looked_both call i _ _ same = absurd same
 
   unread_both : (i : ℕ) (x y : Option Row) → BothFound R (is_token_with (credential_at cs i)) (is_token_with (credential_at ds i)) x y → SubjectsOf g cs ds i (unread x) (unread y)
   unfolding unread
-  unread_both i None None both = refl
   unread_both i None (Some q) both = absurd both
   unread_both i (Some r) None both = absurd both
-  unread_both i (Some r) (Some q) both = refl
+  unread_both i _ _ both = refl
 
   -- ---- a token's renewal by any step
 

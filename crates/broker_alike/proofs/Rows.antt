@@ -26,32 +26,28 @@ by_test P false c x y u v same there gone = subst (λ d. P y (cond d u v)) (sym 
 -- what is found in both: nothing, or two that are alike, and pass
 abbrev pub BothFound : {X : Type 0} → (X → X → Type 0) → (X → Bool) → (X → Bool) → Option X → Option X → Type 0
 BothFound R p q None None = Unit {0}
-BothFound R p q None (Some y) = ⊥
-BothFound R p q (Some x) None = ⊥
 BothFound R p q (Some x) (Some y) = R x y × ((p x ≡ true) × (q y ≡ true))
+BothFound R p q _ _ = ⊥
 
 module _ {X : Type 0} (R : X → X → Type 0) where
   pub find_both : (p q : X → Bool) → ((x y : X) → R x y → q y ≡ p x) → (xs ys : List X) → AllZip R xs ys → BothFound R p q (find p xs) (find q ys)
   find_both p q same [] [] zip = tt
-  find_both p q same [] (y ∷ ys) zip = absurd zip
-  find_both p q same (x ∷ xs) [] zip = absurd zip
   find_both p q same (x ∷ xs) (y ∷ ys) zip =
       by_test (BothFound R p q) (p x) (q y) (Some x) (find p xs) (Some y) (find q ys) (same x y zip.0)
       (λ yes'. (zip.0, (yes', same x y zip.0 ∙ yes'))) (λ no'. find_both p q same xs ys zip.1)
+  find_both p q same _ _ zip = absurd zip
 
   pub filter_both : (p q : X → Bool) → ((x y : X) → R x y → q y ≡ p x) → (xs ys : List X) → AllZip R xs ys → AllZip R (filter p xs) (filter q ys)
   filter_both p q same [] [] zip = tt
-  filter_both p q same [] (y ∷ ys) zip = absurd zip
-  filter_both p q same (x ∷ xs) [] zip = absurd zip
   filter_both p q same (x ∷ xs) (y ∷ ys) zip =
       let rest = filter_both p q same xs ys zip.1 in
       by_test (AllZip R) (p x) (q y) (x ∷ filter p xs) (filter p xs) (y ∷ filter q ys) (filter q ys) (same x y zip.0) (λ yes'. (zip.0, rest)) (λ no'. rest)
+  filter_both p q same _ _ zip = absurd zip
 
   pub map_both : (f h : X → X) → ((x y : X) → R x y → R (f x) (h y)) → (xs ys : List X) → AllZip R xs ys → AllZip R (map f xs) (map h ys)
   map_both f h keeps [] [] zip = tt
-  map_both f h keeps [] (y ∷ ys) zip = absurd zip
-  map_both f h keeps (x ∷ xs) [] zip = absurd zip
   map_both f h keeps (x ∷ xs) (y ∷ ys) zip = (keeps x y zip.0, map_both f h keeps xs ys zip.1)
+  map_both f h keeps _ _ zip = absurd zip
 
 -- ---- tests of rows
 
@@ -106,9 +102,8 @@ module _ (g : Forest) (cs ds : List (List ℕ)) where
 
     found_passes : (p q test : Row → Bool) (other : Row → Bool) → ((r z : Row) → R r z → other z ≡ test r) → (x y : Option Row) → BothFound R p q x y → passes other y ≡ passes test x
     found_passes p q test other same None None both = refl
-    found_passes p q test other same None (Some y) both = absurd both
-    found_passes p q test other same (Some x) None both = absurd both
     found_passes p q test other same (Some x) (Some y) both = same x y both.0
+    found_passes p q test other same _ _ both = absurd both
 
     parents_pass : (test other : Row → Bool) → ((r z : Row) → R r z → other z ≡ test r) → (o : Option (List ℕ)) → parent_passes other ys o ≡ parent_passes test xs o
     parents_pass test other same None = refl

@@ -116,41 +116,36 @@ module _ (g : Forest) (cs ds : List (List ℕ)) where
 
   abbrev pub SubjectsOf : ℕ → Result Subject Refusal → Result Subject Refusal → Type 0
   SubjectsOf i (Err x) (Err y) = y ≡ x
-  SubjectsOf i (Err x) (Ok b) = ⊥
-  SubjectsOf i (Ok a) (Err y) = ⊥
   SubjectsOf i (Ok a) (Ok b) = RowsOf g cs ds i a.row b.row × (b.increment ≡ a.increment)
+  SubjectsOf i _ _ = ⊥
 
   abbrev RenewedOf : ℕ → Result Row Refusal → Result Row Refusal → Type 0
   RenewedOf i (Err x) (Err y) = y ≡ x
-  RenewedOf i (Err x) (Ok q) = ⊥
-  RenewedOf i (Ok r) (Err y) = ⊥
   RenewedOf i (Ok r) (Ok q) = RowsOf g cs ds i r q
+  RenewedOf i _ _ = ⊥
 
   pub token_both : (i : ℕ) (n : Option ℕ) (x y : Option Row) → BothFound R (is_token_with (credential_at cs i)) (is_token_with (credential_at ds i)) x y → SubjectsOf i (by_token n x) (by_token n y)
   unfolding by_token
   token_both i n None None both = refl
-  token_both i n None (Some q) both = absurd both
-  token_both i n (Some r) None both = absurd both
   token_both i n (Some r) (Some q) both = ((both.0, (token_hit (credential_at cs i) r both.1.0, token_hit (credential_at ds i) q both.1.1)), refl)
+  token_both i n _ _ both = absurd both
 
   belongs_both : (r q a b : Row) → R r q → R a b → belongs q.parent b.name ≡ belongs r.parent a.name
   belongs_both r q a b one two = ap (λ n. belongs q.parent n) (name_both g cs ds a b two) ∙ ap (λ (x : Row). belongs x.parent a.name) one.same
 
   owned_both : (i : ℕ) (n : Option ℕ) (a b : Row) → R a b → (x y : Option Row) → BothFound R (is_lease_with (credential_at cs i)) (is_lease_with (credential_at ds i)) x y → SubjectsOf i (owned a n x) (owned b n y)
   owned_both i n a b two None None both = refl
-  owned_both i n a b two None (Some q) both = absurd both
-  owned_both i n a b two (Some r) None both = absurd both
   owned_both i n a b two (Some r) (Some q) both =
       by_test (SubjectsOf i) (belongs r.parent a.name) (belongs q.parent b.name) (Ok (record { row = r; increment = n })) (Err PermissionDenied) (Ok (record { row = q; increment = n })) (Err PermissionDenied)
       (belongs_both r q a b both.0 two) (λ hit. ((both.0, (lease_hit (credential_at cs i) r both.1.0, lease_hit (credential_at ds i) q both.1.1)), refl)) (λ miss. refl)
+  owned_both i n a b two _ _ both = absurd both
 
   pub owner_both : (i : ℕ) (n : Option ℕ) (c d : List ℕ) (xs ys : List Row) → BothFound R (is_lease_with (credential_at cs i)) (is_lease_with (credential_at ds i)) (lease_with xs (credential_at cs i)) (lease_with ys (credential_at ds i)) →
       (x y : Option Row) → BothFound R (is_token_with c) (is_token_with d) x y → SubjectsOf i (by_owner xs (credential_at cs i) n x) (by_owner ys (credential_at ds i) n y)
   unfolding by_owner
   owner_both i n c d xs ys leases None None both = refl
-  owner_both i n c d xs ys leases None (Some b) both = absurd both
-  owner_both i n c d xs ys leases (Some a) None both = absurd both
   owner_both i n c d xs ys leases (Some a) (Some b) both = owned_both i n a b both.0 (lease_with xs (credential_at cs i)) (lease_with ys (credential_at ds i)) leases
+  owner_both i n c d xs ys leases _ _ both = absurd both
 
   -- ---- what a renewal leaves
 
@@ -165,13 +160,12 @@ module _ (g : Forest) (cs ds : List (List ℕ)) where
 
   granted_both : (i t : ℕ) (fault : Option Fault) (x y : Result Subject Refusal) → SubjectsOf i x y → RenewedOf i (granted_row fault t x) (granted_row fault t y)
   granted_both i t fault (Err x) (Err y) same = same
-  granted_both i t fault (Err x) (Ok b) same = absurd same
-  granted_both i t fault (Ok a) (Err y) same = absurd same
   granted_both i t fault (Ok a) (Ok b) same =
       by_test (RenewedOf i) a.row.renewable b.row.renewable (Ok (record a.row { end = new_end fault t a.row a.increment })) (Err NotRenewable) (Ok (record b.row { end = new_end fault t b.row b.increment })) (Err NotRenewable)
       (ap (λ (row : Row). row.renewable) same.0.0.same)
       (λ able. with_end i (new_end fault t a.row a.increment) (new_end fault t b.row b.increment) a.row b.row same.0 (same_end fault t a.row b.row a.increment b.increment same.0.0.same same.1))
       (λ unable. refl)
+  granted_both i t fault _ _ same = absurd same
 
   renewal_both : (i t : ℕ) (xs ys : List Row) (call : Call) (r q : Request) (fault : Option Fault) → SubjectsOf i (subject xs call r) (subject ys call q) → RenewedOf i (renewal_by_broker xs t call r fault) (renewal_by_broker ys t call q fault)
   unfolding renewal_by_broker
@@ -182,13 +176,12 @@ module _ (g : Forest) (cs ds : List (List ℕ)) where
   counted_both : (i n : ℕ) (l m : BrokerTable) (fault : Option Fault) (x y : Result Row Refusal) → AreTablesAlike g cs ds l m → RenewedOf i x y →
       OutcomesOf g cs ds (call_for (entry_at g.entries i).kind) i (counted_renewal l n (call_for (entry_at g.entries i).kind) fault x) (counted_renewal m n (call_for (entry_at g.entries i).kind) fault y)
   counted_both i n l m fault (Err x) (Err y) a same = (same, record { rows = a.rows; faults = ap (λ fs. without_fault fs n) a.faults; count = refl })
-  counted_both i n l m fault (Err x) (Ok q) a same = absurd same
-  counted_both i n l m fault (Ok r) (Err y) a same = absurd same
   counted_both i n l m fault (Ok r) (Ok q) a same =
       let call = call_for (entry_at g.entries i).kind in (
         by_test (AnswersOf g cs ds call i) (is_drop fault) (is_drop fault) drops (tells call r) drops (tells call q) refl (λ dropped. tt) (λ told. (refl, (refl, same))),
         record { rows = with_both g cs ds l.rows m.rows a.rows r q same.0; faults = ap (λ fs. without_fault fs n) a.faults; count = refl },
       )
+  counted_both i n l m fault _ _ a same = absurd same
 
   pub renews_both : (i t : ℕ) (l m : BrokerTable) (r q : Request) → AreTablesAlike g cs ds l m → SubjectsOf i (subject l.rows (call_for (entry_at g.entries i).kind) r) (subject m.rows (call_for (entry_at g.entries i).kind) q) →
       OutcomesOf g cs ds (call_for (entry_at g.entries i).kind) i (renewal_outcome l t (call_for (entry_at g.entries i).kind) r) (renewal_outcome m t (call_for (entry_at g.entries i).kind) q)

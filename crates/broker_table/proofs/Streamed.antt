@@ -55,11 +55,7 @@ sent_status a b e is = subst (λ s. IsTrue (is_sent s)) (sym e) is
 
 status_is_sent : (refusal : Refusal) → IsTrue (is_sent (status_of_refusal refusal))
 status_is_sent refusals.UnsupportedPath = refl
-status_is_sent refusals.UnsupportedMethod = refl
-status_is_sent refusals.PermissionDenied = refl
-status_is_sent refusals.BadRequest = refl
-status_is_sent refusals.UnknownLease = refl
-status_is_sent refusals.NotRenewable = refl
+status_is_sent _ = refl
 
 refusal_sent : (refusal : Refusal) (done : Served) → Refuses refusal done → MaySend done
 refusal_sent refusal (served.Reply reply) h = sent_status reply.status (status_of_refusal refusal) h.0 (status_is_sent refusal)
@@ -68,17 +64,12 @@ refusal_sent refusal served.Dropped h = tt
 answer_sent : (t : ℕ) (answer : BrokerAnswer) (done : Served) → SaysAnswer t answer done → MaySend done
 answer_sent t (refuses refusal) done h = refusal_sent refusal done h
 answer_sent t (tells call row) (served.Reply reply) h = sent_status reply.status 200 h.0 refl
-answer_sent t (tells call row) served.Dropped h = tt
 answer_sent t drops (served.Reply reply) h = absurd h
-answer_sent t drops served.Dropped h = tt
+answer_sent t _ served.Dropped h = tt
 
 pub handled_sent : (l : BrokerTable) (t : ℕ) (message : Result Request HttpFault) (after : BrokerTable) (done : Served) → Handles l t message after done → MaySend done
 handled_sent l t (Ok r) after done h = answer_sent t (broker_step l t r).answer done h.0
 handled_sent l t (Err https.Truncated) after done h = subst MaySend (sym h.0) tt
 handled_sent l t (Err https.ReadFailed) after done h = absurd h
 handled_sent l t (Err https.OutOfMemory) after done h = absurd h
-handled_sent l t (Err https.BadHead) after done h = refusal_sent refusals.BadRequest done h.0
-handled_sent l t (Err https.BadLength) after done h = refusal_sent refusals.BadRequest done h.0
-handled_sent l t (Err https.BadChunk) after done h = refusal_sent refusals.BadRequest done h.0
-handled_sent l t (Err https.TooLong) after done h = refusal_sent refusals.BadRequest done h.0
-handled_sent l t (Err https.TwoLengths) after done h = refusal_sent refusals.BadRequest done h.0
+handled_sent l t (Err _) after done h = refusal_sent refusals.BadRequest done h.0

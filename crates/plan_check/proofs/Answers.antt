@@ -66,10 +66,8 @@ abbrev NamesEntry : Forest → ℕ → List Force → Cause → Type 0
 NamesEntry g s ws cause = (i : ℕ) × (cause ≡ NotKept i) × (first_fault g s ws ≡ None) × (EntryIsKept g s ws i → ⊥) × ((j : ℕ) → j < i → EntryIsKept g s ws j)
 
 walk_no : (g : Forest) (s : ℕ) (ws : List Force) (cause : Cause) → IsWalkAnswer g s ws (No cause) → (first_fault g s ws ≡ Some cause) ⊎ NamesEntry g s ws cause
-walk_no g s ws (NotRising k) says = inl says
-walk_no g s ws (NotForced k) says = inl says
 walk_no g s ws (NotKept i) says = inr (i, refl, says.0, says.1.0, says.1.1)
-walk_no g s ws NotUnkeepable says = inl says
+walk_no g s ws _ says = inl says
 
 both_faults : (found : Option Cause) (c d : Cause) → found ≡ Some c → found ≡ Some d → c ≡ d
 both_faults found c d e f = cc
@@ -111,10 +109,8 @@ one_walk_answer g s ws (No c) (No d) a b =
     ])
 
 pair_no : (g : Forest) (s entry needed : ℕ) (cause : Cause) → IsPairAnswer g s entry needed (No cause) → (cause ≡ NotUnkeepable) × (Unkeepable g.entries g.margin s (end_of g.entries) entry needed → ⊥)
-pair_no g s entry needed (NotRising k) says = absurd says
-pair_no g s entry needed (NotForced k) says = absurd says
-pair_no g s entry needed (NotKept i) says = absurd says
 pair_no g s entry needed NotUnkeepable says = (refl, says)
+pair_no g s entry needed _ says = absurd says
 
 one_pair_answer : (g : Forest) (s entry needed : ℕ) (x y : Answer) → IsPairAnswer g s entry needed x → IsPairAnswer g s entry needed y → x ≡ y
 one_pair_answer g s entry needed Yes Yes a b = refl

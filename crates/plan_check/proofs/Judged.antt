@@ -33,10 +33,8 @@ no_entry es margin s ends prev k i (w ∷ ws) names =
       by_test false b rest none e = absurd cc
 
 pub walk_fault : (g : Forest) (s : ℕ) (ws : List Force) (cause : Cause) → Some cause ≡ first_fault g s ws → IsWalkAnswer g s ws (No cause)
-walk_fault g s ws (NotRising k) found = sym found
-walk_fault g s ws (NotForced k) found = sym found
 walk_fault g s ws (NotKept i) found = absurd (no_entry g.entries g.margin s (end_of g.entries) None 1 i ws (sym found))
-walk_fault g s ws NotUnkeepable found = sym found
+walk_fault g s ws _ found = sym found
 
 -- an entry over which each end, asked by itself, lasts until its need is kept, and so is one with no need after s
 kept_where_last :

@@ -81,30 +81,18 @@ module _ (S : Type 0) (h : Hearing S) where
   pub halts_where :
       (number : ℕ) (old : S) (behind : List (List ℕ)) (text : List ℕ) (stop : Stop) (new : S) (P Q : Type 0) (out : Change) → (P → Q) → ListeningHalts S h number old behind text stop new P out →
       ListeningHalts S h number old behind text stop new Q out
-  halts_where number old behind text (stops.Inventory fault) new P Q out f halts = halts
-  halts_where number old behind text (stops.Moments fault) new P Q out f halts = halts
-  halts_where number old behind text (stops.FaultWord n) new P Q out f halts = halts
-  halts_where number old behind text stops.TooLong new P Q out f halts = halts
-  halts_where number old behind text stops.Read new P Q out f halts = halts
-  halts_where number old behind text stops.Write new P Q out f halts = halts
-  halts_where number old behind text (stops.Broker name) new P Q out f halts = halts
   halts_where number old behind text (stops.Line n) new P Q out f halts = (halts.0, (no_line_where old behind P Q f halts.1.0, halts.1.1))
-  halts_where number old behind text stops.Memory new P Q out f halts = halts
+  halts_where number old behind text _ new P Q out f halts = halts
 
   -- ---- one line that stops
 
   pub line_halts :
       (number : ℕ) (old : S) (line : List ℕ) (next : List ℕ) (more : List (List ℕ)) (stop : Stop) (new : S) (out : Change) → HearsLine S h number old line (Err stop) new out →
       ListeningHalts S h number old (line ∷ next ∷ more) [] stop new ⊥ out
-  line_halts number old line next more (stops.Inventory fault) new out one = (line, (refl, one))
-  line_halts number old line next more (stops.Moments fault) new out one = (line, (refl, one))
-  line_halts number old line next more (stops.FaultWord n) new out one = (line, (refl, one))
-  line_halts number old line next more stops.TooLong new out one = (line, (refl, one))
   line_halts number old line next more stops.Read new out one = absurd one
-  line_halts number old line next more stops.Write new out one = (line, (refl, one))
-  line_halts number old line next more (stops.Broker name) new out one = (line, (refl, one))
   line_halts number old line next more (stops.Line n) new out one = (one.0, (one.1.0, (one.1.1.0, inr (refl, one.1.1.1))))
   line_halts number old line next more stops.Memory new out one = inr (line, (refl, one))
+  line_halts number old line next more _ new out one = (line, (refl, one))
 
   -- ---- lines
 

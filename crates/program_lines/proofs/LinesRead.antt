@@ -78,9 +78,8 @@ none_within (Some n) = omega arith
 
 few_read : (most left : Option ℕ) (read : List ℕ) → SoManyAreLeft most left (length read) → IsReadWithin most read
 few_read None None read h = tt
-few_read None (Some left) read h = absurd h
-few_read (Some most) None read h = absurd h
 few_read (Some most) (Some left) read h = omega (arith, h)
+few_read _ _ read h = absurd h
 
 all_of : (most : Option ℕ) (read : List ℕ) → IsReadWithin most read → part_to_hear most read ≡ read
 all_of None read h = refl
@@ -103,29 +102,26 @@ front_of room n left within =
 
 first_more : (most left : Option ℕ) (read room : List ℕ) (n : ℕ) → SoManyAreLeft most left (length read) → n ≤ length room → part_to_hear most (read ++ take n room) ≡ read ++ take (part_left_to_hear left n) room
 first_more None None read room n h within = refl
-first_more None (Some left) read room n h within = absurd h
-first_more (Some most) None read room n h within = absurd h
 first_more (Some most) (Some left) read room n h within =
     let so : most ≡ length read + left = omega (arith, h) in
     ap (λ m. take m (read ++ take n room)) so ∙ take-append-add read (take n room) left ∙ ap (λ t. read ++ t) (front_of room n left within)
+first_more _ _ read room n h within = absurd h
 
 over : (most left : Option ℕ) (read room : List ℕ) (n : ℕ) → SoManyAreLeft most left (length read) → n ≤ length room → part_left_to_hear left n < n → IsOver most (read ++ take n room)
 over None None read room n h within less = omega (arith, less)
-over None (Some left) read room n h within less = absurd h
-over (Some most) None read room n h within less = absurd h
 over (Some most) (Some left) read room n h within less =
     let long : length (take n room) ≡ n = length-take-le n room within in
     let l : length (read ++ take n room) ≡ length read + length (take n room) = length-append read (take n room) in
     omega (arith, h, long, l, less)
+over _ _ read room n h within less = absurd h
 
 left_more : (most left : Option ℕ) (read room : List ℕ) (n : ℕ) → SoManyAreLeft most left (length read) → n ≤ length room → n ≤ part_left_to_hear left n → SoManyAreLeft most (left_after left (part_left_to_hear left n)) (length (read ++ take n room))
 left_more None None read room n h within all = tt
-left_more None (Some left) read room n h within all = absurd h
-left_more (Some most) None read room n h within all = absurd h
 left_more (Some most) (Some left) read room n h within all =
     let long : length (take n room) ≡ n = length-take-le n room within in
     let l : length (read ++ take n room) ≡ length read + length (take n room) = length-append read (take n room) in
     omega (arith, h, long, l, all)
+left_more _ _ read room n h within all = absurd h
 
 part_within : (left : Option ℕ) (n : ℕ) → part_left_to_hear left n ≤ n
 part_within None n = omega arith
@@ -157,15 +153,9 @@ module _ (S : Type 0) (m : Hearing S) (limits : Limits) where
   ends_at :
       (read : List ℕ) (number : ℕ) (old : S) (behind : List (List ℕ)) (text : List ℕ) (stop : Stop) (new : S) (fed : Change) (out : Change) → fed.new.failed_calls ≡ fed.old.failed_calls →
       ListeningHalts S m number old behind text stop new ⊥ out → ListensTo S m limits read number old behind text (Err stop) new fed out
-  ends_at read number old behind text (stops.Inventory fault) new fed out failed h = (failed, h)
-  ends_at read number old behind text (stops.Moments fault) new fed out failed h = (failed, h)
-  ends_at read number old behind text (stops.FaultWord n) new fed out failed h = (failed, h)
-  ends_at read number old behind text stops.TooLong new fed out failed h = (failed, h)
   ends_at read number old behind text stops.Read new fed out failed h = absurd h
-  ends_at read number old behind text stops.Write new fed out failed h = (failed, h)
-  ends_at read number old behind text (stops.Broker name) new fed out failed h = (failed, h)
   ends_at read number old behind text (stops.Line n) new fed out failed h = (failed, halts_where S m number old behind text (stops.Line n) new ⊥ (HasEnded limits read fed) out (λ e. absurd e) h)
-  ends_at read number old behind text stops.Memory new fed out failed h = (failed, h)
+  ends_at read number old behind text _ new fed out failed h = (failed, h)
 
   -- nothing is read, since memory was wanting
   pub not_begun : (old : S) (source sink : Seen) (p q : Bool) → Listens S m limits old (Err stops.Memory) old (change p source source) (change q sink sink)

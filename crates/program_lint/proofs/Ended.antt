@@ -11,26 +11,15 @@ use Rattle.program_lint.specs.Ends.{EndsBy, ends_by, is_faulty}
 -- where memory was refused
 pub memory_ends : (d : Demands) (known : Files) (folder bytes : List ℕ) (refused : Bool) (exit : Exit) → exit ≡ Memory → EndsBy d known folder bytes refused exit
 memory_ends d known folder bytes refused Memory e = tt
-memory_ends d known folder bytes refused Done e = cc
-memory_ends d known folder bytes refused Inventory e = cc
-memory_ends d known folder bytes refused CommandLine e = cc
-memory_ends d known folder bytes refused Unkeepable e = cc
-memory_ends d known folder bytes refused No e = cc
-memory_ends d known folder bytes refused TooLong e = cc
-memory_ends d known folder bytes refused Device e = cc
+memory_ends d known folder bytes refused _ e = cc
 
 -- else
 pub ended : (d : Demands) (known : Files) (folder bytes : List ℕ) (refused : Bool) (faults : List StartFault) (exit : Exit) → AreFaults d known folder bytes faults → FirstIsWhy d known folder bytes faults
     → ends_by (is_faulty refused faults) exit ≡ true → EndsBy d known folder bytes refused exit
 ended d known folder bytes true [] Done all first ends = cc
 ended d known folder bytes false [] Done all first ends = (refl, first)
-ended d known folder bytes refused (fault ∷ faults) Done all first ends = cc
 ended d known folder bytes true [] Inventory all first ends = inl refl
-ended d known folder bytes false [] Inventory all first ends = cc
 ended d known folder bytes refused (fault ∷ faults) Inventory all first ends = inr (fault, (faults, all))
 ended d known folder bytes refused faults Device all first ends = tt
 ended d known folder bytes refused faults Memory all first ends = tt
-ended d known folder bytes refused faults CommandLine all first ends = cc
-ended d known folder bytes refused faults Unkeepable all first ends = cc
-ended d known folder bytes refused faults No all first ends = cc
-ended d known folder bytes refused faults TooLong all first ends = cc
+ended d known folder bytes _ _ _ all first ends = cc

@@ -12,21 +12,10 @@ use Rattle.state_notes.specs.Lines.{change_fault_text, change_word, note_line, o
 -- the words that are said of the two are the same: the token over it, the step, a credential that is there twice, and the change
 keys_same : (w v : What) → IsSameBut w v → (over_words w ≡ over_words v) × (step_words w ≡ step_words v) × (twice_words w ≡ twice_words v) × (change_word w ≡ change_word v)
 keys_same (what.Need until) (what.Need other) h = (refl, refl, refl, refl)
-keys_same (what.Need until) (what.Replace other) h = elim h [ ]
-keys_same (what.Need until) (what.Add other) h = elim h [ ]
-keys_same (what.Need until) what.Drop h = elim h [ ]
-keys_same (what.Replace credential) (what.Need other) h = elim h [ ]
 keys_same (what.Replace credential) (what.Replace other) h = (refl, refl, refl, refl)
-keys_same (what.Replace credential) (what.Add other) h = elim h [ ]
-keys_same (what.Replace credential) what.Drop h = elim h [ ]
-keys_same (what.Add row) (what.Need other) h = elim h [ ]
-keys_same (what.Add row) (what.Replace other) h = elim h [ ]
 keys_same (what.Add row) (what.Add other) h = (ap (λ r. over_words (what.Add r)) h, ap (λ r. step_words (what.Add r)) h, refl, refl)
-keys_same (what.Add row) what.Drop h = elim h [ ]
-keys_same what.Drop (what.Need other) h = elim h [ ]
-keys_same what.Drop (what.Replace other) h = elim h [ ]
-keys_same what.Drop (what.Add other) h = elim h [ ]
 keys_same what.Drop what.Drop h = (refl, refl, refl, refl)
+keys_same _ _ h = elim h [ ]
 
 pub why_shows_none : (margin : ℕ) (name : List ℕ) (w v : What) (fault : ChangeFault) → IsSameBut w v → change_fault_text margin name w fault ≡ change_fault_text margin name v fault
 why_shows_none margin name w v fault h =

@@ -74,13 +74,12 @@ past_first k t from to (x ∷ xs) none = elim (cases_Bool (x == k)) [
 -- those of a list in which none stands twice are the others
 all_renamed : (from to : List ℕ) → ((i : ℕ) → times i from ≤ 1) → length from ≡ length to → map (index_in from to) from ≡ to
 all_renamed [] [] once long = refl
-all_renamed [] (t ∷ to) once long = absurd (omega (arith, long))
-all_renamed (k ∷ from) [] once long = absurd (omega (arith, long))
 all_renamed (k ∷ from) (t ∷ to) once long =
     let first = counts k k from (same_index k) in
     let few = once k in
     let rest = all_renamed from to (λ i. (let more = times_cons i k from in let few = once i in omega (arith, more, few))) (omega (arith, long)) in
     ap (λ n. n ∷ map (index_in (k ∷ from) (t ∷ to)) from) (in_front k t from to k (same_index k)) ∙ ap (λ ns. t ∷ ns) (past_first k t from to from (omega (arith, first, few)) ∙ rest)
+all_renamed _ _ once long = absurd (omega (arith, long))
 
 indices_renamed : (from to : List ℕ) (out : List lanes.Out) → entries_on (renamed from to out) ≡ map (index_in from to) (entries_on out)
 indices_renamed from to [] = refl

@@ -192,9 +192,7 @@ by_answers old width out left answers abreast parted =
     (parted_out old width out answers left abreast parted, λ s new handed. abreast_handed_in s old new width out answers left abreast parted handed)
 
 pub by_other : OtherLaw
-by_other old new (Clock wall elapsed) output width out other turn abreast = absurd other
-by_other old new (Looked i reply terms) output width out other turn abreast = absurd other
-by_other old new (Renewed i reply) output width out other turn abreast = absurd other
 by_other old new (Need i until) output width out other turn abreast = abreast_need old new i until output width out turn abreast
 by_other old new Begin output width out other turn abreast = abreast_begin old new output width out turn abreast
 by_other old new (Known i end renewable) output width out other turn abreast = abreast_known old new i end renewable output width out turn abreast
+by_other old new _ output width out other turn abreast = absurd other

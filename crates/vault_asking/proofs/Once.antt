@@ -241,9 +241,7 @@ step_once : (old x y : WatchState) (event : Event) (a b : Output) → Step old e
 step_once old x y (Clock wall elapsed) a b one two = clock_once old x y wall elapsed a b one two
 step_once old x y (Looked i reply terms) a b one two = looked_once old x y (request_out old.out i Look) reply terms a b one two
 step_once old x y (Renewed i reply) a b one two = renewed_once old x y (request_out old.out i Renew) reply a b one two
-step_once old x y (Need i until) a b one two = (two.0 ∙ sym one.0, two.1 ∙ sym one.1)
-step_once old x y Begin a b one two = (two.0 ∙ sym one.0, two.1 ∙ sym one.1)
-step_once old x y (Known i end renewable) a b one two = (two.0 ∙ sym one.0, two.1 ∙ sym one.1)
+step_once old x y _ a b one two = (two.0 ∙ sym one.0, two.1 ∙ sym one.1)
 
 pub turn_once : (old x y : WatchState) (event : Event) (a b : Output) → Turn old event (Ok a) x → Turn old event (Ok b) y → (b ≡ a) × (y ≡ x)
 turn_once old x y event a b one two = step_once old x y event a b one.1 two.1

@@ -571,21 +571,15 @@ apart i j other same = let both : false ≡ true = sym other ∙ ap (λ n. j == 
 looked_other : (s : WatchState) (q : Out) (reply : Reply) (terms : Terms) (i : ℕ) → (i ≡ q.entry → ⊥) → track_at (looked s q reply terms) i ≡ track_at s i
 looked_other s q (Told seconds renewable date) terms i other =
     get_or-set_other (told_state s q.entry q.since seconds renewable terms).tracks q.entry i _ no_track other ∙ get_or-set_other s.tracks q.entry i _ no_track other
-looked_other s q (Refused status date) terms i other = get_or-set_other s.tracks q.entry i _ no_track other
-looked_other s q Busy terms i other = get_or-set_other s.tracks q.entry i _ no_track other
-looked_other s q Lost terms i other = get_or-set_other s.tracks q.entry i _ no_track other
+looked_other s q _ terms i other = get_or-set_other s.tracks q.entry i _ no_track other
 
 pub looked_out : (s : WatchState) (q : Out) (reply : Reply) (terms : Terms) → (looked s q reply terms).out ≡ s.out
 looked_out s q (Told seconds renewable date) terms = refl
-looked_out s q (Refused status date) terms = refl
-looked_out s q Busy terms = refl
-looked_out s q Lost terms = refl
+looked_out s q _ terms = refl
 
 looked_kept : (s : WatchState) (q : Out) (reply : Reply) (terms : Terms) → IsKeptBy (looked s q reply terms) s
 looked_kept s q (Told seconds renewable date) terms = (refl, (length-set _ q.entry _ ∙ length-set s.tracks q.entry _, length-set s.forest.entries q.entry _))
-looked_kept s q (Refused status date) terms = (refl, (length-set s.tracks q.entry _, refl))
-looked_kept s q Busy terms = (refl, (length-set s.tracks q.entry _, refl))
-looked_kept s q Lost terms = (refl, (length-set s.tracks q.entry _, refl))
+looked_kept s q _ terms = (refl, (length-set s.tracks q.entry _, refl))
 
 looked_answered : (old new : WatchState) (j : ℕ) (found : Option Out) (reply : Reply) (terms : Terms) (output : Output) → request_out old.out j Look ≡ found → StepLooked old found reply terms output new → MachineIsSound old → Answered old j new
 looked_answered old new j None reply terms output is step sound = absurd step
@@ -668,13 +662,11 @@ step_entries old new (Clock wall elapsed) output step = clock_entries old new wa
 step_entries old new (Looked i reply terms) output step = looked_entries old new (request_out old.out i Look) reply terms output step
 step_entries old new (Renewed i reply) output step = renewed_entries old new (request_out old.out i Renew) reply output step
 step_entries old new (Need i until) output step = ap (λ (s : WatchState). length s.forest.entries) step.1 ∙ length-set old.forest.entries i _
-step_entries old new Begin output step = ap (λ (s : WatchState). length s.forest.entries) step.1
-step_entries old new (Known i end renewable) output step = ap (λ (s : WatchState). length s.forest.entries) step.1
+step_entries old new _ output step = ap (λ (s : WatchState). length s.forest.entries) step.1
 
 pub refused_stays : (old new : WatchState) (event : Event) (fault : WatchFault) → Turn old event (Err fault) new → new ≡ old
-refused_stays old new event NotAsked h = h.1
-refused_stays old new event BadIndex h = h.1
 refused_stays old new event OutOfMemory h = h.1.1
+refused_stays old new event _ h = h.1
 
 pub turn_entries : (old new : WatchState) (event : Event) (result : Result Output WatchFault) → Turn old event result new → length new.forest.entries ≡ length old.forest.entries
 turn_entries old new event (Ok output) turn = step_entries old new event output turn.1

@@ -152,9 +152,7 @@ fits t answer short served.Dropped says = tt
 token_body : (t : ℕ) (c : Call) (row : Row) (body : List ℕ) → Some RenewSelf ≡ Some c → IsReplyBody c row t body → length body ≤ 2000
 unfolding IsReplyBody
 token_body t RenewSelf row body e is = subst (λ (bs : List ℕ). length bs ≤ 2000) (sym is) (renewed_self_short _ row.renewable (seconds_small row.end t))
-token_body t RenewLease row body e is = absurd cc
-token_body t LookupSelf row body e is = absurd cc
-token_body t LookupLease row body e is = absurd cc
+token_body t _ row body e is = absurd cc
 
 -- the reply to the renewal of a token
 pub token_fits : (port : ℕ) (credential : List ℕ) (step' : ℕ) (l : BrokerTable) (t : ℕ) (sent : Served) → SaysAnswer t (broker_step l t (token_renewal port credential step')).answer sent → ReplyFits sent
@@ -175,11 +173,9 @@ lease_renew_asked id n utf8 small =
 lease_body :
     (t : ℕ) (id : List ℕ) → length id ≤ 256 → (c : Call) (row : Row) (body : List ℕ) → Some RenewLease ≡ Some c → (c ≡ RenewLease → row.credential ≡ id) → IsReplyBody c row t body → length body ≤ 2000
 unfolding IsReplyBody
-lease_body t id small RenewSelf row body e names is = absurd cc
 lease_body t id small RenewLease row body e names is =
     subst (λ (bs : List ℕ). length bs ≤ 2000) (sym is) (renewed_lease_short row.credential _ row.renewable (subst (λ (bs : List ℕ). length bs ≤ 256) (sym (names refl)) small) (seconds_small row.end t))
-lease_body t id small LookupSelf row body e names is = absurd cc
-lease_body t id small LookupLease row body e names is = absurd cc
+lease_body t id small _ row body e names is = absurd cc
 
 -- and to that of a lease
 pub lease_fits :

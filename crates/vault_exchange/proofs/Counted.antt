@@ -9,13 +9,7 @@ use Rattle.vault_http.specs.declared.reply.Reply.{Reply}
 
 counts_read : (fault : HttpFault) (before now : ℕ) → CountsMessage {A = Reply} (Err fault) before now → CountsExchange {X = Reply} (Err (Http fault)) before now
 counts_read https.ReadFailed before now h = h
-counts_read https.OutOfMemory before now h = h
-counts_read https.TooLong before now h = h
-counts_read https.Truncated before now h = h
-counts_read https.BadHead before now h = h
-counts_read https.BadLength before now h = h
-counts_read https.BadChunk before now h = h
-counts_read https.TwoLengths before now h = h
+counts_read _ before now h = h
 
 pub counts_behind : (fault : HttpFault) (first before now : ℕ) → before ≡ first → CountsMessage {A = Reply} (Err fault) before now → CountsExchange {X = Reply} (Err (Http fault)) first now
 counts_behind fault first before now same h = subst (λ (n : ℕ). CountsExchange {X = Reply} (Err (Http fault)) n now) same (counts_read fault before now h)

@@ -139,11 +139,7 @@ errors_short text fits =
 pub refusal_short : (refusal : Refusal) → length (text_of_refusal refusal) ≤ 256
 unfolding text_of_refusal
 refusal_short refusals.UnsupportedPath = omega arith
-refusal_short refusals.UnsupportedMethod = omega arith
-refusal_short refusals.PermissionDenied = omega arith
-refusal_short refusals.BadRequest = omega arith
-refusal_short refusals.UnknownLease = omega arith
-refusal_short refusals.NotRenewable = omega arith
+refusal_short _ = omega arith
 
 -- ---- heads
 
@@ -214,17 +210,11 @@ unfolding phrase
 refused_phrase refusals.UnsupportedPath = let is : length (phrase 404) ≡ 9 = refl in omega (arith, is)
 refused_phrase refusals.UnsupportedMethod = let is : length (phrase 405) ≡ 18 = refl in omega (arith, is)
 refused_phrase refusals.PermissionDenied = let is : length (phrase 403) ≡ 9 = refl in omega (arith, is)
-refused_phrase refusals.BadRequest = let is : length (phrase 400) ≡ 11 = refl in omega (arith, is)
-refused_phrase refusals.UnknownLease = let is : length (phrase 400) ≡ 11 = refl in omega (arith, is)
-refused_phrase refusals.NotRenewable = let is : length (phrase 400) ≡ 11 = refl in omega (arith, is)
+refused_phrase _ = let is : length (phrase 400) ≡ 11 = refl in omega (arith, is)
 
 small_status : (refusal : Refusal) → status_of_refusal refusal < 2 ^ 32
 small_status refusals.UnsupportedPath = omega arith
-small_status refusals.UnsupportedMethod = omega arith
-small_status refusals.PermissionDenied = omega arith
-small_status refusals.BadRequest = omega arith
-small_status refusals.UnknownLease = omega arith
-small_status refusals.NotRenewable = omega arith
+small_status _ = omega arith
 
 pub refused_short : (refusal : Refusal) → length (status_line (status_of_refusal refusal)) ≤ 40
 refused_short refusal = line_short (status_of_refusal refusal) (small_status refusal) (refused_phrase refusal)

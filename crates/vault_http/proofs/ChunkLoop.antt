@@ -71,7 +71,5 @@ chunks_end text at body room stop answer more s within fits stops is =
     }
 
 pub unless_fault : (fault : BodyFault) (P : Type 0) → P → UnlessBodyMemory {A = List ℕ} (Err fault) P
-unless_fault TooLong P p = p
-unless_fault Truncated P p = p
-unless_fault BadChunk P p = p
 unless_fault OutOfMemory P p = tt
+unless_fault _ P p = p

@@ -69,11 +69,7 @@ module _ {A : Type 0} (HasNoHead : List ℕ → Type 0) (IsAnswer : List ℕ →
   settle whole left (Err OutOfMemory) before now h = tt
   settle whole left (Err ReadFailed) before now h = tt
   settle whole left (Err TooLong) before now h = inl h
-  settle whole left (Err BadHead) before now h = h
-  settle whole left (Err BadLength) before now h = h
-  settle whole left (Err BadChunk) before now h = h
-  settle whole left (Err Truncated) before now h = h
-  settle whole left (Err TwoLengths) before now h = h
+  settle whole left (Err _) before now h = h
 
   -- an answer that stands for every input that goes on is that of the whole input
   pub settled : (whole left : Option (List ℕ)) (bytes : List ℕ) (ended : Bool) (a : Result A HttpFault) (before now : ℕ)
@@ -89,13 +85,7 @@ module _ {A : Type 0} (HasNoHead : List ℕ → Type 0) (IsAnswer : List ℕ →
   pub counted : (a : Result A HttpFault) (bytes : List ℕ) (before now : ℕ) → (IsAnswer bytes (Err ReadFailed) → ⊥) → UnlessMemory a (IsAnswer bytes a) → now ≡ before → CountsMessage a before now
   counted (Ok x) bytes before now not_failed h e = e
   counted (Err ReadFailed) bytes before now not_failed h e = absurd (not_failed h)
-  counted (Err BadHead) bytes before now not_failed h e = e
-  counted (Err BadLength) bytes before now not_failed h e = e
-  counted (Err BadChunk) bytes before now not_failed h e = e
-  counted (Err Truncated) bytes before now not_failed h e = e
-  counted (Err TooLong) bytes before now not_failed h e = e
-  counted (Err TwoLengths) bytes before now not_failed h e = e
-  counted (Err OutOfMemory) bytes before now not_failed h e = e
+  counted (Err _) bytes before now not_failed h e = e
 
   pub not_failed : (a : Result A HttpFault) (bytes : List ℕ) → (IsAnswer bytes (Err ReadFailed) → ⊥) → UnlessMemory a (IsAnswer bytes a) → a ≡ Err ReadFailed → ⊥
   not_failed a bytes never h e = never (subst (λ x. UnlessMemory x (IsAnswer bytes x)) e h)

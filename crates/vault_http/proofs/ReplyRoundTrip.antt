@@ -114,20 +114,16 @@ written_framing status n w few =
 
 headless : (max : ℕ) (bytes rest : List ℕ) (head : ResponseHead) (fault : HttpFault) → ReadsResponse bytes head rest → length head.fields ≤ MOST_FIELDS → length (print_response head) ≤ max
     → IsHeadless IsOpenReply (λ b. (more : List ℕ) (h : ResponseHead) (left : List ℕ) → ReadsResponse (b ++ more) h left → MOST_FIELDS < length h.fields) max bytes fault → ⊥
-headless max bytes rest head ReadFailed reads few within h = h
 headless max bytes rest head BadHead reads few within h =
     let over = h (drop max bytes) head rest (subst (λ b. ReadsResponse b head rest) (sym (take-append-drop max bytes)) reads) in
     omega (arith, over, few)
-headless max bytes rest head BadLength reads few within h = h
-headless max bytes rest head BadChunk reads few within h = h
 headless max bytes rest head Truncated reads few within h = h.1.0 head rest reads
 headless max bytes rest head TooLong reads few within h =
     let printed = print_response head in
     let front : take max bytes ≡ printed ++ take (max - length printed) rest =
     ap (take max) reads.1 ∙ take-grows max printed rest ∙ ap (λ t. t ++ take (max - length printed) rest) (take_all max printed within) in
     h.1.0 head (take (max - length printed) rest) (reads.0, front)
-headless max bytes rest head TwoLengths reads few within h = h
-headless max bytes rest head OutOfMemory reads few within h = h
+headless max bytes rest head _ reads few within h = h
 
 pub counted_whole : (body more : List ℕ) (room : ℕ) → length body ≤ room → counted_body (length body) room (body ++ more) ≡ Ok body
 counted_whole body more room fits =

@@ -238,20 +238,16 @@ few_fields false port (Some token) n = omega arith
 
 headless : (max : ℕ) (bytes rest : List ℕ) (head : RequestHead) (fault : HttpFault) → ReadsRequest bytes head rest → length head.fields ≤ MOST_FIELDS → length (print_request head) ≤ max
     → IsHeadless IsOpenRequest (λ b. (more : List ℕ) (h : RequestHead) (left : List ℕ) → ReadsRequest (b ++ more) h left → MOST_FIELDS < length h.fields) max bytes fault → ⊥
-headless max bytes rest head ReadFailed reads few within h = h
 headless max bytes rest head BadHead reads few within h =
     let over = h (drop max bytes) head rest (subst (λ b. ReadsRequest b head rest) (sym (take-append-drop max bytes)) reads) in
     omega (arith, over, few)
-headless max bytes rest head BadLength reads few within h = h
-headless max bytes rest head BadChunk reads few within h = h
 headless max bytes rest head Truncated reads few within h = h.1.0 head rest reads
 headless max bytes rest head TooLong reads few within h =
     let printed = print_request head in
     let front : take max bytes ≡ printed ++ take (max - length printed) rest =
     ap (take max) reads.1 ∙ take-grows max printed rest ∙ ap (λ t. t ++ take (max - length printed) rest) (take_all max printed within) in
     h.1.0 head (take (max - length printed) rest) (reads.0, front)
-headless max bytes rest head TwoLengths reads few within h = h
-headless max bytes rest head OutOfMemory reads few within h = h
+headless max bytes rest head _ reads few within h = h
 
 behind_is : (get : Bool) (r : Request) (more : List ℕ) (room : ℕ) (answer : Result Request HttpFault) → (get ≡ true → r.body ≡ []) → length r.body ≤ room
     → IsFramed (request_from_parts r.method r.path r.token) (cond get (Ok Empty) (Ok (Counted (length r.body)))) room (r.body ++ more) answer → answer ≡ Ok (without_port r)

@@ -66,10 +66,8 @@ chunks_on rest more at body within h = record {
 }
 
 part_on : (p : Partial) (room : ℕ) (rest more : List ℕ) → IsPartOf p room rest → IsPartOf p room (rest ++ more)
-part_on partial.Empty room rest more h = tt
-part_on (partial.Counted n) room rest more h = tt
 part_on (partial.Chunked at body) room rest more h = (omega (arith, h.0, length-append rest more), h.1, chunks_on rest more at body.items h.0 h.2)
-part_on partial.ToEnd room rest more h = tt
+part_on _ room rest more h = tt
 
 -- ---- a message
 

@@ -80,11 +80,9 @@ apart (c ∷ cs) (d ∷ ds) r q are_c are_d e open_r last_q =
 
 cut_open : (room : ℕ) (bytes text : List ℕ) (stop : Result (List ℕ) BodyFault) → Err Truncated ≡ joined_bytes bytes stop → StopsAt room text stop → IsOpen text
 cut_open room bytes text (Ok none) e stops = absurd (cc (e))
-cut_open room bytes text (Err TooLong) e stops = absurd (cc (e))
 cut_open room bytes text (Err Truncated) e (inl s) = inl s.1
 cut_open room bytes text (Err Truncated) e (inr (digits, rest, has, fits, may)) = inr (digits, rest, has, may)
-cut_open room bytes text (Err BadChunk) e stops = absurd (cc (e))
-cut_open room bytes text (Err OutOfMemory) e stops = absurd (cc (e))
+cut_open room bytes text (Err _) e stops = absurd (cc (e))
 
 whole_last : (room : ℕ) (bytes body text : List ℕ) (stop : Result (List ℕ) BodyFault) → Ok body ≡ joined_bytes bytes stop → StopsAt room text stop
     → (none : List ℕ) × (stop ≡ Ok none) × StopsAt room text (Ok none)

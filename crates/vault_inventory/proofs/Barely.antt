@@ -69,66 +69,31 @@ Blind f = (d : Data) → f (bare_value d) ≡ f d
 
 blind_span : (low high : ℕ) → Blind (span full low high)
 blind_span low high (string s) = refl
-blind_span low high (integer z) = refl
-blind_span low high (float x) = refl
-blind_span low high (boolean b) = refl
-blind_span low high (datetime dt) = refl
-blind_span low high (array ds) = refl
-blind_span low high (table ms) = refl
+blind_span low high _ = refl
 
 blind_need : Blind (need full)
 blind_need (string s) = refl
-blind_need (integer z) = refl
-blind_need (float x) = refl
-blind_need (boolean b) = refl
-blind_need (datetime dt) = refl
-blind_need (array ds) = refl
-blind_need (table ms) = refl
+blind_need _ = refl
 
 blind_path : Blind path
 blind_path (string s) = refl
-blind_path (integer z) = refl
-blind_path (float x) = refl
-blind_path (boolean b) = refl
-blind_path (datetime dt) = refl
-blind_path (array ds) = refl
-blind_path (table ms) = refl
+blind_path _ = refl
 
 blind_moment : Blind moment_value
 blind_moment (string s) = refl
-blind_moment (integer z) = refl
-blind_moment (float x) = refl
-blind_moment (boolean b) = refl
-blind_moment (datetime dt) = refl
-blind_moment (array ds) = refl
-blind_moment (table ms) = refl
+blind_moment _ = refl
 
 blind_ending : Blind end_value
 blind_ending (string s) = refl
-blind_ending (integer z) = refl
-blind_ending (float x) = refl
-blind_ending (boolean b) = refl
-blind_ending (datetime dt) = refl
-blind_ending (array ds) = refl
-blind_ending (table ms) = refl
+blind_ending _ = refl
 
 blind_flag : Blind flag_value
 blind_flag (string s) = refl
-blind_flag (integer z) = refl
-blind_flag (float x) = refl
-blind_flag (boolean b) = refl
-blind_flag (datetime dt) = refl
-blind_flag (array ds) = refl
-blind_flag (table ms) = refl
+blind_flag _ = refl
 
 blind_text : Blind text
 blind_text (string s) = refl
-blind_text (integer z) = refl
-blind_text (float x) = refl
-blind_text (boolean b) = refl
-blind_text (datetime dt) = refl
-blind_text (array ds) = refl
-blind_text (table ms) = refl
+blind_text _ = refl
 
 read_bare : {A : Type 0} (f : Data → Option A) → Blind f → (place : Option ℕ) (key : Key) (o : Option Data) → read_if f place key (option_map bare_value o) ≡ read_if f place key o
 read_bare {A = A} f blind place key None = refl
@@ -156,25 +121,15 @@ there_bare key stays ms = ap is_some (bare_found (key_text key) stays ms) ∙ ma
 bare_tables : (ds : Items) → are_tables (bare_items ds) ≡ are_tables ds
 bare_tables no_items = refl
 bare_tables (item (table ms) ds) = bare_tables ds
-bare_tables (item (string s) ds) = refl
-bare_tables (item (integer z) ds) = refl
-bare_tables (item (float x) ds) = refl
-bare_tables (item (boolean b) ds) = refl
-bare_tables (item (datetime dt) ds) = refl
-bare_tables (item (array is) ds) = refl
+bare_tables (item _ ds) = refl
 
 if_tables : (b : Bool) (ds : Items) → cond b (Some (bare_items ds)) None ≡ option_map bare_items (cond b (Some ds) None)
 if_tables true ds = refl
 if_tables false ds = refl
 
 tables_bare : (d : Data) → tables (bare_value d) ≡ option_map bare_items (tables d)
-tables_bare (string s) = refl
-tables_bare (integer z) = refl
-tables_bare (float x) = refl
-tables_bare (boolean b) = refl
-tables_bare (datetime dt) = refl
 tables_bare (array ds) = ap (λ b. cond b (Some (bare_items ds)) None) (bare_tables ds) ∙ if_tables (are_tables ds) ds
-tables_bare (table ms) = refl
+tables_bare _ = refl
 
 abbrev taken : Option Items → Key → Result (Option Items) InvFault
 taken o key = elim o [ Some x ↦ Ok (Some x) | None ↦ Err (BadValue None key) ]
@@ -358,12 +313,7 @@ all_shorn : (step plain : Intake → Members → Result Intake InvFault) → She
 all_shorn step plain shears key s t no_items e = let same : s ≡ t = cc in ap (λ (i : Intake). Ok (shorn i)) same
 all_shorn step plain shears key s t (item (table ms) ds) e =
     bind_ok (step s ms) _ t e (λ u r e1. follow _ (shorn u) _ _ (shears s u ms r) (all_shorn step plain shears key u t ds e1))
-all_shorn step plain shears key s t (item (string x) ds) e = absurd (cc)
-all_shorn step plain shears key s t (item (integer x) ds) e = absurd (cc)
-all_shorn step plain shears key s t (item (float x) ds) e = absurd (cc)
-all_shorn step plain shears key s t (item (boolean x) ds) e = absurd (cc)
-all_shorn step plain shears key s t (item (datetime x) ds) e = absurd (cc)
-all_shorn step plain shears key s t (item (array x) ds) e = absurd (cc)
+all_shorn step plain shears key s t (item _ ds) e = absurd (cc)
 
 abbrev plain_intake : Members → Result Intake InvFault
 plain_intake ms = do

@@ -39,12 +39,7 @@ both_tests low high n h =
 whole_is : (low high : ℕ) (d : Data) → IfSome (whole low high d) (Within low high)
 whole_is low high (integer (pos n)) = ranged low high n (nat_le low n && nat_le n high) (both_tests low high n)
 whole_is low high (integer (negsuc n)) = tt
-whole_is low high (string x) = tt
-whole_is low high (float x) = tt
-whole_is low high (boolean x) = tt
-whole_is low high (datetime x) = tt
-whole_is low high (array x) = tt
-whole_is low high (table x) = tt
+whole_is low high _ = tt
 
 span_text : (l : Language) (low high : ℕ) (s : List ℕ) → IfSome (in_units l low high s) (Within low high)
 span_text strict low high s = tt
@@ -57,11 +52,7 @@ span_text full low high s = of_range (duration_of_text s)
 span_is : (l : Language) (low high : ℕ) (d : Data) → IfSome (span l low high d) (Within low high)
 span_is l low high (string s) = span_text l low high s
 span_is l low high (integer z) = whole_is low high (integer z)
-span_is l low high (float x) = tt
-span_is l low high (boolean x) = tt
-span_is l low high (datetime x) = tt
-span_is l low high (array x) = tt
-span_is l low high (table x) = tt
+span_is l low high _ = tt
 
 abbrev taken : Option ℕ → Key → Option ℕ → Result (Option ℕ) InvFault
 taken place key o = elim o [ Some x ↦ Ok (Some x) | None ↦ Err (BadValue place key) ]

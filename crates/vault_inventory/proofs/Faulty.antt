@@ -261,12 +261,7 @@ module _ (step : Intake → Members → Result Intake InvFault) (Fails : Intake 
         index = omega (arith, count, place);
         fails = more.fails;
       })
-  first_in s (item (string x) ds) are e = absurd cc
-  first_in s (item (integer x) ds) are e = absurd cc
-  first_in s (item (float x) ds) are e = absurd cc
-  first_in s (item (boolean x) ds) are e = absurd cc
-  first_in s (item (datetime x) ds) are e = absurd cc
-  first_in s (item (array x) ds) are e = absurd cc
+  first_in s (item _ ds) are e = absurd cc
 
 -- ---- the tables that the top level has
 
@@ -279,13 +274,8 @@ some_tables true xs ds are e = let same : xs ≡ ds = cc in subst (λ x. are_tab
 some_tables false xs ds are e = absurd cc
 
 tables_are : (d : Data) (ds : Items) → tables d ≡ Some ds → are_tables ds ≡ true
-tables_are (string x) ds e = absurd cc
-tables_are (integer x) ds e = absurd cc
-tables_are (float x) ds e = absurd cc
-tables_are (boolean x) ds e = absurd cc
-tables_are (datetime x) ds e = absurd cc
 tables_are (array xs) ds e = some_tables (are_tables xs) xs ds refl e
-tables_are (table x) ds e = absurd cc
+tables_are _ ds e = absurd cc
 
 read_tables : (place : Option ℕ) (key : Key) (o : Option Data) (found : Option Items) → read_if tables place key o ≡ Ok found → are_tables (unwrap_or found no_items) ≡ true
 read_tables place key None found e = let same : ◌≡◌ {A = Option Items} None found = cc in subst (λ (o : Option Items). are_tables (unwrap_or o no_items) ≡ true) same refl

@@ -211,12 +211,7 @@ all_taken R local P step keeps takes key s t (item (table ms) ds) m e =
     bind_ok (step s ms) _ t e (λ u r e1.
     let row = takes s u ms m r in
     took_more R local (read_so_far s) (read_so_far u) (read_so_far t) ms ds row.0 row.1 row.2 (all_taken R local P step keeps takes key u t ds (keeps s u ms m r) e1))
-all_taken R local P step keeps takes key s t (item (string x) ds) m e = absurd (cc)
-all_taken R local P step keeps takes key s t (item (integer x) ds) m e = absurd (cc)
-all_taken R local P step keeps takes key s t (item (float x) ds) m e = absurd (cc)
-all_taken R local P step keeps takes key s t (item (boolean x) ds) m e = absurd (cc)
-all_taken R local P step keeps takes key s t (item (datetime x) ds) m e = absurd (cc)
-all_taken R local P step keeps takes key s t (item (array x) ds) m e = absurd (cc)
+all_taken R local P step keeps takes key s t (item _ ds) m e = absurd (cc)
 
 -- ---- what is written, after all later tables
 

@@ -38,16 +38,8 @@ never_memory g e =
 
 -- a refusal is told as one
 told_tree : (index : ℕ) (fault : TreeFault) → fault ≢ OutOfMemory → tree_fault_told index fault ≡ Tree index fault
-told_tree index BadName other = refl
-told_tree index NameTwice other = refl
-told_tree index NoParent other = refl
-told_tree index ParentIsLease other = refl
-told_tree index LeaseWithoutToken other = refl
-told_tree index StepTooSmall other = refl
-told_tree index OutOfRange other = refl
-told_tree index TooDeep other = refl
-told_tree index Full other = refl
 told_tree index OutOfMemory other = absurd (other refl)
+told_tree index _ other = refl
 
 module _ (g : Forest) (e : Entry) (answer : Result ℕ TreeFault) (fault : TreeFault) (index : ℕ) (result : InvFault) (place : index ≡ length g.entries) (failed : answer ≡ Err fault) (is : result ≡ tree_fault_told index fault) where
   abbrev Told : Option TreeFault → Type 0

@@ -89,12 +89,7 @@ judged (string s) = judged_text s (is_credential s) (credential_sendable s)
     judged_text : (s : List ℕ) (b : Bool) → (b ≡ true → IsSendableText s) → IfSome (cond b (Some s) None) IsSendableText
     judged_text s true h = h refl
     judged_text s false h = tt
-judged (integer z) = tt
-judged (float x) = tt
-judged (boolean b) = tt
-judged (datetime dt) = tt
-judged (array ds) = tt
-judged (table ms) = tt
+judged _ = tt
 
 abbrev taken : Option (List ℕ) → Option ℕ → Key → Result (Option (List ℕ)) InvFault
 taken o place key = elim o [ Some x ↦ Ok (Some x) | None ↦ Err (BadValue place key) ]

@@ -61,12 +61,7 @@ value_lifts f g lifts place key ms found e = read_lifts f g lifts place key (get
 
 span_lifts : (low high : ℕ) → Lifts (span strict low high) (span full low high)
 span_lifts low high (string s) x e = absurd cc
-span_lifts low high (integer z) x e = e
-span_lifts low high (float z) x e = e
-span_lifts low high (boolean z) x e = e
-span_lifts low high (datetime z) x e = e
-span_lifts low high (array z) x e = e
-span_lifts low high (table z) x e = e
+span_lifts low high _ x e = e
 
 -- `always` is no date
 no_date : result_ok (moment_of (codes "always")) ≡ None
@@ -85,12 +80,7 @@ need_lifts (string s) x e =
       | inl word ↦ absurd (no_dates s x word e)
       | inr other ↦ cond-false (is_always s) (Some Always) (until_if (result_ok (moment_of s))) other ∙ e
     ]
-need_lifts (integer z) x e = e
-need_lifts (float z) x e = e
-need_lifts (boolean z) x e = e
-need_lifts (datetime z) x e = e
-need_lifts (array z) x e = e
-need_lifts (table z) x e = e
+need_lifts _ x e = e
 
 span_read : (low high : ℕ) (place : Option ℕ) (key : Key) (ms : Members) (found : Option ℕ) → value_at (span strict low high) place key ms ≡ Ok found → value_at (span full low high) place key ms ≡ Ok found
 span_read low high place key ms found e = value_lifts (span strict low high) (span full low high) (span_lifts low high) place key ms found e
@@ -209,11 +199,7 @@ until_good (Some n) = refl
 need_good : (d : Data) → is_for_good (need strict d) ≡ false
 need_good (string s) = until_good (result_ok (moment_of s))
 need_good (integer z) = until_good (whole 0 LAST (integer z))
-need_good (float z) = refl
-need_good (boolean z) = refl
-need_good (datetime z) = refl
-need_good (array z) = refl
-need_good (table z) = refl
+need_good _ = refl
 
 taken_good : (place : Option ℕ) (key : Key) (o found : Option needs.Need) → is_for_good o ≡ false → taken place key o ≡ Ok found → is_for_good found ≡ false
 taken_good place key None found good e = absurd cc
@@ -288,12 +274,7 @@ leases_lift system_max s t ms e = bind_ok (lease_row strict system_max s.forest 
 all_lift : (step other : Intake → Members → Result Intake InvFault) → StepLifts step other → (key : Key) (s t : Intake) (ds : Items) → entered_by step key s ds ≡ Ok t → entered_by other key s ds ≡ Ok t
 all_lift step other lifts key s t no_items e = e
 all_lift step other lifts key s t (item (table ms) ds) e = bind_ok (step s ms) _ t e (λ u a e1. follow _ u _ _ (lifts s u ms a) (all_lift step other lifts key u t ds e1))
-all_lift step other lifts key s t (item (string x) ds) e = absurd cc
-all_lift step other lifts key s t (item (integer x) ds) e = absurd cc
-all_lift step other lifts key s t (item (float x) ds) e = absurd cc
-all_lift step other lifts key s t (item (boolean x) ds) e = absurd cc
-all_lift step other lifts key s t (item (datetime x) ds) e = absurd cc
-all_lift step other lifts key s t (item (array x) ds) e = absurd cc
+all_lift step other lifts key s t (item _ ds) e = absurd cc
 
 intake_strict : (ms : Members) (t : Intake) → intake_of strict ms ≡ Ok t → intake_of full ms ≡ Ok t
 unfolding intake_of

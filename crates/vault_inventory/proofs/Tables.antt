@@ -9,12 +9,7 @@ use Rattle.toml.specs.View.{view, items_view}
 
 first_is_table : (d : Data) (ds : Items) → are_tables (item d ds) ≡ is_some (as_table d) && are_tables ds
 first_is_table (table ms) ds = refl
-first_is_table (string s) ds = refl
-first_is_table (integer z) ds = refl
-first_is_table (float x) ds = refl
-first_is_table (boolean b) ds = refl
-first_is_table (datetime dt) ds = refl
-first_is_table (array is) ds = refl
+first_is_table _ ds = refl
 
 pub tables_listed : (vs : List Value) → list_all (λ v. is_some (as_table (view v))) vs ≡ are_tables (items_view vs)
 tables_listed [] = refl

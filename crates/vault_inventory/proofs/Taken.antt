@@ -87,12 +87,7 @@ pub all_keep : (P : Intake → Type 0) (step : Intake → Members → Result Int
 all_keep P step keeps key s t no_items m e = let same : s ≡ t = cc in subst P same m
 all_keep P step keeps key s t (item (table ms) ds) m e =
     bind_ok (step s ms) _ t e (λ u r e1. all_keep P step keeps key u t ds (keeps s u ms m r) e1)
-all_keep P step keeps key s t (item (string x) ds) m e = absurd (cc)
-all_keep P step keeps key s t (item (integer x) ds) m e = absurd (cc)
-all_keep P step keeps key s t (item (float x) ds) m e = absurd (cc)
-all_keep P step keeps key s t (item (boolean x) ds) m e = absurd (cc)
-all_keep P step keeps key s t (item (datetime x) ds) m e = absurd (cc)
-all_keep P step keeps key s t (item (array x) ds) m e = absurd (cc)
+all_keep P step keeps key s t (item _ ds) m e = absurd (cc)
 
 -- an entered token is that of its row
 pub token_entered_ok : (l : Language) (system_max : ℕ) (s t : Intake) (ms : Members) → token_entered l system_max s ms ≡ Ok t → (row : Row) × (token_row l system_max s.forest ms ≡ Ok row) × Fits s.forest s.secrets row × (took_token s row ≡ t)

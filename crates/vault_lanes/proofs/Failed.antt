@@ -47,9 +47,7 @@ kept_as (Some (Err (losses.Status status))) old mid r s why x y z same keeps kep
 -- a try that failed
 pub failed_as : (stage : Stage) (old : List ℕ) (r : Option (List ℕ)) (why : ConnectReason) (x y : Option ℕ) → FailsMore 1 x y → FailsAs old r why (Some (Err (failed why stage))) x y
 failed_as Connecting old r why x y h = (h, refl)
-failed_as Sending old r why x y h = inl h
-failed_as Silent old r why x y h = inl h
-failed_as (Coming reads since) old r why x y h = inl h
+failed_as _ old r why x y h = inl h
 
 -- one that would have had to wait
 pub waits_as : (result : Result Unit Loss) (a : Allowance) (now : ℕ) (stage : Stage) (old : List ℕ) (r : Option (List ℕ)) (why : ConnectReason) (x y : Option ℕ) → result ≡ waits a now stage → FailsMore 0 x y
@@ -76,10 +74,8 @@ pub counted_as : (a : Allowance) (now : ℕ) (stage new : Stage) (said : Answer)
     → (said ≡ Err losses.Closed → AreCut old r) → FailsAs old r why (Some said) x y
 counted_as a now stage new (Ok dated) old r why x y counted h cut = h
 counted_as a now stage new (Err (losses.Connect reason)) old r why x y counted h cut = absurd counted
-counted_as a now stage new (Err losses.Timeout) old r why x y counted h cut = h
 counted_as a now stage new (Err losses.Closed) old r why x y counted h cut = inr (h, cut refl)
-counted_as a now stage new (Err losses.Reply) old r why x y counted h cut = h
-counted_as a now stage new (Err (losses.Status status)) old r why x y counted h cut = h
+counted_as a now stage new (Err _) old r why x y counted h cut = h
 
 -- ---- whether it failed while a text was written
 

@@ -32,14 +32,8 @@ module _ (came : List ℕ) (ended : Bool) where
 -- it is at the stage at which it was
 pub read_counted : (a : Allowance) (now : ℕ) (stage : Stage) (read : Result DatedReply HttpFault) (said : Answer) → ReplyIsRead read said → IsCounted a now stage (Some said) stage
 read_counted a now stage (Ok dated) said is = subst (λ s. IsCounted a now stage (Some s) stage) (sym is) refl
-read_counted a now stage (Err https.Truncated) said is = subst (λ s. IsCounted a now stage (Some s) stage) (sym is) refl
-read_counted a now stage (Err https.ReadFailed) said is = subst (λ s. IsCounted a now stage (Some s) stage) (sym is) refl
-read_counted a now stage (Err https.BadHead) said is = subst (λ s. IsCounted a now stage (Some s) stage) (sym is) refl
-read_counted a now stage (Err https.BadLength) said is = subst (λ s. IsCounted a now stage (Some s) stage) (sym is) refl
-read_counted a now stage (Err https.BadChunk) said is = subst (λ s. IsCounted a now stage (Some s) stage) (sym is) refl
-read_counted a now stage (Err https.TooLong) said is = subst (λ s. IsCounted a now stage (Some s) stage) (sym is) refl
-read_counted a now stage (Err https.TwoLengths) said is = subst (λ s. IsCounted a now stage (Some s) stage) (sym is) refl
 read_counted a now stage (Err https.OutOfMemory) said is = absurd is
+read_counted a now stage (Err _) said is = subst (λ s. IsCounted a now stage (Some s) stage) (sym is) refl
 
 -- an answer settles a request of which all was sent
 pub settled_by : (a : Allowance) (now : ℕ) (old new : Stage) (said : Answer) → (old ≡ Connecting → ⊥) → IsCounted a now old (Some said) new → RequestIsSettled a now new [] (Some said)
@@ -47,8 +41,7 @@ settled_by a now old new (Ok dated) sent h = refl
 settled_by a now old new (Err losses.Reply) sent h = refl
 settled_by a now old new (Err losses.Closed) sent h = λ e. sent (sym h ∙ e)
 settled_by a now old new (Err losses.Timeout) sent h = inr (subst (λ s. most_reads a ≤ reads_with s) (sym h.1) h.0)
-settled_by a now old new (Err (losses.Connect reason)) sent h = absurd h
-settled_by a now old new (Err (losses.Status status)) sent h = absurd h
+settled_by a now old new (Err _) sent h = absurd h
 
 -- one that goes on is read once more
 pub counted_more : (a : Allowance) (now counter : ℕ) (last old new : Stage) → old ≡ last → counter < reads_with last → IsCounted a now old None new → most_reads a < 2 ^ 64 → counter + 1 < reads_with new

@@ -221,8 +221,6 @@ module _ (n : ℕ) where
       commanded (pressed (readied old wall elapsed) (round_of step.round)) new output.command (let same = mid_count old wall elapsed (round_of step.round) in omega (arith, same, count)) (mid_alone old wall elapsed (round_of step.round) alone) step.command
   step_alone old new (Looked j reply terms) output count step alone = looked_alone old new (request_out old.out j Look) reply terms output step alone
   step_alone old new (Renewed j reply) output count step alone = renewed_alone old new (request_out old.out j Renew) reply output step alone
-  step_alone old new (Need j until) output count step alone = subst (IsAloneTo n) (sym step.1) (record { once = alone.once; single = alone.single })
-  step_alone old new Begin output count step alone = subst (IsAloneTo n) (sym step.1) (record { once = alone.once; single = alone.single })
   step_alone old new (Known j end renewable) output count step alone =
       subst (IsAloneTo n) (sym step.1) (record {
         once = λ i low.
@@ -231,6 +229,7 @@ module _ (n : ℕ) where
             omega (arith, same, before);
         single = alone.single;
       })
+  step_alone old new _ output count step alone = subst (IsAloneTo n) (sym step.1) (record { once = alone.once; single = alone.single })
 
 pub turn_alone : (old new : WatchState) (event : Event) (result : Result Output WatchFault) → Turn old event result new → IsAlone old → IsAlone new
 turn_alone old new event (Ok output) turn alone =

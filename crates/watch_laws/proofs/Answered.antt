@@ -73,9 +73,6 @@ module _ (f : Facts) (due : ℕ) (old mid new : WatchState) (q : Out) (reply : R
       ]
 
   by_reply : (bound : ℕ) (miss : Type 0) → (w : Reply) → reply ≡ w → Endures f.o f.i f.end bound due miss old → Endures f.o f.i f.end bound due miss new
-  by_reply bound miss (Told seconds renewable date) is h = by_real bound miss (ap is_real is) h
-  by_reply bound miss (Refused status date) is h = by_real bound miss (ap is_real is) h
-  by_reply bound miss Busy is h = by_real bound miss (ap is_real is) h
   by_reply bound miss Lost is h =
       let broke = lost_broke is in
       let a : IsAnswered old mid new q Lost = subst (IsAnswered old mid new q) is t.answered in
@@ -87,6 +84,7 @@ module _ (f : Facts) (due : ℕ) (old mid new : WatchState) (q : Out) (reply : R
             let apart : q.entry ≢ f.i = λ e. not_both (subst (λ n. (n == f.i) ≡ true) (sym e) (same_index f.i)) different in
             lost_endures f.o f.i f.end bound due miss old mid new q a broke timely h (t.other apart)
       ]
+  by_reply bound miss _ is h = by_real bound miss (ap is_real is) h
 
   pub endures_reply : (bound : ℕ) (miss : Type 0) → Endures f.o f.i f.end bound due miss old → Endures f.o f.i f.end bound due miss new
   endures_reply bound miss h = by_reply bound miss reply refl h

@@ -18,9 +18,7 @@ rest_of s = record s { forest = record { entries = []; margin = 0 }; tracks = []
 
 pub looked_rest : (s : WatchState) (r : Out) (reply : Reply) (terms : Terms) → rest_of (looked s r reply terms) ≡ rest_of s
 looked_rest s r (Told seconds renewable date) terms = refl
-looked_rest s r (Refused status date) terms = refl
-looked_rest s r Busy terms = refl
-looked_rest s r Lost terms = refl
+looked_rest s r _ terms = refl
 
 pub replied_rest : (s : WatchState) (r : Out) (reply : Reply) → rest_of (replied s r reply) ≡ rest_of s
 replied_rest s r reply =
@@ -39,9 +37,7 @@ renewed_leaves s r reply = replied_rest (state_renewed (noted s r reply) r reply
 -- and nothing begins at it
 pub looked_begins : (s : WatchState) (r : Out) (reply : Reply) (terms : Terms) → (notes_looked s r reply terms).began ≡ None
 looked_begins s r (Told seconds renewable date) terms = refl
-looked_begins s r (Refused status date) terms = refl
-looked_begins s r Busy terms = refl
-looked_begins s r Lost terms = refl
+looked_begins s r _ terms = refl
 
 pub renewed_begins : (s : WatchState) (r : Out) (reply : Reply) → (notes_renewed s r reply).began ≡ None
 renewed_begins s r reply = refl

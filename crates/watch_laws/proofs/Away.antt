@@ -56,37 +56,27 @@ none_hears s = if_both (λ (t : WatchState). t.out ≡ s.out) s.presence.away s 
 
 module _ (mid : WatchState) (q : Out) where
   answered_away : (reply : Reply) → is_answered reply ≡ true → (replied mid q reply).presence.away ≡ false
-  answered_away (Told seconds renewable date) yes' = away_back (lane_freed mid q)
-  answered_away (Refused status date) yes' = away_back (lane_freed mid q)
-  answered_away Busy yes' = away_back (lane_freed mid q)
   answered_away Lost yes' = absurd cc
+  answered_away _ yes' = away_back (lane_freed mid q)
 
   answered_out : (reply : Reply) → is_answered reply ≡ true → (replied mid q reply).out ≡ map heard (without_request q.entry mid.out)
-  answered_out (Told seconds renewable date) yes' = all_hear (lane_freed mid q)
-  answered_out (Refused status date) yes' = all_hear (lane_freed mid q)
-  answered_out Busy yes' = all_hear (lane_freed mid q)
   answered_out Lost yes' = absurd cc
+  answered_out _ yes' = all_hear (lane_freed mid q)
 
   lost_unheard : (reply : Reply) → is_answered reply ≡ false → q.heard ≡ false → (replied mid q reply).presence.away ≡ true
-  lost_unheard (Told seconds renewable date) no' unheard = absurd cc
-  lost_unheard (Refused status date) no' unheard = absurd cc
-  lost_unheard Busy no' unheard = absurd cc
   lost_unheard Lost no' unheard =
       if_cases (λ (t : WatchState). t.presence.away ≡ true) q.heard (lane_freed mid q) (silent (lane_freed mid q)) (λ e. absurd (not_both e unheard)) (λ e. away_gone (lane_freed mid q))
+  lost_unheard _ no' unheard = absurd cc
 
   lost_heard : (reply : Reply) → is_answered reply ≡ false → q.heard ≡ true → (replied mid q reply).presence.away ≡ mid.presence.away
-  lost_heard (Told seconds renewable date) no' hears = absurd cc
-  lost_heard (Refused status date) no' hears = absurd cc
-  lost_heard Busy no' hears = absurd cc
   lost_heard Lost no' hears =
       if_cases (λ (t : WatchState). t.presence.away ≡ mid.presence.away) q.heard (lane_freed mid q) (silent (lane_freed mid q)) (λ e. refl) (λ e. absurd (not_both hears e))
+  lost_heard _ no' hears = absurd cc
 
   lost_out : (reply : Reply) → is_answered reply ≡ false → (replied mid q reply).out ≡ without_request q.entry mid.out
-  lost_out (Told seconds renewable date) no' = absurd cc
-  lost_out (Refused status date) no' = absurd cc
-  lost_out Busy no' = absurd cc
   lost_out Lost no' =
       if_both (λ (t : WatchState). t.out ≡ without_request q.entry mid.out) q.heard (lane_freed mid q) (silent (lane_freed mid q)) refl (none_hears (lane_freed mid q))
+  lost_out _ no' = absurd cc
 
 -- a turn that is a reply to a request of i, and one that is none
 record Replies (old : WatchState) (i : ℕ) (reply : Reply) (new : WatchState) : Type 1 where
@@ -103,12 +93,9 @@ pub record Leaves (old : WatchState) (requests : List Request) (new : WatchState
   pub kept : (P : Out → Type 0) → All P old.out → All P (map (out_at new.clocks.at) requests) → All P new.out
 
 abbrev Acts : WatchState → Event → List Request → WatchState → Type 1
-Acts old (Clock wall elapsed) requests new = Leaves old requests new
 Acts old (Looked i reply terms) requests new = Replies old i reply new
 Acts old (Renewed i reply) requests new = Replies old i reply new
-Acts old (Need i until) requests new = Leaves old requests new
-Acts old Begin requests new = Leaves old requests new
-Acts old (Known i end renewable) requests new = Leaves old requests new
+Acts old _ requests new = Leaves old requests new
 
 looked_replies : (old new : WatchState) (i : ℕ) (reply : Reply) (terms : Terms) (output : Output) (found : Option Out) → request_out old.out i Look ≡ found → StepLooked old found reply terms output new → Replies old i reply new
 looked_replies old new i reply terms output None is step = absurd step
@@ -166,9 +153,7 @@ acts : (old new : WatchState) (event : Event) (output : Output) → Step old eve
 acts old new (Clock wall elapsed) output step = clock_leaves old new wall elapsed output step
 acts old new (Looked i reply terms) output step = looked_replies old new i reply terms output (request_out old.out i Look) refl step
 acts old new (Renewed i reply) output step = renewed_replies old new i reply output (request_out old.out i Renew) refl step
-acts old new (Need i until) output step = same_leaves old new _ (requests_asked_by output.command) step.1 refl refl
-acts old new Begin output step = same_leaves old new _ (requests_asked_by output.command) step.1 refl refl
-acts old new (Known i end renewable) output step = same_leaves old new _ (requests_asked_by output.command) step.1 refl refl
+acts old new _ output step = same_leaves old new _ (requests_asked_by output.command) step.1 refl refl
 
 -- each request of i that is out has heard of an answer; or none has
 abbrev AreHeard : Bool → ℕ → List Out → Type 0
@@ -202,20 +187,14 @@ replied_same old new i reply h no' hears =
 
 -- an event that is taken
 answer_back : (old new : WatchState) (event : Event) (requests : List Request) → Acts old event requests new → answers event ≡ true → new.presence.away ≡ false
-answer_back old new (Clock wall elapsed) requests h yes' = absurd cc
 answer_back old new (Looked i reply terms) requests h yes' = replied_back old new i reply h yes'
 answer_back old new (Renewed i reply) requests h yes' = replied_back old new i reply h yes'
-answer_back old new (Need i until) requests h yes' = absurd cc
-answer_back old new Begin requests h yes' = absurd cc
-answer_back old new (Known i end renewable) requests h yes' = absurd cc
+answer_back old new _ requests h yes' = absurd cc
 
 answer_hears : (j : ℕ) (old new : WatchState) (event : Event) (requests : List Request) → Acts old event requests new → answers event ≡ true → AreHeard true j new.out
-answer_hears j old new (Clock wall elapsed) requests h yes' = absurd cc
 answer_hears j old new (Looked i reply terms) requests h yes' = replied_hears old new i j reply h yes'
 answer_hears j old new (Renewed i reply) requests h yes' = replied_hears old new i j reply h yes'
-answer_hears j old new (Need i until) requests h yes' = absurd cc
-answer_hears j old new Begin requests h yes' = absurd cc
-answer_hears j old new (Known i end renewable) requests h yes' = absurd cc
+answer_hears j old new _ requests h yes' = absurd cc
 
 pub neither : (a b : Bool) → a || b ≡ false → (a ≡ false) × (b ≡ false)
 neither true b no' = absurd cc
@@ -234,12 +213,9 @@ other_out j at (r ∷ requests) none =
       eqb-is m n is = grind (arith, nat_tests)
 
 stays_unheard : (j : ℕ) (old new : WatchState) (event : Event) (requests : List Request) → Acts old event requests new → answers event ≡ false → AreHeard false j old.out → AreHeard false j new.out
-stays_unheard j old new (Clock wall elapsed) requests h no' all = h.kept (λ (q : Out). q.entry ≡ j → q.heard ≡ false) all (unheard_out j new.clocks.at requests)
 stays_unheard j old new (Looked i reply terms) requests h no' all = replied_kept old new i reply h no' (λ (q : Out). q.entry ≡ j → q.heard ≡ false) all
 stays_unheard j old new (Renewed i reply) requests h no' all = replied_kept old new i reply h no' (λ (q : Out). q.entry ≡ j → q.heard ≡ false) all
-stays_unheard j old new (Need i until) requests h no' all = h.kept (λ (q : Out). q.entry ≡ j → q.heard ≡ false) all (unheard_out j new.clocks.at requests)
-stays_unheard j old new Begin requests h no' all = h.kept (λ (q : Out). q.entry ≡ j → q.heard ≡ false) all (unheard_out j new.clocks.at requests)
-stays_unheard j old new (Known i end renewable) requests h no' all = h.kept (λ (q : Out). q.entry ≡ j → q.heard ≡ false) all (unheard_out j new.clocks.at requests)
+stays_unheard j old new _ requests h no' all = h.kept (λ (q : Out). q.entry ≡ j → q.heard ≡ false) all (unheard_out j new.clocks.at requests)
 
 replied_heard : (old new : WatchState) (i j : ℕ) (reply : Reply) → Replies old i reply new → AreHeard true j old.out → AreHeard true j new.out
 replied_heard old new i j (Told seconds renewable date) h all = replied_hears old new i j (Told seconds renewable date) h refl
@@ -250,40 +226,31 @@ replied_heard old new i j Lost h all = replied_kept old new i Lost h refl (λ (q
 stays_heard :
     (j : ℕ) (old new : WatchState) (event : Event) (requests : List Request) → Acts old event requests new → list_any (λ (r : Request). r.entry == j) requests ≡ false → AreHeard true j old.out →
     AreHeard true j new.out
-stays_heard j old new (Clock wall elapsed) requests h none all = h.kept (λ (q : Out). q.entry ≡ j → q.heard ≡ true) all (other_out j new.clocks.at requests none)
 stays_heard j old new (Looked i reply terms) requests h none all = replied_heard old new i j reply h all
 stays_heard j old new (Renewed i reply) requests h none all = replied_heard old new i j reply h all
-stays_heard j old new (Need i until) requests h none all = h.kept (λ (q : Out). q.entry ≡ j → q.heard ≡ true) all (other_out j new.clocks.at requests none)
-stays_heard j old new Begin requests h none all = h.kept (λ (q : Out). q.entry ≡ j → q.heard ≡ true) all (other_out j new.clocks.at requests none)
-stays_heard j old new (Known i end renewable) requests h none all = h.kept (λ (q : Out). q.entry ≡ j → q.heard ≡ true) all (other_out j new.clocks.at requests none)
+stays_heard j old new _ requests h none all = h.kept (λ (q : Out). q.entry ≡ j → q.heard ≡ true) all (other_out j new.clocks.at requests none)
 
 not_true : (b : Bool) → not b ≡ true → b ≡ false
 not_true true no' = absurd cc
 not_true false no' = refl
 
 loss_lost : (i : ℕ) (old new : WatchState) (event : Event) (requests : List Request) → Acts old event requests new → loses i event ≡ true → AreHeard false i old.out → new.presence.away ≡ true
-loss_lost i old new (Clock wall elapsed) requests h yes' all = absurd cc
 loss_lost i old new (Looked j reply terms) requests h yes' all =
     let both = and_parts (j == i) (not (is_answered reply)) yes' in
     replied_lost old new j reply h (not_true (is_answered reply) both.1) (subst (λ k. AreHeard false k old.out) (sym (eqb-true j i both.0)) all)
 loss_lost i old new (Renewed j reply) requests h yes' all =
     let both = and_parts (j == i) (not (is_answered reply)) yes' in
     replied_lost old new j reply h (not_true (is_answered reply) both.1) (subst (λ k. AreHeard false k old.out) (sym (eqb-true j i both.0)) all)
-loss_lost i old new (Need j until) requests h yes' all = absurd cc
-loss_lost i old new Begin requests h yes' all = absurd cc
-loss_lost i old new (Known j end renewable) requests h yes' all = absurd cc
+loss_lost i old new _ requests h yes' all = absurd cc
 
 loss_same : (i : ℕ) (old new : WatchState) (event : Event) (requests : List Request) → Acts old event requests new → loses i event ≡ true → AreHeard true i old.out → new.presence.away ≡ old.presence.away
-loss_same i old new (Clock wall elapsed) requests h yes' all = absurd cc
 loss_same i old new (Looked j reply terms) requests h yes' all =
     let both = and_parts (j == i) (not (is_answered reply)) yes' in
     replied_same old new j reply h (not_true (is_answered reply) both.1) (subst (λ k. AreHeard true k old.out) (sym (eqb-true j i both.0)) all)
 loss_same i old new (Renewed j reply) requests h yes' all =
     let both = and_parts (j == i) (not (is_answered reply)) yes' in
     replied_same old new j reply h (not_true (is_answered reply) both.1) (subst (λ k. AreHeard true k old.out) (sym (eqb-true j i both.0)) all)
-loss_same i old new (Need j until) requests h yes' all = absurd cc
-loss_same i old new Begin requests h yes' all = absurd cc
-loss_same i old new (Known j end renewable) requests h yes' all = absurd cc
+loss_same i old new _ requests h yes' all = absurd cc
 
 -- a reply is an answer or a loss
 neither_reply : {X : Type 0} (i : ℕ) (reply : Reply) → is_answered reply ≡ false → (i == i && not (is_answered reply)) ≡ false → X
@@ -292,12 +259,9 @@ neither_reply i reply no' none =
     absurd (let bad : true ≡ false = sym (ap (λ b. b && true) same) ∙ sym (ap (λ b. i == i && not b) no') ∙ none in cc)
 
 else_same : (old new : WatchState) (event : Event) (requests : List Request) → Acts old event requests new → answers event ≡ false → ((i : ℕ) → loses i event ≡ false) → new.presence.away ≡ old.presence.away
-else_same old new (Clock wall elapsed) requests h no' none = h.away
 else_same old new (Looked i reply terms) requests h no' none = neither_reply i reply no' (none i)
 else_same old new (Renewed i reply) requests h no' none = neither_reply i reply no' (none i)
-else_same old new (Need i until) requests h no' none = h.away
-else_same old new Begin requests h no' none = h.away
-else_same old new (Known i end renewable) requests h no' none = h.away
+else_same old new _ requests h no' none = h.away
 
 -- a turn
 turn_unheard :

@@ -36,9 +36,7 @@ use Rattle.watch_laws.proofs.Presses.{again_is}
 looked_others : (s : WatchState) (q : Out) (reply : Reply) (terms : Terms) (j : ℕ) → j ≢ q.entry → track_at (looked s q reply terms) j ≡ track_at s j
 looked_others s q (Told seconds renewable date) terms j apart =
     get_or-set_other (told_state s q.entry q.since seconds renewable terms).tracks q.entry j _ no_track apart ∙ get_or-set_other s.tracks q.entry j _ no_track apart
-looked_others s q (Refused status date) terms j apart = get_or-set_other s.tracks q.entry j _ no_track apart
-looked_others s q Busy terms j apart = get_or-set_other s.tracks q.entry j _ no_track apart
-looked_others s q Lost terms j apart = get_or-set_other s.tracks q.entry j _ no_track apart
+looked_others s q _ terms j apart = get_or-set_other s.tracks q.entry j _ no_track apart
 
 renewed_others : (s : WatchState) (q : Out) (reply : Reply) (j : ℕ) → j ≢ q.entry → track_at (state_renewed s q reply) j ≡ track_at s j
 renewed_others s q reply j apart = get_or-set_other s.tracks q.entry j _ no_track apart
@@ -51,18 +49,14 @@ module _ (mid : WatchState) (q : Out) where
   none_back there = if_cases (λ (t : WatchState). t.tracks ≡ mid.tracks) mid.presence.away _ _ (λ e. absurd (true≢false (sym e ∙ there))) (λ e. refl)
 
   back_tracks : (reply : Reply) → is_answered reply ≡ true → mid.presence.away ≡ true → (replied mid q reply).tracks ≡ each (λ i. back_track) mid.tracks
-  back_tracks (Told seconds renewable date) yes' away = all_back away
-  back_tracks (Refused status date) yes' away = all_back away
-  back_tracks Busy yes' away = all_back away
   back_tracks Lost yes' away = absurd cc
+  back_tracks _ yes' away = all_back away
 
   same_tracks : (reply : Reply) → is_answered reply && mid.presence.away ≡ false → (replied mid q reply).tracks ≡ mid.tracks
-  same_tracks (Told seconds renewable date) none = none_back none
-  same_tracks (Refused status date) none = none_back none
-  same_tracks Busy none = none_back none
   same_tracks Lost none =
       let P : WatchState → Type 0 = λ t. t.tracks ≡ mid.tracks in
       if_both P q.heard (lane_freed mid q) (silent (lane_freed mid q)) refl (if_both P mid.presence.away _ _ refl refl)
+  same_tracks _ none = none_back none
 
 -- a turn that is a reply to i
 record Replies (old : WatchState) (i : ℕ) (reply : Reply) (new : WatchState) : Type 0 where

@@ -188,8 +188,7 @@ pub untold_base : (n at : ℕ) (heard : Bool) (reply : Reply) (x : Track) (o : O
 untold_base n at heard reply x None h = tt
 untold_base n at heard (Told seconds renewable date) x (Some t) h = h
 untold_base n at heard (Refused status date) x (Some t) h = refused_base n at x t
-untold_base n at heard Busy x (Some t) h = tt
-untold_base n at heard Lost x (Some t) h = tt
+untold_base n at heard _ x (Some t) h = tt
 
 pub granted_base : (n at : ℕ) (owes : Bool) (end : ℕ) (o : Option Try) → BaseBy n (granted_try at owes end o)
 granted_base n at owes end None = tt
@@ -199,9 +198,7 @@ granted_base n at owes end (Some t) =
 pub ungranted_base : (n at : ℕ) (heard : Bool) (reply : Reply) (x : Track) (o : Option Try) → BaseBy n o → BaseBy n (ungranted at heard reply x o)
 ungranted_base n at heard reply x None h = tt
 ungranted_base n at heard (Told seconds renewable date) x (Some t) h = h
-ungranted_base n at heard (Refused status date) x (Some t) h = tt
-ungranted_base n at heard Busy x (Some t) h = tt
-ungranted_base n at heard Lost x (Some t) h = tt
+ungranted_base n at heard _ x (Some t) h = tt
 
 -- a grant counts from a clock that is no later than both the request and the try's beginning may be
 from_base_by : (margin step seconds at since n : ℕ) (b : Option ℕ) → since ≤ n → SetBy n b → from_base margin step seconds at since b ≤ n

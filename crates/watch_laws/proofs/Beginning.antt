@@ -95,10 +95,9 @@ step_since : (at : ℕ) (came : Bool) (old new : WatchState) (event : Event) (ou
 step_since at came old new (Clock wall elapsed) output step h = subst (λ b. Since at b new) (sym (or_false came)) (clock_since at came old new wall elapsed output step h)
 step_since at came old new (Looked i reply terms) output step h = subst (λ b. Since at b new) (sym (or_false came)) (looked_since at came old new (request_out old.out i Look) reply terms output step h)
 step_since at came old new (Renewed i reply) output step h = subst (λ b. Since at b new) (sym (or_false came)) (renewed_since at came old new (request_out old.out i Renew) reply output step h)
-step_since at came old new (Need i until) output step h = subst (λ b. Since at b new) (sym (or_false came)) (left_since at came old new (ap rest_of step.1) h)
 step_since at came old new Begin output step h =
     subst (Since at (came || true)) (sym step.1) (record { begun = h.begun; begun_is = h.begun_is; from = h.from; past = h.past; asked = λ yes'. or_right came true refl })
-step_since at came old new (Known i end renewable) output step h = subst (λ b. Since at b new) (sym (or_false came)) (left_since at came old new (ap rest_of step.1) h)
+step_since at came old new _ output step h = subst (λ b. Since at b new) (sym (or_false came)) (left_since at came old new (ap rest_of step.1) h)
 
 stays : (at : ℕ) (came more : Bool) (s : WatchState) → Since at came s → Since at (came || more) s
 stays at came more s h = record { begun = h.begun; begun_is = h.begun_is; from = h.from; past = h.past; asked = λ yes'. or_left came more (h.asked yes') }
@@ -180,9 +179,7 @@ step_begins : (at : ℕ) (came : Bool) (old new : WatchState) (event : Event) (o
 step_begins at came old new (Clock wall elapsed) output step begins h = clock_begins at came old new wall elapsed output step begins h
 step_begins at came old new (Looked i reply terms) output step begins h = looked_none old new (request_out old.out i Look) reply terms output step begins
 step_begins at came old new (Renewed i reply) output step begins h = renewed_none old new (request_out old.out i Renew) reply output step begins
-step_begins at came old new (Need i until) output step begins h = no_beginning output _ step.0 refl begins
-step_begins at came old new Begin output step begins h = no_beginning output _ step.0 refl begins
-step_begins at came old new (Known i end renewable) output step begins h = no_beginning output _ step.0 refl begins
+step_begins at came old new _ output step begins h = no_beginning output _ step.0 refl begins
 
 turn_begins :
     (at : ℕ) (came : Bool) (old new : WatchState) (event : Event) (result : Result Output WatchFault) → Turn old event result new → is_some (why_begun result) ≡ true → Since at came old →
@@ -222,9 +219,7 @@ step_starts : (old new : WatchState) (event : Event) (output : Output) → Step 
 step_starts old new (Clock wall elapsed) output step begins = clock_starts old new wall elapsed output step begins
 step_starts old new (Looked i reply terms) output step begins = looked_none old new (request_out old.out i Look) reply terms output step begins
 step_starts old new (Renewed i reply) output step begins = renewed_none old new (request_out old.out i Renew) reply output step begins
-step_starts old new (Need i until) output step begins = no_beginning output _ step.0 refl begins
-step_starts old new Begin output step begins = no_beginning output _ step.0 refl begins
-step_starts old new (Known i end renewable) output step begins = no_beginning output _ step.0 refl begins
+step_starts old new _ output step begins = no_beginning output _ step.0 refl begins
 
 turn_starts : (old new : WatchState) (event : Event) (result : Result Output WatchFault) → Turn old event result new → is_some (why_begun result) ≡ true → Since new.clocks.at false new
 turn_starts old new event (Ok output) turn begins = step_starts old new event output turn.1 begins

@@ -72,8 +72,6 @@ by_rule (Some c) now step seconds is =
 
 not_topped : (step seconds from : ℕ) (before : Option Grant) (end : End) → lead step before ≡ step → is_no_further step seconds from before end ≡ false
 not_topped step seconds from None end h = refl
-not_topped step seconds from (Some before) Unknown h = refl
-not_topped step seconds from (Some before) Never h = refl
 not_topped step seconds from (Some before) (At end) h =
     let more : nat_lt before.seconds step ≡ false = (let l : min step before.seconds ≡ step = h in grind (arith, nat_tests)) in
     never (nat_le (sec before.from + 2) (sec from)) (nat_lt before.seconds step) (nat_lt seconds step && nat_le (sec from + seconds) (min end (sec before.from + before.seconds) + 1)) more where
@@ -81,6 +79,7 @@ not_topped step seconds from (Some before) (At end) h =
       never true true c h = absurd cc
       never true false c h = refl
       never false b c h = refl
+not_topped step seconds from (Some before) _ h = refl
 
 pub no_try : (at end : ℕ) (owes : Bool) (o : Option Try) → sec at < end → owes ≡ false → granted_try at owes end o ≡ None
 no_try at end owes None ahead none = refl

@@ -24,9 +24,8 @@ use Rattle.watch_machine.proofs.Cases.{if_both}
 
 -- what is refused leaves the watch as it was
 pub refused_stays : (old new : WatchState) (event : Event) (fault : WatchFault) → Turn old event (Err fault) new → new ≡ old
-refused_stays old new event NotAsked h = h.1
-refused_stays old new event BadIndex h = h.1
 refused_stays old new event OutOfMemory h = h.1.1
+refused_stays old new event _ h = h.1
 
 -- what goes out at a clock
 pub sent_by : (mid new : WatchState) (command : Command) → StepCommand mid command new → (requests : List Request) × (new ≡ sent mid requests)

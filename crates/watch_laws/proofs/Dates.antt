@@ -35,9 +35,7 @@ read_kept c wall elapsed is =
 
 told_is : (reply : Reply) → date_of reply ≡ date_told reply
 told_is (Told seconds renewable date) = refl
-told_is (Refused status date) = refl
-told_is Busy = refl
-told_is Lost = refl
+told_is _ = refl
 
 -- its tests
 ahead_is : (c : Clocks) (date : ℕ) → c.broker.here ≤ c.at → IsAheadOf c.broker (sec c.at) date → is_ahead c date ≡ true

@@ -211,9 +211,7 @@ replied_all P stable mid q reply all =
 
 looked_answers : (s : WatchState) (q : Out) (reply : Reply) (terms : Terms) → (looked s q reply terms).answers ≡ s.answers
 looked_answers s q (Told seconds renewable date) terms = refl
-looked_answers s q (Refused status date) terms = refl
-looked_answers s q Busy terms = refl
-looked_answers s q Lost terms = refl
+looked_answers s q _ terms = refl
 
 abbrev pub kept_as : Out → Reply → Answer
 kept_as q reply = record { since = q.since; heard = q.heard; reply = reply }
@@ -286,9 +284,7 @@ abbrev pub Does : WatchState → Event → List Request → WatchState → Type 
 Does old (Clock wall elapsed) requests new = Goes old wall elapsed requests new
 Does old (Looked i reply terms) requests new = Adds old i reply new
 Does old (Renewed i reply) requests new = Adds old i reply new
-Does old (Need i until) requests new = Keeps old new
-Does old Begin requests new = Keeps old new
-Does old (Known i end renewable) requests new = Keeps old new
+Does old _ requests new = Keeps old new
 
 keeps_by : (old new mid : WatchState) → new ≡ mid → rest_of mid ≡ rest_of (record old { asked = mid.asked }) → mid.answers ≡ old.answers → mid.out ≡ old.out → Keeps old new
 keeps_by old new mid is rest answers out = subst (Keeps old) (sym is) (record { rest = rest; answers = answers; out = out })
@@ -297,9 +293,7 @@ pub does : (old new : WatchState) (event : Event) (output : Output) → Step old
 does old new (Clock wall elapsed) output step = clock_goes old new wall elapsed output step
 does old new (Looked i reply terms) output step = looked_adds old new i reply terms output (request_out old.out i Look) refl step
 does old new (Renewed i reply) output step = renewed_adds old new i reply output (request_out old.out i Renew) refl step
-does old new (Need i until) output step = keeps_by old new _ step.1 refl refl refl
-does old new Begin output step = keeps_by old new _ step.1 refl refl refl
-does old new (Known i end renewable) output step = keeps_by old new _ step.1 refl refl refl
+does old new _ output step = keeps_by old new _ step.1 refl refl refl
 
 -- before the first clock nothing is out, and no clock is set; and no request went out after now
 pub record Clocked (s : WatchState) : Type 0 where
@@ -349,9 +343,7 @@ does_clocked : (old new : WatchState) (event : Event) (requests : List Request) 
 does_clocked old new (Clock wall elapsed) requests h o = goes_clocked old new wall elapsed requests h o
 does_clocked old new (Looked i reply terms) requests h o = adds_clocked old new i reply h o
 does_clocked old new (Renewed i reply) requests h o = adds_clocked old new i reply h o
-does_clocked old new (Need i until) requests h o = keeps_clocked old new h o
-does_clocked old new Begin requests h o = keeps_clocked old new h o
-does_clocked old new (Known i end renewable) requests h o = keeps_clocked old new h o
+does_clocked old new _ requests h o = keeps_clocked old new h o
 
 turn_clocked : (old new : WatchState) (event : Event) (result : Result Output WatchFault) → Turn old event result new → Clocked old → Clocked new
 turn_clocked old new event (Ok output) turn o = does_clocked old new event (requests_asked_by output.command) (does old new event output turn.1) o
@@ -443,9 +435,7 @@ does_quiet : (old new : WatchState) (event : Event) (requests : List Request) �
 does_quiet old new (Clock wall elapsed) requests h none = absurd cc
 does_quiet old new (Looked i reply terms) requests h none = adds_quiet old new i reply h none
 does_quiet old new (Renewed i reply) requests h none = adds_quiet old new i reply h none
-does_quiet old new (Need i until) requests h none = keeps_quiet old new h
-does_quiet old new Begin requests h none = keeps_quiet old new h
-does_quiet old new (Known i end renewable) requests h none = keeps_quiet old new h
+does_quiet old new _ requests h none = keeps_quiet old new h
 
 turn_quiet : (old new : WatchState) (event : Event) (result : Result Output WatchFault) → Turn old event result new → is_set (record { event = event; result = result; state = new }) ≡ false → Quiet old new
 turn_quiet old new event (Ok output) turn none = does_quiet old new event (requests_asked_by output.command) (does old new event output turn.1) none
@@ -490,9 +480,7 @@ does_out :
 does_out i since old new (Clock wall elapsed) requests h none all = h.out (WentOut i since) all (other_out i since new.clocks.at requests none)
 does_out i since old new (Looked j reply terms) requests h none all = h.out (WentOut i since) (λ q w. w) all
 does_out i since old new (Renewed j reply) requests h none all = h.out (WentOut i since) (λ q w. w) all
-does_out i since old new (Need j until) requests h none all = subst (All (WentOut i since)) (sym h.out) all
-does_out i since old new Begin requests h none all = subst (All (WentOut i since)) (sym h.out) all
-does_out i since old new (Known j end renewable) requests h none all = subst (All (WentOut i since)) (sym h.out) all
+does_out i since old new _ requests h none all = subst (All (WentOut i since)) (sym h.out) all
 
 turn_out :
     (i since : ℕ) (old new : WatchState) (event : Event) (result : Result Output WatchFault) → Turn old event result new → list_any (λ (r : Request). r.entry == i) (requests_at_turn result) ≡ false →
@@ -516,9 +504,7 @@ does_ask i old new (Clock wall elapsed) requests h none =
     h.out (WentOut i new.clocks.at) (none_out i new.clocks.at old.out none) (All-map (WentOut i new.clocks.at) (out_at new.clocks.at) requests (λ k d below is. refl))
 does_ask i old new (Looked j reply terms) requests h none = h.out (WentOut i new.clocks.at) (λ q w. w) (none_out i new.clocks.at old.out none)
 does_ask i old new (Renewed j reply) requests h none = h.out (WentOut i new.clocks.at) (λ q w. w) (none_out i new.clocks.at old.out none)
-does_ask i old new (Need j until) requests h none = subst (All (WentOut i new.clocks.at)) (sym h.out) (none_out i new.clocks.at old.out none)
-does_ask i old new Begin requests h none = subst (All (WentOut i new.clocks.at)) (sym h.out) (none_out i new.clocks.at old.out none)
-does_ask i old new (Known j end renewable) requests h none = subst (All (WentOut i new.clocks.at)) (sym h.out) (none_out i new.clocks.at old.out none)
+does_ask i old new _ requests h none = subst (All (WentOut i new.clocks.at)) (sym h.out) (none_out i new.clocks.at old.out none)
 
 pub turn_asks : (i : ℕ) (old new : WatchState) (event : Event) (result : Result Output WatchFault) → Turn old event result new → All (λ (q : Out). q.entry ≢ i) old.out → All (WentOut i new.clocks.at) new.out
 turn_asks i old new event (Ok output) turn none = does_ask i old new event (requests_asked_by output.command) (does old new event output turn.1) none
@@ -538,9 +524,7 @@ record HasDate (since date : ℕ) (s : WatchState) : Type 0 where
 
 date_is : (reply : Reply) (date : ℕ) → date_told reply ≡ Some date → date_of reply ≡ Some date
 date_is (Told seconds renewable d) date is = is
-date_is (Refused status d) date is = is
-date_is Busy date is = is
-date_is Lost date is = is
+date_is _ date is = is
 
 adds_date : (i since date : ℕ) (old new : WatchState) (j : ℕ) (reply : Reply) → Adds old j reply new → j ≡ i → date_told reply ≡ Some date → All (WentOut i since) old.out → Clocked old → HasDate since date new
 adds_date i since date old new j reply h of told all o =
@@ -558,12 +542,9 @@ adds_date i since date old new j reply h of told all o =
     }
 
 does_date : (i since date : ℕ) (old new : WatchState) (event : Event) (requests : List Request) → Does old event requests new → IsDateOf i date event → All (WentOut i since) old.out → Clocked old → HasDate since date new
-does_date i since date old new (Clock wall elapsed) requests h is all o = absurd is
 does_date i since date old new (Looked j reply terms) requests h is all o = adds_date i since date old new j reply h is.0 is.1 all o
 does_date i since date old new (Renewed j reply) requests h is all o = adds_date i since date old new j reply h is.0 is.1 all o
-does_date i since date old new (Need j until) requests h is all o = absurd is
-does_date i since date old new Begin requests h is all o = absurd is
-does_date i since date old new (Known j end renewable) requests h is all o = absurd is
+does_date i since date old new _ requests h is all o = absurd is
 
 turn_date :
     (i since date : ℕ) (old new : WatchState) (event : Event) (result : Result Output WatchFault) → Turn old event result new → IsDateOf i date event → is_event_taken result ≡ true →

@@ -108,23 +108,15 @@ turn_paused :
     (old new : WatchState) (event : Event) (result : Result Output WatchFault) (i : ℕ) (t u : Try) → Turn old event result new →
     TryFails old (record { event = event; result = result; state = new }) i t u → 0 < u.fails → IsPaused old (record { event = event; result = result; state = new }) i t u
 turn_paused old new (Clock wall elapsed) (Ok output) i t u turn h fails = clock_paused old new wall elapsed output turn.1 i t h.before h.failed u h.after h.pressed fails
-turn_paused old new (Looked j reply terms) (Ok output) i t u turn h fails = absurd (let e = h.clock in cc)
-turn_paused old new (Renewed j reply) (Ok output) i t u turn h fails = absurd (let e = h.clock in cc)
-turn_paused old new (Need j until) (Ok output) i t u turn h fails = absurd (let e = h.clock in cc)
-turn_paused old new Begin (Ok output) i t u turn h fails = absurd (let e = h.clock in cc)
-turn_paused old new (Known j end renewable) (Ok output) i t u turn h fails = absurd (let e = h.clock in cc)
 turn_paused old new event (Err fault) i t u turn h fails = absurd (let e = h.taken in cc)
+turn_paused old new _ (Ok output) i t u turn h fails = absurd (let e = h.clock in cc)
 
 turn_unpaused :
     (old new : WatchState) (event : Event) (result : Result Output WatchFault) (i : ℕ) (t u : Try) → Turn old event result new →
     TryWaits old (record { event = event; result = result; state = new }) i t u → 0 < u.fails → IsUnpaused (record { event = event; result = result; state = new }) t u
 turn_unpaused old new (Clock wall elapsed) (Ok output) i t u turn h fails = clock_unpaused old new wall elapsed output turn.1 i t h.before h.waits u h.after h.pressed fails
-turn_unpaused old new (Looked j reply terms) (Ok output) i t u turn h fails = absurd (let e = h.clock in cc)
-turn_unpaused old new (Renewed j reply) (Ok output) i t u turn h fails = absurd (let e = h.clock in cc)
-turn_unpaused old new (Need j until) (Ok output) i t u turn h fails = absurd (let e = h.clock in cc)
-turn_unpaused old new Begin (Ok output) i t u turn h fails = absurd (let e = h.clock in cc)
-turn_unpaused old new (Known j end renewable) (Ok output) i t u turn h fails = absurd (let e = h.clock in cc)
 turn_unpaused old new event (Err fault) i t u turn h fails = absurd (let e = h.taken in cc)
+turn_unpaused old new _ (Ok output) i t u turn h fails = absurd (let e = h.clock in cc)
 
 pub pauses_double : DoubledLaw
 pauses_double old turn i t u history fails again = turn_paused old turn.state turn.event turn.result i t u history.0 fails again

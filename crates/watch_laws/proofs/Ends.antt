@@ -60,19 +60,17 @@ use Rattle.watch_laws.proofs.Tracking.{back_kept, each_holds, known_is, set_hold
 
 -- an end, if it is one, comes no later than the real one
 abbrev EndBy : TimedWorld → ℕ → ℕ → Origin → End → Type 0
-EndBy w phase real o Unknown = Unit {0}
 EndBy w phase real o (At end) = IsNoLater w phase end real o
-EndBy w phase real o Never = Unit {0}
+EndBy w phase real o _ = Unit {0}
 
 later_end : (w : TimedWorld) → IsHonest w → (phase more real far : ℕ) (o : Origin) (e : End) → phase ≤ more → real ≤ far → EndBy w phase real o e → EndBy w more far o e
-later_end w honest phase more real far o Unknown p r h = tt
-later_end w honest phase more real far o Never p r h = tt
 later_end w honest phase more real far o (At end) p r h =
     let b = h.before in
     let n = h.no_later in
     let rises = honest.rises real far r in
     let adds = honest.adds o.since real far b r in
     record { before = omega (arith, b, r); no_later = omega (arith, n, p, rises, adds) }
+later_end w honest phase more real far o _ p r h = tt
 
 -- a request of i went out no later than its last one
 abbrev SinceBy : ℕ → ℕ → Out → Type 0
@@ -606,9 +604,7 @@ step_clock w now old new (Clock wall elapsed) output step read' h =
     }
 step_clock w now old new (Looked j reply terms) output step read' h = looked_clock w now old new (request_out old.out j Look) reply terms output step h
 step_clock w now old new (Renewed j reply) output step read' h = renewed_clock w now old new (request_out old.out j Renew) reply output step h
-step_clock w now old new (Need j until) output step read' h = same_clock w now old new (ap (λ (x : WatchState). x.clocks) step.1) (ap (λ (x : WatchState). x.begun) step.1) h
-step_clock w now old new Begin output step read' h = same_clock w now old new (ap (λ (x : WatchState). x.clocks) step.1) (ap (λ (x : WatchState). x.begun) step.1) h
-step_clock w now old new (Known j end renewable) output step read' h = same_clock w now old new (ap (λ (x : WatchState). x.clocks) step.1) (ap (λ (x : WatchState). x.begun) step.1) h
+step_clock w now old new _ output step read' h = same_clock w now old new (ap (λ (x : WatchState). x.clocks) step.1) (ap (λ (x : WatchState). x.begun) step.1) h
 
 turn_clock : (w : TimedWorld) (now : ℕ) (old new : WatchState) (event : Event) (result : Result Output WatchFault) → Turn old event result new → IsTrueReading w now event → HasClock w now old → HasClock w now new
 turn_clock w now old new event (Ok output) turn read' h = step_clock w now old new event output turn.1 read' h
@@ -616,11 +612,7 @@ turn_clock w now old new event (Err fault) turn read' h = subst (HasClock w now)
 
 true_reading : (w : TimedWorld) (i asked : ℕ) (s : WatchState) (l : Lived) (event : Event) → IsTrueEvent w i asked s l event → IsTrueReading w l.at event
 true_reading w i asked s l (Clock wall elapsed) so = so
-true_reading w i asked s l (Looked j reply terms) so = tt
-true_reading w i asked s l (Renewed j reply) so = tt
-true_reading w i asked s l (Need j until) so = tt
-true_reading w i asked s l Begin so = tt
-true_reading w i asked s l (Known j end renewable) so = tt
+true_reading w i asked s l _ so = tt
 
 -- what holds where it stands; while it is not there yet, and under the index of one that is no more, of the clock alone
 abbrev StandsOf : TimedWorld → Option ℕ → ℕ → ℕ → Origin → ℕ → WatchState → Type 0

@@ -623,9 +623,7 @@ Failing t v = (v.pressed ≡ t.pressed) × (v.pressed ≡ true → v.failed ≡ 
 
 ungranted_fails : (at : ℕ) (heard : Bool) (reply : Reply) (x : Track) (t : Try) → is_told reply ≡ false → Failing t (ungranted_try at heard reply x t)
 ungranted_fails at heard (Told seconds renewable date) x t untold' = absurd (true≢false untold')
-ungranted_fails at heard (Refused status date) x t untold' = (refl, λ p. refl)
-ungranted_fails at heard Busy x t untold' = (refl, λ p. refl)
-ungranted_fails at heard Lost x t untold' = (refl, λ p. refl)
+ungranted_fails at heard _ x t untold' = (refl, λ p. refl)
 
 untold_fails : (at : ℕ) (heard : Bool) (reply : Reply) (x : Track) (t : Try) → is_told reply ≡ false → Failing t (untold_try at heard reply x t)
 untold_fails at heard (Told seconds renewable date) x t untold' = absurd (true≢false untold')
@@ -633,8 +631,7 @@ untold_fails at heard (Refused status date) x t untold' =
     if_both (Failing t) (is_open (sec at) x) (if t.pressed then failing t Renew false false else record (failing t Renew false false) { at = at; failed = false }) (failing t Look false false)
     (if_cases (Failing t) t.pressed (failing t Renew false false) (record (failing t Renew false false) { at = at; failed = false }) (λ e. (refl, λ p. refl)) (λ e. (refl, λ p. absurd (not_both p e))))
     (refl, λ p. refl)
-untold_fails at heard Busy x t untold' = (refl, λ p. refl)
-untold_fails at heard Lost x t untold' = (refl, λ p. refl)
+untold_fails at heard _ x t untold' = (refl, λ p. refl)
 
 fails_so : (t v u : Try) → Failing t v → Some v ≡ Some u → u.pressed ≡ true → u.failed ≡ true
 fails_so t v u h is = subst (λ (w : Try). w.pressed ≡ true → w.failed ≡ true) (value_is v u is) h.1

@@ -195,12 +195,9 @@ renewed_step old new (Some q) i reply output is step =
     (subst (λ (x : WatchState). RenewalFails old.presence.away reply (track_at x q.entry)) (sym step.1) (renewed_fails (noted old q reply) q reply))
 
 step_fails : (old new : WatchState) (event : Event) (output : Output) → Step old event output new → FailsTaken old event new
-step_fails old new (Clock wall elapsed) output step = tt
 step_fails old new (Looked i reply terms) output step = looked_step old new (request_out old.out i Look) i reply terms output refl step
 step_fails old new (Renewed i reply) output step = renewed_step old new (request_out old.out i Renew) i reply output refl step
-step_fails old new (Need i until) output step = tt
-step_fails old new Begin output step = tt
-step_fails old new (Known i end renewable) output step = tt
+step_fails old new _ output step = tt
 
 turn_fails : (old new : WatchState) (event : Event) (result : Result Output WatchFault) → Turn old event result new → FailsRight old event result new
 turn_fails old new event (Ok output) turn = step_fails old new event output turn.1

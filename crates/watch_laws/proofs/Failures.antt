@@ -61,9 +61,7 @@ again_failure t reply heard next u from lost h = record { fails = h.fails; base 
 ungranted_fails :
     (at : ℕ) (heard : Bool) (reply : Reply) (x : Track) (t : Try) → is_told reply ≡ false → IsFailure t (ungranted_try at heard reply x t) reply heard (asked_after_renewal reply (is_alive (sec at) x))
 ungranted_fails at heard (Told seconds renewable date) x t none = absurd cc
-ungranted_fails at heard (Refused status date) x t none = record { fails = refl; base = refl; alone = refl; pressed = refl; operation = refl }
-ungranted_fails at heard Busy x t none = record { fails = refl; base = refl; alone = refl; pressed = refl; operation = refl }
-ungranted_fails at heard Lost x t none = record { fails = refl; base = refl; alone = refl; pressed = refl; operation = refl }
+ungranted_fails at heard _ x t none = record { fails = refl; base = refl; alone = refl; pressed = refl; operation = refl }
 
 ungranted_some :
     (at : ℕ) (heard : Bool) (reply : Reply) (x : Track) (t u : Try) → is_told reply ≡ false → x.attempt ≡ Some t → ungranted at heard reply x x.attempt ≡ Some u →
@@ -84,9 +82,7 @@ renewed_fails margin step at q Lost x t none is = (refl, λ u there. ungranted_s
 renewed_owes : (margin step at : ℕ) (q : Out) (reply : Reply) (x : Track) → is_told reply ≡ false → (renewed_track margin step at q reply x).owes ≡ x.owes
 unfolding renewed_track ungranted_track
 renewed_owes margin step at q (Told seconds renewable date) x none = absurd cc
-renewed_owes margin step at q (Refused status date) x none = refl
-renewed_owes margin step at q Busy x none = refl
-renewed_owes margin step at q Lost x none = refl
+renewed_owes margin step at q _ x none = refl
 
 back_owes : (owes : Bool) (x : Track) → x.owes ≡ owes → (back_track x).owes ≡ owes
 unfolding back_track
@@ -138,8 +134,7 @@ untold_fails :
     (at : ℕ) (heard : Bool) (reply : Reply) (x : Track) (t : Try) → is_told reply ≡ false → IsFailure t (untold_try at heard reply x t) reply heard (asked_after_lookup reply t.pressed (is_open (sec at) x))
 untold_fails at heard (Told seconds renewable date) x t none = absurd cc
 untold_fails at heard (Refused status date) x t none = by_refusal (is_open (sec at) x) t.pressed at t refl status date heard
-untold_fails at heard Busy x t none = record { fails = refl; base = refl; alone = refl; pressed = refl; operation = refl }
-untold_fails at heard Lost x t none = record { fails = refl; base = refl; alone = refl; pressed = refl; operation = refl }
+untold_fails at heard _ x t none = record { fails = refl; base = refl; alone = refl; pressed = refl; operation = refl }
 
 untold_some :
     (at : ℕ) (heard : Bool) (reply : Reply) (x : Track) (t u : Try) → is_told reply ≡ false → x.attempt ≡ Some t → untold at heard reply x x.attempt ≡ Some u →
@@ -157,15 +152,11 @@ untold_free at heard reply x t none is = (refl, λ u there. untold_some at heard
 untold_owes : (at : ℕ) (heard : Bool) (reply : Reply) (x : Track) → is_told reply ≡ false → (untold_track at heard reply x).owes ≡ x.owes && not (is_refused reply)
 unfolding untold_track
 untold_owes at heard (Told seconds renewable date) x none = absurd cc
-untold_owes at heard (Refused status date) x none = refl
-untold_owes at heard Busy x none = refl
-untold_owes at heard Lost x none = refl
+untold_owes at heard _ x none = refl
 
 untold_is : (s : WatchState) (r : Out) (reply : Reply) (terms : Terms) → is_told reply ≡ false → looked s r reply terms ≡ with_track s r.entry (untold_track s.clocks.at r.heard reply (track_at s r.entry))
 untold_is s r (Told seconds renewable date) terms none = absurd cc
-untold_is s r (Refused status date) terms none = refl
-untold_is s r Busy terms none = refl
-untold_is s r Lost terms none = refl
+untold_is s r _ terms none = refl
 
 abbrev Left : WatchState → ℕ → Try → Try → Reply → Bool → WatchState → Type 0
 Left old i t u reply heard new =

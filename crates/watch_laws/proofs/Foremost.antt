@@ -179,9 +179,7 @@ step_first old new (Clock wall elapsed) output i step there r =
     subst (λ c. All (λ (q : Request). stands_before i new q.entry ≡ true) (requests_asked_by c)) (sym h.command) (new_first old new wall elapsed output h i there r)
 step_first old new (Looked j reply terms) output i step there r = looked_first old new i (request_out old.out j Look) reply terms output step
 step_first old new (Renewed j reply) output i step there r = renewed_first old new i (request_out old.out j Renew) reply output step
-step_first old new (Need j until) output i step there r = none_goes new i output _ step.0 refl
-step_first old new Begin output i step there r = none_goes new i output _ step.0 refl
-step_first old new (Known j end renewable) output i step there r = none_goes new i output _ step.0 refl
+step_first old new _ output i step there r = none_goes new i output _ step.0 refl
 
 turn_first :
     (old new : WatchState) (event : Event) (result : Result Output WatchFault) (i : ℕ) → Turn old event result new → new.presence.away ≡ false → IsToRenew new i →

@@ -50,9 +50,8 @@ led_parts true true h = absurd cc
 led_parts false top h = absurd cc
 
 pub never_ends : (e : End) → believed e ≤ LAST → is_never e ≡ false
-never_ends Unknown low = refl
-never_ends (At end) low = refl
 never_ends Never low = absurd (omega arith)
+never_ends _ low = refl
 
 known_end : (e : End) → is_never e ≡ false → 0 < believed e → e ≡ At (believed e)
 known_end Unknown h some = absurd (omega arith)

@@ -45,9 +45,7 @@ any_forest s i terms forest =
 
 looked_forest : (s : WatchState) (r : Out) (reply : Reply) (terms : Terms) → IsForest s.forest → IsForest (looked s r reply terms).forest
 looked_forest s r (Told seconds renewable date) terms forest = any_forest s r.entry terms forest
-looked_forest s r (Refused status date) terms forest = forest
-looked_forest s r Busy terms forest = forest
-looked_forest s r Lost terms forest = forest
+looked_forest s r _ terms forest = forest
 
 looked_on : (old new : WatchState) (found : Option Out) (reply : Reply) (terms : Terms) (output : Output) → StepLooked old found reply terms output new → IsForest old.forest → IsForest new.forest
 looked_on old new None reply terms output step forest = absurd step
@@ -91,8 +89,7 @@ stepped old new (Need i until) output taken step forest =
       range = range_from_parts e (record { end = low; ceiling = parts.ceiling; need = omega arith });
     } in
     subst (λ (x : WatchState). IsForest x.forest) (sym step.1) (replaced_is_forest g forest i e fits)
-stepped old new Begin output taken step forest = subst (λ (x : WatchState). IsForest x.forest) (sym step.1) forest
-stepped old new (Known i end renewable) output taken step forest = subst (λ (x : WatchState). IsForest x.forest) (sym step.1) forest
+stepped old new _ output taken step forest = subst (λ (x : WatchState). IsForest x.forest) (sym step.1) forest
 
 -- whatever an event gives, the forest stays one
 pub turned_forest : (old new : WatchState) (event : Event) (result : Result Output WatchFault) → Turn old event result new → IsForest old.forest → IsForest new.forest

@@ -119,8 +119,6 @@ record Tops (step seconds from : ℕ) (o : Option Grant) (e : End) : Type 0 wher
 
 tops_if : (step seconds from : ℕ) (o : Option Grant) (e : End) → is_no_further step seconds from o e ≡ true → Tops step seconds (sec from) o e
 tops_if step seconds from None e top = absurd cc
-tops_if step seconds from (Some b) Unknown top = absurd cc
-tops_if step seconds from (Some b) Never top = absurd cc
 tops_if step seconds from (Some b) (At end) top =
     let apart = and_parts (nat_le (sec b.from + 2) (sec from)) _ top in
     let rest = and_parts (nat_lt b.seconds step) _ apart.1 in
@@ -130,6 +128,7 @@ tops_if step seconds from (Some b) (At end) top =
     let later : seconds < step = (let a = low.0 in grind (arith, nat_tests)) in
     let most : sec from + seconds ≤ min end (sec b.from + b.seconds) + 1 = (let l = low.1 in grind (arith, nat_tests)) in
     record { before = b; last = refl; end = end; ends = refl; apart = two; earlier = earlier; later = later; than_grant = omega (arith, most); than_end = omega (arith, most) }
+tops_if step seconds from (Some b) _ top = absurd cc
 
 tops_then : (step seconds from : ℕ) (o : Option Grant) (e : End) → Tops step seconds (sec from) o e → is_no_further step seconds from o e ≡ true
 tops_then step seconds from o e h =

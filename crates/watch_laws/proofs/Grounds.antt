@@ -96,9 +96,7 @@ step_bounds : (n : ℕ) (old new : WatchState) (event : Event) (output : Output)
 step_bounds n old new (Clock wall elapsed) output step count past b = clock_bounds n old new wall elapsed output (ticks old new wall elapsed output step) count past b
 step_bounds n old new (Looked j reply terms) output step count past b = looked_bounds n old new (request_out old.out j Look) reply terms output step b
 step_bounds n old new (Renewed j reply) output step count past b = renewed_bounds n old new (request_out old.out j Renew) reply output step b
-step_bounds n old new (Need j until) output step count past b = subst (Bounds n) (sym step.1) b
-step_bounds n old new Begin output step count past b = subst (Bounds n) (sym step.1) b
-step_bounds n old new (Known j end renewable) output step count past b = subst (Bounds n) (sym step.1) b
+step_bounds n old new _ output step count past b = subst (Bounds n) (sym step.1) b
 
 pub turn_bounds : (n : ℕ) (old new : WatchState) (event : Event) (result : Result Output WatchFault) → Turn old event result new → length old.tracks ≤ n → IsPast old → Bounds n old → Bounds n new
 turn_bounds n old new event (Ok output) turn count past b = step_bounds n old new event output turn.1 count past b
@@ -196,9 +194,5 @@ starts o old last (Clock wall elapsed) (Ok output) same turn clock taken' =
       ticks' = go;
       due = ap (λ r. outage_next_after o r last.state 0) same ∙ ap (λ c. outage_next_after_command o c last.state 0) go.command;
     }
-starts o old last (Looked j reply terms) (Ok output) same turn clock taken' = absurd (true≢false (sym clock))
-starts o old last (Renewed j reply) (Ok output) same turn clock taken' = absurd (true≢false (sym clock))
-starts o old last (Need j until) (Ok output) same turn clock taken' = absurd (true≢false (sym clock))
-starts o old last Begin (Ok output) same turn clock taken' = absurd (true≢false (sym clock))
-starts o old last (Known j end renewable) (Ok output) same turn clock taken' = absurd (true≢false (sym clock))
 starts o old last event (Err fault) same turn clock taken' = absurd (true≢false (sym taken'))
+starts o old last _ (Ok output) same turn clock taken' = absurd (true≢false (sym clock))

@@ -130,14 +130,12 @@ known_untouched at end renewable x h = known_is Untouched at end renewable x h (
   sooner_loose (Some t) loose = loose
 
 step_untouched : (i : ℕ) (old new : WatchState) (event : Event) (output : Output) → is_handed event ≡ true → Step old event output new → Untouched (track_at old i) → Untouched (track_at new i)
-step_untouched i old new (Clock wall elapsed) output handed step h = absurd cc
-step_untouched i old new (Looked j reply terms) output handed step h = absurd cc
-step_untouched i old new (Renewed j reply) output handed step h = absurd cc
 step_untouched i old new (Need j until) output handed step h = subst (λ (x : WatchState). Untouched (track_at x i)) (sym step.1) h
 step_untouched i old new Begin output handed step h = subst (λ (x : WatchState). Untouched (track_at x i)) (sym step.1) h
 step_untouched i old new (Known j end renewable) output handed step h =
     subst (λ (x : WatchState). Untouched (track_at x i)) (sym step.1)
     (set_kept (λ (y x : Track). Untouched x → Untouched y) (λ x k. k) old.tracks j _ (known_untouched old.clocks.at end renewable (track_at old j)) i h)
+step_untouched i old new _ output handed step h = absurd cc
 
 turn_untouched : (i : ℕ) (old new : WatchState) (event : Event) (result : Result Output WatchFault) → is_handed event ≡ true → Turn old event result new → Untouched (track_at old i) → Untouched (track_at new i)
 turn_untouched i old new event (Ok output) handed turn h = step_untouched i old new event output handed turn.1 h

@@ -272,10 +272,9 @@ step_holds o width n i due bound rest old new (Looked j reply terms) output step
     quiet_holds o width n i due bound rest old new output (looked_quiet o due old new (request_out old.out j Look) reply terms output step) base p
 step_holds o width n i due bound rest old new (Renewed j reply) output step holding base p =
     quiet_holds o width n i due bound rest old new output (renewed_quiet o due old new (request_out old.out j Renew) reply output step) base p
-step_holds o width n i due bound rest old new (Need j until) output step holding base p = quiet_holds o width n i due bound rest old new output (same_quiet o due old _ new output _ step.1 refl refl step.0 refl) base p
-step_holds o width n i due bound rest old new Begin output step holding base p = quiet_holds o width n i due bound rest old new output (same_quiet o due old _ new output _ step.1 refl refl step.0 refl) base p
 step_holds o width n i due bound rest old new (Known j end renewable) output step holding base p =
     quiet_holds o width n i due bound rest old new output (same_quiet o due old _ new output _ step.1 refl refl step.0 refl) base p
+step_holds o width n i due bound rest old new _ output step holding base p = quiet_holds o width n i due bound rest old new output (same_quiet o due old _ new output _ step.1 refl refl step.0 refl) base p
 
 turn_holds :
     (o : Partial) (width n i due bound rest : ℕ) (old new : WatchState) (event : Event) (result : Result Output WatchFault) → Turn old event result new → IsHeld o i due old event result new → IsBase width n new →
@@ -363,12 +362,8 @@ starts o old first (Clock wall elapsed) (Ok output) same turn clock taken' =
       ticks' = go;
       due = ap (λ r. partial_next_after o r first.state 0) same ∙ ap (λ c. partial_next_after_command o c first.state 0) go.command;
     }
-starts o old first (Looked j reply terms) (Ok output) same turn clock taken' = absurd (true≢false (sym clock))
-starts o old first (Renewed j reply) (Ok output) same turn clock taken' = absurd (true≢false (sym clock))
-starts o old first (Need j until) (Ok output) same turn clock taken' = absurd (true≢false (sym clock))
-starts o old first Begin (Ok output) same turn clock taken' = absurd (true≢false (sym clock))
-starts o old first (Known j end renewable) (Ok output) same turn clock taken' = absurd (true≢false (sym clock))
 starts o old first event (Err fault) same turn clock taken' = absurd (true≢false (sym taken'))
+starts o old first _ (Ok output) same turn clock taken' = absurd (true≢false (sym clock))
 
 -- and the next one, at which it may go out
 comes_in_time :
@@ -379,12 +374,8 @@ comes_in_time due old new (Clock wall elapsed) (Ok output) turn clock taken' in_
     let c = ap (λ (x : WatchState). x.clocks.at) h.new_is ∙ ap (λ x. x.at) (readied_clocks old wall elapsed) in
     let up = rises old wall elapsed past.start in
     (omega (arith, c, up), omega (arith, c, in_time))
-comes_in_time due old new (Looked j reply terms) (Ok output) turn clock taken' in_time past = absurd (true≢false (sym clock))
-comes_in_time due old new (Renewed j reply) (Ok output) turn clock taken' in_time past = absurd (true≢false (sym clock))
-comes_in_time due old new (Need j until) (Ok output) turn clock taken' in_time past = absurd (true≢false (sym clock))
-comes_in_time due old new Begin (Ok output) turn clock taken' in_time past = absurd (true≢false (sym clock))
-comes_in_time due old new (Known j end renewable) (Ok output) turn clock taken' in_time past = absurd (true≢false (sym clock))
 comes_in_time due old new event (Err fault) turn clock taken' in_time past = absurd (true≢false (sym taken'))
+comes_in_time due old new _ (Ok output) turn clock taken' in_time past = absurd (true≢false (sym clock))
 
 ends_by : (width due bound : ℕ) (s new : WatchState) → Ends width due bound s → (s.clocks.at ≤ new.clocks.at) × (new.clocks.at ≤ due) → width * new.clocks.at ≤ bound
 ends_by width due bound s new ends between =

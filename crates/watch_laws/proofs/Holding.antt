@@ -107,12 +107,8 @@ clock_sets old new wall elapsed output step away silent' over =
 
 first_sets : (old new : WatchState) (event : Event) (result : Result Output WatchFault) → Turn old event result new → Sets old (record { event = event; result = result; state = new }) → Holds new.clocks.at new
 first_sets old new (Clock wall elapsed) (Ok output) turn h = clock_sets old new wall elapsed output turn.1 h.away h.silent h.over
-first_sets old new (Looked i reply terms) (Ok output) turn h = absurd (let e = h.clock in cc)
-first_sets old new (Renewed i reply) (Ok output) turn h = absurd (let e = h.clock in cc)
-first_sets old new (Need i until) (Ok output) turn h = absurd (let e = h.clock in cc)
-first_sets old new Begin (Ok output) turn h = absurd (let e = h.clock in cc)
-first_sets old new (Known i end renewable) (Ok output) turn h = absurd (let e = h.clock in cc)
 first_sets old new event (Err fault) turn h = absurd (let e = h.taken in cc)
+first_sets old new _ (Ok output) turn h = absurd (let e = h.clock in cc)
 
 -- every turn after which the broker is still away keeps it
 clock_holds : (from : ℕ) (old new : WatchState) (wall elapsed : ℕ) (output : Output) → StepClock old wall elapsed output new → Holds from old → Holds from new
@@ -144,9 +140,7 @@ replied_presence s q reply away =
 
 pub looked_presence : (s : WatchState) (q : Out) (reply : Reply) (terms : Terms) → (looked s q reply terms).presence ≡ s.presence
 looked_presence s q (Told seconds renewable date) terms = refl
-looked_presence s q (Refused status date) terms = refl
-looked_presence s q Busy terms = refl
-looked_presence s q Lost terms = refl
+looked_presence s q _ terms = refl
 
 left_holds : (from : ℕ) (old new : WatchState) → rest_of new ≡ rest_of old → new.presence ≡ old.presence → Holds from old → Holds from new
 left_holds from old new rest same h = record {
@@ -179,9 +173,8 @@ step_holds from old new (Looked i reply terms) output step away still h =
 step_holds from old new (Renewed i reply) output step away still h =
     let left = renewed_still old new (request_out old.out i Renew) reply output step away in
     left_holds from old new left.0 (left.1 still) h
-step_holds from old new (Need i until) output step away still h = left_holds from old new (ap rest_of step.1) (ap (λ (x : WatchState). x.presence) step.1) h
 step_holds from old new Begin output step away still h = subst (Holds from) (sym step.1) (record { begun = h.begun; past = h.past; hold = h.hold })
-step_holds from old new (Known i end renewable) output step away still h = left_holds from old new (ap rest_of step.1) (ap (λ (x : WatchState). x.presence) step.1) h
+step_holds from old new _ output step away still h = left_holds from old new (ap rest_of step.1) (ap (λ (x : WatchState). x.presence) step.1) h
 
 turn_holds :
     (from : ℕ) (old new : WatchState) (event : Event) (result : Result Output WatchFault) → Turn old event result new → old.presence.away ≡ true → new.presence.away ≡ true → Holds from old →

@@ -167,9 +167,7 @@ step_leaves : (old new : WatchState) (event : Event) (output : Output) → Step 
 step_leaves old new (Clock wall elapsed) output step none = absurd cc
 step_leaves old new (Looked i reply terms) output step none = looked_leaves old new (request_out old.out i Look) reply terms output step
 step_leaves old new (Renewed i reply) output step none = renewed_leaves old new (request_out old.out i Renew) reply output step
-step_leaves old new (Need i until) output step none = same_leaves old new (ap (λ (x : WatchState). x.presence) step.1)
-step_leaves old new Begin output step none = same_leaves old new (ap (λ (x : WatchState). x.presence) step.1)
-step_leaves old new (Known i end renewable) output step none = same_leaves old new (ap (λ (x : WatchState). x.presence) step.1)
+step_leaves old new _ output step none = same_leaves old new (ap (λ (x : WatchState). x.presence) step.1)
 
 turn_leaves : (old new : WatchState) (event : Event) (result : Result Output WatchFault) → Turn old event result new → is_event_taken result && is_clock event ≡ false → Leaves old.presence new.presence
 turn_leaves old new event (Ok output) turn none = step_leaves old new event output turn.1 none

@@ -270,9 +270,7 @@ step_sends : (old new : WatchState) (event : Event) (output : Output) (n : ℕ) 
 step_sends old new (Clock wall elapsed) output n many step f any = clock_sends old new wall elapsed output n (ticks old new wall elapsed output step) many f any
 step_sends old new (Looked j reply terms) output n many step f any = looked_sends old new (request_out old.out j Look) reply terms output n step f any
 step_sends old new (Renewed j reply) output n many step f any = renewed_sends old new (request_out old.out j Renew) reply output n step f any
-step_sends old new (Need j until) output n many step f any = inl (sym (ap (λ (x : WatchState). list_any (passes f) x.out) step.1) ∙ any)
-step_sends old new Begin output n many step f any = inl (sym (ap (λ (x : WatchState). list_any (passes f) x.out) step.1) ∙ any)
-step_sends old new (Known j end renewable) output n many step f any = inl (sym (ap (λ (x : WatchState). list_any (passes f) x.out) step.1) ∙ any)
+step_sends old new _ output n many step f any = inl (sym (ap (λ (x : WatchState). list_any (passes f) x.out) step.1) ∙ any)
 
 pub turn_sends : (old new : WatchState) (event : Event) (result : Result Output WatchFault) (n : ℕ) → length new.tracks ≤ n → Turn old event result new → Sends old new n
 turn_sends old new event (Ok output) n many turn f any = step_sends old new event output n many turn.1 f any

@@ -96,16 +96,12 @@ record Grants (i : ℕ) (event : Event) : Type 0 where
   is : event ≡ Renewed i (Told seconds renewable date)
 
 grants : (i : ℕ) (event : Event) → is_grant_of i event ≡ true → Grants i event
-grants i (Clock wall elapsed) h = absurd cc
-grants i (Looked j reply terms) h = absurd cc
 grants i (Renewed j (Told seconds renewable date)) h =
     record { seconds = seconds; renewable = renewable; date = date; is = ap (λ k. Renewed k (Told seconds renewable date)) (eqb-true j i (and_parts (j == i) true h).0) }
 grants i (Renewed j (Refused status date)) h = absurd (let bad = (and_parts (j == i) false h).1 in cc)
 grants i (Renewed j Busy) h = absurd (let bad = (and_parts (j == i) false h).1 in cc)
 grants i (Renewed j Lost) h = absurd (let bad = (and_parts (j == i) false h).1 in cc)
-grants i (Need j until) h = absurd cc
-grants i Begin h = absurd cc
-grants i (Known j end renewable) h = absurd cc
+grants i _ h = absurd cc
 
 turn_tried :
     (old : WatchState) (turn : Turned) (i : ℕ) (before first : Bool) → Turn old turn.event turn.result turn.state → i < length old.tracks → Tried before first (track_at old i) →

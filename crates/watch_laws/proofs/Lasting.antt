@@ -181,9 +181,8 @@ entry_kept : (es : List Entry) (j : ℕ) (e : Entry) (i : ℕ) → e.step ≡ (e
 unfolding entry_at
 entry_kept [] j e i h = refl
 entry_kept (x ∷ es) zero e zero h = h
-entry_kept (x ∷ es) zero e (suc i) h = refl
-entry_kept (x ∷ es) (suc j) e zero h = refl
 entry_kept (x ∷ es) (suc j) e (suc i) h = entry_kept es j e i h
+entry_kept (x ∷ es) _ e _ h = refl
 
 entry_other : (es : List Entry) (j : ℕ) (e : Entry) (i : ℕ) → i ≢ j → entry_at (slice_set es j e) i ≡ entry_at es i
 unfolding entry_at
@@ -196,9 +195,7 @@ looked_forest :
 looked_forest s q (Told seconds renewable date) terms i untold' =
     let e = by_terms s.forest.margin terms (entry_of s q.entry) in
     (length-set s.forest.entries q.entry e, (refl, ap (λ (x : Entry). x.step) (entry_other s.forest.entries q.entry e i (λ is. absurd (true≢false (untold' (sym is)))))))
-looked_forest s q (Refused status date) terms i untold' = (refl, (refl, refl))
-looked_forest s q Busy terms i untold' = (refl, (refl, refl))
-looked_forest s q Lost terms i untold' = (refl, (refl, refl))
+looked_forest s q _ terms i untold' = (refl, (refl, refl))
 
 replied_same : (i : ℕ) (old mid new : WatchState) (q : Out) (reply : Reply) → new ≡ replied mid q reply → Same i old mid → Same i old new
 replied_same i old mid new q reply is h =

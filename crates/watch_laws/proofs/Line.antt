@@ -207,9 +207,7 @@ step_line old new (Clock wall elapsed) output j step may =
     subst (λ c. All (λ (r : Request). StandsInFront old new r.entry j) (requests_asked_by c)) (sym h.command) (new_line old new wall elapsed output h j may)
 step_line old new (Looked i reply terms) output j step may = looked_line old new j (request_out old.out i Look) reply terms output step
 step_line old new (Renewed i reply) output j step may = renewed_line old new j (request_out old.out i Renew) reply output step
-step_line old new (Need i until) output j step may = none_goes old new j output _ step.0 refl
-step_line old new Begin output j step may = none_goes old new j output _ step.0 refl
-step_line old new (Known i end renewable) output j step may = none_goes old new j output _ step.0 refl
+step_line old new _ output j step may = none_goes old new j output _ step.0 refl
 
 turn_line : (old new : WatchState) (event : Event) (result : Result Output WatchFault) (j : ℕ) → Turn old event result new → MayGo new j → All (λ (r : Request). StandsInFront old new r.entry j) (requests_at_turn result)
 turn_line old new event (Ok output) j turn may = step_line old new event output j turn.1 may

@@ -120,8 +120,7 @@ not_wanted s i led none =
 
 known_end : (now : ℕ) (end : End) → nat_lt now (believed end) ≡ true → is_unknown end ≡ false
 known_end now Unknown h = absurd (grind (arith, nat_tests))
-known_end now (At end) h = refl
-known_end now Never h = refl
+known_end now _ h = refl
 
 neither : (a b : Bool) → a ≡ false → b ≡ false → a || b ≡ true → ⊥
 neither true b h k e = cc
@@ -455,9 +454,7 @@ own_looked old new q (Told seconds renewable date) terms n due is found within w
       | inl not_yet ↦ (let z' = not_yet.1.0 in absurd (omega (arith, some, z')))
       | inr was ↦ inr (was.0, inr (own_quiet old end new q reply is refl, own_told old end new q reply is refl is_told))
     ]
-own_looked old new q (Refused status date) terms n due is found within well holds = absurd well
-own_looked old new q Busy terms n due is found within well holds = absurd well
-own_looked old new q Lost terms n due is found within well holds = absurd well
+own_looked old new q _ terms n due is found within well holds = absurd well
 
 -- and of a renewal
 own_renewed :
@@ -488,9 +485,7 @@ own_renewed old new q (Told seconds renewable date) n due is found alone within 
         | inr told ↦ inr (was.0, inr (quiet, own_told old mid new q reply is refl (subst IsTold (sym last) (granted_told step s.clocks.at seconds renewable from x alive told.1))))
       ]
     ]
-own_renewed old new q (Refused status date) n due is found alone within well holds = absurd well
-own_renewed old new q Busy n due is found alone within well holds = absurd well
-own_renewed old new q Lost n due is found alone within well holds = absurd well
+own_renewed old new q _ n due is found alone within well holds = absurd well
 
 looked_holds :
     (old new : WatchState) (found : Option Out) (j i n : ℕ) (reply : Reply) (terms : Terms) (output : Output) (due : Bool) → request_out old.out j Look ≡ found → StepLooked old found reply terms output new →
@@ -571,11 +566,10 @@ step_holds old new (Renewed j reply) output i n due step well alone within holds
       renewed_turn : (found : Option Out) → request_out old.out j Renew ≡ found → StepRenewed old found reply output new → Holds new i due (n + length (filter (is_lookup i) (requests_asked_by output.command)))
       renewed_turn None is step' = absurd step'
       renewed_turn (Some q) is step' = quiet new i n due output _ step'.0 refl (renewed_holds old new (Some q) j i n reply output due is step' alone within well holds)
-step_holds old new (Need j until) output i n due step well alone within holds = quiet new i n due output _ step.0 refl (subst (λ (x : WatchState). Holds x i due n) (sym step.1) holds)
-step_holds old new Begin output i n due step well alone within holds = quiet new i n due output _ step.0 refl (subst (λ (x : WatchState). Holds x i due n) (sym step.1) holds)
 step_holds old new (Known j end renewable) output i n due step well alone within holds =
     quiet new i n due output _ step.0 refl (subst (λ (x : WatchState). Holds x i due n) (sym step.1)
     (known_holds old j end i n renewable due (λ own. subst (λ k. k < min END_MAX end) (ap second step.1) (well own)) holds))
+step_holds old new _ output i n due step well alone within holds = quiet new i n due output _ step.0 refl (subst (λ (x : WatchState). Holds x i due n) (sym step.1) holds)
 
 turn_holds :
     (old new : WatchState) (event : Event) (result : Result Output WatchFault) (i n : ℕ) (due : Bool) → Turn old event result new → GoesWellAt i new event result → IsAlone old → i < length old.tracks →
@@ -655,10 +649,8 @@ started old new (Renewed j reply) (Ok output) i turn begins alone within = absur
   by : (found : Option Out) → StepRenewed old found reply output new → ⊥
   by None step = step
   by (Some q) step = none_begins output _ step.0 refl begins
-started old new (Need j until) (Ok output) i turn begins alone within = absurd (none_begins output _ turn.1.0 refl begins)
-started old new Begin (Ok output) i turn begins alone within = absurd (none_begins output _ turn.1.0 refl begins)
-started old new (Known j end renewable) (Ok output) i turn begins alone within = absurd (none_begins output _ turn.1.0 refl begins)
 started old new event (Err fault) i turn begins alone within = absurd cc
+started old new _ (Ok output) i turn begins alone within = absurd (none_begins output _ turn.1.0 refl begins)
 
 -- what holds at last
 once : (last : WatchState) (i n : ℕ) (due : Bool) → Holds last i due n → (n ≤ 1) × (due ≡ true → (track_at last i).owes ≡ false → n ≡ 1)

@@ -88,9 +88,7 @@ looked_free s q Lost terms = set_holds Free refl s.tracks q.entry _ (untold_free
 renewed_free : (s : WatchState) (q : Out) (reply : Reply) → Free (track_at (state_renewed s q reply) q.entry)
 unfolding renewed_track granted_from ungranted_track
 renewed_free s q (Told seconds renewable date) = set_holds Free refl s.tracks q.entry _ refl
-renewed_free s q (Refused status date) = set_holds Free refl s.tracks q.entry _ refl
-renewed_free s q Busy = set_holds Free refl s.tracks q.entry _ refl
-renewed_free s q Lost = set_holds Free refl s.tracks q.entry _ refl
+renewed_free s q _ = set_holds Free refl s.tracks q.entry _ refl
 
 looked_marked : (old new : WatchState) (found : Option Out) (reply : Reply) (terms : Terms) (output : Output) → StepLooked old found reply terms output new → AllMarked old → AllMarked new
 looked_marked old new None reply terms output step all = absurd step
@@ -108,11 +106,10 @@ step_marked : (old new : WatchState) (event : Event) (output : Output) → Step 
 step_marked old new (Clock wall elapsed) output step all = clock_marked old new wall elapsed output (ticks old new wall elapsed output step) all
 step_marked old new (Looked j reply terms) output step all = looked_marked old new (request_out old.out j Look) reply terms output step all
 step_marked old new (Renewed j reply) output step all = renewed_marked old new (request_out old.out j Renew) reply output step all
-step_marked old new (Need j until) output step all = subst AllMarked (sym step.1) all
-step_marked old new Begin output step all = subst AllMarked (sym step.1) all
 step_marked old new (Known j end renewable) output step all =
     subst AllMarked (sym step.1)
     (λ i out. all i (sym (set_kept (λ (y x : Track). y.out ≡ x.out) (λ x. refl) old.tracks j _ (known_out old.clocks.at end renewable (track_at old j)) i) ∙ out))
+step_marked old new _ output step all = subst AllMarked (sym step.1) all
 
 pub turn_marked : (old new : WatchState) (event : Event) (result : Result Output WatchFault) → Turn old event result new → AllMarked old → AllMarked new
 turn_marked old new event (Ok output) turn all = step_marked old new event output turn.1 all

@@ -319,9 +319,7 @@ step_right : (old new : WatchState) (event : Event) (output : Output) → Step o
 step_right old new (Clock wall elapsed) output step = commanded (readied old wall elapsed) new (round_of step.round) output.command step.command
 step_right old new (Looked j reply terms) output step = looked_right old new (request_out old.out j Look) reply terms output step
 step_right old new (Renewed j reply) output step = renewed_right old new (request_out old.out j Renew) reply output step
-step_right old new (Need j until) output step = taken_right output _ new step.0 refl
-step_right old new Begin output step = taken_right output _ new step.0 refl
-step_right old new (Known j end' renewable) output step = taken_right output _ new step.0 refl
+step_right old new _ output step = taken_right output _ new step.0 refl
 
 turn_right : (old new : WatchState) (event : Event) (result : Result Output WatchFault) → Turn old event result new → EndsRight result new
 turn_right old new event (Ok output) turn = step_right old new event output turn.1

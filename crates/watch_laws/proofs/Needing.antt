@@ -336,8 +336,7 @@ open_before s j until low a end over is before =
 end_led : (until : ℕ) (renewable : Bool) (it : End) → (renewable || is_unknown it) ≡ true → not (is_never it) ≡ true → believed it < until → IsEndToBeLed until renewable it
 end_led until renewable Unknown leads ended before = tt
 end_led until true (At end) leads ended before = (refl, before)
-end_led until false (At end) leads ended before = absurd cc
-end_led until renewable Never leads ended before = absurd cc
+end_led until _ _ leads ended before = absurd cc
 
 pub is_not : (b : Bool) → not b ≡ true → b ≡ false
 is_not true h = absurd cc

@@ -457,15 +457,11 @@ answer_stays old mid new q reply j made there clocks is what =
 -- an answer to a lookup leaves what tells when the time of another entry comes
 looked_margin : (s : WatchState) (q : Out) (reply : Reply) (terms : Terms) → (looked s q reply terms).forest.margin ≡ s.forest.margin
 looked_margin s q (Told seconds renewable date) terms = refl
-looked_margin s q (Refused status date) terms = refl
-looked_margin s q Busy terms = refl
-looked_margin s q Lost terms = refl
+looked_margin s q _ terms = refl
 
 looked_entry : (s : WatchState) (q : Out) (reply : Reply) (terms : Terms) (j : ℕ) → (j ≡ q.entry → ⊥) → entry_of (looked s q reply terms) j ≡ entry_of s j
 looked_entry s q (Told seconds renewable date) terms j apart = entry_at_set_other s.forest.entries q.entry j (by_terms s.forest.margin terms (entry_of s q.entry)) apart
-looked_entry s q (Refused status date) terms j apart = refl
-looked_entry s q Busy terms j apart = refl
-looked_entry s q Lost terms j apart = refl
+looked_entry s q _ terms j apart = refl
 
 looked_stays :
     (old new : WatchState) (k j : ℕ) (found : Option Out) (reply : Reply) (terms : Terms) (output : Output) → request_out old.out k Look ≡ found → StepLooked old found reply terms output new → (k ≡ j → is_told reply ≡ false) →

@@ -82,9 +82,7 @@ no_round output o asked is none some = absurd (let e : Some asked ≡ None = sym
 
 looked_none : (s : WatchState) (q : Out) (reply : Reply) (terms : Terms) → (notes_looked s q reply terms).round ≡ None
 looked_none s q (Told seconds renewable date) terms = refl
-looked_none s q (Refused status date) terms = refl
-looked_none s q Busy terms = refl
-looked_none s q Lost terms = refl
+looked_none s q _ terms = refl
 
 looked_no : {X : Type 0} (old new : WatchState) (found : Option Out) (reply : Reply) (terms : Terms) (output : Output) (asked : List ℕ) → StepLooked old found reply terms output new → output.notes.round ≡ Some asked → X
 looked_no old new None reply terms output asked step is = absurd step
@@ -99,9 +97,7 @@ stepped_clock :
 stepped_clock old new (Clock wall elapsed) output asked step is at = at wall elapsed refl
 stepped_clock old new (Looked j reply terms) output asked step is at = looked_no old new (request_out old.out j Look) reply terms output asked step is
 stepped_clock old new (Renewed j reply) output asked step is at = renewed_no old new (request_out old.out j Renew) reply output asked step is
-stepped_clock old new (Need j until) output asked step is at = no_round output _ asked step.0 refl is
-stepped_clock old new Begin output asked step is at = no_round output _ asked step.0 refl is
-stepped_clock old new (Known j end renewable) output asked step is at = no_round output _ asked step.0 refl is
+stepped_clock old new _ output asked step is at = no_round output _ asked step.0 refl is
 
 pub opened_at_clock :
     {X : Type 0} (old new : WatchState) (event : Event) (result : Result Output WatchFault) (asked : List ℕ) → Turn old event result new → round_of result ≡ Some asked →

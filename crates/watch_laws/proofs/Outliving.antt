@@ -565,9 +565,8 @@ waits_for old s wall elapsed output i from width n h wide base b free =
 
 -- an end that is known, of an entry that is wanted
 known_end : (e : End) (x : Track) (need : ℕ) → x.end ≡ e → wants x need ≡ true → is_known e ≡ true → (k : ℕ) × (e ≡ At k)
-known_end Unknown x need is wanted known' = absurd cc
 known_end (At k) x need is wanted known' = (k, refl)
-known_end Never x need is wanted known' = absurd cc
+known_end _ x need is wanted known' = absurd cc
 
 -- an entry outlives an outage from a state on, where due is by when the next clock comes, and k how many wait or will
 pub record WillOutlive (o : Outage) (width i from due k : ℕ) (s : WatchState) : Type 0 where
@@ -662,9 +661,7 @@ left_from_clock o old last hs i from reached wide history clock taken' b lived f
 -- what tells an end shows that the broker is there
 told_real : (reply : Reply) → is_told reply ≡ true → is_real reply ≡ true
 told_real (Told seconds renewable date) h = refl
-told_real (Refused status date) h = absurd cc
-told_real Busy h = absurd cc
-told_real Lost h = absurd cc
+told_real _ h = absurd cc
 
 looked_there : (old new : WatchState) (found : Option Out) (reply : Reply) (terms : Terms) (output : Output) → StepLooked old found reply terms output new → is_told reply ≡ true → new.presence.away ≡ false
 looked_there old new None reply terms output step told = absurd step
@@ -676,13 +673,10 @@ renewed_there old new None reply output step told = absurd step
 renewed_there old new (Some q) reply output step told = ap (λ (x : WatchState). x.presence.away) step.1 ∙ real_away (state_renewed (noted old q reply) q reply) q reply (told_real reply told)
 
 told_there : (old new : WatchState) (event : Event) (result : Result Output WatchFault) (i : ℕ) → Turn old event result new → is_event_taken result ≡ true → tells i event ≡ true → new.presence.away ≡ false
-told_there old new (Clock wall elapsed) (Ok output) i turn taken' told = absurd cc
 told_there old new (Looked j reply terms) (Ok output) i turn taken' told = looked_there old new (request_out old.out j Look) reply terms output turn.1 (and_parts (j == i) (is_told reply) told).1
 told_there old new (Renewed j reply) (Ok output) i turn taken' told = renewed_there old new (request_out old.out j Renew) reply output turn.1 (and_parts (j == i) (is_told reply) told).1
-told_there old new (Need j until) (Ok output) i turn taken' told = absurd cc
-told_there old new Begin (Ok output) i turn taken' told = absurd cc
-told_there old new (Known j end renewable) (Ok output) i turn taken' told = absurd cc
 told_there old new event (Err fault) i turn taken' told = absurd (true≢false (sym taken'))
+told_there old new _ (Ok output) i turn taken' told = absurd cc
 
 asked_before : (last : Option ℕ) (at : ℕ) → rested last ≤ at + 1000 → clock_asked_at last ≤ at
 asked_before None at h = omega arith

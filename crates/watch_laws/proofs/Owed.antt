@@ -271,10 +271,9 @@ step_outcome : (old new : WatchState) (event : Event) (output : Output) → Step
 step_outcome old new (Clock wall elapsed) output step all = clock_outcome old new wall elapsed output step all
 step_outcome old new (Looked j reply terms) output step all = looked_outcome old new (request_out old.out j Look) reply terms output step all
 step_outcome old new (Renewed j reply) output step all = renewed_outcome old new (request_out old.out j Renew) reply output step all
-step_outcome old new (Need j until) output step all = taken_right output _ new step.0 refl (subst AllTry (sym step.1) all)
-step_outcome old new Begin output step all = taken_right output _ new step.0 refl (subst AllTry (sym step.1) all)
 step_outcome old new (Known j end renewable) output step all =
     taken_right output _ new step.0 refl (subst AllTry (sym step.1) (λ i. set_kept Still (λ x k. k) old.tracks j _ (known_tries old.clocks.at end renewable (track_at old j)) i (all i)))
+step_outcome old new _ output step all = taken_right output _ new step.0 refl (subst AllTry (sym step.1) all)
 
 pub turn_outcome : (old new : WatchState) (event : Event) (result : Result Output WatchFault) → Turn old event result new → AllTry old → AllTry new × OwedRight result new
 turn_outcome old new event (Ok output) turn all = step_outcome old new event output turn.1 all

@@ -36,9 +36,7 @@ use Rattle.watch_laws.proofs.Holding.{looked_presence, ready_presence}
 -- the pace at a clock
 real_is : (reply : Reply) → is_real reply ≡ is_answered reply
 real_is (Told seconds renewable date) = refl
-real_is (Refused status date) = refl
-real_is Busy = refl
-real_is Lost = refl
+real_is _ = refl
 
 pace_is : (at pace : ℕ) (answers : List Answer) → pace_after at pace answers ≡ pace_by at pace answers
 pace_is at pace [] = refl
@@ -87,9 +85,7 @@ step_pace : (old new : WatchState) (event : Event) (output : Output) → Step ol
 step_pace old new (Clock wall elapsed) output step none = absurd cc
 step_pace old new (Looked i reply terms) output step none = looked_pace old new (request_out old.out i Look) reply terms output step
 step_pace old new (Renewed i reply) output step none = renewed_pace old new (request_out old.out i Renew) reply output step
-step_pace old new (Need i until) output step none = ap (λ (x : WatchState). x.presence.pace) step.1
-step_pace old new Begin output step none = ap (λ (x : WatchState). x.presence.pace) step.1
-step_pace old new (Known i end renewable) output step none = ap (λ (x : WatchState). x.presence.pace) step.1
+step_pace old new _ output step none = ap (λ (x : WatchState). x.presence.pace) step.1
 
 turn_pace : (old new : WatchState) (event : Event) (result : Result Output WatchFault) → Turn old event result new → is_event_taken result && is_clock event ≡ false → new.presence.pace ≡ old.presence.pace
 turn_pace old new event (Ok output) turn none = step_pace old new event output turn.1 none
@@ -108,12 +104,9 @@ adds_kept i since reply old new j told h of is all = record { answer = kept_as h
 does_kept :
     (i since : ℕ) (reply : Reply) (old new : WatchState) (event : Event) (requests : List Request) → Does old event requests new → IsReplyOf i reply event → All (WentOut i since) old.out →
     IsKept old new since reply
-does_kept i since reply old new (Clock wall elapsed) requests h is all = absurd is
 does_kept i since reply old new (Looked j told terms) requests h is all = adds_kept i since reply old new j told h is.0 is.1 all
 does_kept i since reply old new (Renewed j told) requests h is all = adds_kept i since reply old new j told h is.0 is.1 all
-does_kept i since reply old new (Need j until) requests h is all = absurd is
-does_kept i since reply old new Begin requests h is all = absurd is
-does_kept i since reply old new (Known j end renewable) requests h is all = absurd is
+does_kept i since reply old new _ requests h is all = absurd is
 
 turn_kept :
     (i since : ℕ) (reply : Reply) (old new : WatchState) (event : Event) (result : Result Output WatchFault) → Turn old event result new → IsReplyOf i reply event → is_event_taken result ≡ true →
@@ -122,12 +115,10 @@ turn_kept i since reply old new event (Ok output) turn is taken' all = does_kept
 turn_kept i since reply old new event (Err fault) turn is taken' all = absurd cc
 
 does_leave : (old new : WatchState) (event : Event) (requests : List Request) → Does old event requests new → counts event ≡ false → new.answers ≡ old.answers
-does_leave old new (Clock wall elapsed) requests h none = absurd cc
-does_leave old new (Looked i reply terms) requests h none = absurd cc
-does_leave old new (Renewed i reply) requests h none = absurd cc
 does_leave old new (Need i until) requests h none = h.answers
 does_leave old new Begin requests h none = h.answers
 does_leave old new (Known i end renewable) requests h none = h.answers
+does_leave old new _ requests h none = absurd cc
 
 turn_leaves : (old new : WatchState) (event : Event) (result : Result Output WatchFault) → Turn old event result new → is_event_taken result && counts event ≡ false → new.answers ≡ old.answers
 turn_leaves old new event (Ok output) turn none = does_leave old new event (requests_asked_by output.command) (does old new event output turn.1) none

@@ -40,15 +40,13 @@ lost_try (Some t) h = (t, (refl, h))
 
 open_if : (now : ℕ) (e : End) → is_unknown e || nat_lt now (believed e) ≡ true → (e ≡ Unknown) ⊎ (now < believed e)
 open_if now Unknown h = inl refl
-open_if now (At end) h = inr (grind (arith, nat_tests, h))
-open_if now Never h = inr (grind (arith, nat_tests, h))
+open_if now _ h = inr (grind (arith, nat_tests, h))
 
 if_open : (now : ℕ) (e : End) → (e ≡ Unknown) ⊎ (now < believed e) → is_unknown e || nat_lt now (believed e) ≡ true
 if_open now Unknown h = refl
-if_open now (At end) (inl is) = absurd cc
 if_open now (At end) (inr ahead) = grind (arith, nat_tests, ahead)
-if_open now Never (inl is) = absurd cc
 if_open now Never (inr ahead) = grind (arith, nat_tests, ahead)
+if_open now _ (inl is) = absurd cc
 
 alone_at : (s : WatchState) (j : ℕ) → is_alone (second s) (track_at s j) ≡ true → IsAloneAt s j
 alone_at s j h =
@@ -138,9 +136,7 @@ step_asks : (old new : WatchState) (event : Event) (output : Output) → Step ol
 step_asks old new (Clock wall elapsed) output step = clock_asks old new wall elapsed output (ticks old new wall elapsed output step)
 step_asks old new (Looked j reply terms) output step = looked_asks old new (request_out old.out j Look) reply terms output step
 step_asks old new (Renewed j reply) output step = renewed_asks old new (request_out old.out j Renew) reply output step
-step_asks old new (Need j until) output step = none_asks new output _ step.0 refl
-step_asks old new Begin output step = none_asks new output _ step.0 refl
-step_asks old new (Known j end renewable) output step = none_asks new output _ step.0 refl
+step_asks old new _ output step = none_asks new output _ step.0 refl
 
 turn_asks : (old new : WatchState) (event : Event) (result : Result Output WatchFault) → Turn old event result new → All (IsOfTry new) (requests_at_turn result)
 turn_asks old new event (Ok output) turn = step_asks old new event output turn.1

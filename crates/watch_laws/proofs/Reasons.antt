@@ -241,9 +241,7 @@ looked_own s q (Told seconds renewable date) terms =
     set_holds (λ (y : Track). Reasoned b y.attempt) (none_reasoned b) mid.tracks i _
     (told_reasoned b mid.clocks.at (is_called_for mid i) (track_at mid i) (track_at mid i).attempt
     (λ called. told_come mid q (Told seconds renewable date) i ∙ (and_parts (is_wanted mid i) (is_come mid i) called).1))
-looked_own s q (Refused status date) terms = λ renew. refl
-looked_own s q Busy terms = λ renew. refl
-looked_own s q Lost terms = λ renew. refl
+looked_own s q _ terms = λ renew. refl
 
 -- and to a renewal
 granted_reasoned : (b : Bool) (at : ℕ) (owes : Bool) (end : ℕ) (o : Option Try) → Reasoned b (granted_try at owes end o)
@@ -265,9 +263,7 @@ renewed_own s new q (Told seconds renewable date) =
     let b = is_come new i in
     set_holds (λ (y : Track). Reasoned b y.attempt) (none_reasoned b) s.tracks i _
     (granted_own b step s.clocks.at seconds renewable (from_try s.forest.margin step seconds s.clocks.at q.since x.attempt) x)
-renewed_own s new q (Refused status date) = λ renew. refl
-renewed_own s new q Busy = λ renew. refl
-renewed_own s new q Lost = λ renew. refl
+renewed_own s new q _ = λ renew. refl
 
 -- nothing goes out but at a clock
 quiet : (i : ℕ) (output out : Output) (b : Bool) → output ≡ out → requests_asked_by out.command ≡ [] → renewal_goes_out i (requests_asked_by output.command) ≡ true → b ≡ true
@@ -324,10 +320,9 @@ step_outcome :
 step_outcome old new (Clock wall elapsed) output i b step h = clock_outcome old new wall elapsed output i b step h
 step_outcome old new (Looked j reply terms) output i b step h = looked_outcome old new (request_out old.out j Look) j i reply terms output b refl step h
 step_outcome old new (Renewed j reply) output i b step h = renewed_outcome old new (request_out old.out j Renew) j i reply output b refl step h
-step_outcome old new (Need j until) output i b step h = (quiet i output _ b step.0 refl, subst (λ (x : WatchState). Reasoned b (track_at x i).attempt) (sym step.1) h)
-step_outcome old new Begin output i b step h = (quiet i output _ b step.0 refl, subst (λ (x : WatchState). Reasoned b (track_at x i).attempt) (sym step.1) h)
 step_outcome old new (Known j end renewable) output i b step h =
     (quiet i output _ b step.0 refl, subst (λ (x : WatchState). Reasoned b (track_at x i).attempt) (sym step.1) (set_kept (Still b) (λ x k. k) old.tracks j _ (known_still b old.clocks.at end renewable (track_at old j)) i h))
+step_outcome old new _ output i b step h = (quiet i output _ b step.0 refl, subst (λ (x : WatchState). Reasoned b (track_at x i).attempt) (sym step.1) h)
 
 turn_outcome :
     (old new : WatchState) (event : Event) (result : Result Output WatchFault) (i : ℕ) (b : Bool) → Turn old event result new → Reasoned b (track_at old i).attempt →

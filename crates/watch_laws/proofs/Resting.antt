@@ -75,9 +75,7 @@ renews at t =
 -- a reply that tells nothing
 abbrev pub IsUntold : Reply → Type 0
 IsUntold (Told seconds renewable date) = ⊥
-IsUntold (Refused status date) = Unit {0}
-IsUntold Busy = Unit {0}
-IsUntold Lost = Unit {0}
+IsUntold _ = Unit {0}
 
 module _ (r : Sent) where
   -- the clock sets it
@@ -203,8 +201,7 @@ module _ (r : Sent) where
   untold_follows : (at : ℕ) (heard : Bool) (reply : Reply) (x : Track) (t : Try) → r.operation ≡ Look → IsUntold reply → MayFollow r (untold_try at heard reply x t)
   untold_follows at heard (Told seconds renewable date) x t look none = absurd none
   untold_follows at heard (Refused status date) x t look none = refused_follows at x t look
-  untold_follows at heard Busy x t look none = inl refl
-  untold_follows at heard Lost x t look none = inl refl
+  untold_follows at heard _ x t look none = inl refl
 
   untold_all : (at : ℕ) (heard : Bool) (reply : Reply) (x : Track) (o : Option Try) → r.operation ≡ Look → IsUntold reply → IfSome (untold at heard reply x o) (MayFollow r)
   untold_all at heard reply x None look none = tt
@@ -228,9 +225,7 @@ module _ (r : Sent) where
   ungranted_all : (at : ℕ) (heard : Bool) (reply : Reply) (x : Track) (o : Option Try) → IsUntold reply → IfSome (ungranted at heard reply x o) (MayFollow r)
   ungranted_all at heard reply x None none = tt
   ungranted_all at heard (Told seconds renewable date) x (Some t) none = absurd none
-  ungranted_all at heard (Refused status date) x (Some t) none = inl refl
-  ungranted_all at heard Busy x (Some t) none = inl refl
-  ungranted_all at heard Lost x (Some t) none = inl refl
+  ungranted_all at heard _ x (Some t) none = inl refl
 
   pub ungranted_rests : (at : ℕ) (heard : Bool) (reply : Reply) (x : Track) → IsUntold reply → x.last ≡ Some r.at → Rests r (ungranted_track at heard reply x)
   unfolding ungranted_track

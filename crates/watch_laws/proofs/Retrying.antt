@@ -360,12 +360,8 @@ clock_retries old new wall elapsed output i t u step past is failed after presse
 
 turn_retries : (old new : WatchState) (event : Event) (result : Result Output WatchFault) (i : ℕ) (t u : Try) → Turn old event result new → IsPast old → TryFails old (record { event = event; result = result; state = new }) i t u → IsSoon new i u ⊎ IsHeldBack old new i u
 turn_retries old new (Clock wall elapsed) (Ok output) i t u turn past h = clock_retries old new wall elapsed output i t u turn.1 past h.before h.failed h.after h.pressed
-turn_retries old new (Looked j reply terms) (Ok output) i t u turn past h = absurd (let e = h.clock in cc)
-turn_retries old new (Renewed j reply) (Ok output) i t u turn past h = absurd (let e = h.clock in cc)
-turn_retries old new (Need j until) (Ok output) i t u turn past h = absurd (let e = h.clock in cc)
-turn_retries old new Begin (Ok output) i t u turn past h = absurd (let e = h.clock in cc)
-turn_retries old new (Known j end renewable) (Ok output) i t u turn past h = absurd (let e = h.clock in cc)
 turn_retries old new event (Err fault) i t u turn past h = absurd (let e = h.taken in cc)
+turn_retries old new _ (Ok output) i t u turn past h = absurd (let e = h.clock in cc)
 
 -- nothing was asked later than now
 module _ (most : ℕ) where
@@ -495,9 +491,7 @@ looked_last s q Lost terms i = set_kept SameLast (λ x. refl) s.tracks q.entry _
 renewed_last : (s : WatchState) (q : Out) (reply : Reply) (i : ℕ) → SameLast (track_at (state_renewed s q reply) i) (track_at s i)
 unfolding renewed_track granted_from ungranted_track
 renewed_last s q (Told seconds renewable date) i = set_kept SameLast (λ x. refl) s.tracks q.entry _ refl i
-renewed_last s q (Refused status date) i = set_kept SameLast (λ x. refl) s.tracks q.entry _ refl i
-renewed_last s q Busy i = set_kept SameLast (λ x. refl) s.tracks q.entry _ refl i
-renewed_last s q Lost i = set_kept SameLast (λ x. refl) s.tracks q.entry _ refl i
+renewed_last s q _ i = set_kept SameLast (λ x. refl) s.tracks q.entry _ refl i
 
 answer_past : (old mid new : WatchState) (q : Out) (reply : Reply) → new ≡ replied mid q reply → rest_of new ≡ rest_of old → mid.presence ≡ old.presence → ((i : ℕ) → SameLast (track_at mid i) (track_at old i)) → IsPast old → IsPast new
 answer_past old mid new q reply is rest presence last past =
@@ -527,14 +521,13 @@ step_past : (old new : WatchState) (event : Event) (output : Output) → Step ol
 step_past old new (Clock wall elapsed) output step past = clock_past old new wall elapsed output step past
 step_past old new (Looked j reply terms) output step past = looked_past old new (request_out old.out j Look) reply terms output step past
 step_past old new (Renewed j reply) output step past = renewed_past old new (request_out old.out j Renew) reply output step past
-step_past old new (Need j until) output step past = subst IsPast (sym step.1) (record { start = past.start; hold = past.hold; last = past.last })
-step_past old new Begin output step past = subst IsPast (sym step.1) (record { start = past.start; hold = past.hold; last = past.last })
 step_past old new (Known j end renewable) output step past =
     subst IsPast (sym step.1) (record {
       start = past.start;
       hold = past.hold;
       last = λ i. let l = past.last i in let e = ap rested (known_last old j end renewable i) in omega (arith, l, e);
     })
+step_past old new _ output step past = subst IsPast (sym step.1) (record { start = past.start; hold = past.hold; last = past.last })
 
 pub turn_past : (old new : WatchState) (event : Event) (result : Result Output WatchFault) → Turn old event result new → IsPast old → IsPast new
 turn_past old new event (Ok output) turn past = step_past old new event output turn.1 past
@@ -572,12 +565,8 @@ turn_keeps :
     (old new : WatchState) (event : Event) (result : Result Output WatchFault) (i : ℕ) (t u : Try) → Turn old event result new → IsPast old →
     TryFails old (record { event = event; result = result; state = new }) i t u → (u.lost ≡ t.lost) ⊎ (u.at ≤ new.clocks.at + 1000)
 turn_keeps old new (Clock wall elapsed) (Ok output) i t u turn past h = clock_keeps old new wall elapsed output i t u turn.1 past h.before h.failed h.after h.pressed
-turn_keeps old new (Looked j reply terms) (Ok output) i t u turn past h = absurd (let e = h.clock in cc)
-turn_keeps old new (Renewed j reply) (Ok output) i t u turn past h = absurd (let e = h.clock in cc)
-turn_keeps old new (Need j until) (Ok output) i t u turn past h = absurd (let e = h.clock in cc)
-turn_keeps old new Begin (Ok output) i t u turn past h = absurd (let e = h.clock in cc)
-turn_keeps old new (Known j end renewable) (Ok output) i t u turn past h = absurd (let e = h.clock in cc)
 turn_keeps old new event (Err fault) i t u turn past h = absurd (let e = h.taken in cc)
+turn_keeps old new _ (Ok output) i t u turn past h = absurd (let e = h.clock in cc)
 
 pub ran_lost : (turns : List Turned) (old : WatchState) → History old turns → IsPast old → AllKeepLoss old turns
 ran_lost [] old h past = tt

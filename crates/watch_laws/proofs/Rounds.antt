@@ -219,10 +219,9 @@ asks_once es margin now asked asked' h k = h.1.1 ∙ ap (asks es margin now (end
 -- nobody who is wanted is led no further, but at its top
 unfixed : (e : End) (renewable top : Bool) → renewable || is_unknown e ≡ true → top ≡ false → is_known e && (not renewable || top) ≡ false
 unfixed Unknown renewable top led low = refl
-unfixed (At end) true false led low = refl
 unfixed (At end) true true led low = absurd cc
 unfixed (At end) false top led low = absurd cc
-unfixed Never renewable top led low = refl
+unfixed _ _ _ led low = refl
 
 -- an entry that is hoped for and not at its top
 abbrev hidden_at : WatchState → ℕ → Bool
@@ -259,8 +258,7 @@ own_are s i = refl
 -- an entry that opens a round is not hoped for
 known_alive : (now : ℕ) (e : End) → nat_lt now (believed e) ≡ true → is_unknown e ≡ false
 known_alive now Unknown alive = absurd (let l : now < 0 = grind (arith, nat_tests) in omega arith)
-known_alive now (At end) alive = refl
-known_alive now Never alive = refl
+known_alive now _ alive = refl
 
 unhoped : (s : WatchState) (i : ℕ) → IsFitToOpen s i → hoped_at s i ≡ false
 unfolding is_hoped

@@ -29,9 +29,7 @@ Shape new old = (length new.forest.entries ≡ length old.forest.entries) × (ne
 
 looked_shape : (s : WatchState) (q : Out) (reply : Reply) (terms : Terms) → Shape (looked s q reply terms) s
 looked_shape s q (Told seconds renewable date) terms = (length-set s.forest.entries q.entry _, refl)
-looked_shape s q (Refused status date) terms = (refl, refl)
-looked_shape s q Busy terms = (refl, refl)
-looked_shape s q Lost terms = (refl, refl)
+looked_shape s q _ terms = (refl, refl)
 
 forest_shape : (new mid old : WatchState) → new.forest ≡ mid.forest → Shape mid old → Shape new old
 forest_shape new mid old is h = (ap (λ (g : Forest). length g.entries) is ∙ h.0, ap (λ (g : Forest). g.margin) is ∙ h.1)
@@ -52,8 +50,7 @@ step_shape old new (Clock wall elapsed) output step = forest_shape new old old (
 step_shape old new (Looked j reply terms) output step = looked_shapes old new (request_out old.out j Look) reply terms output step
 step_shape old new (Renewed j reply) output step = renewed_shapes old new (request_out old.out j Renew) reply output step
 step_shape old new (Need j until) output step = forest_shape new (with_need_until old j until) old (ap (λ (x : WatchState). x.forest) step.1) (length-set old.forest.entries j _, refl)
-step_shape old new Begin output step = forest_shape new old old (ap (λ (x : WatchState). x.forest) step.1) (refl, refl)
-step_shape old new (Known j end renewable) output step = forest_shape new old old (ap (λ (x : WatchState). x.forest) step.1) (refl, refl)
+step_shape old new _ output step = forest_shape new old old (ap (λ (x : WatchState). x.forest) step.1) (refl, refl)
 
 pub turn_shape : (old new : WatchState) (event : Event) (result : Result Output WatchFault) → Turn old event result new → Shape new old
 turn_shape old new event (Ok output) turn = step_shape old new event output turn.1

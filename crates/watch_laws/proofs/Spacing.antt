@@ -406,10 +406,9 @@ found_passes p (o ∷ os) q is =
 
 -- the request that is out is what r asked
 pub same_is : (x y : Operation) → is_same x y ≡ true → x ≡ y
-same_is Look Look h = refl
-same_is Renew Renew h = refl
 same_is Look Renew h = absurd cc
 same_is Renew Look h = absurd cc
+same_is _ _ h = refl
 
 pub out_operation : (out : List Out) (i : ℕ) (operation : Operation) (q : Out) → request_out out i operation ≡ Some q → q.operation ≡ operation
 unfolding request_out
@@ -438,15 +437,11 @@ pub looked_other : (s : WatchState) (q : Out) (reply : Reply) (terms : Terms) (i
 looked_other s q (Told seconds renewable date) terms i apart =
     get_or-set_other (told_state s q.entry q.since seconds renewable terms).tracks q.entry i _ no_track (λ e. apart (sym e))
     ∙ get_or-set_other s.tracks q.entry i _ no_track (λ e. apart (sym e))
-looked_other s q (Refused status date) terms i apart = get_or-set_other s.tracks q.entry i _ no_track (λ e. apart (sym e))
-looked_other s q Busy terms i apart = get_or-set_other s.tracks q.entry i _ no_track (λ e. apart (sym e))
-looked_other s q Lost terms i apart = get_or-set_other s.tracks q.entry i _ no_track (λ e. apart (sym e))
+looked_other s q _ terms i apart = get_or-set_other s.tracks q.entry i _ no_track (λ e. apart (sym e))
 
 pub looked_out : (s : WatchState) (q : Out) (reply : Reply) (terms : Terms) → (looked s q reply terms).out ≡ s.out
 looked_out s q (Told seconds renewable date) terms = refl
-looked_out s q (Refused status date) terms = refl
-looked_out s q Busy terms = refl
-looked_out s q Lost terms = refl
+looked_out s q _ terms = refl
 
 told_last : (since seconds : ℕ) (renewable endless : Bool) (x : Track) → (told_track since seconds renewable endless x).last ≡ x.last
 unfolding told_track
@@ -610,9 +605,7 @@ step_past old new (Clock wall elapsed) output i step past =
     commanded_past (pressed ready (round_of step.round)) new output.command i step.command (omega (arith, a, b, c, past))
 step_past old new (Looked j reply terms) output i step past = looked_quiet old new (request_out old.out j Look) i new.clocks.at reply terms output step
 step_past old new (Renewed j reply) output i step past = renewed_quiet old new (request_out old.out j Renew) i new.clocks.at reply output step
-step_past old new (Need j until) output i step past = none_goes i new.clocks.at output _ step.0 refl
-step_past old new Begin output i step past = none_goes i new.clocks.at output _ step.0 refl
-step_past old new (Known j end renewable) output i step past = none_goes i new.clocks.at output _ step.0 refl
+step_past old new _ output i step past = none_goes i new.clocks.at output _ step.0 refl
 
 pub turn_past : (old new : WatchState) (event : Event) (result : Result Output WatchFault) (i : ℕ) → Turn old event result new → length old.tracks ≤ i → sent_at i new.clocks.at (requests_at_turn result) ≡ []
 turn_past old new event (Ok output) i turn past = step_past old new event output i turn.1 past

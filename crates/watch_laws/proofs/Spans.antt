@@ -22,16 +22,14 @@ weighed : (p q a b : Bool) (w : ℕ) → one_where p + one_where q ≤ one_where
 weighed false false a b w h = omega arith
 weighed true false true b w h = omega arith
 weighed true false false true w h = omega arith
-weighed true false false false w h = absurd (omega (arith, h))
 weighed false true true b w h = omega arith
 weighed false true false true w h = omega arith
-weighed false true false false w h = absurd (omega (arith, h))
 weighed true true true true w h = omega arith
-weighed true true true false w h = absurd (omega (arith, h))
 weighed true true false b w h = more b h where
   more : (c : Bool) → 1 + 1 ≤ 0 + one_where c → w + w ≤ 0 + (if c then w else 0)
   more true g = absurd (omega (arith, g))
   more false g = absurd (omega (arith, g))
+weighed _ _ _ false w h = absurd (omega (arith, h))
 
 pub totals :
     (n : ℕ) (f : ℕ → ℕ) (p q a b : ℕ → Bool) → ((j : ℕ) → one_where (p j) + one_where (q j) ≤ one_where (a j) + one_where (b j)) →

@@ -339,9 +339,7 @@ answer_spares width n old mid new q reply i operation found entry is out answers
 
 pub looked_answers : (s : WatchState) (q : Out) (reply : Reply) (terms : Terms) → (looked s q reply terms).answers ≡ s.answers
 looked_answers s q (Told seconds renewable date) terms = refl
-looked_answers s q (Refused status date) terms = refl
-looked_answers s q Busy terms = refl
-looked_answers s q Lost terms = refl
+looked_answers s q _ terms = refl
 
 looked_spares :
     (width n : ℕ) (old new : WatchState) (found : Option Out) (j : ℕ) (reply : Reply) (terms : Terms) (output : Output) → request_out old.out j Look ≡ found → StepLooked old found reply terms output new →

@@ -358,15 +358,11 @@ clock_forest old new wall elapsed output step =
 
 untold_forest : (s : WatchState) (q : Out) (reply : Reply) (terms : Terms) → writes (Looked q.entry reply terms) ≡ false → (looked s q reply terms).forest ≡ s.forest
 untold_forest s q (Told seconds renewable date) terms none = absurd cc
-untold_forest s q (Refused status date) terms none = refl
-untold_forest s q Busy terms none = refl
-untold_forest s q Lost terms none = refl
+untold_forest s q _ terms none = refl
 
 no_writing : (i j : ℕ) (reply : Reply) (terms : Terms) → writes (Looked i reply terms) ≡ false → writes (Looked j reply terms) ≡ false
 no_writing i j (Told seconds renewable date) terms none = none
-no_writing i j (Refused status date) terms none = refl
-no_writing i j Busy terms none = refl
-no_writing i j Lost terms none = refl
+no_writing i j _ terms none = refl
 
 looked_forest : (old new : WatchState) (i : ℕ) (found : Option Out) (reply : Reply) (terms : Terms) (output : Output) → StepLooked old found reply terms output new → writes (Looked i reply terms) ≡ false → new.forest ≡ old.forest
 looked_forest old new i None reply terms output step none = absurd step
@@ -383,8 +379,7 @@ step_forest old new (Clock wall elapsed) output step none = clock_forest old new
 step_forest old new (Looked i reply terms) output step none = looked_forest old new i (request_out old.out i Look) reply terms output step none
 step_forest old new (Renewed i reply) output step none = renewed_forest old new (request_out old.out i Renew) reply output step
 step_forest old new (Need i until) output step none = absurd cc
-step_forest old new Begin output step none = ap (λ (x : WatchState). x.forest) step.1
-step_forest old new (Known i end renewable) output step none = ap (λ (x : WatchState). x.forest) step.1
+step_forest old new _ output step none = ap (λ (x : WatchState). x.forest) step.1
 
 turn_forest : (old new : WatchState) (event : Event) (result : Result Output WatchFault) → Turn old event result new → is_event_taken result && writes event ≡ false → new.forest ≡ old.forest
 turn_forest old new event (Ok output) turn none = step_forest old new event output turn.1 none

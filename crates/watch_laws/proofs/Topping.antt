@@ -195,8 +195,6 @@ append_two (x ∷ xs) y z = ap (λ ys. x ∷ ys) (append_two xs y z)
 
 further : (step seconds from' : ℕ) (before : Option Grant) (end : End) (gs : List Granted) → EndIn gs before → is_no_further step seconds from' before end ≡ true → EndNoFurther (gs ++ told_grant (record { seconds = seconds; from = from' }) ∷ [])
 further step seconds from' None end gs last top = absurd cc
-further step seconds from' (Some b) Unknown gs last top = absurd cc
-further step seconds from' (Some b) Never gs last top = absurd cc
 further step seconds from' (Some b) (At end) gs last top =
     let apart = and_parts (nat_le (sec b.from + 2) (sec from')) _ top in
     let rest = and_parts (nat_lt b.seconds step) _ apart.1 in
@@ -216,6 +214,7 @@ further step seconds from' (Some b) (At end) gs last top =
         ),
       ),
     )
+further step seconds from' (Some b) _ gs last top = absurd cc
 
 granted_kept : (step at seconds : ℕ) (renewable : Bool) (from' : ℕ) (x : Track) (gs : List Granted) → Kept gs x → Kept (gs ++ told_grant (record { seconds = seconds; from = from' }) ∷ []) (granted_from step at seconds renewable from' x)
 unfolding granted_from
@@ -329,10 +328,9 @@ step_lower : (old new : WatchState) (event : Event) (output : Output) (i : ℕ) 
 step_lower old new (Clock wall elapsed) output i step none = clock_lower old new wall elapsed output i step
 step_lower old new (Looked j reply terms) output i step none = looked_kept old new (request_out old.out j Look) i reply terms output step
 step_lower old new (Renewed j reply) output i step none = renewed_lower old new (request_out old.out j Renew) j i reply output refl step none
-step_lower old new (Need j until) output i step none = subst (λ (x : WatchState). Lower (track_at x i) (track_at old i)) (sym step.1) (lower_same (track_at old i))
-step_lower old new Begin output i step none = subst (λ (x : WatchState). Lower (track_at x i) (track_at old i)) (sym step.1) (lower_same (track_at old i))
 step_lower old new (Known j end renewable) output i step none =
     subst (λ (x : WatchState). Lower (track_at x i) (track_at old i)) (sym step.1) (set_kept Lower lower_same old.tracks j _ (known_lower old.clocks.at end renewable (track_at old j)) i)
+step_lower old new _ output i step none = subst (λ (x : WatchState). Lower (track_at x i) (track_at old i)) (sym step.1) (lower_same (track_at old i))
 
 pub turn_lower :
     (old new : WatchState) (event : Event) (result : Result Output WatchFault) (i : ℕ) → Turn old event result new → is_event_taken result && is_grant_of i event ≡ false → Lower (track_at new i) (track_at old i)
@@ -363,9 +361,8 @@ step_count : (old new : WatchState) (event : Event) (output : Output) → Step o
 step_count old new (Clock wall elapsed) output step = clock_count old new wall elapsed output step
 step_count old new (Looked j reply terms) output step = looked_many old new (request_out old.out j Look) reply terms output step
 step_count old new (Renewed j reply) output step = renewed_many old new (request_out old.out j Renew) reply output step
-step_count old new (Need j until) output step = ap (λ (x : WatchState). length x.tracks) step.1
-step_count old new Begin output step = ap (λ (x : WatchState). length x.tracks) step.1
 step_count old new (Known j end renewable) output step = ap (λ (x : WatchState). length x.tracks) step.1 ∙ set_count old j _
+step_count old new _ output step = ap (λ (x : WatchState). length x.tracks) step.1
 
 pub turn_count : (old new : WatchState) (event : Event) (result : Result Output WatchFault) → Turn old event result new → length new.tracks ≡ length old.tracks
 turn_count old new event (Ok output) turn = step_count old new event output turn.1

@@ -97,9 +97,7 @@ back_count s r reply =
 
 looked_by : (s : WatchState) (r : Out) (reply : Reply) (terms : Terms) → length (looked s r reply terms).tracks ≡ length s.tracks
 looked_by s r (Told seconds renewable date) terms = length-set _ r.entry _ ∙ length-set s.tracks r.entry _
-looked_by s r (Refused status date) terms = length-set s.tracks r.entry _
-looked_by s r Busy terms = length-set s.tracks r.entry _
-looked_by s r Lost terms = length-set s.tracks r.entry _
+looked_by s r _ terms = length-set s.tracks r.entry _
 
 pub looked_count : (s : WatchState) (r : Out) (reply : Reply) (terms : Terms) → length (replied (looked (noted s r reply) r reply terms) r reply).tracks ≡ length s.tracks
 looked_count s r reply terms = back_count (looked (noted s r reply) r reply terms) r reply ∙ looked_by (noted s r reply) r reply terms

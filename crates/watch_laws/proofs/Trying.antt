@@ -41,9 +41,8 @@ own_same m n e f y x margin step grant =
 
 -- whoever is asked longer before its end is asked sooner
 pub before_sooner : (it : End) (long short : ℕ) → short ≤ long → time_before it long ≤ time_before it short
-before_sooner Unknown long short le = omega arith
 before_sooner (At end) long short le = omega (arith, le)
-before_sooner Never long short le = omega arith
+before_sooner _ long short le = omega arith
 
 -- so the time of an entry comes no later where as much is known of it, and it has its last try only where it had it
 pub time_sooner :

@@ -173,16 +173,12 @@ same_way o i old new tried flag outs presence clocks way =
 -- ---- an answer
 
 there_replied : (s : WatchState) (q : Out) (reply : Reply) → is_real reply ≡ true → s.presence.away ≡ false → replied s q reply ≡ record s { out = map heard (without_request q.entry s.out) }
-there_replied s q (Told seconds renewable date) real there = let free = lane_freed s q in let all : WatchState = record free { out = map heard free.out } in cond-false s.presence.away _ all there
-there_replied s q (Refused status date) real there = let free = lane_freed s q in let all : WatchState = record free { out = map heard free.out } in cond-false s.presence.away _ all there
-there_replied s q Busy real there = let free = lane_freed s q in let all : WatchState = record free { out = map heard free.out } in cond-false s.presence.away _ all there
 there_replied s q Lost real there = absurd cc
+there_replied s q _ real there = let free = lane_freed s q in let all : WatchState = record free { out = map heard free.out } in cond-false s.presence.away _ all there
 
 real_of : (quick late : ℕ) (q : Out) (reply : Reply) → IsReplyInOutage (without_outage quick late) reply q → is_real reply ≡ true
-real_of quick late q (Told seconds renewable date) h = refl
-real_of quick late q (Refused status date) h = refl
-real_of quick late q Busy h = refl
 real_of quick late q Lost h = absurd (not_both (all_whole quick late q.since) h)
+real_of quick late q _ h = refl
 
 -- what an answer leaves before what it says of the broker
 record Leaves (i : ℕ) (old mid : WatchState) (q : Out) (reply : Reply) : Type 0 where
@@ -446,11 +442,7 @@ changed_way o old c h i k said way =
 
 works : (o : Outage) (i due : ℕ) (old new : WatchState) (event : Event) → BrokerIsThere o due old event → IsAtWork o new i → IsWorking o i due old event new
 works o i due old new (Clock wall elapsed) there work = (there, work)
-works o i due old new (Looked j reply terms) there work = tt
-works o i due old new (Renewed j reply) there work = tt
-works o i due old new (Need j until) there work = tt
-works o i due old new Begin there work = tt
-works o i due old new (Known j end renewable) there work = tt
+works o i due old new _ there work = tt
 
 works_at : (o : Outage) (i due : ℕ) (old new : WatchState) (event : Event) (result : Result Output WatchFault) → IsThereAt o due old event result → IsAtWork o new i → IsWorked o i due old event result new
 works_at o i due old new event (Ok output) there work = works o i due old new event there work

@@ -171,9 +171,7 @@ step_waits : (old new : WatchState) (event : Event) (output : Output) → Step o
 step_waits old new (Clock wall elapsed) output step = clock_waits (pressed (readied old wall elapsed) (asked_by_round step.round)) new output.command step.command
 step_waits old new (Looked i reply terms) output step = looked_waits old new (request_out old.out i Look) reply terms output step
 step_waits old new (Renewed i reply) output step = renewed_waits old new (request_out old.out i Renew) reply output step
-step_waits old new (Need i until) output step = taken_waits new output _ step.0 refl
-step_waits old new Begin output step = taken_waits new output _ step.0 refl
-step_waits old new (Known i end renewable) output step = taken_waits new output _ step.0 refl
+step_waits old new _ output step = taken_waits new output _ step.0 refl
 
 turn_waits : (old new : WatchState) (event : Event) (result : Result Output WatchFault) → Turn old event result new → EndsSo result new
 turn_waits old new event (Ok output) turn = step_waits old new event output turn.1

@@ -83,9 +83,7 @@ step_fits n old new (Clock wall elapsed) output step h =
     commanded n (pressed (readied old wall elapsed) (round_of step.round)) new output.command (readied_width old wall elapsed ∙ h.0, omega (arith, out, l)) step.command
 step_fits n old new (Looked j reply terms) output step h = looked_fits n old new (request_out old.out j Look) reply terms output step h
 step_fits n old new (Renewed j reply) output step h = renewed_fits n old new (request_out old.out j Renew) reply output step h
-step_fits n old new (Need j until) output step h = subst (Fits n) (sym step.1) h
-step_fits n old new Begin output step h = subst (Fits n) (sym step.1) h
-step_fits n old new (Known j end renewable) output step h = subst (Fits n) (sym step.1) h
+step_fits n old new _ output step h = subst (Fits n) (sym step.1) h
 
 pub turn_fits : (n : ℕ) (old new : WatchState) (event : Event) (result : Result Output WatchFault) → Turn old event result new → Fits n old → Fits n new
 turn_fits n old new event (Ok output) turn h = step_fits n old new event output turn.1 h

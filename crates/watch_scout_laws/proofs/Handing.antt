@@ -49,18 +49,13 @@ rest_from true c h = absurd cc
 rest_from false c h = h
 
 abbrev pub end_in : Event → ℕ
-end_in (Clock wall elapsed) = 0
-end_in (Looked j reply terms) = 0
-end_in (Renewed j reply) = 0
-end_in (Need j until) = 0
-end_in Begin = 0
 end_in (Known j end renewable) = end
+end_in _ = 0
 
 -- ---- what is handed in
 later_end : (e : End) (end : ℕ) → is_later e end ≡ true → (k : ℕ) × ((e ≡ At k) × (k < end))
-later_end Unknown end h = absurd cc
 later_end (At k) end h = (k, (refl, lt_from k end h))
-later_end Never end h = absurd cc
+later_end _ end h = absurd cc
 
 news_later : (w : WatchState) (i end : ℕ) (renewable : Bool) (event : Event) → is_news w i end ≡ true → Some (Known i end renewable) ≡ Some event → IsLaterEnd w i event
 unfolding is_news
@@ -136,9 +131,8 @@ kept_by old i end renewable (Ok output) new turn within counted ahead few =
         time = ap (λ (v : WatchState). time_of v i) state ∙ ap (time old.forest.margin (entry_of old i)) (track_kept old i y counted) ∙ same_asking old.forest.margin end renewable (entry_of old i) (track_at old i);
       },
     )
-kept_by old i end renewable (Err NotAsked) new turn within counted ahead few = absurd (let none = not_refused old i end renewable within in let bad = sym none ∙ turn.0 in cc)
-kept_by old i end renewable (Err BadIndex) new turn within counted ahead few = absurd (let none = not_refused old i end renewable within in let bad = sym none ∙ turn.0 in cc)
 kept_by old i end renewable (Err OutOfMemory) new turn within counted ahead few = absurd turn.1.0
+kept_by old i end renewable (Err _) new turn within counted ahead few = absurd (let none = not_refused old i end renewable within in let bad = sym none ∙ turn.0 in cc)
 
 pub keeps : KeptLaw
 keeps old turn i end renewable h is within counted ahead few =

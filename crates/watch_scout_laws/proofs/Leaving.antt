@@ -32,9 +32,7 @@ rest_happens s (x ∷ xs) ys h = rest_happens (state_after x) xs ys h.1
 -- ---- an answer that told it, with its time ahead, leaves no reason
 told_answer : (s : WatchState) (i : ℕ) (reply : Reply) → is_told reply ≡ true → is_come s i ≡ false → reason_answered s i reply ≡ false
 told_answer s i (Told seconds renewable date) told ahead = ahead
-told_answer s i (Refused status date) told ahead = absurd cc
-told_answer s i Busy told ahead = absurd cc
-told_answer s i Lost told ahead = absurd cc
+told_answer s i _ told ahead = absurd cc
 
 own_answer : (s : WatchState) (i j : ℕ) (reply : Reply) (c : Bool) → (j == i && is_told reply) ≡ true → is_come s i ≡ false → (if j == i then reason_answered s i reply else c) ≡ false
 own_answer s i j reply c told ahead =
@@ -43,12 +41,9 @@ own_answer s i j reply c told ahead =
 
 none_told : (i : ℕ) (c : Bool) (event : Event) (result : Result Output WatchFault) (s : WatchState) → tells i event ≡ true → is_event_taken result ≡ true → is_come s i ≡ false → reason i c event result s ≡ false
 none_told i c event (Err fault) s told taken' ahead = absurd (true≢false (sym taken'))
-none_told i c (Clock wall elapsed) (Ok output) s told taken' ahead = absurd cc
 none_told i c (Looked j reply terms) (Ok output) s told taken' ahead = own_answer s i j reply c told ahead
 none_told i c (Renewed j reply) (Ok output) s told taken' ahead = own_answer s i j reply c told ahead
-none_told i c (Need j until) (Ok output) s told taken' ahead = absurd cc
-none_told i c Begin (Ok output) s told taken' ahead = absurd cc
-none_told i c (Known j end renewable) (Ok output) s told taken' ahead = absurd cc
+none_told i c _ (Ok output) s told taken' ahead = absurd cc
 
 -- ---- whoever is left alone has no reason
 any_answer : (s : WatchState) (i j : ℕ) (reply : Reply) → IsToldAhead i j reply s → (if j == i then reason_answered s i reply else false) ≡ false
@@ -77,9 +72,7 @@ none_left old i (Clock wall elapsed) (Ok output) new turn left' =
     both_none (is_come new i) (is_named_in_round output.notes.round i) left'.0 (none_named output.notes.round i shut)
 none_left old i (Looked j reply terms) (Ok output) new turn left' = any_answer new i j reply left'
 none_left old i (Renewed j reply) (Ok output) new turn left' = any_answer new i j reply left'
-none_left old i (Need j until) (Ok output) new turn left' = refl
-none_left old i Begin (Ok output) new turn left' = refl
-none_left old i (Known j end renewable) (Ok output) new turn left' = refl
+none_left old i _ (Ok output) new turn left' = refl
 
 at_turn : (old : WatchState) (e : Option ℕ) (turn : Turned) → Turn old turn.event turn.result turn.state → IsReasonedAt e false turn → IsLeft e turn → IsUnrenewed e turn × (reason_at e false turn ≡ false)
 at_turn old None turn h reasoned left' = (tt, refl)

@@ -204,9 +204,8 @@ lt_from : (m n : ℕ) → nat_lt m n ≡ true → m < n
 lt_from m n h = grind (arith, nat_tests)
 
 new_end : (now : ℕ) (looked : Option ℕ) (e : End) → is_new now looked e ≡ true → (end : ℕ) × ((e ≡ At end) × (now < end))
-new_end now looked Unknown h = absurd cc
 new_end now looked (At end) h = (end, (refl, lt_from now end (and_parts (nat_lt now end) (not (is_for looked end)) h).0))
-new_end now looked Never h = absurd cc
+new_end now looked _ h = absurd cc
 
 free_from : (b c : Bool) → (not b && c) ≡ true → b ≡ false
 free_from true c h = absurd cc

@@ -30,12 +30,8 @@ harmless w honest v i end renewable real o h = by (seen_at h.scout i).since h.re
 
 -- what was lived behind another was lived by a watch
 true_event : (w : TimedWorld) → IsHonest w → (i asked : ℕ) (s : WatchState) (l : Lived) (event : Event) → IsTrueBehind w i asked s l event → IsTrueEvent w i asked s l event
-true_event w honest i asked s l (Clock wall elapsed) so = so
-true_event w honest i asked s l (Looked j reply terms) so = so
-true_event w honest i asked s l (Renewed j reply) so = so
-true_event w honest i asked s l (Need j until) so = so
-true_event w honest i asked s l Begin so = so
 true_event w honest i asked s l (Known j end renewable) so = λ same. harmless w honest s i end renewable l.real l.origin (so same)
+true_event w honest i asked s l _ so = so
 
 true_there : (w : TimedWorld) → IsHonest w → (e : Option ℕ) (asked : ℕ) (s : WatchState) (l : Lived) (h : Happening) → IsTrueThere w e asked s l h → IsTrueAt w e asked s l h
 true_there w honest None asked s l (Hands turn) so = so

@@ -10,13 +10,8 @@ use Rattle.agent_laws.proofs.Alike.{end_alike, keeps_alike, replaced_alike}
 use Rattle.agent_laws.proofs.laws.no_credential_is_told.Goals as goal
 
 refused : (margin : ℕ) (name : List ℕ) (w v : What) (fault : TakeFault) → IsSameBut w v → take_words margin name w fault ≡ take_words margin name v fault
-refused margin name w v takes.Unread h = refl
-refused margin name w v takes.NoRecord h = refl
 refused margin name w v (takes.Refused fault) h = why_shows_none margin name w v fault h
-refused margin name w v (takes.Unwritten fault) h = refl
-refused margin name w v (takes.Disk fault) h = refl
-refused margin name w v (takes.Unsure fault) h = refl
-refused margin name w v takes.OutOfMemory h = refl
+refused margin name w v _ h = refl
 
 pub returns-clause-refused : goal.returns-clause-refused
 returns-clause-refused c = refused
