@@ -6,13 +6,13 @@ use Rattle.agent_control.specs.Requests.{request_in_line}
 use Rattle.agent_control.specs.declared.fault.RequestFault.{RequestFault}
 use Rattle.agent_control.specs.declared.fault.RequestFault.TheVariants as faults
 use Rattle.agent_control.specs.declared.front.Front.TheVariants as fronts
-use Rattle.agent_control.specs.declared.request.Request.{Request}
+use Rattle.agent_control.specs.declared.request.ControlRequest.{ControlRequest}
 use Rattle.agent_answers.specs.Wanting.{ClientWants, wanted_if}
 use Rattle.agent_answers.specs.declared.wanted.Wanted.{Wanted}
 use Rattle.agent_answers.specs.declared.wanted.Wanted.TheVariants as wanted
-use Rattle.agent_answers.specs.declared.wanted.Why.TheVariants as whys
+use Rattle.agent_answers.specs.declared.wanted.ClientRefusal.TheVariants as whys
 
-refused_by : (now : ℕ) (fault : RequestFault) (read : Result Request RequestFault) → FailsWithRequestFault fault read → fault ≢ faults.OutOfMemory → wanted.Refused (whys.Fault fault) ≡ wanted_if now read
+refused_by : (now : ℕ) (fault : RequestFault) (read : Result ControlRequest RequestFault) → FailsWithRequestFault fault read → fault ≢ faults.OutOfMemory → wanted.Refused (whys.Fault fault) ≡ wanted_if now read
 refused_by now faults.OutOfMemory read fails not = absurd (not refl)
 refused_by now faults.TooLong read fails not = ap (wanted_if now) (sym fails)
 refused_by now faults.NotWords read fails not = ap (wanted_if now) (sym fails)
@@ -22,7 +22,7 @@ refused_by now faults.BadWhen read fails not = ap (wanted_if now) (sym fails)
 refused_by now faults.BadCredential read fails not = ap (wanted_if now) (sym fails)
 
 -- one that was not read is refused, unless memory was wanting
-pub not_read : {E : Type 0} (now : ℕ) (fault : RequestFault) (read : Result Request RequestFault) (result : Result Wanted E) → FailsWithRequestFault fault read →
+pub not_read : {E : Type 0} (now : ℕ) (fault : RequestFault) (read : Result ControlRequest RequestFault) (result : Result Wanted E) → FailsWithRequestFault fault read →
     IfOk result (λ it. (fault ≢ faults.OutOfMemory) × (it ≡ wanted.Refused (whys.Fault fault))) → IfOk result (λ it. it ≡ wanted_if now read)
 not_read now fault read (Ok it) fails is = is.1 ∙ refused_by now fault read fails is.0
 not_read now fault read (Err e) fails is = tt

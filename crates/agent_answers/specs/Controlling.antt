@@ -6,8 +6,8 @@ use Rattle.agent_standing.specs.Agent.{Agent}
 use Rattle.base_clients.specs.Doors.{DoorLog}
 use Rattle.base_clients.specs.Guests.{can_go_on}
 use Rattle.base_clients.specs.Tables.{AnswersFirst, AnswersGuest, GuestFollows, GuestTable, TakesRequest, Turns, first_asked}
-use Rattle.base_clients.specs.declared.clients.Request.{Request}
-use Rattle.base_clients.specs.declared.talk.Call.{Call}
+use Rattle.base_clients.specs.declared.clients.GuestRequest.{GuestRequest}
+use Rattle.base_clients.specs.declared.talk.TalkCall.{TalkCall}
 use Rattle.base_clock.specs.declared.reading.Reading.{Reading}
 use Rattle.agent_control.specs.declared.limits.TheConstants.{LINE_MAX}
 use Rattle.agent_pages.specs.Answers.{IsTold}
@@ -15,12 +15,12 @@ use Rattle.agent_pages.specs.Board.{board_of}
 use Rattle.agent_pages.specs.declared.asked.Page.{Page}
 use Rattle.agent_pages.specs.Naming.{Around}
 use Rattle.agent_answers.specs.Wanting.{ClientWants, TellsRequestLine, refusal_text}
-use Rattle.agent_answers.specs.declared.asked.Asked.{Asked}
+use Rattle.agent_answers.specs.declared.asked.ClientOrder.{ClientOrder}
 use Rattle.agent_answers.specs.declared.control.Control.{Control}
 use Rattle.agent_answers.specs.declared.lines.RequestLines.{RequestLines}
 use Rattle.agent_answers.specs.declared.wanted.Wanted.{Wanted}
 use Rattle.agent_answers.specs.declared.wanted.Wanted.TheVariants as wanted
-use Rattle.agent_answers.specs.declared.wanted.Why.{Why}
+use Rattle.agent_answers.specs.declared.wanted.ClientRefusal.{ClientRefusal}
 use Rattle.agent_answers.specs.declared.went.Went.{Went}
 
 -- ---- what is answered
@@ -29,7 +29,7 @@ use Rattle.agent_answers.specs.declared.went.Went.{Went}
 abbrev pub IsShownText : Agent → Around → Page → List ℕ → Type 0
 IsShownText agent around page text = (told : List ℕ) × IsTold (board_of agent around) page told × (text ≡ codes "ok\n" ++ told)
 
-unfoldable pub refused_text : Why → List ℕ
+unfoldable pub refused_text : ClientRefusal → List ℕ
 refused_text why = codes "error: " ++ refusal_text why ++ 10 ∷ []
 
 -- or nothing, where memory was wanting
@@ -70,7 +70,7 @@ abbrev pub can_be_asked : {T D : Type 0} → Control T D → Bool
 can_be_asked control = is_none control.asking && is_some (first_asked control.clients)
 
 -- each goes on by one call of its connection at most, some are let in, and then one of those who have asked is answered
-pub record ControlGoesOn {T D : Type 0} (remaining written : T → Option (List ℕ)) (calls : T → Option (List Call)) (log : D → Option (DoorLog T)) (agent : Agent) (around : Around)
+pub record ControlGoesOn {T D : Type 0} (remaining written : T → Option (List ℕ)) (calls : T → Option (List TalkCall)) (log : D → Option (DoorLog T)) (agent : Agent) (around : Around)
     (now : Reading) (went : Went) (old new : Control T D) : Type 0 where
   pub turned : GuestTable T RequestLines
   pub turned_enough : Bool
@@ -84,8 +84,8 @@ pub record ControlGoesOn {T D : Type 0} (remaining written : T → Option (List 
 -- ---- what is to be done
 
 -- the request of the first of those whose line has ended is taken, which asks for this; its client waits for an answer
-pub record TakesAsked {T D : Type 0} (now : Reading) (asked : Asked) (old new : Control T D) : Type 0 where
-  pub request : Request
+pub record TakesAsked {T D : Type 0} (now : Reading) (asked : ClientOrder) (old new : Control T D) : Type 0 where
+  pub request : GuestRequest
   pub wants : ClientWants (now.wall / 1000) request.bytes (wanted.Do asked)
   pub taken : TakesRequest old.clients (Some request) new.clients
   pub rest : new ≡ record old { clients = new.clients; asking = Some request.id }
@@ -106,7 +106,7 @@ NoneIsDue now None first = NothingIsAsked now first
 NoneIsDue now (Some id) first = Unit {0}
 
 -- an error says that memory was wanting
-abbrev pub GivesAsked : {T D E : Type 0} → Reading → Control T D → Result (Option Asked) E → Control T D → Type 0
+abbrev pub GivesAsked : {T D E : Type 0} → Reading → Control T D → Result (Option ClientOrder) E → Control T D → Type 0
 GivesAsked now old (Ok None) new = (new ≡ old) × NoneIsDue now old.asking (first_asked old.clients)
 GivesAsked now old (Ok (Some asked)) new = (old.asking ≡ None) × TakesAsked now asked old new
 GivesAsked now old (Err e) new = new ≡ old

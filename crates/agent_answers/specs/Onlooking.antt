@@ -6,14 +6,14 @@ use Rattle.agent_standing.specs.Agent.{Agent}
 use Rattle.base_clients.specs.Doors.{DoorLog}
 use Rattle.base_clients.specs.Guests.{can_go_on}
 use Rattle.base_clients.specs.Tables.{AnswersFirst, GuestTable, Turns, first_asked, first_by}
-use Rattle.base_clients.specs.declared.talk.Call.{Call}
+use Rattle.base_clients.specs.declared.talk.TalkCall.{TalkCall}
 use Rattle.base_clock.specs.Rests.{shorter}
 use Rattle.agent_pages.specs.Answers.{IsAnswer}
 use Rattle.agent_pages.specs.Board.{board_of}
 use Rattle.agent_pages.specs.Questions.{BytesAsk}
-use Rattle.agent_pages.specs.declared.answer.Answer.{Answer}
-use Rattle.agent_pages.specs.declared.asked.Asked.{Asked}
-use Rattle.agent_pages.specs.declared.asked.Asked.TheVariants.{Open, Whole}
+use Rattle.agent_pages.specs.declared.answer.OnlookerAnswer.{OnlookerAnswer}
+use Rattle.agent_pages.specs.declared.asked.AskedPage.{AskedPage}
+use Rattle.agent_pages.specs.declared.asked.AskedPage.TheVariants.{Open, Whole}
 use Rattle.agent_pages.specs.declared.asked.Question.{Question}
 use Rattle.agent_pages.specs.declared.asked.Question.TheVariants.{Unread}
 use Rattle.agent_pages.specs.declared.asked.TheConstants.{HEAD_MAX}
@@ -26,28 +26,28 @@ use Rattle.agent_answers.specs.declared.went.Went.{Went}
 
 -- ---- what is asked
 
-abbrev pub is_whole : Asked → Bool
+abbrev pub is_whole : AskedPage → Bool
 is_whole Open = false
 is_whole (Whole question) = true
 
 -- all has come that is needed: a head, or what no head can begin with, or too much
 abbrev pub TellsHead : List ℕ → Bool → Type 0
-TellsHead bytes whole = (asked : Asked) × (BytesAsk bytes asked × (whole ≡ is_whole asked))
+TellsHead bytes whole = (asked : AskedPage) × (BytesAsk bytes asked × (whole ≡ is_whole asked))
 
 -- what is answered where no more comes: a front of a head is no head
-abbrev pub question_of : Asked → Question
+abbrev pub question_of : AskedPage → Question
 question_of Open = Unread
 question_of (Whole question) = question
 
 -- ---- what is sent
 
-abbrev pub bytes_of : Answer → List ℕ
+abbrev pub bytes_of : OnlookerAnswer → List ℕ
 bytes_of answer = answer.head ++ answer.body
 
 -- to an onlooker that has sent these bytes: what answers them, from the agent as it is, and what is around it
 abbrev pub OnlookerIsSent : Agent → Around → List ℕ → List ℕ → Type 0
 OnlookerIsSent agent around bytes sent =
-    (asked : Asked) × (answer : Answer) × BytesAsk bytes asked × IsAnswer (board_of agent around) (question_of asked) answer × (sent ≡ bytes_of answer)
+    (asked : AskedPage) × (answer : OnlookerAnswer) × BytesAsk bytes asked × IsAnswer (board_of agent around) (question_of asked) answer × (sent ≡ bytes_of answer)
 
 -- or nothing, where memory was wanting
 abbrev pub IsSentIf : Bool → Agent → Around → List ℕ → List ℕ → Type 0
@@ -87,7 +87,7 @@ abbrev pub nobody : {T D : Type 0} → ℕ → D → Onlookers T D
 nobody room door = record { clients = record { guests = []; next = 0; limits = record { guests = room; bytes = HEAD_MAX }; framing = record {} }; door = door; rest = record { until = 0; begun = None } }
 
 -- each goes on by one call of its connection at most, some are let in, and then one of those who have asked is sent its answer
-pub record OnlookingGoesOn {T D : Type 0} (remaining written : T → Option (List ℕ)) (calls : T → Option (List Call)) (log : D → Option (DoorLog T)) (agent : Agent) (around : Around) (now : ℕ)
+pub record OnlookingGoesOn {T D : Type 0} (remaining written : T → Option (List ℕ)) (calls : T → Option (List TalkCall)) (log : D → Option (DoorLog T)) (agent : Agent) (around : Around) (now : ℕ)
     (went : Went) (old new : Onlookers T D) : Type 0 where
   pub turned : GuestTable T Heads
   pub turned_enough : Bool

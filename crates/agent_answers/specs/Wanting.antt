@@ -9,15 +9,15 @@ use Rattle.agent_control.specs.declared.fault.RequestFault.{RequestFault}
 use Rattle.agent_control.specs.declared.fault.RequestFault.TheVariants as faults
 use Rattle.agent_control.specs.declared.front.Front.{Front}
 use Rattle.agent_control.specs.declared.front.Front.TheVariants as fronts
-use Rattle.agent_control.specs.declared.request.Request.{Request}
-use Rattle.agent_control.specs.declared.request.Request.TheVariants as requests
+use Rattle.agent_control.specs.declared.request.ControlRequest.{ControlRequest}
+use Rattle.agent_control.specs.declared.request.ControlRequest.TheVariants as requests
 use Rattle.vault_inventory.specs.declared.need.Need.{Need}
 use Rattle.agent_pages.specs.declared.asked.Page.TheVariants as pages
-use Rattle.agent_answers.specs.declared.asked.Asked.TheVariants as asked
+use Rattle.agent_answers.specs.declared.asked.ClientOrder.TheVariants as asked
 use Rattle.agent_answers.specs.declared.wanted.Wanted.{Wanted}
 use Rattle.agent_answers.specs.declared.wanted.Wanted.TheVariants as wanted
-use Rattle.agent_answers.specs.declared.wanted.Why.{Why}
-use Rattle.agent_answers.specs.declared.wanted.Why.TheVariants as whys
+use Rattle.agent_answers.specs.declared.wanted.ClientRefusal.{ClientRefusal}
+use Rattle.agent_answers.specs.declared.wanted.ClientRefusal.TheVariants as whys
 
 abbrev pub is_front_over : Front → Bool
 is_front_over fronts.Open = false
@@ -28,7 +28,7 @@ is_front_over fronts.TooLong = true
 abbrev pub TellsRequestLine : List ℕ → Bool → Type 0
 TellsRequestLine bytes whole = (front : Front) × (IsLineFront bytes front × (whole ≡ is_front_over front))
 
-unfoldable pub refusal_text : Why → List ℕ
+unfoldable pub refusal_text : ClientRefusal → List ℕ
 refusal_text (whys.Fault fault) = request_fault_text fault
 refusal_text whys.TooLate = codes "WHEN is after 9999-12-31T23:59:59Z"
 
@@ -38,7 +38,7 @@ needed name None = wanted.Refused whys.TooLate
 needed name (Some need) = wanted.Do (asked.Need name need)
 
 -- what a request wants
-abbrev pub wanted_now : ℕ → Request → Wanted
+abbrev pub wanted_now : ℕ → ControlRequest → Wanted
 wanted_now now (requests.Need name when) = needed name (need_at now when)
 wanted_now now (requests.Replace name credential) = wanted.Do (asked.Replace name credential)
 wanted_now now (requests.Add table) = wanted.Do (asked.Add table)
@@ -49,7 +49,7 @@ wanted_now now requests.Status = wanted.Show pages.Listing
 wanted_now now requests.Health = wanted.Show pages.Health
 wanted_now now (requests.Follow alerts) = wanted.Do (asked.Follow alerts)
 
-abbrev pub wanted_if : ℕ → Result Request RequestFault → Wanted
+abbrev pub wanted_if : ℕ → Result ControlRequest RequestFault → Wanted
 wanted_if now (Ok request) = wanted_now now request
 wanted_if now (Err fault) = wanted.Refused (whys.Fault fault)
 

@@ -4,7 +4,7 @@ ghost use Rattle.agent_answers.specs.Onlooking.{OnlookerIsSent, bytes_of};
 ghost use Rattle.agent_pages.specs.Naming.{beside};
 
 use crate::heads::question_of;
-use agent_pages::{Answer, Surroundings, answer_to, board_of, read_question};
+use agent_pages::{OnlookerAnswer, Surroundings, answer_to, board_of, read_question};
 use agent_standing::Agent;
 use state_changes::Row;
 use std::alloc::{AllocError, Global};
@@ -25,7 +25,7 @@ pub(crate) fn sent_to(
 }
 
 /// The head, and then the body.
-fn bytes_of(answer: Answer) -> Result<Vec<u8>, AllocError>
+fn bytes_of(answer: OnlookerAnswer) -> Result<Vec<u8>, AllocError>
     ensures { IfOk result (λ sent. sent.items ≡ bytes_of answer) }
 {
     let mut sent = answer.head.into_vec();

@@ -6,7 +6,7 @@ use vault_inventory::Need;
 /// Nobody has looked whether there is an entry of the name. It may hold a credential, and shows nothing of itself: it has no
 /// `Debug`.
 #[derive(Drop)]
-pub enum Asked {
+pub enum ClientOrder {
     /// The entry is needed until then from now on.
     Need {
         /// The name of the entry.

@@ -3,14 +3,14 @@ ghost use Rattle.std.specs.Prelude.{◌≡◌, ◌&&◌, IfOk, None};
 ghost use Rattle.agent_pages.specs.Naming.{beside};
 ghost use Rattle.agent_answers.specs.Controlling.{AnswersAside, AnswersAsked, ControlGoesOn, FollowsAsked, GivesAsked, IsShownText, OneIsReplied, can_be_asked, nobody_asks, refused_text};
 
-use crate::asked::Asked;
+use crate::asked::ClientOrder;
 use crate::lines::RequestLines;
-use crate::wanted::{Wanted, Why, wanted_of};
+use crate::wanted::{Wanted, ClientRefusal, wanted_of};
 use crate::went::Went;
 use agent_control::LINE_MAX;
 use agent_pages::{Page, Surroundings, board_of, told_of};
 use agent_standing::Agent;
-use base_clients::{Clients, Door, Limits, Talk};
+use base_clients::{Clients, Door, GuestLimits, Talk};
 use base_clock::Reading;
 use state_changes::Row;
 use std::alloc::{AllocError, Global};
@@ -33,7 +33,7 @@ impl<T: Talk, D: Door<T>> Control<T, D> {
     pub fn new(alloc: Global, door: D, guests: usize) -> Control<T, D>
         ensures { result ≡ nobody_asks guests door }
     {
-        let limits = Limits {
+        let limits = GuestLimits {
             guests,
             bytes: LINE_MAX,
         };
@@ -76,7 +76,7 @@ impl<T: Talk, D: Door<T>> Control<T, D> {
 
     /// What the first of those asks for whose line has ended, where it asks for something to be done and the last one is
     /// answered. It waits then until that is answered too. The only error is out of memory: it is left for another call then.
-    pub fn asked(&mut self, alloc: Global, now: Reading) -> Result<Option<Asked>, AllocError>
+    pub fn asked(&mut self, alloc: Global, now: Reading) -> Result<Option<ClientOrder>, AllocError>
         ensures { GivesAsked now self.old result self.new }
     {
         if self.asking.is_some() {
@@ -201,7 +201,7 @@ fn shown(
 
 /// Why it is refused. The only error is out of memory.
 #[tactic(auto, unfolding(crate::specs::Controlling::refused_text))]
-fn refused(alloc: Global, why: Why) -> Result<Vec<u8>, AllocError>
+fn refused(alloc: Global, why: ClientRefusal) -> Result<Vec<u8>, AllocError>
     ensures { IfOk result (λ text. text.items ≡ refused_text why) }
 {
     let mut text = Vec::from_slice(alloc, b"error: ")?;

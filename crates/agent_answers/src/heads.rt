@@ -2,7 +2,7 @@
 ghost use Rattle.std.specs.Prelude.{◌≡◌};
 ghost use Rattle.agent_answers.specs.Onlooking.{TellsHead, is_whole, question_of};
 
-use agent_pages::{Asked, Question, read_question};
+use agent_pages::{AskedPage, Question, read_question};
 use base_clients::Framing;
 
 /// A request of an onlooker is whole once there is a head, or none can follow.
@@ -17,21 +17,21 @@ impl Framing for Heads {
     }
 }
 
-fn is_whole(asked: Asked) -> bool
+fn is_whole(asked: AskedPage) -> bool
     ensures { result ≡ is_whole asked }
 {
     match asked {
-        Asked::Open => false,
-        Asked::Whole(_) => true,
+        AskedPage::Open => false,
+        AskedPage::Whole(_) => true,
     }
 }
 
 /// What is answered where no more comes.
-pub(crate) fn question_of(asked: Asked) -> Question
+pub(crate) fn question_of(asked: AskedPage) -> Question
     ensures { result ≡ question_of asked }
 {
     match asked {
-        Asked::Open => Question::Unread,
-        Asked::Whole(question) => question,
+        AskedPage::Open => Question::Unread,
+        AskedPage::Whole(question) => question,
     }
 }

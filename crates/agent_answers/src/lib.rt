@@ -18,11 +18,11 @@ mod rest;
 mod wanted;
 mod went;
 
-pub use asked::Asked;
+pub use asked::ClientOrder;
 pub use control::{Control, MOST_CLIENTS};
 pub use heads::Heads;
 pub use lines::RequestLines;
 pub use onlookers::{MOST_ONLOOKERS, Onlookers};
 pub use rest::{MOST_REST, Rest};
-pub use wanted::{Wanted, Why};
+pub use wanted::{Wanted, ClientRefusal};
 pub use went::Went;

@@ -9,7 +9,7 @@ use crate::rest::Rest;
 use crate::went::Went;
 use agent_pages::{HEAD_MAX, Surroundings};
 use agent_standing::Agent;
-use base_clients::{Clients, Door, Limits, Talk};
+use base_clients::{Clients, Door, GuestLimits, Talk};
 use base_clock::shorter;
 use state_changes::Row;
 use std::alloc::{AllocError, Global};
@@ -31,7 +31,7 @@ impl<T: Talk, D: Door<T>> Onlookers<T, D> {
     pub fn new(alloc: Global, door: D, guests: usize) -> Onlookers<T, D>
         ensures { result ≡ nobody guests door }
     {
-        let limits = Limits {
+        let limits = GuestLimits {
             guests,
             bytes: HEAD_MAX,
         };

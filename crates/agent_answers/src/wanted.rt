@@ -5,10 +5,10 @@ ghost use Rattle.agent_control.specs.When.{need_at};
 ghost use Rattle.agent_control.specs.declared.fault.RequestFault.TheVariants.{OutOfMemory};
 ghost use Rattle.agent_answers.specs.Wanting.{ClientWants, needed, refusal_text, wanted_if, wanted_now};
 ghost use Rattle.agent_answers.specs.declared.wanted.Wanted.TheVariants.{Refused};
-ghost use Rattle.agent_answers.specs.declared.wanted.Why.TheVariants.{Fault};
+ghost use Rattle.agent_answers.specs.declared.wanted.ClientRefusal.TheVariants.{Fault};
 
-use crate::asked::Asked;
-use agent_control::{Front, Request, RequestFault, When, front_of, read_request};
+use crate::asked::ClientOrder;
+use agent_control::{Front, ControlRequest, RequestFault, When, front_of, read_request};
 use agent_pages::Page;
 use base_moment::{Moment, Name};
 use std::alloc::{AllocError, Global};
@@ -18,31 +18,31 @@ use vault_inventory::Need;
 #[derive(Drop)]
 pub enum Wanted {
     /// This is to be done.
-    Do(Asked),
+    Do(ClientOrder),
     /// It is to be shown this.
     Show(Page),
     /// Nothing that is done.
-    Refused(Why),
+    Refused(ClientRefusal),
 }
 
 /// Why a client is refused.
 #[derive(Clone, Copy, Debug, PartialEq, Eq)]
-pub enum Why {
+pub enum ClientRefusal {
     /// It has sent no request.
     Fault(RequestFault),
     /// The time from now ends after [`LAST`](base_moment::LAST).
     TooLate,
 }
 
-impl Why {
+impl ClientRefusal {
     /// The reason in words, for the one who asked.
     #[tactic(auto, unfolding(crate::specs::Wanting::refusal_text))]
     pub fn text(self) -> &'static str
         ensures { result.now ≡ refusal_text self }
     {
         match self {
-            Why::Fault(fault) => fault.why(),
-            Why::TooLate => "WHEN is after 9999-12-31T23:59:59Z",
+            ClientRefusal::Fault(fault) => fault.why(),
+            ClientRefusal::TooLate => "WHEN is after 9999-12-31T23:59:59Z",
         }
     }
 }
@@ -54,8 +54,8 @@ pub(crate) fn wanted_of(alloc: Global, now: u64, bytes: &[u8]) -> Result<Wanted,
     ensures { IfOk result (λ it. ClientWants now bytes.now it) }
 {
     match front_of(bytes) {
-        Front::Open => Ok(Wanted::Refused(Why::Fault(RequestFault::NotWords))),
-        Front::TooLong => Ok(Wanted::Refused(Why::Fault(RequestFault::TooLong))),
+        Front::Open => Ok(Wanted::Refused(ClientRefusal::Fault(RequestFault::NotWords))),
+        Front::TooLong => Ok(Wanted::Refused(ClientRefusal::Fault(RequestFault::TooLong))),
         Front::Whole(length) => wanted_by_line(alloc, now, &bytes[..length]),
     }
 }
@@ -82,24 +82,24 @@ fn wanted_by_fault(fault: RequestFault) -> Result<Wanted, AllocError>
         | RequestFault::NoCommand
         | RequestFault::BadName
         | RequestFault::BadWhen
-        | RequestFault::BadCredential => Ok(Wanted::Refused(Why::Fault(fault))),
+        | RequestFault::BadCredential => Ok(Wanted::Refused(ClientRefusal::Fault(fault))),
     }
 }
 
 /// What a request wants.
-fn wanted_now(now: u64, request: Request) -> Wanted
+fn wanted_now(now: u64, request: ControlRequest) -> Wanted
     ensures { result ≡ wanted_now now request }
 {
     match request {
-        Request::Need { name, when } => needed(name, need_at(now, when)),
-        Request::Replace { name, credential } => Wanted::Do(Asked::Replace { name, credential }),
-        Request::Add { table } => Wanted::Do(Asked::Add { table }),
-        Request::Drop { name } => Wanted::Do(Asked::Drop { name }),
-        Request::Settle => Wanted::Do(Asked::Settle),
-        Request::Reload => Wanted::Do(Asked::Reload),
-        Request::Status => Wanted::Show(Page::Listing),
-        Request::Health => Wanted::Show(Page::Health),
-        Request::Follow { alerts } => Wanted::Do(Asked::Follow { alerts }),
+        ControlRequest::Need { name, when } => needed(name, need_at(now, when)),
+        ControlRequest::Replace { name, credential } => Wanted::Do(ClientOrder::Replace { name, credential }),
+        ControlRequest::Add { table } => Wanted::Do(ClientOrder::Add { table }),
+        ControlRequest::Drop { name } => Wanted::Do(ClientOrder::Drop { name }),
+        ControlRequest::Settle => Wanted::Do(ClientOrder::Settle),
+        ControlRequest::Reload => Wanted::Do(ClientOrder::Reload),
+        ControlRequest::Status => Wanted::Show(Page::Listing),
+        ControlRequest::Health => Wanted::Show(Page::Health),
+        ControlRequest::Follow { alerts } => Wanted::Do(ClientOrder::Follow { alerts }),
     }
 }
 
@@ -118,7 +118,7 @@ fn needed(name: Name, need: Option<Need>) -> Wanted
     ensures { result ≡ needed name need }
 {
     match need {
-        None => Wanted::Refused(Why::TooLate),
-        Some(need) => Wanted::Do(Asked::Need { name, need }),
+        None => Wanted::Refused(ClientRefusal::TooLate),
+        Some(need) => Wanted::Do(ClientOrder::Need { name, need }),
     }
 }

@@ -3,9 +3,9 @@ use Rattle.std.proofs.Common.{◌≡◌, ◌∙◌, true, false, Option, None, i
 use Rattle.std.proofs.lemmas.Bool.{cond-false, cond-true}
 use Rattle.agent_standing.specs.Agent.{Agent}
 use Rattle.vault_lanes.specs.declared.lanes.Answered.{Answered}
-use Rattle.watch_machine.specs.declared.event.Event.{Event}
-use Rattle.watch_machine.specs.declared.event.Reply.{Reply}
-use Rattle.watch_machine.specs.declared.event.Reply.TheVariants.{Lost}
+use Rattle.watch_machine.specs.declared.event.WatchEvent.{WatchEvent}
+use Rattle.watch_machine.specs.declared.event.WatchReply.{WatchReply}
+use Rattle.watch_machine.specs.declared.event.WatchReply.TheVariants.{Lost}
 use Rattle.watch_machine.specs.State.{WatchState}
 use Rattle.watch_scout.specs.Hearing.{event_of, freed}
 use Rattle.watch_scout.specs.State.{ScoutState}
@@ -21,7 +21,7 @@ dropped a x s other = record {
 }
 
 -- any other is handed in
-pub handed : (a : Agent) (x : Answered) (w : WatchState) (s t : ScoutState) (reply : Reply) (event : Option Event) → is_of_served a s x.index ≡ true → w ≡ a.machine → IsReplyTo a x reply → event ≡ event_of s w x.index reply → t ≡ freed s x.index → IsHandedIn a x s event t
+pub handed : (a : Agent) (x : Answered) (w : WatchState) (s t : ScoutState) (reply : WatchReply) (event : Option WatchEvent) → is_of_served a s x.index ≡ true → w ≡ a.machine → IsReplyTo a x reply → event ≡ event_of s w x.index reply → t ≡ freed s x.index → IsHandedIn a x s event t
 handed a x w s t reply event served here said is free = record {
   reply = reply;
   reply_is = said;

@@ -3,8 +3,8 @@ use Rattle.std.proofs.Common.{◌≡◌, ◌∙◌, ℕ, ◌||◌, Bool, true, f
 use Rattle.agent_standing.specs.Agent.{Agent}
 use Rattle.base_clock.specs.declared.reading.Reading.{Reading}
 use Rattle.agent_turns.specs.Neighbours.{GoOn, Hear, NeighbourCall, Step, Thing}
-use Rattle.agent_turns.specs.declared.change.Change.{Change}
-use Rattle.watch_machine.specs.declared.command.Request.{Request}
+use Rattle.agent_turns.specs.declared.change.AgentChange.{AgentChange}
+use Rattle.watch_machine.specs.declared.command.WatchRequest.{WatchRequest}
 use Rattle.agent_behind.specs.Behinds.{HearsBy, OneGives, OneGoesAhead, PassesBehind, StepsBy, StepsIf, lead_ahead, renews, requests_at}
 use Rattle.agent_behind.specs.Lookouts.{Ahead, GivesAhead, GoesAhead}
 use Rattle.agent_behind.specs.declared.behind.Behind.{Behind}
@@ -20,33 +20,33 @@ one_goes o a r l m waits is h = subst (λ x. OneGoesAhead a r x waits (Some m)) 
 pub none_gives : {L : Type 0} (a : Agent) (o : Option (Ahead L)) → o ≡ None → OneGives a o None o
 none_gives a o none = subst (λ x. OneGives a x None x) (sym none) (refl, refl)
 
-pub one_gives : {L : Type 0} (o : Option (Ahead L)) (a : Agent) (l m : Ahead L) (change : Option Change) → o ≡ Some l → GivesAhead a l change m → OneGives a o change (Some m)
+pub one_gives : {L : Type 0} (o : Option (Ahead L)) (a : Agent) (l m : Ahead L) (change : Option AgentChange) → o ≡ Some l → GivesAhead a l change m → OneGives a o change (Some m)
 one_gives o a l m change is h = subst (λ x. OneGives a x change (Some m)) (sym is) (m, (refl, h))
 
 -- ---- the others
 
 module _ {N : Type 0} (does : NeighbourCall → N → N → Type 0) (a : Agent) where
   pub steps_taken :
-      (asked : Option (List Request)) (ahead : Option ℕ) (requests : List Request) (lead : ℕ) (old new : N) → asked ≡ Some requests → ahead ≡ Some lead → renews requests ≡ true → does (Hear a (Step lead requests)) old new →
+      (asked : Option (List WatchRequest)) (ahead : Option ℕ) (requests : List WatchRequest) (lead : ℕ) (old new : N) → asked ≡ Some requests → ahead ≡ Some lead → renews requests ≡ true → does (Hear a (Step lead requests)) old new →
       StepsBy does a asked ahead old new
   steps_taken asked ahead requests lead old new out stands is hears =
       subst (λ x. StepsBy does a x ahead old new) (sym out) (subst (λ l. StepsBy does a (Some requests) l old new) (sym stands) (subst (λ b. StepsIf does b a lead requests old new) (sym is) hears))
 
   pub none_renewed :
-      (asked : Option (List Request)) (ahead : Option ℕ) (requests : List Request) (lead : ℕ) (old new : N) → asked ≡ Some requests → ahead ≡ Some lead → renews requests ≡ false → new ≡ old → StepsBy does a asked ahead old new
+      (asked : Option (List WatchRequest)) (ahead : Option ℕ) (requests : List WatchRequest) (lead : ℕ) (old new : N) → asked ≡ Some requests → ahead ≡ Some lead → renews requests ≡ false → new ≡ old → StepsBy does a asked ahead old new
   none_renewed asked ahead requests lead old new out stands is same =
       subst (λ x. StepsBy does a x ahead old new) (sym out) (subst (λ l. StepsBy does a (Some requests) l old new) (sym stands) (subst (λ b. StepsIf does b a lead requests old new) (sym is) same))
 
-  pub none_ahead : (asked : Option (List Request)) (ahead : Option ℕ) (old new : N) → ahead ≡ None → new ≡ old → StepsBy does a asked ahead old new
+  pub none_ahead : (asked : Option (List WatchRequest)) (ahead : Option ℕ) (old new : N) → ahead ≡ None → new ≡ old → StepsBy does a asked ahead old new
   none_ahead None ahead old new none same = same
   none_ahead (Some requests) ahead old new none same = subst (λ l. StepsBy does a (Some requests) l old new) (sym none) same
 
-  pub none_out : (asked : Option (List Request)) (ahead : Option ℕ) (old new : N) → asked ≡ None → new ≡ old → StepsBy does a asked ahead old new
+  pub none_out : (asked : Option (List WatchRequest)) (ahead : Option ℕ) (old new : N) → asked ≡ None → new ≡ old → StepsBy does a asked ahead old new
   none_out asked ahead old new none same = subst (λ x. StepsBy does a x ahead old new) (sym none) same
 
 module _ {N L : Type 0} (does : NeighbourCall → N → N → Type 0) (a : Agent) where
   pub hears_by :
-      (thing : Thing) (old mid new : Behind N L) (asked : Option (List Request)) → does (Hear a thing) old.others mid.others → mid ≡ record old { others = mid.others } → asked ≡ requests_at thing →
+      (thing : Thing) (old mid new : Behind N L) (asked : Option (List WatchRequest)) → does (Hear a thing) old.others mid.others → mid ≡ record old { others = mid.others } → asked ≡ requests_at thing →
       StepsBy does a asked (lead_ahead a.machine mid.lookout) mid.others new.others → new ≡ record mid { others = new.others } → HearsBy does a thing old new
   hears_by thing old mid new asked hears kept is steps rest = record {
     others = mid.others;

@@ -3,9 +3,9 @@ use Rattle.std.proofs.Common.{◌≡◌, ◌⊎◌, ◌∙◌, ◌-◌, ℕ, tru
 use Rattle.agent_standing.specs.Agent.{Agent}
 use Rattle.base_clock.specs.declared.reading.Reading.{Reading}
 use Rattle.vault_lanes.specs.declared.lanes.Answered.{Answered}
-use Rattle.agent_turns.specs.declared.change.Change.{Change}
+use Rattle.agent_turns.specs.declared.change.AgentChange.{AgentChange}
 use Rattle.plan_forest.specs.Forest.{Forest}
-use Rattle.watch_machine.specs.declared.event.Event.{Event}
+use Rattle.watch_machine.specs.declared.event.WatchEvent.{WatchEvent}
 use Rattle.watch_scout.specs.State.{ScoutState}
 use Rattle.agent_behind.specs.Lookouts.{Ahead, AnswersComeOff, GivesAhead, HandsInBy, HaveComeOff, IsHandedIn, IsMade, LooksBy, LooksOut, NoneComesOff, StandsBeside, change_of, is_beside, none_waits}
 use Rattle.agent_behind.specs.Lookups.{AreLookedUp, side}
@@ -76,7 +76,7 @@ module _ {L : Type 0} where
       })
 
   pub hands_some :
-      (a : Agent) (old new : Ahead L) (x : Answered) (s t : ScoutState) (event : Option Event) (change : Option Change) → old.heard ≡ new.heard ++ x ∷ [] → old.scout ≡ Some s → new.scout ≡ Some t → IsHandedIn a x s event t →
+      (a : Agent) (old new : Ahead L) (x : Answered) (s t : ScoutState) (event : Option WatchEvent) (change : Option AgentChange) → old.heard ≡ new.heard ++ x ∷ [] → old.scout ≡ Some s → new.scout ≡ Some t → IsHandedIn a x s event t →
       change ≡ change_of event → new ≡ record old { heard = new.heard; scout = new.scout } → GivesAhead a old change new
   hands_some a old new x s t event change last is becomes handed told rest =
       inr (record { answer = x; last = last; scout = subst (λ o. HandsInBy a x o change new.scout) (sym is) (t, (becomes, (event, (handed, told)))); rest = rest })

@@ -4,15 +4,15 @@ use Rattle.agent_standing.specs.Agent.{Agent}
 use Rattle.vault_asking.specs.Sending.{Lanes}
 use Rattle.base_clock.specs.declared.reading.Reading.{Reading}
 use Rattle.vault_lanes.specs.declared.lanes.Answered.{Answered}
-use Rattle.agent_turns.specs.declared.change.Change.{Change}
-use Rattle.agent_turns.specs.declared.change.Change.TheVariants as changes
+use Rattle.agent_turns.specs.declared.change.AgentChange.{AgentChange}
+use Rattle.agent_turns.specs.declared.change.AgentChange.TheVariants as changes
 use Rattle.plan_forest.specs.Forest.{Forest}
 use Rattle.watch_scout_laws.specs.Behind.{IsLaterEnd}
 use Rattle.watch_scout_laws.specs.Steps.{AllSteps, ScoutStep, Hears, Seeks, scout_after}
 use Rattle.watch_scout_laws.proofs.Handing.{hands}
-use Rattle.watch_machine.specs.declared.event.Event.{Event}
-use Rattle.watch_machine.specs.declared.event.Reply.{Reply}
-use Rattle.watch_machine.specs.declared.event.Reply.TheVariants.{Lost}
+use Rattle.watch_machine.specs.declared.event.WatchEvent.{WatchEvent}
+use Rattle.watch_machine.specs.declared.event.WatchReply.{WatchReply}
+use Rattle.watch_machine.specs.declared.event.WatchReply.TheVariants.{Lost}
 use Rattle.watch_machine.specs.State.{WatchState}
 use Rattle.watch_machine.proofs.Cases.{value_is}
 use Rattle.watch_scout.specs.Hearing.{event_of, freed}
@@ -37,7 +37,7 @@ sought s w from t rest =
     then_more s t (Seeks (record { watch = w; from = from; entry = (found s w from).entry; state = (found s w from).state })) ((refl, refl), tt) rest
 
 -- an answer is handed to it
-heard : (s : ScoutState) (w : WatchState) (i : ℕ) (reply : Reply) (t : ScoutState) → Follows (freed s i) t → Follows s t
+heard : (s : ScoutState) (w : WatchState) (i : ℕ) (reply : WatchReply) (t : ScoutState) → Follows (freed s i) t → Follows s t
 heard s w i reply t rest =
     then_more s t (Hears (record { watch = w; entry = i; reply = reply; event = event_of s w i reply; state = freed s i })) ((refl, refl), tt) rest
 
@@ -78,11 +78,11 @@ module _ {L : Type 0} where
 
 -- ---- an answer
 
-handed_by : (a : Agent) (s : ScoutState) (i : ℕ) (reply : Reply) (served : Bool) → Follows s (if served then freed s i else s)
+handed_by : (a : Agent) (s : ScoutState) (i : ℕ) (reply : WatchReply) (served : Bool) → Follows s (if served then freed s i else s)
 handed_by a s i reply true = heard s a.machine i reply (freed s i) (stays (freed s i))
 handed_by a s i reply false = stays s
 
-handed : (a : Agent) (x : Answered) (s t : ScoutState) (event : Option Event) → IsHandedIn a x s event t → Follows s t
+handed : (a : Agent) (x : Answered) (s t : ScoutState) (event : Option WatchEvent) → IsHandedIn a x s event t → Follows s t
 handed a x s t event h = subst (λ y. Follows s y) (sym h.scout) (handed_by a s x.index h.reply (is_of_served a s x.index))
 
 module _ {L : Type 0} where
@@ -94,11 +94,11 @@ module _ {L : Type 0} where
 
 -- ---- what the agent is told
 
-served_event : (a : Agent) (s : ScoutState) (i : ℕ) (reply : Reply) (event : Event) (served : Bool) → Some event ≡ (if served then event_of s a.machine i reply else None) → event_of s a.machine i reply ≡ Some event
+served_event : (a : Agent) (s : ScoutState) (i : ℕ) (reply : WatchReply) (event : WatchEvent) (served : Bool) → Some event ≡ (if served then event_of s a.machine i reply else None) → event_of s a.machine i reply ≡ Some event
 served_event a s i reply event true is = sym is
 served_event a s i reply event false is = absurd cc
 
-later_known : (a : Agent) (i : ℕ) (event : Event) (change : Change) → IsLaterEnd a.machine i event → Some change ≡ change_of (Some event) → IsLaterKnown a change
+later_known : (a : Agent) (i : ℕ) (event : WatchEvent) (change : AgentChange) → IsLaterEnd a.machine i event → Some change ≡ change_of (Some event) → IsLaterKnown a change
 later_known a i event change later is = record {
   entry = i;
   end = later.end;
@@ -107,12 +107,12 @@ later_known a i event change later is = record {
   later = subst (IsLaterEnd a.machine i) later.is later;
 }
 
-told_by : (a : Agent) (x : Answered) (s t : ScoutState) (event : Option Event) (change : Change) → IsHandedIn a x s event t → Some change ≡ change_of event → IsLaterKnown a change
+told_by : (a : Agent) (x : Answered) (s t : ScoutState) (event : Option WatchEvent) (change : AgentChange) → IsHandedIn a x s event t → Some change ≡ change_of event → IsLaterKnown a change
 told_by a x s t None change h is = absurd cc
 told_by a x s t (Some event) change h is =
     later_known a x.index event change (hands s a.machine x.index h.reply event (served_event a s x.index h.reply event (is_of_served a s x.index) h.event_is)) is
 
-told_in : (a : Agent) (x : Answered) (o p : Option ScoutState) (change : Change) → HandsInBy a x o (Some change) p → IsLaterKnown a change
+told_in : (a : Agent) (x : Answered) (o p : Option ScoutState) (change : AgentChange) → HandsInBy a x o (Some change) p → IsLaterKnown a change
 told_in a x None p change h = absurd (let bad : Some change ≡ None = h.0 in cc)
 told_in a x (Some s) p change h = told_by a x s h.0 h.1.1.0 change h.1.1.1.0 h.1.1.1.1
 

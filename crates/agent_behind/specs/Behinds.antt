@@ -6,11 +6,11 @@ use Rattle.agent_standing.specs.Agent.{Agent}
 use Rattle.base_clock.specs.Rests.{rest_until, shorter}
 use Rattle.base_clock.specs.declared.reading.Reading.{Reading}
 use Rattle.agent_turns.specs.Neighbours.{Answer, End, Give, GoOn, Hear, NeighbourCall, Needs, Rest, Settle, Step, Thing, Time, Want}
-use Rattle.agent_turns.specs.declared.change.Change.{Change}
-use Rattle.agent_turns.specs.declared.change.Change.TheVariants as changes
+use Rattle.agent_turns.specs.declared.change.AgentChange.{AgentChange}
+use Rattle.agent_turns.specs.declared.change.AgentChange.TheVariants as changes
 use Rattle.watch_machine.specs.Refusal.{is_same}
 use Rattle.watch_machine.specs.State.{WatchState}
-use Rattle.watch_machine.specs.declared.command.Request.{Request}
+use Rattle.watch_machine.specs.declared.command.WatchRequest.{WatchRequest}
 use Rattle.watch_machine.specs.declared.event.Operation.TheVariants.{Renew}
 use Rattle.agent_behind.specs.Lookouts.{Ahead, GivesAhead, GoesAhead, lead_by}
 use Rattle.agent_behind.specs.declared.behind.Behind.{Behind}
@@ -23,7 +23,7 @@ abbrev pub OneGoesAhead : {L : Type 0} → Agent → Reading → Option (Ahead L
 OneGoesAhead a now None waits new = (waits ≡ false) × (new ≡ None)
 OneGoesAhead {L} a now (Some l) waits new = (m : Ahead L) × ((new ≡ Some m) × GoesAhead a now l waits m)
 
-abbrev pub OneGives : {L : Type 0} → Agent → Option (Ahead L) → Option Change → Option (Ahead L) → Type 0
+abbrev pub OneGives : {L : Type 0} → Agent → Option (Ahead L) → Option AgentChange → Option (Ahead L) → Type 0
 OneGives a None change new = (change ≡ None) × (new ≡ None)
 OneGives {L} a (Some l) change new = (m : Ahead L) × ((new ≡ Some m) × GivesAhead a l change m)
 
@@ -47,7 +47,7 @@ beside_another is_made l = if is_made then option_map left_alone l else l
 -- ---- what a call does
 
 -- whose a change is that the others give
-abbrev pub giver_of : Change → Giver
+abbrev pub giver_of : AgentChange → Giver
 giver_of (changes.Need i until) = Others
 giver_of changes.Begin = Others
 giver_of (changes.Known i end renewable) = Others
@@ -55,23 +55,23 @@ giver_of (changes.Serve s) = OthersServe
 giver_of changes.Kept = Others
 
 -- and that the lookout gives
-abbrev pub giver_of_known : Change → Giver
+abbrev pub giver_of_known : AgentChange → Giver
 giver_of_known (changes.Need i until) = Others
 giver_of_known changes.Begin = Others
 giver_of_known (changes.Known i end renewable) = Lookout i end
 giver_of_known (changes.Serve s) = Others
 giver_of_known changes.Kept = Others
 
-abbrev pub giver_ahead : Option Change → Giver
+abbrev pub giver_ahead : Option AgentChange → Giver
 giver_ahead None = Others
 giver_ahead (Some change) = giver_of_known change
 
 -- the others give a change, or else the lookout may
-abbrev pub OthersGive : {N L : Type 0} → (NeighbourCall → N → N → Type 0) → Agent → Reading → Option Change → Behind N L → Behind N L → Type 0
+abbrev pub OthersGive : {N L : Type 0} → (NeighbourCall → N → N → Type 0) → Agent → Reading → Option AgentChange → Behind N L → Behind N L → Type 0
 OthersGive does a now None old new = ⊥
 OthersGive does a now (Some change) old new = does (Give a now (Some change)) old.others new.others × ((new.lookout ≡ old.lookout) × (new.giver ≡ giver_of change))
 
-abbrev pub LookoutGives : {N L : Type 0} → (NeighbourCall → N → N → Type 0) → Agent → Reading → Option Change → Behind N L → Behind N L → Type 0
+abbrev pub LookoutGives : {N L : Type 0} → (NeighbourCall → N → N → Type 0) → Agent → Reading → Option AgentChange → Behind N L → Behind N L → Type 0
 LookoutGives does a now change old new = does (Give a now None) old.others new.others × (OneGives a old.lookout change new.lookout × (new.giver ≡ giver_ahead change))
 
 -- the others hear only of their own changes whether they were made; an end that the lookout gave is one that they hear of
@@ -81,7 +81,7 @@ SettlesBy does OthersServe a is_made old new = does (Settle a is_made) old.other
 SettlesBy does (Lookout i end) a is_made old new = does (Hear a (End i end)) old.others new.others × (new.lookout ≡ old.lookout)
 
 -- the requests that go out, where the time was handed in
-abbrev pub requests_at : Thing → Option (List Request)
+abbrev pub requests_at : Thing → Option (List WatchRequest)
 requests_at (Answer entry operation said notes) = None
 requests_at (Time notes requests next) = Some requests
 requests_at (Needs shorts) = None
@@ -90,14 +90,14 @@ requests_at (Step lead requests) = None
 requests_at Want = None
 
 -- they hear that the agent steps in with these, so long ahead, where it does
-abbrev pub renews : List Request → Bool
-renews requests = list_any (λ (r : Request). is_same r.operation Renew) requests
+abbrev pub renews : List WatchRequest → Bool
+renews requests = list_any (λ (r : WatchRequest). is_same r.operation Renew) requests
 
-abbrev pub StepsIf : {N : Type 0} → (NeighbourCall → N → N → Type 0) → Bool → Agent → ℕ → List Request → N → N → Type 0
+abbrev pub StepsIf : {N : Type 0} → (NeighbourCall → N → N → Type 0) → Bool → Agent → ℕ → List WatchRequest → N → N → Type 0
 StepsIf does true a lead requests old new = does (Hear a (Step lead requests)) old new
 StepsIf does false a lead requests old new = new ≡ old
 
-abbrev pub StepsBy : {N : Type 0} → (NeighbourCall → N → N → Type 0) → Agent → Option (List Request) → Option ℕ → N → N → Type 0
+abbrev pub StepsBy : {N : Type 0} → (NeighbourCall → N → N → Type 0) → Agent → Option (List WatchRequest) → Option ℕ → N → N → Type 0
 StepsBy does a None lead old new = new ≡ old
 StepsBy does a (Some requests) None old new = new ≡ old
 StepsBy does a (Some requests) (Some lead) old new = StepsIf does (renews requests) a lead requests old new

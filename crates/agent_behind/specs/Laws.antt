@@ -3,12 +3,12 @@
 use Rattle.std.specs.Prelude.{◌≡◌, ◌⊎◌, ℕ, Bool, List, Option, Some}
 use Rattle.agent_standing.specs.Agent.{Agent}
 use Rattle.base_clock.specs.declared.reading.Reading.{Reading}
-use Rattle.agent_turns.specs.declared.change.Change.{Change}
-use Rattle.agent_turns.specs.declared.change.Change.TheVariants as changes
+use Rattle.agent_turns.specs.declared.change.AgentChange.{AgentChange}
+use Rattle.agent_turns.specs.declared.change.AgentChange.TheVariants as changes
 use Rattle.plan_forest.specs.Forest.{Forest}
 use Rattle.watch_scout_laws.specs.Behind.{IsLaterEnd}
 use Rattle.watch_scout_laws.specs.Steps.{AllSteps, ScoutStep, scout_after_all}
-use Rattle.watch_machine.specs.declared.event.Event.TheVariants.{Known}
+use Rattle.watch_machine.specs.declared.event.WatchEvent.TheVariants.{Known}
 use Rattle.plan_spread.specs.Behind.{margin_in_front}
 use Rattle.watch_scout.specs.State.{ScoutState, opened_scout}
 use Rattle.agent_behind.specs.Lookouts.{Ahead, GivesAhead, GoesAhead}
@@ -27,10 +27,10 @@ GoesLaw L = (a : Agent) (r : Reading) (old new : Ahead L) (waits : Bool) (t : Sc
 
 -- and so it does where an answer is handed in
 abbrev pub GivesLaw : Type 0 → Type 0
-GivesLaw L = (a : Agent) (old new : Ahead L) (change : Option Change) (s : ScoutState) → GivesAhead a old change new → old.scout ≡ Some s → (t : ScoutState) × ((new.scout ≡ Some t) × Follows s t)
+GivesLaw L = (a : Agent) (old new : Ahead L) (change : Option AgentChange) (s : ScoutState) → GivesAhead a old change new → old.scout ≡ Some s → (t : ScoutState) × ((new.scout ≡ Some t) × Follows s t)
 
 -- the agent is told of no change but of a later end of an entry that is not out, which is ahead
-pub record IsLaterKnown (a : Agent) (change : Change) : Type 0 where
+pub record IsLaterKnown (a : Agent) (change : AgentChange) : Type 0 where
   pub entry : ℕ
   pub end : ℕ
   pub renewable : Bool
@@ -38,4 +38,4 @@ pub record IsLaterKnown (a : Agent) (change : Change) : Type 0 where
   pub later : IsLaterEnd a.machine entry (Known entry end renewable)
 
 abbrev pub ToldLaw : Type 0 → Type 0
-ToldLaw L = (a : Agent) (old new : Ahead L) (change : Change) → GivesAhead a old (Some change) new → IsLaterKnown a change
+ToldLaw L = (a : Agent) (old new : Ahead L) (change : AgentChange) → GivesAhead a old (Some change) new → IsLaterKnown a change

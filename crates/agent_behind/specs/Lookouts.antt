@@ -7,14 +7,14 @@ use Rattle.vault_asking.specs.Told.{reply_as}
 use Rattle.base_clock.specs.declared.reading.Reading.{Reading}
 use Rattle.vault_lanes.specs.Out.{AreThereAt, IsParted}
 use Rattle.vault_lanes.specs.declared.lanes.Answered.{Answered}
-use Rattle.agent_turns.specs.declared.change.Change.{Change}
-use Rattle.agent_turns.specs.declared.change.Change.TheVariants as changes
+use Rattle.agent_turns.specs.declared.change.AgentChange.{AgentChange}
+use Rattle.agent_turns.specs.declared.change.AgentChange.TheVariants as changes
 use Rattle.plan_forest.specs.Forest.{Forest}
-use Rattle.watch_machine.specs.declared.event.Event.{Event}
-use Rattle.watch_machine.specs.declared.event.Event.TheVariants.{Clock, Looked, Renewed, Need, Begin, Known}
+use Rattle.watch_machine.specs.declared.event.WatchEvent.{WatchEvent}
+use Rattle.watch_machine.specs.declared.event.WatchEvent.TheVariants.{Clock, Looked, Renewed, Need, Begin, Known}
 use Rattle.watch_machine.specs.declared.event.Operation.TheVariants.{Look}
-use Rattle.watch_machine.specs.declared.event.Reply.{Reply}
-use Rattle.watch_machine.specs.declared.event.Reply.TheVariants.{Lost}
+use Rattle.watch_machine.specs.declared.event.WatchReply.{WatchReply}
+use Rattle.watch_machine.specs.declared.event.WatchReply.TheVariants.{Lost}
 use Rattle.watch_machine.specs.State.{WatchState}
 use Rattle.plan_spread.specs.Behind.{margin_in_front}
 use Rattle.watch_scout.specs.Hearing.{event_of, freed}
@@ -128,7 +128,7 @@ pub record GoesAhead {L : Type 0} (a : Agent) (r : Reading) (old : Ahead L) (wai
 -- ---- an end is given
 
 -- what an event is as a change, where it is an end that is known
-abbrev pub change_of_event : Event → Option Change
+abbrev pub change_of_event : WatchEvent → Option AgentChange
 change_of_event (Clock wall elapsed) = None
 change_of_event (Looked i reply terms) = None
 change_of_event (Renewed i reply) = None
@@ -136,47 +136,47 @@ change_of_event (Need i until) = None
 change_of_event Begin = None
 change_of_event (Known i end renewable) = Some (changes.Known i end renewable)
 
-abbrev pub change_of : Option Event → Option Change
+abbrev pub change_of : Option WatchEvent → Option AgentChange
 change_of None = None
 change_of (Some event) = change_of_event event
 
 -- what the answer to a lookup says; where memory is wanting to read it, it counts as lost
-abbrev pub IsReplyTo : Agent → Answered → Reply → Type 0
+abbrev pub IsReplyTo : Agent → Answered → WatchReply → Type 0
 IsReplyTo a x reply = (reply ≡ reply_as Look a.inventory x.index x.answer) ⊎ (reply ≡ Lost)
 
 -- it is of an entry that is served, and the scout is beside what is served
 abbrev pub is_of_served : Agent → ScoutState → ℕ → Bool
 is_of_served a s i = nat_lt i (length a.machine.forest.entries) && (length s.seen == length a.machine.forest.entries)
 
-abbrev pub event_handed : Agent → ScoutState → ℕ → Reply → Option Event
+abbrev pub event_handed : Agent → ScoutState → ℕ → WatchReply → Option WatchEvent
 event_handed a s i reply = if is_of_served a s i then event_of s a.machine i reply else None
 
 abbrev pub scout_handed : Agent → ScoutState → ℕ → ScoutState
 scout_handed a s i = if is_of_served a s i then freed s i else s
 
 -- an answer is handed to the scout, which says what the agent is to be told
-pub record IsHandedIn (a : Agent) (x : Answered) (s : ScoutState) (event : Option Event) (t : ScoutState) : Type 0 where
-  pub reply : Reply
+pub record IsHandedIn (a : Agent) (x : Answered) (s : ScoutState) (event : Option WatchEvent) (t : ScoutState) : Type 0 where
+  pub reply : WatchReply
   pub reply_is : IsReplyTo a x reply
   pub event_is : event ≡ event_handed a s x.index reply
   pub scout : t ≡ scout_handed a s x.index
 
-abbrev pub HandsInBy : Agent → Answered → Option ScoutState → Option Change → Option ScoutState → Type 0
+abbrev pub HandsInBy : Agent → Answered → Option ScoutState → Option AgentChange → Option ScoutState → Type 0
 HandsInBy a x None change scout = (change ≡ None) × (scout ≡ None)
-HandsInBy a x (Some s) change scout = (t : ScoutState) × ((scout ≡ Some t) × ((event : Option Event) × (IsHandedIn a x s event t × (change ≡ change_of event))))
+HandsInBy a x (Some s) change scout = (t : ScoutState) × ((scout ≡ Some t) × ((event : Option WatchEvent) × (IsHandedIn a x s event t × (change ≡ change_of event))))
 
 -- the last of the answers that are there is handed in
-pub record HandsIn {L : Type 0} (a : Agent) (old : Ahead L) (change : Option Change) (new : Ahead L) : Type 0 where
+pub record HandsIn {L : Type 0} (a : Agent) (old : Ahead L) (change : Option AgentChange) (new : Ahead L) : Type 0 where
   pub answer : Answered
   pub last : old.heard ≡ new.heard ++ answer ∷ []
   pub scout : HandsInBy a answer old.scout change new.scout
   pub rest : new ≡ record old { heard = new.heard; scout = new.scout }
 
 -- where there is one
-pub record HasNone {L : Type 0} (old : Ahead L) (change : Option Change) (new : Ahead L) : Type 0 where
+pub record HasNone {L : Type 0} (old : Ahead L) (change : Option AgentChange) (new : Ahead L) : Type 0 where
   pub heard : old.heard ≡ []
   pub gives_none : change ≡ None
   pub same : new ≡ old
 
-abbrev pub GivesAhead : {L : Type 0} → Agent → Ahead L → Option Change → Ahead L → Type 0
+abbrev pub GivesAhead : {L : Type 0} → Agent → Ahead L → Option AgentChange → Ahead L → Type 0
 GivesAhead a old change new = HasNone old change new ⊎ HandsIn a old change new

@@ -5,7 +5,7 @@ use Rattle.agent_standing.specs.Agent.{Agent}
 use Rattle.vault_asking.specs.Sending.{GoesOut, Lanes}
 use Rattle.base_clock.specs.declared.reading.Reading.{Reading}
 use Rattle.watch_machine.specs.declared.command.Patience.TheVariants.{Full}
-use Rattle.watch_machine.specs.declared.command.Request.{Request}
+use Rattle.watch_machine.specs.declared.command.WatchRequest.{WatchRequest}
 use Rattle.watch_machine.specs.declared.event.Operation.TheVariants.{Look}
 use Rattle.watch_machine.specs.Clocks.{second_of_wall}
 use Rattle.watch_scout.specs.Hearing.{freed}
@@ -23,7 +23,7 @@ side scout lanes = record { scout = scout; lanes = lanes }
 -- ---- one entry
 
 -- its lookup, which may take as long as any request
-abbrev pub look_at : ℕ → Request
+abbrev pub look_at : ℕ → WatchRequest
 look_at i = record { entry = i; operation = Look; patience = Full }
 
 -- it goes out on a lane, with the credentials of what is served

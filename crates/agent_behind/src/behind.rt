@@ -10,11 +10,11 @@ ghost use Rattle.watch_machine.specs.declared.event.Operation.TheVariants.{Renew
 
 use crate::lookout::Lookout;
 use agent_standing::Agent;
-use agent_turns::{Change, Happened, Neighbours};
+use agent_turns::{AgentChange, Happened, Neighbours};
 use base_clock::{Reading, shorter};
 use std::alloc::Global;
 use vault_lanes::Lanes;
-use watch_machine::{Millis, Operation, Request, Watch};
+use watch_machine::{Millis, Operation, WatchRequest, Watch};
 
 /// Whose a change is.
 #[derive(Clone, Copy, Debug, PartialEq, Eq)]
@@ -65,7 +65,7 @@ impl<N, L: Lanes> Behind<N, L> {
 
     /// The lookout gives a change, where there is one.
     #[tactic(auto, using(crate::proofs::Passing::none_gives))]
-    fn give(&mut self, alloc: Global, agent: &Agent) -> Option<Change>
+    fn give(&mut self, alloc: Global, agent: &Agent) -> Option<AgentChange>
         ensures gives { OneGives agent.now self.old.lookout result self.new.lookout }
         ensures rest { self.new ≡ record self.old { lookout = self.new.lookout } }
     {
@@ -116,17 +116,17 @@ impl<N, L: Lanes> Behind<N, L> {
 }
 
 /// Whose a change is that the others give.
-fn giver_of(change: &Change) -> Giver
+fn giver_of(change: &AgentChange) -> Giver
     ensures { result ≡ giver_of change.now }
 {
     match change {
-        Change::Need { .. } | Change::Begin | Change::Known { .. } | Change::Kept => Giver::Others,
-        Change::Serve(_) => Giver::OthersServe,
+        AgentChange::Need { .. } | AgentChange::Begin | AgentChange::Known { .. } | AgentChange::Kept => Giver::Others,
+        AgentChange::Serve(_) => Giver::OthersServe,
     }
 }
 
 /// Whose a change is that the lookout gives.
-fn giver_ahead(change: &Option<Change>) -> Giver
+fn giver_ahead(change: &Option<AgentChange>) -> Giver
     ensures { result ≡ giver_ahead change.now }
 {
     match change {
@@ -135,20 +135,20 @@ fn giver_ahead(change: &Option<Change>) -> Giver
     }
 }
 
-fn giver_of_known(change: &Change) -> Giver
+fn giver_of_known(change: &AgentChange) -> Giver
     ensures { result ≡ giver_of_known change.now }
 {
     match change {
-        Change::Known { entry, end, .. } => Giver::Lookout {
+        AgentChange::Known { entry, end, .. } => Giver::Lookout {
             entry: *entry,
             end: *end,
         },
-        Change::Need { .. } | Change::Begin | Change::Serve(_) | Change::Kept => Giver::Others,
+        AgentChange::Need { .. } | AgentChange::Begin | AgentChange::Serve(_) | AgentChange::Kept => Giver::Others,
     }
 }
 
 /// The requests that go out, where the time was handed in.
-fn requests_in<'a>(happened: &Happened<'a>) -> Option<&'a [Request]>
+fn requests_in<'a>(happened: &Happened<'a>) -> Option<&'a [WatchRequest]>
     ensures { option_map (λ r. r.now) result ≡ requests_at (thing_of happened.now) }
 {
     match happened {
@@ -163,7 +163,7 @@ fn requests_in<'a>(happened: &Happened<'a>) -> Option<&'a [Request]>
 }
 
 /// Whether one of these requests is a renewal.
-fn renews(requests: &[Request]) -> bool
+fn renews(requests: &[WatchRequest]) -> bool
     ensures { result ≡ renews requests.now }
 {
     requests.iter().any(|request| is_renewal(request.operation))
@@ -180,7 +180,7 @@ fn is_renewal(operation: Operation) -> bool
 
 impl<N: Neighbours, L: Lanes> Behind<N, L> {
     /// The others give a change, or else the lookout may.
-    fn give_first(&mut self, alloc: Global, agent: &Agent, now: Reading) -> Option<Change>
+    fn give_first(&mut self, alloc: Global, agent: &Agent, now: Reading) -> Option<AgentChange>
         ensures { OthersGive N.does agent.now now result self.old self.new ⊎ LookoutGives N.does agent.now now result self.old self.new }
     {
         if let Some(change) = self.others.change(alloc, agent, now) {
@@ -204,7 +204,7 @@ impl<N: Neighbours, L: Lanes> Behind<N, L> {
 
     /// They hear of the renewals among these requests, where the agent stands behind another.
     #[tactic(auto, using(crate::proofs::Passing::steps_taken, crate::proofs::Passing::none_renewed, crate::proofs::Passing::none_ahead, crate::proofs::Passing::none_out))]
-    fn tell_steps(&mut self, alloc: Global, agent: &Agent, requests: Option<&[Request]>)
+    fn tell_steps(&mut self, alloc: Global, agent: &Agent, requests: Option<&[WatchRequest]>)
         ensures steps { StepsBy N.does agent.now (option_map (λ r. r.now) requests.entry) (lead_ahead agent.now.machine self.old.lookout) self.old.others self.new.others }
         ensures rest { self.new ≡ record self.old { others = self.new.others } }
     {
@@ -265,7 +265,7 @@ impl<N: Neighbours, L: Lanes> Neighbours for Behind<N, L> {
         is_busy || is_waiting
     }
 
-    fn change(&mut self, alloc: Global, agent: &Agent, now: Reading) -> Option<Change> {
+    fn change(&mut self, alloc: Global, agent: &Agent, now: Reading) -> Option<AgentChange> {
         self.give_first(alloc, agent, now)
     }
 

@@ -10,7 +10,7 @@ use base_clock::Reading;
 use std::alloc::{AllocError, Global};
 use vault_asking::{SeenLanes, ask_for};
 use vault_lanes::Lanes;
-use watch_machine::{Operation, Patience, Reply, Request};
+use watch_machine::{Operation, Patience, WatchReply, WatchRequest};
 use watch_scout::Scout;
 
 /// Looks up the entries that the scout finds from an index on, `most` of them at most.
@@ -64,7 +64,7 @@ fn look_up<L: Lanes>(
     match send(alloc, lanes, agent, now, entry) {
         Ok(()) => {}
         Err(AllocError) => {
-            let _dropped = scout.answer(agent.watch(), entry, Reply::Lost);
+            let _dropped = scout.answer(agent.watch(), entry, WatchReply::Lost);
         }
     }
 }
@@ -97,10 +97,10 @@ fn send<L: Lanes>(
 }
 
 /// The lookup of an entry, which may take as long as any request.
-fn look_at(entry: u32) -> Request
+fn look_at(entry: u32) -> WatchRequest
     ensures { result ≡ look_at entry }
 {
-    Request {
+    WatchRequest {
         entry,
         operation: Operation::Look,
         patience: Patience::Full,

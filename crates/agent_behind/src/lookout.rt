@@ -5,7 +5,7 @@ ghost use Rattle.base_clock.specs.Rests.{rest_until};
 
 use crate::looking::look_from;
 use agent_standing::Agent;
-use agent_turns::Change;
+use agent_turns::AgentChange;
 use base_clock::{Reading, rest_until};
 use plan_forest::Forest;
 use plan_spread::margin_in_front;
@@ -13,7 +13,7 @@ use std::alloc::{AllocError, Global};
 use std::marker::Model;
 use vault_asking::said_of_entry;
 use vault_lanes::{Answered, Lanes};
-use watch_machine::{Event, Millis, Operation, Reply, Watch};
+use watch_machine::{WatchEvent, Millis, Operation, WatchReply, Watch};
 use watch_scout::Scout;
 
 /// A scout, and the lanes over which it looks.
@@ -148,7 +148,7 @@ impl<L: Lanes> Lookout<L> {
     /// The last of the answers that are there is handed in, where there is one. The change by which the agent is told of it, if it is to
     /// be.
     #[tactic(auto, using(crate::proofs::Stages::gives_none, crate::proofs::Stages::hands_none, crate::proofs::Stages::hands_some))]
-    pub(crate) fn give(&mut self, alloc: Global, agent: &Agent) -> Option<Change>
+    pub(crate) fn give(&mut self, alloc: Global, agent: &Agent) -> Option<AgentChange>
         ensures { GivesAhead agent.now self.old result self.new }
     {
         let answered = self.heard.pop()?;
@@ -213,7 +213,7 @@ fn due_after(scout: &Option<Scout>, watch: &Watch, now: Millis) -> Millis
 
 /// An answer is handed to the scout: the event that the agent is to be told, if there is one.
 #[tactic(auto, using(crate::proofs::Handed::dropped, crate::proofs::Handed::handed))]
-fn hand_in(alloc: Global, scout: &mut Scout, agent: &Agent, answered: &Answered) -> Option<Event>
+fn hand_in(alloc: Global, scout: &mut Scout, agent: &Agent, answered: &Answered) -> Option<WatchEvent>
     ensures { IsHandedIn agent.now answered.now scout.old result scout.new }
 {
     if !is_of_served(agent, scout, answered.index) {
@@ -234,7 +234,7 @@ fn is_of_served(agent: &Agent, scout: &Scout, entry: u32) -> bool
 }
 
 /// What the answer to the lookup of an entry says. Where memory is wanting to read it, it counts as lost.
-fn reply_in(alloc: Global, agent: &Agent, answered: &Answered) -> Reply
+fn reply_in(alloc: Global, agent: &Agent, answered: &Answered) -> WatchReply
     requires { answered.now.index < length agent.now.machine.forest.entries }
     ensures { IsReplyTo agent.now answered.now result }
 {
@@ -242,28 +242,28 @@ fn reply_in(alloc: Global, agent: &Agent, answered: &Answered) -> Reply
     let (entry, answer) = (answered.index, &answered.answer);
     match said_of_entry(alloc, inventory, Operation::Look, entry, answer) {
         Ok(said) => said.reply,
-        Err(AllocError) => Reply::Lost,
+        Err(AllocError) => WatchReply::Lost,
     }
 }
 
 /// The change by which the agent is told of an event, where it is an end that is known.
-fn change_of(event: Option<Event>) -> Option<Change>
+fn change_of(event: Option<WatchEvent>) -> Option<AgentChange>
     ensures { result ≡ change_of event }
 {
     match event? {
-        Event::Known {
+        WatchEvent::Known {
             entry,
             end,
             renewable,
-        } => Some(Change::Known {
+        } => Some(AgentChange::Known {
             entry,
             end,
             renewable,
         }),
-        Event::Clock { .. }
-        | Event::Looked { .. }
-        | Event::Renewed { .. }
-        | Event::Need { .. }
-        | Event::Begin => None,
+        WatchEvent::Clock { .. }
+        | WatchEvent::Looked { .. }
+        | WatchEvent::Renewed { .. }
+        | WatchEvent::Need { .. }
+        | WatchEvent::Begin => None,
     }
 }

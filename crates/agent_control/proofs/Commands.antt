@@ -13,8 +13,8 @@ use Rattle.agent_control.specs.Words.{or_not_words, tree_of_words, word_at, word
 use Rattle.agent_control.specs.declared.fault.RequestFault.{RequestFault}
 use Rattle.agent_control.specs.declared.fault.RequestFault.TheVariants.{TooLong, NoCommand, BadName, BadCredential}
 use Rattle.agent_control.specs.declared.limits.TheConstants.{LINE_MAX}
-use Rattle.agent_control.specs.declared.request.Request.{Request}
-use Rattle.agent_control.specs.declared.request.Request.TheVariants.{Need, Replace, Add, Drop, Status, Health, Settle, Reload, Follow}
+use Rattle.agent_control.specs.declared.request.ControlRequest.{ControlRequest}
+use Rattle.agent_control.specs.declared.request.ControlRequest.TheVariants.{Need, Replace, Add, Drop, Status, Health, Settle, Reload, Follow}
 use Rattle.agent_control.specs.declared.when.When.{When}
 use Rattle.agent_control.proofs.Chosen.{branch, granted, ok_same, refused, then_ok, then_some}
 use Rattle.agent_control.proofs.Whens.{when_found, when_only}
@@ -63,29 +63,29 @@ with_this word more ws h =
 
 -- ---- found
 
-abbrev Said : List (List ℕ) → Request → Type 0
+abbrev Said : List (List ℕ) → ControlRequest → Type 0
 Said ws r = WordsAskFor r ws × IsControlRequest r
 
-need_found : (name word : List ℕ) (ws : List (List ℕ)) (o : Option When) (r : Request) → when_of word ≡ o → is_name name ≡ true → ws ≡ codes "need" ∷ name ∷ word ∷ [] → need_request name o ≡ Ok r → Said ws r
+need_found : (name word : List ℕ) (ws : List (List ℕ)) (o : Option When) (r : ControlRequest) → when_of word ≡ o → is_name name ≡ true → ws ≡ codes "need" ∷ name ∷ word ∷ [] → need_request name o ≡ Ok r → Said ws r
 need_found name word ws None r is named words e = cc
 need_found name word ws (Some when) r is named words e =
     let w = when_found word when is in
     rw (sym (ok_same _ _ e)) ((word, w.0, words), (named, w.1))
 
-replace_found : (name credential : List ℕ) (ws : List (List ℕ)) (r : Request) → is_name name ≡ true → ws ≡ codes "replace" ∷ name ∷ credential ∷ [] → replace_of name credential ≡ Ok r → Said ws r
+replace_found : (name credential : List ℕ) (ws : List (List ℕ)) (r : ControlRequest) → is_name name ≡ true → ws ≡ codes "replace" ∷ name ∷ credential ∷ [] → replace_of name credential ≡ Ok r → Said ws r
 replace_found name credential ws r named words e =
     let p = granted (is_credential credential) (Ok (Replace name credential)) BadCredential r e in
     rw (sym (ok_same _ _ p.1)) (words, (named, p.0))
 
-plain_is : (ws : List (List ℕ)) (q r : Request) → ◌≡◌ {A = Result Request RequestFault} (Ok q) (Ok r) → Said ws q → Said ws r
+plain_is : (ws : List (List ℕ)) (q r : ControlRequest) → ◌≡◌ {A = Result ControlRequest RequestFault} (Ok q) (Ok r) → Said ws q → Said ws r
 plain_is ws q r e h = subst (Said ws) (ok_same q r e) h
 
-last_found : (ws : List (List ℕ)) (r : Request) → cond (is_command_with (codes "follow") (codes "alerts") ws) (Ok (Follow true)) (Err NoCommand) ≡ Ok r → Said ws r
+last_found : (ws : List (List ℕ)) (r : ControlRequest) → cond (is_command_with (codes "follow") (codes "alerts") ws) (Ok (Follow true)) (Err NoCommand) ≡ Ok r → Said ws r
 last_found ws r e =
     let p = granted (is_command_with (codes "follow") (codes "alerts") ws) (Ok (Follow true)) NoCommand r e in
     plain_is ws (Follow true) r p.1 (with_this (codes "follow") (codes "alerts") ws p.0, tt)
 
-plain_found : (ws : List (List ℕ)) (r : Request) → plain_of ws ≡ Ok r → Said ws r
+plain_found : (ws : List (List ℕ)) (r : ControlRequest) → plain_of ws ≡ Ok r → Said ws r
 unfolding plain_of
 plain_found ws r e =
     elim (branch (is_command (codes "add") 2 ws) _ _ r e) [
@@ -108,7 +108,7 @@ plain_found ws r e =
       ]
     ]
 
-pub command_found : (ws : List (List ℕ)) (r : Request) → command_of ws ≡ Ok r → Said ws r
+pub command_found : (ws : List (List ℕ)) (r : ControlRequest) → command_of ws ≡ Ok r → Said ws r
 unfolding command_of
 command_found ws r e =
     elim (branch (is_command (codes "need") 3 ws) _ _ r e) [
@@ -148,10 +148,10 @@ request_found line r e =
 
 -- ---- only
 
-named_is : (name : List ℕ) (answer : Result Request RequestFault) → is_name name ≡ true → if_named name answer ≡ answer
+named_is : (name : List ℕ) (answer : Result ControlRequest RequestFault) → is_name name ≡ true → if_named name answer ≡ answer
 named_is name answer h = cond-true (is_name name) _ _ h
 
-command_only : (r : Request) (ws : List (List ℕ)) → WordsAskFor r ws → IsControlRequest r → command_of ws ≡ Ok r
+command_only : (r : ControlRequest) (ws : List (List ℕ)) → WordsAskFor r ws → IsControlRequest r → command_of ws ≡ Ok r
 unfolding command_of plain_of is_command is_command_with
 command_only (Need name when) ws s is =
     rw s.2 (named_is name _ is.0 ∙ ap (need_request name) (when_only s.0 when s.1 is.1))
@@ -166,7 +166,7 @@ command_only (Follow false) ws s is = rw s refl
 command_only (Follow true) ws s is = rw s refl
 
 -- the words of a request are one at least
-some_words : (r : Request) (ws : List (List ℕ)) → WordsAskFor r ws → words_in_tree (tree_of_words ws) ≡ Some ws
+some_words : (r : ControlRequest) (ws : List (List ℕ)) → WordsAskFor r ws → words_in_tree (tree_of_words ws) ≡ Some ws
 some_words (Need name when) ws s = rw s.2 (words_back _ _)
 some_words (Replace name credential) ws s = rw s (words_back _ _)
 some_words (Add table) ws s = rw s (words_back _ _)

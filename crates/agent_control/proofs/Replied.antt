@@ -11,8 +11,8 @@ use Rattle.base_words.proofs.Joined.{joined_back, lacks_append, lacks_each}
 use Rattle.agent_control.specs.Laws.{ReplyFound, ReplyOnly, WhyIsLine}
 use Rattle.agent_control.specs.Replies.{IsControlReply, closed_lines, control_reply_text, lines_of_text, lines_text, refusal_of, refused_in, reply_if, reply_in_lines, reply_in_text, reply_lines, request_fault_text}
 use Rattle.agent_control.specs.declared.fault.RequestFault.TheVariants as faults
-use Rattle.agent_control.specs.declared.reply.Reply.{Reply}
-use Rattle.agent_control.specs.declared.reply.Reply.TheVariants.{Done, Refused}
+use Rattle.agent_control.specs.declared.reply.ControlReply.{ControlReply}
+use Rattle.agent_control.specs.declared.reply.ControlReply.TheVariants.{Done, Refused}
 use Rattle.agent_control.proofs.Chosen.{mapped, passed, some_same}
 
 -- ---- for the reader of lines
@@ -89,11 +89,11 @@ lines_only text lines e =
 
 -- ---- replies
 
-reply_lines_lack : (reply : Reply) → IsControlReply reply → AllLack 10 (reply_lines reply)
+reply_lines_lack : (reply : ControlReply) → IsControlReply reply → AllLack 10 (reply_lines reply)
 reply_lines_lack (Done lines) h = (refl, h)
 reply_lines_lack (Refused why more) h = (lacks_append 10 (codes "error: ") why refl h.0, h.1)
 
-lines_are_reply : (reply : Reply) → reply_in_lines (reply_lines reply) ≡ Some reply
+lines_are_reply : (reply : ControlReply) → reply_in_lines (reply_lines reply) ≡ Some reply
 unfolding refusal_of
 lines_are_reply (Done lines) = refl
 lines_are_reply (Refused why more) = refl
@@ -119,13 +119,13 @@ refusal_is line why e =
     let rest : drop 7 line ≡ why = some_same _ _ p.1 in
     sym (taken_apart 7 line) ∙ ap (λ l. l ++ drop 7 line) front ∙ ap (λ l. codes "error: " ++ l) rest
 
-refused_is : (line : List ℕ) (more : List (List ℕ)) (reply : Reply) → AllLack 10 (line ∷ more) → refused_in line more ≡ Some reply → IsControlReply reply × (line ∷ more ≡ reply_lines reply)
+refused_is : (line : List ℕ) (more : List (List ℕ)) (reply : ControlReply) → AllLack 10 (line ∷ more) → refused_in line more ≡ Some reply → IsControlReply reply × (line ∷ more ≡ reply_lines reply)
 refused_is line more reply h e =
     let m = mapped (λ why. Refused why more) (refusal_of line) reply e in
     let is = refusal_is line m.0 m.1 in
     rw m.2 ((append_lacks (codes "error: ") m.0 (subst (Lacks 10) is h.0), h.1), ap (λ l. l ∷ more) is)
 
-reply_is : (lines : List (List ℕ)) (reply : Reply) → AllLack 10 lines → reply_in_lines lines ≡ Some reply → IsControlReply reply × (lines ≡ reply_lines reply)
+reply_is : (lines : List (List ℕ)) (reply : ControlReply) → AllLack 10 lines → reply_in_lines lines ≡ Some reply → IsControlReply reply × (lines ≡ reply_lines reply)
 reply_is [] reply h e = cc
 reply_is (line ∷ lines) reply h e =
     elim (cases_Bool (bytes_eq line (codes "ok"))) [
@@ -135,7 +135,7 @@ reply_is (line ∷ lines) reply h e =
       | inr fails ↦ refused_is line lines reply h (sym (cond-false (bytes_eq line (codes "ok")) _ _ fails) ∙ e)
     ]
 
-lines_there : (o : Option (List (List ℕ))) (reply : Reply) → reply_if o ≡ Some reply → (lines : List (List ℕ)) × (o ≡ Some lines) × (reply_in_lines lines ≡ Some reply)
+lines_there : (o : Option (List (List ℕ))) (reply : ControlReply) → reply_if o ≡ Some reply → (lines : List (List ℕ)) × (o ≡ Some lines) × (reply_in_lines lines ≡ Some reply)
 lines_there None reply e = cc
 lines_there (Some lines) reply e = (lines, refl, e)
 

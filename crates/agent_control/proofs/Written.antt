@@ -21,8 +21,8 @@ use Rattle.agent_control.specs.When.{IsWhen, when_word}
 use Rattle.agent_control.specs.Words.{tree_of_words}
 use Rattle.agent_control.specs.declared.fault.RequestFault.TheVariants.{TooLong, NotWords}
 use Rattle.agent_control.specs.declared.limits.TheConstants.{LINE_MAX}
-use Rattle.agent_control.specs.declared.request.Request.{Request}
-use Rattle.agent_control.specs.declared.request.Request.TheVariants as asks
+use Rattle.agent_control.specs.declared.request.ControlRequest.{ControlRequest}
+use Rattle.agent_control.specs.declared.request.ControlRequest.TheVariants as asks
 use Rattle.agent_control.specs.declared.when.When.{When}
 use Rattle.agent_control.specs.declared.when.When.TheVariants.{Fixed, FromNow}
 use Rattle.agent_control.proofs.Chosen.{granted, ok_same, refused, then_ok}
@@ -67,7 +67,7 @@ when_utf8 (FromNow n) few = IsUtf8-append (43 ∷ []) (decimal n) (IsUtf8-are_as
 
 -- ---- the words
 
-says_it : (r : Request) → IsControlRequest r → WordsAskFor r (words_for r)
+says_it : (r : ControlRequest) → IsControlRequest r → WordsAskFor r (words_for r)
 says_it (asks.Need name when) is = (when_word when, when_says when is.1, refl)
 says_it (asks.Replace name credential) is = refl
 says_it (asks.Add table) is = refl
@@ -79,7 +79,7 @@ says_it asks.Reload is = refl
 says_it (asks.Follow false) is = refl
 says_it (asks.Follow true) is = refl
 
-all_utf8 : (r : Request) → IsControlRequest r → is_request_text r ≡ true → AllUtf8 (words_for r)
+all_utf8 : (r : ControlRequest) → IsControlRequest r → is_request_text r ≡ true → AllUtf8 (words_for r)
 all_utf8 (asks.Need name when) is text = (IsUtf8-are_ascii _ refl, (IsUtf8-from_is_utf8 name text, (when_utf8 when is.1, tt)))
 all_utf8 (asks.Replace name credential) is text =
     let p = and_parts (is_utf8 name) (is_utf8 credential) text in
@@ -101,7 +101,7 @@ ended_is line text e =
     let p = refused (nat_lt LINE_MAX (length line)) (Ok (line ++ 10 ∷ [])) TooLong text e in
     (ltb-false _ _ p.0, sym (ok_same _ _ p.1))
 
-line_is : (r : Request) (line : List ℕ) → line_for r ≡ Ok line → (is_request_text r ≡ true) × (line ≡ compact_text (tree_of_words (words_for r)))
+line_is : (r : ControlRequest) (line : List ℕ) → line_for r ≡ Ok line → (is_request_text r ≡ true) × (line ≡ compact_text (tree_of_words (words_for r)))
 unfolding line_for tree_for
 line_is r line e =
     let t = then_ok (tree_for r) (λ d. Ok (compact_text d)) line e in

@@ -14,10 +14,10 @@ use Rattle.agent_control.specs.Words.{tree_of_words}
 use Rattle.agent_control.specs.declared.limits.TheConstants.{LINE_MAX}
 use Rattle.agent_control.specs.declared.fault.RequestFault.{RequestFault}
 use Rattle.agent_control.specs.declared.front.Front.TheVariants.{Whole}
-use Rattle.agent_control.specs.declared.reply.Reply.{Reply}
-use Rattle.agent_control.specs.declared.reply.Reply.TheVariants as replies
-use Rattle.agent_control.specs.declared.request.Request.{Request}
-use Rattle.agent_control.specs.declared.request.Request.TheVariants as asks
+use Rattle.agent_control.specs.declared.reply.ControlReply.{ControlReply}
+use Rattle.agent_control.specs.declared.reply.ControlReply.TheVariants as replies
+use Rattle.agent_control.specs.declared.request.ControlRequest.{ControlRequest}
+use Rattle.agent_control.specs.declared.request.ControlRequest.TheVariants as asks
 use Rattle.agent_control.specs.declared.when.When.{When}
 use Rattle.agent_control.specs.declared.when.When.TheVariants.{Fixed, FromNow}
 
@@ -53,7 +53,7 @@ SaysWhen (Fixed need) word = SaysNeed need word
 SaysWhen (FromNow n) word = IsSpan word n
 
 -- these words ask for it
-abbrev pub WordsAskFor : Request → List (List ℕ) → Type 0
+abbrev pub WordsAskFor : ControlRequest → List (List ℕ) → Type 0
 WordsAskFor (asks.Need name when) ws = (word : List ℕ) × SaysWhen when word × (ws ≡ codes "need" ∷ name ∷ word ∷ [])
 WordsAskFor (asks.Replace name credential) ws = ws ≡ codes "replace" ∷ name ∷ credential ∷ []
 WordsAskFor (asks.Add table) ws = ws ≡ codes "add" ∷ table ∷ []
@@ -66,7 +66,7 @@ WordsAskFor (asks.Follow false) ws = ws ≡ codes "follow" ∷ []
 WordsAskFor (asks.Follow true) ws = ws ≡ codes "follow" ∷ codes "alerts" ∷ []
 
 -- the line asks for it: it is JSON of an array of words that do
-pub record LineAsks (line : List ℕ) (r : Request) : Type 0 where
+pub record LineAsks (line : List ℕ) (r : ControlRequest) : Type 0 where
   pub short : length line ≤ LINE_MAX
   pub is_request : IsControlRequest r
   pub words : List (List ℕ)
@@ -77,26 +77,26 @@ pub record LineAsks (line : List ℕ) (r : Request) : Type 0 where
 
 -- what is read of a line is what it asks for
 abbrev pub RequestFound : Type 0
-RequestFound = (line : List ℕ) (r : Request) → request_in_line line ≡ Ok r → LineAsks line r
+RequestFound = (line : List ℕ) (r : ControlRequest) → request_in_line line ≡ Ok r → LineAsks line r
 
 -- and a line that asks for something is read so
 abbrev pub RequestOnly : Type 0
-RequestOnly = (line : List ℕ) (r : Request) → LineAsks line r → request_in_line line ≡ Ok r
+RequestOnly = (line : List ℕ) (r : ControlRequest) → LineAsks line r → request_in_line line ≡ Ok r
 
 -- what is written is one line and a line feed, whatever follows, and is read as the same request
 abbrev pub RequestWrittenIsRead : Type 0
-RequestWrittenIsRead = (r : Request) (text more : List ℕ) → IsControlRequest r → request_line_text r ≡ Ok text
+RequestWrittenIsRead = (r : ControlRequest) (text more : List ℕ) → IsControlRequest r → request_line_text r ≡ Ok text
     → (line : List ℕ) × (text ≡ line ++ 10 ∷ []) × IsLineFront (text ++ more) (Whole (length line)) × (request_in_line line ≡ Ok r)
 
 -- ---- replies
 
 -- the text of a reply is read as that reply
 abbrev pub ReplyFound : Type 0
-ReplyFound = (reply : Reply) → IsControlReply reply → reply_in_text (control_reply_text reply) ≡ Some reply
+ReplyFound = (reply : ControlReply) → IsControlReply reply → reply_in_text (control_reply_text reply) ≡ Some reply
 
 -- and no other text is
 abbrev pub ReplyOnly : Type 0
-ReplyOnly = (text : List ℕ) (reply : Reply) → reply_in_text text ≡ Some reply → IsControlReply reply × (text ≡ control_reply_text reply)
+ReplyOnly = (text : List ℕ) (reply : ControlReply) → reply_in_text text ≡ Some reply → IsControlReply reply × (text ≡ control_reply_text reply)
 
 -- a refused request is answered in one line
 abbrev pub WhyIsLine : Type 0

@@ -5,8 +5,8 @@ use Rattle.base_words.specs.Laws.{AllLack, Lacks}
 use Rattle.base_words.specs.Pieces.{pieces}
 use Rattle.agent_control.specs.declared.fault.RequestFault.{RequestFault}
 use Rattle.agent_control.specs.declared.fault.RequestFault.TheVariants.{TooLong, NotWords, NoCommand, BadName, BadWhen, BadCredential, OutOfMemory}
-use Rattle.agent_control.specs.declared.reply.Reply.{Reply}
-use Rattle.agent_control.specs.declared.reply.Reply.TheVariants.{Done, Refused}
+use Rattle.agent_control.specs.declared.reply.ControlReply.{ControlReply}
+use Rattle.agent_control.specs.declared.reply.ControlReply.TheVariants.{Done, Refused}
 
 -- ---- as it is written
 
@@ -15,11 +15,11 @@ abbrev pub lines_text : List (List ℕ) → List ℕ
 lines_text [] = []
 lines_text (line ∷ lines) = line ++ 10 ∷ lines_text lines
 
-abbrev pub reply_lines : Reply → List (List ℕ)
+abbrev pub reply_lines : ControlReply → List (List ℕ)
 reply_lines (Done lines) = codes "ok" ∷ lines
 reply_lines (Refused why more) = (codes "error: " ++ why) ∷ more
 
-unfoldable pub control_reply_text : Reply → List ℕ
+unfoldable pub control_reply_text : ControlReply → List ℕ
 control_reply_text reply = lines_text (reply_lines reply)
 
 -- ---- as it is read
@@ -39,25 +39,25 @@ unfoldable pub refusal_of : List ℕ → Option (List ℕ)
 refusal_of line = if bytes_eq (take 7 line) (codes "error: ") then Some (drop 7 line) else None
 
 -- the lines after it are further reasons
-abbrev pub refused_in : List ℕ → List (List ℕ) → Option Reply
+abbrev pub refused_in : List ℕ → List (List ℕ) → Option ControlReply
 refused_in line more = option_map (λ why. Refused why more) (refusal_of line)
 
-abbrev pub reply_in_lines : List (List ℕ) → Option Reply
+abbrev pub reply_in_lines : List (List ℕ) → Option ControlReply
 reply_in_lines [] = None
 reply_in_lines (line ∷ lines) = if bytes_eq line (codes "ok") then Some (Done lines) else refused_in line lines
 
-abbrev pub reply_if : Option (List (List ℕ)) → Option Reply
+abbrev pub reply_if : Option (List (List ℕ)) → Option ControlReply
 reply_if None = None
 reply_if (Some lines) = reply_in_lines lines
 
 -- the reply that the bytes are which came before the connection was closed
-unfoldable pub reply_in_text : List ℕ → Option Reply
+unfoldable pub reply_in_text : List ℕ → Option ControlReply
 reply_in_text text = reply_if (lines_of_text text)
 
 -- ---- which there are
 
 -- each line is one line
-abbrev pub IsControlReply : Reply → Type 0
+abbrev pub IsControlReply : ControlReply → Type 0
 IsControlReply (Done lines) = AllLack 10 lines
 IsControlReply (Refused why more) = Lacks 10 why × AllLack 10 more
 

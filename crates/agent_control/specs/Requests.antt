@@ -12,8 +12,8 @@ use Rattle.agent_control.specs.Words.{texted, word_at, words_of}
 use Rattle.agent_control.specs.declared.limits.TheConstants.{LINE_MAX}
 use Rattle.agent_control.specs.declared.fault.RequestFault.{RequestFault}
 use Rattle.agent_control.specs.declared.fault.RequestFault.TheVariants.{TooLong, NoCommand, BadName, BadWhen, BadCredential}
-use Rattle.agent_control.specs.declared.request.Request.{Request}
-use Rattle.agent_control.specs.declared.request.Request.TheVariants.{Need, Replace, Add, Drop, Status, Health, Settle, Reload, Follow}
+use Rattle.agent_control.specs.declared.request.ControlRequest.{ControlRequest}
+use Rattle.agent_control.specs.declared.request.ControlRequest.TheVariants.{Need, Replace, Add, Drop, Status, Health, Settle, Reload, Follow}
 use Rattle.agent_control.specs.declared.when.When.{When}
 
 -- ---- as it is read
@@ -26,18 +26,18 @@ is_command word count ws = bytes_eq (word_at ws 0) word && (length ws == count)
 unfoldable pub is_command_with : List ℕ → List ℕ → List (List ℕ) → Bool
 is_command_with word more ws = is_command word 2 ws && bytes_eq (word_at ws 1) more
 
-abbrev pub need_request : List ℕ → Option When → Result Request RequestFault
+abbrev pub need_request : List ℕ → Option When → Result ControlRequest RequestFault
 need_request name None = Err BadWhen
 need_request name (Some when) = Ok (Need name when)
 
-abbrev pub replace_of : List ℕ → List ℕ → Result Request RequestFault
+abbrev pub replace_of : List ℕ → List ℕ → Result ControlRequest RequestFault
 replace_of name credential = if is_credential credential then Ok (Replace name credential) else Err BadCredential
 
-abbrev pub if_named : List ℕ → Result Request RequestFault → Result Request RequestFault
+abbrev pub if_named : List ℕ → Result ControlRequest RequestFault → Result ControlRequest RequestFault
 if_named name answer = if is_name name then answer else Err BadName
 
 -- what the words of a command without a name ask for
-unfoldable pub plain_of : List (List ℕ) → Result Request RequestFault
+unfoldable pub plain_of : List (List ℕ) → Result ControlRequest RequestFault
 plain_of ws =
     if is_command (codes "add") 2 ws then Ok (Add (word_at ws 1))
     else (if is_command (codes "status") 1 ws then Ok Status
@@ -49,7 +49,7 @@ plain_of ws =
     else Err NoCommand))))))
 
 -- what words ask for, or the first reason why they ask for nothing
-unfoldable pub command_of : List (List ℕ) → Result Request RequestFault
+unfoldable pub command_of : List (List ℕ) → Result ControlRequest RequestFault
 command_of ws =
     if is_command (codes "need") 3 ws then if_named (word_at ws 1) (need_request (word_at ws 1) (when_of (word_at ws 2)))
     else (if is_command (codes "replace") 3 ws then if_named (word_at ws 1) (replace_of (word_at ws 1) (word_at ws 2))
@@ -57,11 +57,11 @@ command_of ws =
     else plain_of ws))
 
 -- what a line of any length asks for
-unfoldable pub asked_by_line : List ℕ → Result Request RequestFault
+unfoldable pub asked_by_line : List ℕ → Result ControlRequest RequestFault
 asked_by_line line = words_of line >>= command_of
 
 -- what a line asks for, which is without its line feed
-unfoldable pub request_in_line : List ℕ → Result Request RequestFault
+unfoldable pub request_in_line : List ℕ → Result ControlRequest RequestFault
 request_in_line line = if nat_lt LINE_MAX (length line) then Err TooLong else asked_by_line line
 
 -- ---- as it is written
@@ -70,7 +70,7 @@ abbrev pub follow_words : Bool → List (List ℕ)
 follow_words false = codes "follow" ∷ []
 follow_words true = codes "follow" ∷ codes "alerts" ∷ []
 
-abbrev pub words_for : Request → List (List ℕ)
+abbrev pub words_for : ControlRequest → List (List ℕ)
 words_for (Need name when) = codes "need" ∷ name ∷ when_word when ∷ []
 words_for (Replace name credential) = codes "replace" ∷ name ∷ credential ∷ []
 words_for (Add table) = codes "add" ∷ table ∷ []
@@ -82,7 +82,7 @@ words_for Reload = codes "reload" ∷ []
 words_for (Follow alerts) = follow_words alerts
 
 -- what it holds is text, which JSON can write
-abbrev pub is_request_text : Request → Bool
+abbrev pub is_request_text : ControlRequest → Bool
 is_request_text (Need name when) = is_utf8 name
 is_request_text (Replace name credential) = is_utf8 name && is_utf8 credential
 is_request_text (Add table) = is_utf8 table
@@ -90,10 +90,10 @@ is_request_text (Drop name) = is_utf8 name
 is_request_text _ = true
 
 -- the array of its words
-unfoldable pub tree_for : Request → Result Data RequestFault
+unfoldable pub tree_for : ControlRequest → Result Data RequestFault
 tree_for r = texted (is_request_text r) (words_for r)
 
-unfoldable pub line_for : Request → Result (List ℕ) RequestFault
+unfoldable pub line_for : ControlRequest → Result (List ℕ) RequestFault
 line_for r = tree_for r >>= (λ d. Ok (compact_text d))
 
 -- a line with its line feed, where it is not too long
@@ -101,13 +101,13 @@ unfoldable pub ended : List ℕ → Result (List ℕ) RequestFault
 ended line = if nat_lt LINE_MAX (length line) then Err TooLong else Ok (line ++ 10 ∷ [])
 
 -- the line that asks for it, with its line feed, or why there is none
-unfoldable pub request_line_text : Request → Result (List ℕ) RequestFault
+unfoldable pub request_line_text : ControlRequest → Result (List ℕ) RequestFault
 request_line_text r = line_for r >>= ended
 
 -- ---- which there are
 
 -- a request that a client may make
-abbrev pub IsControlRequest : Request → Type 0
+abbrev pub IsControlRequest : ControlRequest → Type 0
 IsControlRequest (Need name when) = (is_name name ≡ true) × IsWhen when
 IsControlRequest (Replace name credential) = (is_name name ≡ true) × (is_credential credential ≡ true)
 IsControlRequest (Add table) = Unit {0}

@@ -26,8 +26,8 @@ pub use laws::{
 };
 pub use limits::LINE_MAX;
 pub use reader::read_request;
-pub use reply::{Lines, Reply, write_reply};
+pub use reply::{Lines, ControlReply, write_reply};
 pub use reply_reader::read_reply;
-pub use request::Request;
+pub use request::ControlRequest;
 pub use when::{When, read_when};
 pub use writer::write_request;

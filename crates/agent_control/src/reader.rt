@@ -7,12 +7,12 @@ ghost use Rattle.agent_control.specs.Answer.{GivesOrRequestFault};
 ghost use Rattle.agent_control.specs.Requests.{asked_by_line, command_of, if_named, need_request, plain_of, replace_of, request_in_line};
 ghost use Rattle.agent_control.specs.When.{when_of};
 ghost use Rattle.agent_control.specs.declared.fault.RequestFault.TheVariants as faults;
-ghost use Rattle.agent_control.specs.declared.request.Request.TheVariants.{Drop};
+ghost use Rattle.agent_control.specs.declared.request.ControlRequest.TheVariants.{Drop};
 ghost use Rattle.agent_control.specs.declared.limits.TheConstants.{LINE_MAX};
 
 use crate::fault::RequestFault;
 use crate::limits::LINE_MAX;
-use crate::request::Request;
+use crate::request::ControlRequest;
 use crate::when::read_when;
 use crate::words::Words;
 use base_moment::{Name, Text};
@@ -27,7 +27,7 @@ use vault_inventory::CREDENTIAL_MAX;
 /// The first fault in the order of [`RequestFault`], or out of memory. A line that is too long is refused before any memory is
 /// asked for.
 #[tactic(auto, unfolding(crate::specs::Requests::request_in_line))]
-pub fn read_request(alloc: Global, line: &[u8]) -> Result<Request, RequestFault>
+pub fn read_request(alloc: Global, line: &[u8]) -> Result<ControlRequest, RequestFault>
     ensures request { GivesOrRequestFault (λ request. request) result (request_in_line line.now) }
     ensures too_long { LINE_MAX < length line.now → result ≡ Err faults.TooLong }
 {
@@ -39,7 +39,7 @@ pub fn read_request(alloc: Global, line: &[u8]) -> Result<Request, RequestFault>
 
 // What a line asks for that is not too long.
 #[tactic(auto, unfolding(crate::specs::Requests::asked_by_line))]
-fn asked(alloc: Global, line: &[u8]) -> Result<Request, RequestFault>
+fn asked(alloc: Global, line: &[u8]) -> Result<ControlRequest, RequestFault>
     ensures { GivesOrRequestFault (λ request. request) result (asked_by_line line.now) }
 {
     let words = Words::read(alloc, line)?;
@@ -48,7 +48,7 @@ fn asked(alloc: Global, line: &[u8]) -> Result<Request, RequestFault>
 
 // What words ask for.
 #[tactic(auto, unfolding(crate::specs::Requests::command_of))]
-fn command(alloc: Global, words: &Words) -> Result<Request, RequestFault>
+fn command(alloc: Global, words: &Words) -> Result<ControlRequest, RequestFault>
     ensures { GivesOrRequestFault (λ request. request) result (command_of words.now) }
 {
     if words.are("need", 3) {
@@ -64,32 +64,32 @@ fn command(alloc: Global, words: &Words) -> Result<Request, RequestFault>
 
 // What the words of a command without a name ask for.
 #[tactic(auto, unfolding(crate::specs::Requests::plain_of))]
-fn plain(alloc: Global, words: &Words) -> Result<Request, RequestFault>
+fn plain(alloc: Global, words: &Words) -> Result<ControlRequest, RequestFault>
     ensures { GivesOrRequestFault (λ request. request) result (plain_of words.now) }
 {
     if words.are("add", 2) {
         let table = Text::of(alloc, words.at(1).as_bytes())?;
-        return Ok(Request::Add { table });
+        return Ok(ControlRequest::Add { table });
     }
     if words.are("status", 1) {
-        Ok(Request::Status)
+        Ok(ControlRequest::Status)
     } else if words.are("health", 1) {
-        Ok(Request::Health)
+        Ok(ControlRequest::Health)
     } else if words.are("settle", 1) {
-        Ok(Request::Settle)
+        Ok(ControlRequest::Settle)
     } else if words.are("reload", 1) {
-        Ok(Request::Reload)
+        Ok(ControlRequest::Reload)
     } else if words.are("follow", 1) {
-        Ok(Request::Follow { alerts: false })
+        Ok(ControlRequest::Follow { alerts: false })
     } else if words.are_two("follow", "alerts") {
-        Ok(Request::Follow { alerts: true })
+        Ok(ControlRequest::Follow { alerts: true })
     } else {
         Err(RequestFault::NoCommand)
     }
 }
 
 // A need of the entry of that name.
-fn need(alloc: Global, name: &str, when: &str) -> Result<Request, RequestFault>
+fn need(alloc: Global, name: &str, when: &str) -> Result<ControlRequest, RequestFault>
     ensures { GivesOrRequestFault (λ request. request) result (if_named name.now (need_request name.now (when_of when.now))) }
 {
     if !is_name(name.as_bytes()) {
@@ -99,11 +99,11 @@ fn need(alloc: Global, name: &str, when: &str) -> Result<Request, RequestFault>
         return Err(RequestFault::BadWhen);
     };
     let name = Name::of(alloc, name.as_bytes())?;
-    Ok(Request::Need { name, when })
+    Ok(ControlRequest::Need { name, when })
 }
 
 // Another credential of the entry of that name.
-fn replace(alloc: Global, name: &str, credential: &str) -> Result<Request, RequestFault>
+fn replace(alloc: Global, name: &str, credential: &str) -> Result<ControlRequest, RequestFault>
     ensures { GivesOrRequestFault (λ request. request) result (if_named name.now (replace_of name.now credential.now)) }
 {
     if !is_name(name.as_bytes()) {
@@ -114,18 +114,18 @@ fn replace(alloc: Global, name: &str, credential: &str) -> Result<Request, Reque
     }
     let name = Name::of(alloc, name.as_bytes())?;
     let credential = Text::of(alloc, credential.as_bytes())?;
-    Ok(Request::Replace { name, credential })
+    Ok(ControlRequest::Replace { name, credential })
 }
 
 // That the entry of that name is to be kept no more.
-fn dropped(alloc: Global, name: &str) -> Result<Request, RequestFault>
+fn dropped(alloc: Global, name: &str) -> Result<ControlRequest, RequestFault>
     ensures { GivesOrRequestFault (λ request. request) result (if_named name.now (Ok (Drop name.now))) }
 {
     if !is_name(name.as_bytes()) {
         return Err(RequestFault::BadName);
     }
     let name = Name::of(alloc, name.as_bytes())?;
-    Ok(Request::Drop { name })
+    Ok(ControlRequest::Drop { name })
 }
 
 // Whether these bytes are a name: 1 to 64 ASCII letters, digits, `-`, `_`, `.` or `/`.

@@ -37,7 +37,7 @@ impl Lines {
 
 /// What answers a request.
 #[derive(Debug, Drop)]
-pub enum Reply {
+pub enum ControlReply {
     /// It was done; these lines tell more.
     Done(Lines),
     /// It was not, for this reason, in one line; these lines give further reasons.
@@ -48,7 +48,7 @@ pub enum Reply {
 ///
 /// The only error is out of memory.
 #[tactic(auto, unfolding(crate::specs::Replies::control_reply_text))]
-pub fn write_reply(alloc: Global, reply: &Reply) -> Result<Text, AllocError>
+pub fn write_reply(alloc: Global, reply: &ControlReply) -> Result<Text, AllocError>
     ensures { IfOk result (λ text. text ≡ control_reply_text reply.now) }
 {
     let mut text = Vec::new(alloc);
@@ -57,15 +57,15 @@ pub fn write_reply(alloc: Global, reply: &Reply) -> Result<Text, AllocError>
 }
 
 // Appends the lines of a reply.
-fn push_reply(reply: &Reply, text: &mut Vec<u8>) -> Result<(), AllocError>
+fn push_reply(reply: &ControlReply, text: &mut Vec<u8>) -> Result<(), AllocError>
     ensures { OnOk result (text.new.items ≡ text.old.items ++ lines_text (reply_lines reply.now)) }
 {
     match reply {
-        Reply::Done(lines) => {
+        ControlReply::Done(lines) => {
             push_line(b"ok", text)?;
             push_lines(lines.list(), text)
         }
-        Reply::Refused(why, more) => {
+        ControlReply::Refused(why, more) => {
             text.extend_from_slice(b"error: ")?;
             push_line(why.list(), text)?;
             push_lines(more.list(), text)

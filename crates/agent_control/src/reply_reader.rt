@@ -1,7 +1,7 @@
 ghost use Rattle.std.specs.Prelude.{◌≡◌, IfOk, Some, option_map};
 ghost use Rattle.agent_control.specs.Replies.{lines_of_text, refusal_of, refused_in, reply_in_lines, reply_in_text};
 
-use crate::reply::{Lines, Reply};
+use crate::reply::{Lines, ControlReply};
 use base_moment::Text;
 use base_words::cut;
 use std::alloc::{AllocError, Global};
@@ -11,7 +11,7 @@ use std::alloc::{AllocError, Global};
 ///
 /// The only error is out of memory.
 #[tactic(auto, unfolding(crate::specs::Replies::reply_in_text))]
-pub fn read_reply(alloc: Global, bytes: &[u8]) -> Result<Option<Reply>, AllocError>
+pub fn read_reply(alloc: Global, bytes: &[u8]) -> Result<Option<ControlReply>, AllocError>
     ensures { IfOk result (λ reply. reply ≡ reply_in_text bytes.now) }
 {
     match lines(alloc, bytes)? {
@@ -21,7 +21,7 @@ pub fn read_reply(alloc: Global, bytes: &[u8]) -> Result<Option<Reply>, AllocErr
 }
 
 // The reply that lines are.
-fn said(alloc: Global, mut lines: Vec<Text>) -> Result<Option<Reply>, AllocError>
+fn said(alloc: Global, mut lines: Vec<Text>) -> Result<Option<ControlReply>, AllocError>
     ensures { IfOk result (λ reply. reply ≡ reply_in_lines lines.items) }
 {
     if lines.is_empty() {
@@ -29,18 +29,18 @@ fn said(alloc: Global, mut lines: Vec<Text>) -> Result<Option<Reply>, AllocError
     }
     let first = lines.remove(0);
     if first.list() == b"ok".as_slice() {
-        return Ok(Some(Reply::Done(Lines::of(lines))));
+        return Ok(Some(ControlReply::Done(Lines::of(lines))));
     }
     refused(alloc, first.list(), Lines::of(lines))
 }
 
 // The refusal that a line is, with the lines after it.
-fn refused(alloc: Global, line: &[u8], more: Lines) -> Result<Option<Reply>, AllocError>
+fn refused(alloc: Global, line: &[u8], more: Lines) -> Result<Option<ControlReply>, AllocError>
     ensures { IfOk result (λ reply. reply ≡ refused_in line.now more) }
 {
     match refusal(line) {
         None => Ok(None),
-        Some(why) => Ok(Some(Reply::Refused(Text::of(alloc, why)?, more))),
+        Some(why) => Ok(Some(ControlReply::Refused(Text::of(alloc, why)?, more))),
     }
 }
 

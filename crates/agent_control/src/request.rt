@@ -4,7 +4,7 @@ use std::fmt;
 
 /// What a client asks of a running agent.
 #[derive(PartialEq, Eq, Drop)]
-pub enum Request {
+pub enum ControlRequest {
     /// The entry is needed until then from now on.
     Need {
         /// The name of the entry.
@@ -44,26 +44,26 @@ pub enum Request {
     },
 }
 
-impl fmt::Debug for Request {
+impl fmt::Debug for ControlRequest {
     /// Shows what is asked for, without a credential and without a table.
     fn fmt<W: fmt::Write>(&self, f: &mut fmt::Formatter<W>) -> fmt::Result {
         match self {
-            Request::Need { name, when } => f
+            ControlRequest::Need { name, when } => f
                 .debug_struct("Need")
                 .field("name", name)
                 .field("when", when)
                 .finish(),
-            Request::Replace { name, .. } => f
+            ControlRequest::Replace { name, .. } => f
                 .debug_struct("Replace")
                 .field("name", name)
                 .finish_non_exhaustive(),
-            Request::Add { .. } => f.write_str("Add(..)"),
-            Request::Drop { name } => f.debug_struct("Drop").field("name", name).finish(),
-            Request::Status => f.write_str("Status"),
-            Request::Health => f.write_str("Health"),
-            Request::Settle => f.write_str("Settle"),
-            Request::Reload => f.write_str("Reload"),
-            Request::Follow { alerts } => f.debug_struct("Follow").field("alerts", alerts).finish(),
+            ControlRequest::Add { .. } => f.write_str("Add(..)"),
+            ControlRequest::Drop { name } => f.debug_struct("Drop").field("name", name).finish(),
+            ControlRequest::Status => f.write_str("Status"),
+            ControlRequest::Health => f.write_str("Health"),
+            ControlRequest::Settle => f.write_str("Settle"),
+            ControlRequest::Reload => f.write_str("Reload"),
+            ControlRequest::Follow { alerts } => f.debug_struct("Follow").field("alerts", alerts).finish(),
         }
     }
 }

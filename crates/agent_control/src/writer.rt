@@ -10,7 +10,7 @@ ghost use Rattle.vault_inventory.specs.Needs.{need_word};
 
 use crate::fault::RequestFault;
 use crate::limits::LINE_MAX;
-use crate::request::Request;
+use crate::request::ControlRequest;
 use crate::when::When;
 use base_moment::Text;
 use serde_json::{Value, json};
@@ -23,7 +23,7 @@ use vault_inventory::Need;
 ///
 /// `NotWords` where a text of it is not UTF-8, `TooLong`, or out of memory.
 #[tactic(auto, unfolding(crate::specs::Requests::request_line_text))]
-pub fn write_request(alloc: Global, request: &Request) -> Result<Text, RequestFault>
+pub fn write_request(alloc: Global, request: &ControlRequest) -> Result<Text, RequestFault>
     ensures { GivesOrRequestFault (λ text. text) result (request_line_text request.now) }
 {
     ended(line_for(alloc, request)?)
@@ -43,7 +43,7 @@ fn ended(mut line: Vec<u8>) -> Result<Text, RequestFault>
 
 // The line that asks for it.
 #[tactic(auto, unfolding(crate::specs::Requests::line_for))]
-fn line_for(alloc: Global, request: &Request) -> Result<Vec<u8>, RequestFault>
+fn line_for(alloc: Global, request: &ControlRequest) -> Result<Vec<u8>, RequestFault>
     ensures { GivesOrRequestFault (λ line. line.items) result (line_for request.now) }
 {
     let tree = tree_for(alloc, request)?;
@@ -52,24 +52,24 @@ fn line_for(alloc: Global, request: &Request) -> Result<Vec<u8>, RequestFault>
 
 // The array of its words.
 #[tactic(auto, unfolding(crate::specs::Requests::tree_for))]
-fn tree_for(alloc: Global, request: &Request) -> Result<Value, RequestFault>
+fn tree_for(alloc: Global, request: &ControlRequest) -> Result<Value, RequestFault>
     ensures { GivesOrRequestFault (λ v. view v) result (tree_for request.now) }
 {
     match request {
-        Request::Need { name, when } => need_tree(alloc, name.list(), *when),
-        Request::Replace { name, credential } => replace_tree(
+        ControlRequest::Need { name, when } => need_tree(alloc, name.list(), *when),
+        ControlRequest::Replace { name, credential } => replace_tree(
             alloc,
             name.list(),
             credential.list(),
         ),
-        Request::Add { table } => two(alloc, "add", table.list()),
-        Request::Drop { name } => two(alloc, "drop", name.list()),
-        Request::Status => Ok(one(alloc, "status")?),
-        Request::Health => Ok(one(alloc, "health")?),
-        Request::Settle => Ok(one(alloc, "settle")?),
-        Request::Reload => Ok(one(alloc, "reload")?),
-        Request::Follow { alerts: false } => Ok(one(alloc, "follow")?),
-        Request::Follow { alerts: true } => Ok(pair(alloc, "follow", "alerts")?),
+        ControlRequest::Add { table } => two(alloc, "add", table.list()),
+        ControlRequest::Drop { name } => two(alloc, "drop", name.list()),
+        ControlRequest::Status => Ok(one(alloc, "status")?),
+        ControlRequest::Health => Ok(one(alloc, "health")?),
+        ControlRequest::Settle => Ok(one(alloc, "settle")?),
+        ControlRequest::Reload => Ok(one(alloc, "reload")?),
+        ControlRequest::Follow { alerts: false } => Ok(one(alloc, "follow")?),
+        ControlRequest::Follow { alerts: true } => Ok(pair(alloc, "follow", "alerts")?),
     }
 }
 

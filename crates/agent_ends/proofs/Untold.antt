@@ -7,12 +7,12 @@ use Rattle.std.specs.Prelude.{slice_set}
 use Rattle.plan_forest.specs.declared.entry.Entry.{Entry}
 use Rattle.plan_forest.specs.Forest.{entry_at, no_entry}
 use Rattle.vault_inventory.specs.Inventories.{Inventory, credential_at, inventory_with_need}
-use Rattle.watch_machine.specs.declared.event.Event.{Event}
-use Rattle.watch_machine.specs.declared.event.Event.TheVariants.{Clock, Looked, Renewed, Need, Begin, Known}
-use Rattle.watch_machine.specs.declared.event.Reply.TheVariants.{Told, Refused, Busy, Lost}
+use Rattle.watch_machine.specs.declared.event.WatchEvent.{WatchEvent}
+use Rattle.watch_machine.specs.declared.event.WatchEvent.TheVariants.{Clock, Looked, Renewed, Need, Begin, Known}
+use Rattle.watch_machine.specs.declared.event.WatchReply.TheVariants.{Told, Refused, Busy, Lost}
 use Rattle.watch_machine.specs.State.{WatchState}
 use Rattle.agent_standing.specs.declared.ends.KnownEnd.{KnownEnd}
-use Rattle.agent_standing.specs.declared.standing.Standing.{Standing}
+use Rattle.agent_standing.specs.declared.standing.EntryStanding.{EntryStanding}
 use Rattle.agent_standing.specs.declared.standing.Told as told
 use Rattle.agent_standing.specs.Agent.{Agent}
 use Rattle.agent_standing.specs.Standings.{fresh_standing, standing_in, standings_after}
@@ -29,10 +29,10 @@ set_same f d (x ∷ xs) _ y made _ = refl
 
 -- ---- what was told of each entry
 
-set_told : (xs : List Standing) (j : ℕ) (y : Standing) → y.told ≡ (standing_in xs j).told → (i : ℕ) → (standing_in (slice_set xs j y) i).told ≡ (standing_in xs i).told
-set_told xs = set_same (λ (x : Standing). x.told) fresh_standing xs
+set_told : (xs : List EntryStanding) (j : ℕ) (y : EntryStanding) → y.told ≡ (standing_in xs j).told → (i : ℕ) → (standing_in (slice_set xs j y) i).told ≡ (standing_in xs i).told
+set_told xs = set_same (λ (x : EntryStanding). x.told) fresh_standing xs
 
-told_same : (m : WatchState) (event : Event) (xs : List Standing) → tells_end event ≡ false → (i : ℕ) → (standing_in (standings_after m event xs) i).told ≡ (standing_in xs i).told
+told_same : (m : WatchState) (event : WatchEvent) (xs : List EntryStanding) → tells_end event ≡ false → (i : ℕ) → (standing_in (standings_after m event xs) i).told ≡ (standing_in xs i).told
 told_same m (Looked j (Told seconds renewable date) terms) xs quiet i = cc
 told_same m (Looked j (Refused status date) terms) xs quiet i = set_told xs j _ refl i
 told_same m (Looked j Busy terms) xs quiet i = set_told xs j _ refl i
@@ -65,7 +65,7 @@ needed s j need = record {
   credentials = refl;
 }
 
-served_alike : (event : Event) (s : Inventory) → AreKnownAlike s (inventory_after event s)
+served_alike : (event : WatchEvent) (s : Inventory) → AreKnownAlike s (inventory_after event s)
 served_alike (Need i until) s = needed s i _
 served_alike _ s = itself s
 
@@ -86,7 +86,7 @@ all_same f g same [] = refl
 all_same f g same (x ∷ xs) =
     flat_map-cons g x xs ∙ ap (λ l. l ++ flat_map g xs) (same x) ∙ ap (λ l. f x ++ l) (all_same f g same xs) ∙ sym (flat_map-cons f x xs)
 
-alike_after : (old new : Agent) (event : Event) → new.inventory ≡ inventory_after event old.inventory → AreKnownAlike old.inventory new.inventory
+alike_after : (old new : Agent) (event : WatchEvent) → new.inventory ≡ inventory_after event old.inventory → AreKnownAlike old.inventory new.inventory
 alike_after old new event is = subst (λ s. AreKnownAlike old.inventory s) (sym is) (served_alike event old.inventory)
 
 pub untold : OnlyToldLaw
@@ -94,6 +94,6 @@ unfolding ends_of
 untold old new event output taken quiet boot =
     let alike = alike_after old new event taken.inventory in
     let same : (i : ℕ) → (standing_in new.standings i).told ≡ (standing_in old.standings i).told =
-    λ i. ap (λ (xs : List Standing). (standing_in xs i).told) taken.standings ∙ told_same new.machine event old.standings quiet i in
+    λ i. ap (λ (xs : List EntryStanding). (standing_in xs i).told) taken.standings ∙ told_same new.machine event old.standings quiet i in
     ap (λ n. flat_map (ends_told_at new boot) (range_with_len 0 n)) alike.count
     ∙ all_same (ends_told_at old boot) (ends_told_at new boot) (λ i. ap (end_with new.inventory boot i) (same i) ∙ end_same old.inventory new.inventory alike boot i (standing_in old.standings i).told) (range_with_len 0 (length old.inventory.forest.entries))

@@ -7,8 +7,8 @@ use Rattle.plan_forest.specs.declared.entry.Kind.{Kind}
 use Rattle.plan_forest.specs.Forest.{entry_at, index_named}
 use Rattle.vault_inventory.specs.Inventories.{Inventory, credential_at}
 use Rattle.state_changes.specs.Words.{fingerprint}
-use Rattle.watch_machine.specs.declared.event.Event.{Event}
-use Rattle.watch_machine.specs.declared.event.Event.TheVariants.{Known}
+use Rattle.watch_machine.specs.declared.event.WatchEvent.{WatchEvent}
+use Rattle.watch_machine.specs.declared.event.WatchEvent.TheVariants.{Known}
 use Rattle.agent_standing.specs.declared.ends.KnownEnd.{KnownEnd}
 use Rattle.agent_standing.specs.declared.standing.Told.{Told}
 use Rattle.agent_standing.specs.Agent.{Agent, standing_at}
@@ -55,12 +55,12 @@ ends_of a boot = flat_map (ends_told_at a boot) (range_with_len 0 (length a.inve
 -- ---- what a Watch is handed
 
 -- an end is handed on for the entry of its name, where that is of the kind and has the credential that it was told of
-abbrev pub event_at : Inventory → KnownEnd → Option ℕ → List Event
+abbrev pub event_at : Inventory → KnownEnd → Option ℕ → List WatchEvent
 event_at s k None = []
 event_at s k (Some i) = if bytes_eq (mark_of s i) k.fingerprint then Known i k.told.end k.told.renewable ∷ [] else []
 
-abbrev pub events_for_known : Inventory → KnownEnd → List Event
+abbrev pub events_for_known : Inventory → KnownEnd → List WatchEvent
 events_for_known s k = event_at s k (index_named s.forest.entries k.name)
 
-unfoldable pub events_for : Inventory → List KnownEnd → List Event
+unfoldable pub events_for : Inventory → List KnownEnd → List WatchEvent
 events_for s ends = flat_map (events_for_known s) ends

@@ -7,13 +7,13 @@ use Rattle.base_disk.specs.Image.{File, with_file_at}
 use Rattle.base_disk.specs.State.{DiskKeeps, DiskState, IsAfter, LeavesOnly, TellsFailure}
 use Rattle.base_disk.specs.Torn.{MovesFile}
 use Rattle.base_disk.specs.declared.system.TheConstants.{FILE_MODE}
-use Rattle.watch_machine.specs.declared.event.Reply.{Reply}
-use Rattle.watch_machine.specs.declared.event.Reply.TheVariants.{Told, Refused, Busy, Lost}
+use Rattle.watch_machine.specs.declared.event.WatchReply.{WatchReply}
+use Rattle.watch_machine.specs.declared.event.WatchReply.TheVariants.{Told, Refused, Busy, Lost}
 use Rattle.agent_ends.specs.Ends.{ends_of, ends_text}
 use Rattle.agent_ends.specs.declared.file.EndsFile.{EndsFile}
 
 -- by no other answer does what is known of an end change
-abbrev pub tells_of_end : Reply → Bool
+abbrev pub tells_of_end : WatchReply → Bool
 tells_of_end (Told seconds renewable date) = true
 tells_of_end (Refused status date) = false
 tells_of_end Busy = false

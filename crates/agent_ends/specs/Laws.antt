@@ -4,9 +4,9 @@ use Rattle.agent_standing.specs.declared.ends.KnownEnd.{KnownEnd}
 use Rattle.agent_standing.specs.Agent.{Agent}
 use Rattle.agent_standing.specs.Ends.{IsKnownEnd}
 use Rattle.agent_standing.specs.Turns.{EventIsTaken}
-use Rattle.watch_machine.specs.declared.command.Output.{Output}
-use Rattle.watch_machine.specs.declared.event.Event.{Event}
-use Rattle.watch_machine.specs.declared.event.Event.TheVariants.{Clock, Looked, Renewed, Need, Begin, Known}
+use Rattle.watch_machine.specs.declared.command.WatchOutput.{WatchOutput}
+use Rattle.watch_machine.specs.declared.event.WatchEvent.{WatchEvent}
+use Rattle.watch_machine.specs.declared.event.WatchEvent.TheVariants.{Clock, Looked, Renewed, Need, Begin, Known}
 use Rattle.agent_ends.specs.Ends.{ends_in, ends_of, ends_text}
 use Rattle.agent_ends.specs.Files.{tells_of_end}
 
@@ -20,7 +20,7 @@ abbrev pub ReadBackLaw : Type 0
 ReadBackLaw = (boot : List ℕ) (ends : List KnownEnd) → AreOf boot ends → ends_in boot (ends_text ends) ≡ ends
 
 -- an answer that tells of an end, or one that is handed in
-abbrev pub tells_end : Event → Bool
+abbrev pub tells_end : WatchEvent → Bool
 tells_end (Clock wall elapsed) = false
 tells_end (Looked i reply terms) = tells_of_end reply
 tells_end (Renewed i reply) = tells_of_end reply
@@ -30,4 +30,4 @@ tells_end (Known i end renewable) = true
 
 -- by no other event does what is kept of an agent change
 abbrev pub OnlyToldLaw : Type 0
-OnlyToldLaw = (old new : Agent) (event : Event) (output : Output) → EventIsTaken old event output new → tells_end event ≡ false → (boot : List ℕ) → ends_of new boot ≡ ends_of old boot
+OnlyToldLaw = (old new : Agent) (event : WatchEvent) (output : WatchOutput) → EventIsTaken old event output new → tells_end event ≡ false → (boot : List ℕ) → ends_of new boot ≡ ends_of old boot

@@ -8,7 +8,7 @@ use plan_forest::Kind;
 use state_changes::fingerprint;
 use std::alloc::{AllocError, Global};
 use vault_inventory::Inventory;
-use watch_machine::Event;
+use watch_machine::WatchEvent;
 
 /// The ends that were told in this boot, of the entries that an agent serves, by index. The only error is lack of memory.
 #[tactic(auto, unfolding(crate::specs::Ends::ends_of))]
@@ -89,7 +89,7 @@ pub fn known_events(
     alloc: Global,
     inventory: &Inventory,
     ends: &[KnownEnd],
-) -> Result<Vec<Event>, AllocError>
+) -> Result<Vec<WatchEvent>, AllocError>
     ensures { IfOk result (λ events. events.items ≡ events_for inventory.now ends.now) }
 {
     let mut events = Vec::new(alloc);
@@ -104,7 +104,7 @@ fn push_event(
     alloc: Global,
     inventory: &Inventory,
     end: &KnownEnd,
-    events: &mut Vec<Event>,
+    events: &mut Vec<WatchEvent>,
 ) -> Result<(), AllocError>
     ensures { OnOk result (events.new.items ≡ events.old.items ++ events_for_known inventory.now «end».now) }
 {
@@ -113,7 +113,7 @@ fn push_event(
     };
     let mark = mark_of(alloc, inventory, entry)?;
     if mark.list() == end.fingerprint.list() {
-        events.push(Event::Known {
+        events.push(WatchEvent::Known {
             entry,
             end: end.told.end,
             renewable: end.told.renewable,

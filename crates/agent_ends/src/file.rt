@@ -10,7 +10,7 @@ use agent_standing::Agent;
 use base_disk::{Disk, DiskFault};
 use base_moment::Text;
 use std::alloc::Global;
-use watch_machine::{Millis, Reply};
+use watch_machine::{Millis, WatchReply};
 
 /// How long the file is left alone after a try, in milliseconds.
 const PAUSE: u64 = 1000;
@@ -48,7 +48,7 @@ impl<D> EndsFile<D> {
     }
 
     /// An answer was handed in: where it tells of an end, the file is stale.
-    pub fn hear(&mut self, reply: Reply)
+    pub fn hear(&mut self, reply: WatchReply)
         ensures { self.new ≡ record self.old { is_stale = self.old.is_stale || tells_of_end reply } }
     {
         self.is_stale = self.is_stale || tells_of_end(reply);
@@ -127,11 +127,11 @@ fn keep_now<D: Disk>(
     agent_ends(alloc, disk, path, &ends)
 }
 
-fn tells_of_end(reply: Reply) -> bool
+fn tells_of_end(reply: WatchReply) -> bool
     ensures { result ≡ tells_of_end reply }
 {
     match reply {
-        Reply::Told { .. } => true,
-        Reply::Refused { .. } | Reply::Busy | Reply::Lost => false,
+        WatchReply::Told { .. } => true,
+        WatchReply::Refused { .. } | WatchReply::Busy | WatchReply::Lost => false,
     }
 }

@@ -7,7 +7,7 @@ use Rattle.agent_answers.specs.declared.onlookers.Onlookers.{Onlookers}
 use Rattle.agent_answers.specs.declared.went.Went.{Went}
 use Rattle.state_changes.specs.declared.row.Row.{Row}
 use Rattle.base_clients.specs.Doors.{DoorLog}
-use Rattle.base_clients.specs.declared.talk.Call.{Call}
+use Rattle.base_clients.specs.declared.talk.TalkCall.{TalkCall}
 use Rattle.base_clock.specs.declared.reading.Reading.{Reading}
 use Rattle.base_device.specs.declared.tried.Tried.{Tried}
 use Rattle.base_log.specs.declared.writing.TheConstants.{MOST_TRIES}
@@ -30,7 +30,7 @@ pub follows_by : {T D : Type 0} (f g : Form) (moment : ℕ) (r s new : Rooms) (a
 follows_by f g moment r s new a b after form rooms control fed =
     subst (λ x. FollowersGoOn x moment s new b after) form (subst (λ x. FollowersGoOn f moment x new b after) rooms (subst (λ x. FollowersGoOn f moment r new x after) control fed))
 
-module _ {S T D K E : Type 0} (given : S → Option (List ℕ)) (failures tries : S → ℕ) (tried : S → Option (List Tried)) (remaining written : T → Option (List ℕ)) (calls : T → Option (List Call)) (log : D → Option (DoorLog T)) (rows : K → List Row) (keeps : K → Bool) where
+module _ {S T D K E : Type 0} (given : S → Option (List ℕ)) (failures tries : S → ℕ) (tried : S → Option (List Tried)) (remaining written : T → Option (List ℕ)) (calls : T → Option (List TalkCall)) (log : D → Option (DoorLog T)) (rows : K → List Row) (keeps : K → Bool) where
   pub attended : (agent : Agent) (now : Reading) (is_more goes_on enough : Bool) (shown answered : Went) (old mid fed : House S T D K E) (around : Surroundings) (named : List Row)
       (onlookers : Option (Onlookers T D)) (control : Option (Control T D)) (desk : Desk)
       → ReaderIsGiven old.desk.form (second_of now.wall) old.desk.room.log mid.desk.room.log (given old.sink) (given mid.sink) (failures old.sink) (failures mid.sink) (tried old.sink) (tried mid.sink) is_more

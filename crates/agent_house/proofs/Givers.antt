@@ -5,22 +5,22 @@ use Rattle.std.specs.Prelude.{◌||◌, Vec, is_some, option_to_list}
 use Rattle.std.specs.declared.alloc.AllocError.{AllocError}
 use Rattle.std.specs.declared.alloc.Global.{Global}
 use Rattle.agent_standing.specs.Agent.{Agent}
-use Rattle.agent_answers.specs.declared.asked.Asked.{Asked}
-use Rattle.agent_answers.specs.declared.asked.Asked.TheVariants as asked
+use Rattle.agent_answers.specs.declared.asked.ClientOrder.{ClientOrder}
+use Rattle.agent_answers.specs.declared.asked.ClientOrder.TheVariants as asked
 use Rattle.agent_answers.specs.declared.control.Control.{Control}
 use Rattle.agent_answers.specs.declared.went.Went.{Went}
 use Rattle.state_changes.specs.Rows.{named}
-use Rattle.state_changes.specs.declared.change.What.TheVariants as what
+use Rattle.state_changes.specs.declared.change.ChangeKind.TheVariants as what
 use Rattle.state_changes.specs.declared.row.Row.{Row}
 use Rattle.base_clients.specs.Doors.{DoorLog}
-use Rattle.base_clients.specs.declared.talk.Call.{Call}
+use Rattle.base_clients.specs.declared.talk.TalkCall.{TalkCall}
 use Rattle.base_device.specs.declared.tried.Tried.{Tried}
 use Rattle.base_clock.specs.declared.reading.Reading.{Reading}
 use Rattle.vault_inventory.specs.Inventories.{Inventory}
 use Rattle.vault_inventory.specs.declared.need.Need.{Need}
 use Rattle.agent_pages.specs.Naming.{Around}
 use Rattle.agent_turns.specs.Changes.{AllGiven}
-use Rattle.agent_turns.specs.declared.change.Change.{Change}
+use Rattle.agent_turns.specs.declared.change.AgentChange.{AgentChange}
 use Rattle.agent_house.specs.Admitting.{AdmitsIf, AnswerBeginsWith, FollowsLog, asking_in}
 use Rattle.agent_house.specs.Awaiting.{AddsRow, HearsFor, HearsOfAwaited, HearsVerdict, IsAddedLine, IsRefusedFor, Judges, LooksUpBy, LooksUpFirst, LooksUpIf, Makes, ProvesBy, Replaces, SetsAside, VerdictIs, addressed}
 use Rattle.agent_house.specs.Commands.{AddsEntry, AddsIf, AsksFor, AsksIf, CarriesIf, CarriesOut, ClosesClient, DropsEntry, GivesNeed, InventoryIsDue, NeedIsKept, StateIsServed, GoesOnIf, GoesOnWithClients, LacksMemory, Needs, NeedsIf, Reloads, RereadBy, ServesClients, SettlesFile, SettlesAnswer, SettlesAside, SettlesBy, SettlesGiven, SettlesNeed, SettlesServed, TellsNeed, TellsReload, end_named}
@@ -35,7 +35,7 @@ use Rattle.agent_log.specs.Lines.{Line}
 use Rattle.agent_log.specs.Rooms.{Rooms}
 use Rattle.base_log.specs.declared.form.Form.{Form}
 use Rattle.agent_house.specs.Looks.{AsksToLook, LooksAround}
-use Rattle.state_changes.specs.declared.change.What.{What}
+use Rattle.state_changes.specs.declared.change.ChangeKind.{ChangeKind}
 use Rattle.vault_lanes.specs.declared.loss.Loss.{Loss}
 use Rattle.vault_proving.specs.declared.verdict.Verdict.{Verdict}
 use Rattle.vault_proving.specs.declared.verdict.Verdict.TheVariants as verdicts
@@ -63,7 +63,7 @@ answered answer now None new h = ap is_some h
 answered answer now (Some old) None h = absurd h
 answered answer now (Some old) (Some new) h = refl
 
-clients_asked : {T D : Type 0} (now : Reading) (result : Result (Option Asked) AllocError) (old new : Option (Control T D)) → ClientsAsk now result old new → is_some new ≡ is_some old
+clients_asked : {T D : Type 0} (now : Reading) (result : Result (Option ClientOrder) AllocError) (old new : Option (Control T D)) → ClientsAsk now result old new → is_some new ≡ is_some old
 clients_asked now result None new h = ap is_some h.1
 clients_asked now result (Some old) None h = absurd h
 clients_asked now result (Some old) (Some new) h = refl
@@ -112,7 +112,7 @@ told_aside : {T D : Type 0} (client : Option ℕ) (answer : List ℕ) (now : ℕ
 told_aside None answer now old new h = ap is_some h
 told_aside (Some number) answer now old new h = told_as number answer now old new h
 
-asked_keeper : {K : Type 0} (does : KeepCall → K → K → Type 0) (now : Reading) (name : List ℕ) (w : What) (result : Result LookedUp AllocError) (old new : Option K) → LooksUpBy does now name w result old new → is_some new ≡ is_some old
+asked_keeper : {K : Type 0} (does : KeepCall → K → K → Type 0) (now : Reading) (name : List ℕ) (w : ChangeKind) (result : Result LookedUp AllocError) (old new : Option K) → LooksUpBy does now name w result old new → is_some new ≡ is_some old
 asked_keeper does now name w result None new h = ap is_some h.1
 asked_keeper does now name w result (Some old) None h = absurd h
 asked_keeper does now name w result (Some old) (Some new) h = refl
@@ -158,18 +158,18 @@ module _ {S T D K E : Type 0} where
 
   -- ---- what clients ask for
 
-  need_given : (agent : Agent) (now : Reading) (name : List ℕ) (until : ℕ) (i : Option ℕ) (change : Change) (old new : House S T D K E) → GivesNeed agent now name until i change old new → AreSame old new
+  need_given : (agent : Agent) (now : Reading) (name : List ℕ) (until : ℕ) (i : Option ℕ) (change : AgentChange) (old new : House S T D K E) → GivesNeed agent now name until i change old new → AreSame old new
   need_given agent now name until (Some i) change old new h = record { sink = ap (λ x. x.sink) h.1; control = ap (λ x. is_some x.control) h.1; state = ap (λ x. is_some x.state) h.1 }
   need_given agent now name until None change old new h = concluded agent _ _ _ old new h.1.1.1
 
-  need_if : (agent : Agent) (now : Reading) (name : List ℕ) (until : ℕ) (result : Result (Unit {0}) Why) (change : Change) (old new : House S T D K E) → NeedsIf agent now name until result change old new → AreSame old new
+  need_if : (agent : Agent) (now : Reading) (name : List ℕ) (until : ℕ) (result : Result (Unit {0}) Why) (change : AgentChange) (old new : House S T D K E) → NeedsIf agent now name until result change old new → AreSame old new
   need_if agent now name until (Ok x) change old new h = need_given agent now name until _ change old new h
   need_if agent now name until (Err why) change old new h = will_tell (Err why) now.elapsed old new h.1
 
   -- ---- a credential is looked up first
 
   module _ (does : KeepCall → K → K → Type 0) (rows : K → List Row) (agent : Agent) (now : Reading) where
-    made : (name : List ℕ) (w : What) (why : Option Loss) (old new : House S T D K E) → Makes does rows agent now name w why old new → AreSame old new
+    made : (name : List ℕ) (w : ChangeKind) (why : Option Loss) (old new : House S T D K E) → Makes does rows agent now name w why old new → AreSame old new
     made name (what.Need need) why old new h = will_tell (Err None) now.elapsed old new h
     made name (what.Replace credential) why old new h =
         after_state h.state old new (comes does (λ done. Take now.elapsed name (what.Replace credential) done) (λ k line. line ≡ line_with_loss why (replaced_text name (named (rows k) name))) h.outcome old.state h.state h.comes) (concluded agent _ h.outcome now.elapsed (record old { state = h.state }) new h.concludes)
@@ -177,19 +177,19 @@ module _ {S T D K E : Type 0} where
         after_state h.state old new (comes does (λ done. Take now.elapsed name (what.Add row) done) (λ k line. IsAddedLine name (until_of_need row.need) why line) h.outcome old.state h.state h.comes) (concluded agent _ h.outcome now.elapsed (record old { state = h.state }) new h.concludes)
     made name what.Drop why old new h = will_tell (Err None) now.elapsed old new h
 
-    judged : (name : List ℕ) (w : What) (verdict : Verdict) (old new : House S T D K E) → Judges does rows agent now name w verdict old new → AreSame old new
+    judged : (name : List ℕ) (w : ChangeKind) (verdict : Verdict) (old new : House S T D K E) → Judges does rows agent now name w verdict old new → AreSame old new
     judged name w verdicts.Good old new h = made name w None old new h
     judged name w (verdicts.Refused status) old new h = will_tell (Err h.0) now.elapsed old new h.1.1
     judged name w verdicts.Endless old new h = will_tell (Err h.0) now.elapsed old new h.1.1
     judged name w (verdicts.Missing why) old new h = made name w (Some why) old new h
 
-    looked_if : (name : List ℕ) (w : What) (result : Result LookedUp AllocError) (old new : House S T D K E) → LooksUpIf does rows agent now name w result old new → AreSame old new
+    looked_if : (name : List ℕ) (w : ChangeKind) (result : Result LookedUp AllocError) (old new : House S T D K E) → LooksUpIf does rows agent now name w result old new → AreSame old new
     looked_if name w (Ok lookups.Out) old new h = record { sink = ap (λ x. x.sink) h.rest; control = set_aside h.client old.control new.control h.aside; state = ap (λ x. is_some x.state) h.rest }
     looked_if name w (Ok lookups.Later) old new h = will_tell (Err h.0) now.elapsed old new h.1.1
     looked_if name w (Ok lookups.Nothing) old new h = made name w None old new h
     looked_if name w (Err e) old new h = will_tell (Err None) now.elapsed old new h
 
-    looked_up : (name : List ℕ) (w : What) (old new : House S T D K E) → LooksUpFirst does rows agent now name w old new → AreSame old new
+    looked_up : (name : List ℕ) (w : ChangeKind) (old new : House S T D K E) → LooksUpFirst does rows agent now name w old new → AreSame old new
     looked_up name w old new h = after_state h.state old new (asked_keeper does now name w h.looked_up old.state h.state h.asks) (looked_if name w h.looked_up (record old { state = h.state }) new h.then)
 
     addressed_as : (mid new : House S T D K E) (given : Option Given) → new ≡ record mid { given = given } → AreSame mid new
@@ -246,7 +246,7 @@ module _ {S T D K E : Type 0} where
 
 module _ {S T D K E : Type 0} (does : KeepCall → K → K → Type 0) (rows : K → List Row) (keeps : K → Bool) (path : K → List ℕ) (reads : K → List ℕ → Result Row Why → Type 0)
     (gives : ℕ → Result (Option Inventory) AllocError → K → Type 0) (agent : Agent) (now : Reading) where
-  carried_out : (a : Asked) (change : Change) (old new : House S T D K E) → CarriesOut does rows keeps path reads gives agent now a change old new → AreSame old new
+  carried_out : (a : ClientOrder) (change : AgentChange) (old new : House S T D K E) → CarriesOut does rows keeps path reads gives agent now a change old new → AreSame old new
   carried_out (asked.Need name need) change old new h =
       after_state h.state old new (kept does keeps agent now name need h.result old.state h.state h.kept) (need_if agent now name _ h.result change (record old { state = h.state }) new h.then)
   carried_out (asked.Replace name credential) change old new h = looked_up does rows agent now name (what.Replace credential) old new h.1
@@ -259,16 +259,16 @@ module _ {S T D K E : Type 0} (does : KeepCall → K → K → Type 0) (rows : K
       after_state h.1.state old new (reread does keeps now h.1.result old.state h.1.state h.1.asks) (reload_told path agent now h.1.result (record old { state = h.1.state }) new h.1.tells)
   carried_out (asked.Follow alerts) change old new h = log_followed now alerts old new h.1
 
-  lacked : (change : Option Change) (old new : House S T D K E) → LacksMemory does rows keeps path reads gives agent now change old new → AreSame old new
+  lacked : (change : Option AgentChange) (old new : House S T D K E) → LacksMemory does rows keeps path reads gives agent now change old new → AreSame old new
   lacked change old new h = record { sink = ap (λ x. x.sink) h.1.1; control = ap (λ x. is_some x.control) h.1.1; state = ap (λ x. is_some x.state) h.1.1 }
 
-  carried_if : (a : Result (Option Asked) AllocError) (change : Option Change) (old new : House S T D K E) → CarriesIf does rows keeps path reads gives agent now a change old new → AreSame old new
+  carried_if : (a : Result (Option ClientOrder) AllocError) (change : Option AgentChange) (old new : House S T D K E) → CarriesIf does rows keeps path reads gives agent now a change old new → AreSame old new
   carried_if (Ok None) change old new h = same old new h.1
   carried_if (Ok (Some a)) None old new h = absurd h
   carried_if (Ok (Some a)) (Some change) old new h = carried_out a change old new h
   carried_if (Err e) change old new h = lacked change old new h
 
-  served_clients : (change : Option Change) (old new : House S T D K E) → ServesClients does rows keeps path reads gives agent now change old new → AreSame old new
+  served_clients : (change : Option AgentChange) (old new : House S T D K E) → ServesClients does rows keeps path reads gives agent now change old new → AreSame old new
   served_clients change old new h =
       let all = carried_if h.asked change h.tried new h.then in
       let tried = h.tries.rest in
@@ -278,33 +278,33 @@ module _ {S T D K E : Type 0} (does : KeepCall → K → K → Type 0) (rows : K
         state = all.state ∙ keeper_tried does now.elapsed (is_any_asked h.asked) h.tries.news old.state h.tried.state h.tries.tries;
       }
 
-  goes_on_if : (heard : Bool) (change : Option Change) (old new : House S T D K E) → GoesOnIf does rows keeps path reads gives agent now heard change old new → AreSame old new
+  goes_on_if : (heard : Bool) (change : Option AgentChange) (old new : House S T D K E) → GoesOnIf does rows keeps path reads gives agent now heard change old new → AreSame old new
   goes_on_if true change old new h = same old new h.1
   goes_on_if false change old new h = served_clients change old new h
 
-  gone_on : (change : Option Change) (old new : House S T D K E) → GoesOnWithClients does rows keeps path reads gives agent now change old new → AreSame old new
+  gone_on : (change : Option AgentChange) (old new : House S T D K E) → GoesOnWithClients does rows keeps path reads gives agent now change old new → AreSame old new
   gone_on change old new h = both_same does rows agent now old h.mid new (heard_for does rows agent now old.awaited h.heard old h.mid h.hears) (goes_on_if h.heard change h.mid new h.then)
 
-  pub asked_for : (due : Result (Option (Inventory × Vec Mark Global)) AllocError) (change : Option Change) (old new : House S T D K E) → AsksIf does rows keeps path reads gives agent now due change old new → AreSame old new
+  pub asked_for : (due : Result (Option (Inventory × Vec Mark Global)) AllocError) (change : Option AgentChange) (old new : House S T D K E) → AsksIf does rows keeps path reads gives agent now due change old new → AreSame old new
   asked_for (Ok None) change old new h = gone_on change old new h
   asked_for (Ok (Some p)) change old new h = record { sink = ap (λ x. x.sink) h.1.1; control = ap (λ x. is_some x.control) h.1.1; state = ap (λ x. is_some x.state) h.1.1 }
   asked_for (Err e) change old new h = lacked change old new h
 
   -- nobody asks, and nothing is kept: none is given
-  no_client : (a : Result (Option Asked) AllocError) (change : Option Change) (old new : House S T D K E) → a ≡ Ok None → CarriesIf does rows keeps path reads gives agent now a change old new → change ≡ None
+  no_client : (a : Result (Option ClientOrder) AllocError) (change : Option AgentChange) (old new : House S T D K E) → a ≡ Ok None → CarriesIf does rows keeps path reads gives agent now a change old new → change ≡ None
   no_client (Ok None) change old new is h = h.0
   no_client (Ok (Some a)) change old new is h = absurd (some_is_none a (Ok (Some a)) refl is)
   no_client (Err e) change old new is h = h.0
 
-  served_none : (change : Option Change) (old new : House S T D K E) → old.control ≡ None → ServesClients does rows keeps path reads gives agent now change old new → change ≡ None
+  served_none : (change : Option AgentChange) (old new : House S T D K E) → old.control ≡ None → ServesClients does rows keeps path reads gives agent now change old new → change ≡ None
   served_none change old new none h =
       no_client h.asked change h.tried new (subst (λ (o : Option (Control T D)). ClientsAsk now h.asked o h.control) none h.clients).0 h.then
 
-  none_if : (heard : Bool) (change : Option Change) (old new : House S T D K E) → heard ≡ false → old.control ≡ None → GoesOnIf does rows keeps path reads gives agent now heard change old new → change ≡ None
+  none_if : (heard : Bool) (change : Option AgentChange) (old new : House S T D K E) → heard ≡ false → old.control ≡ None → GoesOnIf does rows keeps path reads gives agent now heard change old new → change ≡ None
   none_if true change old new is none h = absurd (true≢false is)
   none_if false change old new is none h = served_none change old new none h
 
-  none_of : (due : Result (Option (Inventory × Vec Mark Global)) AllocError) (change : Option Change) (old new : House S T D K E) (control : Option (Control T D)) (state : Option K) → old.control ≡ control → old.state ≡ state →
+  none_of : (due : Result (Option (Inventory × Vec Mark Global)) AllocError) (change : Option AgentChange) (old new : House S T D K E) (control : Option (Control T D)) (state : Option K) → old.control ≡ control → old.state ≡ state →
       (is_some control || is_some state) ≡ false → InventoryIsDue gives now due state → AsksIf does rows keeps path reads gives agent now due change old new → change ≡ None
   none_of due change old new (Some control) state c s is is_due h = absurd (true≢false is)
   none_of due change old new None (Some state) c s is is_due h = absurd (true≢false is)
@@ -319,13 +319,13 @@ module _ {S T D K E : Type 0} (does : KeepCall → K → K → Type 0) (rows : K
 given_as : {S T D K E : Type 0} (old new : House S T D K E) → AreSame old new → changes_given new.control new.state ≡ changes_given old.control old.state
 given_as old new h = ap (λ b. given_where (b || is_some new.state)) h.control ∙ ap (λ b. given_where (is_some old.control || b)) h.state
 
-by_case : (b : Bool) (change : Option Change) → (b ≡ false → change ≡ None) → AllGiven (option_to_list change) (given_where b) (given_where b)
+by_case : (b : Bool) (change : Option AgentChange) → (b ≡ false → change ≡ None) → AllGiven (option_to_list change) (given_where b) (given_where b)
 by_case true change none = tt
-by_case false change none = subst (λ (c : Option Change). AllGiven (option_to_list c) (Some []) (Some [])) (sym (none refl)) ([], (refl, refl))
+by_case false change none = subst (λ (c : Option AgentChange). AllGiven (option_to_list c) (Some []) (Some [])) (sym (none refl)) ([], (refl, refl))
 
 -- ---- a turn gives none
 
-same_goers : {T D : Type 0} (remaining written : T → Option (List ℕ)) (calls : T → Option (List Call)) (log : D → Option (DoorLog T)) (agent : Agent) (around : Around) (now : Reading) (went : Went)
+same_goers : {T D : Type 0} (remaining written : T → Option (List ℕ)) (calls : T → Option (List TalkCall)) (log : D → Option (DoorLog T)) (agent : Agent) (around : Around) (now : Reading) (went : Went)
     (old new : Option (Control T D)) → ClientsGoOn remaining written calls log agent around now went old new → is_some new ≡ is_some old
 same_goers remaining written calls log agent around now went None new h = ap is_some h.1
 same_goers remaining written calls log agent around now went (Some old) None h = absurd h
@@ -336,7 +336,7 @@ same_fed form moment old new None after h = ap is_some h.1
 same_fed form moment old new (Some before) None h = absurd h
 same_fed form moment old new (Some before) (Some after) h = refl
 
-pub none_by_attending : {S T D K E : Type 0} (given : S → Option (List ℕ)) (failures tries : S → ℕ) (tried : S → Option (List Tried)) (remaining written : T → Option (List ℕ)) (calls : T → Option (List Call)) (log : D → Option (DoorLog T))
+pub none_by_attending : {S T D K E : Type 0} (given : S → Option (List ℕ)) (failures tries : S → ℕ) (tried : S → Option (List Tried)) (remaining written : T → Option (List ℕ)) (calls : T → Option (List TalkCall)) (log : D → Option (DoorLog T))
     (rows : K → List Row) (keeps : K → Bool) (agent : Agent) (now : Reading) (goes_on : Bool) (old new : House S T D K E) → Attends given failures tries tried remaining written calls log rows keeps agent now goes_on old new → changes_given new.control new.state ≡ changes_given old.control old.state
 none_by_attending given failures tries tried remaining written calls log rows keeps agent now goes_on old new h =
     ap (λ b. given_where (b || is_some new.state)) (same_goers remaining written calls log agent _ now h.answered h.fed new.control h.clients ∙ same_fed _ _ _ h.rooms old.control h.fed h.follow)
@@ -356,7 +356,7 @@ none_by_looking does agent now goes_on old new h =
 -- ---- a client gives one, or an inventory that is due
 
 pub one_by_asking : {S T D K E : Type 0} (does : KeepCall → K → K → Type 0) (rows : K → List Row) (keeps : K → Bool) (path : K → List ℕ) (reads : K → List ℕ → Result Row Why → Type 0) (gives : ℕ → Result (Option Inventory) AllocError → K → Type 0)
-    (agent : Agent) (now : Reading) (change : Option Change) (old new : House S T D K E) → AsksFor does rows keeps path reads gives agent now change old new →
+    (agent : Agent) (now : Reading) (change : Option AgentChange) (old new : House S T D K E) → AsksFor does rows keeps path reads gives agent now change old new →
     AllGiven (option_to_list change) (changes_given old.control old.state) (changes_given new.control new.state)
 one_by_asking does rows keeps path reads gives agent now change old new h =
     subst (λ g. AllGiven (option_to_list change) (changes_given old.control old.state) g) (sym (given_as old new (asked_for does rows keeps path reads gives agent now h.0 change old new h.1.1)))

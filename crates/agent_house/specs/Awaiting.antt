@@ -5,8 +5,8 @@ use Rattle.std.specs.declared.alloc.AllocError.{AllocError}
 use Rattle.agent_standing.specs.Agent.{Agent}
 use Rattle.agent_answers.specs.declared.control.Control.{Control}
 use Rattle.state_changes.specs.Rows.{named}
-use Rattle.state_changes.specs.declared.change.What.{What}
-use Rattle.state_changes.specs.declared.change.What.TheVariants as what
+use Rattle.state_changes.specs.declared.change.ChangeKind.{ChangeKind}
+use Rattle.state_changes.specs.declared.change.ChangeKind.TheVariants as what
 use Rattle.state_changes.specs.declared.row.Row.{Row}
 use Rattle.base_clock.specs.declared.reading.Reading.{Reading}
 use Rattle.vault_lanes.specs.declared.loss.Loss.{Loss}
@@ -45,7 +45,7 @@ pub record AddsRow {S T D K E : Type 0} (does : KeepCall → K → K → Type 0)
   pub concludes : Concludes agent (entry_log_line (codes "add") name) outcome now.elapsed (record old { state = state }) new
 
 -- whoever keeps changes is asked to look it up, and for the broker's word
-abbrev pub LooksUpBy : {K : Type 0} → (KeepCall → K → K → Type 0) → Reading → List ℕ → What → Result LookedUp AllocError → Option K → Option K → Type 0
+abbrev pub LooksUpBy : {K : Type 0} → (KeepCall → K → K → Type 0) → Reading → List ℕ → ChangeKind → Result LookedUp AllocError → Option K → Option K → Type 0
 LooksUpBy does now name w result None new = (result ≡ Ok looked.Nothing) × (new ≡ None)
 LooksUpBy does now name w result (Some old) None = ⊥
 LooksUpBy does now name w result (Some old) (Some new) = does (LookUp now name w result) old new
@@ -56,14 +56,14 @@ ProvesBy does now result (Some old) None = ⊥
 ProvesBy does now result (Some old) (Some new) = does (Prove now result) old new
 
 -- it waits for the broker's word, and its client is set aside
-pub record SetsAside {S T D K E : Type 0} (name : List ℕ) (w : What) (old new : House S T D K E) : Type 0 where
+pub record SetsAside {S T D K E : Type 0} (name : List ℕ) (w : ChangeKind) (old new : House S T D K E) : Type 0 where
   pub client : Option ℕ
   pub aside : ClientIsAside client old.control new.control
   pub rest : new ≡ record old { control = new.control; awaited = Some (record { client = client; name = name; what = w }) }
 
 module _ {S T D K E : Type 0} (does : KeepCall → K → K → Type 0) (rows : K → List Row) (agent : Agent) (now : Reading) where
   -- no other change brings one
-  abbrev pub Makes : List ℕ → What → Option Loss → House S T D K E → House S T D K E → Type 0
+  abbrev pub Makes : List ℕ → ChangeKind → Option Loss → House S T D K E → House S T D K E → Type 0
   Makes name (what.Need need) why old new = WillTell (Err None) now.elapsed old new
   Makes name (what.Replace credential) why old new = Replaces does rows agent now name credential why old new
   Makes name (what.Add row) why old new = AddsRow does agent now name row why old new
@@ -75,13 +75,13 @@ module _ {S T D K E : Type 0} (does : KeepCall → K → K → Type 0) (rows : K
 
   -- ---- it is looked up first
 
-  abbrev pub LooksUpIf : List ℕ → What → Result LookedUp AllocError → House S T D K E → House S T D K E → Type 0
+  abbrev pub LooksUpIf : List ℕ → ChangeKind → Result LookedUp AllocError → House S T D K E → House S T D K E → Type 0
   LooksUpIf name w (Ok looked.Out) old new = SetsAside name w old new
   LooksUpIf name w (Ok looked.Later) old new = IsRefusedFor later_words old new
   LooksUpIf name w (Ok looked.Nothing) old new = Makes name w None old new
   LooksUpIf name w (Err e) old new = WillTell (Err None) now.elapsed old new
 
-  pub record LooksUpFirst (name : List ℕ) (w : What) (old new : House S T D K E) : Type 0 where
+  pub record LooksUpFirst (name : List ℕ) (w : ChangeKind) (old new : House S T D K E) : Type 0 where
     pub looked_up : Result LookedUp AllocError
     pub state : Option K
     pub asks : LooksUpBy does now name w looked_up old.state state
@@ -89,7 +89,7 @@ module _ {S T D K E : Type 0} (does : KeepCall → K → K → Type 0) (rows : K
 
   -- ---- the broker's word is there
 
-  abbrev pub Judges : List ℕ → What → Verdict → House S T D K E → House S T D K E → Type 0
+  abbrev pub Judges : List ℕ → ChangeKind → Verdict → House S T D K E → House S T D K E → Type 0
   Judges name w verdicts.Good old new = Makes name w None old new
   Judges name w (verdicts.Refused status) old new = IsRefusedFor (status_words status ++ kept_words name w) old new
   Judges name w verdicts.Endless old new = IsRefusedFor (endless_words ++ kept_words name w) old new

@@ -5,11 +5,11 @@ use Rattle.std.specs.declared.alloc.AllocError.{AllocError}
 use Rattle.std.specs.declared.alloc.Global.{Global}
 use Rattle.agent_standing.specs.Agent.{Agent}
 use Rattle.agent_standing.specs.Status.{status_of_entry}
-use Rattle.agent_answers.specs.declared.asked.Asked.{Asked}
-use Rattle.agent_answers.specs.declared.asked.Asked.TheVariants as asked
+use Rattle.agent_answers.specs.declared.asked.ClientOrder.{ClientOrder}
+use Rattle.agent_answers.specs.declared.asked.ClientOrder.TheVariants as asked
 use Rattle.agent_answers.specs.declared.control.Control.{Control}
 use Rattle.state_changes.specs.Rows.{named}
-use Rattle.state_changes.specs.declared.change.What.TheVariants as what
+use Rattle.state_changes.specs.declared.change.ChangeKind.TheVariants as what
 use Rattle.state_changes.specs.declared.row.Row.{Row}
 use Rattle.base_clock.specs.declared.reading.Reading.{Reading}
 use Rattle.vault_inventory.specs.Inventories.{Inventory}
@@ -17,8 +17,8 @@ use Rattle.vault_inventory.specs.declared.need.Need.{Need}
 use Rattle.vault_inventory.specs.declared.need.Need.TheVariants as needs
 use Rattle.program_lines.specs.Text.{name_of}
 use Rattle.base_moment.specs.declared.moment.TheConstants.{LAST}
-use Rattle.agent_turns.specs.declared.change.Change.{Change}
-use Rattle.agent_turns.specs.declared.change.Change.TheVariants as changes
+use Rattle.agent_turns.specs.declared.change.AgentChange.{AgentChange}
+use Rattle.agent_turns.specs.declared.change.AgentChange.TheVariants as changes
 use Rattle.plan_forest.specs.Forest.{index_named}
 use Rattle.watch_machine.specs.Shortness.{short_of}
 use Rattle.watch_machine.specs.State.{WatchState}
@@ -78,17 +78,17 @@ NeedIsKept does keeps agent now name need result (Some old) None = ⊥
 NeedIsKept does keeps agent now name need result (Some old) (Some new) = TakesNeedBy does (keeps old) agent now name need result old new
 
 -- it is given for the entry that the agent has; one that it is to have holds once it is served, and the log says so
-abbrev pub GivesNeed : {S T D K E : Type 0} → Agent → Reading → List ℕ → ℕ → Option ℕ → Change → House S T D K E → House S T D K E → Type 0
+abbrev pub GivesNeed : {S T D K E : Type 0} → Agent → Reading → List ℕ → ℕ → Option ℕ → AgentChange → House S T D K E → House S T D K E → Type 0
 GivesNeed agent now name until (Some i) change old new =
     (change ≡ changes.Need i until) × (new ≡ record old { given = Some (givens.Need (record { entry = i; until = until; at = now.elapsed })) })
 GivesNeed agent now name until None change old new =
     (change ≡ changes.Kept) × ((line : Option (List ℕ)) × (IfSome line (IsNeedLine name until) × Concludes agent (need_log_line name until) (Ok line) now.elapsed old new))
 
-abbrev pub NeedsIf : {S T D K E : Type 0} → Agent → Reading → List ℕ → ℕ → Result (Unit {0}) Why → Change → House S T D K E → House S T D K E → Type 0
+abbrev pub NeedsIf : {S T D K E : Type 0} → Agent → Reading → List ℕ → ℕ → Result (Unit {0}) Why → AgentChange → House S T D K E → House S T D K E → Type 0
 NeedsIf agent now name until (Ok x) change old new = GivesNeed agent now name until (index_named agent.inventory.forest.entries name) change old new
 NeedsIf agent now name until (Err why) change old new = (change ≡ changes.Kept) × WillTell (Err why) now.elapsed old new
 
-pub record Needs {S T D K E : Type 0} (does : KeepCall → K → K → Type 0) (keeps : K → Bool) (agent : Agent) (now : Reading) (name : List ℕ) (need : Need) (change : Change) (old new : House S T D K E) : Type 0 where
+pub record Needs {S T D K E : Type 0} (does : KeepCall → K → K → Type 0) (keeps : K → Bool) (agent : Agent) (now : Reading) (name : List ℕ) (need : Need) (change : AgentChange) (old new : House S T D K E) : Type 0 where
   pub result : Result (Unit {0}) Why
   pub state : Option K
   pub kept : NeedIsKept does keeps agent now name need result old.state state
@@ -205,7 +205,7 @@ IsGivenWith agent s marks (Some givens.Unchanged) = s ≡ agent.inventory
 
 module _ {S T D K E : Type 0} (does : KeepCall → K → K → Type 0) (rows : K → List Row) (keeps : K → Bool) (path : K → List ℕ) (reads : K → List ℕ → Result Row Why → Type 0)
     (gives : ℕ → Result (Option Inventory) AllocError → K → Type 0) (agent : Agent) (now : Reading) where
-  abbrev pub CarriesOut : Asked → Change → House S T D K E → House S T D K E → Type 0
+  abbrev pub CarriesOut : ClientOrder → AgentChange → House S T D K E → House S T D K E → Type 0
   CarriesOut (asked.Need name need) change old new = Needs does keeps agent now name need change old new
   CarriesOut (asked.Replace name credential) change old new = (change ≡ changes.Kept) × LooksUpFirst does rows agent now name (what.Replace credential) old new
   CarriesOut (asked.Add table) change old new = (change ≡ changes.Kept) × AddsEntry does rows reads agent now table old new
@@ -215,18 +215,18 @@ module _ {S T D K E : Type 0} (does : KeepCall → K → K → Type 0) (rows : K
   CarriesOut (asked.Follow alerts) change old new = (change ≡ changes.Kept) × FollowsLog now alerts old new
 
   -- memory was wanting, and that is said
-  abbrev pub LacksMemory : Option Change → House S T D K E → House S T D K E → Type 0
+  abbrev pub LacksMemory : Option AgentChange → House S T D K E → House S T D K E → Type 0
   LacksMemory change old new = (change ≡ None) × (HearsRefusal agent old.desk new.desk × (new ≡ record old { desk = new.desk }))
 
-  abbrev pub CarriesIf : Result (Option Asked) AllocError → Option Change → House S T D K E → House S T D K E → Type 0
+  abbrev pub CarriesIf : Result (Option ClientOrder) AllocError → Option AgentChange → House S T D K E → House S T D K E → Type 0
   CarriesIf (Ok None) change old new = (change ≡ None) × (new ≡ old)
   CarriesIf (Ok (Some asked)) None old new = ⊥
   CarriesIf (Ok (Some asked)) (Some change) old new = CarriesOut asked change old new
   CarriesIf (Err e) change old new = LacksMemory change old new
 
   -- what the first of the clients asks for is carried out, once who does not keep changes yet has tried again to
-  pub record ServesClients (change : Option Change) (old new : House S T D K E) : Type 0 where
-    pub asked : Result (Option Asked) AllocError
+  pub record ServesClients (change : Option AgentChange) (old new : House S T D K E) : Type 0 where
+    pub asked : Result (Option ClientOrder) AllocError
     pub control : Option (Control T D)
     pub clients : ClientsAsk now asked old.control control
     pub tried : House S T D K E
@@ -234,23 +234,23 @@ module _ {S T D K E : Type 0} (does : KeepCall → K → K → Type 0) (rows : K
     pub then : CarriesIf asked change tried new
 
   -- what has waited for the broker's word comes before what the clients ask for
-  abbrev pub GoesOnIf : Bool → Option Change → House S T D K E → House S T D K E → Type 0
+  abbrev pub GoesOnIf : Bool → Option AgentChange → House S T D K E → House S T D K E → Type 0
   GoesOnIf true change old new = (change ≡ Some changes.Kept) × (new ≡ old)
   GoesOnIf false change old new = ServesClients change old new
 
-  pub record GoesOnWithClients (change : Option Change) (old new : House S T D K E) : Type 0 where
+  pub record GoesOnWithClients (change : Option AgentChange) (old new : House S T D K E) : Type 0 where
     pub heard : Bool
     pub mid : House S T D K E
     pub hears : HearsVerdict does rows agent now heard old mid
     pub then : GoesOnIf heard change mid new
 
   -- before all that
-  abbrev pub AsksIf : Result (Option (Inventory × Vec Mark Global)) AllocError → Option Change → House S T D K E → House S T D K E → Type 0
+  abbrev pub AsksIf : Result (Option (Inventory × Vec Mark Global)) AllocError → Option AgentChange → House S T D K E → House S T D K E → Type 0
   AsksIf (Ok None) change old new = GoesOnWithClients change old new
   AsksIf (Ok (Some p)) change old new = (change ≡ Some (changes.Serve p.0)) × (IsGivenWith agent p.0 p.1.items new.given × (new ≡ record old { given = new.given }))
   AsksIf (Err e) change old new = LacksMemory change old new
 
-  abbrev pub AsksFor : Option Change → House S T D K E → House S T D K E → Type 0
+  abbrev pub AsksFor : Option AgentChange → House S T D K E → House S T D K E → Type 0
   AsksFor change old new = (due : Result (Option (Inventory × Vec Mark Global)) AllocError) × (InventoryIsDue gives now due old.state × AsksIf due change old new)
 
 -- ---- what was given is settled

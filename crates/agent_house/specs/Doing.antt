@@ -5,13 +5,13 @@ use Rattle.std.specs.declared.alloc.AllocError.{AllocError}
 use Rattle.agent_standing.specs.Agent.{Agent}
 use Rattle.state_changes.specs.declared.row.Row.{Row}
 use Rattle.base_clients.specs.Doors.{DoorLog}
-use Rattle.base_clients.specs.declared.talk.Call.{Call}
+use Rattle.base_clients.specs.declared.talk.TalkCall.{TalkCall}
 use Rattle.base_clock.specs.declared.reading.Reading.{Reading}
 use Rattle.base_device.specs.declared.tried.Tried.{Tried}
 use Rattle.base_disk.specs.State.{DiskState}
 use Rattle.vault_inventory.specs.Inventories.{Inventory}
 use Rattle.agent_turns.specs.Neighbours.{Answer, End, Give, GoOn, Hear, NeighbourCall, Needs, Rest, Settle, Step, Thing, Time, Want}
-use Rattle.watch_machine.specs.declared.command.Request.{Request}
+use Rattle.watch_machine.specs.declared.command.WatchRequest.{WatchRequest}
 use Rattle.watch_machine.specs.declared.notes.Notes.{Notes}
 use Rattle.watch_machine.specs.declared.outlook.Next.{Next}
 use Rattle.agent_house.specs.Commands.{AsksFor, SettlesGiven, is_served}
@@ -32,7 +32,7 @@ use Rattle.agent_house.specs.declared.house.House.{House}
 
 -- the time is handed in, by which a lack of memory passes; then what is noted of it is said, and then the next time of an entry, where
 -- it is told
-pub record HearsOfTime {S T D K E : Type 0} (agent : Agent) (notes : Notes) (requests : List Request) (next : Option (Option Next)) (old new : House S T D K E) : Type 0 where
+pub record HearsOfTime {S T D K E : Type 0} (agent : Agent) (notes : Notes) (requests : List WatchRequest) (next : Option (Option Next)) (old new : House S T D K E) : Type 0 where
   pub timed : Desk
   pub desk : Desk
   pub time : HearsTime agent old.desk timed
@@ -70,7 +70,7 @@ pub record SettlesChange {S T D K E : Type 0} (does : KeepCall → K → K → T
 
 -- ---- each call
 
-module _ {S T D K E : Type 0} (given : S → Option (List ℕ)) (failures tries : S → ℕ) (tried : S → Option (List Tried)) (remaining written : T → Option (List ℕ)) (calls : T → Option (List Call)) (log : D → Option (DoorLog T))
+module _ {S T D K E : Type 0} (given : S → Option (List ℕ)) (failures tries : S → ℕ) (tried : S → Option (List Tried)) (remaining written : T → Option (List ℕ)) (calls : T → Option (List TalkCall)) (log : D → Option (DoorLog T))
     (does : KeepCall → K → K → Type 0) (rows : K → List Row) (keeps : K → Bool) (path : K → List ℕ) (reads : K → List ℕ → Result Row Why → Type 0) (gives : ℕ → Result (Option Inventory) AllocError → K → Type 0)
     (known : Bool) (state : E → DiskState) where
   -- the ends are kept, then files of credentials are looked at, and then the log's reader, the onlookers and the clients are attended to

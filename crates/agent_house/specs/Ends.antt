@@ -6,7 +6,7 @@ use Rattle.base_disk.specs.State.{DiskState}
 use Rattle.base_disk.specs.declared.fault.DiskFault.{DiskFault}
 use Rattle.agent_ends.specs.Files.{EndsFileGoesOn, tells_of_end}
 use Rattle.agent_ends.specs.declared.file.EndsFile.{EndsFile}
-use Rattle.watch_machine.specs.declared.event.Reply.{Reply}
+use Rattle.watch_machine.specs.declared.event.WatchReply.{WatchReply}
 use Rattle.agent_log.specs.LinesOfEnds.{tried_lines}
 use Rattle.agent_log.specs.LogDesk.{SaysLines}
 use Rattle.agent_house.specs.declared.house.House.{House}
@@ -28,10 +28,10 @@ pub record KeepsEnds {S T D K E : Type 0} (known : Bool) (state : E → DiskStat
   pub rest : new ≡ record old { desk = new.desk; ends = new.ends }
 
 -- an answer is heard of
-abbrev pub after_answer : {E : Type 0} → Reply → EndsFile E → EndsFile E
+abbrev pub after_answer : {E : Type 0} → WatchReply → EndsFile E → EndsFile E
 after_answer reply f = record f { is_stale = f.is_stale || tells_of_end reply }
 
-abbrev pub HearsEnd : {S T D K E : Type 0} → Reply → House S T D K E → House S T D K E → Type 0
+abbrev pub HearsEnd : {S T D K E : Type 0} → WatchReply → House S T D K E → House S T D K E → Type 0
 HearsEnd reply old new = new ≡ record old { ends = option_map (after_answer reply) old.ends }
 
 -- another inventory is served: what was said of the next time counts no more, and the ends are to be kept anew

@@ -5,13 +5,13 @@ use Rattle.std.specs.declared.alloc.AllocError.{AllocError}
 use Rattle.agent_standing.specs.Agent.{Agent}
 use Rattle.agent_answers.specs.Controlling.{AnswersAside, AnswersAsked, ControlGoesOn, GivesAsked}
 use Rattle.agent_answers.specs.Onlooking.{OnlookingGoesOn}
-use Rattle.agent_answers.specs.declared.asked.Asked.{Asked}
+use Rattle.agent_answers.specs.declared.asked.ClientOrder.{ClientOrder}
 use Rattle.agent_answers.specs.declared.control.Control.{Control}
 use Rattle.agent_answers.specs.declared.onlookers.Onlookers.{Onlookers}
 use Rattle.agent_answers.specs.declared.went.Went.{Went}
 use Rattle.state_changes.specs.declared.row.Row.{Row}
 use Rattle.base_clients.specs.Doors.{DoorLog}
-use Rattle.base_clients.specs.declared.talk.Call.{Call}
+use Rattle.base_clients.specs.declared.talk.TalkCall.{TalkCall}
 use Rattle.base_clock.specs.declared.reading.Reading.{Reading}
 use Rattle.base_device.specs.declared.tried.Tried.{Tried}
 use Rattle.base_log.specs.Waiting.{Waiting}
@@ -21,7 +21,7 @@ use Rattle.agent_pages.specs.declared.board.Surroundings.{Surroundings}
 use Rattle.agent_pages.specs.declared.standby.Standby.{Standby}
 use Rattle.agent_pages.specs.declared.state_folder.StateFolder.{StateFolder}
 use Rattle.agent_pages.specs.Naming.{Around, beside}
-use Rattle.agent_turns.specs.declared.change.Change.{Change}
+use Rattle.agent_turns.specs.declared.change.AgentChange.{AgentChange}
 use Rattle.watch_machine.specs.declared.outlook.Next.{Next}
 use Rattle.agent_log.specs.LogDesk.{Desk, HearsIf, HearsWant, ReaderIsGiven}
 use Rattle.agent_log.specs.Feeding.{FollowersGoOn}
@@ -54,7 +54,7 @@ named_in rows None = []
 abbrev pub idle : Went
 idle = record { is_busy = false; is_enough = true }
 
-module _ {T D : Type 0} (remaining written : T → Option (List ℕ)) (calls : T → Option (List Call)) (log : D → Option (DoorLog T)) (agent : Agent) (around : Around) (now : Reading) (went : Went) where
+module _ {T D : Type 0} (remaining written : T → Option (List ℕ)) (calls : T → Option (List TalkCall)) (log : D → Option (DoorLog T)) (agent : Agent) (around : Around) (now : Reading) (went : Went) where
   abbrev pub OnlookersGoOn : Option (Onlookers T D) → Option (Onlookers T D) → Type 0
   OnlookersGoOn None new = (went ≡ idle) × (new ≡ None)
   OnlookersGoOn (Some old) None = ⊥
@@ -68,7 +68,7 @@ module _ {T D : Type 0} (remaining written : T → Option (List ℕ)) (calls : T
 -- the log's reader is given of what waits, and then each of those who follow the log; then the onlookers and the clients go on, each for
 -- itself, with the agent as it is and what is around it then; and where memory was wanting for one of them, that is said. Nothing else
 -- changes
-pub record Attends {S T D K E : Type 0} (given : S → Option (List ℕ)) (failures tries : S → ℕ) (tried : S → Option (List Tried)) (remaining written : T → Option (List ℕ)) (calls : T → Option (List Call)) (log : D → Option (DoorLog T))
+pub record Attends {S T D K E : Type 0} (given : S → Option (List ℕ)) (failures tries : S → ℕ) (tried : S → Option (List Tried)) (remaining written : T → Option (List ℕ)) (calls : T → Option (List TalkCall)) (log : D → Option (DoorLog T))
     (rows : K → List Row) (keeps : K → Bool) (agent : Agent) (now : Reading) (goes_on : Bool) (old new : House S T D K E) : Type 0 where
   pub room : Waiting
   pub rooms : Rooms
@@ -90,14 +90,14 @@ pub record Attends {S T D K E : Type 0} (given : S → Option (List ℕ)) (failu
 -- ---- what clients ask for
 
 -- the changes that were given so far: none where nobody asks for any and nobody keeps any, and else those are not known
-abbrev pub given_where : Bool → Option (List Change)
+abbrev pub given_where : Bool → Option (List AgentChange)
 given_where true = None
 given_where false = Some []
 
-abbrev pub changes_given : {C K : Type 0} → Option C → Option K → Option (List Change)
+abbrev pub changes_given : {C K : Type 0} → Option C → Option K → Option (List AgentChange)
 changes_given control state = given_where (is_some control || is_some state)
 
-abbrev pub ClientsAsk : {T D : Type 0} → Reading → Result (Option Asked) AllocError → Option (Control T D) → Option (Control T D) → Type 0
+abbrev pub ClientsAsk : {T D : Type 0} → Reading → Result (Option ClientOrder) AllocError → Option (Control T D) → Option (Control T D) → Type 0
 ClientsAsk now result None new = (result ≡ Ok None) × (new ≡ None)
 ClientsAsk now result (Some old) None = ⊥
 ClientsAsk now result (Some old) (Some new) = GivesAsked now old result new

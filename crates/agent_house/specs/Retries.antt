@@ -2,7 +2,7 @@
 -- Source: docs/commands/serve.md, "Changes".
 use Rattle.std.specs.Prelude.{◌≡◌, ℕ, ◌/◌, Bool, true, false, Option, Some, None, Result, Ok, Err}
 use Rattle.std.specs.declared.alloc.AllocError.{AllocError}
-use Rattle.agent_answers.specs.declared.asked.Asked.{Asked}
+use Rattle.agent_answers.specs.declared.asked.ClientOrder.{ClientOrder}
 use Rattle.agent_ledger.specs.Keeping.{KeepCall, TryAgain}
 use Rattle.agent_ledger.specs.declared.keeping.KeepNews.{KeepNews}
 use Rattle.agent_log.specs.AtStart.{AreSaidAtStart}
@@ -46,7 +46,7 @@ SaysNews now (Some news) file old after new = (after ≡ read_so now news.is_goo
 
 -- ---- whoever is there tries again, where a client asks for something or not
 
-abbrev pub is_any_asked : Result (Option Asked) AllocError → Bool
+abbrev pub is_any_asked : Result (Option ClientOrder) AllocError → Bool
 is_any_asked (Ok None) = false
 is_any_asked (Ok (Some asked)) = true
 is_any_asked (Err e) = false

@@ -1,6 +1,6 @@
 //! A client asks that one more entry is kept.
 ghost use Rattle.std.specs.Prelude.{◌≡◌, IfErr, IfOk, IfSome, None};
-ghost use Rattle.state_changes.specs.declared.change.What.TheVariants as kinds;
+ghost use Rattle.state_changes.specs.declared.change.ChangeKind.TheVariants as kinds;
 ghost use Rattle.agent_house.specs.Commands.{AddsEntry, ReadsRow, row_in};
 ghost use Rattle.agent_house.specs.Awaiting.{AddsRow, IsAddedLine};
 ghost use Rattle.agent_ledger.specs.Keeping.{KeeperIsAsked, Take};
@@ -15,7 +15,7 @@ use agent_words::{add_line, why_not_kept};
 use base_clients::{Door, Talk};
 use base_clock::Reading;
 use base_moment::{Name, Text};
-use state_changes::{Row, What};
+use state_changes::{Row, ChangeKind};
 use std::alloc::Global;
 use vault_lanes::Loss;
 
@@ -25,7 +25,7 @@ impl<S, T: Talk, D: Door<T>, K: Keeping, E> House<S, T, D, K, E> {
         ensures { AddsEntry K.does K.rows K.reads agent.now now table.now self.old self.new }
     {
         match read_row(alloc, &self.state, table) {
-            Ok((name, row)) => self.look_up_first(alloc, agent, now, name, What::Add(row)),
+            Ok((name, row)) => self.look_up_first(alloc, agent, now, name, ChangeKind::Add(row)),
             Err(why) => self.will_tell(alloc, Err(why), now.elapsed),
         }
     }
@@ -90,7 +90,7 @@ fn add_row<K: Keeping>(
         return Err(why_not_kept(alloc));
     };
     let until = until_of(row.need);
-    match state.take(alloc, now, name, What::Add(row)) {
+    match state.take(alloc, now, name, ChangeKind::Add(row)) {
         Ok(()) => Ok(added(alloc, name, until, why)),
         Err(refused) => Err(refused),
     }

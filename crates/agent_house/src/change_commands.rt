@@ -1,7 +1,7 @@
 //! Clients ask that an entry has another credential, or is dropped, and that the file holds every change.
 ghost use Rattle.std.specs.Prelude.{◌≡◌, IfSome};
 ghost use Rattle.state_changes.specs.Rows.{named};
-ghost use Rattle.state_changes.specs.declared.change.What.TheVariants as kinds;
+ghost use Rattle.state_changes.specs.declared.change.ChangeKind.TheVariants as kinds;
 ghost use Rattle.agent_house.specs.Awaiting.{Replaces};
 ghost use Rattle.agent_log.specs.Changed.{entry_log_line};
 ghost use Rattle.agent_house.specs.Commands.{DropsEntry, SettlesFile, end_known_at, end_named};
@@ -18,7 +18,7 @@ use agent_words::{drop_line, replace_line, settle_line, why_not_kept};
 use base_clients::{Door, Talk};
 use base_clock::Reading;
 use base_moment::Text;
-use state_changes::What;
+use state_changes::ChangeKind;
 use std::alloc::Global;
 use vault_lanes::Loss;
 
@@ -110,7 +110,7 @@ fn replace<K: Keeping>(
     let Some(state) = state else {
         return Err(why_not_kept(alloc));
     };
-    match state.take(alloc, now, name, What::Replace(credential)) {
+    match state.take(alloc, now, name, ChangeKind::Replace(credential)) {
         Ok(()) => Ok(replaced(alloc, name, state, why)),
         Err(refused) => Err(refused),
     }
@@ -128,7 +128,7 @@ fn drop_entry<K: Keeping>(
     let Some(state) = state else {
         return Err(why_not_kept(alloc));
     };
-    match state.take(alloc, now, name, What::Drop) {
+    match state.take(alloc, now, name, ChangeKind::Drop) {
         Ok(()) => Ok(drop_line(alloc, name, end).ok()),
         Err(why) => Err(why),
     }

@@ -11,7 +11,7 @@ use agent_words::{why_endless, why_later, why_refused};
 use base_clients::{Door, Talk};
 use base_clock::Reading;
 use base_moment::Name;
-use state_changes::What;
+use state_changes::ChangeKind;
 use std::alloc::{AllocError, Global};
 use std::mem;
 use vault_lanes::Loss;
@@ -26,7 +26,7 @@ impl<S, T: Talk, D: Door<T>, K: Keeping, E> House<S, T, D, K, E> {
         agent: &Agent,
         now: Reading,
         name: Name,
-        what: What,
+        what: ChangeKind,
     )
         ensures { LooksUpFirst K.does K.rows agent.now now name what self.old self.new }
     {
@@ -39,7 +39,7 @@ impl<S, T: Talk, D: Door<T>, K: Keeping, E> House<S, T, D, K, E> {
     }
 
     // It waits for the broker's word, and its client is set aside till then.
-    fn set_aside(&mut self, name: Name, what: What)
+    fn set_aside(&mut self, name: Name, what: ChangeKind)
         ensures { SetsAside name what self.old self.new }
     {
         let client = set_aside(&mut self.control);
@@ -53,15 +53,15 @@ impl<S, T: Talk, D: Door<T>, K: Keeping, E> House<S, T, D, K, E> {
         agent: &Agent,
         now: Reading,
         name: &[u8],
-        what: What,
+        what: ChangeKind,
         why: Option<Loss>,
     )
         ensures { Makes K.does K.rows agent.now now name.now what why self.old self.new }
     {
         match what {
-            What::Replace(credential) => self.replace(alloc, agent, now, name, credential, why),
-            What::Add(row) => self.add_row(alloc, agent, now, name, row, why),
-            What::Need(_) | What::Drop => self.will_tell(alloc, Err(None), now.elapsed),
+            ChangeKind::Replace(credential) => self.replace(alloc, agent, now, name, credential, why),
+            ChangeKind::Add(row) => self.add_row(alloc, agent, now, name, row, why),
+            ChangeKind::Need(_) | ChangeKind::Drop => self.will_tell(alloc, Err(None), now.elapsed),
         }
     }
 
@@ -165,7 +165,7 @@ fn look_up<K: Keeping>(
     state: &mut Option<K>,
     now: Reading,
     name: &[u8],
-    what: &What,
+    what: &ChangeKind,
 ) -> Result<LookedUp, AllocError>
     ensures { LooksUpBy K.does now name.now what.now result state.old state.new }
 {

@@ -8,11 +8,11 @@ use agent_standing::Agent;
 use base_clock::Reading;
 use base_disk::{Disk, DiskFault};
 use std::alloc::Global;
-use watch_machine::Reply;
+use watch_machine::WatchReply;
 
 impl<S, T, D, K, E> House<S, T, D, K, E> {
     /// An answer was handed in.
-    pub fn hear_end(&mut self, reply: Reply)
+    pub fn hear_end(&mut self, reply: WatchReply)
         ensures { HearsEnd reply self.old self.new }
     {
         if let Some(ends) = &mut self.ends {

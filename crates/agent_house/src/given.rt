@@ -4,7 +4,7 @@ ghost use Rattle.agent_house.specs.Commands.{is_served};
 
 use agent_log::Mark;
 use base_moment::{Name, Text};
-use state_changes::What;
+use state_changes::ChangeKind;
 
 /// A need that a client gave, as long as it is not settled.
 #[derive(Clone, Copy, Debug, PartialEq, Eq)]
@@ -52,7 +52,7 @@ pub struct Awaited {
     pub client: Option<u64>,
     /// The name of the entry.
     pub name: Name,
-    pub what: What,
+    pub what: ChangeKind,
 }
 
 /// Whether another inventory was given last.

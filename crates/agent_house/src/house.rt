@@ -8,7 +8,7 @@ use agent_ledger::Keeping;
 use agent_log::Desk;
 use agent_pages::{FileReading, Standby};
 use agent_standing::Agent;
-use agent_turns::{Change, Happened, Neighbours};
+use agent_turns::{AgentChange, Happened, Neighbours};
 use base_clients::{Door, Talk};
 use base_clock::Reading;
 use base_disk::Disk;
@@ -104,7 +104,7 @@ impl<S: LogSink, T: Talk, D: Door<T>, K: Keeping, E: Disk> Neighbours for House<
     }
 
     #[tactic(auto, using(crate::proofs::Givers::one_by_asking))]
-    fn change(&mut self, alloc: Global, agent: &Agent, now: Reading) -> Option<Change> {
+    fn change(&mut self, alloc: Global, agent: &Agent, now: Reading) -> Option<AgentChange> {
         self.next_change(alloc, agent, now)
     }
 

@@ -3,7 +3,7 @@ ghost use Rattle.std.specs.Prelude.{◌≡◌};
 ghost use Rattle.agent_house.specs.Retries.{KeeperTries, SaysNews, TriesAgain, folder_in, folder_where, is_any_asked, keeps_in, read_badly, read_so, read_well};
 
 use crate::house::House;
-use agent_answers::Asked;
+use agent_answers::ClientOrder;
 use agent_ledger::{KeepNews, Keeping};
 use agent_log::{Desk, say_at_start};
 use agent_pages::{FileReading, StateFolder};
@@ -17,7 +17,7 @@ impl<S, T, D, K: Keeping, E> House<S, T, D, K, E> {
         &mut self,
         alloc: Global,
         now: Reading,
-        asked: &Result<Option<Asked>, AllocError>,
+        asked: &Result<Option<ClientOrder>, AllocError>,
     )
         ensures { TriesAgain K.does now (is_any_asked asked.now) self.old self.new }
     {
@@ -49,7 +49,7 @@ fn try_again<K: Keeping>(
     alloc: Global,
     state: &mut Option<K>,
     now: u64,
-    asked: &Result<Option<Asked>, AllocError>,
+    asked: &Result<Option<ClientOrder>, AllocError>,
 ) -> Option<KeepNews>
     ensures { KeeperTries K.does now (is_any_asked asked.now) result state.old state.new }
 {
@@ -91,7 +91,7 @@ fn folder_where(keeps: bool) -> StateFolder
 }
 
 // Whether something is asked for.
-fn is_any_asked(asked: &Result<Option<Asked>, AllocError>) -> bool
+fn is_any_asked(asked: &Result<Option<ClientOrder>, AllocError>) -> bool
     ensures { result ≡ is_any_asked asked.now }
 {
     match asked {

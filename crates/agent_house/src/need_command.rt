@@ -8,12 +8,12 @@ use crate::given::{Given, GivenNeed};
 use crate::house::House;
 use agent_ledger::Keeping;
 use agent_standing::Agent;
-use agent_turns::Change;
+use agent_turns::AgentChange;
 use agent_words::need_line;
 use base_clients::{Door, Talk};
 use base_clock::Reading;
 use base_moment::{LAST, Text};
-use state_changes::What;
+use state_changes::ChangeKind;
 use std::alloc::Global;
 use vault_inventory::Need;
 
@@ -26,14 +26,14 @@ impl<S, T: Talk, D: Door<T>, K: Keeping, E> House<S, T, D, K, E> {
         now: Reading,
         name: &[u8],
         need: &Need,
-    ) -> Change
+    ) -> AgentChange
         ensures { Needs K.does K.keeps agent.now now name.now need.now result self.old self.new }
     {
         match keep_need(alloc, &mut self.state, agent, now, name, *need) {
             Ok(()) => self.give_need(alloc, agent, now, name, until_of(*need)),
             Err(why) => {
                 self.will_tell(alloc, Err(why), now.elapsed);
-                Change::Kept
+                AgentChange::Kept
             }
         }
     }
@@ -46,21 +46,21 @@ impl<S, T: Talk, D: Door<T>, K: Keeping, E> House<S, T, D, K, E> {
         now: Reading,
         name: &[u8],
         until: u64,
-    ) -> Change
+    ) -> AgentChange
         ensures { GivesNeed agent.now now name.now until (index_named agent.now.inventory.forest.entries name.now) result self.old self.new }
     {
         let Some(entry) = agent.inventory().forest().find(name) else {
             let line = need_line(alloc, name, until).ok();
             self.desk.hear_need(alloc, agent, name, until);
             self.will_tell(alloc, Ok(line), now.elapsed);
-            return Change::Kept;
+            return AgentChange::Kept;
         };
         self.given = Some(Given::Need(GivenNeed {
             entry,
             until,
             at: now.elapsed,
         }));
-        Change::Need { entry, until }
+        AgentChange::Need { entry, until }
     }
 }
 
@@ -93,7 +93,7 @@ fn take_need<K: Keeping>(
     ensures { TakesNeedBy K.does (K.keeps state.old) agent.now now name.now need result state.old state.new }
 {
     if state.keeps() {
-        return state.take(alloc, now.elapsed, name, What::Need(need));
+        return state.take(alloc, now.elapsed, name, ChangeKind::Need(need));
     }
     let there = entry_is_there(alloc, agent, name);
     take_if_there(alloc, state, there, now, name, need)
@@ -110,7 +110,7 @@ fn take_if_there<K: Keeping>(
     ensures { TakesIfThere K.does now name.now need there result state.old state.new }
 {
     match there {
-        Ok(()) => state.take(alloc, now.elapsed, name, What::Need(need)),
+        Ok(()) => state.take(alloc, now.elapsed, name, ChangeKind::Need(need)),
         Err(why) => Err(why),
     }
 }

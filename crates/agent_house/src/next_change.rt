@@ -8,17 +8,17 @@ use crate::client_answer::{answer, answer_aside};
 use crate::given::{Given, GivenNeed};
 use crate::house::House;
 use crate::keep_news::keeps;
-use agent_answers::{Asked, Control};
+use agent_answers::{ClientOrder, Control};
 use agent_ledger::Keeping;
 use agent_log::{Mark, fresh_marks};
 use agent_standing::Agent;
-use agent_turns::Change;
+use agent_turns::AgentChange;
 use agent_words::{need_line, need_reply};
 use base_clients::{Door, Talk};
 use base_clock::Reading;
 use base_moment::{LAST, Text};
 use program_lines::name_of;
-use state_changes::What;
+use state_changes::ChangeKind;
 use std::alloc::{AllocError, Global};
 use std::mem;
 use vault_inventory::Inventory;
@@ -28,14 +28,14 @@ impl<S, T: Talk, D: Door<T>, K: Keeping, E> House<S, T, D, K, E> {
     /// The next change that the loop is to make: the inventory that is due; else the change that has waited for the
     /// broker's word, once that is there; else what the first of the clients asks for whose line has ended is carried out. Its client
     /// is told what came of it once the change is settled. Where memory was wanting, there is no change, and that is said.
-    pub fn next_change(&mut self, alloc: Global, agent: &Agent, now: Reading) -> Option<Change>
+    pub fn next_change(&mut self, alloc: Global, agent: &Agent, now: Reading) -> Option<AgentChange>
         ensures { AsksFor K.does K.rows K.keeps K.path K.reads K.gives agent.now now result self.old self.new }
     {
         match due_with_marks(alloc, &self.state, now) {
             Ok(None) => self.go_on_with_clients(alloc, agent, now),
             Ok(Some((inventory, marks))) => {
                 self.given = Some(given_with(agent, &inventory, marks));
-                Some(Change::Serve(inventory))
+                Some(AgentChange::Serve(inventory))
             }
             Err(AllocError) => {
                 self.desk.hear_refusal(alloc, agent);
@@ -45,17 +45,17 @@ impl<S, T: Talk, D: Door<T>, K: Keeping, E> House<S, T, D, K, E> {
     }
 
     // What has waited for the broker's word is carried out, or refused, once that is there; else what the first of the clients asks for.
-    fn go_on_with_clients(&mut self, alloc: Global, agent: &Agent, now: Reading) -> Option<Change>
+    fn go_on_with_clients(&mut self, alloc: Global, agent: &Agent, now: Reading) -> Option<AgentChange>
         ensures { GoesOnWithClients K.does K.rows K.keeps K.path K.reads K.gives agent.now now result self.old self.new }
     {
         if self.hear_verdict(alloc, agent, now) {
-            return Some(Change::Kept);
+            return Some(AgentChange::Kept);
         }
         self.serve_clients(alloc, agent, now)
     }
 
     // What the first of the clients asks for is carried out, once who does not keep changes yet has tried again to.
-    fn serve_clients(&mut self, alloc: Global, agent: &Agent, now: Reading) -> Option<Change>
+    fn serve_clients(&mut self, alloc: Global, agent: &Agent, now: Reading) -> Option<AgentChange>
         ensures { ServesClients K.does K.rows K.keeps K.path K.reads K.gives agent.now now result self.old self.new }
     {
         let asked = asked_of(alloc, &mut self.control, now);
@@ -69,8 +69,8 @@ impl<S, T: Talk, D: Door<T>, K: Keeping, E> House<S, T, D, K, E> {
         alloc: Global,
         agent: &Agent,
         now: Reading,
-        asked: Result<Option<Asked>, AllocError>,
-    ) -> Option<Change>
+        asked: Result<Option<ClientOrder>, AllocError>,
+    ) -> Option<AgentChange>
         ensures { CarriesIf K.does K.rows K.keeps K.path K.reads K.gives agent.now now asked result self.old self.new }
     {
         match asked {
@@ -84,21 +84,21 @@ impl<S, T: Talk, D: Door<T>, K: Keeping, E> House<S, T, D, K, E> {
     }
 
     // Carries out what a client asks for.
-    fn carry_out(&mut self, alloc: Global, agent: &Agent, now: Reading, asked: Asked) -> Change
+    fn carry_out(&mut self, alloc: Global, agent: &Agent, now: Reading, asked: ClientOrder) -> AgentChange
         ensures { CarriesOut K.does K.rows K.keeps K.path K.reads K.gives agent.now now asked result self.old self.new }
     {
         match asked {
-            Asked::Need { name, need } => return self.need(alloc, agent, now, name.list(), &need),
-            Asked::Replace { name, credential } => {
-                self.look_up_first(alloc, agent, now, name, What::Replace(credential))
+            ClientOrder::Need { name, need } => return self.need(alloc, agent, now, name.list(), &need),
+            ClientOrder::Replace { name, credential } => {
+                self.look_up_first(alloc, agent, now, name, ChangeKind::Replace(credential))
             }
-            Asked::Add { table } => self.add(alloc, agent, now, table.list()),
-            Asked::Drop { name } => self.drop_entry(alloc, agent, now, name.list()),
-            Asked::Settle => self.settle_file(alloc, agent, now),
-            Asked::Reload => self.reload(alloc, agent, now),
-            Asked::Follow { alerts } => self.follow(alloc, now, alerts),
+            ClientOrder::Add { table } => self.add(alloc, agent, now, table.list()),
+            ClientOrder::Drop { name } => self.drop_entry(alloc, agent, now, name.list()),
+            ClientOrder::Settle => self.settle_file(alloc, agent, now),
+            ClientOrder::Reload => self.reload(alloc, agent, now),
+            ClientOrder::Follow { alerts } => self.follow(alloc, now, alerts),
         }
-        Change::Kept
+        AgentChange::Kept
     }
 
     /// What was given last is settled: its client is told what came of it; where it was not made, it is told nothing, and its
@@ -229,7 +229,7 @@ fn asked_of<T: Talk, D: Door<T>>(
     alloc: Global,
     control: &mut Option<Control<T, D>>,
     now: Reading,
-) -> Result<Option<Asked>, AllocError>
+) -> Result<Option<ClientOrder>, AllocError>
     ensures { ClientsAsk now result control.old control.new }
 {
     match control {

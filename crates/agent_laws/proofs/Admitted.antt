@@ -9,24 +9,24 @@ use Rattle.std.specs.declared.alloc.AllocError.{AllocError}
 use Rattle.std.specs.declared.alloc.Global.{Global}
 use Rattle.agent_standing.specs.Agent.{Agent}
 use Rattle.agent_answers.specs.Controlling.{FollowsAsking}
-use Rattle.agent_answers.specs.declared.asked.Asked.{Asked}
-use Rattle.agent_answers.specs.declared.asked.Asked.TheVariants as asked
+use Rattle.agent_answers.specs.declared.asked.ClientOrder.{ClientOrder}
+use Rattle.agent_answers.specs.declared.asked.ClientOrder.TheVariants as asked
 use Rattle.agent_answers.specs.declared.control.Control.{Control}
-use Rattle.state_changes.specs.declared.change.What.{What}
-use Rattle.state_changes.specs.declared.change.What.TheVariants as what
+use Rattle.state_changes.specs.declared.change.ChangeKind.{ChangeKind}
+use Rattle.state_changes.specs.declared.change.ChangeKind.TheVariants as what
 use Rattle.state_changes.specs.declared.row.Row.{Row}
 use Rattle.base_clients.specs.Guests.{is_stage_asked, is_waiting}
 use Rattle.base_clients.specs.Tables.{BecomesAt, GuestTable, TakesAt, following, waits_as}
-use Rattle.base_clients.specs.declared.clients.Request.{Request}
+use Rattle.base_clients.specs.declared.clients.GuestRequest.{GuestRequest}
 use Rattle.base_clients.specs.declared.guest.Guest.{Guest}
-use Rattle.base_clients.specs.declared.stage.Stage.{Stage}
-use Rattle.base_clients.specs.declared.stage.Stage.TheVariants as stages
+use Rattle.base_clients.specs.declared.stage.GuestStage.{GuestStage}
+use Rattle.base_clients.specs.declared.stage.GuestStage.TheVariants as stages
 use Rattle.base_clock.specs.declared.reading.Reading.{Reading}
 use Rattle.vault_inventory.specs.Inventories.{Inventory}
 use Rattle.vault_lanes.specs.declared.loss.Loss.{Loss}
 use Rattle.vault_proving.specs.declared.verdict.Verdict.{Verdict}
 use Rattle.vault_proving.specs.declared.verdict.Verdict.TheVariants as verdicts
-use Rattle.agent_turns.specs.declared.change.Change.{Change}
+use Rattle.agent_turns.specs.declared.change.AgentChange.{AgentChange}
 use Rattle.agent_log.specs.Lines.{Line}
 use Rattle.agent_log.specs.declared.mark.Mark.{Mark}
 use Rattle.agent_words.specs.Outcomes.{Outcome, Why, Whys}
@@ -60,7 +60,7 @@ set_back (x ∷ xs) (suc i) zero g n after here is = (x, (refl, inr (ap (the x) 
 set_back (x ∷ xs) (suc i) (suc place) g n after here is = set_back xs i place g n after here is
 
 -- one that waits is given no answer yet
-no_answer : (s : Stage) (text : List ℕ) → s ≡ stages.Waiting → answer_in s ≡ Some text → ⊥
+no_answer : (s : GuestStage) (text : List ℕ) → s ≡ stages.Waiting → answer_in s ≡ Some text → ⊥
 no_answer s text waits is = absurd (let none : None ≡ Some text = sym (ap answer_in waits) ∙ is in cc)
 
 module _ {T : Type 0} where
@@ -102,7 +102,7 @@ module _ {T : Type 0} where
         so = elim back.1.1 [ inl it ↦ inr (ap (λ (x : Guest T). x.stage) (it.1 ∙ waits)) | inr same ↦ inl same ];
       }
 
-  taken_at : {F : Type 0} (at : Option ℕ) (request : Request) (old new : GuestTable T F) → TakesAt at old (Some request) new → AreTaken old.guests new.guests
+  taken_at : {F : Type 0} (at : Option ℕ) (request : GuestRequest) (old new : GuestTable T F) → TakesAt at old (Some request) new → AreTaken old.guests new.guests
   taken_at None request old new h = absurd (let clash : Some request ≡ None = h.0 in cc)
   taken_at {F} (Some i) request old new h =
       let g = h.0 in
@@ -166,7 +166,7 @@ module _ {T D : Type 0} where
   aside_left client (Some old) None h = absurd h
   aside_left client (Some old) (Some new) h = ap (λ (c : Control T D). c.clients.guests) h.1
 
-  asked_taken : (now : Reading) (x : Asked) (old new : Option (Control T D)) → ClientsAsk {T = T} {D = D} now (Ok (Some x)) old new → AreTaken (guests_in old) (guests_in new)
+  asked_taken : (now : Reading) (x : ClientOrder) (old new : Option (Control T D)) → ClientsAsk {T = T} {D = D} now (Ok (Some x)) old new → AreTaken (guests_in old) (guests_in new)
   asked_taken now x None new h = absurd (let clash = h.0 in cc)
   asked_taken now x (Some old) None h = absurd h
   asked_taken now x (Some old) (Some new) h = taken_at (position (λ (g : Guest T). is_stage_asked g.stage) old.clients.guests) h.1.request old.clients new.clients h.1.taken
@@ -191,11 +191,11 @@ module _ {S T D K E : Type 0} where
   concluded : (agent : Agent) (l : Line) (outcome : Outcome) (now : ℕ) (old new : House S T D K E) → Concludes agent l outcome now old new → new.control ≡ old.control
   concluded agent l outcome now old new h = told outcome now (record old { desk = h.desk }) new h.will
 
-  given_need : (agent : Agent) (now : Reading) (name : List ℕ) (until : ℕ) (i : Option ℕ) (change : Change) (old new : House S T D K E) → GivesNeed agent now name until i change old new → new.control ≡ old.control
+  given_need : (agent : Agent) (now : Reading) (name : List ℕ) (until : ℕ) (i : Option ℕ) (change : AgentChange) (old new : House S T D K E) → GivesNeed agent now name until i change old new → new.control ≡ old.control
   given_need agent now name until (Some i) change old new h = ap (λ x. x.control) h.1
   given_need agent now name until None change old new h = concluded agent _ (Ok h.1.0) now.elapsed old new h.1.1.1
 
-  need_if : (agent : Agent) (now : Reading) (name : List ℕ) (until : ℕ) (result : Result (Unit {0}) Why) (change : Change) (old new : House S T D K E) → NeedsIf agent now name until result change old new → new.control ≡ old.control
+  need_if : (agent : Agent) (now : Reading) (name : List ℕ) (until : ℕ) (result : Result (Unit {0}) Why) (change : AgentChange) (old new : House S T D K E) → NeedsIf agent now name until result change old new → new.control ≡ old.control
   need_if agent now name until (Ok x) change old new h = given_need agent now name until _ change old new h
   need_if agent now name until (Err why) change old new h = told (Err why) now.elapsed old new h.1
 
@@ -205,17 +205,17 @@ module _ {S T D K E : Type 0} where
   reload_told path agent now (Some (Err whys)) old new h = refused whys.items now.elapsed (record old { desk = h.desk; file = read_badly now old.file }) new h.will
 
 module _ {S T D K E : Type 0} (does : KeepCall → K → K → Type 0) (rows : K → List Row) (agent : Agent) (now : Reading) where
-  made : (name : List ℕ) (w : What) (why : Option Loss) (old new : House S T D K E) → Makes does rows agent now name w why old new → new.control ≡ old.control
+  made : (name : List ℕ) (w : ChangeKind) (why : Option Loss) (old new : House S T D K E) → Makes does rows agent now name w why old new → new.control ≡ old.control
   made name (what.Replace credential) why old new h = concluded agent _ h.outcome now.elapsed (record old { state = h.state }) new h.concludes
   made name (what.Add row) why old new h = concluded agent _ h.outcome now.elapsed (record old { state = h.state }) new h.concludes
   made name _ why old new h = told (Err None) now.elapsed old new h
 
-  judged : (name : List ℕ) (w : What) (verdict : Verdict) (old new : House S T D K E) → Judges does rows agent now name w verdict old new → new.control ≡ old.control
+  judged : (name : List ℕ) (w : ChangeKind) (verdict : Verdict) (old new : House S T D K E) → Judges does rows agent now name w verdict old new → new.control ≡ old.control
   judged name w verdicts.Good old new h = made name w None old new h
   judged name w (verdicts.Missing why) old new h = made name w (Some why) old new h
   judged name w _ old new h = told (Err h.0) now.elapsed old new h.1.1
 
-  looked_if : (name : List ℕ) (w : What) (result : Result LookedUp AllocError) (old new : House S T D K E) → LooksUpIf does rows agent now name w result old new → guests_in new.control ≡ guests_in old.control
+  looked_if : (name : List ℕ) (w : ChangeKind) (result : Result LookedUp AllocError) (old new : House S T D K E) → LooksUpIf does rows agent now name w result old new → guests_in new.control ≡ guests_in old.control
   looked_if name w (Ok lookups.Out) old new h = aside_left h.client old.control new.control h.aside
   looked_if name w (Ok lookups.Later) old new h = ap guests_in (told (Err h.0) now.elapsed old new h.1.1)
   looked_if name w (Ok lookups.Nothing) old new h = ap guests_in (made name w None old new h)
@@ -261,7 +261,7 @@ module _ {S T D K E : Type 0} (does : KeepCall → K → K → Type 0) (rows : K
     follows alerts asks (inl h) = left (ap guests_in (told (Err h.why) now.elapsed old new h.will))
     follows alerts asks (inr h) = admits alerts asks h.admits
 
-    carried : (x : Asked) (change : Change) → ((id : ℕ) → asking_in old.control ≡ Some id → IsTurnOf now first id x) → CarriesOut does rows keeps path reads gives agent now x change old new → IsTold new
+    carried : (x : ClientOrder) (change : AgentChange) → ((id : ℕ) → asking_in old.control ≡ Some id → IsTurnOf now first id x) → CarriesOut does rows keeps path reads gives agent now x change old new → IsTold new
     carried (asked.Need name need) change asks h = left (ap guests_in (need_if agent now name _ h.result change (record old { state = h.state }) new h.then))
     carried (asked.Replace name credential) change asks h = left (looked_if does rows agent now name (what.Replace credential) h.1.looked_up (record old { state = h.1.state }) new h.1.then)
     carried (asked.Add table) change asks h = left (added_if does rows agent now h.1.read old new h.1.then)
@@ -269,7 +269,7 @@ module _ {S T D K E : Type 0} (does : KeepCall → K → K → Type 0) (rows : K
     carried (asked.Follow alerts) change asks h = follows alerts asks h.1
     carried _ change asks h = left (ap guests_in (concluded agent _ h.1.outcome now.elapsed (record old { state = h.1.state }) new h.1.concludes))
 
-  carried_if : (x : Result (Option Asked) AllocError) (change : Option Change) (control : Option (Control T D)) (old tried new : House S T D K E) → old.control ≡ first → ClientsAsk now x old.control control → tried.control ≡ control →
+  carried_if : (x : Result (Option ClientOrder) AllocError) (change : Option AgentChange) (control : Option (Control T D)) (old tried new : House S T D K E) → old.control ≡ first → ClientsAsk now x old.control control → tried.control ≡ control →
       CarriesIf does rows keeps path reads gives agent now x change tried new → IsTold new
   carried_if (Ok None) change control old tried new same asks kept h =
       left tried new (none_taken (guests_in first) (guests_in tried.control) (ap guests_in (kept ∙ (none_asked now old.control control asks ∙ same)))) (ap (λ (x : House S T D K E). guests_in x.control) h.1)
@@ -281,17 +281,17 @@ module _ {S T D K E : Type 0} (does : KeepCall → K → K → Type 0) (rows : K
   carried_if (Err e) change control old tried new same asks kept h =
       left tried new (none_taken (guests_in first) (guests_in tried.control) (ap guests_in (kept ∙ (not_asked now e old.control control asks ∙ same)))) (ap (λ (x : House S T D K E). guests_in x.control) h.1.1)
 
-  goes_on_if : (heard : Bool) (change : Option Change) (mid new : House S T D K E) → mid.control ≡ first → GoesOnIf does rows keeps path reads gives agent now heard change mid new → IsTold new
+  goes_on_if : (heard : Bool) (change : Option AgentChange) (mid new : House S T D K E) → mid.control ≡ first → GoesOnIf does rows keeps path reads gives agent now heard change mid new → IsTold new
   goes_on_if true change mid new same h = same_ok (Follows (HasAskedBy now first)) (guests_in first) (guests_in new.control) (ap guests_in (ap (λ x. x.control) h.1 ∙ same))
   goes_on_if false change mid new same h = carried_if h.asked change h.control mid h.tried new same h.clients (ap (λ (x : House S T D K E). x.control) h.tries.rest) h.then
 
-  asked_if : (due : Result (Option (Inventory × Vec Mark Global)) AllocError) (change : Option Change) (old new : House S T D K E) → old.control ≡ first → AsksIf does rows keeps path reads gives agent now due change old new → IsTold new
+  asked_if : (due : Result (Option (Inventory × Vec Mark Global)) AllocError) (change : Option AgentChange) (old new : House S T D K E) → old.control ≡ first → AsksIf does rows keeps path reads gives agent now due change old new → IsTold new
   asked_if (Ok None) change old new same h = goes_on_if h.heard change h.mid new (heard_for does rows agent now old.awaited h.heard old h.mid h.hears ∙ same) h.then
   asked_if (Ok (Some p)) change old new same h = same_ok (Follows (HasAskedBy now first)) (guests_in first) (guests_in new.control) (ap guests_in (ap (λ x. x.control) h.1.1 ∙ same))
   asked_if (Err e) change old new same h = same_ok (Follows (HasAskedBy now first)) (guests_in first) (guests_in new.control) (ap guests_in (ap (λ x. x.control) h.1.1 ∙ same))
 
 -- whoever is told `ok` where a change is asked for follows the log from then on
 pub admitted_alone : {S T D K E : Type 0} (does : KeepCall → K → K → Type 0) (rows : K → List Row) (keeps : K → Bool) (path : K → List ℕ) (reads : K → List ℕ → Result Row Why → Type 0) (gives : ℕ → Result (Option Inventory) AllocError → K → Type 0)
-    (agent : Agent) (now : Reading) (change : Option Change) (old new : House S T D K E) → AsksFor does rows keeps path reads gives agent now change old new →
+    (agent : Agent) (now : Reading) (change : Option AgentChange) (old new : House S T D K E) → AsksFor does rows keeps path reads gives agent now change old new →
     TellsOk (guests_in old.control) (guests_in new.control) (Follows (λ id alerts. IsTurnOf now old.control id (asked.Follow alerts)))
 admitted_alone does rows keeps path reads gives agent now change old new h = asked_if does rows keeps path reads gives agent now old.control h.0 change old new refl h.1.1

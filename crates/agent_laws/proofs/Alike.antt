@@ -6,16 +6,16 @@ use Rattle.std.specs.Prelude.{◌-◌, not, ◌&&◌, if◌then◌else◌, bytes
 use Rattle.agent_standing.specs.Agent.{Agent}
 use Rattle.agent_standing.specs.Status.{status_of_entry}
 use Rattle.agent_standing.specs.declared.shorts.Short.{Short}
-use Rattle.agent_standing.specs.declared.standing.Standing.{Standing}
+use Rattle.agent_standing.specs.declared.standing.EntryStanding.{EntryStanding}
 use Rattle.agent_standing.specs.declared.standing.Trouble.{Trouble}
 use Rattle.vault_asking.specs.declared.told.Said.{Said}
 use Rattle.state_changes.specs.Rows.{is_lease_if, is_row_named, named}
 use Rattle.state_changes.specs.declared.change.Record.{Record}
 use Rattle.state_changes.specs.declared.change.Record.TheVariants.{Made, Settling}
-use Rattle.state_changes.specs.declared.change.What.{What}
-use Rattle.state_changes.specs.declared.change.What.TheVariants as what
-use Rattle.state_changes.specs.declared.replaying.Note.{Note}
-use Rattle.state_changes.specs.declared.replaying.Why.{Why}
+use Rattle.state_changes.specs.declared.change.ChangeKind.{ChangeKind}
+use Rattle.state_changes.specs.declared.change.ChangeKind.TheVariants as what
+use Rattle.state_changes.specs.declared.replaying.JournalNote.{JournalNote}
+use Rattle.state_changes.specs.declared.replaying.NotMadeReason.{NotMadeReason}
 use Rattle.state_changes.specs.declared.row.Row.{Row}
 use Rattle.base_files.specs.Files.{Files}
 use Rattle.vault_inventory.proofs.Barely.{served_secrecy_law}
@@ -26,7 +26,7 @@ use Rattle.vault_inventory.specs.declared.fault.InvFault.{InvFault}
 use Rattle.vault_inventory.specs.declared.fault.InvFault.TheVariants.{NotToml}
 use Rattle.vault_lint.specs.Marks.{marks_of}
 use Rattle.vault_lint.proofs.Alike.{said_alike}
-use Rattle.vault_inventory.specs.declared.note.Note as entries
+use Rattle.vault_inventory.specs.declared.note.EntryNote as entries
 use Rattle.state_notes.proofs.Secrecy.{note_shows_none}
 use Rattle.state_notes.specs.Laws.{IsSameBut}
 use Rattle.vault_proving.specs.declared.verdict.Verdict.TheVariants as verdicts
@@ -38,7 +38,7 @@ use Rattle.state_changes.specs.declared.secret.Secret.{Secret}
 use Rattle.plan_forest.specs.Forest.{Forest, index_named}
 use Rattle.plan_forest.specs.Push.{is_lease}
 use Rattle.watch_machine.specs.State.{WatchState}
-use Rattle.watch_machine.specs.declared.command.Request.{Request}
+use Rattle.watch_machine.specs.declared.command.WatchRequest.{WatchRequest}
 use Rattle.watch_machine.specs.declared.event.Operation.{Operation}
 use Rattle.watch_machine.specs.declared.notes.Notes.{Notes}
 use Rattle.watch_machine.specs.declared.outlook.Next.{Next}
@@ -62,10 +62,10 @@ use Rattle.agent_words.specs.declared.fault.StartFault.TheVariants.{NoCredential
 -- ---- agents
 
 -- an agent without credentials
-abbrev pub bare : WatchState → Forest → List Standing → Agent
+abbrev pub bare : WatchState → Forest → List EntryStanding → Agent
 bare m f xs = record { machine = m; inventory = record { forest = f; credentials = []; terms = [] }; standings = xs; beginnings = zero }
 
-pub same : {X : Type 0} → (f : WatchState → Forest → List Standing → X) (a b : Agent) → AgentsAreAlike a b → f b.machine b.inventory.forest b.standings ≡ f a.machine a.inventory.forest a.standings
+pub same : {X : Type 0} → (f : WatchState → Forest → List EntryStanding → X) (a b : Agent) → AgentsAreAlike a b → f b.machine b.inventory.forest b.standings ≡ f a.machine a.inventory.forest a.standings
 same f a b h = ap (λ m. f m b.inventory.forest b.standings) h.machine ∙ ap (λ g. f a.machine g b.standings) h.forest ∙ ap (λ xs. f a.machine a.inventory.forest xs) h.standings
 
 end_same : (a b : Agent) → AgentsAreAlike a b → (i : Option ℕ) → end_known_at b i ≡ end_known_at a i
@@ -77,7 +77,7 @@ end_alike a b h name = ap (λ (g : Forest). end_known_at b (index_named g.entrie
 
 -- ---- what is said of them
 
-pub clocked_alike : (a b : Agent) → AgentsAreAlike a b → (notes : Notes) (requests : List Request) (marks : List Mark) → clocked_lines b notes requests marks ≡ clocked_lines a notes requests marks
+pub clocked_alike : (a b : Agent) → AgentsAreAlike a b → (notes : Notes) (requests : List WatchRequest) (marks : List Mark) → clocked_lines b notes requests marks ≡ clocked_lines a notes requests marks
 unfolding clocked_lines
 clocked_alike a b h notes requests marks = same (λ m f xs. clocked_lines (bare m f xs) notes requests marks) a b h
 
@@ -102,7 +102,7 @@ carried_alike a b h count = same (λ m f xs. marks_anew (bare m f xs) count) a b
 
 -- ---- changes
 
-pub keeps_alike : (name : List ℕ) (w v : What) → IsSameBut w v → kept_words name w ≡ kept_words name v
+pub keeps_alike : (name : List ℕ) (w v : ChangeKind) → IsSameBut w v → kept_words name w ≡ kept_words name v
 keeps_alike name (what.Need until) (what.Need other) h = refl
 keeps_alike name (what.Replace credential) (what.Replace other) h = refl
 keeps_alike name (what.Add row) (what.Add other) h = refl
@@ -125,24 +125,24 @@ replaced_alike rows others name h = ap (λ b. name ++ (if b then codes " has a n
 
 -- ---- a journal
 
-line_alike : (margin : ℕ) (why : Why) (r t : Record) → IsRecordBut r t → line_about margin why (Some t) ≡ line_about margin why (Some r)
+line_alike : (margin : ℕ) (why : NotMadeReason) (r t : Record) → IsRecordBut r t → line_about margin why (Some t) ≡ line_about margin why (Some r)
 line_alike margin why (Made c) (Made d) h = ap (λ (line : List ℕ). line ∷ []) (sym (note_shows_none margin c d why h.0 h.1))
 line_alike margin why (Settling mark) (Settling other) h = refl
 line_alike margin why _ _ h = absurd h
 
-about_alike : (margin : ℕ) (why : Why) (records others : List Record) (i : ℕ) → RecordsAreAlike records others → line_about margin why (slice_get others i) ≡ line_about margin why (slice_get records i)
+about_alike : (margin : ℕ) (why : NotMadeReason) (records others : List Record) (i : ℕ) → RecordsAreAlike records others → line_about margin why (slice_get others i) ≡ line_about margin why (slice_get records i)
 about_alike margin why [] [] i h = refl
 about_alike margin why (r ∷ rs) (t ∷ ts) zero h = line_alike margin why r t h.0
 about_alike margin why (r ∷ rs) (t ∷ ts) (suc i) h = about_alike margin why rs ts i h.1
 about_alike margin why _ _ i h = absurd h
 
-lines_alike : (margin : ℕ) (records others : List Record) (notes : List Note) → RecordsAreAlike records others → flat_map (lines_in_note margin others) notes ≡ flat_map (lines_in_note margin records) notes
+lines_alike : (margin : ℕ) (records others : List Record) (notes : List JournalNote) → RecordsAreAlike records others → flat_map (lines_in_note margin others) notes ≡ flat_map (lines_in_note margin records) notes
 lines_alike margin records others [] h = refl
 lines_alike margin records others (note ∷ notes) h =
     ap (λ l. l ++ flat_map (lines_in_note margin others) notes) (about_alike margin note.why records others note.at h)
     ∙ ap (λ l. lines_in_note margin records note ++ l) (lines_alike margin records others notes h)
 
-pub notes_alike : (margin : ℕ) (records others : List Record) (notes : List Note) → RecordsAreAlike records others → said_notes margin others notes ≡ said_notes margin records notes
+pub notes_alike : (margin : ℕ) (records others : List Record) (notes : List JournalNote) → RecordsAreAlike records others → said_notes margin others notes ≡ said_notes margin records notes
 unfolding said_notes note_lines
 notes_alike margin records others notes h = ap (λ l. l ++ left_lines (length notes - 100)) (lines_alike margin records others (take 100 notes) h)
 

@@ -5,10 +5,10 @@ use Rattle.std.specs.Prelude.{Vec}
 use Rattle.std.specs.declared.alloc.AllocError.{AllocError}
 use Rattle.std.specs.declared.alloc.Global.{Global}
 use Rattle.agent_standing.specs.Agent.{Agent}
-use Rattle.agent_answers.specs.declared.asked.Asked.{Asked}
-use Rattle.agent_answers.specs.declared.asked.Asked.TheVariants as asked
-use Rattle.state_changes.specs.declared.change.What.{What}
-use Rattle.state_changes.specs.declared.change.What.TheVariants as what
+use Rattle.agent_answers.specs.declared.asked.ClientOrder.{ClientOrder}
+use Rattle.agent_answers.specs.declared.asked.ClientOrder.TheVariants as asked
+use Rattle.state_changes.specs.declared.change.ChangeKind.{ChangeKind}
+use Rattle.state_changes.specs.declared.change.ChangeKind.TheVariants as what
 use Rattle.state_changes.specs.declared.row.Row.{Row}
 use Rattle.base_clock.specs.declared.reading.Reading.{Reading}
 use Rattle.vault_inventory.specs.Inventories.{Inventory}
@@ -16,7 +16,7 @@ use Rattle.vault_inventory.specs.declared.need.Need.{Need}
 use Rattle.vault_lanes.specs.declared.loss.Loss.{Loss}
 use Rattle.vault_proving.specs.declared.verdict.Verdict.{Verdict}
 use Rattle.vault_proving.specs.declared.verdict.Verdict.TheVariants as verdicts
-use Rattle.agent_turns.specs.declared.change.Change.{Change}
+use Rattle.agent_turns.specs.declared.change.AgentChange.{AgentChange}
 use Rattle.agent_house.specs.Admitting.{AdmitsIf, FollowsLog, asking_in}
 use Rattle.agent_house.specs.Awaiting.{HearsFor, Judges, LooksUpBy, LooksUpFirst, LooksUpIf, Makes, ProvesBy, VerdictIs}
 use Rattle.agent_house.specs.Commands.{AddsIf, AsksIf, AsksToReload, CarriesIf, CarriesOut, GivesNeed, GoesOnIf, LacksMemory, NeedIsKept, NeedsIf, RereadBy, RereadIf, ServesClients, SettlesBy, SettlesGiven, StateIsServed, TakesIfThere, TakesNeedBy, TellsReload}
@@ -66,7 +66,7 @@ module _ {K : Type 0} (does : KeepCall → K → K → Type 0) where
   keeper_tried now is_asked news (Some old) None h = absurd h
   keeper_tried now is_asked news (Some old) (Some new) h = (new, (h, refl))
 
-  looked_up_by : (now : Reading) (name : List ℕ) (w : What) (result : Result LookedUp AllocError) (old new : Option K) → LooksUpBy does now name w result old new → KeeperIsCalled does (LookUp now name w result ∷ []) old new
+  looked_up_by : (now : Reading) (name : List ℕ) (w : ChangeKind) (result : Result LookedUp AllocError) (old new : Option K) → LooksUpBy does now name w result old new → KeeperIsCalled does (LookUp now name w result ∷ []) old new
   looked_up_by now name w result None new h = h.1
   looked_up_by now name w result (Some old) None h = absurd h
   looked_up_by now name w result (Some old) (Some new) h = (new, (h, refl))
@@ -116,11 +116,11 @@ module _ {S T D K E : Type 0} where
   concluded : (agent : Agent) (l : Line) (outcome : Outcome) (now : ℕ) (old new : House S T D K E) → Concludes agent l outcome now old new → AreLeft old new
   concluded agent l outcome now old new h = (let all = will_tell outcome now (record old { desk = h.desk }) new h.will in record { state = all.state; ends = all.ends })
 
-  need_given : (agent : Agent) (now : Reading) (name : List ℕ) (until : ℕ) (i : Option ℕ) (change : Change) (old new : House S T D K E) → GivesNeed agent now name until i change old new → AreLeft old new
+  need_given : (agent : Agent) (now : Reading) (name : List ℕ) (until : ℕ) (i : Option ℕ) (change : AgentChange) (old new : House S T D K E) → GivesNeed agent now name until i change old new → AreLeft old new
   need_given agent now name until (Some i) change old new h = record { state = ap (λ x. x.state) h.1; ends = ap (λ x. x.ends) h.1 }
   need_given agent now name until None change old new h = concluded agent _ _ _ old new h.1.1.1
 
-  need_if : (agent : Agent) (now : Reading) (name : List ℕ) (until : ℕ) (result : Result (Unit {0}) Why) (change : Change) (old new : House S T D K E) → NeedsIf agent now name until result change old new → AreLeft old new
+  need_if : (agent : Agent) (now : Reading) (name : List ℕ) (until : ℕ) (result : Result (Unit {0}) Why) (change : AgentChange) (old new : House S T D K E) → NeedsIf agent now name until result change old new → AreLeft old new
   need_if agent now name until (Ok x) change old new h = need_given agent now name until _ change old new h
   need_if agent now name until (Err why) change old new h = will_tell (Err why) now.elapsed old new h.1
 
@@ -152,7 +152,7 @@ abbrev pub makes_if : Bool → ℕ
 makes_if true = 1
 makes_if false = 0
 
-abbrev pub makes_by : Option Change → ℕ
+abbrev pub makes_by : Option AgentChange → ℕ
 makes_by None = 0
 makes_by (Some change) = 1
 
@@ -184,23 +184,23 @@ module _ {S T D K E : Type 0} (does : KeepCall → K → K → Type 0) where
       (spares (record old { state = state }) new (concluded agent l outcome now (record old { state = state }) new concludes))
 
   module _ (rows : K → List Row) (agent : Agent) (now : Reading) where
-    made : (name : List ℕ) (w : What) (why : Option Loss) (old new : House S T D K E) → Makes does rows agent now name w why old new → Spares does 1 0 old new
+    made : (name : List ℕ) (w : ChangeKind) (why : Option Loss) (old new : House S T D K E) → Makes does rows agent now name w why old new → Spares does 1 0 old new
     made name (what.Replace credential) why old new h = concluded_after (λ done. Take now.elapsed name (what.Replace credential) done) _ agent _ h.outcome now.elapsed h.state old new refl refl refl h.comes h.concludes
     made name (what.Add row) why old new h = concluded_after (λ done. Take now.elapsed name (what.Add row) done) _ agent _ h.outcome now.elapsed h.state old new refl refl refl h.comes h.concludes
     made name _ why old new h = spares_more 0 1 0 0 old new (omega arith) (omega arith) (spares old new (will_tell (Err None) now.elapsed old new h))
 
-    judged : (name : List ℕ) (w : What) (verdict : Verdict) (old new : House S T D K E) → Judges does rows agent now name w verdict old new → Spares does 1 0 old new
+    judged : (name : List ℕ) (w : ChangeKind) (verdict : Verdict) (old new : House S T D K E) → Judges does rows agent now name w verdict old new → Spares does 1 0 old new
     judged name w verdicts.Good old new h = made name w None old new h
     judged name w (verdicts.Missing why) old new h = made name w (Some why) old new h
     judged name w _ old new h = spares_more 0 1 0 0 old new (omega arith) (omega arith) (spares old new (will_tell (Err h.0) now.elapsed old new h.1.1))
 
-    looked_if : (name : List ℕ) (w : What) (result : Result LookedUp AllocError) (old new : House S T D K E) → LooksUpIf does rows agent now name w result old new → Spares does 1 0 old new
+    looked_if : (name : List ℕ) (w : ChangeKind) (result : Result LookedUp AllocError) (old new : House S T D K E) → LooksUpIf does rows agent now name w result old new → Spares does 1 0 old new
     looked_if name w (Ok lookups.Out) old new h = spares_more 0 1 0 0 old new (omega arith) (omega arith) (spares old new (record { state = ap (λ x. x.state) h.rest; ends = ap (λ x. x.ends) h.rest }))
     looked_if name w (Ok lookups.Later) old new h = spares_more 0 1 0 0 old new (omega arith) (omega arith) (spares old new (will_tell (Err h.0) now.elapsed old new h.1.1))
     looked_if name w (Ok lookups.Nothing) old new h = made name w None old new h
     looked_if name w (Err e) old new h = spares_more 0 1 0 0 old new (omega arith) (omega arith) (spares old new (will_tell (Err None) now.elapsed old new h))
 
-    looked_up : (name : List ℕ) (w : What) (old new : House S T D K E) → LooksUpFirst does rows agent now name w old new → Spares does 1 0 old new
+    looked_up : (name : List ℕ) (w : ChangeKind) (old new : House S T D K E) → LooksUpFirst does rows agent now name w old new → Spares does 1 0 old new
     looked_up name w old new h =
         after 0 1 1 h.state old new (omega arith) (within_one does (LookUp now name w h.looked_up) old.state h.state (looked_up_by does now name w h.looked_up old.state h.state h.asks))
         (looked_if name w h.looked_up (record old { state = h.state }) new h.then)
@@ -230,7 +230,7 @@ module _ {S T D K E : Type 0} (does : KeepCall → K → K → Type 0) where
 
 module _ {S T D K E : Type 0} (does : KeepCall → K → K → Type 0) (rows : K → List Row) (keeps : K → Bool) (path : K → List ℕ) (reads : K → List ℕ → Result Row Why → Type 0)
     (gives : ℕ → Result (Option Inventory) AllocError → K → Type 0) (agent : Agent) (now : Reading) where
-  carried_out : (a : Asked) (change : Change) (old new : House S T D K E) → CarriesOut does rows keeps path reads gives agent now a change old new → Spares does 1 0 old new
+  carried_out : (a : ClientOrder) (change : AgentChange) (old new : House S T D K E) → CarriesOut does rows keeps path reads gives agent now a change old new → Spares does 1 0 old new
   carried_out (asked.Need name need) change old new h =
       after does 1 0 1 h.state old new (omega arith) (need_kept does keeps agent now name need h.result old.state h.state h.kept)
       (spares does (record old { state = h.state }) new (need_if agent now name _ h.result change (record old { state = h.state }) new h.then))
@@ -243,23 +243,23 @@ module _ {S T D K E : Type 0} (does : KeepCall → K → K → Type 0) (rows : K
       (spares does (record old { state = h.1.state }) new (reload_told path agent now h.1.result (record old { state = h.1.state }) new h.1.tells))
   carried_out (asked.Follow alerts) change old new h = spares_more does 0 1 0 0 old new (omega arith) (omega arith) (spares does old new (log_followed now alerts old new h.1))
 
-  lacked : (change : Option Change) (old new : House S T D K E) → LacksMemory does rows keeps path reads gives agent now change old new → Spares does 0 0 old new
+  lacked : (change : Option AgentChange) (old new : House S T D K E) → LacksMemory does rows keeps path reads gives agent now change old new → Spares does 0 0 old new
   lacked change old new h = spares does old new (record { state = ap (λ x. x.state) h.1.1; ends = ap (λ x. x.ends) h.1.1 })
 
-  any : (change : Option Change) (old new : House S T D K E) → Spares does 0 0 old new → Spares does (makes_by change) 0 old new
+  any : (change : Option AgentChange) (old new : House S T D K E) → Spares does 0 0 old new → Spares does (makes_by change) 0 old new
   any change old new h = spares_more does 0 (makes_by change) 0 0 old new (omega arith) (omega arith) h
 
-  any_tried : (change : Option Change) (old new : House S T D K E) → Spares does 0 0 old new → Spares does (makes_by change) 1 old new
+  any_tried : (change : Option AgentChange) (old new : House S T D K E) → Spares does 0 0 old new → Spares does (makes_by change) 1 old new
   any_tried change old new h = spares_more does 0 (makes_by change) 0 1 old new (omega arith) (omega arith) h
 
-  carried_if : (a : Result (Option Asked) AllocError) (change : Option Change) (old new : House S T D K E) → CarriesIf does rows keeps path reads gives agent now a change old new → Spares does (makes_by change) 0 old new
+  carried_if : (a : Result (Option ClientOrder) AllocError) (change : Option AgentChange) (old new : House S T D K E) → CarriesIf does rows keeps path reads gives agent now a change old new → Spares does (makes_by change) 0 old new
   carried_if (Ok None) change old new h = any change old new (spares does old new (left old new h.1))
   carried_if (Ok (Some a)) None old new h = absurd h
   carried_if (Ok (Some a)) (Some change) old new h = carried_out a change old new h
   carried_if (Err e) change old new h = any change old new (lacked change old new h)
 
   -- it is tried to keep changes before that
-  served_clients : (change : Option Change) (old new : House S T D K E) → ServesClients does rows keeps path reads gives agent now change old new → Spares does (makes_by change) 1 old new
+  served_clients : (change : Option AgentChange) (old new : House S T D K E) → ServesClients does rows keeps path reads gives agent now change old new → Spares does (makes_by change) 1 old new
   served_clients change old new h =
       let all = carried_if h.asked change h.tried new h.then in
       let one = within_one does (TryAgain now.elapsed (is_any_asked h.asked) h.tries.news) old.state h.tried.state (keeper_tried does now.elapsed (is_any_asked h.asked) h.tries.news old.state h.tried.state h.tries.tries) in
@@ -270,12 +270,12 @@ module _ {S T D K E : Type 0} (does : KeepCall → K → K → Type 0) (rows : K
       }
 
   -- the change that has waited is one
-  goes_on_if : (heard : Bool) (change : Option Change) (old mid new : House S T D K E) → Spares does (makes_if heard) 0 old mid → GoesOnIf does rows keeps path reads gives agent now heard change mid new → Spares does (makes_by change) 1 old new
+  goes_on_if : (heard : Bool) (change : Option AgentChange) (old mid new : House S T D K E) → Spares does (makes_if heard) 0 old mid → GoesOnIf does rows keeps path reads gives agent now heard change mid new → Spares does (makes_by change) 1 old new
   goes_on_if true change old mid new all h =
       subst (λ c. Spares does (makes_by c) 1 old new) (sym h.0) (spares_more does 1 1 0 1 old new (omega arith) (omega arith) (both does 1 0 1 0 old mid new (omega arith) all (spares does mid new (left mid new h.1))))
   goes_on_if false change old mid new all h = both does 0 (makes_by change) (makes_by change) 1 old mid new (omega arith) all (served_clients change mid new h)
 
-  pub asked_for : (due : Result (Option (Inventory × Vec Mark Global)) AllocError) (change : Option Change) (old new : House S T D K E) → AsksIf does rows keeps path reads gives agent now due change old new → Spares does (makes_by change) 1 old new
+  pub asked_for : (due : Result (Option (Inventory × Vec Mark Global)) AllocError) (change : Option AgentChange) (old new : House S T D K E) → AsksIf does rows keeps path reads gives agent now due change old new → Spares does (makes_by change) 1 old new
   asked_for (Ok None) change old new h = goes_on_if h.heard change old h.mid new (heard_for does rows agent now old.awaited h.heard old h.mid h.hears) h.then
   asked_for (Ok (Some p)) change old new h = any_tried change old new (spares does old new (record { state = ap (λ x. x.state) h.1.1; ends = ap (λ x. x.ends) h.1.1 }))
   asked_for (Err e) change old new h = any_tried change old new (lacked change old new h)

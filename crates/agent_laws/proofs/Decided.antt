@@ -13,12 +13,12 @@ use Rattle.state_changes.specs.Secrets.{is_of, taken_from}
 use Rattle.state_changes.specs.declared.change.Change.{Change}
 use Rattle.state_changes.specs.declared.change.Record.{Record}
 use Rattle.state_changes.specs.declared.change.Record.TheVariants.{Made, Settling}
-use Rattle.state_changes.specs.declared.change.What.{What}
-use Rattle.state_changes.specs.declared.change.What.TheVariants as what
+use Rattle.state_changes.specs.declared.change.ChangeKind.{ChangeKind}
+use Rattle.state_changes.specs.declared.change.ChangeKind.TheVariants as what
 use Rattle.state_changes.specs.declared.fault.ChangeFault.{ChangeFault}
 use Rattle.state_changes.specs.declared.fault.ChangeFault.TheVariants.{CredentialTwice, Full, HasUnder, InFile, NameTwice, NoParent, ParentIsLease, StepTooSmall, TooDeep}
 use Rattle.state_changes.specs.declared.replaying.File.{File}
-use Rattle.state_changes.specs.declared.replaying.Why.TheVariants.{FileWins}
+use Rattle.state_changes.specs.declared.replaying.NotMadeReason.TheVariants.{FileWins}
 use Rattle.state_changes.specs.declared.row.Row.{Row}
 use Rattle.state_changes.specs.declared.secret.Secret.{Secret}
 use Rattle.state_secrets.specs.Looking.{is_held}
@@ -139,7 +139,7 @@ module _ (beside : List ℕ → List ℕ) where
         | false ↦ ap (λ (l : List Row). row_beside beside r ∷ l) (without_same name rows)
       ]
 
-  changed_same : (rows : List Row) (name : List ℕ) (w : What) → rows_with_change (rows_beside beside rows) name (what_beside beside w) ≡ rows_beside beside (rows_with_change rows name w)
+  changed_same : (rows : List Row) (name : List ℕ) (w : ChangeKind) → rows_with_change (rows_beside beside rows) name (what_beside beside w) ≡ rows_beside beside (rows_with_change rows name w)
   changed_same rows name (what.Need until) = with_same (λ row. record row { need = until }) (λ row. record row { need = until }) (λ r. refl) name rows
   changed_same rows name (what.Replace credential) = with_same (λ row. record row { credential = credential }) (λ row. record row { credential = beside credential }) (λ r. refl) name rows
   changed_same rows name (what.Add row) = sym (pushed (row_beside beside) rows row)
@@ -244,14 +244,14 @@ module _ (beside : List ℕ → List ℕ) where
         first_same _ _ _ (nat_lt (step_of r.terms) (margin + 1)) _ _ _ _ _ _ _ _ _ (there rows r.name) (lacks rows r.parent) (under_lease rows r.parent) (deep rows MAX_DEPTH r.parent)
         (ap (λ n. nat_le MAX_ENTRIES n) (as_long (row_beside beside) rows)) (taken_twice rows r r.credential)
 
-    pub refused : (margin : ℕ) (rows : List Row) (name : List ℕ) (w : What) → change_refusal margin (rows_beside beside rows) name (what_beside beside w) ≡ change_refusal margin rows name w
+    pub refused : (margin : ℕ) (rows : List Row) (name : List ℕ) (w : ChangeKind) → change_refusal margin (rows_beside beside rows) name (what_beside beside w) ≡ change_refusal margin rows name w
     unfolding change_refusal
     refused margin rows name (what.Need until) = by_entry never_refuses never_refuses (λ r. refl) rows name
     refused margin rows name (what.Replace credential) = by_entry (refused_credential rows credential) (refused_credential (rows_beside beside rows) (beside credential)) (credential_same rows credential) rows name
     refused margin rows name (what.Add row) = row_same margin rows row
     refused margin rows name what.Drop = by_entry (refused_drop rows) (refused_drop (rows_beside beside rows)) (drop_same rows) rows name
 
-    pub made_so : (margin : ℕ) (rows : List Row) (name : List ℕ) (w : What) → rows_changed margin (rows_beside beside rows) name (what_beside beside w) ≡ made_beside beside (rows_changed margin rows name w)
+    pub made_so : (margin : ℕ) (rows : List Row) (name : List ℕ) (w : ChangeKind) → rows_changed margin (rows_beside beside rows) name (what_beside beside w) ≡ made_beside beside (rows_changed margin rows name w)
     unfolding rows_changed
     made_so margin rows name w =
         ap (rows_unless (rows_with_change (rows_beside beside rows) name (what_beside beside w))) (refused margin rows name w)
@@ -315,10 +315,10 @@ module _ (beside : List ℕ → List ℕ) where
     state_beside s = record { rows = rows_beside beside s.rows; notes = s.notes }
 
     -- whether an entry, or that there is none, is as a change would make it
-    abbrev holds_in : What → Option Row → Bool
+    abbrev holds_in : ChangeKind → Option Row → Bool
     holds_in w o = elim o [ None ↦ not (is_added w) | Some row ↦ holds_of row w ]
 
-    holds_same : (w : What) (o : Option Row) → holds_in (what_beside beside w) (option_map (row_beside beside) o) ≡ holds_in w o
+    holds_same : (w : ChangeKind) (o : Option Row) → holds_in (what_beside beside w) (option_map (row_beside beside) o) ≡ holds_in w o
     holds_same (what.Need until) None = refl
     holds_same (what.Need until) (Some r) = refl
     holds_same (what.Replace credential) None = refl
@@ -331,7 +331,7 @@ module _ (beside : List ℕ → List ℕ) where
     holds_beside : (rows : List Row) (c d : Change) → d.name ≡ c.name → d.what ≡ what_beside beside c.what → holds (rows_beside beside rows) d ≡ holds rows c
     unfolding holds
     holds_beside rows c d name w =
-        ap (λ (x : What). holds_in x (named (rows_beside beside rows) d.name)) w
+        ap (λ (x : ChangeKind). holds_in x (named (rows_beside beside rows) d.name)) w
         ∙ ap (λ (n : List ℕ). holds_in (what_beside beside c.what) (named (rows_beside beside rows) n)) name
         ∙ ap (holds_in (what_beside beside c.what)) (named_beside rows c.name)
         ∙ holds_same c.what (named rows c.name)
@@ -346,7 +346,7 @@ module _ (beside : List ℕ → List ℕ) where
       made_beside_so at s c d name w =
           ap (λ (m : ℕ). made_with at (state_beside s) (rows_changed m (rows_beside beside s.rows) d.name d.what)) files.margin
           ∙ ap (λ (n : List ℕ). made_with at (state_beside s) (rows_changed f.margin (rows_beside beside s.rows) n d.what)) name
-          ∙ ap (λ (x : What). made_with at (state_beside s) (rows_changed f.margin (rows_beside beside s.rows) c.name x)) w
+          ∙ ap (λ (x : ChangeKind). made_with at (state_beside s) (rows_changed f.margin (rows_beside beside s.rows) c.name x)) w
           ∙ ap (made_with at (state_beside s)) (made_so f.margin s.rows c.name c.what)
           ∙ made_with_same at s (rows_changed f.margin s.rows c.name c.what)
 

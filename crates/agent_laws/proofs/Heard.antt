@@ -5,10 +5,10 @@ use Rattle.std.specs.Prelude.{Vec}
 use Rattle.std.specs.declared.alloc.AllocError.{AllocError}
 use Rattle.std.specs.declared.alloc.Global.{Global}
 use Rattle.agent_standing.specs.Agent.{Agent}
-use Rattle.agent_standing.specs.declared.standing.Standing.{Standing}
+use Rattle.agent_standing.specs.declared.standing.EntryStanding.{EntryStanding}
 use Rattle.agent_answers.specs.Controlling.{FirstIsReplied, RepliesTo, ShownIf}
 use Rattle.agent_answers.specs.Onlooking.{FirstIsSent, IsSentIf, OneIsSent, question_of}
-use Rattle.agent_answers.specs.declared.asked.Asked.{Asked}
+use Rattle.agent_answers.specs.declared.asked.ClientOrder.{ClientOrder}
 use Rattle.agent_answers.specs.declared.control.Control.{Control}
 use Rattle.agent_answers.specs.declared.heads.Heads.{Heads}
 use Rattle.agent_answers.specs.declared.lines.RequestLines.{RequestLines}
@@ -19,7 +19,7 @@ use Rattle.agent_answers.specs.declared.went.Went.{Went}
 use Rattle.state_changes.specs.declared.row.Row.{Row}
 use Rattle.base_clients.specs.Doors.{DoorLog}
 use Rattle.base_clients.specs.Tables.{GuestTable, first_asked}
-use Rattle.base_clients.specs.declared.talk.Call.{Call}
+use Rattle.base_clients.specs.declared.talk.TalkCall.{TalkCall}
 use Rattle.base_clock.specs.declared.reading.Reading.{Reading}
 use Rattle.base_device.specs.declared.tried.Tried.{Tried}
 use Rattle.base_disk.specs.State.{DiskState}
@@ -197,7 +197,7 @@ module _ (a b : Agent) (alike : AgentsAreAlike a b) {S T D K E : Type 0} (does :
   hears_none None old new h = h
   hears_none (Some w) old new h = record { verdict = h.verdict; state = h.state; proves = h.proves; then = verdict_none w h.verdict (record old { awaited = None; state = h.state }) new h.then }
 
-  carries_none : (asked : Result (Option Asked) AllocError) (old new : House S T D K E) → CarriesIf does rows keeps path reads gives a now asked None old new → CarriesIf does rows keeps path reads gives b now asked None old new
+  carries_none : (asked : Result (Option ClientOrder) AllocError) (old new : House S T D K E) → CarriesIf does rows keeps path reads gives a now asked None old new → CarriesIf does rows keeps path reads gives b now asked None old new
   carries_none (Ok None) old new h = h
   carries_none (Ok (Some it)) old new h = absurd h
   carries_none (Err e) old new h = lacks_memory old new h
@@ -247,7 +247,7 @@ module _ (a b : Agent) (around more : Around) (boards : board_of b more ≡ boar
   one_sent true now enough old new h = first_sent now (first_asked old) enough old new h
   one_sent false now enough old new h = h
 
-  module _ {T D : Type 0} (remaining written : T → Option (List ℕ)) (calls : T → Option (List Call)) (log : D → Option (DoorLog T)) (now : Reading) (went : Went) where
+  module _ {T D : Type 0} (remaining written : T → Option (List ℕ)) (calls : T → Option (List TalkCall)) (log : D → Option (DoorLog T)) (now : Reading) (went : Went) where
     pub onlookers : (old new : Option (Onlookers T D)) → OnlookersGoOn remaining written calls log a around now went old new → OnlookersGoOn remaining written calls log b more now went old new
     onlookers None new h = h
     onlookers (Some old) None h = absurd h
@@ -280,7 +280,7 @@ module _ (a b : Agent) (alike : AgentsAreAlike a b) (begun : b.beginnings ≡ a.
   board_same : (around : Around) → board_of b around ≡ board_of a around
   unfolding rows_of served_rows row_of
   board_same around =
-      let shown : WatchState → Forest → List Standing → ℕ → Board = λ m f xs n.
+      let shown : WatchState → Forest → List EntryStanding → ℕ → Board = λ m f xs n.
       let g : Agent = record { machine = m; inventory = record { forest = f; credentials = []; terms = [] }; standings = xs; beginnings = n } in
       record { surroundings = around.surroundings; broker_now = broker_now m; beginnings = n; margin = f.margin; rows = rows_of g (map named_by around.named) } in
       ap (λ m. shown m b.inventory.forest b.standings b.beginnings) alike.machine
@@ -288,7 +288,7 @@ module _ (a b : Agent) (alike : AgentsAreAlike a b) (begun : b.beginnings ≡ a.
       ∙ ap (λ xs. shown a.machine a.inventory.forest xs b.beginnings) alike.standings
       ∙ ap (λ n. shown a.machine a.inventory.forest a.standings n) begun
 
-  module _ {S T D K E : Type 0} (given : S → Option (List ℕ)) (failures tries : S → ℕ) (tried : S → Option (List Tried)) (remaining written : T → Option (List ℕ)) (calls : T → Option (List Call)) (log : D → Option (DoorLog T))
+  module _ {S T D K E : Type 0} (given : S → Option (List ℕ)) (failures tries : S → ℕ) (tried : S → Option (List Tried)) (remaining written : T → Option (List ℕ)) (calls : T → Option (List TalkCall)) (log : D → Option (DoorLog T))
       (does : KeepCall → K → K → Type 0) (rows : K → List Row) (keeps : K → Bool) (path : K → List ℕ) (reads : K → List ℕ → Result Row Why → Type 0) (gives : ℕ → Result (Option Inventory) AllocError → K → Type 0)
       (known : Bool) (state : E → DiskState) (now : Reading) where
     pub attended : (goes_on : Bool) (old new : House S T D K E) → Attends given failures tries tried remaining written calls log rows keeps a now goes_on old new → Attends given failures tries tried remaining written calls log rows keeps b now goes_on old new
@@ -363,7 +363,7 @@ module _ {S T D K E : Type 0} where
   served_ends true old new none h = ap (λ x. x.ends) h ∙ none_mapped _ old.ends none
   served_ends false old new none h = ap (λ x. x.ends) h ∙ none
 
-module _ {S T D K E : Type 0} (given : S → Option (List ℕ)) (failures tries : S → ℕ) (tried : S → Option (List Tried)) (remaining written : T → Option (List ℕ)) (calls : T → Option (List Call)) (log : D → Option (DoorLog T))
+module _ {S T D K E : Type 0} (given : S → Option (List ℕ)) (failures tries : S → ℕ) (tried : S → Option (List Tried)) (remaining written : T → Option (List ℕ)) (calls : T → Option (List TalkCall)) (log : D → Option (DoorLog T))
     (does : KeepCall → K → K → Type 0) (rows : K → List Row) (keeps : K → Bool) (path : K → List ℕ) (reads : K → List ℕ → Result Row Why → Type 0) (gives : ℕ → Result (Option Inventory) AllocError → K → Type 0)
     (known : Bool) (state : E → DiskState) where
   abbrev Makes : NeighbourCall → House S T D K E → House S T D K E → Type 0

@@ -5,11 +5,11 @@ use Rattle.std.specs.Cmp.Lexicographic.{bytes_decides}
 use Rattle.std.specs.declared.alloc.AllocError.{AllocError}
 use Rattle.std.specs.declared.alloc.Global.{Global}
 use Rattle.agent_standing.specs.Agent.{Agent}
-use Rattle.agent_answers.specs.declared.asked.Asked.{Asked}
-use Rattle.agent_answers.specs.declared.asked.Asked.TheVariants as asked
+use Rattle.agent_answers.specs.declared.asked.ClientOrder.{ClientOrder}
+use Rattle.agent_answers.specs.declared.asked.ClientOrder.TheVariants as asked
 use Rattle.state_changes.specs.Rows.{named}
-use Rattle.state_changes.specs.declared.change.What.{What}
-use Rattle.state_changes.specs.declared.change.What.TheVariants as what
+use Rattle.state_changes.specs.declared.change.ChangeKind.{ChangeKind}
+use Rattle.state_changes.specs.declared.change.ChangeKind.TheVariants as what
 use Rattle.state_changes.specs.declared.row.Row.{Row}
 use Rattle.base_clock.specs.declared.reading.Reading.{Reading}
 use Rattle.vault_inventory.specs.Inventories.{Inventory}
@@ -23,7 +23,7 @@ use Rattle.watch_machine.specs.Outlook.{broker_now}
 use Rattle.agent_pages.specs.Board.{board_of, rows_of}
 use Rattle.agent_pages.specs.Naming.{Around, Named, named_by}
 use Rattle.agent_pages.specs.declared.board.Board.{Board}
-use Rattle.agent_turns.specs.declared.change.Change.{Change}
+use Rattle.agent_turns.specs.declared.change.AgentChange.{AgentChange}
 use Rattle.agent_log.specs.Changed.{entry_log_line, fault_lines, reread_lines, settled_line}
 use Rattle.agent_log.specs.Lines.{Line}
 use Rattle.agent_log.specs.LinesOfClocks.{memory_line}
@@ -161,7 +161,7 @@ module _ {K : Type 0} (does : KeepCall → K → K → Type 0) (rows : K → Lis
   tried_again now is_asked news (Some old) None t = absurd t
   tried_again now is_asked news (Some old) (Some new) t = h.answers (TryAgain now is_asked news) old new t
 
-  looked_up_by : (now : Reading) (name : List ℕ) (w : What) (result : Result LookedUp AllocError) (old new : Option K) → LooksUpBy (AsksSame beside does) now name w result old new → LooksUpBy does now name w result (option_map other old) (option_map other new)
+  looked_up_by : (now : Reading) (name : List ℕ) (w : ChangeKind) (result : Result LookedUp AllocError) (old new : Option K) → LooksUpBy (AsksSame beside does) now name w result old new → LooksUpBy does now name w result (option_map other old) (option_map other new)
   looked_up_by now name w result None new t = (t.0, ap (option_map other) t.1)
   looked_up_by now name w result (Some old) None t = absurd t
   looked_up_by now name w result (Some old) (Some new) t = h.answers (LookUp now name w result) old new t
@@ -255,16 +255,16 @@ module _ {S T D K E : Type 0} (does : KeepCall → K → K → Type 0) (rows : K
 
     -- ---- need, drop, settle
 
-    need_given : (name : List ℕ) (until : ℕ) (i : Option ℕ) (change : Change) (old new : House S T D K E) → GivesNeed a now name until i change old new → GivesNeed (agent_beside beside a) now name until i (change_beside beside change) (twin old) (twin new)
+    need_given : (name : List ℕ) (until : ℕ) (i : Option ℕ) (change : AgentChange) (old new : House S T D K E) → GivesNeed a now name until i change old new → GivesNeed (agent_beside beside a) now name until i (change_beside beside change) (twin old) (twin new)
     need_given name until (Some i) change old new x = (ap (change_beside beside) x.0, ap twin x.1)
     need_given name until None change old new x = (ap (change_beside beside) x.0, (x.1.0, (x.1.1.0, concluded (need_log_line name until) (Ok x.1.0) old new x.1.1.1)))
 
-    need_if : (name : List ℕ) (until : ℕ) (result : Result (Unit {0}) Why) (change : Change) (old new : House S T D K E) →
+    need_if : (name : List ℕ) (until : ℕ) (result : Result (Unit {0}) Why) (change : AgentChange) (old new : House S T D K E) →
         NeedsIf a now name until result change old new → NeedsIf (agent_beside beside a) now name until result (change_beside beside change) (twin old) (twin new)
     need_if name until (Ok done) change old new x = need_given name until (index_named a.inventory.forest.entries name) change old new x
     need_if name until (Err why) change old new x = (ap (change_beside beside) x.0, will_tell (Err why) now.elapsed old new x.1)
 
-    needs_so : (name : List ℕ) (need : Need) (change : Change) (old new : House S T D K E) → Needs (AsksSame beside does) keeps a now name need change old new → Needs does keeps (agent_beside beside a) now name need (change_beside beside change) (twin old) (twin new)
+    needs_so : (name : List ℕ) (need : Need) (change : AgentChange) (old new : House S T D K E) → Needs (AsksSame beside does) keeps a now name need change old new → Needs does keeps (agent_beside beside a) now name need (change_beside beside change) (twin old) (twin new)
     needs_so name need change old new x = record {
       result = x.result;
       state = option_map other x.state;
@@ -314,18 +314,18 @@ module _ {S T D K E : Type 0} (does : KeepCall → K → K → Type 0) (rows : K
       concludes = concluded (entry_log_line (codes "add") name) x.outcome (record old { state = x.state }) new x.concludes;
     }
 
-    makes : (name : List ℕ) (w : What) (why : Option Loss) (old new : House S T D K E) → Makes (AsksSame beside does) rows a now name w why old new → Makes does rows (agent_beside beside a) now name w why (twin old) (twin new)
+    makes : (name : List ℕ) (w : ChangeKind) (why : Option Loss) (old new : House S T D K E) → Makes (AsksSame beside does) rows a now name w why old new → Makes does rows (agent_beside beside a) now name w why (twin old) (twin new)
     makes name (what.Replace credential) why old new x = replaces name credential why old new x
     makes name (what.Add row) why old new x = adds_row name row why old new x
     makes name _ why old new x = will_tell (Err None) now.elapsed old new x
 
-    looks_up_if : (name : List ℕ) (w : What) (result : Result LookedUp AllocError) (old new : House S T D K E) → LooksUpIf (AsksSame beside does) rows a now name w result old new → LooksUpIf does rows (agent_beside beside a) now name w result (twin old) (twin new)
+    looks_up_if : (name : List ℕ) (w : ChangeKind) (result : Result LookedUp AllocError) (old new : House S T D K E) → LooksUpIf (AsksSame beside does) rows a now name w result old new → LooksUpIf does rows (agent_beside beside a) now name w result (twin old) (twin new)
     looks_up_if name w (Ok lookups.Out) old new x = record { client = x.client; aside = x.aside; rest = ap twin x.rest }
     looks_up_if name w (Ok lookups.Later) old new x = refused_for later_words old new x
     looks_up_if name w (Ok lookups.Nothing) old new x = makes name w None old new x
     looks_up_if name w (Err e) old new x = will_tell (Err None) now.elapsed old new x
 
-    looks_up : (name : List ℕ) (w : What) (old new : House S T D K E) → LooksUpFirst (AsksSame beside does) rows a now name w old new → LooksUpFirst does rows (agent_beside beside a) now name w (twin old) (twin new)
+    looks_up : (name : List ℕ) (w : ChangeKind) (old new : House S T D K E) → LooksUpFirst (AsksSame beside does) rows a now name w old new → LooksUpFirst does rows (agent_beside beside a) now name w (twin old) (twin new)
     looks_up name w old new x = record {
       looked_up = x.looked_up;
       state = option_map other x.state;
@@ -333,7 +333,7 @@ module _ {S T D K E : Type 0} (does : KeepCall → K → K → Type 0) (rows : K
       then = looks_up_if name w x.looked_up (record old { state = x.state }) new x.then;
     }
 
-    judges : (name : List ℕ) (w : What) (verdict : Verdict) (old new : House S T D K E) → Judges (AsksSame beside does) rows a now name w verdict old new → Judges does rows (agent_beside beside a) now name w verdict (twin old) (twin new)
+    judges : (name : List ℕ) (w : ChangeKind) (verdict : Verdict) (old new : House S T D K E) → Judges (AsksSame beside does) rows a now name w verdict old new → Judges does rows (agent_beside beside a) now name w verdict (twin old) (twin new)
     judges name w verdicts.Good old new x = makes name w None old new x
     judges name w (verdicts.Refused status) old new x = refused_for (status_words status ++ kept_words name w) old new x
     judges name w verdicts.Endless old new x = refused_for (endless_words ++ kept_words name w) old new x
@@ -389,7 +389,7 @@ module _ {S T D K E : Type 0} (does : KeepCall → K → K → Type 0) (rows : K
 
     -- ---- each of them
 
-    carries_out : (it : Asked) (change : Change) (old new : House S T D K E) → CarriesOut (AsksSame beside does) rows keeps path reads gives a now it change old new →
+    carries_out : (it : ClientOrder) (change : AgentChange) (old new : House S T D K E) → CarriesOut (AsksSame beside does) rows keeps path reads gives a now it change old new →
         CarriesOut does rows keeps path reads gives (agent_beside beside a) now it (change_beside beside change) (twin old) (twin new)
     carries_out (asked.Need name need) change old new x = needs_so name need change old new x
     carries_out (asked.Replace name credential) change old new x = (ap (change_beside beside) x.0, looks_up name (what.Replace credential) old new x.1)
@@ -410,18 +410,18 @@ module _ {S T D K E : Type 0} (does : KeepCall → K → K → Type 0) (rows : K
     )
     carries_out (asked.Follow alerts) change old new x = (ap (change_beside beside) x.0, follows alerts old new x.1)
 
-    lacks_memory : (change : Option Change) (old new : House S T D K E) → LacksMemory (AsksSame beside does) rows keeps path reads gives a now change old new →
+    lacks_memory : (change : Option AgentChange) (old new : House S T D K E) → LacksMemory (AsksSame beside does) rows keeps path reads gives a now change old new →
         LacksMemory does rows keeps path reads gives (agent_beside beside a) now (option_map (change_beside beside) change) (twin old) (twin new)
     lacks_memory change old new x = (ap (option_map (change_beside beside)) x.0, (says_so a (agent_beside beside a) (alike_beside beside a) (memory_line ∷ []) old.desk.marks old.desk new.desk x.1.0, ap twin x.1.1))
 
-    carries_if : (it : Result (Option Asked) AllocError) (change : Option Change) (old new : House S T D K E) → CarriesIf (AsksSame beside does) rows keeps path reads gives a now it change old new →
+    carries_if : (it : Result (Option ClientOrder) AllocError) (change : Option AgentChange) (old new : House S T D K E) → CarriesIf (AsksSame beside does) rows keeps path reads gives a now it change old new →
         CarriesIf does rows keeps path reads gives (agent_beside beside a) now it (option_map (change_beside beside) change) (twin old) (twin new)
     carries_if (Ok None) change old new x = (ap (option_map (change_beside beside)) x.0, ap twin x.1)
     carries_if (Ok (Some it)) None old new x = absurd x
     carries_if (Ok (Some it)) (Some change) old new x = carries_out it change old new x
     carries_if (Err e) change old new x = lacks_memory change old new x
 
-    goes_on_if : (is : Bool) (change : Option Change) (old new : House S T D K E) → GoesOnIf (AsksSame beside does) rows keeps path reads gives a now is change old new →
+    goes_on_if : (is : Bool) (change : Option AgentChange) (old new : House S T D K E) → GoesOnIf (AsksSame beside does) rows keeps path reads gives a now is change old new →
         GoesOnIf does rows keeps path reads gives (agent_beside beside a) now is (option_map (change_beside beside) change) (twin old) (twin new)
     goes_on_if true change old new x = (ap (option_map (change_beside beside)) x.0, ap twin x.1)
     goes_on_if false change old new x = record {
@@ -438,7 +438,7 @@ module _ {S T D K E : Type 0} (does : KeepCall → K → K → Type 0) (rows : K
       then = carries_if x.asked change x.tried new x.then;
     }
 
-    asks_if : (due : Result (Option (Inventory × Vec Mark Global)) AllocError) (change : Option Change) (old new : House S T D K E) → AsksIf (AsksSame beside does) rows keeps path reads gives a now due change old new →
+    asks_if : (due : Result (Option (Inventory × Vec Mark Global)) AllocError) (change : Option AgentChange) (old new : House S T D K E) → AsksIf (AsksSame beside does) rows keeps path reads gives a now due change old new →
         AsksIf does rows keeps path reads gives (agent_beside beside a) now (due_beside beside due) (option_map (change_beside beside) change) (twin old) (twin new)
     asks_if (Ok None) change old new x = record {
       heard = x.heard;
@@ -449,6 +449,6 @@ module _ {S T D K E : Type 0} (does : KeepCall → K → K → Type 0) (rows : K
     asks_if (Ok (Some p)) change old new x = (ap (option_map (change_beside beside)) x.0, (given_with beside h.pairing a p.0 p.1.items new.given x.1.0, ap twin x.1.1))
     asks_if (Err e) change old new x = lacks_memory change old new x
 
-    pub asks_for : (change : Option Change) (old new : House S T D K E) → AsksFor (AsksSame beside does) rows keeps path reads gives a now change old new →
+    pub asks_for : (change : Option AgentChange) (old new : House S T D K E) → AsksFor (AsksSame beside does) rows keeps path reads gives a now change old new →
         AsksFor does rows keeps path reads gives (agent_beside beside a) now (option_map (change_beside beside) change) (twin old) (twin new)
     asks_for change old new x = (due_beside beside x.0, (is_due does rows keeps path reads gives beside other h now x.0 old.state x.1.0, asks_if x.0 change old new x.1.1))

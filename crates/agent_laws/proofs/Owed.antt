@@ -4,21 +4,21 @@ use Rattle.std.specs.Prelude.{Vec}
 use Rattle.std.specs.declared.alloc.AllocError.{AllocError}
 use Rattle.std.specs.declared.alloc.Global.{Global}
 use Rattle.agent_standing.specs.Agent.{Agent}
-use Rattle.agent_answers.specs.declared.asked.Asked.{Asked}
-use Rattle.agent_answers.specs.declared.asked.Asked.TheVariants as asked
+use Rattle.agent_answers.specs.declared.asked.ClientOrder.{ClientOrder}
+use Rattle.agent_answers.specs.declared.asked.ClientOrder.TheVariants as asked
 use Rattle.agent_answers.specs.declared.control.Control.{Control}
-use Rattle.state_changes.specs.declared.change.What.{What}
-use Rattle.state_changes.specs.declared.change.What.TheVariants as what
+use Rattle.state_changes.specs.declared.change.ChangeKind.{ChangeKind}
+use Rattle.state_changes.specs.declared.change.ChangeKind.TheVariants as what
 use Rattle.state_changes.specs.declared.row.Row.{Row}
 use Rattle.base_clock.specs.declared.reading.Reading.{Reading}
 use Rattle.agent_control.specs.Replies.{control_reply_text}
-use Rattle.agent_control.specs.declared.reply.Reply.TheVariants as replies
+use Rattle.agent_control.specs.declared.reply.ControlReply.TheVariants as replies
 use Rattle.vault_inventory.specs.Inventories.{Inventory}
 use Rattle.vault_inventory.specs.declared.need.Need.{Need}
 use Rattle.vault_lanes.specs.declared.loss.Loss.{Loss}
 use Rattle.vault_proving.specs.declared.verdict.Verdict.{Verdict}
 use Rattle.vault_proving.specs.declared.verdict.Verdict.TheVariants as verdicts
-use Rattle.agent_turns.specs.declared.change.Change.{Change}
+use Rattle.agent_turns.specs.declared.change.AgentChange.{AgentChange}
 use Rattle.agent_log.specs.Lines.{Line}
 use Rattle.agent_log.specs.declared.mark.Mark.{Mark}
 use Rattle.agent_words.specs.Outcomes.{Outcome, Why, Whys}
@@ -119,7 +119,7 @@ module _ {S T D K E : Type 0} where
 -- ---- what a call for a change leaves owed
 
 -- the change of that entry that is asked for, where a table writes a row
-abbrev pub IsChangeOf : {K : Type 0} → (K → List ℕ → Result Row Why → Type 0) → Asked → List ℕ → What → Type 0
+abbrev pub IsChangeOf : {K : Type 0} → (K → List ℕ → Result Row Why → Type 0) → ClientOrder → List ℕ → ChangeKind → Type 0
 IsChangeOf reads (asked.Need n need) name w = (name ≡ n) × (w ≡ what.Need need)
 IsChangeOf reads (asked.Replace n credential) name w = (name ≡ n) × (w ≡ what.Replace credential)
 IsChangeOf {K} reads (asked.Add table) name w = (k : K) × ((row : Row) × (reads k table (Ok row) × ((name ≡ row.name) × (w ≡ what.Add row))))
@@ -129,16 +129,16 @@ IsChangeOf reads asked.Reload name w = ⊥
 IsChangeOf reads (asked.Follow alerts) name w = ⊥
 
 -- what is asked for is done where the change was taken, where the file was settled or read anew, and where it is a need and nothing keeps it
-pub record AreDone {K : Type 0} (does : KeepCall → K → K → Type 0) (reads : K → List ℕ → Result Row Why → Type 0) (Done : Asked → Option K → Type 0) : Type 0 where
-  pub taken : (a : Asked) (now : ℕ) (name : List ℕ) (w : What) (x : Unit {0}) (l m : K) → IsChangeOf reads a name w → does (Take now name w (Ok x)) l m → Done a (Some m)
+pub record AreDone {K : Type 0} (does : KeepCall → K → K → Type 0) (reads : K → List ℕ → Result Row Why → Type 0) (Done : ClientOrder → Option K → Type 0) : Type 0 where
+  pub taken : (a : ClientOrder) (now : ℕ) (name : List ℕ) (w : ChangeKind) (x : Unit {0}) (l m : K) → IsChangeOf reads a name w → does (Take now name w (Ok x)) l m → Done a (Some m)
   pub settled : (x : Unit {0}) (l m : K) → does (Settle (Ok x)) l m → Done asked.Settle (Some m)
   pub reloaded : (now : ℕ) (reread : Reread) (l m : K) → does (Reload now (Ok reread)) l m → Done asked.Reload (Some m)
   pub unkept : (name : List ℕ) (need : Need) → Done (asked.Need name need) None
 
-module _ {K : Type 0} (Done : Asked → Option K → Type 0) (has : ℕ → Asked → Type 0) where
+module _ {K : Type 0} (Done : ClientOrder → Option K → Type 0) (has : ℕ → ClientOrder → Type 0) where
   -- the client of that number has asked for something that is done
   abbrev pub IsTold : Option ℕ → Option K → Type 0
-  IsTold who state = (id : ℕ) → who ≡ Some id → (a : Asked) × (has id a × Done a state)
+  IsTold who state = (id : ℕ) → who ≡ Some id → (a : ClientOrder) × (has id a × Done a state)
 
   abbrev pub IsOwed : Option ℕ → Option K → Option Given → Type 0
   IsOwed who state None = Unit {0}
@@ -148,16 +148,16 @@ module _ {K : Type 0} (Done : Asked → Option K → Type 0) (has : ℕ → Aske
   IsOwed who state (Some _) = Unit {0}
 
 -- the client of a change that waits has asked for it
-abbrev pub WaitsFor : {K : Type 0} → (K → List ℕ → Result Row Why → Type 0) → (ℕ → Asked → Type 0) → Option Awaited → Type 0
+abbrev pub WaitsFor : {K : Type 0} → (K → List ℕ → Result Row Why → Type 0) → (ℕ → ClientOrder → Type 0) → Option Awaited → Type 0
 WaitsFor reads has None = Unit {0}
-WaitsFor reads has (Some w) = (id : ℕ) → w.client ≡ Some id → (a : Asked) × (has id a × IsChangeOf reads a w.name w.what)
+WaitsFor reads has (Some w) = (id : ℕ) → w.client ≡ Some id → (a : ClientOrder) × (has id a × IsChangeOf reads a w.name w.what)
 
-pub record Owes {S T D K E : Type 0} (reads : K → List ℕ → Result Row Why → Type 0) (Done : Asked → Option K → Type 0) (has : ℕ → Asked → Type 0) (h : House S T D K E) : Type 0 where
+pub record Owes {S T D K E : Type 0} (reads : K → List ℕ → Result Row Why → Type 0) (Done : ClientOrder → Option K → Type 0) (has : ℕ → ClientOrder → Type 0) (h : House S T D K E) : Type 0 where
   pub given : IsOwed Done has (asking_in h.control) h.state h.given
   pub waits : WaitsFor reads has h.awaited
 
 -- it is the turn of a client
-abbrev pub IsTurnOf : {T D : Type 0} → Reading → Option (Control T D) → ℕ → Asked → Type 0
+abbrev pub IsTurnOf : {T D : Type 0} → Reading → Option (Control T D) → ℕ → ClientOrder → Type 0
 IsTurnOf {T} {D} now control id a = (after : Option (Control T D)) × (ClientsAsk now (Ok (Some a)) control after × (asking_in after ≡ Some id))
 
 set_aside : {T D : Type 0} (client : Option ℕ) (old new : Option (Control T D)) → ClientIsAside client old new → client ≡ asking_in old
@@ -165,13 +165,13 @@ set_aside client None new h = h.0
 set_aside client (Some old) None h = absurd h
 set_aside client (Some old) (Some new) h = h.0
 
-given_with : {K : Type 0} (Done : Asked → Option K → Type 0) (has : ℕ → Asked → Type 0) (agent : Agent) (s : Inventory) (marks : List Mark) (who : Option ℕ) (state : Option K) (given : Option Given) → IsGivenWith agent s marks given → IsOwed Done has who state given
+given_with : {K : Type 0} (Done : ClientOrder → Option K → Type 0) (has : ℕ → ClientOrder → Type 0) (agent : Agent) (s : Inventory) (marks : List Mark) (who : Option ℕ) (state : Option K) (given : Option Given) → IsGivenWith agent s marks given → IsOwed Done has who state given
 given_with Done has agent s marks who state None h = tt
 given_with Done has agent s marks who state (Some (givens.Served given)) h = tt
 given_with Done has agent s marks who state (Some givens.Unchanged) h = tt
 given_with Done has agent s marks who state (Some _) h = absurd h
 
-module _ {K : Type 0} (does : KeepCall → K → K → Type 0) (reads : K → List ℕ → Result Row Why → Type 0) (Done : Asked → Option K → Type 0) (so : AreDone does reads Done) where
+module _ {K : Type 0} (does : KeepCall → K → K → Type 0) (reads : K → List ℕ → Result Row Why → Type 0) (Done : ClientOrder → Option K → Type 0) (so : AreDone does reads Done) where
   settler : (Says : K → List ℕ → Type 0) (outcome : Outcome) (old new : Option K) → KeeperIsAsked does Settle Says outcome old new → WasDone outcome → Done asked.Settle new
   settler Says (Ok line) None new h done = absurd h.1
   settler Says (Ok line) (Some l) None h done = absurd h
@@ -206,7 +206,7 @@ module _ {K : Type 0} (does : KeepCall → K → K → Type 0) (reads : K → Li
   reload_done keeps now reread (Some l) (Some m) h = so.reloaded now.elapsed reread l m (reread_so (keeps l) now reread l m h)
 
 -- whoever keeps changes was asked for one, from which this follows
-module _ {K : Type 0} (does : KeepCall → K → K → Type 0) (now : ℕ) (name : List ℕ) (w : What) (Q : Option K → Type 0) (made : (x : Unit {0}) (l m : K) → does (Take now name w (Ok x)) l m → Q (Some m)) where
+module _ {K : Type 0} (does : KeepCall → K → K → Type 0) (now : ℕ) (name : List ℕ) (w : ChangeKind) (Q : Option K → Type 0) (made : (x : Unit {0}) (l m : K) → does (Take now name w (Ok x)) l m → Q (Some m)) where
   keeper : (Says : K → List ℕ → Type 0) (outcome : Outcome) (old new : Option K) → KeeperIsAsked does (λ done. Take now name w done) Says outcome old new → WasDone outcome → Q new
   keeper Says (Ok line) None new h done = absurd h.1
   keeper Says (Ok line) (Some l) None h done = absurd h
@@ -214,15 +214,15 @@ module _ {K : Type 0} (does : KeepCall → K → K → Type 0) (now : ℕ) (name
   keeper Says (Err why) old new h done = absurd done
 
 module _ {S T D K E : Type 0} (does : KeepCall → K → K → Type 0) (rows : K → List Row) (keeps : K → Bool) (path : K → List ℕ) (reads : K → List ℕ → Result Row Why → Type 0)
-    (gives : ℕ → Result (Option Inventory) AllocError → K → Type 0) (Done : Asked → Option K → Type 0) (so : AreDone does reads Done) (has : ℕ → Asked → Type 0) where
+    (gives : ℕ → Result (Option Inventory) AllocError → K → Type 0) (Done : ClientOrder → Option K → Type 0) (so : AreDone does reads Done) (has : ℕ → ClientOrder → Type 0) where
   abbrev Owing : House S T D K E → Type 0
   Owing h = Owes reads Done has h
 
   -- the client whose request was taken last is to be answered, which has asked for this
-  abbrev Links : Asked → House S T D K E → Type 0
+  abbrev Links : ClientOrder → House S T D K E → Type 0
   Links a h = (id : ℕ) → asking_in h.control ≡ Some id → has id a
 
-  owed : (a : Asked) (old new : House S T D K E) → Links a old → WaitsFor reads has old.awaited → Answers (Done a) old new → Owing new
+  owed : (a : ClientOrder) (old new : House S T D K E) → Links a old → WaitsFor reads has old.awaited → Answers (Done a) old new → Owing new
   owed a old new link waits h = record {
     given = subst (λ (g : Option Given). IsOwed Done has (asking_in new.control) new.state g) (sym h.given) (λ ok id e. (a, (link id (ap asking_in (sym h.control) ∙ e), h.ok ok)));
     waits = subst (λ (a : Option Awaited). WaitsFor reads has a) (sym h.awaited) waits;
@@ -235,32 +235,32 @@ module _ {S T D K E : Type 0} (does : KeepCall → K → K → Type 0) (rows : K
   module _ (agent : Agent) (now : Reading) where
     -- ---- a change is made, from which this follows
 
-    module _ (name : List ℕ) (w : What) (Q : Option K → Type 0) (made : (x : Unit {0}) (l m : K) → does (Take now.elapsed name w (Ok x)) l m → Q (Some m)) where
+    module _ (name : List ℕ) (w : ChangeKind) (Q : Option K → Type 0) (made : (x : Unit {0}) (l m : K) → does (Take now.elapsed name w (Ok x)) l m → Q (Some m)) where
       taken_so : (Says : K → List ℕ → Type 0) (l : Line) (outcome : Outcome) (state : Option K) (old new : House S T D K E) → KeeperIsAsked does (λ done. Take now.elapsed name w done) Says outcome old.state state →
           Concludes agent l outcome now.elapsed (record old { state = state }) new → Answers Q old new
       taken_so Says l outcome state old new comes concludes =
           from Q (record old { state = state }) old new refl refl (conclude Q agent l outcome now.elapsed (record old { state = state }) new concludes (keeper does now.elapsed name w Q made Says outcome old.state state comes))
 
-    makes : (name : List ℕ) (w : What) (Q : Option K → Type 0) → ((x : Unit {0}) (l m : K) → does (Take now.elapsed name w (Ok x)) l m → Q (Some m)) → (why : Option Loss) (old new : House S T D K E) → Makes does rows agent now name w why old new → Answers Q old new
+    makes : (name : List ℕ) (w : ChangeKind) (Q : Option K → Type 0) → ((x : Unit {0}) (l m : K) → does (Take now.elapsed name w (Ok x)) l m → Q (Some m)) → (why : Option Loss) (old new : House S T D K E) → Makes does rows agent now name w why old new → Answers Q old new
     makes name (what.Replace credential) Q made why old new h = taken_so name (what.Replace credential) Q made _ _ h.outcome h.state old new h.comes h.concludes
     makes name (what.Add row) Q made why old new h = taken_so name (what.Add row) Q made _ _ h.outcome h.state old new h.comes h.concludes
     makes name _ Q made why old new h = tell Q (Err None) now.elapsed old new h (λ done. absurd done)
 
-    judges : (name : List ℕ) (w : What) (Q : Option K → Type 0) → ((x : Unit {0}) (l m : K) → does (Take now.elapsed name w (Ok x)) l m → Q (Some m)) → (verdict : Verdict) (old new : House S T D K E) → Judges does rows agent now name w verdict old new → Answers Q old new
+    judges : (name : List ℕ) (w : ChangeKind) (Q : Option K → Type 0) → ((x : Unit {0}) (l m : K) → does (Take now.elapsed name w (Ok x)) l m → Q (Some m)) → (verdict : Verdict) (old new : House S T D K E) → Judges does rows agent now name w verdict old new → Answers Q old new
     judges name w Q made verdicts.Good old new h = makes name w Q made None old new h
     judges name w Q made (verdicts.Missing why) old new h = makes name w Q made (Some why) old new h
     judges name w Q made _ old new h = tell Q (Err h.0) now.elapsed old new h.1.1 (λ done. absurd done)
 
     -- ---- a client that was set aside
 
-    aside_none : (name : List ℕ) (w : What) (verdict : Verdict) (old mid : House S T D K E) → old.awaited ≡ None → Judges does rows agent now name w verdict old mid → Owing (record mid { given = addressed None mid.given })
+    aside_none : (name : List ℕ) (w : ChangeKind) (verdict : Verdict) (old mid : House S T D K E) → old.awaited ≡ None → Judges does rows agent now name w verdict old mid → Owing (record mid { given = addressed None mid.given })
     aside_none name w verdict old mid none h =
         let all = judges name w (λ (s : Option K). Unit {0}) (λ x l m taken. tt) verdict old mid h in record {
           given = subst (λ (g : Option Given). IsOwed Done has (asking_in mid.control) mid.state (addressed None g)) (sym all.given) (λ ok id e. absurd cc);
           waits = subst (λ (a : Option Awaited). WaitsFor reads has a) (sym (all.awaited ∙ none)) tt;
         }
 
-    aside_some : (x : Asked) (number : ℕ) (name : List ℕ) (w : What) (verdict : Verdict) (old mid : House S T D K E) → has number x → IsChangeOf reads x name w → old.awaited ≡ None → Judges does rows agent now name w verdict old mid →
+    aside_some : (x : ClientOrder) (number : ℕ) (name : List ℕ) (w : ChangeKind) (verdict : Verdict) (old mid : House S T D K E) → has number x → IsChangeOf reads x name w → old.awaited ≡ None → Judges does rows agent now name w verdict old mid →
         Owing (record mid { given = addressed (Some number) mid.given })
     aside_some x number name w verdict old mid asked_it is none h =
         let all = judges name w (Done x) (λ u l m taken. so.taken x now.elapsed name w u l m is taken) verdict old mid h in record {
@@ -269,7 +269,7 @@ module _ {S T D K E : Type 0} (does : KeepCall → K → K → Type 0) (rows : K
           waits = subst (λ (a : Option Awaited). WaitsFor reads has a) (sym (all.awaited ∙ none)) tt;
         }
 
-    aside_by : (client : Option ℕ) (name : List ℕ) (w : What) (verdict : Verdict) (old mid : House S T D K E) → WaitsFor reads has (Some (record { client = client; name = name; what = w })) → old.awaited ≡ None → Judges does rows agent now name w verdict old mid →
+    aside_by : (client : Option ℕ) (name : List ℕ) (w : ChangeKind) (verdict : Verdict) (old mid : House S T D K E) → WaitsFor reads has (Some (record { client = client; name = name; what = w })) → old.awaited ≡ None → Judges does rows agent now name w verdict old mid →
         Owing (record mid { given = addressed client mid.given })
     aside_by None name w verdict old mid waits none h = aside_none name w verdict old mid none h
     aside_by (Some number) name w verdict old mid waits none h = (let it = waits number refl in aside_some it.0 number name w verdict old mid it.1.0 it.1.1 none h)
@@ -306,8 +306,8 @@ module _ {S T D K E : Type 0} (does : KeepCall → K → K → Type 0) (rows : K
 
     -- ---- what a client asks for is carried out
 
-    module _ (x : Asked) where
-      looks_if : (name : List ℕ) (w : What) (result : Result LookedUp AllocError) (old new : House S T D K E) → IsChangeOf reads x name w → old.given ≡ None → Links x old → WaitsFor reads has old.awaited → LooksUpIf does rows agent now name w result old new → Owing new
+    module _ (x : ClientOrder) where
+      looks_if : (name : List ℕ) (w : ChangeKind) (result : Result LookedUp AllocError) (old new : House S T D K E) → IsChangeOf reads x name w → old.given ≡ None → Links x old → WaitsFor reads has old.awaited → LooksUpIf does rows agent now name w result old new → Owing new
       looks_if name w (Ok lookups.Out) old new is none link waits h =
           none_owed old new (ap (λ y. y.given) h.rest) none
           (subst (λ (a : Option Awaited). WaitsFor reads has a) (sym (ap (λ y. y.awaited) h.rest)) (λ id e. (x, (link id (sym (set_aside h.client old.control new.control h.aside) ∙ e), is))))
@@ -315,16 +315,16 @@ module _ {S T D K E : Type 0} (does : KeepCall → K → K → Type 0) (rows : K
       looks_if name w (Ok lookups.Nothing) old new is none link waits h = owed x old new link waits (makes name w (Done x) (λ u l m taken. so.taken x now.elapsed name w u l m is taken) None old new h)
       looks_if name w (Err e) old new is none link waits h = owed x old new link waits (tell (Done x) (Err None) now.elapsed old new h (λ done. absurd done))
 
-      looks : (name : List ℕ) (w : What) (old new : House S T D K E) → IsChangeOf reads x name w → old.given ≡ None → Links x old → WaitsFor reads has old.awaited → LooksUpFirst does rows agent now name w old new → Owing new
+      looks : (name : List ℕ) (w : ChangeKind) (old new : House S T D K E) → IsChangeOf reads x name w → old.given ≡ None → Links x old → WaitsFor reads has old.awaited → LooksUpFirst does rows agent now name w old new → Owing new
       looks name w old new is none link waits h = looks_if name w h.looked_up (record old { state = h.state }) new is none link waits h.then
 
-    need_given : (name : List ℕ) (need : Need) (until : ℕ) (i : Option ℕ) (change : Change) (old new : House S T D K E) → Done (asked.Need name need) old.state → Links (asked.Need name need) old → WaitsFor reads has old.awaited → GivesNeed agent now name until i change old new → Owing new
+    need_given : (name : List ℕ) (need : Need) (until : ℕ) (i : Option ℕ) (change : AgentChange) (old new : House S T D K E) → Done (asked.Need name need) old.state → Links (asked.Need name need) old → WaitsFor reads has old.awaited → GivesNeed agent now name until i change old new → Owing new
     need_given name need until (Some i) change old new done link waits h =
         subst Owing (sym h.1) (record { given = λ id e. (asked.Need name need, (link id e, done)); waits = waits })
     need_given name need until None change old new done link waits h =
         owed (asked.Need name need) old new link waits (conclude (Done (asked.Need name need)) agent _ (Ok h.1.0) now.elapsed old new h.1.1.1 (λ was. done))
 
-    need_if : (name : List ℕ) (need : Need) (until : ℕ) (result : Result (Unit {0}) Why) (change : Change) (state : Option K) (old new : House S T D K E) → NeedIsKept does keeps agent now name need result old.state state → Links (asked.Need name need) old → WaitsFor reads has old.awaited →
+    need_if : (name : List ℕ) (need : Need) (until : ℕ) (result : Result (Unit {0}) Why) (change : AgentChange) (state : Option K) (old new : House S T D K E) → NeedIsKept does keeps agent now name need result old.state state → Links (asked.Need name need) old → WaitsFor reads has old.awaited →
         NeedsIf agent now name until result change (record old { state = state }) new → Owing new
     need_if name need until (Ok x) change state old new kept link waits h = need_given name need until _ change (record old { state = state }) new (need_done does reads Done so keeps agent now name need x old.state state kept) link waits h
     need_if name need until (Err why) change state old new kept link waits h =
@@ -355,7 +355,7 @@ module _ {S T D K E : Type 0} (does : KeepCall → K → K → Type 0) (rows : K
     follows alerts old new none link waits (inl h) = owed (asked.Follow alerts) old new link waits (tell (Done (asked.Follow alerts)) (Err h.why) now.elapsed old new h.will (λ done. absurd done))
     follows alerts old new none link waits (inr h) = admits alerts old new none link waits h.admits
 
-    carries : (x : Asked) (change : Change) (old new : House S T D K E) → old.given ≡ None → Links x old → WaitsFor reads has old.awaited → CarriesOut does rows keeps path reads gives agent now x change old new → Owing new
+    carries : (x : ClientOrder) (change : AgentChange) (old new : House S T D K E) → old.given ≡ None → Links x old → WaitsFor reads has old.awaited → CarriesOut does rows keeps path reads gives agent now x change old new → Owing new
     carries (asked.Need name need) change old new none link waits h = need_if name need _ h.result change h.state old new h.kept link waits h.then
     carries (asked.Replace name credential) change old new none link waits h = looks (asked.Replace name credential) name (what.Replace credential) old new (refl, refl) none link waits h.1
     carries (asked.Add table) change old new none link waits h = add_if table h.1.read old new h.1.reads_row none link waits h.1.then
@@ -371,14 +371,14 @@ module _ {S T D K E : Type 0} (does : KeepCall → K → K → Type 0) (rows : K
 
     -- ---- a change is asked for
 
-    carries_if : (x : Result (Option Asked) AllocError) (change : Option Change) (control : Option (Control T D)) (old tried new : House S T D K E) → ((id : ℕ) (a : Asked) → IsTurnOf now old.control id a → has id a) → ClientsAsk now x old.control control → tried.control ≡ control → tried.given ≡ None →
+    carries_if : (x : Result (Option ClientOrder) AllocError) (change : Option AgentChange) (control : Option (Control T D)) (old tried new : House S T D K E) → ((id : ℕ) (a : ClientOrder) → IsTurnOf now old.control id a → has id a) → ClientsAsk now x old.control control → tried.control ≡ control → tried.given ≡ None →
         WaitsFor reads has tried.awaited → CarriesIf does rows keeps path reads gives agent now x change tried new → Owing new
     carries_if (Ok None) change control old tried new asks turn same none waits h = none_owed tried new (ap (λ y. y.given) h.1) none (subst (λ (a : Option Awaited). WaitsFor reads has a) (sym (ap (λ y. y.awaited) h.1)) waits)
     carries_if (Ok (Some x)) None control old tried new asks turn same none waits h = absurd h
     carries_if (Ok (Some x)) (Some change) control old tried new asks turn same none waits h = carries x change tried new none (λ id e. asks id x (control, (turn, ap asking_in (sym same) ∙ e))) waits h
     carries_if (Err e) change control old tried new asks turn same none waits h = none_owed tried new (ap (λ y. y.given) h.1.1) none (subst (λ (a : Option Awaited). WaitsFor reads has a) (sym (ap (λ y. y.awaited) h.1.1)) waits)
 
-    goes_on_if : (heard : Bool) (change : Option Change) (old mid new : House S T D K E) → ((id : ℕ) (a : Asked) → IsTurnOf now old.control id a → has id a) → old.given ≡ None → WaitsFor reads has old.awaited → HearsFor does rows agent now old.awaited heard old mid →
+    goes_on_if : (heard : Bool) (change : Option AgentChange) (old mid new : House S T D K E) → ((id : ℕ) (a : ClientOrder) → IsTurnOf now old.control id a → has id a) → old.given ≡ None → WaitsFor reads has old.awaited → HearsFor does rows agent now old.awaited heard old mid →
         GoesOnIf does rows keeps path reads gives agent now heard change mid new → Owing new
     goes_on_if true change old mid new asks none waits hears h = subst Owing (sym h.1) (heard_owed old.awaited old mid none waits hears)
     goes_on_if false change old mid new asks none waits hears h =
@@ -387,7 +387,7 @@ module _ {S T D K E : Type 0} (does : KeepCall → K → K → Type 0) (rows : K
         carries_if h.asked change h.control mid h.tried new (λ id a turn. asks id a (subst (λ (c : Option (Control T D)). IsTurnOf now c id a) all.control turn)) h.clients (ap (λ (x : House S T D K E). x.control) tried)
         (ap (λ (x : House S T D K E). x.given) tried ∙ (all.given ∙ none)) (subst (λ (a : Option Awaited). WaitsFor reads has a) (sym (ap (λ (x : House S T D K E). x.awaited) tried)) all.waits) h.then
 
-    asks_if : (due : Result (Option (Inventory × Vec Mark Global)) AllocError) (change : Option Change) (old new : House S T D K E) → ((id : ℕ) (a : Asked) → IsTurnOf now old.control id a → has id a) → old.given ≡ None → WaitsFor reads has old.awaited →
+    asks_if : (due : Result (Option (Inventory × Vec Mark Global)) AllocError) (change : Option AgentChange) (old new : House S T D K E) → ((id : ℕ) (a : ClientOrder) → IsTurnOf now old.control id a → has id a) → old.given ≡ None → WaitsFor reads has old.awaited →
         AsksIf does rows keeps path reads gives agent now due change old new → Owing new
     asks_if (Ok None) change old new asks none waits h = goes_on_if h.heard change old h.mid new asks none waits h.hears h.then
     asks_if (Ok (Some p)) change old new asks none waits h = record {
@@ -397,11 +397,11 @@ module _ {S T D K E : Type 0} (does : KeepCall → K → K → Type 0) (rows : K
     asks_if (Err e) change old new asks none waits h = none_owed old new (ap (λ y. y.given) h.1.1) none (subst (λ (a : Option Awaited). WaitsFor reads has a) (sym (ap (λ y. y.awaited) h.1.1)) waits)
 
     -- what is owed then
-    pub asked_for : (change : Option Change) (old new : House S T D K E) → ((id : ℕ) (a : Asked) → IsTurnOf now old.control id a → has id a) → old.given ≡ None → WaitsFor reads has old.awaited → AsksFor does rows keeps path reads gives agent now change old new → Owing new
+    pub asked_for : (change : Option AgentChange) (old new : House S T D K E) → ((id : ℕ) (a : ClientOrder) → IsTurnOf now old.control id a → has id a) → old.given ≡ None → WaitsFor reads has old.awaited → AsksFor does rows keeps path reads gives agent now change old new → Owing new
     asked_for change old new asks none waits h = asks_if h.0 change old new asks none waits h.1.1
 
     -- where there is no change nothing is given
-    carried_none : (x : Result (Option Asked) AllocError) (old new : House S T D K E) → CarriesIf does rows keeps path reads gives agent now x None old new → new.given ≡ old.given
+    carried_none : (x : Result (Option ClientOrder) AllocError) (old new : House S T D K E) → CarriesIf does rows keeps path reads gives agent now x None old new → new.given ≡ old.given
     carried_none (Ok None) old new h = ap (λ y. y.given) h.1
     carried_none (Ok (Some x)) old new h = absurd h
     carried_none (Err e) old new h = ap (λ y. y.given) h.1.1

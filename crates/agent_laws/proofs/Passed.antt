@@ -9,9 +9,9 @@ use Rattle.agent_behind.specs.declared.behind.Giver.TheVariants.{Lookout, Others
 use Rattle.base_clock.specs.declared.reading.Reading.{Reading}
 use Rattle.agent_turns.specs.Days.{PassesToOthers, SettlesOthers}
 use Rattle.agent_turns.specs.Neighbours.{End, Give, GoOn, Hear, NeighbourCall, Rest, Settle, Step, Thing}
-use Rattle.agent_turns.specs.declared.change.Change.{Change}
+use Rattle.agent_turns.specs.declared.change.AgentChange.{AgentChange}
 use Rattle.agent_turns.specs.declared.day.EarlyDay.{EarlyDay}
-use Rattle.watch_machine.specs.declared.command.Request.{Request}
+use Rattle.watch_machine.specs.declared.command.WatchRequest.{WatchRequest}
 
 -- what is to hold of calls, for that: to hear twice is as to hear once, and to hear, or nothing, as to be told that a change was made; whether
 -- more could be done, and which change is given where they give none, makes no difference
@@ -20,7 +20,7 @@ pub record Passes {N : Type 0} (P : NeighbourCall → N → N → Type 0) : Type
   pub settled : (a : Agent) (thing : Thing) (is_made : Bool) (x y : N) → P (Hear a thing) x y → P (Settle a is_made) x y
   pub unsettled : (a : Agent) (is_made : Bool) (x y : N) → y ≡ x → P (Settle a is_made) x y
   pub goes : (a : Agent) (now : Reading) (b c : Bool) (x y : N) → P (GoOn a now b) x y → P (GoOn a now c) x y
-  pub gives : (a : Agent) (now : Reading) (change : Option Change) (x y : N) → P (Give a now None) x y → P (Give a now change) x y
+  pub gives : (a : Agent) (now : Reading) (change : Option AgentChange) (x y : N) → P (Give a now None) x y → P (Give a now change) x y
   pub rests : (now : ℕ) (rest : Option ℕ) (x y : N) → y ≡ x → P (Rest now rest) x y
 
 module _ {N : Type 0} (does P : NeighbourCall → N → N → Type 0) (passes : Passes P) (by : (call : NeighbourCall) (old new : N) → does call old new → P call old new) where
@@ -42,11 +42,11 @@ module _ {N : Type 0} (does P : NeighbourCall → N → N → Type 0) (passes : 
 
   -- ---- one that looks ahead
 
-  steps_if : (a : Agent) (thing : Thing) (steps : Bool) (lead : ℕ) (requests : List Request) (x y z : N) → P (Hear a thing) x y → StepsIf does steps a lead requests y z → P (Hear a thing) x z
+  steps_if : (a : Agent) (thing : Thing) (steps : Bool) (lead : ℕ) (requests : List WatchRequest) (x y z : N) → P (Hear a thing) x y → StepsIf does steps a lead requests y z → P (Hear a thing) x z
   steps_if a thing true lead requests x y z h k = passes.heard a thing (Step lead requests) x y z h (by (Hear a (Step lead requests)) y z k)
   steps_if a thing false lead requests x y z h k = subst (λ v. P (Hear a thing) x v) (sym k) h
 
-  steps_on : (a : Agent) (thing : Thing) (asked : Option (List Request)) (ahead : Option ℕ) (x y z : N) → P (Hear a thing) x y → StepsBy does a asked ahead y z → P (Hear a thing) x z
+  steps_on : (a : Agent) (thing : Thing) (asked : Option (List WatchRequest)) (ahead : Option ℕ) (x y z : N) → P (Hear a thing) x y → StepsBy does a asked ahead y z → P (Hear a thing) x z
   steps_on a thing None ahead x y z h k = subst (λ v. P (Hear a thing) x v) (sym k) h
   steps_on a thing (Some requests) None x y z h k = subst (λ v. P (Hear a thing) x v) (sym k) h
   steps_on a thing (Some requests) (Some lead) x y z h k = steps_if a thing (renews requests) lead requests x y z h k
@@ -56,7 +56,7 @@ module _ {N L : Type 0} (due_by : ℕ → ℕ → L → ℕ) (does P : Neighbour
   settled_behind (Lookout i end) a is_made old new h = passes.settled a (End i end) is_made old.others new.others (by (Hear a (End i end)) old.others new.others h.0)
   settled_behind _ a is_made old new h = by (Settle a is_made) old.others new.others h.0
 
-  given_behind : (a : Agent) (now : Reading) (change : Option Change) (old new : Behind N L) → OthersGive does a now change old new → P (Give a now change) old.others new.others
+  given_behind : (a : Agent) (now : Reading) (change : Option AgentChange) (old new : Behind N L) → OthersGive does a now change old new → P (Give a now change) old.others new.others
   given_behind a now None old new h = absurd h
   given_behind a now (Some change) old new h = by (Give a now (Some change)) old.others new.others h.0
 

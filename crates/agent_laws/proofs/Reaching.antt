@@ -8,10 +8,10 @@ use Rattle.agent_behind.specs.declared.behind.Giver.TheVariants.{Lookout, Others
 use Rattle.base_clock.specs.declared.reading.Reading.{Reading}
 use Rattle.agent_turns.specs.Days.{PassesToOthers, SettlesOthers}
 use Rattle.agent_turns.specs.Neighbours.{End, Give, GoOn, Hear, NeighbourCall, Rest, Settle, Step, Thing}
-use Rattle.agent_turns.specs.declared.change.Change.{Change}
-use Rattle.agent_turns.specs.declared.change.Change.TheVariants as changes
+use Rattle.agent_turns.specs.declared.change.AgentChange.{AgentChange}
+use Rattle.agent_turns.specs.declared.change.AgentChange.TheVariants as changes
 use Rattle.agent_turns.specs.declared.day.EarlyDay.{EarlyDay}
-use Rattle.watch_machine.specs.declared.command.Request.{Request}
+use Rattle.watch_machine.specs.declared.command.WatchRequest.{WatchRequest}
 use Rattle.agent_house.specs.declared.house.House.{House}
 
 -- what is given and the change that waits are left
@@ -36,7 +36,7 @@ module _ {S T D K E : Type 0} (does : NeighbourCall → House S T D K E → Hous
   SettlesOr by is_made old new = does (Settle by is_made) old new ⊎ IsHeard old new
 
   -- it has given this change and is told whether it was made; or it has given none
-  abbrev pub IsChanged : Agent → Reading → Option Change → Agent → Bool → House S T D K E → House S T D K E → House S T D K E → Type 0
+  abbrev pub IsChanged : Agent → Reading → Option AgentChange → Agent → Bool → House S T D K E → House S T D K E → House S T D K E → Type 0
   IsChanged a now change by is_made old mid new = (does (Give a now change) old mid × does (Settle by is_made) mid new) ⊎ (does (Give a now None) old mid × SettlesOr by is_made mid new)
 
   -- of neighbours to which each call does this, this is the house
@@ -46,7 +46,7 @@ module _ {S T D K E : Type 0} (does : NeighbourCall → House S T D K E → Hous
     pub rests : (now : ℕ) (rest : Option ℕ) (old new : N) → to (Rest now rest) old new → IsHeard (house old) (house new)
     pub none : (a : Agent) (now : Reading) (old new : N) → to (Give a now None) old new → does (Give a now None) (house old) (house new)
     pub settles : (by : Agent) (is_made : Bool) (old new : N) → to (Settle by is_made) old new → SettlesOr by is_made (house old) (house new)
-    pub one : (a : Agent) (now : Reading) (change : Change) (by : Agent) (is_made : Bool) (old mid new : N) → to (Give a now (Some change)) old mid → to (Settle by is_made) mid new → IsChanged a now (Some change) by is_made (house old) (house mid) (house new)
+    pub one : (a : Agent) (now : Reading) (change : AgentChange) (by : Agent) (is_made : Bool) (old mid new : N) → to (Give a now (Some change)) old mid → to (Settle by is_made) mid new → IsChanged a now (Some change) by is_made (house old) (house mid) (house new)
 
   module _ {N : Type 0} (to : NeighbourCall → N → N → Type 0) (house : N → House S T D K E) (reaches : Reaches to house) where
     -- ---- behind one that asks for a beginning
@@ -59,7 +59,7 @@ module _ {S T D K E : Type 0} (does : NeighbourCall → House S T D K E → Hous
     none_on a now old new (inl h) = absurd h
     none_on a now old new (inr h) = reaches.none a now old.others new.others h.none
 
-    one_on : (a : Agent) (now : Reading) (change : Change) (by : Agent) (is_made : Bool) (old mid new : EarlyDay N) → PassesToOthers to (Give a now (Some change)) old mid → PassesToOthers to (Settle by is_made) mid new →
+    one_on : (a : Agent) (now : Reading) (change : AgentChange) (by : Agent) (is_made : Bool) (old mid new : EarlyDay N) → PassesToOthers to (Give a now (Some change)) old mid → PassesToOthers to (Settle by is_made) mid new →
         IsChanged a now (Some change) by is_made (house old.others) (house mid.others) (house new.others)
     one_on a now change by is_made old mid new (inl h) k =
         reaches.one a now change by is_made old.others mid.others new.others h.0 (subst (λ (own : Bool). SettlesOthers to own by is_made mid.others new.others) (ap (λ (d : EarlyDay N). d.is_own) h.1) k.0)
@@ -78,11 +78,11 @@ module _ {S T D K E : Type 0} (does : NeighbourCall → House S T D K E → Hous
     -- ---- behind one that looks ahead
 
     module _ {L : Type 0} (due_by : ℕ → ℕ → L → ℕ) where
-      steps_if : (a : Agent) (is : Bool) (lead : ℕ) (requests : List Request) (old new : N) → StepsIf to is a lead requests old new → IsHeard (house old) (house new)
+      steps_if : (a : Agent) (is : Bool) (lead : ℕ) (requests : List WatchRequest) (old new : N) → StepsIf to is a lead requests old new → IsHeard (house old) (house new)
       steps_if a true lead requests old new h = reaches.hears a (Step lead requests) old new h
       steps_if a false lead requests old new h = unheard (house old) (house new) (ap house h)
 
-      steps_by : (a : Agent) (asked : Option (List Request)) (lead : Option ℕ) (old new : N) → StepsBy to a asked lead old new → IsHeard (house old) (house new)
+      steps_by : (a : Agent) (asked : Option (List WatchRequest)) (lead : Option ℕ) (old new : N) → StepsBy to a asked lead old new → IsHeard (house old) (house new)
       steps_by a None lead old new h = unheard (house old) (house new) (ap house h)
       steps_by a (Some requests) None old new h = unheard (house old) (house new) (ap house h)
       steps_by a (Some requests) (Some lead) old new h = steps_if a (renews requests) lead requests old new h
@@ -91,7 +91,7 @@ module _ {S T D K E : Type 0} (does : NeighbourCall → House S T D K E → Hous
       settles_by (Lookout i end) by is_made old new h = inr (reaches.hears by (End i end) old.others new.others h.0)
       settles_by _ by is_made old new h = reaches.settles by is_made old.others new.others h.0
 
-      settles_own : (change : Change) (by : Agent) (is_made : Bool) (old new : Behind N L) → SettlesBy to (giver_of change) by is_made old new → to (Settle by is_made) old.others new.others
+      settles_own : (change : AgentChange) (by : Agent) (is_made : Bool) (old new : Behind N L) → SettlesBy to (giver_of change) by is_made old new → to (Settle by is_made) old.others new.others
       settles_own (changes.Need i until) by is_made old new h = h.0
       settles_own _ by is_made old new h = h.0
 
@@ -99,7 +99,7 @@ module _ {S T D K E : Type 0} (does : NeighbourCall → House S T D K E → Hous
       none_behind a now old new (inl h) = absurd h
       none_behind a now old new (inr h) = reaches.none a now old.others new.others h.0
 
-      one_behind : (a : Agent) (now : Reading) (change : Change) (by : Agent) (is_made : Bool) (old mid new : Behind N L) → PassesBehind due_by to (Give a now (Some change)) old mid → PassesBehind due_by to (Settle by is_made) mid new →
+      one_behind : (a : Agent) (now : Reading) (change : AgentChange) (by : Agent) (is_made : Bool) (old mid new : Behind N L) → PassesBehind due_by to (Give a now (Some change)) old mid → PassesBehind due_by to (Settle by is_made) mid new →
           IsChanged a now (Some change) by is_made (house old.others) (house mid.others) (house new.others)
       one_behind a now change by is_made old mid new (inl h) k =
           reaches.one a now change by is_made old.others mid.others new.others h.0 (settles_own change by is_made mid new (subst (λ (g : Giver). SettlesBy to g by is_made mid new) h.1.1 k))

@@ -2,16 +2,16 @@
 use Rattle.std.proofs.Common.{◌≡◌, ◌∙◌, ◌⊎◌, ℕ, suc, ◌≤◌, Bool, true, false, ◌&&◌, IsTrue, inl, inr, List, [], ◌∷◌, ◌++◌, length, option_to_list, slice_index, Option, Some, None, Result, Ok, ap, append-nil, arith, refl, subst, sym}
 use Rattle.std.proofs.lemmas.List.Elements.{Contains-push}
 use Rattle.std.specs.List.{Contains}
-use Rattle.agent_answers.specs.declared.asked.Asked.{Asked}
-use Rattle.agent_answers.specs.declared.asked.Asked.TheVariants as asked
+use Rattle.agent_answers.specs.declared.asked.ClientOrder.{ClientOrder}
+use Rattle.agent_answers.specs.declared.asked.ClientOrder.TheVariants as asked
 use Rattle.vault_asking.specs.Sending.{Lanes}
 use Rattle.state_changes.specs.declared.change.Record.{Record}
 use Rattle.state_changes.specs.declared.change.Record.TheVariants.{Made, Settling}
-use Rattle.state_changes.specs.declared.change.What.{What}
-use Rattle.state_changes.specs.declared.change.What.TheVariants as what
+use Rattle.state_changes.specs.declared.change.ChangeKind.{ChangeKind}
+use Rattle.state_changes.specs.declared.change.ChangeKind.TheVariants as what
 use Rattle.state_changes.specs.declared.row.Row.{Row}
 use Rattle.state_changes.specs.declared.replaying.File.{File}
-use Rattle.state_changes.specs.declared.replaying.Note.{Note}
+use Rattle.state_changes.specs.declared.replaying.JournalNote.{JournalNote}
 use Rattle.state_changes.specs.Compaction.{is_need, is_void, voids}
 use Rattle.state_changes.specs.Records.{record_of}
 use Rattle.base_disk.specs.Image as images
@@ -123,7 +123,7 @@ closed : (lines : List (List ℕ)) → AreLines lines → StandsFor (at_rest lin
 closed lines are = record { are_lines = are; end = 45 ∷ []; split = refl; nothing = λ line rest is e. absurd (let head : 45 ≡ 43 = ap (λ (l : List ℕ). slice_index l 0) e in omega (arith, head)) }
 
 module _ {D : Type 0} (known : Bool) (seen : D → DiskState) (counts : (disk : D) (t : ℕ) (c : Image) → t ≤ (seen disk).moment → (seen disk).may_leave c → (seen disk).left_since t c)
-    (now : ℕ) (name : List ℕ) (w : What) (old new : Kept D) (h : IsTakenOn known seen now name w old new) where
+    (now : ℕ) (name : List ℕ) (w : ChangeKind) (old new : Kept D) (h : IsTakenOn known seen now name w old new) where
   abbrev the_line : List ℕ
   the_line = line_for_change (book_in old).file name w
 
@@ -164,8 +164,8 @@ module _ {D : Type 0} (known : Bool) (seen : D → DiskState) (counts : (disk : 
 -- ---- what is asked for is done where the ledger has taken it
 
 module _ {D : Type 0} (known : Bool) (seen : D → DiskState) where
-  moved : (name other : List ℕ) (w v : What) (k : Kept D) → name ≡ other → w ≡ v → IsOnDisk known seen name w k → IsOnDisk known seen other v k
-  moved name other w v k same is h = subst (λ (n : List ℕ). IsOnDisk known seen n v k) same (subst (λ (x : What). IsOnDisk known seen name x k) is h)
+  moved : (name other : List ℕ) (w v : ChangeKind) (k : Kept D) → name ≡ other → w ≡ v → IsOnDisk known seen name w k → IsOnDisk known seen other v k
+  moved name other w v k same is h = subst (λ (n : List ℕ). IsOnDisk known seen n v k) same (subst (λ (x : ChangeKind). IsOnDisk known seen name x k) is h)
 
   -- FILE was settled
   settled_by : (read : FileRead) (text : Option (List ℕ)) (old new : Kept D) → new.places ≡ old.places → (IsTrue known → IsFileAt old.places.file (seen old.disk) read) → fingerprint read.bytes ≡ (book_in old).file.mark
@@ -194,7 +194,7 @@ module _ {D : Type 0} (known : Bool) (seen : D → DiskState) where
   })
 
 -- it was read anew
-reread_as : {D : Type 0} (known : Bool) (seen : D → DiskState) (lines : List (List ℕ)) (bytes : List ℕ) (notes : List Note) (old new : Kept D) → AreBytesOf known seen new bytes → lines_in (store_in new) ≡ lines
+reread_as : {D : Type 0} (known : Bool) (seen : D → DiskState) (lines : List (List ℕ)) (bytes : List ℕ) (notes : List JournalNote) (old new : Kept D) → AreBytesOf known seen new bytes → lines_in (store_in new) ≡ lines
     → IsBookIf (Some bytes) (records_in lines) (book_in old).secrets (book_in new) notes → IsReread known seen new
 reread_as known seen lines bytes notes old new stand same h =
     let secrets : (book_in old).secrets ≡ (book_in new).secrets = sym h.secrets_are in
@@ -214,7 +214,7 @@ module _ {D I L : Type 0} (known : Bool) (seen : D → DiskState) (counts : (dis
   abbrev reads_of : Ledger D I L → List ℕ → Result Row Why → Type 0
   reads_of l = ReadsTable (book_in l.state).file.system_max
 
-  taken : (a : Asked) (now : ℕ) (name : List ℕ) (w : What) (x : Unit {0}) (l m : Ledger D I L) → IsChangeOf reads_of a name w → Does (Take now name w (Ok x)) l m → IsKept known seen a m.state
+  taken : (a : ClientOrder) (now : ℕ) (name : List ℕ) (w : ChangeKind) (x : Unit {0}) (l m : Ledger D I L) → IsChangeOf reads_of a name w → Does (Take now name w (Ok x)) l m → IsKept known seen a m.state
   taken (asked.Need n need) now name w x l m is h = moved known seen name n w (what.Need need) m.state is.0 is.1 (on_disk known seen counts now name w l.state m.state h.0)
   taken (asked.Replace n credential) now name w x l m is h = moved known seen name n w (what.Replace credential) m.state is.0 is.1 (on_disk known seen counts now name w l.state m.state h.0)
   taken (asked.Add table) now name w x l m is h =
@@ -239,27 +239,27 @@ module _ {D I L : Type 0} (known : Bool) (seen : D → DiskState) (counts : (dis
     abbrev reads_later : Late D I L F → List ℕ → Result Row Why → Type 0
     reads_later = ReadsLate
 
-    abbrev Done : Asked → Option (Late D I L F) → Type 0
+    abbrev Done : ClientOrder → Option (Late D I L F) → Type 0
     Done = IsDone known seen
 
     -- it is a ledger that reads a table
-    change_by : (table name : List ℕ) (w : What) (k : Late D I L F) → (row : Row) × (ReadsLate k table (Ok row) × ((name ≡ row.name) × (w ≡ what.Add row))) → IsChangeOf reads_of (asked.Add table) name w
+    change_by : (table name : List ℕ) (w : ChangeKind) (k : Late D I L F) → (row : Row) × (ReadsLate k table (Ok row) × ((name ≡ row.name) × (w ≡ what.Add row))) → IsChangeOf reads_of (asked.Add table) name w
     change_by table name w (Open l) is = (l, is)
     change_by table name w (NotYet s) is = absurd is.1.0
 
-    change_of : (a : Asked) (name : List ℕ) (w : What) → IsChangeOf reads_later a name w → IsChangeOf reads_of a name w
+    change_of : (a : ClientOrder) (name : List ℕ) (w : ChangeKind) → IsChangeOf reads_later a name w → IsChangeOf reads_of a name w
     change_of (asked.Add table) name w is = change_by table name w is.0 is.1
     change_of _ name w is = is
 
     -- as long as it is to come only needs are taken
-    shut_taken : (a : Asked) (name : List ℕ) (w : What) (x : Unit {0}) (s t : Shut F L) → IsChangeOf reads_of a name w → TakesShut name w (Ok x) s t → IsDoneUnkept a
+    shut_taken : (a : ClientOrder) (name : List ℕ) (w : ChangeKind) (x : Unit {0}) (s t : Shut F L) → IsChangeOf reads_of a name w → TakesShut name w (Ok x) s t → IsDoneUnkept a
     shut_taken (asked.Need n need) name w x s t is h = tt
-    shut_taken (asked.Replace n credential) name w x s t is h = absurd (subst (λ (v : What). TakesShut name v (Ok x) s t) is.1 h).0
-    shut_taken (asked.Add table) name w x s t is h = absurd (subst (λ (v : What). TakesShut name v (Ok x) s t) is.1.1.1.1 h).0
-    shut_taken (asked.Drop n) name w x s t is h = absurd (subst (λ (v : What). TakesShut name v (Ok x) s t) is.1 h).0
+    shut_taken (asked.Replace n credential) name w x s t is h = absurd (subst (λ (v : ChangeKind). TakesShut name v (Ok x) s t) is.1 h).0
+    shut_taken (asked.Add table) name w x s t is h = absurd (subst (λ (v : ChangeKind). TakesShut name v (Ok x) s t) is.1.1.1.1 h).0
+    shut_taken (asked.Drop n) name w x s t is h = absurd (subst (λ (v : ChangeKind). TakesShut name v (Ok x) s t) is.1 h).0
     shut_taken _ name w x s t is h = absurd is
 
-    late_taken : (a : Asked) (now : ℕ) (name : List ℕ) (w : What) (x : Unit {0}) (l m : Late D I L F) → IsChangeOf reads_later a name w → DoesLater (Take now name w (Ok x)) l m → Done a (Some m)
+    late_taken : (a : ClientOrder) (now : ℕ) (name : List ℕ) (w : ChangeKind) (x : Unit {0}) (l m : Late D I L F) → IsChangeOf reads_later a name w → DoesLater (Take now name w (Ok x)) l m → Done a (Some m)
     late_taken a now name w x (Open l) (Open m) is h = taken a now name w x l m (change_of a name w is) h
     late_taken a now name w x (NotYet s) (NotYet t) is h = shut_taken a name w x s t (change_of a name w is) h
     late_taken a now name w x _ _ is h = absurd h

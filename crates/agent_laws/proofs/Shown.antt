@@ -9,7 +9,7 @@ use Rattle.agent_answers.specs.declared.control.Control.{Control}
 use Rattle.agent_answers.specs.declared.lines.RequestLines.{RequestLines}
 use Rattle.agent_answers.specs.declared.wanted.Wanted.{Wanted}
 use Rattle.agent_answers.specs.declared.wanted.Wanted.TheVariants as wanted
-use Rattle.agent_answers.specs.declared.wanted.Why.{Why}
+use Rattle.agent_answers.specs.declared.wanted.ClientRefusal.{ClientRefusal}
 use Rattle.agent_answers.specs.declared.went.Went.{Went}
 use Rattle.agent_pages.specs.Naming.{Around}
 use Rattle.agent_pages.specs.declared.asked.Page.{Page}
@@ -18,9 +18,9 @@ use Rattle.base_clients.specs.Guests.{GoesOnFrom, IsFedFrom, IsToldOn, answering
 use Rattle.base_clients.specs.Tables.{AnswersFirst, BecomesAt, EachGoesOn, FeedsAt, GuestTable, OneGoesOn, Turns, arrive, arrive_all, first_asked, follows_as, guest_answered, idle_since, is_idle_since, request_asked_at, request_of_guest, with_place, without_idlest, without_place}
 use Rattle.base_clients.specs.declared.fed.Fed.{Fed}
 use Rattle.base_clients.specs.declared.guest.Guest.{Guest}
-use Rattle.base_clients.specs.declared.stage.Stage.{Stage}
-use Rattle.base_clients.specs.declared.stage.Stage.TheVariants as stages
-use Rattle.base_clients.specs.declared.talk.Call.{Call}
+use Rattle.base_clients.specs.declared.stage.GuestStage.{GuestStage}
+use Rattle.base_clients.specs.declared.stage.GuestStage.TheVariants as stages
+use Rattle.base_clients.specs.declared.talk.TalkCall.{TalkCall}
 use Rattle.base_device.specs.declared.tried.Tried.{Tried}
 use Rattle.base_device.specs.declared.tried.Tried.TheVariants.{Done, Waits, Failed}
 use Rattle.base_clock.specs.declared.reading.Reading.{Reading}
@@ -91,7 +91,7 @@ set_at (y ∷ ys) _ _ x after is = inr is
 -- ---- where a client comes from
 
 -- what is given to one that follows changes what is left of that alone
-abbrev IsFedTo : Stage → Stage → Type 0
+abbrev IsFedTo : GuestStage → GuestStage → Type 0
 IsFedTo old (stages.Reading bytes) = old ≡ stages.Reading bytes
 IsFedTo old (stages.Asked bytes) = old ≡ stages.Asked bytes
 IsFedTo old stages.Waiting = old ≡ stages.Waiting
@@ -99,27 +99,27 @@ IsFedTo old (stages.Answering left) = old ≡ stages.Answering left
 IsFedTo old (stages.Following left) = (was : List ℕ) × (old ≡ stages.Following was)
 IsFedTo old stages.Over = old ≡ stages.Over
 
-fed_itself : (s : Stage) → IsFedTo s s
+fed_itself : (s : GuestStage) → IsFedTo s s
 fed_itself (stages.Following left) = (left, refl)
 fed_itself _ = refl
 
 module _ {T : Type 0} (old : List (Guest T)) where
   -- there was a client of that number, of whose stage this is so
-  record From (id : ℕ) (IsSo : Stage → Type 0) : Type 0 where
+  record From (id : ℕ) (IsSo : GuestStage → Type 0) : Type 0 where
     place : ℕ
     before : Guest T
     was : slice_get old place ≡ Some before
     same : before.id ≡ id
     so : IsSo before.stage
 
-  from_more : (id : ℕ) (P Q : Stage → Type 0) → ((s : Stage) → P s → Q s) → From id P → From id Q
+  from_more : (id : ℕ) (P Q : GuestStage → Type 0) → ((s : GuestStage) → P s → Q s) → From id P → From id Q
   from_more id P Q more h = record { place = h.place; before = h.before; was = h.was; same = h.same; so = more h.before.stage h.so }
 
   abbrev IsFed : Guest T → Type 0
   IsFed g = From g.id (λ s. IsFedTo s g.stage)
 
   -- one that asks has sent that, and one that is answered was answered
-  abbrev ComesBy : ℕ → Stage → Type 0
+  abbrev ComesBy : ℕ → GuestStage → Type 0
   ComesBy id (stages.Asked bytes) = From id (λ s. HasSent s bytes)
   ComesBy id (stages.Answering left) = From id (λ s. IsSameAnswer s (stages.Answering left))
   ComesBy id (stages.Following left) = From id (λ s. IsSameAnswer s (stages.Following left))
@@ -136,9 +136,9 @@ module _ {T : Type 0} (old : List (Guest T)) where
   fed_as_was : (g n : Guest T) → n ≡ g → IsFed g → IsFed n
   fed_as_was g n same h = subst IsFed (sym same) h
 
-  fed_by : (stage : Stage) (bytes : List ℕ) (fed : Result Fed AllocError) (g n : Guest T) → g.stage ≡ stage → IsFed g → IsFedFrom stage bytes fed g n → IsFed n
+  fed_by : (stage : GuestStage) (bytes : List ℕ) (fed : Result Fed AllocError) (g n : Guest T) → g.stage ≡ stage → IsFed g → IsFedFrom stage bytes fed g n → IsFed n
   fed_by (stages.Following left) bytes fed g n is h k =
-      let followed : From g.id (λ s. IsFedTo s (stages.Following left)) = subst (λ (x : Stage). From g.id (λ s. IsFedTo s x)) is h in
+      let followed : From g.id (λ s. IsFedTo s (stages.Following left)) = subst (λ (x : GuestStage). From g.id (λ s. IsFedTo s x)) is h in
       subst IsFed (sym k.1.1) followed
   fed_by _ bytes fed g n is h k = fed_as_was g n k.1 h
 
@@ -157,11 +157,11 @@ module _ {T : Type 0} (old : List (Guest T)) where
 
   -- ---- each goes on
 
-  timed_by : (id : ℕ) (is_early : Bool) (s : Stage) → ComesBy id s → ComesBy id (cond is_early s stages.Over)
+  timed_by : (id : ℕ) (is_early : Bool) (s : GuestStage) → ComesBy id s → ComesBy id (cond is_early s stages.Over)
   timed_by id true s h = h
   timed_by id false s h = tt
 
-  timed : (id now by : ℕ) (s : Stage) → ComesBy id s → ComesBy id (in_time now by s)
+  timed : (id now by : ℕ) (s : GuestStage) → ComesBy id s → ComesBy id (in_time now by s)
   timed id now by (stages.Reading bytes) h = timed_by id (nat_lt now by) (stages.Reading bytes) h
   timed id now by (stages.Answering left) h = timed_by id (nat_lt now by) (stages.Answering left) h
   timed id now by _ h = h
@@ -191,26 +191,26 @@ module _ {T : Type 0} (old : List (Guest T)) where
   was_heard id Waits h = h
   was_heard id _ h = tt
 
-  sends_more : (bytes more : List ℕ) (s : Stage) → s ≡ stages.Reading bytes → HasSent s (bytes ++ more)
-  sends_more bytes more s is = subst (λ (x : Stage). HasSent x (bytes ++ more)) (sym is) (more, refl)
+  sends_more : (bytes more : List ℕ) (s : GuestStage) → s ≡ stages.Reading bytes → HasSent s (bytes ++ more)
+  sends_more bytes more s is = subst (λ (x : GuestStage). HasSent x (bytes ++ more)) (sym is) (more, refl)
 
-  has_sent : (bytes : List ℕ) (s : Stage) → s ≡ stages.Asked bytes → HasSent s bytes
-  has_sent bytes s is = subst (λ (x : Stage). HasSent x bytes) (sym is) refl
+  has_sent : (bytes : List ℕ) (s : GuestStage) → s ≡ stages.Asked bytes → HasSent s bytes
+  has_sent bytes s is = subst (λ (x : GuestStage). HasSent x bytes) (sym is) refl
 
-  is_left : (left : List ℕ) (n : ℕ) (s : Stage) → s ≡ stages.Answering left → IsSameAnswer s (stages.Answering (drop n left))
-  is_left left n s is = subst (λ (x : Stage). IsSameAnswer x (stages.Answering (drop n left))) (sym is) (n, refl)
+  is_left : (left : List ℕ) (n : ℕ) (s : GuestStage) → s ≡ stages.Answering left → IsSameAnswer s (stages.Answering (drop n left))
+  is_left left n s is = subst (λ (x : GuestStage). IsSameAnswer x (stages.Answering (drop n left))) (sym is) (n, refl)
 
-  is_followed : (rest : List ℕ) (s : Stage) → (was : List ℕ) × (s ≡ stages.Following was) → IsSameAnswer s (stages.Following rest)
-  is_followed rest s h = subst (λ (x : Stage). IsSameAnswer x (stages.Following rest)) (sym h.1) tt
+  is_followed : (rest : List ℕ) (s : GuestStage) → (was : List ℕ) × (s ≡ stages.Following was) → IsSameAnswer s (stages.Following rest)
+  is_followed rest s h = subst (λ (x : GuestStage). IsSameAnswer x (stages.Following rest)) (sym h.1) tt
 
-  module _ (remaining written : T → Option (List ℕ)) (calls : T → Option (List Call)) (tells : List ℕ → Bool → Type 0) (most now : ℕ) where
+  module _ (remaining written : T → Option (List ℕ)) (calls : T → Option (List TalkCall)) (tells : List ℕ → Bool → Type 0) (most now : ℕ) where
     told_on : (left : List ℕ) (g n : Guest T) → From g.id (λ s. (was : List ℕ) × (s ≡ stages.Following was)) → IsToldOn remaining written calls now left g n → Comes n
     told_on [] g n h k = subst Comes (sym k.same) (was_heard g.id k.tried (from_more g.id _ _ (is_followed []) h))
     told_on (b ∷ bs) g n h k =
         let rest : List ℕ = drop (count k.0) (b ∷ bs) in
         subst Comes (sym k.1.same) (was_told g.id k.0 rest (from_more g.id _ _ (is_followed rest) h))
 
-    goes_by : (stage : Stage) (g n : Guest T) → g.stage ≡ stage → From g.id (λ s. IsFedTo s stage) → GoesOnFrom remaining written calls tells most now stage g n → Comes n
+    goes_by : (stage : GuestStage) (g n : Guest T) → g.stage ≡ stage → From g.id (λ s. IsFedTo s stage) → GoesOnFrom remaining written calls tells most now stage g n → Comes n
     goes_by (stages.Reading bytes) g n is h k =
         subst Comes (sym k.same)
         (timed g.id now g.by (read_to k.tried k.whole most (bytes ++ k.came)) (was_read g.id k.tried k.whole most (bytes ++ k.came) (from_more g.id _ _ (sends_more bytes k.came) h)))
@@ -252,7 +252,7 @@ module _ {T : Type 0} (old : List (Guest T)) where
     arrive_each table [] all = all
     arrive_each table (t ∷ ts) all = arrive_each (arrive now table t) ts (arrives table t all)
 
-    turned : (remaining written : T → Option (List ℕ)) (calls : T → Option (List Call)) (tells : F → List ℕ → Bool → Type 0) (enough : Bool) (fed new : GuestTable T F) (before after : Option (DoorLog T)) → Each IsFed fed.guests →
+    turned : (remaining written : T → Option (List ℕ)) (calls : T → Option (List TalkCall)) (tells : F → List ℕ → Bool → Type 0) (enough : Bool) (fed new : GuestTable T F) (before after : Option (DoorLog T)) → Each IsFed fed.guests →
         Turns remaining written calls tells now enough fed new before after → Each Comes new.guests
     turned remaining written calls tells enough fed new before after all h =
         let went = goes_each remaining written calls (tells fed.framing) fed.limits.bytes now enough fed.guests h.went all h.on in
@@ -261,12 +261,12 @@ module _ {T : Type 0} (old : List (Guest T)) where
 
   -- ---- one of them is answered
 
-  had_by : (id : ℕ) (s : Stage) (text : List ℕ) → answer_in s ≡ Some text → ComesBy id s → From id (λ b. IsSameAnswer b s)
+  had_by : (id : ℕ) (s : GuestStage) (text : List ℕ) → answer_in s ≡ Some text → ComesBy id s → From id (λ b. IsSameAnswer b s)
   had_by id (stages.Answering left) text is h = h
   had_by id (stages.Following left) text is h = h
   had_by id _ text is h = absurd cc
 
-  asks_by : (id : ℕ) (s : Stage) (bytes : List ℕ) → asked_bytes s ≡ Some bytes → ComesBy id s → From id (λ b. HasSent b bytes)
+  asks_by : (id : ℕ) (s : GuestStage) (bytes : List ℕ) → asked_bytes s ≡ Some bytes → ComesBy id s → From id (λ b. HasSent b bytes)
   asks_by id (stages.Asked request) bytes is h = subst (λ (r : List ℕ). From id (λ b. HasSent b r)) (ap (the []) is) h
   asks_by id _ bytes is h = absurd cc
 
@@ -292,14 +292,14 @@ module _ {T : Type 0} (old : List (Guest T)) where
     not_empty : (more : List ℕ) → [] ≡ codes "ok" ++ more → ⊥
     not_empty more is = (let first : 0 ≡ 111 = ap (λ (l : List ℕ). slice_index l 0) is in absurd (omega (arith, first)))
 
-    refused_first : (why : Why) → slice_index (refused_text why) 0 ≡ 101
+    refused_first : (why : ClientRefusal) → slice_index (refused_text why) 0 ≡ 101
     unfolding refused_text
     refused_first why = refl
 
-    not_refused : (why : Why) (more : List ℕ) → refused_text why ≡ codes "ok" ++ more → ⊥
+    not_refused : (why : ClientRefusal) (more : List ℕ) → refused_text why ≡ codes "ok" ++ more → ⊥
     not_refused why more is = (let first : 101 ≡ 111 = sym (refused_first why) ∙ ap (λ (l : List ℕ). slice_index l 0) is in absurd (omega (arith, first)))
 
-    not_said : (enough : Bool) (why : Why) (sent more : List ℕ) → TextIf enough (refused_text why) sent → sent ≡ codes "ok" ++ more → ⊥
+    not_said : (enough : Bool) (why : ClientRefusal) (sent more : List ℕ) → TextIf enough (refused_text why) sent → sent ≡ codes "ok" ++ more → ⊥
     not_said true why sent more is ok = not_refused why more (sym is ∙ ok)
     not_said false why sent more is ok = not_empty more (sym is ∙ ok)
 
@@ -360,7 +360,7 @@ module _ {T : Type 0} (old : List (Guest T)) where
 
 -- ---- the clients go on
 
-module _ {T D : Type 0} (remaining written : T → Option (List ℕ)) (calls : T → Option (List Call)) (log : D → Option (DoorLog T)) (agent : Agent) (around : Around) (now : Reading) (went : Went) where
+module _ {T D : Type 0} (remaining written : T → Option (List ℕ)) (calls : T → Option (List TalkCall)) (log : D → Option (DoorLog T)) (agent : Agent) (around : Around) (now : Reading) (went : Went) where
   no_ok : (after : Option (Control T D)) → after ≡ None → HasOk (guests_in after) → ⊥
   no_ok after none ok = absurd (let nobody : None ≡ Some ok.client = ap (λ (c : Option (Control T D)). slice_get (guests_in c) ok.place) (sym none) ∙ ok.there in cc)
 

@@ -7,7 +7,7 @@ use Rattle.agent_behind.specs.Behinds.{PassesBehind}
 use Rattle.agent_behind.specs.declared.behind.Behind.{Behind}
 use Rattle.state_changes.specs.declared.row.Row.{Row}
 use Rattle.base_clients.specs.Doors.{DoorLog}
-use Rattle.base_clients.specs.declared.talk.Call.{Call}
+use Rattle.base_clients.specs.declared.talk.TalkCall.{TalkCall}
 use Rattle.base_clock.specs.declared.reading.Reading.{Reading}
 use Rattle.base_device.specs.declared.tried.Tried.{Tried}
 use Rattle.base_disk.specs.State.{DiskState}
@@ -19,7 +19,7 @@ use Rattle.agent_turns.specs.Changes.{given_by}
 use Rattle.agent_turns.specs.Days.{PassesToOthers}
 use Rattle.agent_turns.specs.Calls.{calls_in}
 use Rattle.agent_turns.specs.Neighbours.{AllCalled, Answer, End, Give, GoOn, Hear, NeighbourCall, Needs, Rest, Settle, Step, Thing, Time, Want}
-use Rattle.agent_turns.specs.declared.change.Change.{Change}
+use Rattle.agent_turns.specs.declared.change.AgentChange.{AgentChange}
 use Rattle.agent_turns.specs.declared.day.EarlyDay.{EarlyDay}
 use Rattle.watch_machine.specs.declared.outlook.Next.{Next}
 use Rattle.agent_laws.specs.Disks.{AreEndsLeft, AsksLittle, EndsAreTriedOnce, IsAskedWithin, ToHouse, TriesEnds}
@@ -149,13 +149,13 @@ looked_at asks now look None new h = within_more asks 0 0 0 1 0 0 None new (omeg
 looked_at asks now look (Some old) None h = absurd h
 looked_at asks now look (Some old) (Some new) h = within_one asks (Look now look) (Some old) (Some new) (new, (h, refl))
 
-module _ {S T D K E : Type 0} (given : S → Option (List ℕ)) (failures tries : S → ℕ) (tried : S → Option (List Tried)) (remaining written : T → Option (List ℕ)) (calls : T → Option (List Call)) (log : D → Option (DoorLog T))
+module _ {S T D K E : Type 0} (given : S → Option (List ℕ)) (failures tries : S → ℕ) (tried : S → Option (List Tried)) (remaining written : T → Option (List ℕ)) (calls : T → Option (List TalkCall)) (log : D → Option (DoorLog T))
     (asks : KeepCall → K → K → Type 0) (rows : K → List Row) (keeps : K → Bool) (path : K → List ℕ) (reads : K → List ℕ → Result Row Why → Type 0) (gives_served : ℕ → Result (Option Inventory) AllocError → K → Type 0)
     (known : Bool) (state : E → DiskState) where
   abbrev Does : NeighbourCall → House S T D K E → House S T D K E → Type 0
   Does = ToHouse given failures tries tried remaining written calls log asks rows keeps path reads gives_served known state
 
-  given_of : (agent : Agent) (now : Reading) (change : Option Change) (old new : House S T D K E) → Does (Give agent now change) old new → Spares asks (gives (Give agent now change)) 1 old new
+  given_of : (agent : Agent) (now : Reading) (change : Option AgentChange) (old new : House S T D K E) → Does (Give agent now change) old new → Spares asks (gives (Give agent now change)) 1 old new
   given_of agent now None old new h = asked_for asks rows keeps path reads gives_served agent now h.0 None old new h.1.1
   given_of agent now (Some change) old new h = asked_for asks rows keeps path reads gives_served agent now h.0 (Some change) old new h.1.1
 
@@ -191,7 +191,7 @@ module _ {S T D K E : Type 0} (given : S → Option (List ℕ)) (failures tries 
   abbrev ToKeeper : NeighbourCall → House S T D K E → House S T D K E → Type 0
   ToKeeper call old new = IsAskedWithin asks (goes call) (gives call) (offers call) old.state new.state
 
-  given_more : (a : Agent) (now : Reading) (change : Option Change) (x y : House S T D K E) → ToKeeper (Give a now None) x y → ToKeeper (Give a now change) x y
+  given_more : (a : Agent) (now : Reading) (change : Option AgentChange) (x y : House S T D K E) → ToKeeper (Give a now None) x y → ToKeeper (Give a now change) x y
   given_more a now None x y h = h
   given_more a now (Some change) x y h = within_more asks 0 0 1 0 1 1 x.state y.state (omega arith) (omega arith) (omega arith) h
 

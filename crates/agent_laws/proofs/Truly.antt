@@ -3,13 +3,13 @@ use Rattle.std.proofs.Common.{◌≡◌, ◌∙◌, ◌⊎◌, ℕ, Bool, true, 
 use Rattle.std.specs.List.{position}
 use Rattle.agent_standing.specs.Agent.{Agent}
 use Rattle.agent_answers.specs.Controlling.{AnswersAsking}
-use Rattle.agent_answers.specs.declared.asked.Asked.{Asked}
+use Rattle.agent_answers.specs.declared.asked.ClientOrder.{ClientOrder}
 use Rattle.agent_answers.specs.declared.control.Control.{Control}
 use Rattle.state_changes.specs.declared.row.Row.{Row}
 use Rattle.base_clients.specs.Tables.{AnswersGuest, BecomesAt, GuestTable, guest_answered, waits_as}
 use Rattle.base_clients.specs.declared.guest.Guest.{Guest}
-use Rattle.base_clients.specs.declared.stage.Stage.{Stage}
-use Rattle.base_clients.specs.declared.stage.Stage.TheVariants as stages
+use Rattle.base_clients.specs.declared.stage.GuestStage.{GuestStage}
+use Rattle.base_clients.specs.declared.stage.GuestStage.TheVariants as stages
 use Rattle.agent_ledger.specs.Keeping.{KeepCall}
 use Rattle.agent_words.specs.Outcomes.{Why}
 use Rattle.agent_house.specs.Admitting.{asking_in}
@@ -29,7 +29,7 @@ abbrev the : {X : Type 0} → X → Option X → X
 the d None = d
 the d (Some x) = x
 
-sent_says : (answer more : List ℕ) (s : Stage) → s ≡ stages.Answering answer → answer_in s ≡ Some (codes "ok" ++ more) → answer ≡ codes "ok" ++ more
+sent_says : (answer more : List ℕ) (s : GuestStage) → s ≡ stages.Answering answer → answer_in s ≡ Some (codes "ok" ++ more) → answer ≡ codes "ok" ++ more
 sent_says answer more s is says = ap (the []) (sym (ap answer_in is) ∙ says)
 
 module _ {T : Type 0} where
@@ -104,7 +104,7 @@ record Tells {S T D K E : Type 0} (Told : Option ℕ → Option K → Type 0) (o
   given : new.given ≡ old.given
   awaited : new.awaited ≡ old.awaited
 
-module _ {S T D K E : Type 0} (does : KeepCall → K → K → Type 0) (keeps : K → Bool) (reads : K → List ℕ → Result Row Why → Type 0) (Done : Asked → Option K → Type 0) (has : ℕ → Asked → Type 0) (agent : Agent) where
+module _ {S T D K E : Type 0} (does : KeepCall → K → K → Type 0) (keeps : K → Bool) (reads : K → List ℕ → Result Row Why → Type 0) (Done : ClientOrder → Option K → Type 0) (has : ℕ → ClientOrder → Type 0) (agent : Agent) where
   -- the clients are as they were
   same_tells : (old new : House S T D K E) → new.control ≡ old.control → new.given ≡ old.given → new.awaited ≡ old.awaited → Tells (IsTold Done has) old new
   same_tells old new control given awaited = record { told = λ ok. was_same (guests_in old.control) (guests_in new.control) ok _ (ap guests_in control); given = given; awaited = awaited }
@@ -187,5 +187,5 @@ module _ {S T D K E : Type 0} (does : KeepCall → K → K → Type 0) (keeps : 
     told_then : Truly (guests_in old.control) new
     told_then = subst (Truly (guests_in old.control)) (sym h.rest) told_settled
 
-    pub told_truly : (ok : HasOk (guests_in new.control)) → WasOr (guests_in old.control) (guests_in new.control) ok (λ before. (a : Asked) × (has before.id a × Done a new.state))
+    pub told_truly : (ok : HasOk (guests_in new.control)) → WasOr (guests_in old.control) (guests_in new.control) ok (λ before. (a : ClientOrder) × (has before.id a × Done a new.state))
     told_truly ok = was_more (guests_in old.control) (guests_in new.control) ok _ _ (λ before told. told before.id refl) (told_then ok)

@@ -3,12 +3,12 @@
 use Rattle.std.proofs.Common.{◌≡◌, ◌∙◌, ◌⊎◌, ℕ, Bool, inl, inr, List, [], ◌∷◌, ◌++◌, Option, Some, None, Result, ap, arith, refl, subst, sym}
 use Rattle.std.specs.declared.alloc.AllocError.{AllocError}
 use Rattle.agent_standing.specs.Agent.{Agent}
-use Rattle.agent_answers.specs.declared.asked.Asked.{Asked}
-use Rattle.agent_answers.specs.declared.asked.Asked.TheVariants as asked
+use Rattle.agent_answers.specs.declared.asked.ClientOrder.{ClientOrder}
+use Rattle.agent_answers.specs.declared.asked.ClientOrder.TheVariants as asked
 use Rattle.state_changes.specs.declared.row.Row.{Row}
 use Rattle.base_clients.specs.Doors.{DoorLog}
 use Rattle.base_clients.specs.declared.guest.Guest.{Guest}
-use Rattle.base_clients.specs.declared.talk.Call.{Call}
+use Rattle.base_clients.specs.declared.talk.TalkCall.{TalkCall}
 use Rattle.base_clock.specs.declared.reading.Reading.{Reading}
 use Rattle.base_device.specs.declared.tried.Tried.{Tried}
 use Rattle.base_disk.specs.State.{DiskState}
@@ -20,7 +20,7 @@ use Rattle.agent_turns.specs.Neighbours.{AllCalled, Answer, End, Give, GoOn, Hea
 use Rattle.agent_turns.specs.Runs.{AreTurns}
 use Rattle.agent_turns.specs.Stages.{of_stages}
 use Rattle.agent_turns.specs.Turns.{ServingTurn, TurnHears}
-use Rattle.agent_turns.specs.declared.change.Change.{Change}
+use Rattle.agent_turns.specs.declared.change.AgentChange.{AgentChange}
 use Rattle.watch_machine.specs.declared.outlook.Next.{Next}
 use Rattle.agent_words.specs.Outcomes.{Why}
 use Rattle.agent_ledger.specs.Keeping.{KeepCall}
@@ -82,7 +82,7 @@ only_heard (Give agent now change ∷ xs) e = absurd (omega (arith, e))
 only_heard (Settle agent is_made ∷ xs) e = absurd (omega (arith, e))
 only_heard (Rest now rest ∷ xs) e = absurd (omega (arith, e))
 
-change_settled : (a : Agent) (r : Reading) (told : Change → Agent) (made : Option MadeChange) (now : ℕ) (rest : Option ℕ) → EachIsSettled (calls_for_change a r told made ++ Rest now rest ∷ [])
+change_settled : (a : Agent) (r : Reading) (told : AgentChange → Agent) (made : Option MadeChange) (now : ℕ) (rest : Option ℕ) → EachIsSettled (calls_for_change a r told made ++ Rest now rest ∷ [])
 change_settled a r told None now rest = tt
 change_settled a r told (Some m) now rest = tt
 
@@ -121,7 +121,7 @@ module _ {S T D K E : Type 0} where
   heard_of agent (Step lead requests) old new h = by_rest _ old new refl refl refl h.1
   heard_of agent Want old new h = by_rest _ old new refl refl refl h.1
 
-module _ {S T D K E : Type 0} (given : S → Option (List ℕ)) (failures tries : S → ℕ) (tried : S → Option (List Tried)) (remaining written : T → Option (List ℕ)) (calls : T → Option (List Call)) (log : D → Option (DoorLog T))
+module _ {S T D K E : Type 0} (given : S → Option (List ℕ)) (failures tries : S → ℕ) (tried : S → Option (List Tried)) (remaining written : T → Option (List ℕ)) (calls : T → Option (List TalkCall)) (log : D → Option (DoorLog T))
     (does : KeepCall → K → K → Type 0) (rows : K → List Row) (keeps : K → Bool) (path : K → List ℕ) (reads : K → List ℕ → Result Row Why → Type 0) (gives : ℕ → Result (Option Inventory) AllocError → K → Type 0)
     (known : Bool) (state : E → DiskState) where
   abbrev pub Does : NeighbourCall → House S T D K E → House S T D K E → Type 0
@@ -152,43 +152,43 @@ module _ {S T D K E : Type 0} (given : S → Option (List ℕ)) (failures tries 
 
   -- ---- so each tells truly
 
-  module _ (Done : Asked → Option K → Type 0) (so : AreDone does reads Done) where
+  module _ (Done : ClientOrder → Option K → Type 0) (so : AreDone does reads Done) where
     -- nothing waits to be settled, and who waits has asked for it
-    record Rests (has : ℕ → Asked → Type 0) (h : House S T D K E) : Type 0 where
+    record Rests (has : ℕ → ClientOrder → Type 0) (h : House S T D K E) : Type 0 where
       none : h.given ≡ None
       waits : WaitsFor reads has h.awaited
 
-    waits_more : (has more : ℕ → Asked → Type 0) → ((id : ℕ) (a : Asked) → has id a → more id a) → (awaited : Option Awaited) → WaitsFor reads has awaited → WaitsFor reads more awaited
+    waits_more : (has more : ℕ → ClientOrder → Type 0) → ((id : ℕ) (a : ClientOrder) → has id a → more id a) → (awaited : Option Awaited) → WaitsFor reads has awaited → WaitsFor reads more awaited
     waits_more has more is None w = tt
     waits_more has more is (Some one) w = λ id e. (let it = w id e in (it.0, (is id it.0 it.1.0, it.1.1)))
 
-    abbrev and_now : (ℕ → Asked → Type 0) → NeighbourCall → House S T D K E → ℕ → Asked → Type 0
+    abbrev and_now : (ℕ → ClientOrder → Type 0) → NeighbourCall → House S T D K E → ℕ → ClientOrder → Type 0
     and_now has call old id a = has id a ⊎ Asks call old id a
 
-    rests_on : (has more : ℕ → Asked → Type 0) → ((id : ℕ) (a : Asked) → has id a → more id a) → (old new : House S T D K E) → AreLeft old new → Rests has old → Rests more new
+    rests_on : (has more : ℕ → ClientOrder → Type 0) → ((id : ℕ) (a : ClientOrder) → has id a → more id a) → (old new : House S T D K E) → AreLeft old new → Rests has old → Rests more new
     rests_on has more is old new left rests = record {
       none = left.given ∙ rests.none;
       waits = waits_more has more is new.awaited (subst (λ (a : Option Awaited). WaitsFor reads has a) (sym left.awaited) rests.waits);
     }
 
     -- what is owed once a change was asked for
-    owes_then : (has : ℕ → Asked → Type 0) (agent : Agent) (now : Reading) (by change : Option Change) (old new : House S T D K E) → Rests has old → Does (Give agent now change) old new → Owes reads Done (and_now has (Give agent now by) old) new
+    owes_then : (has : ℕ → ClientOrder → Type 0) (agent : Agent) (now : Reading) (by change : Option AgentChange) (old new : House S T D K E) → Rests has old → Does (Give agent now change) old new → Owes reads Done (and_now has (Give agent now by) old) new
     owes_then has agent now by change old new rests h =
         asked_for does rows keeps path reads gives Done so (and_now has (Give agent now by) old) agent now change old new (λ id a it. inr it) rests.none
         (waits_more has (and_now has (Give agent now by) old) (λ id a it. inl it) old.awaited rests.waits) h
 
-    given_none : (has : ℕ → Asked → Type 0) (agent : Agent) (now : Reading) (by : Option Change) (old new : House S T D K E) → Rests has old → Does (Give agent now None) old new → Rests (and_now has (Give agent now by) old) new
+    given_none : (has : ℕ → ClientOrder → Type 0) (agent : Agent) (now : Reading) (by : Option AgentChange) (old new : House S T D K E) → Rests has old → Does (Give agent now None) old new → Rests (and_now has (Give agent now by) old) new
     given_none has agent now by old new rests h = record {
       none = none_given does rows keeps path reads gives Done so has agent now old new rests.waits h ∙ rests.none;
       waits = (owes_then has agent now by None old new rests h).waits;
     }
 
     -- something is settled
-    record Settled (has : ℕ → Asked → Type 0) (old new : House S T D K E) : Type 0 where
-      told : TellsOk (guests_in old.control) (guests_in new.control) (λ before client. (a : Asked) × (has before.id a × Done a new.state))
+    record Settled (has : ℕ → ClientOrder → Type 0) (old new : House S T D K E) : Type 0 where
+      told : TellsOk (guests_in old.control) (guests_in new.control) (λ before client. (a : ClientOrder) × (has before.id a × Done a new.state))
       rests : Rests has new
 
-    settled_one : (has : ℕ → Asked → Type 0) (by : Agent) (is_made : Bool) (old new : House S T D K E) → Owes reads Done has old → Does (Settle by is_made) old new → Settled has old new
+    settled_one : (has : ℕ → ClientOrder → Type 0) (by : Agent) (is_made : Bool) (old new : House S T D K E) → Owes reads Done has old → Does (Settle by is_made) old new → Settled has old new
     settled_one has by is_made old new owes h = record {
       told = told_truly does keeps reads Done has by is_made old new owes h;
       rests = record {
@@ -197,26 +197,26 @@ module _ {S T D K E : Type 0} (given : S → Option (List ℕ)) (failures tries 
       };
     }
 
-    settled_another : (has : ℕ → Asked → Type 0) (by : Agent) (is_made : Bool) (old new : House S T D K E) → Rests has old → SettlesOr Does by is_made old new → Settled has old new
+    settled_another : (has : ℕ → ClientOrder → Type 0) (by : Agent) (is_made : Bool) (old new : House S T D K E) → Rests has old → SettlesOr Does by is_made old new → Settled has old new
     settled_another has by is_made old new rests (inl h) =
         settled_one has by is_made old new (record { given = subst (λ (g : Option Given). IsOwed Done has (asking_in old.control) old.state g) (sym rests.none) tt; waits = rests.waits }) h
     settled_another has by is_made old new rests (inr h) = record {
-      told = same_ok (λ before client. (a : Asked) × (has before.id a × Done a new.state)) (guests_in old.control) (guests_in new.control) (ap guests_in h.control);
+      told = same_ok (λ before client. (a : ClientOrder) × (has before.id a × Done a new.state)) (guests_in old.control) (guests_in new.control) (ap guests_in h.control);
       rests = rests_on has has (λ id a it. it) old new h.left rests;
     }
 
-    changed : (has : ℕ → Asked → Type 0) (a : Agent) (now : Reading) (change : Option Change) (by : Agent) (is_made : Bool) (old mid new : House S T D K E) → Rests has old → IsChanged Does a now change by is_made old mid new → Settled (and_now has (Give a now change) old) mid new
+    changed : (has : ℕ → ClientOrder → Type 0) (a : Agent) (now : Reading) (change : Option AgentChange) (by : Agent) (is_made : Bool) (old mid new : House S T D K E) → Rests has old → IsChanged Does a now change by is_made old mid new → Settled (and_now has (Give a now change) old) mid new
     changed has a now change by is_made old mid new rests (inl h) = settled_one (and_now has (Give a now change) old) by is_made mid new (owes_then has a now change change old mid rests h.0) h.1
     changed has a now change by is_made old mid new rests (inr h) = settled_another (and_now has (Give a now change) old) by is_made mid new (given_none has a now change old mid rests h.0) h.1
 
     -- whoever is told `ok` where a change is given follows the log from then on
-    asked_alone : (a : Agent) (now : Reading) (change : Option Change) (by : Agent) (is_made : Bool) (old mid new : House S T D K E) → IsChanged Does a now change by is_made old mid new →
+    asked_alone : (a : Agent) (now : Reading) (change : Option AgentChange) (by : Agent) (is_made : Bool) (old mid new : House S T D K E) → IsChanged Does a now change by is_made old mid new →
         TellsOk (guests_in old.control) (guests_in mid.control) (Follows (λ id alerts. IsTurnOf now old.control id (asked.Follow alerts)))
     asked_alone a now change by is_made old mid new (inl h) = admitted_alone does rows keeps path reads gives a now change old mid h.0
     asked_alone a now change by is_made old mid new (inr h) = admitted_alone does rows keeps path reads gives a now None old mid h.0
 
     module _ {N : Type 0} (to : NeighbourCall → N → N → Type 0) (house : N → House S T D K E) (reaches : Reaches Does to house) where
-      truly : (has : ℕ → Asked → Type 0) (made : List NeighbourCall) (old new : N) → EachIsSettled made → (run : AllCalled to made old new) → Rests has (house old) → AllTellTruly to house Done has made old new run
+      truly : (has : ℕ → ClientOrder → Type 0) (made : List NeighbourCall) (old new : N) → EachIsSettled made → (run : AllCalled to made old new) → Rests has (house old) → AllTellTruly to house Done has made old new run
       truly has [] old new each run rests = tt
       truly has (Hear agent thing ∷ made) old new each run rests =
           let more = and_now has (Hear agent thing) (house old) in

@@ -9,7 +9,7 @@ use Rattle.agent_turns.specs.Held.{ServingSide}
 use Rattle.agent_turns.specs.Neighbours.{Give, GoOn, Hear, NeighbourCall, Rest, Settle, Thing, Time, Want, calls_for_change}
 use Rattle.agent_turns.specs.Stages.{AnswersAreTaken, AnswersCome, Commands, HandsInAnswers, LeftOverGoesFirst, Listed, OnHeld, SendsRequests, TakesAnswers, TakesReadings, TakesUp, Then, nothing, of_answers, of_coming, of_commands, of_left, of_stages, one_and_then}
 use Rattle.agent_turns.specs.Turns.{ServingTurn, TurnHears}
-use Rattle.agent_turns.specs.declared.change.Change.{Change}
+use Rattle.agent_turns.specs.declared.change.AgentChange.{AgentChange}
 
 -- how often they go on, and how many changes they give
 abbrev pub goes : NeighbourCall → ℕ
@@ -112,11 +112,11 @@ module _ (w : NeighbourCall → ℕ) (light : (agent : Agent) (thing : Thing) �
 
 -- ---- a turn goes on once, asks for a change once, and gives no more changes than it takes
 
-goes_for_change : (a : Agent) (r : Reading) (told : Change → Agent) (made : Option MadeChange) → weight goes (calls_for_change a r told made) ≡ 0
+goes_for_change : (a : Agent) (r : Reading) (told : AgentChange → Agent) (made : Option MadeChange) → weight goes (calls_for_change a r told made) ≡ 0
 goes_for_change a r told None = refl
 goes_for_change a r told (Some m) = refl
 
-gives_for_change : (a : Agent) (r : Reading) (told : Change → Agent) (made : Option MadeChange) → weight gives (calls_for_change a r told made) ≤ length (given_by made)
+gives_for_change : (a : Agent) (r : Reading) (told : AgentChange → Agent) (made : Option MadeChange) → weight gives (calls_for_change a r told made) ≤ length (given_by made)
 gives_for_change a r told None = omega arith
 gives_for_change a r told (Some m) = omega arith
 
@@ -134,7 +134,7 @@ gives_few port (Some r) old t mid new h =
     let last = gives_for_change mid.held.agent r (λ change. new) t.made in
     omega (arith, all, last)
 
-offers_for_change : (a : Agent) (r : Reading) (told : Change → Agent) (made : Option MadeChange) → weight offers (calls_for_change a r told made) ≡ 1
+offers_for_change : (a : Agent) (r : Reading) (told : AgentChange → Agent) (made : Option MadeChange) → weight offers (calls_for_change a r told made) ≡ 1
 offers_for_change a r told None = refl
 offers_for_change a r told (Some m) = refl
 

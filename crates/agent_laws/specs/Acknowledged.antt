@@ -6,8 +6,8 @@ use Rattle.std.specs.List.{Contains}
 use Rattle.agent_standing.specs.Agent.{Agent}
 use Rattle.agent_answers.specs.Controlling.{IsShownText}
 use Rattle.agent_answers.specs.Wanting.{ClientWants}
-use Rattle.agent_answers.specs.declared.asked.Asked.{Asked}
-use Rattle.agent_answers.specs.declared.asked.Asked.TheVariants as asked
+use Rattle.agent_answers.specs.declared.asked.ClientOrder.{ClientOrder}
+use Rattle.agent_answers.specs.declared.asked.ClientOrder.TheVariants as asked
 use Rattle.agent_answers.specs.declared.control.Control.{Control}
 use Rattle.agent_answers.specs.declared.wanted.Wanted.TheVariants as wanted
 use Rattle.agent_pages.specs.Naming.{Around}
@@ -17,15 +17,15 @@ use Rattle.agent_behind.specs.Behinds.{PassesBehind}
 use Rattle.agent_behind.specs.declared.behind.Behind.{Behind}
 use Rattle.state_changes.specs.Listed.{rows_of_served}
 use Rattle.state_changes.specs.Words.{fingerprint}
-use Rattle.state_changes.specs.declared.change.What.{What}
-use Rattle.state_changes.specs.declared.change.What.TheVariants as what
-use Rattle.state_changes.specs.declared.replaying.Note.{Note}
+use Rattle.state_changes.specs.declared.change.ChangeKind.{ChangeKind}
+use Rattle.state_changes.specs.declared.change.ChangeKind.TheVariants as what
+use Rattle.state_changes.specs.declared.replaying.JournalNote.{JournalNote}
 use Rattle.state_changes.specs.declared.row.Row.{Row}
 use Rattle.base_clients.specs.Doors.{DoorLog}
 use Rattle.base_clients.specs.declared.guest.Guest.{Guest}
-use Rattle.base_clients.specs.declared.stage.Stage.{Stage}
-use Rattle.base_clients.specs.declared.stage.Stage.TheVariants as stages
-use Rattle.base_clients.specs.declared.talk.Call.{Call}
+use Rattle.base_clients.specs.declared.stage.GuestStage.{GuestStage}
+use Rattle.base_clients.specs.declared.stage.GuestStage.TheVariants as stages
+use Rattle.base_clients.specs.declared.talk.TalkCall.{TalkCall}
 use Rattle.base_clock.specs.declared.reading.Reading.{Reading}
 use Rattle.base_device.specs.declared.tried.Tried.{Tried}
 use Rattle.base_disk.specs.Image.{Image}
@@ -65,7 +65,7 @@ guests_in None = []
 guests_in (Some control) = control.clients.guests
 
 -- what is left to be written of the answer that a client is given
-abbrev pub answer_in : Stage → Option (List ℕ)
+abbrev pub answer_in : GuestStage → Option (List ℕ)
 answer_in (stages.Reading bytes) = None
 answer_in (stages.Asked bytes) = None
 answer_in stages.Waiting = None
@@ -93,7 +93,7 @@ abbrev pub TellsOk : {T : Type 0} → List (Guest T) → List (Guest T) → (Gue
 TellsOk old new IsWhy = (ok : HasOk new) → WasThere old ok.place ok.client (λ before. (ok.client ≡ before) ⊎ IsWhy before ok.client)
 
 -- what is left of an answer; or, where that goes on, more of it
-abbrev pub IsSameAnswer : Stage → Stage → Type 0
+abbrev pub IsSameAnswer : GuestStage → GuestStage → Type 0
 IsSameAnswer (stages.Answering left) (stages.Answering rest) = (n : ℕ) × (rest ≡ drop n left)
 IsSameAnswer (stages.Following left) (stages.Following more) = Unit {0}
 IsSameAnswer old new = ⊥
@@ -106,7 +106,7 @@ TellsOkAmid old new IsWhy = (ok : HasOk new) → (place : ℕ) × WasThere old p
 -- ---- what is said so that is no answer to a change
 
 -- this is the request of a client, of which something may have come by now
-abbrev pub HasSent : Stage → List ℕ → Type 0
+abbrev pub HasSent : GuestStage → List ℕ → Type 0
 HasSent (stages.Reading bytes) request = (more : List ℕ) × (request ≡ bytes ++ more)
 HasSent (stages.Asked bytes) request = request ≡ bytes
 HasSent stages.Waiting request = ⊥
@@ -132,7 +132,7 @@ abbrev pub HasRecord : List ℕ → List ℕ → Type 0
 HasRecord line bytes = (lines : List (List ℕ)) × (StandsFor bytes lines × Contains lines line)
 
 -- the record of a change is among those of the journal, and on the disk: whatever a crash leaves then has it
-pub record IsOnDisk {D : Type 0} (known : Bool) (seen : D → DiskState) (name : List ℕ) (w : What) (k : Kept D) : Type 0 where
+pub record IsOnDisk {D : Type 0} (known : Bool) (seen : D → DiskState) (name : List ℕ) (w : ChangeKind) (k : Kept D) : Type 0 where
   pub held : Contains (lines_in (store_in k)) (line_for_change (book_in k).file name w)
   pub left : IsTrue known → (c : Image) → (seen k.disk).may_leave c → HasRecord (line_for_change (book_in k).file name w) (bytes_of_file (c (path_of_store (store_in k))))
 
@@ -161,12 +161,12 @@ pub record FileSaysAll {D : Type 0} (known : Bool) (seen : D → DiskState) (k :
 pub record IsReread {D : Type 0} (known : Bool) (seen : D → DiskState) (k : Kept D) : Type 0 where
   pub bytes : List ℕ
   pub stand : AreBytesOf known seen k bytes
-  pub notes : List Note
+  pub notes : List JournalNote
   pub book : IsBookIf (Some bytes) (records_in (lines_in (store_in k))) (book_in k).secrets (book_in k) notes
 
 -- what a client has asked for is done: the record of a change is on the disk; FILE has all that is kept, or has said it before; or it is read
 -- anew. None that follows the log is told so by this
-abbrev pub IsKept : {D : Type 0} → Bool → (D → DiskState) → Asked → Kept D → Type 0
+abbrev pub IsKept : {D : Type 0} → Bool → (D → DiskState) → ClientOrder → Kept D → Type 0
 IsKept known seen (asked.Need name need) k = IsOnDisk known seen name (what.Need need) k
 IsKept known seen (asked.Replace name credential) k = IsOnDisk known seen name (what.Replace credential) k
 IsKept known seen (asked.Add table) k = (most : Option ℕ) × ((row : Row) × ((row_of_table most table ≡ Ok row) × IsOnDisk known seen row.name (what.Add row) k))
@@ -176,7 +176,7 @@ IsKept known seen asked.Reload k = IsReread known seen k
 IsKept known seen (asked.Follow alerts) k = ⊥
 
 -- where nothing keeps changes, or does not yet, nothing is done but for a need
-abbrev pub IsDoneUnkept : Asked → Type 0
+abbrev pub IsDoneUnkept : ClientOrder → Type 0
 IsDoneUnkept (asked.Need name need) = Unit {0}
 IsDoneUnkept (asked.Replace name credential) = ⊥
 IsDoneUnkept (asked.Add table) = ⊥
@@ -185,7 +185,7 @@ IsDoneUnkept asked.Settle = ⊥
 IsDoneUnkept asked.Reload = ⊥
 IsDoneUnkept (asked.Follow alerts) = ⊥
 
-abbrev pub IsDone : {D I L F : Type 0} → Bool → (D → DiskState) → Asked → Option (Late D I L F) → Type 0
+abbrev pub IsDone : {D I L F : Type 0} → Bool → (D → DiskState) → ClientOrder → Option (Late D I L F) → Type 0
 IsDone known seen a None = IsDoneUnkept a
 IsDone known seen a (Some (lates.Open l)) = IsKept known seen a l.state
 IsDone known seen a (Some (lates.NotYet s)) = IsDoneUnkept a
@@ -198,7 +198,7 @@ OwesNothing h = (h.given ≡ None) × (h.awaited ≡ None)
 
 module _ {S T D K E : Type 0} where
   -- at this call it is the turn of the client of that number, which asks for this
-  abbrev pub Asks : NeighbourCall → House S T D K E → ℕ → Asked → Type 0
+  abbrev pub Asks : NeighbourCall → House S T D K E → ℕ → ClientOrder → Type 0
   Asks (Hear agent thing) h id a = ⊥
   Asks (GoOn agent now is_busy) h id a = ⊥
   Asks (Give agent now change) h id a = (after : Option (Control T D)) × (ClientsAsk now (Ok (Some a)) h.control after × (asking_in after ≡ Some id))
@@ -206,19 +206,19 @@ module _ {S T D K E : Type 0} where
   Asks (Rest now rest) h id a = ⊥
 
 -- of neighbours to which each call does this, among which there is a house, and of what is done where it is asked for
-module _ {N S T D K E : Type 0} (does : NeighbourCall → N → N → Type 0) (house : N → House S T D K E) (Done : Asked → Option K → Type 0) where
+module _ {N S T D K E : Type 0} (does : NeighbourCall → N → N → Type 0) (house : N → House S T D K E) (Done : ClientOrder → Option K → Type 0) where
   -- whoever is told `ok`: while they go on, it is a page that is shown; where a change is asked for, a client follows the log from now on that
   -- has asked for that; and where something is settled, the client has asked for this before, and it is done. Else nobody is
-  abbrev pub TellsTruly : (ℕ → Asked → Type 0) → NeighbourCall → House S T D K E → House S T D K E → Type 0
+  abbrev pub TellsTruly : (ℕ → ClientOrder → Type 0) → NeighbourCall → House S T D K E → House S T D K E → Type 0
   TellsTruly has (Hear agent thing) old new = TellsOk (guests_in old.control) (guests_in new.control) (λ before client. ⊥)
   TellsTruly has (GoOn agent now is_busy) old new = TellsOkAmid (guests_in old.control) (guests_in new.control) (λ before client. IsShown agent now before client)
   TellsTruly has (Give agent now change) old new = TellsOk (guests_in old.control) (guests_in new.control)
       (λ before client. ((alerts : Bool) × Asks (Give agent now change) old before.id (asked.Follow alerts)) × (client.stage ≡ stages.Following (codes "ok\n")))
-  TellsTruly has (Settle agent is_made) old new = TellsOk (guests_in old.control) (guests_in new.control) (λ before client. (a : Asked) × (has before.id a × Done a new.state))
+  TellsTruly has (Settle agent is_made) old new = TellsOk (guests_in old.control) (guests_in new.control) (λ before client. (a : ClientOrder) × (has before.id a × Done a new.state))
   TellsTruly has (Rest now rest) old new = TellsOk (guests_in old.control) (guests_in new.control) (λ before client. ⊥)
 
   -- so it is at each of these calls, after those at which clients have asked for this
-  abbrev pub AllTellTruly : (ℕ → Asked → Type 0) → (calls : List NeighbourCall) (old new : N) → AllCalled does calls old new → Type 0
+  abbrev pub AllTellTruly : (ℕ → ClientOrder → Type 0) → (calls : List NeighbourCall) (old new : N) → AllCalled does calls old new → Type 0
   AllTellTruly has [] old new run = Unit {0}
   AllTellTruly has (call ∷ calls) old new run = TellsTruly has call (house old) (house run.0) × AllTellTruly (λ id a. has id a ⊎ Asks call (house old) id a) calls run.0 new run.1.1
 
@@ -229,7 +229,7 @@ module _ {N S T D K E : Type 0} (does : NeighbourCall → N → N → Type 0) (h
       AllTellTruly (λ id a. ⊥) (calls_of port from turns to run.is) first last run.called
 
 -- these may be a house whose changes are kept by a ledger, or by one that is to come; an early day before one, or one with a lookout between them
-module _ {S T O D I L E : Type 0} (F : Type 0) (given : S → Option (List ℕ)) (failures tries : S → ℕ) (tried : S → Option (List Tried)) (remaining written : T → Option (List ℕ)) (calls : T → Option (List Call)) (log : O → Option (DoorLog T))
+module _ {S T O D I L E : Type 0} (F : Type 0) (given : S → Option (List ℕ)) (failures tries : S → ℕ) (tried : S → Option (List Tried)) (remaining written : T → Option (List ℕ)) (calls : T → Option (List TalkCall)) (log : O → Option (DoorLog T))
     (disk_known : Bool) (seen : D → DiskState) (file_calls : I → Option (List FileCall)) (lanes_seen : L → Lanes) (port : L → ℕ) (known : Bool) (state : E → DiskState) where
   abbrev pub HasIt : Type 0
   HasIt = House S T O (Late D I L F) E

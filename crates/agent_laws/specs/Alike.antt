@@ -9,8 +9,8 @@ use Rattle.vault_asking.specs.declared.told.Said.{Said}
 use Rattle.state_changes.specs.Rows.{named}
 use Rattle.state_changes.specs.declared.change.Record.{Record}
 use Rattle.state_changes.specs.declared.change.Record.TheVariants.{Made, Settling}
-use Rattle.state_changes.specs.declared.change.What.{What}
-use Rattle.state_changes.specs.declared.replaying.Note.{Note}
+use Rattle.state_changes.specs.declared.change.ChangeKind.{ChangeKind}
+use Rattle.state_changes.specs.declared.replaying.JournalNote.{JournalNote}
 use Rattle.state_changes.specs.declared.row.Row.{Row}
 use Rattle.base_files.specs.Files.{Files}
 use Rattle.vault_inventory.specs.Bare.{DocumentsAreAlike}
@@ -30,7 +30,7 @@ use Rattle.state_secrets.specs.declared.looking.FileSeen.{FileSeen}
 use Rattle.state_secrets.specs.declared.news.Became.{Became}
 use Rattle.state_store.specs.declared.fault.TakeFault.{TakeFault}
 use Rattle.state_changes.specs.declared.secret.Secret.{Secret}
-use Rattle.watch_machine.specs.declared.command.Request.{Request}
+use Rattle.watch_machine.specs.declared.command.WatchRequest.{WatchRequest}
 use Rattle.watch_machine.specs.declared.event.Operation.{Operation}
 use Rattle.watch_machine.specs.declared.notes.Notes.{Notes}
 use Rattle.watch_machine.specs.declared.outlook.Next.{Next}
@@ -63,7 +63,7 @@ pub record AgentsAreAlike (a b : Agent) : Type 0 where
 -- when the time is handed in, the lines are the same, and so are the marks that are left
 abbrev pub ClockedAlike : Type 0
 ClockedAlike =
-    (a b : Agent) → AgentsAreAlike a b → (notes : Notes) (requests : List Request) (marks : List Mark) →
+    (a b : Agent) → AgentsAreAlike a b → (notes : Notes) (requests : List WatchRequest) (marks : List Mark) →
     (clocked_lines b notes requests marks ≡ clocked_lines a notes requests marks) × (marks_clocked b marks ≡ marks_clocked a marks)
 
 -- of the next time of an entry
@@ -98,7 +98,7 @@ EndAlike = (a b : Agent) → AgentsAreAlike a b → (name : List ℕ) → end_na
 
 -- why it is not taken
 abbrev pub RefusedAlike : Type 0
-RefusedAlike = (margin : ℕ) (name : List ℕ) (w v : What) (fault : TakeFault) → IsSameBut w v → take_words margin name w fault ≡ take_words margin name v fault
+RefusedAlike = (margin : ℕ) (name : List ℕ) (w v : ChangeKind) (fault : TakeFault) → IsSameBut w v → take_words margin name w fault ≡ take_words margin name v fault
 
 -- that it was replaced, and that the table of an entry has none
 abbrev pub ReplacedAlike : Type 0
@@ -108,7 +108,7 @@ ReplacedAlike =
 
 -- which credential an entry keeps, where the broker refuses the new one
 abbrev pub KeepsAlike : Type 0
-KeepsAlike = (name : List ℕ) (w v : What) → IsSameBut w v → kept_words name w ≡ kept_words name v
+KeepsAlike = (name : List ℕ) (w v : ChangeKind) → IsSameBut w v → kept_words name w ≡ kept_words name v
 
 -- the entries after every change
 abbrev pub RowsAreAlike : List Row → List Row → Type 0
@@ -137,7 +137,7 @@ RecordsAreAlike (r ∷ rs) (t ∷ ts) = IsRecordBut r t × RecordsAreAlike rs ts
 
 -- of the changes that do not hold any more
 abbrev pub NotesAlike : Type 0
-NotesAlike = (margin : ℕ) (records others : List Record) (notes : List Note) → RecordsAreAlike records others → said_notes margin others notes ≡ said_notes margin records notes
+NotesAlike = (margin : ℕ) (records others : List Record) (notes : List JournalNote) → RecordsAreAlike records others → said_notes margin others notes ≡ said_notes margin records notes
 
 -- ---- what is said of a file of an inventory
 

@@ -8,8 +8,8 @@ use Rattle.state_changes.specs.Replay.{is_as_then, replayed}
 use Rattle.state_changes.specs.Rows.{named}
 use Rattle.state_changes.specs.declared.change.Record.{Record}
 use Rattle.state_changes.specs.declared.change.Record.TheVariants.{Made, Settling}
-use Rattle.state_changes.specs.declared.change.What.{What}
-use Rattle.state_changes.specs.declared.change.What.TheVariants as what
+use Rattle.state_changes.specs.declared.change.ChangeKind.{ChangeKind}
+use Rattle.state_changes.specs.declared.change.ChangeKind.TheVariants as what
 use Rattle.state_changes.specs.declared.fault.ChangeFault.{ChangeFault}
 use Rattle.state_changes.specs.declared.replaying.File.{File}
 use Rattle.state_changes.specs.declared.row.Row.{Row}
@@ -34,7 +34,7 @@ module _ (beside : List ℕ → List ℕ) where
   abbrev pub secret_beside : Secret → Secret
   secret_beside secret = record secret { credential = beside secret.credential }
 
-  abbrev pub what_beside : What → What
+  abbrev pub what_beside : ChangeKind → ChangeKind
   what_beside (what.Need until) = what.Need until
   what_beside (what.Replace credential) = what.Replace (beside credential)
   what_beside (what.Add row) = what.Add (row_beside row)
@@ -56,13 +56,13 @@ module _ (beside : List ℕ → List ℕ) where
 -- why a change is refused is the same
 abbrev pub RefusedBeside : Type 0
 RefusedBeside =
-    (beside : List ℕ → List ℕ) → IsPairing beside → (margin : ℕ) (rows : List Row) (name : List ℕ) (w : What) →
+    (beside : List ℕ → List ℕ) → IsPairing beside → (margin : ℕ) (rows : List Row) (name : List ℕ) (w : ChangeKind) →
     change_refusal margin (rows_beside beside rows) name (what_beside beside w) ≡ change_refusal margin rows name w
 
 -- what it makes is rows beside those that it makes here
 abbrev pub MadeBeside : Type 0
 MadeBeside =
-    (beside : List ℕ → List ℕ) → IsPairing beside → (margin : ℕ) (rows : List Row) (name : List ℕ) (w : What) →
+    (beside : List ℕ → List ℕ) → IsPairing beside → (margin : ℕ) (rows : List Row) (name : List ℕ) (w : ChangeKind) →
     rows_changed margin (rows_beside beside rows) name (what_beside beside w) ≡ made_beside beside (rows_changed margin rows name w)
 
 -- ---- files of credentials

@@ -9,7 +9,7 @@ use Rattle.agent_behind.specs.Behinds.{PassesBehind}
 use Rattle.agent_behind.specs.declared.behind.Behind.{Behind}
 use Rattle.state_changes.specs.declared.row.Row.{Row}
 use Rattle.base_clients.specs.Doors.{DoorLog}
-use Rattle.base_clients.specs.declared.talk.Call.{Call}
+use Rattle.base_clients.specs.declared.talk.TalkCall.{TalkCall}
 use Rattle.base_device.specs.declared.tried.Tried.{Tried}
 use Rattle.base_disk.specs.State.{DiskState}
 use Rattle.base_disk.specs.declared.fault.DiskFault.{DiskFault}
@@ -164,7 +164,7 @@ SparesLedger {D} {I} {L} {F} {N} does calls ledger = (t : ServingTurn) (old new 
 
 -- ---- these may be a house, an early day before one, or one with a lookout between them
 
-module _ {S T D K E : Type 0} (given : S → Option (List ℕ)) (failures tries : S → ℕ) (tried : S → Option (List Tried)) (remaining written : T → Option (List ℕ)) (calls : T → Option (List Call)) (log : D → Option (DoorLog T))
+module _ {S T D K E : Type 0} (given : S → Option (List ℕ)) (failures tries : S → ℕ) (tried : S → Option (List Tried)) (remaining written : T → Option (List ℕ)) (calls : T → Option (List TalkCall)) (log : D → Option (DoorLog T))
     (asks : KeepCall → K → K → Type 0) (rows : K → List Row) (keeps : K → Bool) (path : K → List ℕ) (reads : K → List ℕ → Result Row Why → Type 0) (gives : ℕ → Result (Option Inventory) AllocError → K → Type 0)
     (known : Bool) (state : E → DiskState) where
   abbrev pub ToHouse : NeighbourCall → House S T D K E → House S T D K E → Type 0
@@ -187,7 +187,7 @@ module _ {S T D K E : Type 0} (given : S → Option (List ℕ)) (failures tries 
       × (TriesEnds ToDay known state (λ (d : EarlyDay (House S T D K E)). d.others.ends) × TriesEnds (ToBehind due_by) known state (λ (d : EarlyDay (Behind (House S T D K E) L)). d.others.others.ends))
 
 -- a house whose changes are kept by a ledger, or by one that is to come
-module _ {S T O D I L E : Type 0} (F : Type 0) (given : S → Option (List ℕ)) (failures tries : S → ℕ) (tried : S → Option (List Tried)) (remaining written : T → Option (List ℕ)) (calls : T → Option (List Call)) (log : O → Option (DoorLog T))
+module _ {S T O D I L E : Type 0} (F : Type 0) (given : S → Option (List ℕ)) (failures tries : S → ℕ) (tried : S → Option (List Tried)) (remaining written : T → Option (List ℕ)) (calls : T → Option (List TalkCall)) (log : O → Option (DoorLog T))
     (disk_known : Bool) (seen : D → DiskState) (file_calls : I → Option (List FileCall)) (lanes_seen : L → Lanes) (port : L → ℕ) (known : Bool) (state : E → DiskState) where
   abbrev pub HasLedger : Type 0
   HasLedger = House S T O (Late D I L F) E

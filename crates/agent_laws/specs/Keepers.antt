@@ -6,14 +6,14 @@ use Rattle.std.specs.declared.alloc.AllocError.{AllocError}
 use Rattle.agent_standing.specs.Agent.{Agent}
 use Rattle.state_changes.specs.declared.row.Row.{Row}
 use Rattle.base_clients.specs.Doors.{DoorLog}
-use Rattle.base_clients.specs.declared.talk.Call.{Call}
+use Rattle.base_clients.specs.declared.talk.TalkCall.{TalkCall}
 use Rattle.base_device.specs.declared.tried.Tried.{Tried}
 use Rattle.base_disk.specs.State.{DiskState}
 use Rattle.vault_inventory.specs.Inventories.{Inventory}
 use Rattle.agent_turns.specs.Neighbours.{AllCalled, NeighbourCall}
 use Rattle.agent_turns.specs.Neighbours as turns
-use Rattle.agent_turns.specs.declared.change.Change.{Change}
-use Rattle.agent_turns.specs.declared.change.Change.TheVariants as changes
+use Rattle.agent_turns.specs.declared.change.AgentChange.{AgentChange}
+use Rattle.agent_turns.specs.declared.change.AgentChange.TheVariants as changes
 use Rattle.agent_house.specs.declared.house.House.{House}
 use Rattle.agent_ledger.specs.Keeping.{KeepCall, Look, LookUp, MarkServed, Prove, Reload, RestFor, Settle, Take, TryAgain}
 use Rattle.agent_words.specs.Outcomes.{Why}
@@ -30,7 +30,7 @@ module _ (beside : List ℕ → List ℕ) where
   abbrev pub agent_beside : Agent → Agent
   agent_beside a = record a { inventory = inventory_beside a.inventory }
 
-  abbrev pub change_beside : Change → Change
+  abbrev pub change_beside : AgentChange → AgentChange
   change_beside (changes.Need i until) = changes.Need i until
   change_beside changes.Begin = changes.Begin
   change_beside (changes.Known i end renewable) = changes.Known i end renewable
@@ -83,7 +83,7 @@ pub record AreKeepersBeside {K : Type 0} (does : KeepCall → K → K → Type 0
 
 -- ---- a house
 
-module _ {S T D K E : Type 0} (given : S → Option (List ℕ)) (failures tries : S → ℕ) (tried : S → Option (List Tried)) (remaining written : T → Option (List ℕ)) (calls : T → Option (List Call)) (log : D → Option (DoorLog T))
+module _ {S T D K E : Type 0} (given : S → Option (List ℕ)) (failures tries : S → ℕ) (tried : S → Option (List Tried)) (remaining written : T → Option (List ℕ)) (calls : T → Option (List TalkCall)) (log : D → Option (DoorLog T))
     (does : KeepCall → K → K → Type 0) (rows : K → List Row) (keeps : K → Bool) (path : K → List ℕ) (reads : K → List ℕ → Result Row Why → Type 0) (gives : ℕ → Result (Option Inventory) AllocError → K → Type 0)
     (known : Bool) (state : E → DiskState) where
   -- a call, where this is what it asks of whoever keeps changes

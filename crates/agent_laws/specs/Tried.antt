@@ -6,7 +6,7 @@ use Rattle.agent_behind.specs.Behinds.{PassesBehind}
 use Rattle.agent_behind.specs.declared.behind.Behind.{Behind}
 use Rattle.state_changes.specs.declared.row.Row.{Row}
 use Rattle.base_clients.specs.Doors.{DoorLog}
-use Rattle.base_clients.specs.declared.talk.Call.{Call}
+use Rattle.base_clients.specs.declared.talk.TalkCall.{TalkCall}
 use Rattle.base_device.specs.declared.tried.Tried.{Tried}
 use Rattle.base_disk.specs.State.{DiskState}
 use Rattle.vault_inventory.specs.Inventories.{Inventory}
@@ -26,7 +26,7 @@ abbrev pub IsTriedLittle : {S N : Type 0} → (NeighbourCall → N → N → Typ
 IsTriedLittle {S} {N} does tries reader = (t : ServingTurn) (old new : N) → TurnCalls does t old new → tries (reader new) ≤ tries (reader old) + MOST_TRIES
 
 -- these may be a house; a house, and one more, who asks that everything is looked up anew; or both of them, and one who looks ahead
-module _ {S T D K E : Type 0} (given : S → Option (List ℕ)) (failures tries : S → ℕ) (tried : S → Option (List Tried)) (remaining written : T → Option (List ℕ)) (calls : T → Option (List Call)) (log : D → Option (DoorLog T))
+module _ {S T D K E : Type 0} (given : S → Option (List ℕ)) (failures tries : S → ℕ) (tried : S → Option (List Tried)) (remaining written : T → Option (List ℕ)) (calls : T → Option (List TalkCall)) (log : D → Option (DoorLog T))
     (does : KeepCall → K → K → Type 0) (rows : K → List Row) (keeps : K → Bool) (path : K → List ℕ) (reads : K → List ℕ → Result Row Why → Type 0) (gives : ℕ → Result (Option Inventory) AllocError → K → Type 0)
     (known : Bool) (state : E → DiskState) where
   abbrev pub TriesLaw : Type 0

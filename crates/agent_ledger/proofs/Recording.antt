@@ -9,7 +9,7 @@ use Rattle.agent_ledger.specs.Rereading.{AreAtMost}
 use Rattle.agent_ledger.specs.Lates.{IsUntold}
 use Rattle.agent_ledger.specs.Openings.{RecordsNeed, RecordsNeeds, is_need_of}
 use Rattle.agent_ledger.specs.declared.opening.NeedMeanwhile.{NeedMeanwhile}
-use Rattle.agent_ledger.specs.declared.opening.Opened.{Opened}
+use Rattle.agent_ledger.specs.declared.opening.OpenedLedger.{OpenedLedger}
 
 chosen : (b : Bool) (m n : ℕ) → cond b (Some m) None ≡ Some n → (b ≡ true) × (m ≡ n)
 chosen true m n e = (refl, cc)
@@ -28,15 +28,15 @@ untold_so (Some why) whys so (inr one) = inr (one ∙ ap (λ w. w ∷ []) so)
 
 module _ {K : Type 0} (does : KeepCall → K → K → Type 0) (rows : K → List Row) (now : ℕ) where
   -- where those from one on are recorded so, all are recorded so from the start on
-  abbrev pub SoFar : List NeedMeanwhile → Opened K → ℕ → Opened K → Type 0
-  SoFar needs first at here = (holds : Bool) → (last : Opened K) → RecordsNeeds does rows now (drop at needs) holds here last → RecordsNeeds does rows now needs holds first last
+  abbrev pub SoFar : List NeedMeanwhile → OpenedLedger K → ℕ → OpenedLedger K → Type 0
+  SoFar needs first at here = (holds : Bool) → (last : OpenedLedger K) → RecordsNeeds does rows now (drop at needs) holds here last → RecordsNeeds does rows now needs holds first last
 
-  pub so_begins : (needs : List NeedMeanwhile) (first : Opened K) → SoFar needs first 0 first
+  pub so_begins : (needs : List NeedMeanwhile) (first : OpenedLedger K) → SoFar needs first 0 first
   so_begins needs first holds last h = h
 
   -- one more is recorded
   pub so_goes_on :
-      (needs : List NeedMeanwhile) (i : ℕ) (n : NeedMeanwhile) (first here next : Opened K) → i < length needs → n ≡ get_or needs i n → SoFar needs first i here → RecordsNeed does rows now n true here next →
+      (needs : List NeedMeanwhile) (i : ℕ) (n : NeedMeanwhile) (first here next : OpenedLedger K) → i < length needs → n ≡ get_or needs i n → SoFar needs first i here → RecordsNeed does rows now n true here next →
       SoFar needs first (i + 1) next
   so_goes_on needs i n first here next within is so one holds last h =
       let rest : drop i needs ≡ n ∷ drop (i + 1) needs = drop_more needs i n within ∙ ap (λ m. m ∷ drop (i + 1) needs) (sym is) in
@@ -44,11 +44,11 @@ module _ {K : Type 0} (does : KeepCall → K → K → Type 0) (rows : K → Lis
 
   -- or one is not
   pub so_stops :
-      (needs : List NeedMeanwhile) (i : ℕ) (n : NeedMeanwhile) (first here next : Opened K) → i < length needs → n ≡ get_or needs i n → SoFar needs first i here → RecordsNeed does rows now n false here next →
+      (needs : List NeedMeanwhile) (i : ℕ) (n : NeedMeanwhile) (first here next : OpenedLedger K) → i < length needs → n ≡ get_or needs i n → SoFar needs first i here → RecordsNeed does rows now n false here next →
       RecordsNeeds does rows now needs false first next
   so_stops needs i n first here next within is so one =
       let rest : drop i needs ≡ n ∷ drop (i + 1) needs = drop_more needs i n within ∙ ap (λ m. m ∷ drop (i + 1) needs) (sym is) in
       so false next (subst (λ ns. RecordsNeeds does rows now ns false here next) (sym rest) (false, (next, (one, (refl, refl)))))
 
-  pub so_ends : (needs : List NeedMeanwhile) (i : ℕ) (first here : Opened K) → length needs ≤ i → SoFar needs first i here → RecordsNeeds does rows now needs true first here
+  pub so_ends : (needs : List NeedMeanwhile) (i : ℕ) (first here : OpenedLedger K) → length needs ≤ i → SoFar needs first i here → RecordsNeeds does rows now needs true first here
   so_ends needs i first here past so = so true here (subst (λ ns. RecordsNeeds does rows now ns true here here) (sym (drop_all i needs past)) (refl, refl))

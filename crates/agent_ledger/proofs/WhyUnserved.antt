@@ -1,7 +1,7 @@
 -- WhyUnserved: why a file that is read again is not served, or that it is. For `judged` and `reload`.
 use Rattle.std.proofs.Common.{◌≡◌, ◌∙◌, ℕ, Bool, IsTrue, List, [], Option, Some, None, Ok, Err, IfSome, ap, inl, inr, subst, sym}
 use Rattle.agent_standing.specs.Waiting.{changed}
-use Rattle.state_changes.specs.declared.replaying.Note.{Note}
+use Rattle.state_changes.specs.declared.replaying.JournalNote.{JournalNote}
 use Rattle.base_disk.specs.State.{DiskState}
 use Rattle.base_disk.specs.declared.fault.DiskFault.{DiskFault}
 use Rattle.state_keeping.specs.Settles.{IsCopied}
@@ -43,7 +43,7 @@ wanting_why known seen demands kept bytes whys stand none = inr (bytes, (stand, 
 pub reread_as :
     {D : Type 0} → (known : Bool) (seen : D → DiskState) (demands : Demands) (now : ℕ) (bytes : List ℕ) (r : Reread) (old mid new : Kept D) →
     AreBytesOf known seen old bytes → AreBytesOf known seen mid bytes → IsWellWritten demands bytes → mid.keeper ≡ old.keeper → mid.places ≡ old.places →
-    (notes : List Note) × (IsBookIf (Some bytes) (records_in (lines_in (store_in mid))) (book_in mid).secrets (book_in new) notes
+    (notes : List JournalNote) × (IsBookIf (Some bytes) (records_in (lines_in (store_in mid))) (book_in mid).secrets (book_in new) notes
     × SaysNotes (book_in new).file.margin (records_in (lines_in (store_in new))) notes r.notes.items) →
     (copy : Option DiskFault) × (IsCopied known mid.places bytes copy (seen new.disk) × SaysCopy copy r.unkept) →
     lines_in (store_in new) ≡ lines_in (store_in mid) → (IsTrue known → (seen new.disk).seen new.places.file ≡ (seen mid.disk).seen mid.places.file) →

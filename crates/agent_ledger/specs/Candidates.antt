@@ -4,8 +4,8 @@ use Rattle.std.specs.Prelude.{◌≡◌, ◌⊎◌, ℕ, true, false, List, [], 
 use Rattle.state_changes.specs.Changes.{change_refusal}
 use Rattle.state_changes.specs.Listed.{rows_of_served}
 use Rattle.state_changes.specs.Rows.{named}
-use Rattle.state_changes.specs.declared.change.What.{What}
-use Rattle.state_changes.specs.declared.change.What.TheVariants as what
+use Rattle.state_changes.specs.declared.change.ChangeKind.{ChangeKind}
+use Rattle.state_changes.specs.declared.change.ChangeKind.TheVariants as what
 use Rattle.state_changes.specs.declared.row.Row.{Row}
 use Rattle.vault_inventory.specs.Inventory.{read_served}
 use Rattle.vault_inventory.specs.Served.{Served}
@@ -24,7 +24,7 @@ abbrev pub row_with_credential : List Row → List ℕ → List ℕ → Option R
 row_with_credential rows name credential = option_map (with_credential credential) (named rows name)
 
 -- the row that a change brings with its credential, where it brings one
-abbrev pub brought : List Row → List ℕ → What → Option Row
+abbrev pub brought : List Row → List ℕ → ChangeKind → Option Row
 brought rows name (what.Need need) = None
 brought rows name (what.Replace credential) = row_with_credential rows name credential
 brought rows name (what.Add row) = if is_none row.file then Some row else None
@@ -64,7 +64,7 @@ AreRowsOf text rows = (v : Served) × ((read_served text ≡ Ok v) × (rows ≡ 
 
 -- what is looked up before the change of the entry of that name: nothing where it is refused anyway. Rows are those after every change,
 -- and text says what is served
-abbrev pub IsCandidateFor : ℕ → List Row → List ℕ → List ℕ → What → Option Candidate → Type 0
+abbrev pub IsCandidateFor : ℕ → List Row → List ℕ → List ℕ → ChangeKind → Option Candidate → Type 0
 IsCandidateFor margin rows text name w c =
     ((is_some (change_refusal margin rows name w) ≡ true) × (c ≡ None))
     ⊎ ((is_some (change_refusal margin rows name w) ≡ false) × ((served : List Row) × (AreRowsOf text served × IsCandidateOf margin served (brought served name w) name c)))

@@ -2,7 +2,7 @@
 -- Source: this project's own.
 use Rattle.std.specs.Prelude.{◌≡◌, ℕ, Bool, List, Option, Some, None, Result}
 use Rattle.std.specs.declared.alloc.AllocError.{AllocError}
-use Rattle.state_changes.specs.declared.change.What.{What}
+use Rattle.state_changes.specs.declared.change.ChangeKind.{ChangeKind}
 use Rattle.base_clock.specs.declared.reading.Reading.{Reading}
 use Rattle.vault_proving.specs.declared.verdict.Verdict.{Verdict}
 use Rattle.agent_ledger.specs.declared.keeping.FileLook.{FileLook}
@@ -17,8 +17,8 @@ use Rattle.agent_words.specs.declared.reread.Reread.{Reread}
 -- asked for how long it may be left alone; and at a moment it is to try again to keep what it takes, where a client asks for a change or not, and
 -- does so from then on or does not
 pub data KeepCall : Type 0 where
-  Take : ℕ → List ℕ → What → Result (Unit {0}) Why → KeepCall
-  LookUp : Reading → List ℕ → What → Result LookedUp AllocError → KeepCall
+  Take : ℕ → List ℕ → ChangeKind → Result (Unit {0}) Why → KeepCall
+  LookUp : Reading → List ℕ → ChangeKind → Result LookedUp AllocError → KeepCall
   Prove : ℕ → Result (Option Verdict) AllocError → KeepCall
   Settle : Result (Unit {0}) Why → KeepCall
   Reload : ℕ → Result Reread Whys → KeepCall

@@ -5,8 +5,8 @@ use Rattle.std.specs.Prelude.{◌≡◌, ◌⊎◌, ℕ, ◌+◌, Bool, true, fa
 use Rattle.std.specs.declared.alloc.AllocError.{AllocError}
 use Rattle.agent_standing.specs.Waiting.{changed}
 use Rattle.vault_asking.specs.Sending.{Lanes}
-use Rattle.state_changes.specs.declared.change.What.{What}
-use Rattle.state_changes.specs.declared.change.What.TheVariants as what
+use Rattle.state_changes.specs.declared.change.ChangeKind.{ChangeKind}
+use Rattle.state_changes.specs.declared.change.ChangeKind.TheVariants as what
 use Rattle.state_changes.specs.declared.row.Row.{Row}
 use Rattle.base_clock.specs.Rests.{rest_until}
 use Rattle.base_disk.specs.State.{DiskState}
@@ -27,7 +27,7 @@ use Rattle.agent_ledger.specs.declared.late.Late.TheVariants.{Open, NotYet}
 use Rattle.agent_ledger.specs.declared.late.Shut.{Shut}
 use Rattle.agent_ledger.specs.declared.late.TheConstants.{TRY_FOLDER}
 use Rattle.agent_ledger.specs.declared.ledger.Ledger.{Ledger}
-use Rattle.agent_ledger.specs.declared.opening.Opened.{Opened}
+use Rattle.agent_ledger.specs.declared.opening.OpenedLedger.{OpenedLedger}
 
 -- ---- as long as there is no ledger
 
@@ -42,7 +42,7 @@ NotesNeed name need (Ok x) old new = (new.needs.items ≡ noted (record { name =
 NotesNeed name need (Err None) old new = (new.needs.items ≡ old.needs.items) × (new ≡ record old { needs = new.needs })
 NotesNeed name need (Err (Some why)) old new = ⊥
 
-abbrev pub TakesShut : {F L : Type 0} → List ℕ → What → Result (Unit {0}) Why → Shut F L → Shut F L → Type 0
+abbrev pub TakesShut : {F L : Type 0} → List ℕ → ChangeKind → Result (Unit {0}) Why → Shut F L → Shut F L → Type 0
 TakesShut name (what.Need need) result old new = NotesNeed name need result old new
 TakesShut name (what.Replace credential) result old new = IsNotKept result × (new ≡ old)
 TakesShut name (what.Add row) result old new = IsNotKept result × (new ≡ old)
@@ -80,9 +80,9 @@ abbrev pub StaysShut : {F L : Type 0} → ℕ → Shut F L → Shut F L → Type
 StaysShut now old new = new ≡ record old { opening = new.opening; next = tried_at now old }
 
 -- it is opened, and the needs are recorded
-abbrev pub OpensOnce : {K F L : Type 0} → (KeepCall → K → K → Type 0) → (K → List Row) → ℕ → Option (Opened K) → Shut F L → Shut F L → Type 0
+abbrev pub OpensOnce : {K F L : Type 0} → (KeepCall → K → K → Type 0) → (K → List Row) → ℕ → Option (OpenedLedger K) → Shut F L → Shut F L → Type 0
 OpensOnce does rows now None old new = StaysShut now old new
-OpensOnce {K} does rows now (Some opened) old new = (first : Opened K) × (RecordsNeeds does rows now old.needs.items true first opened × StaysShut now old new)
+OpensOnce {K} does rows now (Some opened) old new = (first : OpenedLedger K) × (RecordsNeeds does rows now old.needs.items true first opened × StaysShut now old new)
 
 -- a ledger has the lanes that waited for it, and what it has waits to be served from now on
 pub record LaidOpen {D I F L : Type 0} (now : ℕ) (shut : Shut F L) (old new : Ledger D I L) : Type 0 where
@@ -95,7 +95,7 @@ pub record LaidOpen {D I F L : Type 0} (now : ℕ) (shut : Shut F L) (old new : 
 module _ {D I L F : Type 0} (known : Bool) (seen : D → DiskState) (calls : I → Option (List FileCall)) (lanes_seen : L → Lanes) (port : L → ℕ) where
   -- the ledger is there, and this is to be said
   pub record OpensLedger (now : ℕ) (news : KeepNews) (old : Shut F L) (new : Ledger D I L) : Type 0 where
-    pub opened : Opened (Ledger D I L)
+    pub opened : OpenedLedger (Ledger D I L)
     pub mid : Shut F L
     pub opens : OpensOnce (DoesLedger known seen calls lanes_seen port) (λ (l : Ledger D I L). (book_in l.state).rows) now (Some opened) old mid
     pub laid : LaidOpen now mid opened.keeper new

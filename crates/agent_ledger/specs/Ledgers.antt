@@ -4,8 +4,8 @@ use Rattle.std.specs.Prelude.{◌≡◌, ◌≢◌, ◌⊎◌, ℕ, Bool, true, 
 use Rattle.std.specs.declared.alloc.AllocError.{AllocError}
 use Rattle.agent_standing.specs.Waiting.{change_due_at, changed, is_change_due}
 use Rattle.vault_asking.specs.Sending.{Lanes}
-use Rattle.state_changes.specs.declared.change.What.{What}
-use Rattle.state_changes.specs.declared.replaying.Note.{Note}
+use Rattle.state_changes.specs.declared.change.ChangeKind.{ChangeKind}
+use Rattle.state_changes.specs.declared.replaying.JournalNote.{JournalNote}
 use Rattle.state_changes.specs.declared.row.Row.{Row}
 use Rattle.base_clock.specs.Rests.{rest_until, shorter}
 use Rattle.base_clock.specs.declared.reading.Reading.{Reading}
@@ -63,7 +63,7 @@ AreCompacted old new = (new ≡ old) ⊎ ((is_worth old ≡ true) × (new ≡ co
 
 -- the change is taken, and then its record is on the disk; afterwards records may go that are void, which changes nothing of what is kept, and
 -- a crash meanwhile leaves all lines or those that stay
-pub record IsTakenOn {D : Type 0} (known : Bool) (seen : D → DiskState) (now : ℕ) (name : List ℕ) (w : What) (old new : Kept D) : Type 0 where
+pub record IsTakenOn {D : Type 0} (known : Bool) (seen : D → DiskState) (now : ℕ) (name : List ℕ) (w : ChangeKind) (old new : Kept D) : Type 0 where
   pub mid : Kept D
   pub need : Bool
   pub taken : ChangeIsTaken (store_in old) name w need (store_in mid)
@@ -77,12 +77,12 @@ pub record IsTakenOn {D : Type 0} (known : Bool) (seen : D → DiskState) (now :
 
 -- why it is not taken: a fault of the disk is told exactly where the disk has failed, and says what the disk said; and that the journal would
 -- be too long only where it would be
-pub record IsWhyUntakenOn {D : Type 0} (known : Bool) (seen : D → DiskState) (name : List ℕ) (w : What) (old new : Kept D) (fault : TakeFault) : Type 0 where
+pub record IsWhyUntakenOn {D : Type 0} (known : Bool) (seen : D → DiskState) (name : List ℕ) (w : ChangeKind) (old new : Kept D) (fault : TakeFault) : Type 0 where
   pub why : IsWhyUntaken (store_in old) name w fault
   pub cause : FaultTellsDisk (seen old.disk) (seen new.disk) fault
   pub long : IsTrue known → FaultTellsLength (size_with (store_in old) name w) fault
 
-abbrev pub TakesOn : {D : Type 0} → Bool → (D → DiskState) → ℕ → List ℕ → What → Result (Unit {0}) Why → Kept D → Kept D → Type 0
+abbrev pub TakesOn : {D : Type 0} → Bool → (D → DiskState) → ℕ → List ℕ → ChangeKind → Result (Unit {0}) Why → Kept D → Kept D → Type 0
 TakesOn known seen now name w (Ok x) old new = IsTakenOn known seen now name w old new
 TakesOn known seen now name w (Err why) old new = IsAsItWas old new × SaysWhy (IsWhyUntakenOn known seen name w old new) (take_words (book_in old).file.margin name w) why
 
@@ -133,7 +133,7 @@ pub record IsReloadedOn {D : Type 0} (known : Bool) (seen : D → DiskState) (de
   pub stand : AreBytesOf known seen old bytes
   pub left : AreBytesOf known seen new bytes
   pub written : IsWellWritten demands bytes
-  pub notes : List Note
+  pub notes : List JournalNote
   pub book : IsBookIf (Some bytes) (records_in (lines_in (store_in old))) (book_in old).secrets (book_in new) notes
   pub lines : lines_in (store_in new) ≡ lines_in (store_in old)
   pub waiting : waiting_in new.keeper ≡ changed (waiting_in old.keeper) now
@@ -158,7 +158,7 @@ ledger_rest now l =
 
 module _ {D I L : Type 0} (known : Bool) (seen : D → DiskState) (calls : I → Option (List FileCall)) (lanes_seen : L → Lanes) (port : L → ℕ) where
   -- what a change brings is looked up, and nothing else changes
-  abbrev pub LooksUpOn : Reading → List ℕ → What → Result LookedUp AllocError → Ledger D I L → Ledger D I L → Type 0
+  abbrev pub LooksUpOn : Reading → List ℕ → ChangeKind → Result LookedUp AllocError → Ledger D I L → Ledger D I L → Type 0
   LooksUpOn now name w (Ok result) old new =
       (c : Option Candidate) × (IsCandidateFor (book_in old.state).file.margin (book_in old.state).rows (book_in old.state).text name w c × AsksAbout lanes_seen port now c (Ok result) old.proving new.proving)
   LooksUpOn now name w (Err e) old new = asked_in new.proving ≡ asked_in old.proving

@@ -3,15 +3,15 @@
 use Rattle.std.specs.Prelude.{◌≡◌, ◌⊎◌, ℕ, Bool, true, false, List, [], ◌∷◌, ◌++◌, Option, Some, None, Ok, Err, bytes_eq, codes, is_some}
 use Rattle.std.specs.List.{position, slice_set}
 use Rattle.state_changes.specs.Rows.{named}
-use Rattle.state_changes.specs.declared.change.What.TheVariants as what
+use Rattle.state_changes.specs.declared.change.ChangeKind.TheVariants as what
 use Rattle.state_changes.specs.declared.row.Row.{Row}
 use Rattle.base_log.specs.declared.level.Level.TheVariants.{Alert}
 use Rattle.agent_words.specs.Outcomes.{Why}
 use Rattle.agent_words.specs.declared.said.About.TheVariants.{Folder}
-use Rattle.agent_words.specs.declared.said.Said.{Said}
+use Rattle.agent_words.specs.declared.said.SaidLine.{SaidLine}
 use Rattle.agent_ledger.specs.Keeping.{KeepCall, Take}
 use Rattle.agent_ledger.specs.declared.opening.NeedMeanwhile.{NeedMeanwhile}
-use Rattle.agent_ledger.specs.declared.opening.Opened.{Opened}
+use Rattle.agent_ledger.specs.declared.opening.OpenedLedger.{OpenedLedger}
 
 -- ---- the needs that are given while no change is kept: the last one of each entry
 
@@ -32,33 +32,33 @@ abbrev pub gone_text : List ℕ → List ℕ
 gone_text name = codes "has no need of " ++ (name ++ codes ": no entry has that name")
 
 -- that an entry of that name is there no more
-pub record IsGoneLine (name : List ℕ) (line : Said) : Type 0 where
+pub record IsGoneLine (name : List ℕ) (line : SaidLine) : Type 0 where
   pub level : line.level ≡ Alert
   pub about : line.about ≡ Folder
   pub text : line.text ≡ gone_text name
 
 -- which is to be said, unless memory is wanting for that
-abbrev pub LeavesOut : {K : Type 0} → List ℕ → Bool → Opened K → Opened K → Type 0
+abbrev pub LeavesOut : {K : Type 0} → List ℕ → Bool → OpenedLedger K → OpenedLedger K → Type 0
 LeavesOut name true old new =
-    (line : Said) × (IsGoneLine name line × ((new.news.said.items ≡ old.news.said.items ++ line ∷ []) × (new ≡ record old { news = record old.news { said = new.news.said } })))
+    (line : SaidLine) × (IsGoneLine name line × ((new.news.said.items ≡ old.news.said.items ++ line ∷ []) × (new ≡ record old { news = record old.news { said = new.news.said } })))
 LeavesOut name false old new = Unit {0}
 
 module _ {K : Type 0} (does : KeepCall → K → K → Type 0) (rows : K → List Row) (now : ℕ) where
   -- a need is taken, or is not
-  abbrev pub TakesNeed : NeedMeanwhile → Bool → Opened K → Opened K → Type 0
+  abbrev pub TakesNeed : NeedMeanwhile → Bool → OpenedLedger K → OpenedLedger K → Type 0
   TakesNeed n true old new = does (Take now n.name (what.Need n.need) (Ok tt)) old.keeper new.keeper × (new ≡ record old { keeper = new.keeper })
   TakesNeed n false old new = (why : Why) × (does (Take now n.name (what.Need n.need) (Err why)) old.keeper new.keeper × (new ≡ record old { keeper = new.keeper }))
 
   -- one whose entry is there no more is left out
-  abbrev pub RecordsNeed : NeedMeanwhile → Bool → Opened K → Opened K → Type 0
+  abbrev pub RecordsNeed : NeedMeanwhile → Bool → OpenedLedger K → OpenedLedger K → Type 0
   RecordsNeed n holds old new =
       ((is_some (named (rows old.keeper) n.name) ≡ true) × TakesNeed n holds old new) ⊎ ((is_some (named (rows old.keeper) n.name) ≡ false) × LeavesOut n.name holds old new)
 
   -- those after it follow, unless it cannot be kept
-  abbrev pub RecordsOn : Bool → (Bool → Opened K → Opened K → Type 0) → Bool → Opened K → Opened K → Type 0
+  abbrev pub RecordsOn : Bool → (Bool → OpenedLedger K → OpenedLedger K → Type 0) → Bool → OpenedLedger K → OpenedLedger K → Type 0
   RecordsOn true Follow holds old new = Follow holds old new
   RecordsOn false Follow holds old new = (holds ≡ false) × (new ≡ old)
 
-  abbrev pub RecordsNeeds : List NeedMeanwhile → Bool → Opened K → Opened K → Type 0
+  abbrev pub RecordsNeeds : List NeedMeanwhile → Bool → OpenedLedger K → OpenedLedger K → Type 0
   RecordsNeeds [] holds old new = (holds ≡ true) × (new ≡ old)
-  RecordsNeeds (n ∷ needs) holds old new = (first : Bool) × ((mid : Opened K) × (RecordsNeed n first old mid × RecordsOn first (RecordsNeeds needs) holds mid new))
+  RecordsNeeds (n ∷ needs) holds old new = (first : Bool) × ((mid : OpenedLedger K) × (RecordsNeed n first old mid × RecordsOn first (RecordsNeeds needs) holds mid new))

@@ -1,7 +1,7 @@
 -- Reasons: why a change is not kept, or a file is not what is kept, in words for the one who asked. No credential is in any of them.
 -- Source: this project's own.
 use Rattle.std.specs.Prelude.{ℕ, Bool, true, false, List, ◌++◌, codes, decimal}
-use Rattle.state_changes.specs.declared.change.What.{What}
+use Rattle.state_changes.specs.declared.change.ChangeKind.{ChangeKind}
 use Rattle.state_changes.specs.declared.row.Row.{Row}
 use Rattle.base_disk.specs.declared.fault.DiskFault.{DiskFault}
 use Rattle.vault_inventory.specs.Keys.{key_text}
@@ -28,7 +28,7 @@ written_words settling.Differs = codes "no table writes such an entry"
 written_words settling.OutOfMemory = codes "out of memory"
 
 -- why a change of the entry of that name is not taken
-abbrev pub take_words : ℕ → List ℕ → What → TakeFault → List ℕ
+abbrev pub take_words : ℕ → List ℕ → ChangeKind → TakeFault → List ℕ
 take_words margin name w takes.Unread = codes "a restart may read another file: reload it first"
 take_words margin name w takes.NoRecord = codes "no journal can write it"
 take_words margin name w (takes.Refused fault) = change_fault_text margin name w fault

@@ -2,7 +2,7 @@
 -- Source: docs/running.md, "What the operator sees".
 use Rattle.std.specs.Prelude.{◌≡◌, ◌⊎◌, ℕ, ◌-◌, ◌==◌, if◌then◌else◌, Bool, IsTrue, List, [], ◌∷◌, ◌++◌, Option, Some, None, codes, length, take}
 use Rattle.state_changes.specs.declared.change.Record.{Record}
-use Rattle.state_changes.specs.declared.replaying.Note.{Note}
+use Rattle.state_changes.specs.declared.replaying.JournalNote.{JournalNote}
 use Rattle.base_disk.specs.State.{DiskState}
 use Rattle.base_disk.specs.declared.fault.DiskFault.{DiskFault}
 use Rattle.state_file.specs.declared.fault.ReadFault.{ReadFault}
@@ -56,11 +56,11 @@ abbrev pub left_lines : ℕ → List (List ℕ)
 left_lines left = if left == 0 then [] else left_words left ∷ []
 
 -- a hundred changes at most are said, and then how many more there are
-unfoldable pub said_notes : ℕ → List Record → List Note → List (List ℕ)
+unfoldable pub said_notes : ℕ → List Record → List JournalNote → List (List ℕ)
 said_notes margin records notes = note_lines margin records (take 100 notes) ++ left_lines (length notes - 100)
 
 -- which changes do not hold any more; or nothing, where memory was wanting for that
-abbrev pub SaysNotes : ℕ → List Record → List Note → List (List ℕ) → Type 0
+abbrev pub SaysNotes : ℕ → List Record → List JournalNote → List (List ℕ) → Type 0
 SaysNotes margin records notes said = (said ≡ said_notes margin records notes) ⊎ (said ≡ [])
 
 -- why its copy could not be kept; or nothing, where memory was wanting for that

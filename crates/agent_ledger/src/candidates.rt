@@ -7,7 +7,7 @@ ghost use Rattle.agent_ledger.specs.Candidates.{AreRowsOf, IsAlone, IsCandidateF
 use base_disk::Disk;
 use base_moment::Text;
 use plan_forest::Kind;
-use state_changes::{Row, Rows, What, rows_of};
+use state_changes::{Row, Rows, ChangeKind, rows_of};
 use state_file::settle;
 use state_keeping::State;
 use std::alloc::{AllocError, Global};
@@ -24,7 +24,7 @@ pub(crate) fn candidate_of<D: Disk>(
     alloc: Global,
     state: &State<'_, D>,
     name: &[u8],
-    what: &What,
+    what: &ChangeKind,
 ) -> Result<Option<Candidate>, AllocError>
     ensures found { IfOk result (IsCandidateFor (book_in state.now).file.margin (book_in state.now).rows (book_in state.now).text name.now what.now) }
     ensures entry { IfOk result (λ candidate. IfSome candidate IsCandidate) }
@@ -55,7 +55,7 @@ fn candidate_for(
     rows: &Rows,
     text: &str,
     name: &[u8],
-    what: &What,
+    what: &ChangeKind,
 ) -> Result<Option<Candidate>, AllocError>
     ensures found { IfOk result (IsCandidateFor margin rows.now text.now name.now what.now) }
     ensures entry { IfOk result (λ candidate. IfSome candidate IsCandidate) }
@@ -116,13 +116,13 @@ fn rows_in(alloc: Global, text: &str) -> Result<Rows, AllocError>
 }
 
 // The row that a change brings with its credential, where it brings one.
-fn brought(rows: &Rows, name: &[u8], what: &What) -> Result<Option<Row>, AllocError>
+fn brought(rows: &Rows, name: &[u8], what: &ChangeKind) -> Result<Option<Row>, AllocError>
     ensures { IfOk result (λ row. row ≡ brought rows.now name.now what.now) }
 {
     match what {
-        What::Replace(credential) => row_with(rows, name, credential),
-        What::Add(row) if row.file.is_none() => Ok(Some(row.copy()?)),
-        What::Add(_) | What::Need(_) | What::Drop => Ok(None),
+        ChangeKind::Replace(credential) => row_with(rows, name, credential),
+        ChangeKind::Add(row) if row.file.is_none() => Ok(Some(row.copy()?)),
+        ChangeKind::Add(_) | ChangeKind::Need(_) | ChangeKind::Drop => Ok(None),
     }
 }
 

@@ -7,10 +7,10 @@ ghost use Rattle.vault_inventory.specs.Inventories.{Inventory};
 ghost use Rattle.agent_ledger.specs.Keeping.{KeepCall, Look, LookUp, MarkServed, Prove, Reload, RestFor, Settle, Take, TryAgain};
 ghost use Rattle.agent_words.specs.Outcomes.{Why};
 
-use agent_words::{Reread, Said};
+use agent_words::{Reread, SaidLine};
 use base_clock::Reading;
 use base_moment::Text;
-use state_changes::{Row, What};
+use state_changes::{Row, ChangeKind};
 use state_secrets::Looked;
 use std::alloc::{AllocError, Global};
 use vault_inventory::Inventory;
@@ -43,7 +43,7 @@ pub struct KeepNews {
     /// Whether the file itself was read, and not its copy.
     pub is_good: bool,
     /// The lines of the log about it.
-    pub said: Vec<Said>,
+    pub said: Vec<SaidLine>,
 }
 
 /// Keeps the changes that clients give, over a restart too; or cannot do so yet, and tries again. A reason why something was not done is in
@@ -80,7 +80,7 @@ pub trait Keeping {
 
     /// Makes a change of the entry of that name. `now` is in milliseconds of the clock that never steps. At `Ok` it holds over a restart,
     /// where it keeps what it takes.
-    fn take(&mut self, alloc: Global, now: u64, name: &[u8], what: What) -> Result<(), Option<Text>>
+    fn take(&mut self, alloc: Global, now: u64, name: &[u8], what: ChangeKind) -> Result<(), Option<Text>>
         ensures { Self.does (Take now name.now what result) self.old self.new };
 
     /// Looks up the credential that this change of the entry of that name brings, where it brings one and may be made. It waits for
@@ -90,7 +90,7 @@ pub trait Keeping {
         alloc: Global,
         now: Reading,
         name: &[u8],
-        what: &What,
+        what: &ChangeKind,
     ) -> Result<LookedUp, AllocError>
         ensures { Self.does (LookUp now name.now what.now result) self.old self.new };
 

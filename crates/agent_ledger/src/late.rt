@@ -8,14 +8,14 @@ ghost use Rattle.agent_ledger.specs.declared.late.Late.TheVariants.{Open, NotYet
 use crate::asker::Asker;
 use crate::keeping::{FileLook, KeepNews, Keeping, LookedUp};
 use crate::ledger::{Ledger, one_why};
-use crate::opening::{NeedMeanwhile, Opened, Opening, note};
+use crate::opening::{NeedMeanwhile, OpenedLedger, Opening, note};
 use crate::secret_changes::quiet;
 use agent_words::{Reread, why_not_kept};
 use base_clock::{Reading, rest_until};
 use base_disk::Disk;
 use base_files::Inputs;
 use base_moment::{Name, Text};
-use state_changes::{Row, Rows, What};
+use state_changes::{Row, Rows, ChangeKind};
 use state_secrets::SecretFiles;
 use std::alloc::{AllocError, Global};
 use std::mem;
@@ -53,15 +53,15 @@ pub enum Late<'a, D: Disk, I, L: Lanes, F> {
 
 impl<F, L: Lanes> Shut<F, L> {
     // A need is kept in mind; no other change is.
-    fn take(&mut self, alloc: Global, name: &[u8], what: What) -> Result<(), Option<Text>>
+    fn take(&mut self, alloc: Global, name: &[u8], what: ChangeKind) -> Result<(), Option<Text>>
         ensures { TakesShut name.now what result self.old self.new }
     {
         match &what {
-            What::Need(need) => match self.take_need(alloc, name, *need) {
+            ChangeKind::Need(need) => match self.take_need(alloc, name, *need) {
                 Ok(()) => Ok(()),
                 Err(AllocError) => Err(None),
             },
-            What::Replace(_) | What::Add(_) | What::Drop => Err(why_not_kept(alloc)),
+            ChangeKind::Replace(_) | ChangeKind::Add(_) | ChangeKind::Drop => Err(why_not_kept(alloc)),
         }
     }
 
@@ -125,7 +125,7 @@ fn open<K: Keeping + Drop, F: Opening<K>, L: Lanes>(
     alloc: Global,
     now: u64,
     shut: &mut Shut<F, L>,
-) -> Option<Opened<K>>
+) -> Option<OpenedLedger<K>>
     ensures { OpensOnce K.does K.rows now result shut.old shut.new }
 {
     shut.next = now.saturating_add(TRY_FOLDER);
@@ -153,7 +153,7 @@ where
             Late::NotYet(shut) => match try_shut(alloc, now, is_asked, shut) {
                 None => None,
                 Some(opened) => {
-                    let Opened { keeper, news } = opened;
+                    let OpenedLedger { keeper, news } = opened;
                     *self = Late::Open(keeper);
                     Some(news)
                 }
@@ -168,7 +168,7 @@ fn try_shut<'a, D, I, L, F>(
     now: u64,
     is_asked: bool,
     shut: &mut Shut<F, L>,
-) -> Option<Opened<Ledger<'a, D, I, L>>>
+) -> Option<OpenedLedger<Ledger<'a, D, I, L>>>
 where
     D: Disk + Drop,
     I: Inputs + SecretFiles + Drop,
@@ -181,8 +181,8 @@ where
         return None;
     }
     let opened = open(alloc, now, shut)?;
-    let Opened { keeper, news } = opened;
-    Some(Opened {
+    let OpenedLedger { keeper, news } = opened;
+    Some(OpenedLedger {
         keeper: shut.lay_open(alloc, now, keeper),
         news,
     })
@@ -233,7 +233,7 @@ where
         alloc: Global,
         now: u64,
         name: &[u8],
-        what: What,
+        what: ChangeKind,
     ) -> Result<(), Option<Text>> {
         match self {
             Late::Open(ledger) => ledger.take(alloc, now, name, what),
@@ -246,7 +246,7 @@ where
         alloc: Global,
         now: Reading,
         name: &[u8],
-        what: &What,
+        what: &ChangeKind,
     ) -> Result<LookedUp, AllocError> {
         match self {
             Late::Open(ledger) => ledger.look_up(alloc, now, name, what),

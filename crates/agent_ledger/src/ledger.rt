@@ -1,7 +1,7 @@
 //! The state of an agent on a disk.
 ghost use Rattle.std.specs.Prelude.{◌≡◌, ◌++◌, ◌||◌, ℕ, List, IfErr, IfOk, IfSome, IsTrue, None, OnErr, OnOk, Ok, Option, Some, false, nat_le, take, true};
 ghost use Rattle.agent_standing.specs.Waiting.{changed};
-ghost use Rattle.state_changes.specs.declared.replaying.Note.{Note};
+ghost use Rattle.state_changes.specs.declared.replaying.JournalNote.{JournalNote};
 ghost use Rattle.vault_inventory.specs.Inventories.{Inventory};
 ghost use Rattle.vault_served.specs.ForGood.{inventory_for_good};
 ghost use Rattle.base_disk.specs.State.{LeavesOnly};
@@ -41,7 +41,7 @@ use base_disk::{Disk, DiskFault};
 use base_files::Inputs;
 use base_moment::{Name, Text};
 use base_words::push_number;
-use state_changes::{Note, Row, Secret, What};
+use state_changes::{JournalNote, Row, Secret, ChangeKind};
 use state_file::SettleFault;
 use state_keeping::{Reloaded, State, TableFault, read_table};
 use state_secrets::{Looking, SecretFiles};
@@ -139,7 +139,7 @@ impl<'a, D: Disk, I: Inputs, L: Lanes> Ledger<'a, D, I, L> {
     /// What is said of these changes of the journal that are not made any more: a hundred lines, and how many more there are. The only
     /// error is out of memory.
     #[tactic(auto, unfolding(crate::specs::Rereading::said_notes))]
-    pub fn note_lines(&self, alloc: Global, notes: &[Note]) -> Result<Vec<Text>, AllocError>
+    pub fn note_lines(&self, alloc: Global, notes: &[JournalNote]) -> Result<Vec<Text>, AllocError>
         ensures { IfOk result (λ lines. lines.items ≡ said_notes (book_in self.now.state).file.margin (records_in (lines_in (store_in self.now.state))) notes.now) }
     {
         let mut lines = self.state.note_lines(first_notes(notes))?;
@@ -148,7 +148,7 @@ impl<'a, D: Disk, I: Inputs, L: Lanes> Ledger<'a, D, I, L> {
     }
 
     // The same; nothing, where memory is wanting for that.
-    fn notes_said(&self, alloc: Global, notes: &[Note]) -> Vec<Text>
+    fn notes_said(&self, alloc: Global, notes: &[JournalNote]) -> Vec<Text>
         ensures { SaysNotes (book_in self.now.state).file.margin (records_in (lines_in (store_in self.now.state))) notes.now result.items }
     {
         match self.note_lines(alloc, notes) {
@@ -159,7 +159,7 @@ impl<'a, D: Disk, I: Inputs, L: Lanes> Ledger<'a, D, I, L> {
 
     // Serves these bytes of the file from now on.
     fn reloaded(&mut self, alloc: Global, now: u64, bytes: &[u8]) -> Result<Reread, Option<Text>>
-        ensures reloaded { IfOk result (λ r. (notes : List Note) × (IsBookIf (Some bytes.now) (records_in (lines_in (store_in self.old.state))) (book_in self.old.state).secrets (book_in self.new.state) notes
+        ensures reloaded { IfOk result (λ r. (notes : List JournalNote) × (IsBookIf (Some bytes.now) (records_in (lines_in (store_in self.old.state))) (book_in self.old.state).secrets (book_in self.new.state) notes
             × SaysNotes (book_in self.new.state).file.margin (records_in (lines_in (store_in self.new.state))) notes r.notes.items)) }
         ensures copied { IfOk result (λ r. (copy : Option DiskFault) × (IsCopied D.is_known self.old.state.places bytes.now copy (D.state self.new.state.disk) × SaysCopy copy r.unkept)) }
         ensures lines { OnOk result (lines_in (store_in self.new.state) ≡ lines_in (store_in self.old.state)) }
@@ -318,7 +318,7 @@ fn take_on<D: Disk>(
     state: &mut State<'_, D>,
     now: u64,
     name: Name,
-    what: What,
+    what: ChangeKind,
 ) -> Result<(), TakeFault>
     ensures taken { OnOk result (IsTakenOn D.is_known D.state now name what state.old state.new) }
     ensures refused { IfErr result (IsWhyUntakenOn D.is_known D.state name what state.old state.new) }
@@ -362,7 +362,7 @@ fn left_words(alloc: Global, left: usize) -> Result<Text, AllocError>
 }
 
 // The notes that are said.
-fn first_notes(notes: &[Note]) -> &[Note]
+fn first_notes(notes: &[JournalNote]) -> &[JournalNote]
     ensures { result.now ≡ take 100 notes.now }
 {
     if notes.len() < MOST_NOTES {
@@ -413,7 +413,7 @@ impl<'a, D: Disk, I: Inputs + SecretFiles, L: Lanes> Keeping for Ledger<'a, D, I
         alloc: Global,
         now: u64,
         name: &[u8],
-        what: What,
+        what: ChangeKind,
     ) -> Result<(), Option<Text>> {
         let Ok(of) = Name::of(alloc, name) else {
             return Err(None);
@@ -433,7 +433,7 @@ impl<'a, D: Disk, I: Inputs + SecretFiles, L: Lanes> Keeping for Ledger<'a, D, I
         alloc: Global,
         now: Reading,
         name: &[u8],
-        what: &What,
+        what: &ChangeKind,
     ) -> Result<LookedUp, AllocError> {
         let candidate = candidate_of(alloc, &self.state, name, what)?;
         ask(alloc, &mut self.proving, now, candidate)

@@ -27,4 +27,4 @@ pub use asker::{Asker, FileWord};
 pub use keeping::{FileLook, KeepNews, Keeping, LookedUp};
 pub use late::{Late, Shut, TRY_FOLDER};
 pub use ledger::Ledger;
-pub use opening::{NeedMeanwhile, Opened, Opening};
+pub use opening::{NeedMeanwhile, OpenedLedger, Opening};

@@ -5,10 +5,10 @@ ghost use Rattle.state_changes.specs.Rows.{named};
 ghost use Rattle.agent_ledger.specs.Openings.{LeavesOut, RecordsNeed, RecordsNeeds, TakesNeed, gone_text, is_need_of, noted};
 
 use crate::keeping::{KeepNews, Keeping};
-use agent_words::{About, Said};
+use agent_words::{About, SaidLine};
 use base_log::Level;
 use base_moment::{Name, Text};
-use state_changes::What;
+use state_changes::ChangeKind;
 use std::alloc::{AllocError, Global};
 use vault_inventory::Need;
 
@@ -16,12 +16,12 @@ use vault_inventory::Need;
 pub trait Opening<K> {
     /// What keeps changes in it from now on, where it can be used; otherwise all that was opened of it is closed again. `now` is in
     /// milliseconds of the clock that never steps.
-    fn open(&mut self, alloc: Global, now: u64) -> Option<Opened<K>>;
+    fn open(&mut self, alloc: Global, now: u64) -> Option<OpenedLedger<K>>;
 }
 
 /// What keeps changes in a state folder that was opened, and what is to be said of that.
 #[derive(Drop)]
-pub struct Opened<K> {
+pub struct OpenedLedger<K> {
     pub keeper: K,
     pub news: KeepNews,
 }
@@ -60,7 +60,7 @@ fn place_of(needs: &[NeedMeanwhile], name: &[u8]) -> Option<usize>
     needs.iter().position(|given| given.name.list() == name)
 }
 
-impl<K: Keeping> Opened<K> {
+impl<K: Keeping> OpenedLedger<K> {
     /// Makes each of these needs hold over a restart, one after another, until one cannot be kept. Whether all of them hold; but for those
     /// whose entry is there no more, which is to be said.
     #[tactic(auto, using(crate::proofs::Recording::so_begins, crate::proofs::Recording::so_goes_on, crate::proofs::Recording::so_stops, crate::proofs::Recording::so_ends))]
@@ -97,7 +97,7 @@ impl<K: Keeping> Opened<K> {
     {
         match self
             .keeper
-            .take(alloc, now, given.name.list(), What::Need(given.need))
+            .take(alloc, now, given.name.list(), ChangeKind::Need(given.need))
         {
             Ok(()) => true,
             Err(_why) => false,
@@ -111,7 +111,7 @@ impl<K: Keeping> Opened<K> {
         let Ok(text) = gone_text(alloc, name) else {
             return false;
         };
-        let line = Said {
+        let line = SaidLine {
             level: Level::Alert,
             about: About::Folder,
             text,

@@ -9,7 +9,7 @@ use base_disk::DiskFault;
 use base_moment::Text;
 use plan_forest::Kind;
 use program_report::tree_word;
-use state_changes::{Row, What};
+use state_changes::{Row, ChangeKind};
 use state_file::SettleFault;
 use state_keeping::{SettleWhy, TableFault};
 use state_notes::why;
@@ -23,7 +23,7 @@ pub(crate) fn take_words(
     alloc: Global,
     margin: u32,
     name: &[u8],
-    what: &What,
+    what: &ChangeKind,
     fault: TakeFault,
 ) -> Result<Text, AllocError>
     ensures { IfOk result (λ text. text ≡ take_words margin name.now what.now fault) }

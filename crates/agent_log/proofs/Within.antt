@@ -8,8 +8,8 @@ use Rattle.base_clients.specs.Tables.{Feeds, FeedsAt, GuestTable, follows_as}
 use Rattle.base_clients.specs.declared.fed.Fed.{Fed}
 use Rattle.base_clients.specs.declared.fed.Fed.TheVariants.{Gone, Full, Taken}
 use Rattle.base_clients.specs.declared.guest.Guest.{Guest}
-use Rattle.base_clients.specs.declared.stage.Stage.{Stage}
-use Rattle.base_clients.specs.declared.stage.Stage.TheVariants as stages
+use Rattle.base_clients.specs.declared.stage.GuestStage.{GuestStage}
+use Rattle.base_clients.specs.declared.stage.GuestStage.TheVariants as stages
 use Rattle.agent_log.specs.Feeding.{IsFedAtMost}
 
 gone : (most : ℕ) (fed : Result Fed AllocError) → fed ≡ Ok Gone → IsFedAtMost most fed
@@ -25,7 +25,7 @@ adds bytes (Ok (Taken n)) old new h =
 adds bytes (Err e) old new h = tt
 
 module _ {T : Type 0} (bytes : List ℕ) (fed : Result Fed AllocError) where
-  by_stage : (s : Stage) (g n : Guest T) → IsFedFrom s bytes fed g n → IsFedAtMost (length bytes) fed
+  by_stage : (s : GuestStage) (g n : Guest T) → IsFedFrom s bytes fed g n → IsFedAtMost (length bytes) fed
   by_stage (stages.Reading b) g n h = gone (length bytes) fed h.0
   by_stage (stages.Asked b) g n h = gone (length bytes) fed h.0
   by_stage stages.Waiting g n h = gone (length bytes) fed h.0

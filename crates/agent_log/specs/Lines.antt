@@ -11,8 +11,8 @@ use Rattle.base_log.specs.Waiting.{Waiting, dropping, with_line}
 use Rattle.base_log.specs.declared.follower.Follower.{Follower}
 use Rattle.base_log.specs.declared.level.Level.{Level}
 use Rattle.base_log.specs.declared.level.Level.TheVariants.{Warning}
-use Rattle.base_log.specs.declared.line.Word.{Word}
-use Rattle.base_log.specs.declared.line.Word.TheVariants as words
+use Rattle.base_log.specs.declared.line.LineWord.{LineWord}
+use Rattle.base_log.specs.declared.line.LineWord.TheVariants as words
 use Rattle.agent_log.specs.Rooms.{Rooms, misses, missing_in}
 use Rattle.base_log.specs.declared.form.Form.{Form}
 use Rattle.base_log.specs.declared.form.Form.TheVariants.{Text, Json}
@@ -23,9 +23,9 @@ use Rattle.base_log.specs.declared.form.Form.TheVariants.{Text, Json}
 pub record Line : Type 0 where
   pub level : Level
   pub event : List ℕ
-  pub words : List Word
+  pub words : List LineWord
 
-abbrev pub said_line : Level → List ℕ → List Word → Line
+abbrev pub said_line : Level → List ℕ → List LineWord → Line
 said_line level event ws = record { level = level; event = event; words = ws }
 
 -- of one text, a name for example
@@ -46,7 +46,7 @@ reason_text reasons.TimedOut = codes "timed out"
 reason_text reasons.Other = codes "the connection failed"
 
 -- why a request counts as lost; where there is no connection, to which place and why
-abbrev pub loss_words : List ℕ → Loss → List Word
+abbrev pub loss_words : List ℕ → Loss → List LineWord
 loss_words place (losses.Connect reason) = words.Text (codes "connect") ∷ words.Text (place ++ (codes ": " ++ reason_text reason)) ∷ []
 loss_words place losses.Timeout = words.Text (codes "timeout") ∷ []
 loss_words place losses.Closed = words.Text (codes "closed") ∷ []

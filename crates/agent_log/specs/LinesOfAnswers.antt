@@ -9,14 +9,14 @@ use Rattle.vault_lanes.specs.declared.loss.Loss.{Loss}
 use Rattle.program_lines.specs.Text.{name_of}
 use Rattle.base_log.specs.declared.level.Level.{Level}
 use Rattle.base_log.specs.declared.level.Level.TheVariants.{Info, Note, Warning, Alert}
-use Rattle.base_log.specs.declared.line.Word.{Word}
-use Rattle.base_log.specs.declared.line.Word.TheVariants as words
+use Rattle.base_log.specs.declared.line.LineWord.{LineWord}
+use Rattle.base_log.specs.declared.line.LineWord.TheVariants as words
 use Rattle.watch_machine.specs.Outlook.{broker_moment, broker_now}
 use Rattle.watch_machine.specs.State.{WatchState}
 use Rattle.watch_machine.specs.declared.event.Operation.{Operation}
 use Rattle.watch_machine.specs.declared.event.Operation.TheVariants.{Look, Renew}
-use Rattle.watch_machine.specs.declared.event.Reply.{Reply}
-use Rattle.watch_machine.specs.declared.event.Reply.TheVariants.{Told, Refused, Busy, Lost}
+use Rattle.watch_machine.specs.declared.event.WatchReply.{WatchReply}
+use Rattle.watch_machine.specs.declared.event.WatchReply.TheVariants.{Told, Refused, Busy, Lost}
 use Rattle.watch_machine.specs.declared.notes.Link.{Link}
 use Rattle.watch_machine.specs.declared.notes.Link.TheVariants.{Away, Back}
 use Rattle.watch_machine.specs.declared.notes.Notes.{Notes}
@@ -38,14 +38,14 @@ abbrev pub told_event : Operation → List ℕ
 told_event Look = codes "entry"
 told_event Renew = codes "told"
 
-abbrev pub told_word : WatchState → Operation → ℕ → Option ℕ → Word
+abbrev pub told_word : WatchState → Operation → ℕ → Option ℕ → LineWord
 told_word m Look seconds date = moment_word (number_held (unwrap_or date (broker_now m) + seconds))
 told_word m Renew seconds date = words.Number seconds
 
 abbrev pub lost_log_line : List ℕ → List ℕ → Option Trouble → Loss → Line
 lost_log_line place name before why = said_line (trouble_level before troubles.Lost) (codes "lost") (words.Text name ∷ loss_words place why)
 
-abbrev pub reply_line : List ℕ → List ℕ → WatchState → Operation → Option Trouble → Loss → Reply → Line
+abbrev pub reply_line : List ℕ → List ℕ → WatchState → Operation → Option Trouble → Loss → WatchReply → Line
 reply_line place name m operation before why (Told seconds renewable date) = said_line Info (told_event operation) (words.Text name ∷ told_word m operation seconds date ∷ [])
 reply_line place name m operation before why (Refused status date) = said_line (trouble_level before troubles.Refused) (codes "refused") (words.Text name ∷ words.Number status ∷ [])
 reply_line place name m operation before why Busy = lost_log_line place name before why

@@ -11,18 +11,18 @@ use Rattle.agent_standing.specs.declared.status.Condition.TheVariants as conditi
 use Rattle.agent_standing.specs.declared.status.Status.{Status}
 use Rattle.program_lines.specs.Text.{name_of}
 use Rattle.base_log.specs.declared.level.Level.TheVariants.{Info, Warning, Alert}
-use Rattle.base_log.specs.declared.line.Word.{Word}
-use Rattle.base_log.specs.declared.line.Word.TheVariants as words
+use Rattle.base_log.specs.declared.line.LineWord.{LineWord}
+use Rattle.base_log.specs.declared.line.LineWord.TheVariants as words
 use Rattle.plan_forest.specs.Forest.{Forest, entry_at}
 use Rattle.watch_machine.specs.Outlook.{broker_now}
 use Rattle.watch_machine.specs.Refusal.{is_same}
 use Rattle.watch_machine.specs.State.{entry_of}
-use Rattle.watch_machine.specs.declared.command.Request.{Request}
+use Rattle.watch_machine.specs.declared.command.WatchRequest.{WatchRequest}
 use Rattle.watch_machine.specs.declared.event.Operation.{Operation}
 use Rattle.watch_machine.specs.declared.event.Operation.TheVariants.{Look, Renew}
 use Rattle.watch_machine.specs.declared.notes.Notes.{Notes}
-use Rattle.watch_machine.specs.declared.notes.Why.{Why}
-use Rattle.watch_machine.specs.declared.notes.Why.TheVariants.{Start, Asked, Jump, Day}
+use Rattle.watch_machine.specs.declared.notes.BeginReason.{BeginReason}
+use Rattle.watch_machine.specs.declared.notes.BeginReason.TheVariants.{Start, Asked, Jump, Day}
 use Rattle.agent_log.specs.Lines.{Line, line_if, said_line, text_line}
 use Rattle.agent_words.specs.Moments.{moment_word}
 use Rattle.agent_log.specs.Marks.{mark_at}
@@ -30,17 +30,17 @@ use Rattle.agent_log.specs.declared.mark.Mark.{Mark}
 
 -- ---- why everything is looked up anew, and the round that opens
 
-abbrev pub why_text : Why → List ℕ
+abbrev pub why_text : BeginReason → List ℕ
 why_text Start = codes "start"
 why_text Asked = codes "asked"
 why_text Jump = codes "jump"
 why_text Day = codes "day"
 
-abbrev pub begin_lines : Option Why → List Line
+abbrev pub begin_lines : Option BeginReason → List Line
 begin_lines None = []
 begin_lines (Some why) = text_line Info (codes "begin") (why_text why) ∷ []
 
-abbrev pub name_words : Forest → List ℕ → List Word
+abbrev pub name_words : Forest → List ℕ → List LineWord
 name_words g asked = flat_map (λ i. words.Text (name_of g i) ∷ []) asked
 
 abbrev pub wake_lines : Agent → Option (List ℕ) → List Line
@@ -49,16 +49,16 @@ wake_lines a (Some asked) = said_line Info (codes "wake") (moment_word (broker_n
 
 -- ---- whom is asked what, in the order in which it goes out
 
-abbrev pub asked_word : Forest → Operation → Request → List Word
+abbrev pub asked_word : Forest → Operation → WatchRequest → List LineWord
 asked_word g operation r = if is_same r.operation operation then words.Text (name_of g r.entry) ∷ [] else []
 
-abbrev pub asked_words : Forest → Operation → List Request → List Word
+abbrev pub asked_words : Forest → Operation → List WatchRequest → List LineWord
 asked_words g operation requests = flat_map (asked_word g operation) requests
 
-abbrev pub is_operation_asked : Operation → List Request → Bool
+abbrev pub is_operation_asked : Operation → List WatchRequest → Bool
 is_operation_asked operation requests = list_any (λ r. is_same r.operation operation) requests
 
-abbrev pub asked_log_lines : Forest → List ℕ → Operation → List Request → List Line
+abbrev pub asked_log_lines : Forest → List ℕ → Operation → List WatchRequest → List Line
 asked_log_lines g event operation requests = line_if (is_operation_asked operation requests) (said_line Info event (asked_words g operation requests))
 
 -- ---- ends that are past
@@ -111,7 +111,7 @@ marks_anew a count = map (carried_mark a) (range_with_len 0 count)
 
 -- ---- all of it
 
-unfoldable pub clocked_lines : Agent → Notes → List Request → List Mark → List Line
+unfoldable pub clocked_lines : Agent → Notes → List WatchRequest → List Mark → List Line
 clocked_lines a notes requests marks =
     begin_lines notes.began ++ (wake_lines a notes.round ++ (asked_log_lines a.inventory.forest (codes "look") Look requests
     ++ (asked_log_lines a.inventory.forest (codes "renew") Renew requests ++ ended_lines a 0 marks)))

@@ -5,7 +5,7 @@ use Rattle.base_clock.specs.declared.reading.Reading.{Reading}
 use Rattle.base_disk.specs.declared.fault.DiskFault.{DiskFault}
 use Rattle.base_log.specs.declared.level.Level.{Level}
 use Rattle.base_log.specs.declared.level.Level.TheVariants.{Alert, Note}
-use Rattle.base_log.specs.declared.line.Word.TheVariants as words
+use Rattle.base_log.specs.declared.line.LineWord.TheVariants as words
 use Rattle.agent_log.specs.LogDesk.{Desk}
 use Rattle.agent_log.specs.Lines.{Line, LineIsSaid, said_line}
 use Rattle.agent_words.specs.Moments.{second_of}

@@ -4,7 +4,7 @@ use Rattle.std.specs.Prelude.{◌==◌, Bool, true, false, ◌&&◌, if◌then�
 use Rattle.agent_standing.specs.Agent.{Agent}
 use Rattle.program_lines.specs.Text.{name_of}
 use Rattle.base_log.specs.declared.level.Level.TheVariants.{Info}
-use Rattle.base_log.specs.declared.line.Word.TheVariants as words
+use Rattle.base_log.specs.declared.line.LineWord.TheVariants as words
 use Rattle.watch_machine.specs.declared.outlook.Next.{Next}
 use Rattle.agent_log.specs.Lines.{Line, said_line, text_line}
 use Rattle.agent_words.specs.Moments.{moment_word}

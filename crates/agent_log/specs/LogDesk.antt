@@ -11,7 +11,7 @@ use Rattle.base_device.specs.declared.tried.Tried.{Tried}
 use Rattle.base_log.specs.Turns.{TurnIsMade}
 use Rattle.base_log.specs.Waiting.{Waiting, after_turn, closed_if, giving, with_notice}
 use Rattle.base_log.specs.declared.level.Level.{Level}
-use Rattle.watch_machine.specs.declared.command.Request.{Request}
+use Rattle.watch_machine.specs.declared.command.WatchRequest.{WatchRequest}
 use Rattle.watch_machine.specs.declared.event.Operation.{Operation}
 use Rattle.watch_machine.specs.declared.notes.Notes.{Notes}
 use Rattle.agent_log.specs.LinesBehind.{ahead_line, steps_in_lines, with_step, with_steps}
@@ -45,7 +45,7 @@ pub record SaysLines (a : Agent) (lines : List Line) (marks : List Mark) (old ne
   pub said : AreSaid old.form (now_of a.machine) lines old.room new.room
   pub rest : new ≡ record old { room = new.room; marks = marks }
 
-abbrev pub HearsClock : Agent → Notes → List Request → Desk → Desk → Type 0
+abbrev pub HearsClock : Agent → Notes → List WatchRequest → Desk → Desk → Type 0
 HearsClock a notes requests old new = SaysLines a (clocked_lines a notes requests old.marks) (marks_clocked a old.marks) old new
 
 abbrev pub HearsShorts : Agent → List Short → Desk → Desk → Type 0
@@ -59,7 +59,7 @@ HearsAnswer a i operation said notes old new = SaysLines a (answered_lines old.p
 abbrev pub HearsAhead : Agent → ℕ → ℕ → Desk → Desk → Type 0
 HearsAhead a i end old new = SaysLines a (ahead_line a i end ∷ []) (with_step i false old.marks) old new
 
-abbrev pub HearsSteps : Agent → ℕ → List Request → Desk → Desk → Type 0
+abbrev pub HearsSteps : Agent → ℕ → List WatchRequest → Desk → Desk → Type 0
 HearsSteps a lead requests old new = SaysLines a (steps_in_lines a lead old.marks requests) (with_steps a.machine lead requests old.marks) old new
 
 abbrev pub HearsRefusal : Agent → Desk → Desk → Type 0

@@ -4,7 +4,7 @@ use Rattle.std.specs.Prelude.{ℕ, Bool, if◌then◌else◌, List, [], ◌∷�
 use Rattle.vault_lanes.specs.declared.loss.Loss.{Loss}
 use Rattle.base_log.specs.declared.level.Level.{Level}
 use Rattle.base_log.specs.declared.level.Level.TheVariants.{Info, Warning, Alert}
-use Rattle.base_log.specs.declared.line.Word.TheVariants as words
+use Rattle.base_log.specs.declared.line.LineWord.TheVariants as words
 use Rattle.agent_log.specs.LinesOfClocks.{memory_line}
 use Rattle.agent_log.specs.Lines.{Line, said_line}
 use Rattle.agent_log.specs.LookupLosses.{line_with_loss}

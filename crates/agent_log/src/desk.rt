@@ -24,7 +24,7 @@ use base_moment::Text;
 use std::alloc::{AllocError, Global};
 use std::marker::Model;
 use vault_asking::HandedIn;
-use watch_machine::{Millis, Notes, Request};
+use watch_machine::{Millis, Notes, WatchRequest};
 
 /// How lines are written, those that wait, and what was said last of each entry, and of a lack of memory. Lack of memory costs the
 /// line for which it is wanting: that is dropped and counted.
@@ -70,7 +70,7 @@ impl Desk {
     }
 
     /// Says what is noted of the time that was handed in, whom is asked what, and whose ends are past.
-    pub fn hear_clock(&mut self, alloc: Global, agent: &Agent, notes: &Notes, requests: &[Request])
+    pub fn hear_clock(&mut self, alloc: Global, agent: &Agent, notes: &Notes, requests: &[WatchRequest])
         ensures { HearsClock agent.now notes.now requests.now self.old self.new }
     {
         let pen = self.pen(alloc, agent);
@@ -109,14 +109,14 @@ impl Desk {
     }
 
     /// Of how many entries it will be said that an agent steps in, by what it asks; `lead` is how long before its time it looks an entry up.
-    pub fn count_steps(&self, agent: &Agent, lead: Millis, requests: &[Request]) -> usize
+    pub fn count_steps(&self, agent: &Agent, lead: Millis, requests: &[WatchRequest]) -> usize
         ensures { result ≡ steps_in_count agent.now.machine lead self.now.marks requests.now }
     {
         count_steps(agent.watch(), lead, requests, &self.marks)
     }
 
     /// Says for which entries an agent steps in that stands behind another, by what it asks.
-    pub fn hear_steps(&mut self, alloc: Global, agent: &Agent, lead: Millis, requests: &[Request])
+    pub fn hear_steps(&mut self, alloc: Global, agent: &Agent, lead: Millis, requests: &[WatchRequest])
         ensures { HearsSteps agent.now lead requests.now self.old self.new }
     {
         let pen = self.pen(alloc, agent);

@@ -9,11 +9,11 @@ use crate::log_words::{name_and_loss, one_loss};
 use crate::rooms::Rooms;
 use agent_standing::{Agent, Trouble};
 use agent_words::moment_word;
-use base_log::{Level, Word};
+use base_log::{Level, LineWord};
 use program_lines::name_of;
 use vault_asking::HandedIn;
 use vault_lanes::Loss;
-use watch_machine::{Link, Operation, Reply, Watch};
+use watch_machine::{Link, Operation, WatchReply, Watch};
 
 /// Says what came of a request, and what is noted of that, by what was wrong with its entry before; where its entry is no more, what it
 /// says of the broker.
@@ -49,17 +49,17 @@ fn say_reply(
 {
     let name = name_of(agent.inventory().forest(), handed.entry);
     match handed.said.reply {
-        Reply::Told { seconds, date, .. } => {
+        WatchReply::Told { seconds, date, .. } => {
             let word = told_word(agent.watch(), handed.operation, u64::from(seconds), date);
             let event = told_event(handed.operation);
             pen.say_of(Level::Info, event, name, word, room);
         }
-        Reply::Refused { status, .. } => {
+        WatchReply::Refused { status, .. } => {
             let level = trouble_level(before, Trouble::Refused);
-            let status = Word::Number(u64::from(status));
+            let status = LineWord::Number(u64::from(status));
             pen.say_of(level, "refused", name, status, room);
         }
-        Reply::Busy | Reply::Lost => say_lost(pen, place, name, before, handed.said.loss, room),
+        WatchReply::Busy | WatchReply::Lost => say_lost(pen, place, name, before, handed.said.loss, room),
     }
 }
 
@@ -74,7 +74,7 @@ fn told_event(operation: Operation) -> &'static str
 
 // The end that a lookup told, or the seconds that a renewal did.
 #[tactic(auto, unfolding(watch_machine::specs::Clocks::sec))]
-fn told_word(watch: &Watch, operation: Operation, seconds: u64, date: Option<u64>) -> Word
+fn told_word(watch: &Watch, operation: Operation, seconds: u64, date: Option<u64>) -> LineWord
     ensures { result ≡ told_word watch.now operation seconds date }
 {
     match operation {
@@ -82,7 +82,7 @@ fn told_word(watch: &Watch, operation: Operation, seconds: u64, date: Option<u64
             let told = date.unwrap_or(watch.broker_moment(watch.clocks().at / 1000));
             moment_word(told.saturating_add(seconds))
         }
-        Operation::Renew => Word::Number(seconds),
+        Operation::Renew => LineWord::Number(seconds),
     }
 }
 
@@ -145,7 +145,7 @@ fn say_gone(pen: &Pen, name: &[u8], before: Option<Trouble>, gone: Option<u16>, 
 {
     if let Some(status) = gone {
         let level = trouble_level(before, Trouble::Gone);
-        let status = Word::Number(u64::from(status));
+        let status = LineWord::Number(u64::from(status));
         pen.say_of(level, "gone", name, status, room);
     }
 }

@@ -8,16 +8,16 @@ use crate::log_words::is_same;
 use crate::mark::{Mark, mark_at, set_mark};
 use crate::rooms::Rooms;
 use agent_standing::Agent;
-use base_log::{Level, Word};
+use base_log::{Level, LineWord};
 use program_lines::name_of;
-use watch_machine::{Millis, Operation, Request, Watch};
+use watch_machine::{Millis, Operation, WatchRequest, Watch};
 
 /// Says that an entry was looked up, and how many seconds it has left.
 #[tactic(auto, unfolding(watch_machine::specs::Clocks::sec))]
 pub(crate) fn say_ahead(pen: &Pen, agent: &Agent, entry: u32, end: u64, room: &mut Rooms)
     ensures { LineIsSaid pen.now.form pen.now.moment (ahead_line agent.now entry end) room.old room.new }
 {
-    let left = Word::Number(end.saturating_sub(agent.watch().clocks().at / 1000));
+    let left = LineWord::Number(end.saturating_sub(agent.watch().clocks().at / 1000));
     let name = name_of(agent.inventory().forest(), entry);
     pen.say_of(Level::Info, "ahead", name, left, room);
 }
@@ -27,7 +27,7 @@ pub(crate) fn say_steps(
     pen: &Pen,
     agent: &Agent,
     lead: Millis,
-    requests: &[Request],
+    requests: &[WatchRequest],
     marks: &[Mark],
     room: &mut Rooms,
 )
@@ -43,7 +43,7 @@ fn say_step(
     pen: &Pen,
     agent: &Agent,
     lead: Millis,
-    request: Request,
+    request: WatchRequest,
     marks: &[Mark],
     room: &mut Rooms,
 )
@@ -58,7 +58,7 @@ fn say_step(
 pub(crate) fn count_steps(
     watch: &Watch,
     lead: Millis,
-    requests: &[Request],
+    requests: &[WatchRequest],
     marks: &[Mark],
 ) -> usize
     ensures { result ≡ steps_in_count watch.now lead marks.now requests.now }
@@ -70,14 +70,14 @@ pub(crate) fn count_steps(
 }
 
 // Whether the agent steps in by it for an entry of which that was not said.
-fn is_first_step(watch: &Watch, lead: Millis, request: Request, marks: &[Mark]) -> bool
+fn is_first_step(watch: &Watch, lead: Millis, request: WatchRequest, marks: &[Mark]) -> bool
     ensures { result ≡ is_first_step watch.now lead marks.now request }
 {
     is_step(watch, lead, request) && !mark_at(marks, request.entry).steps_in
 }
 
 // Whether it is a renewal of an entry of which the look moment has come. One that a round asks along before that may still be renewed in front.
-fn is_step(watch: &Watch, lead: Millis, request: Request) -> bool
+fn is_step(watch: &Watch, lead: Millis, request: WatchRequest) -> bool
     ensures { result ≡ is_step watch.now lead request }
 {
     is_same(request.operation, Operation::Renew)
@@ -86,7 +86,7 @@ fn is_step(watch: &Watch, lead: Millis, request: Request) -> bool
 }
 
 /// Marks the entries of which that was said.
-pub(crate) fn mark_steps(watch: &Watch, lead: Millis, requests: &[Request], marks: &mut [Mark])
+pub(crate) fn mark_steps(watch: &Watch, lead: Millis, requests: &[WatchRequest], marks: &mut [Mark])
     ensures { marks.new ≡ with_steps watch.now lead requests.now marks.old }
 {
     for request in requests {
@@ -94,7 +94,7 @@ pub(crate) fn mark_steps(watch: &Watch, lead: Millis, requests: &[Request], mark
     }
 }
 
-fn mark_step(watch: &Watch, lead: Millis, request: Request, marks: &mut [Mark])
+fn mark_step(watch: &Watch, lead: Millis, request: WatchRequest, marks: &mut [Mark])
     ensures { marks.new ≡ with_step_by watch.now lead request marks.old }
 {
     if is_step(watch, lead, request) {

@@ -13,7 +13,7 @@ use agent_words::moment_word;
 use base_log::Level;
 use plan_forest::{Forest, Indices};
 use program_lines::name_of;
-use watch_machine::{Notes, Operation, Request, Why};
+use watch_machine::{Notes, Operation, WatchRequest, BeginReason};
 
 /// Says what is noted of the time, whom is asked what, and whose ends are past.
 #[tactic(auto, using(crate::proofs::Said::both_said), unfolding(crate::specs::LinesOfClocks::clocked_lines))]
@@ -21,7 +21,7 @@ pub(crate) fn say_clocked(
     pen: &Pen,
     agent: &Agent,
     notes: &Notes,
-    requests: &[Request],
+    requests: &[WatchRequest],
     marks: &[Mark],
     room: &mut Rooms,
 )
@@ -37,7 +37,7 @@ pub(crate) fn say_clocked(
 
 // Says why everything is looked up anew, where it is.
 #[tactic(auto, using(crate::proofs::Said::one_said))]
-fn say_begin(pen: &Pen, began: Option<Why>, room: &mut Rooms)
+fn say_begin(pen: &Pen, began: Option<BeginReason>, room: &mut Rooms)
     ensures { AreSaid pen.now.form pen.now.moment (begin_lines began) room.old room.new }
 {
     if let Some(why) = began {
@@ -45,14 +45,14 @@ fn say_begin(pen: &Pen, began: Option<Why>, room: &mut Rooms)
     }
 }
 
-fn why_text(why: Why) -> &'static [u8]
+fn why_text(why: BeginReason) -> &'static [u8]
     ensures { result.now ≡ why_text why }
 {
     match why {
-        Why::Start => b"start",
-        Why::Asked => b"asked",
-        Why::Jump => b"jump",
-        Why::Day => b"day",
+        BeginReason::Start => b"start",
+        BeginReason::Asked => b"asked",
+        BeginReason::Jump => b"jump",
+        BeginReason::Day => b"day",
     }
 }
 
@@ -85,7 +85,7 @@ fn say_asked(
     names: &Forest,
     event: &'static str,
     operation: Operation,
-    requests: &[Request],
+    requests: &[WatchRequest],
     room: &mut Rooms,
 )
     ensures { AreSaid pen.now.form pen.now.moment (asked_log_lines names.now event.now operation requests.now) room.old room.new }
@@ -100,7 +100,7 @@ fn say_asked(
 }
 
 // Whether this is asked of somebody.
-fn is_asked(operation: Operation, requests: &[Request]) -> bool
+fn is_asked(operation: Operation, requests: &[WatchRequest]) -> bool
     ensures { result ≡ is_operation_asked operation requests.now }
 {
     requests

@@ -1,6 +1,6 @@
 //! What is said of the file of the ends.
 ghost use Rattle.std.specs.Prelude.{◌≡◌, ◌∷◌, [], IfOk};
-ghost use Rattle.base_log.specs.declared.line.Word.TheVariants as kinds;
+ghost use Rattle.base_log.specs.declared.line.LineWord.TheVariants as kinds;
 ghost use Rattle.agent_log.specs.LogDesk.{SaysLines};
 ghost use Rattle.agent_log.specs.LinesOfEnds.{HearsUnread, ends_line, tried_lines, unkept_line, unread_line};
 ghost use Rattle.agent_log.specs.Lines.{LineIsSaid};
@@ -14,7 +14,7 @@ use agent_standing::Agent;
 use agent_words::disk_words;
 use base_clock::Reading;
 use base_disk::DiskFault;
-use base_log::{Level, Word};
+use base_log::{Level, LineWord};
 use std::alloc::{AllocError, Global};
 
 impl Desk {
@@ -71,7 +71,7 @@ fn say_ends(pen: &Pen, level: Level, what: &[u8], fault: DiskFault, room: &mut R
     }
 }
 
-fn fault_words(alloc: Global, what: &[u8], fault: DiskFault) -> Result<Vec<Word>, AllocError>
+fn fault_words(alloc: Global, what: &[u8], fault: DiskFault) -> Result<Vec<LineWord>, AllocError>
     ensures { IfOk result (λ ws. ws.items ≡ kinds.Text what.now ∷ kinds.Text (disk_words fault) ∷ []) }
 {
     let mut words = one_text(alloc, what)?;

@@ -1,11 +1,11 @@
 //! A line is said: written, and put into the room of the log, and that of each of those who follow it.
 ghost use Rattle.std.specs.Prelude.{◌≡◌, ◌<◌, ◌∷◌, [], IfOk, OnErr, codes};
-ghost use Rattle.base_log.specs.declared.line.Word.TheVariants as words;
+ghost use Rattle.base_log.specs.declared.line.LineWord.TheVariants as words;
 ghost use Rattle.agent_log.specs.Lines.{AreSaid, IsSaid, LineIsSaid, LineIsWritten, TellsDropped, dropped_line, line_if, said_line, text_line};
 
 use crate::log_words::{name_and, one_text, text_word};
 use crate::rooms::Rooms;
-use base_log::{Form, Level, LogLine, Word, json_of_line, text_of_line};
+use base_log::{Form, Level, LogLine, LineWord, json_of_line, text_of_line};
 use base_moment::Moment;
 use std::alloc::{AllocError, Global};
 
@@ -20,7 +20,7 @@ pub(crate) struct Pen {
 impl Pen {
     /// Says a line. Where memory is wanting for it, it is dropped and counted.
     #[tactic(auto, using(crate::proofs::Said::put_said, crate::proofs::Said::missed))]
-    pub(crate) fn say(&self, level: Level, event: &'static str, words: Vec<Word>, room: &mut Rooms)
+    pub(crate) fn say(&self, level: Level, event: &'static str, words: Vec<LineWord>, room: &mut Rooms)
         ensures { LineIsSaid self.now.form self.now.moment (said_line level event.now words.items) room.old room.new }
     {
         match self.written(level, event, words) {
@@ -36,7 +36,7 @@ impl Pen {
         level: Level,
         event: &'static str,
         name: &[u8],
-        word: Word,
+        word: LineWord,
         room: &mut Rooms,
     )
         ensures { LineIsSaid self.now.form self.now.moment (said_line level event.now (words.Text name.now ∷ word ∷ [])) room.old room.new }
@@ -123,7 +123,7 @@ impl Pen {
         &self,
         level: Level,
         event: &'static str,
-        words: Vec<Word>,
+        words: Vec<LineWord>,
     ) -> Result<Vec<u8>, AllocError>
         ensures { IfOk result (λ text. LineIsWritten self.now.form self.now.moment (said_line level event.now words.items) text.items) }
     {
@@ -140,10 +140,10 @@ impl Pen {
     }
 }
 
-fn dropped_words(alloc: Global, untold: u64) -> Result<Vec<Word>, AllocError>
+fn dropped_words(alloc: Global, untold: u64) -> Result<Vec<LineWord>, AllocError>
     ensures { IfOk result (λ ws. ws.items ≡ words.Text (codes "dropped") ∷ words.Number untold ∷ words.Text (codes "lines") ∷ []) }
 {
-    let mut words = name_and(alloc, b"dropped", Word::Number(untold))?;
+    let mut words = name_and(alloc, b"dropped", LineWord::Number(untold))?;
     words.push(text_word(alloc, b"lines")?)?;
     Ok(words)
 }

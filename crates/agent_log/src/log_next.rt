@@ -1,6 +1,6 @@
 //! What is said of the next time of an entry.
 ghost use Rattle.std.specs.Prelude.{◌≡◌, ◌∷◌, [], IfOk};
-ghost use Rattle.base_log.specs.declared.line.Word.TheVariants as kinds;
+ghost use Rattle.base_log.specs.declared.line.LineWord.TheVariants as kinds;
 ghost use Rattle.agent_log.specs.LogDesk.{SaysLines};
 ghost use Rattle.agent_log.specs.Lines.{LineIsSaid};
 ghost use Rattle.agent_words.specs.Moments.{moment_word};
@@ -12,7 +12,7 @@ use crate::log_words::{one_word, text_word};
 use crate::rooms::Rooms;
 use agent_standing::Agent;
 use agent_words::moment_word;
-use base_log::{Level, Word};
+use base_log::{Level, LineWord};
 use program_lines::name_of;
 use std::alloc::{AllocError, Global};
 use watch_machine::Next;
@@ -52,7 +52,7 @@ fn say_next(pen: &Pen, agent: &Agent, next: Option<Next>, room: &mut Rooms)
     }
 }
 
-fn next_words(alloc: Global, at: u64, name: &[u8]) -> Result<Vec<Word>, AllocError>
+fn next_words(alloc: Global, at: u64, name: &[u8]) -> Result<Vec<LineWord>, AllocError>
     ensures { IfOk result (λ ws. ws.items ≡ moment_word at ∷ kinds.Text name.now ∷ []) }
 {
     let mut words = one_word(alloc, moment_word(at))?;

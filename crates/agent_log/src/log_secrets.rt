@@ -1,6 +1,6 @@
 //! What is said of files of credentials.
 ghost use Rattle.std.specs.Prelude.{◌≡◌, ◌++◌, IfOk, codes};
-ghost use Rattle.base_log.specs.declared.line.Word.TheVariants as kinds;
+ghost use Rattle.base_log.specs.declared.line.LineWord.TheVariants as kinds;
 ghost use Rattle.agent_log.specs.LogDesk.{SaysLines};
 ghost use Rattle.agent_log.specs.Lines.{AreSaid, LineIsSaid};
 ghost use Rattle.agent_log.specs.LookupLosses.{line_with_loss};
@@ -14,7 +14,7 @@ use crate::lookup_loss::line_with_loss;
 use crate::rooms::Rooms;
 use agent_standing::Agent;
 use agent_words::{endless_text, status_text};
-use base_log::{Level, Word};
+use base_log::{Level, LineWord};
 use base_moment::Text;
 use state_secrets::{Looked, SecretNews, SecretTrouble, SecretWord};
 use std::alloc::{AllocError, Global};
@@ -92,7 +92,7 @@ fn event_of(what: SecretWord) -> &'static str
     }
 }
 
-fn word_of(alloc: Global, what: SecretWord, unproved: Option<Loss>) -> Result<Word, AllocError>
+fn word_of(alloc: Global, what: SecretWord, unproved: Option<Loss>) -> Result<LineWord, AllocError>
     ensures { IfOk result (λ w. w ≡ kinds.Text (text_of what unproved)) }
 {
     match what {
@@ -108,20 +108,20 @@ fn word_of(alloc: Global, what: SecretWord, unproved: Option<Loss>) -> Result<Wo
 }
 
 // That it is taken, and why the broker has said nothing of it, where it has not.
-fn taken_word(alloc: Global, unproved: Option<Loss>) -> Result<Word, AllocError>
+fn taken_word(alloc: Global, unproved: Option<Loss>) -> Result<LineWord, AllocError>
     ensures { IfOk result (λ w. w ≡ kinds.Text (line_with_loss unproved (codes "by its file"))) }
 {
     let text = Text::of(alloc, b"by its file")?;
-    Ok(Word::Text(line_with_loss(alloc, text, unproved)?))
+    Ok(LineWord::Text(line_with_loss(alloc, text, unproved)?))
 }
 
 // What is wrong, and what that means.
-fn trouble_word(alloc: Global, trouble: SecretTrouble, so: &[u8]) -> Result<Word, AllocError>
+fn trouble_word(alloc: Global, trouble: SecretTrouble, so: &[u8]) -> Result<LineWord, AllocError>
     ensures { IfOk result (λ w. w ≡ kinds.Text (trouble_text trouble ++ so.now)) }
 {
     let mut text = trouble_text(alloc, trouble)?;
     text.extend_from_slice(so)?;
-    Ok(Word::Text(Text::from_vec(text)))
+    Ok(LineWord::Text(Text::from_vec(text)))
 }
 
 fn trouble_text(alloc: Global, trouble: SecretTrouble) -> Result<Vec<u8>, AllocError>

@@ -1,6 +1,6 @@
 //! What is said of the agent's own sockets.
 ghost use Rattle.std.specs.Prelude.{◌≡◌, ◌∷◌, ◌++◌, [], IfOk, codes};
-ghost use Rattle.base_log.specs.declared.line.Word.TheVariants as kinds;
+ghost use Rattle.base_log.specs.declared.line.LineWord.TheVariants as kinds;
 ghost use Rattle.agent_log.specs.Lines.{LineIsSaid};
 ghost use Rattle.agent_log.specs.Sockets.{need_log_line, need_log_word, socket_log_line};
 
@@ -8,7 +8,7 @@ use crate::log_line::Pen;
 use crate::log_words::text_word;
 use crate::rooms::Rooms;
 use agent_words::moment_word;
-use base_log::{Level, Word};
+use base_log::{Level, LineWord};
 use base_moment::{LAST, Text};
 use std::alloc::{AllocError, Global};
 
@@ -24,7 +24,7 @@ pub(crate) fn say_need(pen: &Pen, name: &[u8], until: u64, room: &mut Rooms)
 }
 
 // Until when an entry is needed. The only error is lack of memory, here and in what follows.
-fn need_word(alloc: Global, until: u64) -> Result<Word, AllocError>
+fn need_word(alloc: Global, until: u64) -> Result<LineWord, AllocError>
     ensures { IfOk result (λ w. w ≡ need_log_word until) }
 {
     if until == LAST {
@@ -52,7 +52,7 @@ fn socket_words(
     socket: &[u8],
     why: &[u8],
     cost: &[u8],
-) -> Result<Vec<Word>, AllocError>
+) -> Result<Vec<LineWord>, AllocError>
     ensures { IfOk result (λ ws. ws.items ≡ kinds.Text socket.now ∷ kinds.Text (codes "cannot be used (" ++ (why.now ++ codes "):")) ∷ kinds.Text cost.now ∷ []) }
 {
     let mut words = Vec::new(alloc);
@@ -62,11 +62,11 @@ fn socket_words(
     Ok(words)
 }
 
-fn why_word(alloc: Global, why: &[u8]) -> Result<Word, AllocError>
+fn why_word(alloc: Global, why: &[u8]) -> Result<LineWord, AllocError>
     ensures { IfOk result (λ w. w ≡ kinds.Text (codes "cannot be used (" ++ (why.now ++ codes "):"))) }
 {
     let mut text = Vec::from_slice(alloc, b"cannot be used (")?;
     text.extend_from_slice(why)?;
     text.extend_from_slice(b"):")?;
-    Ok(Word::Text(Text::from_vec(text)))
+    Ok(LineWord::Text(Text::from_vec(text)))
 }

@@ -1,24 +1,24 @@
 //! The words of a line.
 ghost use Rattle.std.specs.Prelude.{◌≡◌, ◌∷◌, ◌++◌, [], IfOk, OnOk, codes};
-ghost use Rattle.base_log.specs.declared.line.Word.TheVariants as kinds;
+ghost use Rattle.base_log.specs.declared.line.LineWord.TheVariants as kinds;
 ghost use Rattle.agent_log.specs.LinesOfClocks.{asked_word, asked_words, name_words};
 ghost use Rattle.agent_log.specs.Lines.{loss_words, reason_text};
 ghost use Rattle.watch_machine.specs.Refusal.{is_same};
 ghost use Rattle.program_lines.specs.Text.{name_of};
 
-use base_log::Word;
+use base_log::LineWord;
 use base_moment::Text;
 use plan_forest::Forest;
 use program_lines::name_of;
 use std::alloc::{AllocError, Global};
 use vault_lanes::{ConnectReason, Loss};
-use watch_machine::{Operation, Request};
+use watch_machine::{Operation, WatchRequest};
 
 /// A text as a word. The only error is lack of memory, here and in all that follows.
-pub(crate) fn text_word(alloc: Global, text: &[u8]) -> Result<Word, AllocError>
+pub(crate) fn text_word(alloc: Global, text: &[u8]) -> Result<LineWord, AllocError>
     ensures { IfOk result (λ w. w ≡ kinds.Text text.now) }
 {
-    Ok(Word::Text(Text::of(alloc, text)?))
+    Ok(LineWord::Text(Text::of(alloc, text)?))
 }
 
 /// Why a request counts as lost; where there is no connection, to which place and why.
@@ -26,7 +26,7 @@ fn push_loss(
     alloc: Global,
     place: &[u8],
     why: Loss,
-    words: &mut Vec<Word>,
+    words: &mut Vec<LineWord>,
 ) -> Result<(), AllocError>
     ensures { OnOk result (words.new.items ≡ words.old.items ++ loss_words place.now why) }
 {
@@ -38,18 +38,18 @@ fn push_loss(
         Loss::Timeout => Ok(words.push(text_word(alloc, b"timeout")?)?),
         Loss::Closed => Ok(words.push(text_word(alloc, b"closed")?)?),
         Loss::Reply => Ok(words.push(text_word(alloc, b"reply")?)?),
-        Loss::Status(status) => Ok(words.push(Word::Number(u64::from(status)))?),
+        Loss::Status(status) => Ok(words.push(LineWord::Number(u64::from(status)))?),
     }
 }
 
 /// A place, and why there is no connection to it.
-fn unreached_word(alloc: Global, place: &[u8], reason: ConnectReason) -> Result<Word, AllocError>
+fn unreached_word(alloc: Global, place: &[u8], reason: ConnectReason) -> Result<LineWord, AllocError>
     ensures { IfOk result (λ w. w ≡ kinds.Text (place.now ++ (codes ": " ++ reason_text reason))) }
 {
     let mut text = Vec::from_slice(alloc, place)?;
     text.extend_from_slice(b": ")?;
     text.extend_from_slice(reason_text(reason))?;
-    Ok(Word::Text(Text::from_vec(text)))
+    Ok(LineWord::Text(Text::from_vec(text)))
 }
 
 /// Why there is no connection.
@@ -67,7 +67,7 @@ pub(crate) fn reason_text(reason: ConnectReason) -> &'static [u8]
 }
 
 /// One word.
-pub(crate) fn one_word(alloc: Global, word: Word) -> Result<Vec<Word>, AllocError>
+pub(crate) fn one_word(alloc: Global, word: LineWord) -> Result<Vec<LineWord>, AllocError>
     ensures { IfOk result (λ ws. ws.items ≡ word ∷ []) }
 {
     let mut words = Vec::new(alloc);
@@ -76,14 +76,14 @@ pub(crate) fn one_word(alloc: Global, word: Word) -> Result<Vec<Word>, AllocErro
 }
 
 /// A text alone.
-pub(crate) fn one_text(alloc: Global, text: &[u8]) -> Result<Vec<Word>, AllocError>
+pub(crate) fn one_text(alloc: Global, text: &[u8]) -> Result<Vec<LineWord>, AllocError>
     ensures { IfOk result (λ ws. ws.items ≡ kinds.Text text.now ∷ []) }
 {
     one_word(alloc, text_word(alloc, text)?)
 }
 
 /// A name and a word.
-pub(crate) fn name_and(alloc: Global, name: &[u8], word: Word) -> Result<Vec<Word>, AllocError>
+pub(crate) fn name_and(alloc: Global, name: &[u8], word: LineWord) -> Result<Vec<LineWord>, AllocError>
     ensures { IfOk result (λ ws. ws.items ≡ kinds.Text name.now ∷ word ∷ []) }
 {
     let mut words = Vec::new(alloc);
@@ -98,7 +98,7 @@ pub(crate) fn name_and_loss(
     place: &[u8],
     name: &[u8],
     why: Loss,
-) -> Result<Vec<Word>, AllocError>
+) -> Result<Vec<LineWord>, AllocError>
     ensures { IfOk result (λ ws. ws.items ≡ kinds.Text name.now ∷ loss_words place.now why) }
 {
     let mut words = one_text(alloc, name)?;
@@ -107,7 +107,7 @@ pub(crate) fn name_and_loss(
 }
 
 /// Why a request counts as lost, alone.
-pub(crate) fn one_loss(alloc: Global, place: &[u8], why: Loss) -> Result<Vec<Word>, AllocError>
+pub(crate) fn one_loss(alloc: Global, place: &[u8], why: Loss) -> Result<Vec<LineWord>, AllocError>
     ensures { IfOk result (λ ws. ws.items ≡ loss_words place.now why) }
 {
     let mut words = Vec::new(alloc);
@@ -118,10 +118,10 @@ pub(crate) fn one_loss(alloc: Global, place: &[u8], why: Loss) -> Result<Vec<Wor
 /// A moment and the names of entries.
 pub(crate) fn word_and_names(
     alloc: Global,
-    word: Word,
+    word: LineWord,
     forest: &Forest,
     entries: &[u32],
-) -> Result<Vec<Word>, AllocError>
+) -> Result<Vec<LineWord>, AllocError>
     ensures { IfOk result (λ ws. ws.items ≡ word ∷ name_words forest.now entries.now) }
 {
     let mut words = one_word(alloc, word)?;
@@ -134,7 +134,7 @@ fn push_names(
     alloc: Global,
     forest: &Forest,
     entries: &[u32],
-    words: &mut Vec<Word>,
+    words: &mut Vec<LineWord>,
 ) -> Result<(), AllocError>
     ensures { OnOk result (words.new.items ≡ words.old.items ++ name_words forest.now entries.now) }
 {
@@ -145,7 +145,7 @@ fn push_names(
 }
 
 // Appends a name.
-fn push_name(alloc: Global, name: &[u8], words: &mut Vec<Word>) -> Result<(), AllocError>
+fn push_name(alloc: Global, name: &[u8], words: &mut Vec<LineWord>) -> Result<(), AllocError>
     ensures { OnOk result (words.new.items ≡ words.old.items ++ kinds.Text name.now ∷ []) }
 {
     words.push(text_word(alloc, name)?)?;
@@ -157,8 +157,8 @@ pub(crate) fn asked_words(
     alloc: Global,
     forest: &Forest,
     operation: Operation,
-    requests: &[Request],
-) -> Result<Vec<Word>, AllocError>
+    requests: &[WatchRequest],
+) -> Result<Vec<LineWord>, AllocError>
     ensures { IfOk result (λ ws. ws.items ≡ asked_words forest.now operation requests.now) }
 {
     let mut words = Vec::new(alloc);
@@ -171,8 +171,8 @@ fn push_all_asked(
     alloc: Global,
     forest: &Forest,
     operation: Operation,
-    requests: &[Request],
-    words: &mut Vec<Word>,
+    requests: &[WatchRequest],
+    words: &mut Vec<LineWord>,
 ) -> Result<(), AllocError>
     ensures { OnOk result (words.new.items ≡ words.old.items ++ asked_words forest.now operation requests.now) }
 {
@@ -187,8 +187,8 @@ fn push_asked(
     alloc: Global,
     forest: &Forest,
     operation: Operation,
-    request: Request,
-    words: &mut Vec<Word>,
+    request: WatchRequest,
+    words: &mut Vec<LineWord>,
 ) -> Result<(), AllocError>
     ensures { OnOk result (words.new.items ≡ words.old.items ++ asked_word forest.now operation request) }
 {

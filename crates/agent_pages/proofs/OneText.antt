@@ -13,14 +13,14 @@ use Rattle.agent_pages.specs.declared.asked.Page.{Page}
 use Rattle.agent_pages.specs.declared.asked.Page.TheVariants.{Metrics, Health, Listing, Nowhere}
 use Rattle.agent_pages.specs.declared.asked.Question.TheVariants.{Read, Unread, TooLong}
 use Rattle.agent_pages.specs.declared.board.Board.{Board}
-use Rattle.agent_pages.specs.declared.board.Row.{Row}
+use Rattle.agent_pages.specs.declared.board.BoardRow.{BoardRow}
 use Rattle.agent_pages.specs.declared.lines.Lines.{Lines}
 use Rattle.agent_pages.specs.declared.lines.Lines.TheVariants.{Standing, Missing}
 use Rattle.agent_pages.specs.declared.point.Point.{Point}
 use Rattle.agent_pages.specs.declared.point.Point.TheVariants.{Unknown, At, Always}
 use Rattle.agent_pages.specs.declared.shown.Content.TheVariants as contents
-use Rattle.agent_pages.specs.declared.state.State.{State}
-use Rattle.agent_pages.specs.declared.state.State.TheVariants as states
+use Rattle.agent_pages.specs.declared.state.EntryState.{EntryState}
+use Rattle.agent_pages.specs.declared.state.EntryState.TheVariants as states
 use Rattle.agent_pages.specs.declared.shown.Shown.{Shown}
 
 one_point : (p : Point) (a b : List ℕ) → SaysPoint p a → SaysPoint p b → a ≡ b
@@ -30,12 +30,12 @@ one_point Always a b x y = x ∙ sym y
 
 -- ---- lines
 
-one_standing : (row : Row) (line other : List ℕ) → IsStandingLine row line → IsStandingLine row other → line ≡ other
+one_standing : (row : BoardRow) (line other : List ℕ) → IsStandingLine row line → IsStandingLine row other → line ≡ other
 one_standing row line other (u, n, r, s, pu, pn, pr, ps, is) (v, m, q, t, pv, pm, pq, pt, js) =
     is ∙ ap (λ x. standing_line row x n r s) (one_point (point_of row.end) u v pu pv) ∙ ap (λ x. standing_line row v x r s) (one_point (point_at row.need) n m pn pm)
     ∙ ap (λ x. standing_line row v m x s) (one_point (point_at row.in_force) r q pr pq) ∙ ap (λ x. standing_line row v m q x) (one_point (point_of row.last_success) s t ps pt) ∙ sym js
 
-one_why : (state : State) (row : Row) (a b : List ℕ) → SaysWhyMoment state row a → SaysWhyMoment state row b → a ≡ b
+one_why : (state : EntryState) (row : BoardRow) (a b : List ℕ) → SaysWhyMoment state row a → SaysWhyMoment state row b → a ≡ b
 one_why states.Gone row a b x y = x ∙ sym y
 one_why states.Ended row a b x y = one_point (point_of row.end) a b x y
 one_why states.Waiting row a b x y = x ∙ sym y
@@ -44,19 +44,19 @@ one_why states.Unknown row a b x y = x ∙ sym y
 one_why states.Trying row a b x y = x ∙ sym y
 one_why states.Kept row a b x y = x ∙ sym y
 
-one_missing : (row : Row) (line other : List ℕ) → IsMissingLine row line → IsMissingLine row other → line ≡ other
+one_missing : (row : BoardRow) (line other : List ℕ) → IsMissingLine row line → IsMissingLine row other → line ≡ other
 one_missing row line other (w, n, pw, pn, is) (v, m, pv, pm, js) =
     is ∙ ap (λ x. missing_line row x n) (one_why row.state row w v pw pv) ∙ ap (λ x. missing_line row v x) (one_point (point_at row.carried) n m pn pm) ∙ sym js
 
-one_missing_if : (is_missing : Bool) (row : Row) (line other : List ℕ) → IsMissingLineIf is_missing row line → IsMissingLineIf is_missing row other → line ≡ other
+one_missing_if : (is_missing : Bool) (row : BoardRow) (line other : List ℕ) → IsMissingLineIf is_missing row line → IsMissingLineIf is_missing row other → line ≡ other
 one_missing_if true row line other x y = one_missing row line other x y
 one_missing_if false row line other x y = x ∙ sym y
 
-one_line : (lines : Lines) (row : Row) (line other : List ℕ) → IsEntryLine lines row line → IsEntryLine lines row other → line ≡ other
+one_line : (lines : Lines) (row : BoardRow) (line other : List ℕ) → IsEntryLine lines row line → IsEntryLine lines row other → line ≡ other
 one_line Standing row line other x y = one_standing row line other x y
 one_line (Missing now) row line other x y = one_missing_if (is_missing now row) row line other x y
 
-one_lines : (lines : Lines) (rows : List Row) (a b : List ℕ) → AreEntryLines lines rows a → AreEntryLines lines rows b → a ≡ b
+one_lines : (lines : Lines) (rows : List BoardRow) (a b : List ℕ) → AreEntryLines lines rows a → AreEntryLines lines rows b → a ≡ b
 one_lines lines [] a b x y = x ∙ sym y
 one_lines lines (row ∷ rows) a b (line, rest, x, xs, is) (other, more, y, ys, js) =
     is ∙ ap (λ z. z ++ rest) (one_line lines row line other x y) ∙ ap (λ z. other ++ z) (one_lines lines rows rest more xs ys) ∙ sym js

@@ -2,7 +2,7 @@
 -- Source: RFC 9112, sections 2, 4, 6.2 and 9.6; RFC 9110, sections 8.6, 9.3.1, 9.3.2, 10.2.1 and 15; RFC 6585, section 5. Media types:
 -- Prometheus, "Exposition formats", text format 0.0.4; OpenMetrics 1.0, "Content Type"; RFC 8259, section 11.
 use Rattle.std.specs.Prelude.{◌≡◌, ℕ, if◌then◌else◌, List, [], ◌++◌, codes, decimal, length}
-use Rattle.agent_pages.specs.declared.answer.Answer.{Answer}
+use Rattle.agent_pages.specs.declared.answer.OnlookerAnswer.{OnlookerAnswer}
 use Rattle.agent_pages.specs.declared.asked.Method.{Method}
 use Rattle.agent_pages.specs.declared.asked.Method.TheVariants.{Get, Head, Other}
 use Rattle.agent_pages.specs.declared.asked.Page.{Page}
@@ -79,16 +79,16 @@ IsShown b Other Nowhere shown = shown ≡ bare codes_of.NotFound
 
 -- ---- what is sent
 
-abbrev pub whole_answer : Shown → Answer
+abbrev pub whole_answer : Shown → OnlookerAnswer
 whole_answer s = record { head = head_text s; body = s.body }
 
 -- HEAD gets the head alone, which tells of the body that GET would be sent
-abbrev pub sent_to : Method → Shown → Answer
+abbrev pub sent_to : Method → Shown → OnlookerAnswer
 sent_to Get s = whole_answer s
 sent_to Head s = record { head = head_text s; body = [] }
 sent_to Other s = whole_answer s
 
-unfoldable pub IsAnswer : Board → Question → Answer → Type 0
+unfoldable pub IsAnswer : Board → Question → OnlookerAnswer → Type 0
 IsAnswer b (Read method page) answer = (shown : Shown) × IsShown b method page shown × (answer ≡ sent_to method shown)
 IsAnswer b Unread answer = answer ≡ whole_answer (bare codes_of.BadRequest)
 IsAnswer b TooLong answer = answer ≡ whole_answer (bare codes_of.HeadTooLong)
@@ -109,7 +109,7 @@ IsTold b Nowhere text = IsBody b Nowhere text
 
 -- a board and a question have one answer, and a board and a page one text that a client is told: nothing else shows in it
 abbrev pub OneAnswer : Type 0
-OneAnswer = (b : Board) (question : Question) (answer other : Answer) → IsAnswer b question answer → IsAnswer b question other → answer ≡ other
+OneAnswer = (b : Board) (question : Question) (answer other : OnlookerAnswer) → IsAnswer b question answer → IsAnswer b question other → answer ≡ other
 
 abbrev pub OneTold : Type 0
 OneTold = (b : Board) (page : Page) (text other : List ℕ) → IsTold b page text → IsTold b page other → text ≡ other

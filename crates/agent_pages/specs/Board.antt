@@ -10,7 +10,7 @@ use Rattle.watch_machine.specs.State.{WatchState, entry_of}
 use Rattle.agent_standing.specs.Agent.{Agent, standing_at}
 use Rattle.agent_standing.specs.Status.{status_of_entry}
 use Rattle.agent_pages.specs.declared.board.Board.{Board}
-use Rattle.agent_pages.specs.declared.board.Row.{Row}
+use Rattle.agent_pages.specs.declared.board.BoardRow.{BoardRow}
 use Rattle.agent_pages.specs.Naming.{Around, Named, named_by}
 use Rattle.agent_pages.specs.States.{state_of}
 use Rattle.agent_pages.specs.Waiting.{waiting_rows}
@@ -24,7 +24,7 @@ success_of m None = None
 success_of m (Some reading) = Some (moment_of_reading m reading)
 
 -- the row of an entry: what it is, how it stands, what is told of its renewals. Need and parents are those of the Watch
-unfoldable pub row_of : Agent → ℕ → Row
+unfoldable pub row_of : Agent → ℕ → BoardRow
 row_of a i =
     record {
       name = (entry_at a.inventory.forest.entries i).name;
@@ -42,11 +42,11 @@ row_of a i =
     }
 
 -- a row for each entry that is served, in the order of the indices
-unfoldable pub served_rows : Agent → List Row
+unfoldable pub served_rows : Agent → List BoardRow
 served_rows a = map (row_of a) (range_with_len 0 (length a.inventory.forest.entries))
 
 -- and then one for each that waits
-unfoldable pub rows_of : Agent → List Named → List Row
+unfoldable pub rows_of : Agent → List Named → List BoardRow
 rows_of a named = served_rows a ++ waiting_rows a.inventory.forest.entries named
 
 -- what an agent shows, beside what is around it

@@ -6,16 +6,16 @@ use Rattle.agent_pages.specs.Health.{IsMissingLineIf, is_healthy, is_missing}
 use Rattle.agent_pages.specs.Points.{SaysPoint, point_of}
 use Rattle.agent_pages.specs.Standing.{IsStandingLine, first_line}
 use Rattle.agent_pages.specs.declared.board.Board.{Board}
-use Rattle.agent_pages.specs.declared.board.Row.{Row}
+use Rattle.agent_pages.specs.declared.board.BoardRow.{BoardRow}
 use Rattle.agent_pages.specs.declared.lines.Lines.{Lines}
 use Rattle.agent_pages.specs.declared.lines.Lines.TheVariants.{Standing, Missing}
 
-abbrev pub IsEntryLine : Lines → Row → List ℕ → Type 0
+abbrev pub IsEntryLine : Lines → BoardRow → List ℕ → Type 0
 IsEntryLine Standing row line = IsStandingLine row line
 IsEntryLine (Missing now) row line = IsMissingLineIf (is_missing now row) row line
 
 -- the lines of these entries, in order
-abbrev pub AreEntryLines : Lines → List Row → List ℕ → Type 0
+abbrev pub AreEntryLines : Lines → List BoardRow → List ℕ → Type 0
 AreEntryLines lines [] text = text ≡ []
 AreEntryLines lines (row ∷ rows) text = (line rest : List ℕ) × IsEntryLine lines row line × AreEntryLines lines rows rest × (text ≡ line ++ rest)
 

@@ -5,7 +5,7 @@ use Rattle.agent_standing.specs.declared.standing.Trouble.{Trouble}
 use Rattle.agent_standing.specs.declared.standing.Trouble.TheVariants as troubles
 use Rattle.vault_inventory.specs.Kinds.{kind_word}
 use Rattle.agent_pages.specs.declared.board.Board.{Board}
-use Rattle.agent_pages.specs.declared.board.Row.{Row}
+use Rattle.agent_pages.specs.declared.board.BoardRow.{BoardRow}
 use Rattle.agent_pages.specs.Escapes.{json_value}
 use Rattle.agent_pages.specs.Standby.{standby_word}
 use Rattle.agent_pages.specs.States.{state_word}
@@ -17,7 +17,7 @@ trouble_word (Some troubles.Refused) = codes "\"refused\""
 trouble_word (Some troubles.Gone) = codes "\"gone\""
 
 -- name, kind, state and what is wrong
-unfoldable pub words_text : Row → List ℕ
+unfoldable pub words_text : BoardRow → List ℕ
 words_text row =
     codes "{\"name\":\"" ++ json_value row.name ++ codes "\",\"kind\":\"" ++ kind_word row.kind ++ codes "\",\"state\":\"" ++ state_word row.state
     ++ codes "\",\"wrong\":" ++ trouble_word row.trouble
@@ -27,22 +27,22 @@ unfoldable pub member_text : List ℕ → Option ℕ → List ℕ
 member_text name None = name ++ codes "null"
 member_text name (Some n) = name ++ decimal n
 
-unfoldable pub numbers_text : Row → List ℕ
+unfoldable pub numbers_text : BoardRow → List ℕ
 numbers_text row =
     member_text (codes ",\"end\":") row.end ++ member_text (codes ",\"need\":") (Some row.need) ++ member_text (codes ",\"carried\":") (Some row.carried)
     ++ member_text (codes ",\"in_force\":") (Some row.in_force) ++ member_text (codes ",\"last_success\":") row.last_success
     ++ member_text (codes ",\"granted\":") (Some row.granted) ++ member_text (codes ",\"refused\":") (Some row.refused)
     ++ member_text (codes ",\"lost\":") (Some row.lost) ++ codes "}"
 
-unfoldable pub board_row_text : Row → List ℕ
+unfoldable pub board_row_text : BoardRow → List ℕ
 board_row_text row = words_text row ++ numbers_text row
 
 -- each row after a comma
-abbrev pub more_rows : List Row → List ℕ
+abbrev pub more_rows : List BoardRow → List ℕ
 more_rows [] = []
 more_rows (row ∷ rows) = codes "," ++ board_row_text row ++ more_rows rows
 
-unfoldable pub rows_text : List Row → List ℕ
+unfoldable pub rows_text : List BoardRow → List ℕ
 rows_text [] = []
 rows_text (row ∷ rows) = board_row_text row ++ more_rows rows
 

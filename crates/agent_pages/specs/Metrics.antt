@@ -3,7 +3,7 @@
 -- this project's own: the table `FAMILIES`.
 use Rattle.std.specs.Prelude.{ℕ, ◌-◌, Bool, true, false, if◌then◌else◌, List, [], ◌∷◌, ◌++◌, Option, Some, None, bytes_eq, codes, decimal, map, nat_lt}
 use Rattle.agent_pages.specs.declared.board.Board.{Board}
-use Rattle.agent_pages.specs.declared.board.Row.{Row}
+use Rattle.agent_pages.specs.declared.board.BoardRow.{BoardRow}
 use Rattle.agent_pages.specs.declared.family.Column.{Column}
 use Rattle.agent_pages.specs.declared.family.Column.TheVariants as columns
 use Rattle.agent_pages.specs.declared.family.FamilyKind.{FamilyKind}
@@ -15,8 +15,8 @@ use Rattle.agent_pages.specs.declared.family.Format.TheVariants.{Prometheus, Ope
 use Rattle.agent_pages.specs.declared.family.Tells.{Tells}
 use Rattle.agent_pages.specs.declared.family.Tells.TheVariants.{Build, ClockOffset, Agent, Entry}
 use Rattle.agent_pages.specs.declared.family.TheConstants.{FAMILIES}
-use Rattle.agent_pages.specs.declared.state.State.{State}
-use Rattle.agent_pages.specs.declared.state.State.TheVariants.{Gone, Ended, Waiting, Short, Unknown, Trying, Kept}
+use Rattle.agent_pages.specs.declared.state.EntryState.{EntryState}
+use Rattle.agent_pages.specs.declared.state.EntryState.TheVariants.{Gone, Ended, Waiting, Short, Unknown, Trying, Kept}
 use Rattle.agent_pages.specs.Escapes.{label_value}
 use Rattle.agent_pages.specs.Folders.{is_open}
 use Rattle.agent_pages.specs.States.{state_word}
@@ -85,30 +85,30 @@ figure_of b figures.SteppedIn = Some b.surroundings.standby.stepped_in
 -- ---- of an entry
 
 -- the label with its name, which more may follow
-unfoldable pub entry_front : List ℕ → Row → List ℕ
+unfoldable pub entry_front : List ℕ → BoardRow → List ℕ
 entry_front sample row = sample ++ codes "{entry=\"" ++ label_value row.name ++ codes "\""
 
-abbrev pub moment_sample : List ℕ → Row → Option ℕ → List ℕ
+abbrev pub moment_sample : List ℕ → BoardRow → Option ℕ → List ℕ
 moment_sample sample row None = []
 moment_sample sample row (Some moment) = entry_front sample row ++ ends (codes "} ") moment
 
-unfoldable pub state_sample : List ℕ → Row → State → List ℕ
+unfoldable pub state_sample : List ℕ → BoardRow → EntryState → List ℕ
 state_sample sample row s = entry_front sample row ++ codes ",state=\"" ++ state_word s ++ ends (codes "\"} ") (one_if (bytes_eq (state_word s) (state_word row.state)))
 
-unfoldable pub state_samples : List ℕ → Row → List ℕ
+unfoldable pub state_samples : List ℕ → BoardRow → List ℕ
 state_samples sample row =
     state_sample sample row Gone ++ state_sample sample row Ended ++ state_sample sample row Waiting ++ state_sample sample row Short
     ++ state_sample sample row Unknown ++ state_sample sample row Trying ++ state_sample sample row Kept
 
-unfoldable pub result_sample : List ℕ → Row → List ℕ → ℕ → List ℕ
+unfoldable pub result_sample : List ℕ → BoardRow → List ℕ → ℕ → List ℕ
 result_sample sample row came count = entry_front sample row ++ codes ",result=\"" ++ came ++ ends (codes "\"} ") count
 
-unfoldable pub result_samples : List ℕ → Row → List ℕ
+unfoldable pub result_samples : List ℕ → BoardRow → List ℕ
 result_samples sample row =
     result_sample sample row (codes "granted") row.granted ++ result_sample sample row (codes "refused") row.refused
     ++ result_sample sample row (codes "lost") row.lost
 
-unfoldable pub samples_of : List ℕ → Column → Row → List ℕ
+unfoldable pub samples_of : List ℕ → Column → BoardRow → List ℕ
 samples_of sample columns.State row = state_samples sample row
 samples_of sample columns.End row = moment_sample sample row row.end
 samples_of sample columns.NeedWanted row = moment_sample sample row (Some row.need)
@@ -118,7 +118,7 @@ samples_of sample columns.LastSuccess row = moment_sample sample row row.last_su
 samples_of sample columns.Renewals row = result_samples sample row
 
 -- and of all entries
-abbrev pub samples_in : List ℕ → Column → List Row → List ℕ
+abbrev pub samples_in : List ℕ → Column → List BoardRow → List ℕ
 samples_in sample column [] = []
 samples_in sample column (row ∷ rows) = samples_of sample column row ++ samples_in sample column rows
 

@@ -4,8 +4,8 @@ use Rattle.std.specs.Prelude.{◌≡◌, ℕ, ◌<◌, ◌≤◌, Bool, true, fa
 use Rattle.httparse.specs.Grammar.{HasNoRequest, MayBecomeRequest, ReadsRequest, RequestHead}
 use Rattle.httparse.specs.Spans.{RequestOverflows, name_and_value}
 use Rattle.base_words.specs.Pieces.{first, pieces}
-use Rattle.agent_pages.specs.declared.asked.Asked.{Asked}
-use Rattle.agent_pages.specs.declared.asked.Asked.TheVariants as asked
+use Rattle.agent_pages.specs.declared.asked.AskedPage.{AskedPage}
+use Rattle.agent_pages.specs.declared.asked.AskedPage.TheVariants as asked
 use Rattle.agent_pages.specs.declared.asked.Front.{Front}
 use Rattle.agent_pages.specs.declared.asked.Front.TheVariants as fronts
 use Rattle.agent_pages.specs.declared.asked.Method.{Method}
@@ -61,6 +61,6 @@ IsQuestion bytes questions.Unread = RequestOverflows FIELDS_MAX (take HEAD_MAX b
 IsQuestion bytes questions.TooLong = (HEAD_MAX ≤ length bytes) × (HasNoRequest (take HEAD_MAX bytes) × MayBecomeRequest (take HEAD_MAX bytes))
 
 -- a question, or no head yet, and one may come
-abbrev pub BytesAsk : List ℕ → Asked → Type 0
+abbrev pub BytesAsk : List ℕ → AskedPage → Type 0
 BytesAsk bytes asked.Open = (length bytes < HEAD_MAX) × (HasNoRequest bytes × MayBecomeRequest bytes)
 BytesAsk bytes (asked.Whole question) = IsQuestion bytes question

@@ -7,7 +7,7 @@ use Rattle.agent_pages.specs.Points.{SaysPoint, point_at, point_of}
 use Rattle.agent_pages.specs.Standby.{standby_word}
 use Rattle.agent_pages.specs.States.{state_word}
 use Rattle.agent_pages.specs.declared.board.Board.{Board}
-use Rattle.agent_pages.specs.declared.board.Row.{Row}
+use Rattle.agent_pages.specs.declared.board.BoardRow.{BoardRow}
 
 abbrev pub wrong_word : Option Trouble → List ℕ
 wrong_word None = codes "-"
@@ -16,12 +16,12 @@ wrong_word (Some Refused) = codes "refused"
 wrong_word (Some Gone) = codes "gone"
 
 -- the line of an entry, of whose four moments these are the texts
-unfoldable pub standing_line : Row → List ℕ → List ℕ → List ℕ → List ℕ → List ℕ
+unfoldable pub standing_line : BoardRow → List ℕ → List ℕ → List ℕ → List ℕ → List ℕ
 standing_line row until needed reached renewed =
     (row.name ++ codes " ") ++ (state_word row.state ++ codes " end ") ++ (until ++ codes " need ") ++ (needed ++ codes " in-force ")
     ++ (reached ++ codes " last-success ") ++ (renewed ++ codes " wrong ") ++ (wrong_word row.trouble ++ codes "\n")
 
-abbrev pub IsStandingLine : Row → List ℕ → Type 0
+abbrev pub IsStandingLine : BoardRow → List ℕ → Type 0
 IsStandingLine row line =
     (until needed reached renewed : List ℕ) × SaysPoint (point_of row.end) until × SaysPoint (point_at row.need) needed
     × SaysPoint (point_at row.in_force) reached × SaysPoint (point_of row.last_success) renewed

@@ -6,8 +6,8 @@ use Rattle.std.specs.List.{range_with_len}
 use Rattle.plan_forest.specs.declared.entry.Entry.{Entry}
 use Rattle.plan_forest.specs.Carried.{carried}
 use Rattle.plan_forest.specs.Forest.{entry_at, index_named}
-use Rattle.agent_pages.specs.declared.board.Row.{Row}
-use Rattle.agent_pages.specs.declared.state.State.TheVariants as states
+use Rattle.agent_pages.specs.declared.board.BoardRow.{BoardRow}
+use Rattle.agent_pages.specs.declared.state.EntryState.TheVariants as states
 use Rattle.agent_pages.specs.Naming.{Named, entries_after}
 
 -- an entry waits where none of its name is served
@@ -15,7 +15,7 @@ abbrev pub is_waiting : List Entry → List ℕ → Bool
 is_waiting served name = is_none (index_named served name)
 
 -- its row, by its index among all that are named: nothing is known of it but that it is needed, by itself or by one under it
-unfoldable pub waiting_row : List Entry → ℕ → Row
+unfoldable pub waiting_row : List Entry → ℕ → BoardRow
 waiting_row all i =
     record {
       name = (entry_at all i).name;
@@ -32,16 +32,16 @@ waiting_row all i =
       lost = 0;
     }
 
-abbrev pub row_if_waiting : List Entry → List Entry → ℕ → List Row
+abbrev pub row_if_waiting : List Entry → List Entry → ℕ → List BoardRow
 row_if_waiting served all i = if is_waiting served (entry_at all i).name then waiting_row all i ∷ [] else []
 
 -- a row for each that waits, in the order in which they are named
-unfoldable pub rows_among : List Entry → List Entry → List Row
+unfoldable pub rows_among : List Entry → List Entry → List BoardRow
 rows_among served all = flat_map (row_if_waiting served all) (range_with_len 0 (length all))
 
 abbrev pub is_some_waiting : List Entry → List Named → Bool
 is_some_waiting served [] = false
 is_some_waiting served (x ∷ xs) = is_waiting served x.name || is_some_waiting served xs
 
-unfoldable pub waiting_rows : List Entry → List Named → List Row
+unfoldable pub waiting_rows : List Entry → List Named → List BoardRow
 waiting_rows served xs = if is_some_waiting served xs then rows_among served (entries_after [] xs) else []

@@ -10,7 +10,7 @@ use std::alloc::{AllocError, Global};
 
 /// What is sent to an onlooker: the head, and then the body. The connection is closed after it.
 #[derive(Debug, Drop)]
-pub struct Answer {
+pub struct OnlookerAnswer {
     pub head: Text,
     pub body: Text,
 }
@@ -21,7 +21,7 @@ pub struct Answer {
 /// head alone, which is the same. Any other path is 404, another method of these three 405, bytes that are no head 400, and a head that is
 /// too long 431. The only error is out of memory.
 #[tactic(auto, unfolding(crate::specs::Answers::IsAnswer))]
-pub fn answer_to(alloc: Global, board: &Board, question: Question) -> Result<Answer, AllocError>
+pub fn answer_to(alloc: Global, board: &Board, question: Question) -> Result<OnlookerAnswer, AllocError>
     ensures { IfOk result (λ answer. IsAnswer board.now question answer) }
 {
     match question {
@@ -35,12 +35,12 @@ pub fn answer_to(alloc: Global, board: &Board, question: Question) -> Result<Ans
 }
 
 /// The head and the body, to `HEAD` the head alone.
-fn sent_to(alloc: Global, method: Method, shown: Shown) -> Result<Answer, AllocError>
+fn sent_to(alloc: Global, method: Method, shown: Shown) -> Result<OnlookerAnswer, AllocError>
     ensures { IfOk result (λ answer. answer ≡ sent_to method shown) }
 {
     match method {
         Method::Get | Method::Other => whole(alloc, shown),
-        Method::Head => Ok(Answer {
+        Method::Head => Ok(OnlookerAnswer {
             head: shown.head(alloc)?,
             body: Text::from_vec(Vec::new(alloc)),
         }),
@@ -48,11 +48,11 @@ fn sent_to(alloc: Global, method: Method, shown: Shown) -> Result<Answer, AllocE
 }
 
 /// The head and the body.
-fn whole(alloc: Global, shown: Shown) -> Result<Answer, AllocError>
+fn whole(alloc: Global, shown: Shown) -> Result<OnlookerAnswer, AllocError>
     ensures { IfOk result (λ answer. answer ≡ whole_answer shown) }
 {
     let head = shown.head(alloc)?;
-    Ok(Answer {
+    Ok(OnlookerAnswer {
         head,
         body: shown.body,
     })

@@ -51,7 +51,7 @@ pub enum Question {
 
 /// What the bytes that came so far ask for.
 #[derive(Clone, Copy, Debug, PartialEq, Eq)]
-pub enum Asked {
+pub enum AskedPage {
     /// There is no head yet, and one may come.
     Open,
     /// All that is needed for an answer has come.
@@ -59,14 +59,14 @@ pub enum Asked {
 }
 
 /// What the bytes that an onlooker has sent so far ask for. A body is not looked at.
-pub fn read_question(bytes: &[u8]) -> Asked
+pub fn read_question(bytes: &[u8]) -> AskedPage
     ensures { BytesAsk bytes.now result }
 {
     match read_front(front(bytes, HEAD_MAX)) {
-        Front::Open if bytes.len() >= HEAD_MAX => Asked::Whole(Question::TooLong),
-        Front::Open => Asked::Open,
-        Front::Unread => Asked::Whole(Question::Unread),
-        Front::Read(method, page) => Asked::Whole(Question::Read(method, page)),
+        Front::Open if bytes.len() >= HEAD_MAX => AskedPage::Whole(Question::TooLong),
+        Front::Open => AskedPage::Open,
+        Front::Unread => AskedPage::Whole(Question::Unread),
+        Front::Read(method, page) => AskedPage::Whole(Question::Read(method, page)),
     }
 }
 

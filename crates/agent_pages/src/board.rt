@@ -1,6 +1,6 @@
 //! What onlookers are shown. There is no credential in it.
 use crate::standby::Standby;
-use crate::state::State;
+use crate::state::EntryState;
 use crate::state_folder::StateFolder;
 use agent_standing::Trouble;
 use base_moment::Name;
@@ -38,10 +38,10 @@ pub struct Surroundings {
 
 /// How one entry stands. Moments are seconds by the broker's clock.
 #[derive(Debug, Drop)]
-pub struct Row {
+pub struct BoardRow {
     pub name: Name,
     pub kind: Kind,
-    pub state: State,
+    pub state: EntryState,
     /// Its end; `None` where it is not known, or there is none.
     pub end: Option<u64>,
     /// Until when it is needed for its own sake, 0 where it is not.
@@ -73,5 +73,5 @@ pub struct Board {
     /// The inventory's margin, in seconds.
     pub margin: u32,
     /// A row for each entry that is served, in the order of the inventory, and then one for each that waits.
-    pub rows: Listed<Row>,
+    pub rows: Listed<BoardRow>,
 }

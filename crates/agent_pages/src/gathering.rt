@@ -5,7 +5,7 @@ ghost use Rattle.plan_forest.specs.Carried.{carried};
 ghost use Rattle.agent_pages.specs.Board.{board_of, moment_of_reading, row_of, rows_of, served_rows, success_of};
 ghost use Rattle.agent_pages.specs.Naming.{beside, named_by};
 
-use crate::board::{Board, Row, Surroundings};
+use crate::board::{Board, BoardRow, Surroundings};
 use crate::state::state_of;
 use crate::waiting::push_waiting;
 use agent_standing::Agent;
@@ -40,7 +40,7 @@ pub fn board_of(
 
 /// A row for each entry that is served, and then one for each that waits.
 #[tactic(auto, unfolding(crate::specs::Board::rows_of))]
-fn rows_of(alloc: Global, agent: &Agent, named: &[Named]) -> Result<Vec<Row>, AllocError>
+fn rows_of(alloc: Global, agent: &Agent, named: &[Named]) -> Result<Vec<BoardRow>, AllocError>
     ensures { IfOk result (λ rows. rows.items ≡ rows_of agent.now (map named_by named.now)) }
 {
     let mut rows = served_rows(alloc, agent)?;
@@ -50,7 +50,7 @@ fn rows_of(alloc: Global, agent: &Agent, named: &[Named]) -> Result<Vec<Row>, Al
 
 /// A row for each entry that is served.
 #[tactic(auto, unfolding(crate::specs::Board::served_rows))]
-fn served_rows(alloc: Global, agent: &Agent) -> Result<Vec<Row>, AllocError>
+fn served_rows(alloc: Global, agent: &Agent) -> Result<Vec<BoardRow>, AllocError>
     ensures { IfOk result (λ rows. rows.items ≡ served_rows agent.now) }
 {
     let Ok(carried) = carry(alloc, agent.watch().forest(), Moment::new(0).unwrap()) else {
@@ -65,7 +65,7 @@ fn served_rows(alloc: Global, agent: &Agent) -> Result<Vec<Row>, AllocError>
 
 /// The row of an entry, which carries what `carried` has of it.
 #[tactic(auto, unfolding(crate::specs::Board::row_of))]
-fn row_of(agent: &Agent, needs: &Carried, index: u32) -> Result<Row, AllocError>
+fn row_of(agent: &Agent, needs: &Carried, index: u32) -> Result<BoardRow, AllocError>
     requires served { index < length agent.now.inventory.forest.entries }
     requires watched { index < length agent.now.machine.forest.entries }
     requires within { index < length needs.now }
@@ -75,7 +75,7 @@ fn row_of(agent: &Agent, needs: &Carried, index: u32) -> Result<Row, AllocError>
     let entry = agent.inventory().forest().get(index);
     let standing = agent.standing(index);
     let status = agent.status(index);
-    Ok(Row {
+    Ok(BoardRow {
         name: entry.name.clone()?,
         kind: entry.kind,
         state: state_of(status.condition, status.end),

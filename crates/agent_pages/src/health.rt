@@ -3,9 +3,9 @@ ghost use Rattle.std.specs.Prelude.{◌≡◌, ◌++◌, List, ℕ, IfOk, OnOk};
 ghost use Rattle.std.specs.List.{list_any};
 ghost use Rattle.agent_pages.specs.Health.{IsMissingLine, IsMissingLineIf, SaysWhyMoment, is_healthy, is_missing, missing_line, needed_words, why_words};
 
-use crate::board::{Board, Row};
+use crate::board::{Board, BoardRow};
 use crate::point::{point_at, point_of, point_text};
-use crate::state::State;
+use crate::state::EntryState;
 use base_moment::{LAST, Text};
 use std::alloc::{AllocError, Global};
 
@@ -18,14 +18,14 @@ pub(crate) fn is_healthy(board: &Board) -> bool
 }
 
 /// Whether some entry is missing.
-fn is_some_missing(now: u64, rows: &[Row]) -> bool
+fn is_some_missing(now: u64, rows: &[BoardRow]) -> bool
     ensures { result ≡ list_any (is_missing now) rows.now }
 {
     rows.iter().any(|row| is_missing(now, row))
 }
 
 #[tactic(auto, unfolding(crate::specs::Health::is_missing))]
-fn is_missing(now: u64, row: &Row) -> bool
+fn is_missing(now: u64, row: &BoardRow) -> bool
     ensures { result ≡ is_missing now row.now }
 {
     row.carried > now && !row.state.is_kept()
@@ -36,7 +36,7 @@ fn is_missing(now: u64, row: &Row) -> bool
 pub(crate) fn push_missing(
     alloc: Global,
     now: u64,
-    row: &Row,
+    row: &BoardRow,
     text: &mut Vec<u8>,
 ) -> Result<(), AllocError>
     ensures { OnOk result ((line : List ℕ) × IsMissingLineIf (is_missing now row.now) row.now line × (text.new.items ≡ text.old.items ++ line)) }
@@ -48,7 +48,7 @@ pub(crate) fn push_missing(
     }
 }
 
-fn push_missing_line(alloc: Global, row: &Row, text: &mut Vec<u8>) -> Result<(), AllocError>
+fn push_missing_line(alloc: Global, row: &BoardRow, text: &mut Vec<u8>) -> Result<(), AllocError>
     ensures { OnOk result ((line : List ℕ) × IsMissingLine row.now line × (text.new.items ≡ text.old.items ++ line)) }
 {
     let why = why_moment(alloc, row.state, row)?;
@@ -57,19 +57,19 @@ fn push_missing_line(alloc: Global, row: &Row, text: &mut Vec<u8>) -> Result<(),
 }
 
 /// The moment that follows why an entry in that state is not kept.
-fn why_moment(alloc: Global, state: State, row: &Row) -> Result<Text, AllocError>
+fn why_moment(alloc: Global, state: EntryState, row: &BoardRow) -> Result<Text, AllocError>
     ensures { IfOk result (λ why. SaysWhyMoment state row.now why) }
 {
     match state {
-        State::Ended => point_text(alloc, point_of(row.end)),
-        State::Short => point_text(alloc, point_at(row.in_force)),
+        EntryState::Ended => point_text(alloc, point_of(row.end)),
+        EntryState::Short => point_text(alloc, point_at(row.in_force)),
         _ => Text::of(alloc, b""),
     }
 }
 
 /// Appends the line of an entry, where these are the text of the moment that follows why it is not kept, and that of its need.
 #[tactic(auto, unfolding(crate::specs::Health::missing_line))]
-fn push_line(row: &Row, why: &[u8], need: &[u8], text: &mut Vec<u8>) -> Result<(), AllocError>
+fn push_line(row: &BoardRow, why: &[u8], need: &[u8], text: &mut Vec<u8>) -> Result<(), AllocError>
     ensures { OnOk result (text.new.items ≡ text.old.items ++ missing_line row.now why.now need.now) }
 {
     text.extend_from_slice(row.name.list())?;
@@ -83,17 +83,17 @@ fn push_line(row: &Row, why: &[u8], need: &[u8], text: &mut Vec<u8>) -> Result<(
 
 /// Why an entry is not kept, without the moment that may follow.
 #[tactic(auto, unfolding(crate::specs::Health::why_words))]
-fn why_words(state: State) -> &'static str
+fn why_words(state: EntryState) -> &'static str
     ensures { result.now ≡ why_words state }
 {
     match state {
-        State::Gone => "gone: the broker does not know it, or refuses to look it up",
-        State::Ended => "ended: at ",
-        State::Waiting => "waiting: its credential is not in use yet",
-        State::Short => "short: it can be kept until ",
-        State::Unknown => "unknown: the broker has not answered for it yet",
-        State::Trying => "trying",
-        State::Kept => "kept",
+        EntryState::Gone => "gone: the broker does not know it, or refuses to look it up",
+        EntryState::Ended => "ended: at ",
+        EntryState::Waiting => "waiting: its credential is not in use yet",
+        EntryState::Short => "short: it can be kept until ",
+        EntryState::Unknown => "unknown: the broker has not answered for it yet",
+        EntryState::Trying => "trying",
+        EntryState::Kept => "kept",
     }
 }
 

@@ -29,13 +29,13 @@ mod state_folder;
 mod told;
 mod waiting;
 
-pub use answer::{Answer, answer_to};
-pub use asked::{Asked, FIELDS_MAX, HEAD_MAX, Method, Page, Question, read_question};
-pub use board::{Board, FileReading, Row, Surroundings};
+pub use answer::{OnlookerAnswer, answer_to};
+pub use asked::{AskedPage, FIELDS_MAX, HEAD_MAX, Method, Page, Question, read_question};
+pub use board::{Board, FileReading, BoardRow, Surroundings};
 pub use family::Format;
 pub use gathering::board_of;
 pub use laws::{limits_of_onlookers, no_credential_shows, nothing_else_is_told};
 pub use standby::Standby;
-pub use state::State;
+pub use state::EntryState;
 pub use state_folder::StateFolder;
 pub use told::told_of;

@@ -3,7 +3,7 @@ ghost use Rattle.std.specs.Prelude.{◌≡◌, ◌++◌, List, ℕ, IfOk, OnOk};
 ghost use Rattle.agent_pages.specs.Health.{is_healthy};
 ghost use Rattle.agent_pages.specs.Lines.{AreEntryLines, IsEntryLine, IsHealthIf, IsHealthText, IsStandingText};
 
-use crate::board::{Board, Row};
+use crate::board::{Board, BoardRow};
 use crate::health::{is_healthy, push_missing};
 use crate::point::{point_of, point_text};
 use crate::standing::{first_line, push_standing};
@@ -56,7 +56,7 @@ fn entries_health(alloc: Global, board: &Board) -> Result<Vec<u8>, AllocError>
 fn push_lines(
     alloc: Global,
     lines: Lines,
-    rows: &[Row],
+    rows: &[BoardRow],
     text: &mut Vec<u8>,
 ) -> Result<(), AllocError>
     ensures { OnOk result ((said : List ℕ) × AreEntryLines lines rows.now said × (text.new.items ≡ text.old.items ++ said)) }
@@ -68,7 +68,7 @@ fn push_lines(
 }
 
 /// Appends what is written of an entry.
-fn push_line(alloc: Global, lines: Lines, row: &Row, text: &mut Vec<u8>) -> Result<(), AllocError>
+fn push_line(alloc: Global, lines: Lines, row: &BoardRow, text: &mut Vec<u8>) -> Result<(), AllocError>
     ensures { OnOk result ((line : List ℕ) × IsEntryLine lines row.now line × (text.new.items ≡ text.old.items ++ line)) }
 {
     match lines {

@@ -3,7 +3,7 @@ ghost use Rattle.std.specs.Prelude.{◌≡◌, ◌++◌, IfOk, OnOk};
 ghost use Rattle.vault_inventory.specs.Kinds.{kind_word};
 ghost use Rattle.agent_pages.specs.Listing.{agent_numbers, board_row_text, listing_text, member_text, more_rows, numbers_text, rows_text, trouble_word, words_text};
 
-use crate::board::{Board, Row};
+use crate::board::{Board, BoardRow};
 use crate::escapes::push_json_value;
 use agent_standing::Trouble;
 use base_words::push_number;
@@ -43,7 +43,7 @@ fn push_agent_numbers(alloc: Global, board: &Board, text: &mut Vec<u8>) -> Resul
 
 /// Appends the entries, with commas between them.
 #[tactic(auto, unfolding(crate::specs::Listing::rows_text))]
-fn push_rows(alloc: Global, rows: &[Row], text: &mut Vec<u8>) -> Result<(), AllocError>
+fn push_rows(alloc: Global, rows: &[BoardRow], text: &mut Vec<u8>) -> Result<(), AllocError>
     ensures { OnOk result (text.new.items ≡ text.old.items ++ rows_text rows.now) }
 {
     match rows {
@@ -56,7 +56,7 @@ fn push_rows(alloc: Global, rows: &[Row], text: &mut Vec<u8>) -> Result<(), Allo
 }
 
 /// Appends entries, each after a comma.
-fn push_more(alloc: Global, rows: &[Row], text: &mut Vec<u8>) -> Result<(), AllocError>
+fn push_more(alloc: Global, rows: &[BoardRow], text: &mut Vec<u8>) -> Result<(), AllocError>
     ensures { OnOk result (text.new.items ≡ text.old.items ++ more_rows rows.now) }
 {
     for row in rows {
@@ -68,7 +68,7 @@ fn push_more(alloc: Global, rows: &[Row], text: &mut Vec<u8>) -> Result<(), Allo
 
 /// Appends an entry.
 #[tactic(auto, unfolding(crate::specs::Listing::board_row_text))]
-fn push_row(alloc: Global, row: &Row, text: &mut Vec<u8>) -> Result<(), AllocError>
+fn push_row(alloc: Global, row: &BoardRow, text: &mut Vec<u8>) -> Result<(), AllocError>
     ensures { OnOk result (text.new.items ≡ text.old.items ++ board_row_text row.now) }
 {
     push_words(row, text)?;
@@ -76,7 +76,7 @@ fn push_row(alloc: Global, row: &Row, text: &mut Vec<u8>) -> Result<(), AllocErr
 }
 
 #[tactic(auto, unfolding(crate::specs::Listing::words_text))]
-fn push_words(row: &Row, text: &mut Vec<u8>) -> Result<(), AllocError>
+fn push_words(row: &BoardRow, text: &mut Vec<u8>) -> Result<(), AllocError>
     ensures { OnOk result (text.new.items ≡ text.old.items ++ words_text row.now) }
 {
     text.extend_from_slice(b"{\"name\":\"")?;
@@ -90,7 +90,7 @@ fn push_words(row: &Row, text: &mut Vec<u8>) -> Result<(), AllocError>
 }
 
 #[tactic(auto, unfolding(crate::specs::Listing::numbers_text))]
-fn push_numbers(alloc: Global, row: &Row, text: &mut Vec<u8>) -> Result<(), AllocError>
+fn push_numbers(alloc: Global, row: &BoardRow, text: &mut Vec<u8>) -> Result<(), AllocError>
     ensures { OnOk result (text.new.items ≡ text.old.items ++ numbers_text row.now) }
 {
     push_member(alloc, b",\"end\":", row.end, text)?;

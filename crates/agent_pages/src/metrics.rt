@@ -2,10 +2,10 @@
 ghost use Rattle.std.specs.Prelude.{◌≡◌, ◌++◌, IfOk, OnOk, map};
 ghost use Rattle.agent_pages.specs.Metrics.{agent_sample, ends, entry_front, families_text, family_head, family_kind_word, figure_of, help_line, last_line, metrics_text, moment_sample, offset_ends, one_if, result_sample, result_samples, sample_name, samples_by, samples_in, samples_of, state_sample, state_samples, total_of, type_line};
 
-use crate::board::{Board, Row};
+use crate::board::{Board, BoardRow};
 use crate::escapes::push_label_value;
 use crate::family::{Column, FAMILIES, FamilyKind, Figure, Format, Tells};
-use crate::state::State;
+use crate::state::EntryState;
 use base_version::build_labels;
 use base_words::push_number;
 use std::alloc::{AllocError, Global};
@@ -235,7 +235,7 @@ fn push_rows(
     alloc: Global,
     sample: &[u8],
     column: Column,
-    rows: &[Row],
+    rows: &[BoardRow],
     text: &mut Vec<u8>,
 ) -> Result<(), AllocError>
     ensures { OnOk result (text.new.items ≡ text.old.items ++ samples_in sample.now column rows.now) }
@@ -252,7 +252,7 @@ fn push_row(
     alloc: Global,
     sample: &[u8],
     column: Column,
-    row: &Row,
+    row: &BoardRow,
     text: &mut Vec<u8>,
 ) -> Result<(), AllocError>
     ensures { OnOk result (text.new.items ≡ text.old.items ++ samples_of sample.now column row.now) }
@@ -270,7 +270,7 @@ fn push_row(
 
 /// Appends the name of a sample and the label with the name of its entry, which more may follow.
 #[tactic(auto, unfolding(crate::specs::Metrics::entry_front))]
-fn push_entry(sample: &[u8], row: &Row, text: &mut Vec<u8>) -> Result<(), AllocError>
+fn push_entry(sample: &[u8], row: &BoardRow, text: &mut Vec<u8>) -> Result<(), AllocError>
     ensures { OnOk result (text.new.items ≡ text.old.items ++ entry_front sample.now row.now) }
 {
     text.extend_from_slice(sample)?;
@@ -283,7 +283,7 @@ fn push_entry(sample: &[u8], row: &Row, text: &mut Vec<u8>) -> Result<(), AllocE
 fn push_moment(
     alloc: Global,
     sample: &[u8],
-    row: &Row,
+    row: &BoardRow,
     moment: Option<u64>,
     text: &mut Vec<u8>,
 ) -> Result<(), AllocError>
@@ -303,26 +303,26 @@ fn push_moment(
 fn push_states(
     alloc: Global,
     sample: &[u8],
-    row: &Row,
+    row: &BoardRow,
     text: &mut Vec<u8>,
 ) -> Result<(), AllocError>
     ensures { OnOk result (text.new.items ≡ text.old.items ++ state_samples sample.now row.now) }
 {
-    push_state(alloc, sample, row, State::Gone, text)?;
-    push_state(alloc, sample, row, State::Ended, text)?;
-    push_state(alloc, sample, row, State::Waiting, text)?;
-    push_state(alloc, sample, row, State::Short, text)?;
-    push_state(alloc, sample, row, State::Unknown, text)?;
-    push_state(alloc, sample, row, State::Trying, text)?;
-    push_state(alloc, sample, row, State::Kept, text)
+    push_state(alloc, sample, row, EntryState::Gone, text)?;
+    push_state(alloc, sample, row, EntryState::Ended, text)?;
+    push_state(alloc, sample, row, EntryState::Waiting, text)?;
+    push_state(alloc, sample, row, EntryState::Short, text)?;
+    push_state(alloc, sample, row, EntryState::Unknown, text)?;
+    push_state(alloc, sample, row, EntryState::Trying, text)?;
+    push_state(alloc, sample, row, EntryState::Kept, text)
 }
 
 #[tactic(auto, unfolding(crate::specs::Metrics::state_sample))]
 fn push_state(
     alloc: Global,
     sample: &[u8],
-    row: &Row,
-    state: State,
+    row: &BoardRow,
+    state: EntryState,
     text: &mut Vec<u8>,
 ) -> Result<(), AllocError>
     ensures { OnOk result (text.new.items ≡ text.old.items ++ state_sample sample.now row.now state) }
@@ -343,7 +343,7 @@ fn push_state(
 fn push_results(
     alloc: Global,
     sample: &[u8],
-    row: &Row,
+    row: &BoardRow,
     text: &mut Vec<u8>,
 ) -> Result<(), AllocError>
     ensures { OnOk result (text.new.items ≡ text.old.items ++ result_samples sample.now row.now) }
@@ -358,7 +358,7 @@ fn push_results(
 fn push_result(
     alloc: Global,
     sample: &[u8],
-    row: &Row,
+    row: &BoardRow,
     came: &[u8],
     count: u64,
     text: &mut Vec<u8>,

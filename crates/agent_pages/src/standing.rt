@@ -2,7 +2,7 @@
 ghost use Rattle.std.specs.Prelude.{◌≡◌, ◌++◌, List, ℕ, IfOk, OnOk, decimal};
 ghost use Rattle.agent_pages.specs.Standing.{IsStandingLine, first_line, standing_line, wrong_word};
 
-use crate::board::{Board, Row};
+use crate::board::{Board, BoardRow};
 use crate::point::{point_at, point_of, point_text};
 use agent_standing::Trouble;
 use base_words::push_number;
@@ -32,7 +32,7 @@ fn push_count(alloc: Global, label: &[u8], count: u64, line: &mut Vec<u8>) -> Re
 }
 
 /// Appends the line of an entry.
-pub(crate) fn push_standing(alloc: Global, row: &Row, text: &mut Vec<u8>) -> Result<(), AllocError>
+pub(crate) fn push_standing(alloc: Global, row: &BoardRow, text: &mut Vec<u8>) -> Result<(), AllocError>
     ensures { OnOk result ((line : List ℕ) × IsStandingLine row.now line × (text.new.items ≡ text.old.items ++ line)) }
 {
     let until = point_text(alloc, point_of(row.end))?;
@@ -52,7 +52,7 @@ pub(crate) fn push_standing(alloc: Global, row: &Row, text: &mut Vec<u8>) -> Res
 /// Appends the line of an entry, of whose four moments these are the texts.
 #[tactic(auto, unfolding(crate::specs::Standing::standing_line))]
 fn push_line(
-    row: &Row,
+    row: &BoardRow,
     until: &[u8],
     needed: &[u8],
     reached: &[u8],

@@ -6,7 +6,7 @@ use agent_standing::Condition;
 
 /// What an operator has to know of an entry, the gravest first.
 #[derive(Clone, Copy, Debug, PartialEq, Eq)]
-pub enum State {
+pub enum EntryState {
     /// The broker does not know it, or refuses to look it up.
     Gone,
     /// Its end is past.
@@ -23,19 +23,19 @@ pub enum State {
     Kept,
 }
 
-impl State {
+impl EntryState {
     /// As it is told.
     pub(crate) fn word(self) -> &'static str
         ensures { result.now ≡ state_word self }
     {
         match self {
-            State::Gone => "gone",
-            State::Ended => "ended",
-            State::Waiting => "waiting",
-            State::Short => "short",
-            State::Unknown => "unknown",
-            State::Trying => "trying",
-            State::Kept => "kept",
+            EntryState::Gone => "gone",
+            EntryState::Ended => "ended",
+            EntryState::Waiting => "waiting",
+            EntryState::Short => "short",
+            EntryState::Unknown => "unknown",
+            EntryState::Trying => "trying",
+            EntryState::Kept => "kept",
         }
     }
 
@@ -43,29 +43,29 @@ impl State {
     pub(crate) fn is_kept(self) -> bool
         ensures { result ≡ is_kept self }
     {
-        matches!(self, State::Trying | State::Kept)
+        matches!(self, EntryState::Trying | EntryState::Kept)
     }
 }
 
 /// The state of an entry that is served, by its condition and its end.
-pub(crate) fn state_of(condition: Condition, end: Option<u64>) -> State
+pub(crate) fn state_of(condition: Condition, end: Option<u64>) -> EntryState
     ensures { result ≡ state_of condition end }
 {
     match condition {
-        Condition::Gone => State::Gone,
-        Condition::Ended => State::Ended,
-        Condition::Short => State::Short,
+        Condition::Gone => EntryState::Gone,
+        Condition::Ended => EntryState::Ended,
+        Condition::Short => EntryState::Short,
         Condition::Trying => tried_state(end),
-        Condition::Kept => State::Kept,
+        Condition::Kept => EntryState::Kept,
     }
 }
 
 /// The state of an entry of which a request failed, or which was never asked for.
-fn tried_state(end: Option<u64>) -> State
+fn tried_state(end: Option<u64>) -> EntryState
     ensures { result ≡ tried_state end }
 {
     match end {
-        None => State::Unknown,
-        Some(_) => State::Trying,
+        None => EntryState::Unknown,
+        Some(_) => EntryState::Trying,
     }
 }

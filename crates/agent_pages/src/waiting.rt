@@ -7,8 +7,8 @@ ghost use Rattle.plan_forest.specs.Carried.{carried};
 ghost use Rattle.agent_pages.specs.Naming.{entries_after, named_by, named_entry, parent_among};
 ghost use Rattle.agent_pages.specs.Waiting.{is_some_waiting, is_waiting, row_if_waiting, rows_among, waiting_row, waiting_rows};
 
-use crate::board::Row;
-use crate::state::State;
+use crate::board::BoardRow;
+use crate::state::EntryState;
 use base_moment::{LAST, Moment, Name};
 use plan_forest::{Entry, Forest};
 use plan_needs::{Carried, carry};
@@ -23,7 +23,7 @@ pub(crate) fn push_waiting(
     alloc: Global,
     served: &Forest,
     named: &[Named],
-    rows: &mut Vec<Row>,
+    rows: &mut Vec<BoardRow>,
 ) -> Result<(), AllocError>
     ensures { OnOk result (rows.new.items ≡ rows.old.items ++ waiting_rows served.now.entries (map named_by named.now)) }
 {
@@ -116,7 +116,7 @@ fn push_among(
     alloc: Global,
     served: &Forest,
     all: &Forest,
-    rows: &mut Vec<Row>,
+    rows: &mut Vec<BoardRow>,
 ) -> Result<(), AllocError>
     ensures { OnOk result (rows.new.items ≡ rows.old.items ++ rows_among served.now.entries all.now.entries) }
 {
@@ -135,7 +135,7 @@ fn push_row(
     all: &Forest,
     needs: &Carried,
     index: u32,
-    rows: &mut Vec<Row>,
+    rows: &mut Vec<BoardRow>,
 ) -> Result<(), AllocError>
     requires named { index < length all.now.entries }
     requires within { index < length needs.now }
@@ -150,17 +150,17 @@ fn push_row(
 
 /// The row of the entry at an index, which waits.
 #[tactic(auto, unfolding(crate::specs::Waiting::waiting_row))]
-fn waiting_row(all: &Forest, needs: &Carried, index: u32) -> Result<Row, AllocError>
+fn waiting_row(all: &Forest, needs: &Carried, index: u32) -> Result<BoardRow, AllocError>
     requires named { index < length all.now.entries }
     requires within { index < length needs.now }
     requires carried { (load_at needs.now index).need ≡ carried all.now.entries 0 index }
     ensures { IfOk result (λ row. row ≡ waiting_row all.now.entries index) }
 {
     let entry = all.get(index);
-    Ok(Row {
+    Ok(BoardRow {
         name: entry.name.clone()?,
         kind: entry.kind,
-        state: State::Waiting,
+        state: EntryState::Waiting,
         end: None,
         need: entry.need,
         carried: needs.need(index),

@@ -3,10 +3,10 @@ use Rattle.std.proofs.Common.{◌≡◌, ◌∙◌, ℕ, ◌<◌, List, [], None
 use Rattle.agent_ledger.specs.declared.asker.Asker.{Asker}
 use Rattle.vault_lanes.specs.Out.{Out}
 use Rattle.vault_proving.specs.declared.proving.Proving.{Proving}
-use Rattle.program_commands.specs.declared.job.Served.{Served}
+use Rattle.program_commands.specs.declared.job.ServeWords.{ServeWords}
 use Rattle.agent_run.specs.Run.{IsAskerFor, IsOwnLane}
 
-module _ {L : Type 0} (out : L → List Out) (seconds width : L → ℕ) (served : Served) (lane : L) (own : IsOwnLane out seconds width served lane) where
+module _ {L : Type 0} (out : L → List Out) (seconds width : L → ℕ) (served : ServeWords) (lane : L) (own : IsOwnLane out seconds width served lane) where
   pub own_free : out lane ≡ []
   own_free = own.free
 

@@ -12,10 +12,10 @@ use Rattle.base_files.specs.Files.{Files}
 use Rattle.agent_house.specs.declared.house.House.{House}
 use Rattle.state_secrets.specs.Stamps.{FileCall}
 use Rattle.agent_turns.specs.Neighbours.{NeighbourCall}
-use Rattle.agent_turns.specs.declared.change.Change.{Change}
+use Rattle.agent_turns.specs.declared.change.AgentChange.{AgentChange}
 use Rattle.vault_exchange.specs.Sockets.{port_of}
 use Rattle.agent_turns.specs.declared.day.EarlyDay.{EarlyDay}
-use Rattle.program_commands.specs.declared.job.Served.{Served}
+use Rattle.program_commands.specs.declared.job.ServeWords.{ServeWords}
 use Rattle.agent_start.specs.Alone.{IsServedAlone}
 use Rattle.agent_system.specs.Numbers.{IsNumber}
 use Rattle.agent_start.specs.Starts.{IsStart}
@@ -24,13 +24,13 @@ use Rattle.agent_run.specs.Doors.{DoorCall}
 use Rattle.agent_run.specs.Run.{HasRun, HasRunSo, IsDemanded, IsRun, demands_of, ends_path, timeout_of, width_of}
 use Rattle.agent_run.specs.declared.begun.Parts.{Parts}
 
-pub is_demanded : (served : Served) (number : ℕ) (d : Demands) → IsNumber (option_copied served.name) served.file.now number → d ≡ demands_of served number → IsDemanded served d
+pub is_demanded : (served : ServeWords) (number : ℕ) (d : Demands) → IsNumber (option_copied served.name) served.file.now number → d ≡ demands_of served number → IsDemanded served d
 is_demanded served number d its is = (number, (its, is))
 
-module _ {D I L S T O E C P F J G : Type 0} (does : NeighbourCall → EarlyDay (Behind (House S T O (Late D I L G) E) L) → EarlyDay (Behind (House S T O (Late D I L G) E) L) → Type 0) (given : EarlyDay (Behind (House S T O (Late D I L G) E) L) → Option (List Change)) (calls : P → Option (List FileCall)) (asked : P → Option (List (DoorCall O))) (known : Bool) (disk_seen : E → DiskState)
+module _ {D I L S T O E C P F J G : Type 0} (does : NeighbourCall → EarlyDay (Behind (House S T O (Late D I L G) E) L) → EarlyDay (Behind (House S T O (Late D I L G) E) L) → Type 0) (given : EarlyDay (Behind (House S T O (Late D I L G) E) L) → Option (List AgentChange)) (calls : P → Option (List FileCall)) (asked : P → Option (List (DoorCall O))) (known : Bool) (disk_seen : E → DiskState)
     (clock_seen : C → ClockSeen) (seen : L → Lanes) (port width : L → ℕ) (file_bytes : F → Files) (secret_bytes : J → Files) where
   pub has_run :
-      (served : Served) (log : S) (demands : Demands) (start : Start (Ledger D I L)) (later : Option G) (files : F) (secrets : J) (parts : Parts S E L) (doors : P) (clock clock_after : C) (lanes lanes_after : L) → IsDemanded served demands → IsStart demands (is_some served.state) start → is_some later ≡ (is_some served.state && is_none start.ledger) →
+      (served : ServeWords) (log : S) (demands : Demands) (start : Start (Ledger D I L)) (later : Option G) (files : F) (secrets : J) (parts : Parts S E L) (doors : P) (clock clock_after : C) (lanes lanes_after : L) → IsDemanded served demands → IsStart demands (is_some served.state) start → is_some later ≡ (is_some served.state && is_none start.ledger) →
       (start.ledger ≡ None → IsServedAlone (is_some served.state) (file_bytes files) (secret_bytes secrets) served.file.now demands start) → parts.log ≡ log → option_map string_bytes parts.ends ≡ ends_path served.room → (seen lanes).out ≡ [] → port lanes ≡ port_of served.place → (seen lanes).seconds ≡ timeout_of served.patience → width lanes ≡ width_of served.width →
       IsRun does given calls asked known disk_seen clock_seen seen port width served start later parts doors clock lanes clock_after lanes_after → HasRun does given calls asked known disk_seen clock_seen seen port width file_bytes secret_bytes served log
   has_run served log demands start later files secrets parts doors clock clock_after lanes lanes_after demanded is opens alone log_is ends_at free ported seconds wide runs =
@@ -59,5 +59,5 @@ module _ {D I L S T O E C P F J G : Type 0} (does : NeighbourCall → EarlyDay (
         runs = runs;
       }
 
-  pub has_run_so : (served : Served) (log : S) → HasRun does given calls asked known disk_seen clock_seen seen port width file_bytes secret_bytes served log → HasRunSo does given calls asked known disk_seen clock_seen seen port width file_bytes secret_bytes served
+  pub has_run_so : (served : ServeWords) (log : S) → HasRun does given calls asked known disk_seen clock_seen seen port width file_bytes secret_bytes served log → HasRunSo does given calls asked known disk_seen clock_seen seen port width file_bytes secret_bytes served
   has_run_so served log has = (log, has)

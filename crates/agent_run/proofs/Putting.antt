@@ -24,16 +24,16 @@ use Rattle.base_log.specs.declared.form.Form.{Form}
 use Rattle.state_changes.specs.declared.row.Row.{Row}
 use Rattle.state_secrets.specs.Stamps.{FileCall}
 use Rattle.agent_turns.specs.Neighbours.{NeighbourCall}
-use Rattle.agent_turns.specs.declared.change.Change.{Change}
+use Rattle.agent_turns.specs.declared.change.AgentChange.{AgentChange}
 use Rattle.agent_turns.specs.declared.day.EarlyDay.{EarlyDay}
-use Rattle.program_commands.specs.declared.job.Served.{Served}
+use Rattle.program_commands.specs.declared.job.ServeWords.{ServeWords}
 use Rattle.agent_system.specs.Descriptors.{ArePlaces}
 use Rattle.agent_system.specs.Saying.{BeginsDesk}
 use Rattle.agent_system.specs.Stalls.{WarnsOfDisks}
 use Rattle.agent_system.specs.TakingOver.{TakesOver}
-use Rattle.agent_words.specs.declared.said.Said.{Said}
+use Rattle.agent_words.specs.declared.said.SaidLine.{SaidLine}
 use Rattle.agent_start.specs.declared.start.Start.{Start}
-use Rattle.watch_machine.specs.declared.event.Event.{Event}
+use Rattle.watch_machine.specs.declared.event.WatchEvent.{WatchEvent}
 use Rattle.agent_run.specs.Begun.{BeginsLog, IsBegun, IsLateOf, IsLookout, IsReady, IsShutAtFirst, LooksAhead, SaysIfBehind, beside, day_of, ends_folder, house_of, place_text}
 use Rattle.agent_run.specs.Doors.{DoorCall, IsDoor, SaysNoDoor, cost_without}
 use Rattle.agent_run.specs.Run.{IsRun, ReadsFirst, reading_or_none}
@@ -61,7 +61,7 @@ is_shut {F} {L} opening lane askers named s proving is over none =
     record { needs = none; is = subst (λ (p : Proving L). s ≡ record { opening = opening; proving = Some p; askers = askers; next = 0; needs = s.needs; read = named }) over is }
 
 pub begins_log :
-    {P : Type 0} → (calls : P → Option (List FileCall)) (now : Reading) (form : Form) (place : Place) (words : List ℕ) (count : ℕ) (said heard : List Said) (warned : Vec Said Global) (path : Option (String Global)) (folder : Option (List ℕ)) (files after : P) (result : Result Desk AllocError) →
+    {P : Type 0} → (calls : P → Option (List FileCall)) (now : Reading) (form : Form) (place : Place) (words : List ℕ) (count : ℕ) (said heard : List SaidLine) (warned : Vec SaidLine Global) (path : Option (String Global)) (folder : Option (List ℕ)) (files after : P) (result : Result Desk AllocError) →
     words ≡ place_text place → folder ≡ ends_folder path → WarnsOfDisks calls folder files after said warned.items → heard ≡ warned.items → IfOk result (BeginsDesk form words count now heard) → IfOk result (BeginsLog calls now form place count said path files)
 begins_log calls now form place words count said heard warned path folder files after (Ok desk) is in_folder warns same begins =
     record {
@@ -73,7 +73,7 @@ begins_log calls now form place words count said heard warned path folder files 
 begins_log calls now form place words count said heard warned path folder files after (Err e) is in_folder warns same begins = tt
 
 pub is_ready :
-    {D E P : Type 0} → (calls : P → Option (List FileCall)) (asked : P → Option (List (DoorCall D))) (known : Bool) (seen : E → DiskState) (now : Reading) (served : Served) (behind : Option ℕ) (inventory : Inventory) (said : List Said) (path : Option (String Global)) (disk : E) (doors doors_reckoned doors_opened doors_after : P) (r : Ready D E) (count width margin : ℕ) (is_behind : Bool)
+    {D E P : Type 0} → (calls : P → Option (List FileCall)) (asked : P → Option (List (DoorCall D))) (known : Bool) (seen : E → DiskState) (now : Reading) (served : ServeWords) (behind : Option ℕ) (inventory : Inventory) (said : List SaidLine) (path : Option (String Global)) (disk : E) (doors doors_reckoned doors_opened doors_after : P) (r : Ready D E) (count width margin : ℕ) (is_behind : Bool)
     (begun told placed reckoned opened : Desk) →
     BeginsLog calls now served.form served.place count said path doors begun → count ≡ length inventory.forest.entries → TakesOver known seen now inventory path disk r.taken begun told → SaysIfBehind now behind margin told placed → margin ≡ inventory.forest.margin →
     ArePlaces now width is_behind r.entrances.places placed reckoned → width ≡ min served.width 32 → is_behind ≡ is_some behind →
@@ -96,8 +96,8 @@ is_ready calls asked known seen now served behind inventory said path disk doors
     }
 
 pub put_together :
-    {D I L S T O E P G : Type 0} → (calls : P → Option (List FileCall)) (asked : P → Option (List (DoorCall O))) (known : Bool) (seen : E → DiskState) (now : Reading) (served : Served) (start : Start (Ledger D I L)) (later : Option G) (parts : Parts S E L) (doors doors_after : P) (width : ℕ) (b : Begun S T O (Late D I L G) E L) (ready : Ready O E) (desk : Desk)
-    (lookout : Option (Ahead L)) (events : List Event) (state : Option (Late D I L G)) (house : House S T O (Late D I L G) E) (neighbours : Behind (House S T O (Late D I L G) E) L) → IsReady calls asked known seen now served start.behind start.inventories.served start.said.items parts.ends parts.disk doors doors_after ready →
+    {D I L S T O E P G : Type 0} → (calls : P → Option (List FileCall)) (asked : P → Option (List (DoorCall O))) (known : Bool) (seen : E → DiskState) (now : Reading) (served : ServeWords) (start : Start (Ledger D I L)) (later : Option G) (parts : Parts S E L) (doors doors_after : P) (width : ℕ) (b : Begun S T O (Late D I L G) E L) (ready : Ready O E) (desk : Desk)
+    (lookout : Option (Ahead L)) (events : List WatchEvent) (state : Option (Late D I L G)) (house : House S T O (Late D I L G) E) (neighbours : Behind (House S T O (Late D I L G) E) L) → IsReady calls asked known seen now served start.behind start.inventories.served start.said.items parts.ends parts.disk doors doors_after ready →
     IsResumedFrom events start.inventories.served width b.serving → events ≡ ready.taken.known.items → WaitsFor events width now start.part b.serving.agent start.inventories.again b.wait ready.desk desk → IsLateOf parts.lane parts.askers start.inventories.named start.ledger later state →
     house ≡ house_of now start.is_good start.behind state parts.log desk ready.entrances ready.taken.file → LooksAhead start.behind parts.ahead lookout → neighbours ≡ beside house lookout →
     b.neighbours ≡ day_of start.part neighbours → IsBegun calls asked known seen now served start later parts doors doors_after width b
@@ -126,8 +126,8 @@ module _ {C : Type 0} (clock_seen : C → ClockSeen) where
   reads_none result fault now old new is none made = record { reading = None; is = none; made = subst (λ r. CallIsMade (read_call (result_ok r)) (clock_seen old) (clock_seen new)) is made }
 
 pub runs_so :
-    {D I L S T O E C P G : Type 0} → (does : NeighbourCall → EarlyDay (Behind (House S T O (Late D I L G) E) L) → EarlyDay (Behind (House S T O (Late D I L G) E) L) → Type 0) (given : EarlyDay (Behind (House S T O (Late D I L G) E) L) → Option (List Change)) (calls : P → Option (List FileCall)) (asked : P → Option (List (DoorCall O))) (known : Bool) (disk_seen : E → DiskState)
-    (clock_seen : C → ClockSeen) (seen : L → Lanes) (port width : L → ℕ) (served : Served) (start : Start (Ledger D I L)) (later : Option G) (parts : Parts S E L) (doors doors_after : P) (clock clock_read clock_after : C) (lanes lanes_after : L) (now : Reading) (begun : Begun S T O (Late D I L G) E L)
+    {D I L S T O E C P G : Type 0} → (does : NeighbourCall → EarlyDay (Behind (House S T O (Late D I L G) E) L) → EarlyDay (Behind (House S T O (Late D I L G) E) L) → Type 0) (given : EarlyDay (Behind (House S T O (Late D I L G) E) L) → Option (List AgentChange)) (calls : P → Option (List FileCall)) (asked : P → Option (List (DoorCall O))) (known : Bool) (disk_seen : E → DiskState)
+    (clock_seen : C → ClockSeen) (seen : L → Lanes) (port width : L → ℕ) (served : ServeWords) (start : Start (Ledger D I L)) (later : Option G) (parts : Parts S E L) (doors doors_after : P) (clock clock_read clock_after : C) (lanes lanes_after : L) (now : Reading) (begun : Begun S T O (Late D I L G) E L)
     (after : EarlyDay (Behind (House S T O (Late D I L G) E) L)) → ReadsFirst clock_seen now clock clock_read → IsBegun calls asked known disk_seen now served start later parts doors doors_after (width lanes) begun →
     RunsFrom does given clock_seen seen port begun.wait begun.serving lanes clock_read begun.neighbours lanes_after clock_after after →
     IsRun does given calls asked known disk_seen clock_seen seen port width served start later parts doors clock lanes clock_after lanes_after

@@ -12,11 +12,11 @@ use Rattle.agent_turns.specs.Held.{Held, ServingSide, serving_side}
 use Rattle.agent_turns.specs.Neighbours.{AllCalled, NeighbourCall, WithCalls}
 use Rattle.agent_turns.specs.Runs.{AreTurns, all_calls, all_changes}
 use Rattle.agent_turns.specs.Turns.{ServingTurn}
-use Rattle.agent_turns.specs.declared.change.Change.{Change}
+use Rattle.agent_turns.specs.declared.change.AgentChange.{AgentChange}
 use Rattle.agent_run.specs.Running.{MOST, MakesTurns, RunsFrom, WaitsFirst}
 use Rattle.agent_run.specs.declared.wait.Wait.{Wait}
 
-module _ {N : Type 0} (does : NeighbourCall → N → N → Type 0) (given : N → Option (List Change)) where
+module _ {N : Type 0} (does : NeighbourCall → N → N → Type 0) (given : N → Option (List AgentChange)) where
   pub waits_not : (s : ServingSide) (clock : ClockSeen) (n : N) → WaitsFirst does given None s s clock clock n n
   waits_not s clock n =
       record {

@@ -12,11 +12,11 @@ use Rattle.agent_turns.specs.Apart.{MayWait}
 use Rattle.agent_turns.specs.Held.{Held, held_at_first}
 use Rattle.agent_turns.specs.Resuming.{AreResumed}
 use Rattle.watch_machine.specs.Clocks.{second_of_wall}
-use Rattle.watch_machine.specs.declared.event.Event.{Event}
+use Rattle.watch_machine.specs.declared.event.WatchEvent.{WatchEvent}
 use Rattle.agent_run.specs.Waits.{IsNoWait, IsResumedFrom, IsToWait, IsToWaitBy, IsWait, SaysWait, until_of, wait_text}
 use Rattle.agent_run.specs.declared.wait.Wait.{Wait}
 
-pub resumed_from : (known : List Event) (s : Inventory) (width : ℕ) (serving : Held) (agent : Agent) → AreResumed known (fresh s width) agent → serving ≡ held_at_first agent → IsResumedFrom known s width serving
+pub resumed_from : (known : List WatchEvent) (s : Inventory) (width : ℕ) (serving : Held) (agent : Agent) → AreResumed known (fresh s width) agent → serving ≡ held_at_first agent → IsResumedFrom known s width serving
 resumed_from known s width serving agent resumed is = record { agent = agent; resumed = resumed; at_first = is }
 
 -- ---- whether it is to wait
@@ -50,7 +50,7 @@ pub says_wait : (now : Reading) (part : ℕ) (text : List ℕ) (old new : Desk) 
 says_wait now part text old new is hears = subst (λ t. HearsAtStart now Info (codes "start") t old new) is hears
 
 pub is_wait :
-    (known : List Event) (width : ℕ) (now : Reading) (part : ℕ) (a : Agent) (inventory : Inventory) (again : Option Inventory) (serves is : Bool) (w : Wait) (old new : Desk) → again ≡ Some inventory → IsTrue serves ↔ (inventory ≡ a.inventory) → serves ≡ true → IsToWait a now part is → is ≡ true → w.until ≡ until_of now part →
+    (known : List WatchEvent) (width : ℕ) (now : Reading) (part : ℕ) (a : Agent) (inventory : Inventory) (again : Option Inventory) (serves is : Bool) (w : Wait) (old new : Desk) → again ≡ Some inventory → IsTrue serves ↔ (inventory ≡ a.inventory) → serves ≡ true → IsToWait a now part is → is ≡ true → w.until ≡ until_of now part →
     IsResumedFrom known inventory width w.shown → SaysWait now part old new → IsWait known width now part a again w old new
 is_wait known width now part a inventory again serves is w old new some same serves_it to_wait is_so until shown said =
     let its = same.0 serves_it in

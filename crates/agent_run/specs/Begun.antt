@@ -26,13 +26,13 @@ use Rattle.agent_pages.specs.Standby.{begun_standby}
 use Rattle.agent_pages.specs.declared.board.FileReading.{FileReading}
 use Rattle.state_secrets.specs.Stamps.{FileCall}
 use Rattle.agent_turns.specs.declared.day.EarlyDay.{EarlyDay}
-use Rattle.program_commands.specs.declared.job.Served.{Served}
+use Rattle.program_commands.specs.declared.job.ServeWords.{ServeWords}
 use Rattle.agent_system.specs.Descriptors.{ArePlaces}
 use Rattle.agent_system.specs.Saying.{BeginsDesk, SaysBehind}
 use Rattle.agent_system.specs.Whole.{folder_of}
 use Rattle.agent_system.specs.Stalls.{WarnsOfDisks}
 use Rattle.agent_system.specs.TakingOver.{TakesOver}
-use Rattle.agent_words.specs.declared.said.Said.{Said}
+use Rattle.agent_words.specs.declared.said.SaidLine.{SaidLine}
 use Rattle.agent_start.specs.declared.start.Start.{Start}
 use Rattle.agent_run.specs.Doors.{DoorCall, IsDoor}
 use Rattle.agent_run.specs.Waits.{IsResumedFrom, WaitsFor, millis_of}
@@ -53,9 +53,9 @@ place_text (places.Port port) = codes "127.0.0.1:" ++ decimal port
 place_text (places.Path path) = path.now
 
 -- the log begins with what is said of the start, and with a warning of each file for which the loop waits where that lies on a disk
-pub record BeginsLog {P : Type 0} (calls : P → Option (List FileCall)) (now : Reading) (form : Form) (place : Place) (count : ℕ) (said : List Said) (path : Option (String Global)) (files : P) (desk : Desk) : Type 0 where
+pub record BeginsLog {P : Type 0} (calls : P → Option (List FileCall)) (now : Reading) (form : Form) (place : Place) (count : ℕ) (said : List SaidLine) (path : Option (String Global)) (files : P) (desk : Desk) : Type 0 where
   pub after : P
-  pub warned : List Said
+  pub warned : List SaidLine
   pub warns : WarnsOfDisks calls (ends_folder path) files after said warned
   pub begins : BeginsDesk form (place_text place) count now warned desk
 
@@ -66,7 +66,7 @@ SaysIfBehind now (Some number) margin old new = SaysBehind now margin old new
 
 -- the log begins, the ends that were kept are taken over, it is reckoned how many guests are let in, and the doors are opened, in this order;
 -- the desk is as the last of them left it
-pub record IsReady {D E P : Type 0} (calls : P → Option (List FileCall)) (asked : P → Option (List (DoorCall D))) (known : Bool) (seen : E → DiskState) (now : Reading) (served : Served) (behind : Option ℕ) (inventory : Inventory) (said : List Said) (path : Option (String Global)) (disk : E) (doors doors_after : P) (r : Ready D E) : Type 0 where
+pub record IsReady {D E P : Type 0} (calls : P → Option (List FileCall)) (asked : P → Option (List (DoorCall D))) (known : Bool) (seen : E → DiskState) (now : Reading) (served : ServeWords) (behind : Option ℕ) (inventory : Inventory) (said : List SaidLine) (path : Option (String Global)) (disk : E) (doors doors_after : P) (r : Ready D E) : Type 0 where
   pub begun : Desk
   pub told : Desk
   pub placed : Desk
@@ -142,7 +142,7 @@ beside others lookout = record { others = others; lookout = lookout; giver = Oth
 abbrev pub day_of : {N : Type 0} → ℕ → N → EarlyDay N
 day_of part house = record { others = house; earlier = millis_of part; begun = None; is_own = false }
 
-pub record IsBegun {D I L S T O E P G : Type 0} (calls : P → Option (List FileCall)) (asked : P → Option (List (DoorCall O))) (known : Bool) (seen : E → DiskState) (now : Reading) (served : Served) (start : Start (Ledger D I L)) (later : Option G) (parts : Parts S E L) (doors doors_after : P) (width : ℕ) (b : Begun S T O (Late D I L G) E L) : Type 0 where
+pub record IsBegun {D I L S T O E P G : Type 0} (calls : P → Option (List FileCall)) (asked : P → Option (List (DoorCall O))) (known : Bool) (seen : E → DiskState) (now : Reading) (served : ServeWords) (start : Start (Ledger D I L)) (later : Option G) (parts : Parts S E L) (doors doors_after : P) (width : ℕ) (b : Begun S T O (Late D I L G) E L) : Type 0 where
   pub ready : Ready O E
   pub desk : Desk
   pub lookout : Option (Ahead L)

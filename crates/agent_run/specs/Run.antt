@@ -18,12 +18,12 @@ use Rattle.vault_exchange.specs.Sockets.{port_of}
 use Rattle.vault_lanes.specs.Out.{Out}
 use Rattle.state_secrets.specs.Stamps.{FileCall}
 use Rattle.agent_turns.specs.Neighbours.{NeighbourCall}
-use Rattle.agent_turns.specs.declared.change.Change.{Change}
+use Rattle.agent_turns.specs.declared.change.AgentChange.{AgentChange}
 use Rattle.agent_turns.specs.declared.day.EarlyDay.{EarlyDay}
 use Rattle.plan_spread.specs.Parts.{part_by}
-use Rattle.program_commands.specs.declared.job.Room.{Room}
-use Rattle.program_commands.specs.declared.job.Room.TheVariants as rooms
-use Rattle.program_commands.specs.declared.job.Served.{Served}
+use Rattle.program_commands.specs.declared.job.EndsRoom.{EndsRoom}
+use Rattle.program_commands.specs.declared.job.EndsRoom.TheVariants as rooms
+use Rattle.program_commands.specs.declared.job.ServeWords.{ServeWords}
 use Rattle.agent_start.specs.Alone.{IsServedAlone}
 use Rattle.agent_system.specs.Numbers.{IsNumber}
 use Rattle.agent_system.specs.Whole.{folder_of}
@@ -43,23 +43,23 @@ abbrev pub width_of : ℕ → ℕ
 width_of width = max 1 (min width 32)
 
 -- a lane of which none is taken, with that time-out, over which one request may be out
-pub record IsOwnLane {L : Type 0} (out : L → List Out) (seconds width : L → ℕ) (served : Served) (lane : L) : Type 0 where
+pub record IsOwnLane {L : Type 0} (out : L → List Out) (seconds width : L → ℕ) (served : ServeWords) (lane : L) : Type 0 where
   pub free : out lane ≡ []
   pub patient : seconds lane ≡ timeout_of served.patience
   pub one : width lane ≡ 1
 
 -- lanes of which none is taken, with that time-out, over which as many may be out as the words say
-pub record AreOwnLanes {L : Type 0} (out : L → List Out) (seconds width : L → ℕ) (served : Served) (lanes : L) : Type 0 where
+pub record AreOwnLanes {L : Type 0} (out : L → List Out) (seconds width : L → ℕ) (served : ServeWords) (lanes : L) : Type 0 where
   pub free : out lanes ≡ []
   pub patient : seconds lanes ≡ timeout_of served.patience
   pub wide : width lanes ≡ width_of served.width
 
 -- who looks up what a file holds over such a lane, and nothing yet; and as many of them as requests may be out at once
-pub record IsAskerFor {L : Type 0} (out : L → List Out) (seconds width : L → ℕ) (served : Served) (asker : Asker L) : Type 0 where
+pub record IsAskerFor {L : Type 0} (out : L → List Out) (seconds width : L → ℕ) (served : ServeWords) (asker : Asker L) : Type 0 where
   pub lane : IsOwnLane out seconds width served asker.proving.lanes
   pub free : is_free asker ≡ true
 
-pub record AreAskersFor {L : Type 0} (out : L → List Out) (seconds width : L → ℕ) (served : Served) (askers : List (Asker L)) : Type 0 where
+pub record AreAskersFor {L : Type 0} (out : L → List Out) (seconds width : L → ℕ) (served : ServeWords) (askers : List (Asker L)) : Type 0 where
   pub count : length askers ≡ min served.width 32
   pub each : All (IsAskerFor out seconds width served) askers
 
@@ -67,7 +67,7 @@ pub record AreAskersFor {L : Type 0} (out : L → List Out) (seconds width : L �
 abbrev pub spread_of : ℕ → ℕ
 spread_of spread = min spread 3600
 
-abbrev pub demands_of : Served → ℕ → Demands
+abbrev pub demands_of : ServeWords → ℕ → Demands
 demands_of served number =
     record {
       timeout = timeout_of served.patience;
@@ -76,11 +76,11 @@ demands_of served number =
       behind = if served.behind then Some number else None;
     }
 
-abbrev pub IsDemanded : Served → Demands → Type 0
+abbrev pub IsDemanded : ServeWords → Demands → Type 0
 IsDemanded served d = (number : ℕ) × (IsNumber (option_copied served.name) served.file.now number × (d ≡ demands_of served number))
 
 -- the path of the file of the ends, where they are kept: in the folder that the words give, or in that of the file of which they do
-abbrev pub ends_path : Option Room → Option (List ℕ)
+abbrev pub ends_path : Option EndsRoom → Option (List ℕ)
 ends_path None = None
 ends_path (Some (rooms.Folder folder)) = Some (folder.now ++ codes "/ends")
 ends_path (Some (rooms.Beside file)) = Some (folder_of file.now ++ codes "ends")
@@ -97,8 +97,8 @@ pub record ReadsFirst {C : Type 0} (clock_seen : C → ClockSeen) (now : Reading
 
 -- the clocks are read once; by that an agent is put together of what is served from the start on and of its parts; and it runs from then
 -- on, among the neighbours that it was given
-pub record IsRun {D I L S T O E C P G : Type 0} (does : NeighbourCall → EarlyDay (Behind (House S T O (Late D I L G) E) L) → EarlyDay (Behind (House S T O (Late D I L G) E) L) → Type 0) (given : EarlyDay (Behind (House S T O (Late D I L G) E) L) → Option (List Change))
-    (calls : P → Option (List FileCall)) (asked : P → Option (List (DoorCall O))) (known : Bool) (disk_seen : E → DiskState) (clock_seen : C → ClockSeen) (seen : L → Lanes) (port width : L → ℕ) (served : Served) (start : Start (Ledger D I L)) (later : Option G) (parts : Parts S E L) (doors : P) (clock : C) (lanes : L) (clock_after : C) (lanes_after : L) : Type 0 where
+pub record IsRun {D I L S T O E C P G : Type 0} (does : NeighbourCall → EarlyDay (Behind (House S T O (Late D I L G) E) L) → EarlyDay (Behind (House S T O (Late D I L G) E) L) → Type 0) (given : EarlyDay (Behind (House S T O (Late D I L G) E) L) → Option (List AgentChange))
+    (calls : P → Option (List FileCall)) (asked : P → Option (List (DoorCall O))) (known : Bool) (disk_seen : E → DiskState) (clock_seen : C → ClockSeen) (seen : L → Lanes) (port width : L → ℕ) (served : ServeWords) (start : Start (Ledger D I L)) (later : Option G) (parts : Parts S E L) (doors : P) (clock : C) (lanes : L) (clock_after : C) (lanes_after : L) : Type 0 where
   pub now : Reading
   pub clock_read : C
   pub doors_after : P
@@ -111,8 +111,8 @@ pub record IsRun {D I L S T O E C P G : Type 0} (does : NeighbourCall → EarlyD
 -- an agent was put together of a start that these words demand, and has run, with this log and the file of the ends that the words name, over lanes of which none was taken,
 -- with the time-out and the width of the words, whose requests name the port of their place. Without a ledger it serves what FILE says, by its files,
 -- and where there is a state folder, that is opened later
-pub record HasRun {D I L S T O E C P F J G : Type 0} (does : NeighbourCall → EarlyDay (Behind (House S T O (Late D I L G) E) L) → EarlyDay (Behind (House S T O (Late D I L G) E) L) → Type 0) (given : EarlyDay (Behind (House S T O (Late D I L G) E) L) → Option (List Change))
-    (calls : P → Option (List FileCall)) (asked : P → Option (List (DoorCall O))) (known : Bool) (disk_seen : E → DiskState) (clock_seen : C → ClockSeen) (seen : L → Lanes) (port width : L → ℕ) (file_bytes : F → Files) (secret_bytes : J → Files) (served : Served) (log : S) : Type 0 where
+pub record HasRun {D I L S T O E C P F J G : Type 0} (does : NeighbourCall → EarlyDay (Behind (House S T O (Late D I L G) E) L) → EarlyDay (Behind (House S T O (Late D I L G) E) L) → Type 0) (given : EarlyDay (Behind (House S T O (Late D I L G) E) L) → Option (List AgentChange))
+    (calls : P → Option (List FileCall)) (asked : P → Option (List (DoorCall O))) (known : Bool) (disk_seen : E → DiskState) (clock_seen : C → ClockSeen) (seen : L → Lanes) (port width : L → ℕ) (file_bytes : F → Files) (secret_bytes : J → Files) (served : ServeWords) (log : S) : Type 0 where
   pub demands : Demands
   pub demanded : IsDemanded served demands
   pub start : Start (Ledger D I L)
@@ -137,6 +137,6 @@ pub record HasRun {D I L S T O E C P F J G : Type 0} (does : NeighbourCall → E
   pub runs : IsRun does given calls asked known disk_seen clock_seen seen port width served start later parts doors clock lanes clock_after lanes_after
 
 -- with some log
-abbrev pub HasRunSo : {D I L S T O E C P F J G : Type 0} → (NeighbourCall → EarlyDay (Behind (House S T O (Late D I L G) E) L) → EarlyDay (Behind (House S T O (Late D I L G) E) L) → Type 0) → (EarlyDay (Behind (House S T O (Late D I L G) E) L) → Option (List Change)) → (P → Option (List FileCall)) → (P → Option (List (DoorCall O))) → Bool → (E → DiskState) →
-    (C → ClockSeen) → (L → Lanes) → (L → ℕ) → (L → ℕ) → (F → Files) → (J → Files) → Served → Type 0
+abbrev pub HasRunSo : {D I L S T O E C P F J G : Type 0} → (NeighbourCall → EarlyDay (Behind (House S T O (Late D I L G) E) L) → EarlyDay (Behind (House S T O (Late D I L G) E) L) → Type 0) → (EarlyDay (Behind (House S T O (Late D I L G) E) L) → Option (List AgentChange)) → (P → Option (List FileCall)) → (P → Option (List (DoorCall O))) → Bool → (E → DiskState) →
+    (C → ClockSeen) → (L → Lanes) → (L → ℕ) → (L → ℕ) → (F → Files) → (J → Files) → ServeWords → Type 0
 HasRunSo {S} does given calls asked known disk_seen clock_seen seen port width file_bytes secret_bytes served = (log : S) × HasRun does given calls asked known disk_seen clock_seen seen port width file_bytes secret_bytes served log

@@ -11,7 +11,7 @@ use Rattle.agent_turns.specs.Held.{Held, ServingSide, serving_side}
 use Rattle.agent_turns.specs.Neighbours.{AllCalled, NeighbourCall, WithCalls}
 use Rattle.agent_turns.specs.Runs.{AreTurns, all_calls, all_changes}
 use Rattle.agent_turns.specs.Turns.{ServingTurn}
-use Rattle.agent_turns.specs.declared.change.Change.{Change}
+use Rattle.agent_turns.specs.declared.change.AgentChange.{AgentChange}
 use Rattle.agent_run.specs.declared.wait.Wait.{Wait}
 
 -- the greatest u64: of pauses at most, and of turns
@@ -32,7 +32,7 @@ abbrev pub shown_in : Agent → Option Wait → Agent
 shown_in own None = own
 shown_in own (Some w) = w.shown.agent
 
-module _ {N : Type 0} (does : NeighbourCall → N → N → Type 0) (given : N → Option (List Change)) where
+module _ {N : Type 0} (does : NeighbourCall → N → N → Type 0) (given : N → Option (List AgentChange)) where
   pub record WaitsFirst (wait : Option Wait) (old new : ServingSide) (clock later : ClockSeen) (before after : N) : Type 0 where
     pub waited : Waited
     pub is : IsWaitedApart (until_in wait) (most_pauses wait) (shown_in old.held.agent wait) old waited new

@@ -10,11 +10,11 @@ use Rattle.agent_turns.specs.Apart.{MayWait}
 use Rattle.agent_turns.specs.Held.{Held, held_at_first}
 use Rattle.agent_turns.specs.Resuming.{AreResumed}
 use Rattle.watch_machine.specs.Clocks.{second_of_wall}
-use Rattle.watch_machine.specs.declared.event.Event.{Event}
+use Rattle.watch_machine.specs.declared.event.WatchEvent.{WatchEvent}
 use Rattle.agent_run.specs.declared.wait.Wait.{Wait}
 
 -- an agent of this inventory that has done nothing yet, to which these ends were handed in, over so many lanes
-pub record IsResumedFrom (known : List Event) (s : Inventory) (width : ℕ) (serving : Held) : Type 0 where
+pub record IsResumedFrom (known : List WatchEvent) (s : Inventory) (width : ℕ) (serving : Held) : Type 0 where
   pub agent : Agent
   pub resumed : AreResumed known (fresh s width) agent
   pub at_first : serving ≡ held_at_first agent
@@ -42,7 +42,7 @@ abbrev pub IsToWait : Agent → Reading → ℕ → Bool → Type 0
 IsToWait a now part is = IsToWaitBy (nat_eq part 0) a now part is
 
 -- it waits, which is said; meanwhile the inventory that it serves is shown, and no other
-pub record IsWait (known : List Event) (width : ℕ) (now : Reading) (part : ℕ) (a : Agent) (again : Option Inventory) (w : Wait) (old new : Desk) : Type 0 where
+pub record IsWait (known : List WatchEvent) (width : ℕ) (now : Reading) (part : ℕ) (a : Agent) (again : Option Inventory) (w : Wait) (old new : Desk) : Type 0 where
   pub is : again ≡ Some a.inventory
   pub to_wait : IsToWait a now part true
   pub until : w.until ≡ until_of now part
@@ -54,6 +54,6 @@ pub record IsNoWait (now : Reading) (part : ℕ) (a : Agent) (again : Option Inv
   pub why : (again ≢ Some a.inventory) ⊎ IsToWait a now part false
   pub silent : new ≡ old
 
-abbrev pub WaitsFor : List Event → ℕ → Reading → ℕ → Agent → Option Inventory → Option Wait → Desk → Desk → Type 0
+abbrev pub WaitsFor : List WatchEvent → ℕ → Reading → ℕ → Agent → Option Inventory → Option Wait → Desk → Desk → Type 0
 WaitsFor known width now part a again (Some w) old new = IsWait known width now part a again w old new
 WaitsFor known width now part a again None old new = IsNoWait now part a again old new

@@ -5,7 +5,7 @@ ghost use Rattle.agent_run.specs.Run.{AreAskersFor, IsAskerFor, IsOwnLane};
 
 use crate::begun::most_out;
 use agent_ledger::Asker;
-use program_commands::Served;
+use program_commands::ServeWords;
 use std::alloc::{AllocError, Global};
 use vault_lanes::Lanes;
 use vault_proving::Proving;
@@ -14,7 +14,7 @@ use vault_proving::Proving;
 /// of memory.
 pub fn askers_by<L: Lanes + Drop, F: Fn() -> Result<L, AllocError>>(
     alloc: Global,
-    served: &Served<'_>,
+    served: &ServeWords<'_>,
     lane: F,
 ) -> Result<Vec<Asker<L>>, AllocError>
     requires callable { F.IsAlwaysCallable lane }
@@ -30,7 +30,7 @@ pub fn askers_by<L: Lanes + Drop, F: Fn() -> Result<L, AllocError>>(
 
 /// One of them, over a lane that `lane` gives.
 fn asker_by<L: Lanes + Drop, F: Fn() -> Result<L, AllocError>>(
-    served: &Served<'_>,
+    served: &ServeWords<'_>,
     lane: &F,
 ) -> Result<Asker<L>, AllocError>
     requires callable { F.IsAlwaysCallable lane.now }
@@ -43,7 +43,7 @@ fn asker_by<L: Lanes + Drop, F: Fn() -> Result<L, AllocError>>(
 
 /// One of them over this lane, which looks nothing up yet.
 #[tactic(auto, using(crate::proofs::Asking::own_free, crate::proofs::Asking::own_wide, crate::proofs::Asking::is_asker))]
-fn asker_over<L: Lanes>(served: &Served<'_>, lane: L) -> Asker<L>
+fn asker_over<L: Lanes>(served: &ServeWords<'_>, lane: L) -> Asker<L>
     requires { IsOwnLane (L.out) (L.seconds) (L.width) served.now lane }
     ensures { IsAskerFor (L.out) (L.seconds) (L.width) served.now result }
 {

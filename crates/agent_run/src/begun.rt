@@ -20,7 +20,7 @@ use agent_system::{
     warn_of_disks,
 };
 use agent_turns::{EarlyDay, Serving};
-use agent_words::Said;
+use agent_words::SaidLine;
 use base_clients::{Door, Talk};
 use base_clock::Reading;
 use base_device::Place;
@@ -28,14 +28,14 @@ use base_disk::Disk;
 use base_files::Inputs;
 use base_log::LogSink;
 use base_words::push_number;
-use program_commands::Served;
+use program_commands::ServeWords;
 use state_changes::Rows;
 use state_secrets::SecretFiles;
 use std::alloc::{AllocError, Global};
 use vault_inventory::Inventory;
 use vault_lanes::{Lanes, MOST_WIDTH};
 use vault_proving::Proving;
-use watch_machine::Event;
+use watch_machine::WatchEvent;
 
 /// What an agent is put together from, besides what is served, its lanes to the broker and its doors.
 #[derive(Drop)]
@@ -92,7 +92,7 @@ struct AtFirst {
 pub fn begin<'a, D, I, L, S, T, O, E, P, G>(
     alloc: Global,
     now: Reading,
-    served: &Served<'_>,
+    served: &ServeWords<'_>,
     start: Start<Ledger<'a, D, I, L>>,
     later: Option<G>,
     parts: Parts<S, E, L>,
@@ -196,10 +196,10 @@ fn day_of<N>(part: u32, house: N) -> EarlyDay<N>
 fn make_ready<T, O, E, P>(
     alloc: Global,
     now: Reading,
-    served: &Served<'_>,
+    served: &ServeWords<'_>,
     behind: Option<u64>,
     inventory: &Inventory,
-    said: Vec<Said>,
+    said: Vec<SaidLine>,
     ends: Option<String>,
     disk: E,
     doors: &mut P,
@@ -284,9 +284,9 @@ fn place_text(alloc: Global, place: Place<'_>) -> Result<Vec<u8>, AllocError>
 fn begin_log<P: SecretFiles>(
     alloc: Global,
     now: Reading,
-    served: &Served<'_>,
+    served: &ServeWords<'_>,
     count: u32,
-    said: Vec<Said>,
+    said: Vec<SaidLine>,
     ends: &Option<String>,
     files: &mut P,
 ) -> Result<Desk, AllocError>
@@ -314,7 +314,7 @@ fn resume<L: Lanes>(
     inventory: Inventory,
     again: Option<Inventory>,
     lanes: &L,
-    known: &[Event],
+    known: &[WatchEvent],
     now: Reading,
     part: u32,
     desk: &mut Desk,
@@ -358,7 +358,7 @@ fn onlookers_at<T: Talk, D: Door<T>>(
 }
 
 /// How many requests may be out at once at most, by the words.
-pub fn most_out(served: &Served<'_>) -> u32
+pub fn most_out(served: &ServeWords<'_>) -> u32
     ensures { result ≡ min served.now.width 32 }
 {
     served.width.min(u64::from(MOST_WIDTH)) as u32

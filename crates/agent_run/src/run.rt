@@ -15,7 +15,7 @@ use base_clock::{Clock, Reading};
 use base_disk::Disk;
 use base_files::Inputs;
 use base_log::LogSink;
-use program_commands::Served;
+use program_commands::ServeWords;
 use state_secrets::SecretFiles;
 use std::alloc::{AllocError, Global};
 use vault_asking::SeenLanes;
@@ -27,7 +27,7 @@ use vault_lanes::Lanes;
 #[tactic(auto, using(crate::proofs::Putting::runs_so))]
 pub fn run_over<'a, D, I, L, S, T, O, E, P, C, G>(
     alloc: Global,
-    served: &Served<'_>,
+    served: &ServeWords<'_>,
     start: Start<Ledger<'a, D, I, L>>,
     later: Option<G>,
     parts: Parts<S, E, L>,

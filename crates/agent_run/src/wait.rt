@@ -11,7 +11,7 @@ use base_words::push_number;
 use std::alloc::{AllocError, Global};
 use vault_inventory::Inventory;
 use vault_lanes::Lanes;
-use watch_machine::Event;
+use watch_machine::WatchEvent;
 
 /// A wait before the first turn.
 #[derive(Debug, Drop)]
@@ -28,7 +28,7 @@ pub(crate) fn resumed<L: Lanes>(
     alloc: Global,
     inventory: Inventory,
     lanes: &L,
-    known: &[Event],
+    known: &[WatchEvent],
 ) -> Result<Serving, AllocError>
     requires free { L.out lanes.now ≡ [] }
     ensures resumed { IfOk result (IsResumedFrom known.now inventory (L.width lanes.now)) }
@@ -49,7 +49,7 @@ pub(crate) fn wait_of<L: Lanes>(
     serving: &Serving,
     again: Option<Inventory>,
     lanes: &L,
-    known: &[Event],
+    known: &[WatchEvent],
     now: Reading,
     part: u32,
     desk: &mut Desk,

@@ -8,7 +8,7 @@ use Rattle.plan_forest.specs.Forest.{Forest, no_entry}
 use Rattle.watch_machine.specs.declared.track.End.TheVariants.{Unknown}
 use Rattle.watch_machine.specs.declared.track.Track.{Track}
 use Rattle.watch_machine.specs.State.{fresh_track, no_track, opened, track_at}
-use Rattle.agent_standing.specs.declared.standing.Standing.{Standing}
+use Rattle.agent_standing.specs.declared.standing.EntryStanding.{EntryStanding}
 use Rattle.agent_standing.specs.Agent.{Believes, IsAgent, IsStanding, fresh}
 use Rattle.agent_standing.specs.Standings.{fresh_standing, standing_in}
 
@@ -41,6 +41,6 @@ fresh_is_agent s width = record {
   phase = omega arith;
   bounded = all_fresh (length s.forest.entries);
   believed = λ i.
-      subst (λ (x : Standing). Believes (track_at (opened s.forest width) i).end (track_at (opened s.forest width) i).renewable x.told) (sym (fresh_in (length s.forest.entries) i))
+      subst (λ (x : EntryStanding). Believes (track_at (opened s.forest width) i).end (track_at (opened s.forest width) i).renewable x.told) (sym (fresh_in (length s.forest.entries) i))
       (unknown_believed (track_at (opened s.forest width) i) (opened_unknown s.forest width i));
 }

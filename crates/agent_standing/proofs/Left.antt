@@ -10,21 +10,21 @@ use Rattle.base_moment.specs.declared.moment.TheConstants.{LAST}
 use Rattle.plan_forest.specs.declared.entry.Entry.{Entry}
 use Rattle.plan_forest.specs.Forest.{Forest, entry_at}
 use Rattle.watch_machine.specs.declared.clocks.Clocks.{Clocks}
-use Rattle.watch_machine.specs.declared.command.Command.{Command}
-use Rattle.watch_machine.specs.declared.command.Command.TheVariants.{Go, Taken}
-use Rattle.watch_machine.specs.declared.command.Output.{Output}
-use Rattle.watch_machine.specs.declared.command.Request.{Request}
-use Rattle.watch_machine.specs.declared.event.Event.{Event}
-use Rattle.watch_machine.specs.declared.event.Event.TheVariants.{Clock, Looked, Renewed, Need, Begin, Known}
+use Rattle.watch_machine.specs.declared.command.WatchCommand.{WatchCommand}
+use Rattle.watch_machine.specs.declared.command.WatchCommand.TheVariants.{Go, Taken}
+use Rattle.watch_machine.specs.declared.command.WatchOutput.{WatchOutput}
+use Rattle.watch_machine.specs.declared.command.WatchRequest.{WatchRequest}
+use Rattle.watch_machine.specs.declared.event.WatchEvent.{WatchEvent}
+use Rattle.watch_machine.specs.declared.event.WatchEvent.TheVariants.{Clock, Looked, Renewed, Need, Begin, Known}
 use Rattle.watch_machine.specs.declared.event.Operation.TheVariants.{Look, Renew}
-use Rattle.watch_machine.specs.declared.event.Reply.{Reply}
-use Rattle.watch_machine.specs.declared.event.Reply.TheVariants.{Told, Refused, Busy, Lost}
-use Rattle.watch_machine.specs.declared.event.Terms.{Terms}
+use Rattle.watch_machine.specs.declared.event.WatchReply.{WatchReply}
+use Rattle.watch_machine.specs.declared.event.WatchReply.TheVariants.{Told, Refused, Busy, Lost}
+use Rattle.watch_machine.specs.declared.event.WatchTerms.{WatchTerms}
 use Rattle.watch_machine.specs.declared.fault.WatchFault.{WatchFault}
 use Rattle.watch_machine.specs.declared.fault.WatchFault.TheVariants.{NotAsked, BadIndex, OutOfMemory}
-use Rattle.watch_machine.specs.declared.lanes.Answer.{Answer}
+use Rattle.watch_machine.specs.declared.lanes.LaneAnswer.{LaneAnswer}
 use Rattle.watch_machine.specs.declared.lanes.Out.{Out}
-use Rattle.watch_machine.specs.declared.notes.Why.{Why}
+use Rattle.watch_machine.specs.declared.notes.BeginReason.{BeginReason}
 use Rattle.watch_machine.specs.declared.track.Track.{Track}
 use Rattle.watch_machine.specs.Answers.{answers_all, back_track, lane_freed, noted, replied, silent}
 use Rattle.watch_machine.specs.Beginning.{begun, is_called, is_start, owing, owing_lookup, owing_past, soon, sooner_try, untopped, untopped_track}
@@ -94,10 +94,10 @@ asked_word at round i x =
     if_both (λ y. Word y x) (list_any (λ j. j == i) round) (asked_track at x) x
     (if_both (λ y. Word y x) x.out x (record x { attempt = Some (press at x) }) refl refl) refl
 
-sent_word : (at : ℕ) (requests : List Request) (i : ℕ) (x : Track) → Word (sent_in at requests i x) x
-sent_word at requests i x = if_both (λ y. Word y x) (list_any (λ (r : Request). r.entry == i) requests) (sent_track at x) x refl refl
+sent_word : (at : ℕ) (requests : List WatchRequest) (i : ℕ) (x : Track) → Word (sent_in at requests i x) x
+sent_word at requests i x = if_both (λ y. Word y x) (list_any (λ (r : WatchRequest). r.entry == i) requests) (sent_track at x) x refl refl
 
-begun_word : (s : WatchState) (w : Option Why) (i : ℕ) → Word (track_at (begun s w) i) (track_at s i)
+begun_word : (s : WatchState) (w : Option BeginReason) (i : ℕ) → Word (track_at (begun s w) i) (track_at s i)
 begun_word s None i = refl
 begun_word s (Some w) i =
     let xs = untopped s.tracks in
@@ -110,7 +110,7 @@ readied_word s wall elapsed i =
     let t = timed s wall elapsed in
     begun_word (settled t) (why s wall elapsed) i ∙ each_word (λ j. settled_track t.forest.margin t.clocks.at) s.tracks (λ j x. settled_word t.forest.margin t.clocks.at x) i
 
-gone_word : (s : WatchState) (round : List ℕ) (requests : List Request) (i : ℕ) → Word (track_at (sent (pressed s round) requests) i) (track_at s i)
+gone_word : (s : WatchState) (round : List ℕ) (requests : List WatchRequest) (i : ℕ) → Word (track_at (sent (pressed s round) requests) i) (track_at s i)
 gone_word s round requests i =
     let c = s.clocks in
     let g = s.forest in
@@ -121,18 +121,18 @@ gone_word s round requests i =
     ∙ each_word (λ j. pressed_track g.margin (entry_at g.entries j) (need_of g.entries s.tracks c j) c.at) s.tracks (λ j x. pressed_word g.margin (entry_at g.entries j) (need_of g.entries s.tracks c j) c.at x) i
 
 -- what goes out at a clock
-sent_by : (mid new : WatchState) (command : Command) → StepCommand mid command new → (requests : List Request) × (new ≡ sent mid requests)
+sent_by : (mid new : WatchState) (command : WatchCommand) → StepCommand mid command new → (requests : List WatchRequest) × (new ≡ sent mid requests)
 sent_by mid new (Go requests until) h = (requests, h.0.1)
 sent_by mid new Taken h = absurd h
 
-clock_word : (old new : WatchState) (wall elapsed : ℕ) (output : Output) (i : ℕ) → StepClock old wall elapsed output new → Word (track_at new i) (track_at old i)
+clock_word : (old new : WatchState) (wall elapsed : ℕ) (output : WatchOutput) (i : ℕ) → StepClock old wall elapsed output new → Word (track_at new i) (track_at old i)
 clock_word old new wall elapsed output i step =
     let ready = readied old wall elapsed in
     let is = sent_by (pressed ready (asked_by_round step.round)) new output.command step.command in
     ap (λ (s : WatchState). word (track_at s i)) is.1 ∙ gone_word ready (asked_by_round step.round) is.0 i ∙ readied_word old wall elapsed i
 
 -- as many tracks and entries
-begun_count : (s : WatchState) (w : Option Why) → (length (begun s w).tracks ≡ length s.tracks) × (((begun s w).forest ≡ s.forest) × ((begun s w).clocks ≡ s.clocks))
+begun_count : (s : WatchState) (w : Option BeginReason) → (length (begun s w).tracks ≡ length s.tracks) × (((begun s w).forest ≡ s.forest) × ((begun s w).clocks ≡ s.clocks))
 begun_count s None = (refl, (refl, refl))
 begun_count s (Some w) =
     let xs = untopped s.tracks in
@@ -156,7 +156,7 @@ dated_on_phase : (since : ℕ) (c : Clocks) (date : Option ℕ) → (dated_on si
 dated_on_phase since c None = refl
 dated_on_phase since c (Some date) = dated_phase since c (min LAST date)
 
-all_dated_phase : (c : Clocks) (answers : List Answer) → (dated_by_all c answers).phase ≡ c.phase
+all_dated_phase : (c : Clocks) (answers : List LaneAnswer) → (dated_by_all c answers).phase ≡ c.phase
 all_dated_phase c [] = refl
 all_dated_phase c (a ∷ answers) = all_dated_phase (dated c a) answers ∙ dated_on_phase a.since c (date_of a.reply)
 
@@ -185,7 +185,7 @@ back_word : (x : Track) → Word (back_track x) x
 unfolding back_track
 back_word x = refl
 
-replied_word : (s : WatchState) (r : Out) (reply : Reply) (i : ℕ) → Word (track_at (replied s r reply) i) (track_at s i)
+replied_word : (s : WatchState) (r : Out) (reply : WatchReply) (i : ℕ) → Word (track_at (replied s r reply) i) (track_at s i)
 replied_word s r reply i =
     let free = lane_freed s r in
     let P : WatchState → Type 0 = λ t. Word (track_at t i) (track_at s i) in
@@ -193,7 +193,7 @@ replied_word s r reply i =
     (if_both P s.presence.away _ _ (each_word (λ j. back_track) s.tracks (λ j x. back_word x) i) refl)
     (if_both P r.heard free (silent free) refl (if_both P s.presence.away _ _ refl refl))
 
-replied_shape : (s : WatchState) (r : Out) (reply : Reply) → Shape (replied s r reply) s
+replied_shape : (s : WatchState) (r : Out) (reply : WatchReply) → Shape (replied s r reply) s
 replied_shape s r reply =
     let free = lane_freed s r in
     let P : WatchState → Type 0 = λ t. Shape t s in
@@ -201,31 +201,31 @@ replied_shape s r reply =
     (if_both P s.presence.away _ _ (refl, (each_length (λ j. back_track) s.tracks, refl)) (refl, (refl, refl)))
     (if_both P r.heard free (silent free) (refl, (refl, refl)) (if_both P s.presence.away _ _ (refl, (refl, refl)) (refl, (refl, refl))))
 
-looked_shape : (s : WatchState) (r : Out) (reply : Reply) (terms : Terms) → Shape (looked s r reply terms) s
+looked_shape : (s : WatchState) (r : Out) (reply : WatchReply) (terms : WatchTerms) → Shape (looked s r reply terms) s
 looked_shape s r (Told seconds renewable date) terms = (length-set s.forest.entries r.entry _, (length-set _ r.entry _ ∙ length-set s.tracks r.entry _, refl))
 looked_shape s r _ terms = (refl, (length-set s.tracks r.entry _, refl))
 
 -- an answer tells of the entry of that index
-abbrev pub Tells : Reply → ℕ → ℕ → Type 0
+abbrev pub Tells : WatchReply → ℕ → ℕ → Type 0
 Tells (Told seconds renewable date) j i = i ≡ j
 Tells _ j i = ⊥
 
-untold_word : (at : ℕ) (heard : Bool) (reply : Reply) (x : Track) → Word (untold_track at heard reply x) x
+untold_word : (at : ℕ) (heard : Bool) (reply : WatchReply) (x : Track) → Word (untold_track at heard reply x) x
 unfolding untold_track
 untold_word at heard reply x = refl
 
-ungranted_word : (at : ℕ) (heard : Bool) (reply : Reply) (x : Track) → Word (ungranted_track at heard reply x) x
+ungranted_word : (at : ℕ) (heard : Bool) (reply : WatchReply) (x : Track) → Word (ungranted_track at heard reply x) x
 unfolding ungranted_track
 ungranted_word at heard reply x = refl
 
-looked_word : (s : WatchState) (r : Out) (reply : Reply) (terms : Terms) (i : ℕ) → (Tells reply r.entry i → ⊥) → Word (track_at (looked s r reply terms) i) (track_at s i)
+looked_word : (s : WatchState) (r : Out) (reply : WatchReply) (terms : WatchTerms) (i : ℕ) → (Tells reply r.entry i → ⊥) → Word (track_at (looked s r reply terms) i) (track_at s i)
 looked_word s r (Told seconds renewable date) terms i other =
     ap word (get_or-set_other (told_state s r.entry r.since seconds renewable terms).tracks r.entry i _ no_track other ∙ get_or-set_other s.tracks r.entry i _ no_track other)
 looked_word s r (Refused status date) terms i other = set_word s.tracks r.entry _ (untold_word s.clocks.at r.heard (Refused status date) (track_at s r.entry)) i
 looked_word s r Busy terms i other = set_word s.tracks r.entry _ (untold_word s.clocks.at r.heard Busy (track_at s r.entry)) i
 looked_word s r Lost terms i other = set_word s.tracks r.entry _ (untold_word s.clocks.at r.heard Lost (track_at s r.entry)) i
 
-renewed_word : (s : WatchState) (r : Out) (reply : Reply) (i : ℕ) → (Tells reply r.entry i → ⊥) → Word (track_at (state_renewed s r reply) i) (track_at s i)
+renewed_word : (s : WatchState) (r : Out) (reply : WatchReply) (i : ℕ) → (Tells reply r.entry i → ⊥) → Word (track_at (state_renewed s r reply) i) (track_at s i)
 unfolding renewed_track
 renewed_word s r (Told seconds renewable date) i other = ap word (get_or-set_other s.tracks r.entry i _ no_track other)
 renewed_word s r (Refused status date) i other = set_word s.tracks r.entry _ (ungranted_word s.clocks.at r.heard (Refused status date) (track_at s r.entry)) i
@@ -235,20 +235,20 @@ renewed_word s r Lost i other = set_word s.tracks r.entry _ (ungranted_word s.cl
 -- ---- every event
 
 -- it tells of the entry of that index
-abbrev pub TellsOf : Event → ℕ → Type 0
+abbrev pub TellsOf : WatchEvent → ℕ → Type 0
 TellsOf (Looked j reply terms) i = Tells reply j i
 TellsOf (Renewed j reply) i = Tells reply j i
 TellsOf (Known j end renewable) i = i ≡ j
 TellsOf _ i = ⊥
 
 -- what is left by a turn that tells of that entry, if of any
-pub record IsLeft (old : WatchState) (event : Event) (new : WatchState) : Type 0 where
+pub record IsLeft (old : WatchState) (event : WatchEvent) (new : WatchState) : Type 0 where
   pub entries : length new.forest.entries ≡ length old.forest.entries
   pub tracks : length new.tracks ≡ length old.tracks
   pub phase : old.clocks.phase < 1000 → new.clocks.phase < 1000
   pub words : (i : ℕ) → (TellsOf event i → ⊥) → Word (track_at new i) (track_at old i)
 
-left_clock : (old new : WatchState) (wall elapsed : ℕ) (output : Output) → StepClock old wall elapsed output new → IsLeft old (Clock wall elapsed) new
+left_clock : (old new : WatchState) (wall elapsed : ℕ) (output : WatchOutput) → StepClock old wall elapsed output new → IsLeft old (Clock wall elapsed) new
 left_clock old new wall elapsed output step =
     let ready = readied old wall elapsed in
     let round = asked_by_round step.round in
@@ -267,7 +267,7 @@ left_clock old new wall elapsed output step =
     }
 
 -- an answer, once it is taken for its entry
-left_answer : (old mid new : WatchState) (event : Event) (r : Out) (reply : Reply) → new ≡ replied mid r reply → Shape mid old → ((i : ℕ) → (TellsOf event i → ⊥) → Word (track_at mid i) (track_at old i)) → IsLeft old event new
+left_answer : (old mid new : WatchState) (event : WatchEvent) (r : Out) (reply : WatchReply) → new ≡ replied mid r reply → Shape mid old → ((i : ℕ) → (TellsOf event i → ⊥) → Word (track_at mid i) (track_at old i)) → IsLeft old event new
 left_answer old mid new event r reply is shape words =
     let after = replied_shape mid r reply in
     record {
@@ -277,21 +277,21 @@ left_answer old mid new event r reply is shape words =
       words = λ i other. ap (λ (s : WatchState). word (track_at s i)) is ∙ replied_word mid r reply i ∙ words i other;
     }
 
-left_looked : (old new : WatchState) (j : ℕ) (found : Option Out) (reply : Reply) (terms : Terms) (output : Output) → request_out old.out j Look ≡ found → StepLooked old found reply terms output new → IsLeft old (Looked j reply terms) new
+left_looked : (old new : WatchState) (j : ℕ) (found : Option Out) (reply : WatchReply) (terms : WatchTerms) (output : WatchOutput) → request_out old.out j Look ≡ found → StepLooked old found reply terms output new → IsLeft old (Looked j reply terms) new
 left_looked old new j None reply terms output is step = absurd step
 left_looked old new j (Some r) reply terms output is step =
     let s = noted old r reply in
     left_answer old (looked s r reply terms) new (Looked j reply terms) r reply step.1 (looked_shape s r reply terms)
     (λ i other. looked_word s r reply terms i (subst (λ k. Tells reply k i → ⊥) (sym (out_entry old.out j Look r is)) other))
 
-left_renewed : (old new : WatchState) (j : ℕ) (found : Option Out) (reply : Reply) (output : Output) → request_out old.out j Renew ≡ found → StepRenewed old found reply output new → IsLeft old (Renewed j reply) new
+left_renewed : (old new : WatchState) (j : ℕ) (found : Option Out) (reply : WatchReply) (output : WatchOutput) → request_out old.out j Renew ≡ found → StepRenewed old found reply output new → IsLeft old (Renewed j reply) new
 left_renewed old new j None reply output is step = absurd step
 left_renewed old new j (Some r) reply output is step =
     let s = noted old r reply in
     left_answer old (state_renewed s r reply) new (Renewed j reply) r reply step.1 (refl, (length-set s.tracks r.entry _, refl))
     (λ i other. renewed_word s r reply i (subst (λ k. Tells reply k i → ⊥) (sym (out_entry old.out j Renew r is)) other))
 
-left_step : (old new : WatchState) (event : Event) (output : Output) → Step old event output new → IsLeft old event new
+left_step : (old new : WatchState) (event : WatchEvent) (output : WatchOutput) → Step old event output new → IsLeft old event new
 left_step old new (Clock wall elapsed) output step = left_clock old new wall elapsed output step
 left_step old new (Looked j reply terms) output step = left_looked old new j (request_out old.out j Look) reply terms output refl step
 left_step old new (Renewed j reply) output step = left_renewed old new j (request_out old.out j Renew) reply output refl step
@@ -302,14 +302,14 @@ left_step old new (Known j end renewable) output step =
     subst (IsLeft old (Known j end renewable)) (sym step.1)
     (record { entries = refl; tracks = length-set old.tracks j _; phase = λ below. below; words = λ i other. ap word (get_or-set_other old.tracks j i _ no_track other) })
 
-pub left_turn : (old new : WatchState) (event : Event) (output : Output) → Turn old event (Ok output) new → IsLeft old event new
+pub left_turn : (old new : WatchState) (event : WatchEvent) (output : WatchOutput) → Turn old event (Ok output) new → IsLeft old event new
 left_turn old new event output turn = left_step old new event output turn.1
 
-refused_stays : (old new : WatchState) (event : Event) (fault : WatchFault) → Turn old event (Err fault) new → new ≡ old
+refused_stays : (old new : WatchState) (event : WatchEvent) (fault : WatchFault) → Turn old event (Err fault) new → new ≡ old
 refused_stays old new event OutOfMemory h = h.1.1
 refused_stays old new event _ h = h.1
 
-pub turn_entries : (old new : WatchState) (event : Event) (result : Result Output WatchFault) → Turn old event result new → length new.forest.entries ≡ length old.forest.entries
+pub turn_entries : (old new : WatchState) (event : WatchEvent) (result : Result WatchOutput WatchFault) → Turn old event result new → length new.forest.entries ≡ length old.forest.entries
 turn_entries old new event (Ok output) turn = (left_turn old new event output turn).entries
 turn_entries old new event (Err fault) turn = ap (λ (s : WatchState). length s.forest.entries) (refused_stays old new event fault turn)
 

@@ -14,7 +14,7 @@ use Rattle.watch_machine.specs.Beginning.{owing_lookup, untopped_track}
 use Rattle.watch_machine.specs.Change.{changed, entry_by, forest_after, track_by, tracks_after, was_at}
 use Rattle.watch_machine.specs.State.{fresh_track, no_track, track_at}
 use Rattle.watch_machine.proofs.Cases.{if_both}
-use Rattle.agent_standing.specs.declared.standing.Standing.{Standing}
+use Rattle.agent_standing.specs.declared.standing.EntryStanding.{EntryStanding}
 use Rattle.agent_standing.specs.declared.standing.Told.{Told}
 use Rattle.agent_standing.specs.Agent.{Agent, Believes, IsAgent, IsStanding, standing_at}
 use Rattle.agent_standing.specs.Changed.{all_was, carried_standing, former, is_said_again, standing_of, was_by, was_of}
@@ -48,19 +48,19 @@ module _ (old : Agent) (s : Inventory) (agent : IsAgent old) where
         | inl within ↦
             subst (λ (x : Track). Believed x (standing_in (map (carried_standing old s) (range_with_len 0 n)) j).told)
             (sym (get_or-map-range_with_len made 0 n j j no_track within (omega arith) ∙ ap (track_by at xs e) (get_or-map-range_with_len (was_of old.inventory s) 0 n j j New within (omega arith))))
-            (subst (λ (x : Standing). Believed (track_by at xs e (was_of old.inventory s j)) x.told)
+            (subst (λ (x : EntryStanding). Believed (track_by at xs e (was_of old.inventory s j)) x.told)
             (sym (get_or-map-range_with_len (carried_standing old s) 0 n j j fresh_standing within (omega arith)))
             (by_was old s e at j agent (former old.inventory s j)))
         | inr past ↦
             subst (λ (x : Track). Believed x (standing_in (map (carried_standing old s) (range_with_len 0 n)) j).told)
             (sym (get_or_past (map made (range_with_len 0 n)) j no_track (let l = length-map-range_with_len made 0 n in omega (arith, l, past))))
-            (subst (λ (x : Standing). Believed no_track x.told)
+            (subst (λ (x : EntryStanding). Believed no_track x.told)
             (sym (get_or_past (map (carried_standing old s) (range_with_len 0 n)) j fresh_standing (let l = length-map-range_with_len (carried_standing old s) 0 n in omega (arith, l, past))))
             (unknown_believed no_track refl))
       ]
 
   pub changed_is_agent :
-      (xs : List Standing) (n : ℕ) → xs ≡ map (carried_standing old s) (range_with_len 0 (length s.forest.entries)) → All IsStanding xs →
+      (xs : List EntryStanding) (n : ℕ) → xs ≡ map (carried_standing old s) (range_with_len 0 (length s.forest.entries)) → All IsStanding xs →
       IsAgent (record { machine = changed old.machine s.forest (all_was old.inventory s); inventory = s; standings = xs; beginnings = n })
   unfolding forest_after tracks_after
   changed_is_agent xs n standings bounded =

@@ -10,22 +10,22 @@ use Rattle.vault_inventory.specs.Inventories.{terms_at}
 use Rattle.vault_inventory.specs.declared.terms.Terms.{Terms}
 use Rattle.watch_machine.specs.State.{WatchState, track_at}
 use Rattle.agent_standing.specs.declared.shorts.Short.{Short}
-use Rattle.agent_standing.specs.declared.standing.Standing.{Standing}
+use Rattle.agent_standing.specs.declared.standing.EntryStanding.{EntryStanding}
 use Rattle.agent_standing.specs.Agent.{Agent, Believes, IsAgent, IsStanding}
 use Rattle.agent_standing.specs.Shorts.{all_said, news_of_entry, said_short, said_standing, said_standings, short_at, shorts_in}
 use Rattle.agent_standing.specs.Standings.{fresh_standing, standing_in}
 
 -- those before k are made by f, the others are as they were
-pub record Said (f : ℕ → Standing → Standing) (old now : List Standing) (k : ℕ) : Type 0 where
+pub record Said (f : ℕ → EntryStanding → EntryStanding) (old now : List EntryStanding) (k : ℕ) : Type 0 where
   pub count : length now ≡ length old
   pub done : take k now ≡ map (λ i. f i (standing_in old i)) (range_with_len 0 k)
   pub rest : (j : ℕ) → k ≤ j → standing_in now j ≡ standing_in old j
 
-pub said_none : (f : ℕ → Standing → Standing) (old : List Standing) → Said f old old 0
+pub said_none : (f : ℕ → EntryStanding → EntryStanding) (old : List EntryStanding) → Said f old old 0
 said_none f old = record { count = refl; done = refl; rest = λ j past. refl }
 
-pub said_more : (f : ℕ → Standing → Standing) (old now : List Standing) (k : ℕ) (x : Standing) → Said f old now k → k < length old → x ≡ f k (standing_in now k) → Said f old (set now k x) (k + 1)
-said_more f old now k x so within is = let g : ℕ → Standing = λ i. f i (standing_in old i) in record {
+pub said_more : (f : ℕ → EntryStanding → EntryStanding) (old now : List EntryStanding) (k : ℕ) (x : EntryStanding) → Said f old now k → k < length old → x ≡ f k (standing_in now k) → Said f old (set now k x) (k + 1)
+said_more f old now k x so within is = let g : ℕ → EntryStanding = λ i. f i (standing_in old i) in record {
   count = length-set now k x ∙ so.count;
   done =
       take_more_set now k x (let count = so.count in omega (arith, count)) ∙ ap (λ xs. xs ++ x ∷ []) so.done
@@ -33,7 +33,7 @@ said_more f old now k x so within is = let g : ℕ → Standing = λ i. f i (sta
   rest = λ j past. get_or-set_other now k j x fresh_standing (λ same. omega (arith, same, past)) ∙ so.rest j (omega (arith, past));
 }
 
-pub said_all : (f : ℕ → Standing → Standing) (old now : List Standing) (k : ℕ) → Said f old now k → k ≡ length old → now ≡ map (λ i. f i (standing_in old i)) (range_with_len 0 (length old))
+pub said_all : (f : ℕ → EntryStanding → EntryStanding) (old now : List EntryStanding) (k : ℕ) → Said f old now k → k ≡ length old → now ≡ map (λ i. f i (standing_in old i)) (range_with_len 0 (length old))
 said_all f old now k so whole =
     sym (take_all k now (let count = so.count in omega (arith, count, whole))) ∙ so.done ∙ ap (λ n. map (λ i. f i (standing_in old i)) (range_with_len 0 n)) whole
 
@@ -58,11 +58,11 @@ unsaid : (i : ℕ) (reissued : Bool) (news : Option ℕ) → short_at i reissued
 unsaid i reissued None none = refl
 unsaid i reissued (Some reach) none = let long : suc zero ≡ zero = ap length none in absurd (omega (arith, long))
 
-as_said : (m : WatchState) (ts : List Terms) (i : ℕ) (x : Standing) → news_of_entry m ts i x ≡ None → x ≡ said_standing m ts i x
+as_said : (m : WatchState) (ts : List Terms) (i : ℕ) (x : EntryStanding) → news_of_entry m ts i x ≡ None → x ≡ said_standing m ts i x
 unfolding said_standing
 as_said m ts i x none = ap (λ news. record x { short = said_short x.short news }) (sym none)
 
-pub nothing_said : (m : WatchState) (ts : List Terms) (xs : List Standing) → shorts_in m ts xs ≡ [] → xs ≡ said_standings m ts xs
+pub nothing_said : (m : WatchState) (ts : List Terms) (xs : List EntryStanding) → shorts_in m ts xs ≡ [] → xs ≡ said_standings m ts xs
 unfolding said_standings shorts_in
 nothing_said m ts xs none =
     let f : ℕ → List Short = λ i. short_at i (terms_at ts i).reissued (news_of_entry m ts i (standing_in xs i)) in
@@ -71,22 +71,22 @@ nothing_said m ts xs none =
 
 -- ---- what is said leaves what was told
 
-said_told : (m : WatchState) (ts : List Terms) (i : ℕ) (x : Standing) → (said_standing m ts i x).told ≡ x.told
+said_told : (m : WatchState) (ts : List Terms) (i : ℕ) (x : EntryStanding) → (said_standing m ts i x).told ≡ x.told
 unfolding said_standing
 said_told m ts i x = refl
 
-all_told : (m : WatchState) (ts : List Terms) (xs : List Standing) (i : ℕ) → (standing_in (said_standings m ts xs) i).told ≡ (standing_in xs i).told
+all_told : (m : WatchState) (ts : List Terms) (xs : List EntryStanding) (i : ℕ) → (standing_in (said_standings m ts xs) i).told ≡ (standing_in xs i).told
 unfolding said_standings
 all_told m ts xs i =
-    let f : ℕ → Standing = λ j. said_standing m ts j (standing_in xs j) in
+    let f : ℕ → EntryStanding = λ j. said_standing m ts j (standing_in xs j) in
     let count = length-map-range_with_len f 0 (length xs) in
     elim (cases_lt i (length xs)) [
-      | inl within ↦ ap (λ (x : Standing). x.told) (get_or-map-range_with_len f 0 (length xs) i i fresh_standing within (omega arith)) ∙ said_told m ts i (standing_in xs i)
+      | inl within ↦ ap (λ (x : EntryStanding). x.told) (get_or-map-range_with_len f 0 (length xs) i i fresh_standing within (omega arith)) ∙ said_told m ts i (standing_in xs i)
       | inr past ↦
-          ap (λ (x : Standing). x.told) (get_or_past (map f (range_with_len 0 (length xs))) i fresh_standing (omega (arith, past, count)) ∙ sym (get_or_past xs i fresh_standing past))
+          ap (λ (x : EntryStanding). x.told) (get_or_past (map f (range_with_len 0 (length xs))) i fresh_standing (omega (arith, past, count)) ∙ sym (get_or_past xs i fresh_standing past))
     ]
 
-said_count : (m : WatchState) (ts : List Terms) (xs : List Standing) → length (said_standings m ts xs) ≡ length xs
+said_count : (m : WatchState) (ts : List Terms) (xs : List EntryStanding) → length (said_standings m ts xs) ≡ length xs
 unfolding said_standings
 said_count m ts xs = length-map-range_with_len (λ j. said_standing m ts j (standing_in xs j)) 0 (length xs)
 

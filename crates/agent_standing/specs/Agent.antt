@@ -7,7 +7,7 @@ use Rattle.plan_forest.specs.declared.forest.TheConstants.{END_MAX}
 use Rattle.watch_machine.specs.declared.track.End.{End}
 use Rattle.watch_machine.specs.declared.track.End.TheVariants.{Unknown, At, Never}
 use Rattle.watch_machine.specs.State.{WatchState, opened, track_at}
-use Rattle.agent_standing.specs.declared.standing.Standing.{Standing}
+use Rattle.agent_standing.specs.declared.standing.EntryStanding.{EntryStanding}
 use Rattle.agent_standing.specs.declared.standing.Told.{Told}
 use Rattle.agent_standing.specs.Standings.{fresh_standing, standing_in}
 
@@ -16,10 +16,10 @@ use Rattle.agent_standing.specs.Standings.{fresh_standing, standing_in}
 pub record Agent : Type 0 where
   pub machine : WatchState
   pub inventory : Inventory
-  pub standings : List Standing
+  pub standings : List EntryStanding
   pub beginnings : ℕ
 
-abbrev pub standing_at : Agent → ℕ → Standing
+abbrev pub standing_at : Agent → ℕ → EntryStanding
 standing_at a i = standing_in a.standings i
 
 -- the end that a track believes is the one that was told, by a clock that is ahead by less than a second; none was told where it
@@ -31,7 +31,7 @@ Believes (At end) renewable (Some t) = (t.end ≤ end) × ((end ≤ t.end + 1) �
 Believes Never renewable told = told ≡ None
 
 -- no end is past the greatest
-abbrev pub IsStanding : Standing → Type 0
+abbrev pub IsStanding : EntryStanding → Type 0
 IsStanding x = IfSome x.told (λ t. t.end ≤ END_MAX)
 
 -- the machine and the standings are of as many entries as are served, and agree on what was told

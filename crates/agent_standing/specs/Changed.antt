@@ -12,7 +12,7 @@ use Rattle.plan_forest.specs.Forest.{entry_at, index_named}
 use Rattle.watch_machine.specs.declared.change.Was.{Was}
 use Rattle.watch_machine.specs.declared.change.Was.TheVariants.{New, Same, Retold}
 use Rattle.watch_machine.specs.History.{IsChanged}
-use Rattle.agent_standing.specs.declared.standing.Standing.{Standing}
+use Rattle.agent_standing.specs.declared.standing.EntryStanding.{EntryStanding}
 use Rattle.agent_standing.specs.Agent.{Agent, standing_at}
 use Rattle.agent_standing.specs.Standings.{fresh_standing}
 
@@ -37,12 +37,12 @@ if_same s t j (Some i) = if is_same_entry s t i j then Some i else None
 unfoldable pub former : Inventory → Inventory → ℕ → Option ℕ
 former s t j = if_same s t j (index_named s.forest.entries (entry_at t.forest.entries j).name)
 
-abbrev pub standing_of : Agent → Option ℕ → Standing
+abbrev pub standing_of : Agent → Option ℕ → EntryStanding
 standing_of a None = fresh_standing
 standing_of a (Some i) = standing_at a i
 
 -- its standing there, a fresh one where it was not
-unfoldable pub carried_standing : Agent → Inventory → ℕ → Standing
+unfoldable pub carried_standing : Agent → Inventory → ℕ → EntryStanding
 carried_standing a t j = standing_of a (former a.inventory t j)
 
 -- ---- what the inventory says of an entry, but for its need

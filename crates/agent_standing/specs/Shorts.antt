@@ -9,7 +9,7 @@ use Rattle.watch_machine.specs.Outlook.{broker_now}
 use Rattle.watch_machine.specs.Shortness.{is_news, short_of}
 use Rattle.watch_machine.specs.State.{WatchState, entry_of, track_at}
 use Rattle.agent_standing.specs.declared.shorts.Short.{Short}
-use Rattle.agent_standing.specs.declared.standing.Standing.{Standing}
+use Rattle.agent_standing.specs.declared.standing.EntryStanding.{EntryStanding}
 use Rattle.agent_standing.specs.Agent.{Agent}
 use Rattle.agent_standing.specs.Standings.{standing_in}
 use Rattle.agent_standing.specs.Status.{has_ended, is_gone}
@@ -31,7 +31,7 @@ abbrev pub news_in : WatchState → List Terms → ℕ → Option ℕ → Option
 news_in m ts i last = news_of_reach (terms_at ts i).reissued m.forest.margin (notice_of m.forest.margin (entry_of m i).step) (broker_now m) (entry_of m i).need last (short_of m i)
 
 -- nothing of one that is gone or has ended: that was said, and says more
-abbrev pub news_of_entry : WatchState → List Terms → ℕ → Standing → Option ℕ
+abbrev pub news_of_entry : WatchState → List Terms → ℕ → EntryStanding → Option ℕ
 news_of_entry m ts i x = if is_gone x.trouble || has_ended m (track_at m i).end then None else news_in m ts i x.short
 
 abbrev pub short_at : ℕ → Bool → Option ℕ → List Short
@@ -39,7 +39,7 @@ short_at i reissued None = []
 short_at i reissued (Some reach) = record { entry = i; reach = reach; reissued = reissued } ∷ []
 
 -- all that is to be said, by entry
-unfoldable pub shorts_in : WatchState → List Terms → List Standing → List Short
+unfoldable pub shorts_in : WatchState → List Terms → List EntryStanding → List Short
 shorts_in m ts xs = flat_map (λ i. short_at i (terms_at ts i).reissued (news_of_entry m ts i (standing_in xs i))) (range_with_len 0 (length xs))
 
 abbrev pub shorts_of : Agent → List Short
@@ -50,10 +50,10 @@ abbrev pub said_short : Option ℕ → Option ℕ → Option ℕ
 said_short last None = last
 said_short last (Some reach) = Some reach
 
-unfoldable pub said_standing : WatchState → List Terms → ℕ → Standing → Standing
+unfoldable pub said_standing : WatchState → List Terms → ℕ → EntryStanding → EntryStanding
 said_standing m ts i x = record x { short = said_short x.short (news_of_entry m ts i x) }
 
-unfoldable pub said_standings : WatchState → List Terms → List Standing → List Standing
+unfoldable pub said_standings : WatchState → List Terms → List EntryStanding → List EntryStanding
 said_standings m ts xs = map (λ i. said_standing m ts i (standing_in xs i)) (range_with_len 0 (length xs))
 
 abbrev pub all_said : Agent → Agent

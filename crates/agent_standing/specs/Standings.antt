@@ -3,24 +3,24 @@
 -- lease", "Renew lease".
 use Rattle.std.specs.Prelude.{ℕ, ◌+◌, ◌-◌, ◌*◌, ◌/◌, Bool, List, Option, Some, None, min, slice_index_or, slice_set}
 use Rattle.watch_machine.specs.declared.clocks.Clocks.{Clocks}
-use Rattle.watch_machine.specs.declared.event.Event.{Event}
-use Rattle.watch_machine.specs.declared.event.Event.TheVariants.{Clock, Looked, Renewed, Need, Begin, Known}
-use Rattle.watch_machine.specs.declared.event.Reply.{Reply}
-use Rattle.watch_machine.specs.declared.event.Reply.TheVariants as replies
+use Rattle.watch_machine.specs.declared.event.WatchEvent.{WatchEvent}
+use Rattle.watch_machine.specs.declared.event.WatchEvent.TheVariants.{Clock, Looked, Renewed, Need, Begin, Known}
+use Rattle.watch_machine.specs.declared.event.WatchReply.{WatchReply}
+use Rattle.watch_machine.specs.declared.event.WatchReply.TheVariants as replies
 use Rattle.watch_machine.specs.declared.track.End.{End}
 use Rattle.watch_machine.specs.declared.track.End.TheVariants.{Unknown, At, Never}
 use Rattle.watch_machine.specs.State.{WatchState, track_at}
-use Rattle.agent_standing.specs.declared.standing.Standing.{Standing}
+use Rattle.agent_standing.specs.declared.standing.EntryStanding.{EntryStanding}
 use Rattle.agent_standing.specs.declared.standing.Told.{Told}
 use Rattle.agent_standing.specs.declared.standing.Trouble.{Trouble}
 use Rattle.agent_standing.specs.declared.standing.Trouble.TheVariants.{Lost, Refused, Gone}
 
 -- nothing was told of an entry yet
-abbrev pub fresh_standing : Standing
+abbrev pub fresh_standing : EntryStanding
 fresh_standing = record { told = None; trouble = None; short = None; granted_at = None; granted = 0; refused = 0; lost = 0 }
 
 -- the standing at an index of a list, a fresh one past its end
-abbrev pub standing_in : List Standing → ℕ → Standing
+abbrev pub standing_in : List EntryStanding → ℕ → EntryStanding
 standing_in xs i = slice_index_or xs i fresh_standing
 
 -- one more, as far as is counted
@@ -48,14 +48,14 @@ troubled (Some Refused) t = Some t
 troubled (Some Gone) t = Some Gone
 
 -- the standing of an entry after the answer to its lookup, in the machine after it
-abbrev pub looked_standing : WatchState → ℕ → Reply → Standing → Standing
+abbrev pub looked_standing : WatchState → ℕ → WatchReply → EntryStanding → EntryStanding
 looked_standing m i (replies.Told seconds renewable date) x = record x { told = told_of m i; trouble = None }
 looked_standing m i (replies.Refused status date) x = record x { trouble = Some Gone }
 looked_standing m i replies.Busy x = record x { trouble = troubled x.trouble Lost }
 looked_standing m i replies.Lost x = record x { trouble = troubled x.trouble Lost }
 
 -- and after the answer to its renewal
-abbrev pub renewed_standing : WatchState → ℕ → Reply → Standing → Standing
+abbrev pub renewed_standing : WatchState → ℕ → WatchReply → EntryStanding → EntryStanding
 renewed_standing m i (replies.Told seconds renewable date) x =
     record x { told = told_of m i; trouble = None; granted_at = Some (m.clocks.at - m.clocks.phase); granted = more x.granted }
 renewed_standing m i (replies.Refused status date) x = record x { trouble = troubled x.trouble Refused; refused = more x.refused }
@@ -63,11 +63,11 @@ renewed_standing m i replies.Busy x = record x { trouble = troubled x.trouble Lo
 renewed_standing m i replies.Lost x = record x { trouble = troubled x.trouble Lost; lost = more x.lost }
 
 -- and once an end is handed in that is known, in the machine after it
-abbrev pub known_standing : WatchState → ℕ → Standing → Standing
+abbrev pub known_standing : WatchState → ℕ → EntryStanding → EntryStanding
 known_standing m i x = record x { told = told_of m i }
 
 -- the standings after an event, in the machine after it: only that of its own entry is another
-abbrev pub standings_after : WatchState → Event → List Standing → List Standing
+abbrev pub standings_after : WatchState → WatchEvent → List EntryStanding → List EntryStanding
 standings_after m (Clock wall elapsed) xs = xs
 standings_after m (Looked i reply terms) xs = slice_set xs i (looked_standing m i reply (standing_in xs i))
 standings_after m (Renewed i reply) xs = slice_set xs i (renewed_standing m i reply (standing_in xs i))

@@ -3,17 +3,17 @@
 use Rattle.std.specs.Prelude.{◌≡◌, ℕ, Option, Some, None, Result, Ok, Err, min}
 use Rattle.vault_inventory.specs.Inventories.{Inventory, inventory_with_need}
 use Rattle.base_moment.specs.declared.moment.TheConstants.{LAST}
-use Rattle.watch_machine.specs.declared.command.Output.{Output}
-use Rattle.watch_machine.specs.declared.event.Event.{Event}
-use Rattle.watch_machine.specs.declared.event.Event.TheVariants.{Clock, Looked, Renewed, Need, Begin, Known}
+use Rattle.watch_machine.specs.declared.command.WatchOutput.{WatchOutput}
+use Rattle.watch_machine.specs.declared.event.WatchEvent.{WatchEvent}
+use Rattle.watch_machine.specs.declared.event.WatchEvent.TheVariants.{Clock, Looked, Renewed, Need, Begin, Known}
 use Rattle.watch_machine.specs.declared.fault.WatchFault.{WatchFault}
-use Rattle.watch_machine.specs.declared.notes.Why.{Why}
+use Rattle.watch_machine.specs.declared.notes.BeginReason.{BeginReason}
 use Rattle.watch_machine.specs.History.{Turn}
 use Rattle.agent_standing.specs.Agent.{Agent}
 use Rattle.agent_standing.specs.Standings.{more, standings_after}
 
 -- what is served after an event: with the new need of an entry
-abbrev pub inventory_after : Event → Inventory → Inventory
+abbrev pub inventory_after : WatchEvent → Inventory → Inventory
 inventory_after (Clock wall elapsed) s = s
 inventory_after (Looked i reply terms) s = s
 inventory_after (Renewed i reply) s = s
@@ -22,18 +22,18 @@ inventory_after Begin s = s
 inventory_after (Known i end renewable) s = s
 
 -- how often everything was looked up anew
-abbrev pub beginnings_after : Option Why → ℕ → ℕ
+abbrev pub beginnings_after : Option BeginReason → ℕ → ℕ
 beginnings_after None n = n
 beginnings_after (Some why) n = more n
 
 -- the machine takes the event in a turn of its own, and everything else follows it
-pub record EventIsTaken (old : Agent) (event : Event) (output : Output) (new : Agent) : Type 0 where
+pub record EventIsTaken (old : Agent) (event : WatchEvent) (output : WatchOutput) (new : Agent) : Type 0 where
   pub machine : Turn old.machine event (Ok output) new.machine
   pub inventory : new.inventory ≡ inventory_after event old.inventory
   pub standings : new.standings ≡ standings_after new.machine event old.standings
   pub beginnings : new.beginnings ≡ beginnings_after output.notes.began old.beginnings
 
 -- what an event gives: that; or what the machine refuses or has no memory for, which leaves all as it was
-abbrev pub AgentTurn : Agent → Event → Result Output WatchFault → Agent → Type 0
+abbrev pub AgentTurn : Agent → WatchEvent → Result WatchOutput WatchFault → Agent → Type 0
 AgentTurn old event (Ok output) new = EventIsTaken old event output new
 AgentTurn old event (Err fault) new = Turn old.machine event (Err fault) old.machine × (new ≡ old)

@@ -5,7 +5,7 @@ ghost use Rattle.agent_standing.specs.Standings.{fresh_standing};
 ghost use Rattle.watch_machine.specs.Outlook.{IsNextTime};
 ghost use Rattle.watch_machine.specs.declared.fault.WatchFault.TheVariants.{OutOfMemory};
 
-use crate::standing::Standing;
+use crate::standing::EntryStanding;
 use std::alloc::{AllocError, Global};
 use std::marker::Model;
 use vault_inventory::Inventory;
@@ -17,7 +17,7 @@ pub struct Agent {
     pub(crate) watch: Watch,
     // the names and the credentials, and the needs as they were given last
     pub(crate) inventory: Inventory,
-    pub(crate) standings: Vec<Standing>,
+    pub(crate) standings: Vec<EntryStanding>,
     pub(crate) beginnings: u64,
 }
 
@@ -32,12 +32,12 @@ impl Model for Agent {
 }
 
 /// The standings of so many entries of which nothing was told yet. The only error is out of memory.
-fn fresh_standings(alloc: Global, count: u32) -> Result<Vec<Standing>, AllocError>
+fn fresh_standings(alloc: Global, count: u32) -> Result<Vec<EntryStanding>, AllocError>
     ensures { IfOk result (λ standings. standings.items ≡ replicate count fresh_standing) }
 {
     let mut standings = Vec::new(alloc);
     for _ in 0..count {
-        standings.push(Standing::fresh())?;
+        standings.push(EntryStanding::fresh())?;
     }
     Ok(standings)
 }
@@ -78,7 +78,7 @@ impl Agent {
     }
 
     /// What is said of the entry at an index.
-    pub fn standing(&self, entry: u32) -> Standing
+    pub fn standing(&self, entry: u32) -> EntryStanding
         requires { entry < length self.now.inventory.forest.entries }
         ensures value { result ≡ standing_at self.now entry }
         ensures bounds { IsStanding result }

@@ -7,7 +7,7 @@ ghost use Rattle.agent_standing.specs.Changed.{AgentIsChanged, all_was, carried_
 ghost use Rattle.watch_machine.specs.declared.fault.WatchFault.TheVariants.{OutOfMemory};
 
 use crate::agent::Agent;
-use crate::standing::Standing;
+use crate::standing::EntryStanding;
 use base_moment::Span;
 use plan_forest::{Entry, Forest, Kind};
 use std::alloc::{AllocError, Global};
@@ -35,7 +35,7 @@ impl Agent {
     }
 
     /// What is said of each entry of another inventory from then on. The only error is out of memory.
-    fn carried(&self, alloc: Global, inventory: &Inventory) -> Result<Vec<Standing>, AllocError>
+    fn carried(&self, alloc: Global, inventory: &Inventory) -> Result<Vec<EntryStanding>, AllocError>
         ensures value { IfOk result (λ standings. standings.items ≡ map (carried_standing self.now inventory.now) (range_with_len 0 (length inventory.now.forest.entries))) }
         ensures bounds { IfOk result (λ standings. All IsStanding standings.items) }
     {
@@ -48,13 +48,13 @@ impl Agent {
 
     /// What is said of an entry of another inventory from then on.
     #[tactic(auto, unfolding(crate::specs::Changed::carried_standing))]
-    fn carried_standing(&self, inventory: &Inventory, index: u32) -> Standing
+    fn carried_standing(&self, inventory: &Inventory, index: u32) -> EntryStanding
         requires { index < length inventory.now.forest.entries }
         ensures value { result ≡ carried_standing self.now inventory.now index }
         ensures bounds { IsStanding result }
     {
         match self.former(inventory, index) {
-            None => Standing::fresh(),
+            None => EntryStanding::fresh(),
             Some(former) => self.standing(former),
         }
     }

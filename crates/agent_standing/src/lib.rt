@@ -22,6 +22,6 @@ pub use agent::Agent;
 pub use ends::{KnownEnd, end_text, read_end};
 pub use laws::{ends_are_read_back, nothing_is_forgotten};
 pub use shorts::Short;
-pub use standing::{Standing, Told, Trouble};
+pub use standing::{EntryStanding, Told, Trouble};
 pub use status::{Condition, Status};
 pub use waiting::{TOGETHER, Waiting};

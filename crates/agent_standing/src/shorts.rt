@@ -6,7 +6,7 @@ ghost use Rattle.agent_standing.specs.Shorts.{all_said, is_near, news_in, news_o
 ghost use Rattle.watch_machine.specs.Shortness.{is_news};
 
 use crate::agent::Agent;
-use crate::standing::Standing;
+use crate::standing::EntryStanding;
 use crate::status::{has_ended, is_gone};
 use base_moment::LAST;
 use std::alloc::{AllocError, Global};
@@ -45,7 +45,7 @@ fn shorts_of(
     alloc: Global,
     watch: &Watch,
     inventory: &Inventory,
-    standings: &[Standing],
+    standings: &[EntryStanding],
 ) -> Result<Vec<Short>, AllocError>
     requires count { length standings.now ≡ length watch.now.forest.entries }
     requires served { length inventory.now.forest.entries ≡ length watch.now.forest.entries }
@@ -81,7 +81,7 @@ fn push_short(
 
 /// All of this is said. Mostly there is nothing, and then no entry is looked at again.
 #[tactic(auto, using(crate::proofs::Saying::nothing_said))]
-fn say(watch: &Watch, inventory: &Inventory, shorts: &[Short], standings: &mut [Standing])
+fn say(watch: &Watch, inventory: &Inventory, shorts: &[Short], standings: &mut [EntryStanding])
     requires count { length standings.old ≡ length watch.now.forest.entries }
     requires served { length inventory.now.forest.entries ≡ length watch.now.forest.entries }
     requires bounds { All IsStanding standings.old }
@@ -95,7 +95,7 @@ fn say(watch: &Watch, inventory: &Inventory, shorts: &[Short], standings: &mut [
 }
 
 /// All of it is said.
-fn say_all(watch: &Watch, inventory: &Inventory, standings: &mut [Standing])
+fn say_all(watch: &Watch, inventory: &Inventory, standings: &mut [EntryStanding])
     requires count { length standings.old ≡ length watch.now.forest.entries }
     requires served { length inventory.now.forest.entries ≡ length watch.now.forest.entries }
     requires bounds { All IsStanding standings.old }
@@ -110,7 +110,7 @@ fn say_all(watch: &Watch, inventory: &Inventory, standings: &mut [Standing])
 
 /// The standing of an entry once its reach is said, where that is news.
 #[tactic(auto, unfolding(crate::specs::Shorts::said_standing))]
-fn said(watch: &Watch, inventory: &Inventory, entry: u32, standing: Standing) -> Standing
+fn said(watch: &Watch, inventory: &Inventory, entry: u32, standing: EntryStanding) -> EntryStanding
     requires within { entry < length watch.now.forest.entries }
     requires served { length inventory.now.forest.entries ≡ length watch.now.forest.entries }
     requires bounds { IsStanding standing }
@@ -120,7 +120,7 @@ fn said(watch: &Watch, inventory: &Inventory, entry: u32, standing: Standing) ->
 {
     match news_of_entry(watch, inventory, entry, standing) {
         None => standing,
-        Some(reach) => Standing {
+        Some(reach) => EntryStanding {
             short: Some(reach),
             ..standing
         },
@@ -132,7 +132,7 @@ fn news_of_entry(
     watch: &Watch,
     inventory: &Inventory,
     entry: u32,
-    standing: Standing,
+    standing: EntryStanding,
 ) -> Option<u64>
     requires within { entry < length watch.now.forest.entries }
     requires served { length inventory.now.forest.entries ≡ length watch.now.forest.entries }

@@ -4,7 +4,7 @@ ghost use Rattle.agent_standing.specs.Agent.{IsStanding};
 ghost use Rattle.agent_standing.specs.Standings.{fresh_standing, known_standing, looked_standing, more, renewed_standing, told_of, troubled};
 ghost use Rattle.plan_forest.specs.declared.forest.TheConstants.{END_MAX};
 
-use watch_machine::{End, Millis, Reply, Seconds, Watch};
+use watch_machine::{End, Millis, WatchReply, Seconds, Watch};
 
 /// What the broker told of an entry in this boot, of the credential that is served.
 #[derive(Clone, Copy, Debug, PartialEq, Eq)]
@@ -30,7 +30,7 @@ pub enum Trouble {
 
 /// What `status`, `health` and the metrics say of an entry. There is no credential in it.
 #[derive(Clone, Copy, Debug, PartialEq, Eq)]
-pub struct Standing {
+pub struct EntryStanding {
     /// What was told of it; `None` where nothing was, or that it never ends.
     pub told: Option<Told>,
     /// What is wrong with it.
@@ -47,13 +47,13 @@ pub struct Standing {
     pub lost: u64,
 }
 
-impl Standing {
+impl EntryStanding {
     /// That of an entry of which nothing was told yet.
-    pub fn fresh() -> Standing
+    pub fn fresh() -> EntryStanding
         ensures value { result ≡ fresh_standing }
         ensures bounds { IsStanding result }
     {
-        Standing {
+        EntryStanding {
             told: None,
             trouble: None,
             short: None,
@@ -65,23 +65,23 @@ impl Standing {
     }
 
     /// After the answer to its lookup, which the Watch has taken.
-    pub(crate) fn looked(self, watch: &Watch, entry: u32, reply: Reply) -> Standing
+    pub(crate) fn looked(self, watch: &Watch, entry: u32, reply: WatchReply) -> EntryStanding
         requires within { entry < length watch.now.forest.entries }
         requires bounds { IsStanding self }
         ensures value { result ≡ looked_standing watch.now entry reply self }
         ensures bounds { IsStanding result }
     {
         match reply {
-            Reply::Told { .. } => Standing {
+            WatchReply::Told { .. } => EntryStanding {
                 told: told_of(watch, entry),
                 trouble: None,
                 ..self
             },
-            Reply::Refused { .. } => Standing {
+            WatchReply::Refused { .. } => EntryStanding {
                 trouble: Some(Trouble::Gone),
                 ..self
             },
-            Reply::Busy | Reply::Lost => Standing {
+            WatchReply::Busy | WatchReply::Lost => EntryStanding {
                 trouble: troubled(self.trouble, Trouble::Lost),
                 ..self
             },
@@ -89,26 +89,26 @@ impl Standing {
     }
 
     /// After the answer to its renewal, which the Watch has taken.
-    pub(crate) fn renewed(self, watch: &Watch, entry: u32, reply: Reply) -> Standing
+    pub(crate) fn renewed(self, watch: &Watch, entry: u32, reply: WatchReply) -> EntryStanding
         requires within { entry < length watch.now.forest.entries }
         requires bounds { IsStanding self }
         ensures value { result ≡ renewed_standing watch.now entry reply self }
         ensures bounds { IsStanding result }
     {
         match reply {
-            Reply::Told { .. } => Standing {
+            WatchReply::Told { .. } => EntryStanding {
                 told: told_of(watch, entry),
                 trouble: None,
                 granted_at: Some(now_of(watch)),
                 granted: more(self.granted),
                 ..self
             },
-            Reply::Refused { .. } => Standing {
+            WatchReply::Refused { .. } => EntryStanding {
                 trouble: troubled(self.trouble, Trouble::Refused),
                 refused: more(self.refused),
                 ..self
             },
-            Reply::Busy | Reply::Lost => Standing {
+            WatchReply::Busy | WatchReply::Lost => EntryStanding {
                 trouble: troubled(self.trouble, Trouble::Lost),
                 lost: more(self.lost),
                 ..self
@@ -117,13 +117,13 @@ impl Standing {
     }
 
     /// Once an end is handed in that is known, which the Watch has taken.
-    pub(crate) fn known(self, watch: &Watch, entry: u32) -> Standing
+    pub(crate) fn known(self, watch: &Watch, entry: u32) -> EntryStanding
         requires within { entry < length watch.now.forest.entries }
         requires bounds { IsStanding self }
         ensures value { result ≡ known_standing watch.now entry self }
         ensures bounds { IsStanding result }
     {
-        Standing {
+        EntryStanding {
             told: told_of(watch, entry),
             ..self
         }

@@ -9,11 +9,11 @@ ghost use Rattle.watch_machine.specs.Refusal.{refusal};
 ghost use Rattle.watch_machine.specs.declared.fault.WatchFault.{WatchFault};
 
 use crate::agent::Agent;
-use crate::standing::{Standing, more};
+use crate::standing::{EntryStanding, more};
 use base_moment::{LAST, Moment};
 use std::alloc::Global;
 use vault_inventory::Inventory;
-use watch_machine::{Event, Output, Watch, WatchFault, Why};
+use watch_machine::{WatchEvent, WatchOutput, Watch, WatchFault, BeginReason};
 
 impl Agent {
     /// Takes one event: the Watch takes it, and what is said of its entry follows. Readings of clocks are milliseconds, durations
@@ -26,7 +26,7 @@ impl Agent {
     /// Those of the Watch: `BadIndex`, there is no such entry; `NotAsked`, an answer to no request that is out; `OutOfMemory`, which
     /// may come in the place of the answer to a clock, and to an answer. Each leaves the agent as it was.
     #[tactic(auto, using(crate::proofs::Within::taken_within))]
-    pub fn turn(&mut self, alloc: Global, event: Event) -> Result<Output, WatchFault>
+    pub fn turn(&mut self, alloc: Global, event: WatchEvent) -> Result<WatchOutput, WatchFault>
         ensures turn { AgentTurn self.old event result self.new }
         ensures refused { IfSome (refusal self.old.machine event) (λ fault. result ≡ Err fault) }
         ensures memory { refusal self.old.machine event ≡ None → IsOkUnless result WatchFault.OutOfMemory }
@@ -41,7 +41,7 @@ impl Agent {
 }
 
 /// What is said of the entry of an event that the Watch has taken. Of an entry that is no more nothing is.
-fn stand(watch: &Watch, standings: &mut [Standing], event: Event)
+fn stand(watch: &Watch, standings: &mut [EntryStanding], event: WatchEvent)
     requires within { IsEventWithin (length standings.old) event }
     requires count { length standings.old ≡ length watch.now.forest.entries }
     requires bounds { All IsStanding standings.old }
@@ -49,20 +49,20 @@ fn stand(watch: &Watch, standings: &mut [Standing], event: Event)
     ensures bounds { All IsStanding standings.new }
 {
     match event {
-        Event::Clock { .. } | Event::Need { .. } | Event::Begin => {}
-        Event::Looked { entry, reply, .. } => {
+        WatchEvent::Clock { .. } | WatchEvent::Need { .. } | WatchEvent::Begin => {}
+        WatchEvent::Looked { entry, reply, .. } => {
             let index = entry as usize;
             if index < standings.len() {
                 standings[index] = standings[index].looked(watch, entry, reply);
             }
         }
-        Event::Renewed { entry, reply } => {
+        WatchEvent::Renewed { entry, reply } => {
             let index = entry as usize;
             if index < standings.len() {
                 standings[index] = standings[index].renewed(watch, entry, reply);
             }
         }
-        Event::Known { entry, .. } => {
+        WatchEvent::Known { entry, .. } => {
             let index = entry as usize;
             standings[index] = standings[index].known(watch, entry);
         }
@@ -70,17 +70,17 @@ fn stand(watch: &Watch, standings: &mut [Standing], event: Event)
 }
 
 /// What is served after an event.
-fn set_need(inventory: &mut Inventory, event: Event)
+fn set_need(inventory: &mut Inventory, event: WatchEvent)
     requires { IsEventWithin (length inventory.old.forest.entries) event }
     ensures { inventory.new ≡ inventory_after event inventory.old }
 {
-    if let Event::Need { entry, until } = event {
+    if let WatchEvent::Need { entry, until } = event {
         inventory.set_need(entry, Moment::new(LAST.min(until)).unwrap());
     }
 }
 
 /// How often everything was looked up anew.
-fn beginnings_after(began: Option<Why>, beginnings: u64) -> u64
+fn beginnings_after(began: Option<BeginReason>, beginnings: u64) -> u64
     ensures { result ≡ beginnings_after began beginnings }
 {
     match began {

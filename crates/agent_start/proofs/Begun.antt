@@ -19,7 +19,7 @@ use Rattle.agent_start.specs.declared.folder.NotBegun.{NotBegun}
 use Rattle.agent_start.specs.declared.folder.NotBegun.TheVariants as nots
 use Rattle.agent_system.specs.declared.reading.Inventories.{Inventories}
 use Rattle.agent_words.specs.declared.said.About.TheVariants.{SecretFile}
-use Rattle.agent_words.specs.declared.said.Said.{Said}
+use Rattle.agent_words.specs.declared.said.SaidLine.{SaidLine}
 use Rattle.agent_start.specs.declared.start.Start.{Start}
 
 is_reason : (has_folder : Bool) (why : NotBegun) → IsWhyNotBegun has_folder why → IsReason why
@@ -105,13 +105,13 @@ all_unheld : (lines : List (List ℕ)) → All SaysUnheld (map (said_as Alert Se
 all_unheld [] = All-nil SaysUnheld
 all_unheld (line ∷ lines) = All-cons SaysUnheld (said_as Alert SecretFile line) (map (said_as Alert SecretFile) lines) (refl, refl) (all_unheld lines)
 
-said_after : (known : Files) (folder bytes : List ℕ) (d : Demands) (i : Inventories) (first : Said) (old new : List Said) → SaysUnused first → old ≡ first ∷ [] → ServesHeld known folder bytes d old new i → IsSaidAlone true new
+said_after : (known : Files) (folder bytes : List ℕ) (d : Demands) (i : Inventories) (first : SaidLine) (old new : List SaidLine) → SaysUnused first → old ≡ first ∷ [] → ServesHeld known folder bytes d old new i → IsSaidAlone true new
 said_after known folder bytes d i first old new unused is (inl whole) = subst (IsSaidAlone true) (sym (whole.1 ∙ is)) (unused, All-nil SaysUnheld)
 said_after known folder bytes d i first old new unused is (inr held) =
     let all : new ≡ first ∷ map (said_as Alert SecretFile) held.lines = held.said ∙ ap (λ l. l ++ map (said_as Alert SecretFile) held.lines) is in
     subst (IsSaidAlone true) (sym all) (unused, all_unheld held.lines)
 
-module _ {K : Type 0} (d : Demands) (i : Inventories) (said : Vec Said Global) (s : Start K) (is : s ≡ record { part = d.earlier; behind = d.behind; inventories = i; ledger = None; is_good = true; said = said }) where
+module _ {K : Type 0} (d : Demands) (i : Inventories) (said : Vec SaidLine Global) (s : Start K) (is : s ≡ record { part = d.earlier; behind = d.behind; inventories = i; ledger = None; is_good = true; said = said }) where
   alone_by : (d.earlier ≡ 0 → i.again ≡ None) → (has_folder : Bool) → IsSaidAlone has_folder said.items → IsStartAlone d has_folder s
   alone_by alone has_folder so = subst (IsStartAlone d has_folder) (sym is) (record { spread = record { part = refl; behind = refl; alone = alone }; none = refl; said = so; good = refl })
 
@@ -124,9 +124,9 @@ module _ {K : Type 0} (d : Demands) (i : Inventories) (said : Vec Said Global) (
 
   -- with one it is, before anything else
   pub alone_unused :
-      (known_file known : Files) (file : List ℕ) (first : Said) (old : List Said) → (d.earlier ≡ 0 → i.again ≡ None) → SaysUnused first → old ≡ first ∷ [] → IsServedUnkept known_file known file d old said.items i → IsStartAlone d true s
+      (known_file known : Files) (file : List ℕ) (first : SaidLine) (old : List SaidLine) → (d.earlier ≡ 0 → i.again ≡ None) → SaysUnused first → old ≡ first ∷ [] → IsServedUnkept known_file known file d old said.items i → IsStartAlone d true s
   alone_unused known_file known file first old alone unused first_is served = alone_by alone true (said_after known (folder_of file) served.bytes d i first old said.items unused first_is served.held)
 
-  pub alone_unkept : (known_file known : Files) (file : List ℕ) (first : Said) (old : List Said) → old ≡ first ∷ [] → IsServedUnkept known_file known file d old said.items i → IsServedAlone true known_file known file d s
+  pub alone_unkept : (known_file known : Files) (file : List ℕ) (first : SaidLine) (old : List SaidLine) → old ≡ first ∷ [] → IsServedUnkept known_file known file d old said.items i → IsServedAlone true known_file known file d s
   alone_unkept known_file known file first old first_is served =
       subst (IsServedAlone true known_file known file d) (sym is) (record { serves = (first, subst (λ o. IsServedUnkept known_file known file d o said.items i) first_is served) })

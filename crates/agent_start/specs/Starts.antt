@@ -15,12 +15,12 @@ use Rattle.agent_system.specs.Saying.{IsSaidAs}
 use Rattle.agent_start.specs.declared.folder.NotBegun.{NotBegun}
 use Rattle.agent_start.specs.declared.folder.NotBegun.TheVariants as nots
 use Rattle.agent_words.specs.declared.said.About.TheVariants.{Folder, SecretFile}
-use Rattle.agent_words.specs.declared.said.Said.{Said}
+use Rattle.agent_words.specs.declared.said.SaidLine.{SaidLine}
 use Rattle.agent_start.specs.declared.start.Start.{Start}
 
 -- ---- a folder that cannot be used
 
-abbrev pub SaysUnused : Said → Type 0
+abbrev pub SaysUnused : SaidLine → Type 0
 SaysUnused s = IsSaidAs Alert Folder s
 
 -- why nothing is served with a folder: if that is because it cannot be used, it is said
@@ -46,12 +46,12 @@ IsWhyNotBegun false why = why ≡ nots.NoFolder
 IsWhyNotBegun true why = IsOfFolder why
 
 -- an entry is left out whose file holds no credential
-abbrev pub SaysUnheld : Said → Type 0
+abbrev pub SaysUnheld : SaidLine → Type 0
 SaysUnheld s = IsSaidAs Alert SecretFile s
 
 -- of a start without a ledger it is said that the folder cannot be used, and of which entries the files hold nothing; and nothing where there
 -- is no folder
-abbrev pub IsSaidAlone : Bool → List Said → Type 0
+abbrev pub IsSaidAlone : Bool → List SaidLine → Type 0
 IsSaidAlone false said = said ≡ []
 IsSaidAlone true [] = ⊥
 IsSaidAlone true (s ∷ rest) = SaysUnused s × All SaysUnheld rest

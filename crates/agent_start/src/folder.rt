@@ -10,7 +10,7 @@ use crate::found::{Found, find};
 use crate::start::{Start, SystemLedger};
 use agent_ledger::Ledger;
 use agent_system::{Inventories, SystemSecrets, folder_of, push, push_each, set_aside};
-use agent_words::{About, Demands, Said, after, disk_words};
+use agent_words::{About, Demands, SaidLine, after, disk_words};
 use base_device::{Sink, Watched};
 use base_disk::{Disk, DiskFault, SystemDisk};
 use base_files::Inputs;
@@ -18,8 +18,8 @@ use base_log::Level;
 use base_moment::Text;
 use base_words::push_number;
 use program_report::{Exit, PROGRAM, Stop, tell};
-use state_changes::Note;
-use state_keeping::{OpenFault, Opened, Paths, PathsFault, State, Unopened};
+use state_changes::JournalNote;
+use state_keeping::{OpenFault, OpenedState, Paths, PathsFault, State, Unopened};
 use state_secrets::Looking;
 use std::alloc::{AllocError, Global};
 use std::fs::File;
@@ -62,7 +62,7 @@ pub(crate) enum NotBegun {
     /// There is none: the file is served without it.
     NoFolder,
     /// The folder cannot be used: the file is served without it, and this is said.
-    Unused(Said),
+    Unused(SaidLine),
     /// Another agent holds the folder.
     Held,
     /// Neither the file nor its copy may be served.
@@ -115,7 +115,7 @@ pub(crate) fn open_in<'a, R: Files<File = File> + AllocGlobal>(
     paths: &'a Paths,
     name: &str,
     demands: Demands,
-) -> Result<(Opened<'a, SystemDisk<'a, R>>, Vec<Said>), NotBegun>
+) -> Result<(OpenedState<'a, SystemDisk<'a, R>>, Vec<SaidLine>), NotBegun>
     ensures { IfErr result IsOfFolder }
 {
     let alloc = rt.alloc();
@@ -175,7 +175,7 @@ fn keep_unread<D: Disk>(
     disk: &mut D,
     paths: &Paths,
     folder: &str,
-    said: &mut Vec<Said>,
+    said: &mut Vec<SaidLine>,
 ) -> Result<(), NotBegun>
     ensures { IfErr result IsOfFolder }
 {
@@ -192,7 +192,7 @@ fn open<'a, R: Files<File = File> + AllocGlobal>(
     paths: &'a Paths,
     folder: &str,
     found: &Found,
-) -> Result<Opened<'a, SystemDisk<'a, R>>, NotBegun>
+) -> Result<OpenedState<'a, SystemDisk<'a, R>>, NotBegun>
     ensures { IfErr result IsOfFolder }
 {
     match State::open(
@@ -226,8 +226,8 @@ pub fn start_with<'a, D: Disk + Drop, I: Inputs + Drop, L: Lanes + Drop>(
     paths: &'a Paths,
     demands: Demands,
     files: I,
-    opened: Opened<'a, D>,
-    said: Vec<Said>,
+    opened: OpenedState<'a, D>,
+    said: Vec<SaidLine>,
 ) -> Result<Start<Ledger<'a, D, I, L>>, AllocError>
     ensures start { IfOk result (IsStart demands true) }
     ensures there { IfOk result (λ s. is_some s.ledger ≡ true) }
@@ -236,7 +236,7 @@ pub fn start_with<'a, D: Disk + Drop, I: Inputs + Drop, L: Lanes + Drop>(
 {
     let mut said = said;
     say_opened(alloc, paths, &opened, &mut said)?;
-    let Opened {
+    let OpenedState {
         lock: _,
         state,
         notes,
@@ -286,8 +286,8 @@ pub(crate) fn ledger_of<'a, D: Disk, I: Inputs, L: Lanes>(
 fn filled<D: Disk, I: Inputs, L: Lanes>(
     alloc: Global,
     ledger: &mut Ledger<'_, D, I, L>,
-    notes: &[Note],
-    said: &mut Vec<Said>,
+    notes: &[JournalNote],
+    said: &mut Vec<SaidLine>,
 ) -> Result<Inventories, AllocError>
     requires fresh { IsFreshLedger ledger.old }
     ensures at_start { OnOk result (IsLedgerAtStart ledger.old.demands ledger.new) }
@@ -308,8 +308,8 @@ pub(crate) fn fill_and_say<D: Disk, I: Inputs, L: Lanes>(
     alloc: Global,
     now: u64,
     ledger: &mut Ledger<'_, D, I, L>,
-    notes: &[Note],
-    said: &mut Vec<Said>,
+    notes: &[JournalNote],
+    said: &mut Vec<SaidLine>,
 ) -> Result<(), AllocError>
     ensures says { OnOk result (SaysFilled (I.bytes_at ledger.old.inputs) ledger.old.folder.now now notes.now ledger.old.state ledger.new.state said.old.items said.new.items) }
     ensures rest { OnOk result (ledger.new ≡ record ledger.old { state = ledger.new.state; inputs = ledger.new.inputs }) }
@@ -325,7 +325,7 @@ pub(crate) fn fill_and_say<D: Disk, I: Inputs, L: Lanes>(
 fn say_files(
     alloc: Global,
     filled: Result<Option<Text>, AllocError>,
-    said: &mut Vec<Said>,
+    said: &mut Vec<SaidLine>,
 ) -> Result<(), AllocError>
     ensures { OnOk result (said.new.items ≡ said.old.items ++ said_of_files (files_line filled)) }
 {
@@ -377,8 +377,8 @@ fn inventories_of<D: Disk, I: Inputs, L: Lanes>(
 pub(crate) fn say_opened<D: Disk>(
     alloc: Global,
     paths: &Paths,
-    opened: &Opened<'_, D>,
-    said: &mut Vec<Said>,
+    opened: &OpenedState<'_, D>,
+    said: &mut Vec<SaidLine>,
 ) -> Result<(), AllocError>
     ensures { OnOk result (said.new.items ≡ after_opened paths.now opened.now said.old.items) }
 {
@@ -390,7 +390,7 @@ pub(crate) fn say_opened<D: Disk>(
 }
 
 /// Says that the file is not served, where it is not. The only error is lack of memory.
-fn say_file(alloc: Global, is_good: bool, said: &mut Vec<Said>) -> Result<(), AllocError>
+fn say_file(alloc: Global, is_good: bool, said: &mut Vec<SaidLine>) -> Result<(), AllocError>
     ensures { OnOk result (said.new.items ≡ said.old.items ++ said_of_file is_good) }
 {
     if is_good {
@@ -405,7 +405,7 @@ fn say_copy(
     alloc: Global,
     unkept: Option<DiskFault>,
     is_good: bool,
-    said: &mut Vec<Said>,
+    said: &mut Vec<SaidLine>,
 ) -> Result<(), AllocError>
     ensures { OnOk result (said.new.items ≡ said.old.items ++ said_of_copy unkept is_good) }
 {
@@ -433,7 +433,7 @@ fn say_damaged(
     aside: &str,
     damaged: usize,
     unkept: Option<DiskFault>,
-    said: &mut Vec<Said>,
+    said: &mut Vec<SaidLine>,
 ) -> Result<(), AllocError>
     ensures { OnOk result (said.new.items ≡ said.old.items ++ said_of_damage aside.now damaged unkept) }
 {
@@ -485,7 +485,7 @@ fn unused(alloc: Global, folder: &str, why: &str) -> Result<NotBegun, AllocError
     let text = format!(in alloc;
         "{folder} cannot be used ({why}): until it can be, no change is kept, and files of credentials are not read again"
     )?;
-    Ok(NotBegun::Unused(Said {
+    Ok(NotBegun::Unused(SaidLine {
         level: Level::Alert,
         about: About::Folder,
         text: Text::from_vec(text.into_bytes()),

@@ -1,7 +1,7 @@
 //! What a start with a state folder finds of the file that is to be served, and of its last good copy.
 use crate::modes::{may_others_write, say_open};
 use agent_system::push_each;
-use agent_words::{About, Demands, Said, unread_words, why_not_served};
+use agent_words::{About, Demands, SaidLine, unread_words, why_not_served};
 use base_disk::{Disk, DiskFault};
 use base_log::Level;
 use base_moment::Text;
@@ -18,7 +18,7 @@ pub(crate) struct Found {
     /// Its last good copy, where there is one that may be served.
     pub(crate) copy: Option<Text>,
     /// Why the file is not served.
-    pub(crate) said: Vec<Said>,
+    pub(crate) said: Vec<SaidLine>,
 }
 
 /// Why a file is not served.
@@ -58,7 +58,7 @@ fn find_file<D: Disk>(
     disk: &mut D,
     path: &str,
     demands: Demands,
-    said: &mut Vec<Said>,
+    said: &mut Vec<SaidLine>,
 ) -> Result<Option<Text>, AllocError> {
     match judged(alloc, disk, path, demands) {
         Ok(bytes) => Ok(Some(bytes)),

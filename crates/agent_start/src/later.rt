@@ -5,9 +5,9 @@ ghost use Rattle.agent_start.specs.Telling.{SaysLater};
 
 use crate::folder::{Folder, NotBegun, fill_and_say, ledger_of, open_in, say_opened};
 use crate::start::SystemLedger;
-use agent_ledger::{KeepNews, Ledger, Opened, Opening};
+use agent_ledger::{KeepNews, Ledger, OpenedLedger, Opening};
 use agent_system::{SystemSecrets, push};
-use agent_words::{About, Demands, Said};
+use agent_words::{About, Demands, SaidLine};
 use base_disk::Disk;
 use base_files::Inputs;
 use base_log::Level;
@@ -53,7 +53,7 @@ where
     R: Files<File = File> + AllocGlobal,
     L: Lanes + Drop,
 {
-    fn open(&mut self, _alloc: Global, now: u64) -> Option<Opened<SystemLedger<'a, R, L>>> {
+    fn open(&mut self, _alloc: Global, now: u64) -> Option<OpenedLedger<SystemLedger<'a, R, L>>> {
         open_later(self.rt, self.folder, self.demands, now).ok()
     }
 }
@@ -64,7 +64,7 @@ fn open_later<'a, R: Files<File = File> + AllocGlobal, L: Lanes + Drop>(
     folder: &'a Folder<'a>,
     demands: Demands,
     now: u64,
-) -> Result<Opened<SystemLedger<'a, R, L>>, NotBegun>
+) -> Result<OpenedLedger<SystemLedger<'a, R, L>>, NotBegun>
     ensures { IfOk result (λ o. IsLaterLedger demands o.keeper) }
 {
     let alloc = rt.alloc();
@@ -83,17 +83,17 @@ pub fn later_with<'a, D: Disk + Drop, I: Inputs + Drop, L: Lanes + Drop>(
     name: &str,
     demands: Demands,
     files: I,
-    opened: state_keeping::Opened<'a, D>,
-    said: Vec<Said>,
+    opened: state_keeping::OpenedState<'a, D>,
+    said: Vec<SaidLine>,
     now: u64,
-) -> Result<Opened<Ledger<'a, D, I, L>>, AllocError>
+) -> Result<OpenedLedger<Ledger<'a, D, I, L>>, AllocError>
     ensures later { IfOk result (λ o. IsLaterLedger demands o.keeper) }
     ensures good { IfOk result (λ o. o.news.is_good ≡ is_none opened.entry.fault) }
     ensures says { IfOk result (λ o. SaysLater (I.bytes_at files) paths.now opened.entry name.now now said.items o.keeper o.news.said.items) }
 {
     let mut said = said;
     say_opened(alloc, paths, &opened, &mut said)?;
-    let state_keeping::Opened {
+    let state_keeping::OpenedState {
         lock: _,
         state,
         notes,
@@ -104,7 +104,7 @@ pub fn later_with<'a, D: Disk + Drop, I: Inputs + Drop, L: Lanes + Drop>(
     fill_and_say(alloc, now, &mut ledger, &notes, &mut said)?;
     let text = open_text(alloc, name)?;
     push(&mut said, Level::Note, About::Folder, text)?;
-    Ok(Opened {
+    Ok(OpenedLedger {
         keeper: ledger,
         news: KeepNews {
             is_good: fault.is_none(),

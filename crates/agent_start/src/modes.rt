@@ -1,6 +1,6 @@
 //! Whether others than the agent's user and its group may reach what lies in the state folder.
 use agent_system::push;
-use agent_words::{About, Said};
+use agent_words::{About, SaidLine};
 use base_disk::{Disk, DiskFault};
 use base_log::Level;
 use base_moment::Text;
@@ -20,7 +20,7 @@ pub(crate) fn say_open<D: Disk>(
     disk: &mut D,
     paths: &Paths,
     folder: &str,
-    said: &mut Vec<Said>,
+    said: &mut Vec<SaidLine>,
 ) -> Result<(), AllocError> {
     say_mode(alloc, disk, folder, folder, said)?;
     say_mode(alloc, disk, paths.journal(), folder, said)?;
@@ -33,7 +33,7 @@ fn say_mode<D: Disk>(
     disk: &mut D,
     path: &str,
     folder: &str,
-    said: &mut Vec<Said>,
+    said: &mut Vec<SaidLine>,
 ) -> Result<(), AllocError> {
     let mode = mode_of(disk, path)?;
     if mode & OTHERS == 0 {

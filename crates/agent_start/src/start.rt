@@ -10,7 +10,7 @@ use agent_ledger::Ledger;
 use agent_system::{
     Inventories, ServedFile, Sources, SystemSecrets, read_inventory, refuse_written,
 };
-use agent_words::{Demands, Said};
+use agent_words::{Demands, SaidLine};
 use base_device::{Sink, Watched};
 use base_disk::SystemDisk;
 use base_files::Inputs;
@@ -32,7 +32,7 @@ pub struct Start<K> {
     pub ledger: Option<K>,
     /// Whether the file itself is served, and not its copy.
     pub is_good: bool,
-    pub said: Vec<Said>,
+    pub said: Vec<SaidLine>,
 }
 
 /// The state of an agent on the disks of the system.
@@ -151,7 +151,7 @@ where
 fn start_unkept<K, F, I, E>(
     alloc: Global,
     demands: Demands,
-    first: Said,
+    first: SaidLine,
     sources: &mut Sources<'_, F, I>,
     errors: &mut E,
 ) -> Result<Start<K>, Exit>
@@ -172,7 +172,7 @@ where
 }
 
 /// A start without a ledger.
-fn start_of<K>(demands: Demands, inventories: Inventories, said: Vec<Said>) -> Start<K>
+fn start_of<K>(demands: Demands, inventories: Inventories, said: Vec<SaidLine>) -> Start<K>
     ensures { result ≡ record { part = demands.earlier; behind = demands.behind; inventories = inventories; ledger = None; is_good = true; said = said } }
 {
     Start {
@@ -186,7 +186,7 @@ fn start_of<K>(demands: Demands, inventories: Inventories, said: Vec<Said>) -> S
 }
 
 /// What is said first. The only error is lack of memory.
-fn alone(alloc: Global, first: Said) -> Result<Vec<Said>, AllocError>
+fn alone(alloc: Global, first: SaidLine) -> Result<Vec<SaidLine>, AllocError>
     ensures { IfOk result (λ said. said.items ≡ first ∷ []) }
 {
     let mut said = Vec::new(alloc);

@@ -8,7 +8,7 @@ ghost use Rattle.agent_start.specs.Starts.{IsServedOf};
 use agent_system::{
     Inventories, ServedFile, Sources, folder_of, push_each, read_bytes, refuse_bytes, serve_bytes,
 };
-use agent_words::{About, Demands, Gathered, Said, gather, wide};
+use agent_words::{About, Demands, Gathered, SaidLine, gather, wide};
 use base_device::{Sink, Watched};
 use base_files::Inputs;
 use base_log::Level;
@@ -26,7 +26,7 @@ pub(crate) fn read_with_held<F, I, E>(
     alloc: Global,
     demands: Demands,
     sources: &mut Sources<'_, F, I>,
-    said: &mut Vec<Said>,
+    said: &mut Vec<SaidLine>,
     errors: &mut E,
 ) -> Result<Inventories, Exit>
 where
@@ -52,7 +52,7 @@ fn serve_held<F, I, E>(
     bytes: &Text,
     demands: Demands,
     sources: &mut Sources<'_, F, I>,
-    said: &mut Vec<Said>,
+    said: &mut Vec<SaidLine>,
     errors: &mut E,
 ) -> Result<Inventories, Exit>
 where
@@ -96,7 +96,7 @@ fn held<I: Inputs>(
     demands: Demands,
     folder: &str,
     files: &mut I,
-    said: &mut Vec<Said>,
+    said: &mut Vec<SaidLine>,
 ) -> Result<Option<Inventories>, AllocError>
     ensures alone { IfOk result (λ found. IfSome found (λ i. demands.earlier ≡ 0 → i.again ≡ None)) }
     ensures held { IfOk result (HoldsOrNot (I.bytes_at files.old) folder.now bytes.now demands said.old.items said.new.items) }

@@ -12,7 +12,7 @@ use Rattle.base_journal.specs.Journals.{FileIsThere, KeepsOthers, bytes_of_file}
 use Rattle.base_journal.specs.Records.{StandsFor, block, blocks}
 use Rattle.base_journal.proofs.Steps.{at_path, moves_elsewhere}
 use Rattle.agent_system.specs.SettingAside.{AddsUnread, IsUnread, KeepsUnread, SetsAside, file_with, is_closed, unread_of, unread_said, with_end}
-use Rattle.agent_words.specs.declared.said.Said.{Said}
+use Rattle.agent_words.specs.declared.said.SaidLine.{SaidLine}
 
 -- ---- what comes after the records
 
@@ -114,5 +114,5 @@ module _ (read path : List ℕ) (s : DiskState) where
           ⊎_elim (λ same. inl same) (λ moved. inr (bytes, unread, subst (λ (image : Image). c ≡ with_file_at path (file_with bytes (image path)) after.0) alone.seen moved)) after.2,
         )
 
-pub sets_aside : (journal aside : List ℕ) (s t : DiskState) (old new : List Said) (count : ℕ) → KeepsUnread (bytes_of_file (s.seen journal)) aside s t count → new ≡ old ++ unread_said aside count → SetsAside journal aside s t old new
+pub sets_aside : (journal aside : List ℕ) (s t : DiskState) (old new : List SaidLine) (count : ℕ) → KeepsUnread (bytes_of_file (s.seen journal)) aside s t count → new ≡ old ++ unread_said aside count → SetsAside journal aside s t old new
 sets_aside journal aside s t old new count kept said = record { count = count; kept = kept; said = said }

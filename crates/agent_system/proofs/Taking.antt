@@ -14,7 +14,7 @@ use Rattle.agent_ends.specs.Ends.{events_for}
 use Rattle.agent_ends.specs.declared.file.EndsFile.{EndsFile}
 use Rattle.vault_inventory.specs.Inventories.{Inventory}
 use Rattle.base_words.specs.Texts.{stripped}
-use Rattle.watch_machine.specs.declared.event.Event.{Event}
+use Rattle.watch_machine.specs.declared.event.WatchEvent.{WatchEvent}
 use Rattle.agent_system.specs.Descriptors.{ArePlaces, WarnsIf, few_text, needed, places_within}
 use Rattle.agent_system.specs.TakingOver.{AreEndsOn, AsksForLock, FindsBoot, HandsIn, IsBootId, IsFileTaken, IsNotOwn, IsNothing, IsOwn, SaysHeld, TakesFile, boot_path, fresh_file, lock_of_ends}
 use Rattle.agent_system.specs.declared.descriptors.Places.{Places}
@@ -41,14 +41,14 @@ boot_is known s path text boot found read some at is =
 -- ---- what the file keeps
 
 pub hands_in :
-    (known : Bool) (s : DiskState) (now : Reading) (inventory : Inventory) (path boot from id : List ℕ) (ends told : List KnownEnd) (desk : Desk) (result : Result (Vec Event Global) AllocError) → AreEndsOn known s from id ends → from ≡ path → id ≡ boot → told ≡ ends →
+    (known : Bool) (s : DiskState) (now : Reading) (inventory : Inventory) (path boot from id : List ℕ) (ends told : List KnownEnd) (desk : Desk) (result : Result (Vec WatchEvent Global) AllocError) → AreEndsOn known s from id ends → from ≡ path → id ≡ boot → told ≡ ends →
     IfOk result (λ events. events.items ≡ events_for inventory told) → IfOk result (λ events. HandsIn known s now inventory path boot events.items desk desk)
 hands_in known s now inventory path boot from id ends told desk (Ok events) are at same all is =
     record { either = inl (ends, (subst (λ b. AreEndsOn known s path b ends) same (subst (λ p. AreEndsOn known s p id ends) at are), (is ∙ ap (events_for inventory) all, refl))) }
 hands_in known s now inventory path boot from id ends told desk (Err e) are at same all is = tt
 
 pub hands_none :
-    (known : Bool) (s : DiskState) (now : Reading) (inventory : Inventory) (path boot : List ℕ) (events : List Event) (fault : DiskFault) (old new : Desk) → events ≡ [] → HearsUnread now fault old new →
+    (known : Bool) (s : DiskState) (now : Reading) (inventory : Inventory) (path boot : List ℕ) (events : List WatchEvent) (fault : DiskFault) (old new : Desk) → events ≡ [] → HearsUnread now fault old new →
     HandsIn known s now inventory path boot events old new
 hands_none known s now inventory path boot events fault old new none hears = record { either = inr (fault, (none, hears)) }
 

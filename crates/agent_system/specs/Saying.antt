@@ -8,10 +8,10 @@ use Rattle.base_log.specs.declared.form.Form.{Form}
 use Rattle.base_log.specs.declared.level.Level.{Level}
 use Rattle.base_log.specs.declared.level.Level.TheVariants.{Info}
 use Rattle.agent_words.specs.declared.said.About.{About}
-use Rattle.agent_words.specs.declared.said.Said.{Said}
+use Rattle.agent_words.specs.declared.said.SaidLine.{SaidLine}
 
 -- the log of an agent with so many entries, in which that was said
-abbrev pub BeginsDesk : Form → List ℕ → ℕ → Reading → List Said → Desk → Type 0
+abbrev pub BeginsDesk : Form → List ℕ → ℕ → Reading → List SaidLine → Desk → Type 0
 BeginsDesk form place count now said desk = AreSaidAtStart now said (begun_desk form place count) desk
 
 -- it is said, unless memory is wanting for the words
@@ -23,8 +23,8 @@ abbrev pub SaysBehind : Reading → ℕ → Desk → Desk → Type 0
 SaysBehind now margin old new = SaysOrWants now Info (codes "behind") (decimal margin) old new
 
 -- a text of that level and about that
-abbrev pub said_as : Level → About → List ℕ → Said
+abbrev pub said_as : Level → About → List ℕ → SaidLine
 said_as level about text = record { level = level; about = about; text = text }
 
-abbrev pub IsSaidAs : Level → About → Said → Type 0
+abbrev pub IsSaidAs : Level → About → SaidLine → Type 0
 IsSaidAs level about s = (s.level ≡ level) × (s.about ≡ about)

@@ -8,7 +8,7 @@ use Rattle.base_journal.specs.Journals.{FileIsThere, bytes_of_file}
 use Rattle.base_journal.specs.Records.{StandsFor}
 use Rattle.base_log.specs.declared.level.Level.TheVariants.{Alert}
 use Rattle.agent_words.specs.declared.said.About.TheVariants.{Journal}
-use Rattle.agent_words.specs.declared.said.Said.{Said}
+use Rattle.agent_words.specs.declared.said.SaidLine.{SaidLine}
 
 -- ---- what cannot be read
 
@@ -53,11 +53,11 @@ AddsUnread file path s old new = (new ≡ old) ⊎ ((bytes : List ℕ) × IsUnre
 abbrev pub unread_words : List ℕ → ℕ → List ℕ
 unread_words aside count = decimal count ++ (codes " bytes cannot be read: they are kept in " ++ aside)
 
-abbrev pub unread_said : List ℕ → ℕ → List Said
+abbrev pub unread_said : List ℕ → ℕ → List SaidLine
 unread_said aside count = if count == 0 then [] else (record { level = Alert; about = Journal; text = unread_words aside count } ∷ [])
 
 -- what cannot be read in the journal at a path is at the end of the file aside, and that is said
-pub record SetsAside (journal aside : List ℕ) (s t : DiskState) (old new : List Said) : Type 0 where
+pub record SetsAside (journal aside : List ℕ) (s t : DiskState) (old new : List SaidLine) : Type 0 where
   pub count : ℕ
   pub kept : KeepsUnread (bytes_of_file (s.seen journal)) aside s t count
   pub said : new ≡ old ++ unread_said aside count

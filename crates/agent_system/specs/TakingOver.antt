@@ -14,7 +14,7 @@ use Rattle.agent_ends.specs.declared.file.EndsFile.{EndsFile}
 use Rattle.vault_inventory.specs.Inventories.{Inventory}
 use Rattle.base_log.specs.declared.level.Level.TheVariants.{Alert}
 use Rattle.base_words.specs.Texts.{stripped}
-use Rattle.watch_machine.specs.declared.event.Event.{Event}
+use Rattle.watch_machine.specs.declared.event.WatchEvent.{WatchEvent}
 use Rattle.agent_system.specs.declared.ends.TakenOver.{TakenOver}
 
 -- the file beside that of the ends whose lock the agent holds that keeps them
@@ -46,7 +46,7 @@ abbrev pub fresh_file : {E : Type 0} → String Global → List ℕ → E → En
 fresh_file path boot disk = record { path = path; boot = boot; is_stale = true; is_failing = false; next = 0; disk = disk }
 
 -- the ends that are kept hand themselves in; or they cannot be read
-pub record HandsIn (known : Bool) (s : DiskState) (now : Reading) (inventory : Inventory) (path boot : List ℕ) (events : List Event) (old new : Desk) : Type 0 where
+pub record HandsIn (known : Bool) (s : DiskState) (now : Reading) (inventory : Inventory) (path boot : List ℕ) (events : List WatchEvent) (old new : Desk) : Type 0 where
   pub either : ((ends : List KnownEnd) × (AreEndsOn known s path boot ends × ((events ≡ events_for inventory ends) × (new ≡ old)))) ⊎ ((fault : DiskFault) × ((events ≡ []) × HearsUnread now fault old new))
 
 abbrev pub SaysHeld : Reading → List ℕ → Desk → Desk → Type 0

@@ -7,7 +7,7 @@ ghost use Rattle.base_journal.specs.Records.{block, blocks};
 ghost use Rattle.agent_system.specs.SettingAside.{AddsUnread, IsUnread, KeepsUnread, SetsAside, file_with, is_closed, unread_of, unread_said, unread_words, with_end};
 
 use crate::said::push;
-use agent_words::{About, Said};
+use agent_words::{About, SaidLine};
 use base_disk::{Disk, DiskFault, FILE_MODE, replace};
 use base_journal::{Journal, MOST_BYTES};
 use base_log::Level;
@@ -29,7 +29,7 @@ pub fn set_aside<D: Disk>(
     disk: &mut D,
     journal: &str,
     aside: &str,
-    said: &mut Vec<Said>,
+    said: &mut Vec<SaidLine>,
 ) -> Result<(), DiskFault>
     ensures kept { OnOk result (IsTrue D.is_known
         → SetsAside journal.now aside.now (D.state disk.old) (D.state disk.new) said.old.items said.new.items) }
@@ -49,7 +49,7 @@ fn say_unread(
     alloc: Global,
     aside: &str,
     count: usize,
-    said: &mut Vec<Said>,
+    said: &mut Vec<SaidLine>,
 ) -> Result<(), AllocError>
     ensures { OnOk result (said.new.items ≡ said.old.items ++ unread_said aside.now count) }
 {

@@ -7,12 +7,12 @@ ghost use Rattle.agent_system.specs.TakingOver.{AsksForLock, FindsBoot, HandsIn,
 use agent_ends::{EndsFile, known_events, load_ends};
 use agent_log::Desk;
 use base_clock::Reading;
-use base_disk::{Disk, DiskFault, Why};
+use base_disk::{Disk, DiskFault, DiskTrouble};
 use base_log::Level;
 use base_moment::Text;
 use std::alloc::{AllocError, Global};
 use vault_inventory::Inventory;
-use watch_machine::Event;
+use watch_machine::WatchEvent;
 
 /// More than such an id has.
 const MOST_ID: usize = 256;
@@ -23,7 +23,7 @@ pub struct TakenOver<E> {
     /// The file that keeps them from now on, if there is one.
     pub file: Option<EndsFile<E>>,
     /// The events that hand in those that it kept.
-    pub known: Vec<Event>,
+    pub known: Vec<WatchEvent>,
 }
 
 impl<E> TakenOver<E> {
@@ -159,7 +159,7 @@ fn boot_id<E: Disk>(alloc: Global, disk: &mut E) -> Result<Text, DiskFault>
     ensures alone { IsTrue E.is_known → LeavesAlone (E.state disk.old) (E.state disk.new) }
 {
     let Some(text) = disk.read(alloc, boot_path(), MOST_ID)? else {
-        return Err(DiskFault::Failed(Why::Missing));
+        return Err(DiskFault::Failed(DiskTrouble::Missing));
     };
     Ok(Text::of(alloc, stripped(text.list()))?)
 }
@@ -186,7 +186,7 @@ fn events_in<E: Disk>(
     inventory: &Inventory,
     now: Reading,
     desk: &mut Desk,
-) -> Result<Vec<Event>, AllocError>
+) -> Result<Vec<WatchEvent>, AllocError>
     ensures known { IfOk result (λ known. HandsIn E.is_known (E.state file.old.disk) now inventory.now (string_bytes file.old.path) file.old.boot known.items desk.old desk.new) }
     ensures alone { IsTrue E.is_known → LeavesAlone (E.state file.old.disk) (E.state file.new.disk) }
     ensures rest { file.new ≡ record file.old { disk = file.new.disk } }

@@ -3,7 +3,7 @@ ghost use Rattle.std.specs.Prelude.{◌≡◌, ◌∷◌, ◌++◌, [], IfOk, On
 ghost use Rattle.agent_system.specs.Saying.{BeginsDesk, SaysBehind, said_as};
 
 use agent_log::{Desk, say_at_start};
-use agent_words::{About, Said};
+use agent_words::{About, SaidLine};
 use base_clock::Reading;
 use base_log::{Form, Level};
 use base_moment::Text;
@@ -29,15 +29,15 @@ fn margin_text(alloc: Global, margin: u32) -> Result<Vec<u8>, AllocError>
 }
 
 /// Appends what is said: its level, what it is about, and its words. The only error is lack of memory.
-pub fn push(said: &mut Vec<Said>, level: Level, about: About, text: Text) -> Result<(), AllocError>
+pub fn push(said: &mut Vec<SaidLine>, level: Level, about: About, text: Text) -> Result<(), AllocError>
     ensures { OnOk result (said.new.items ≡ said.old.items ++ record { level = level; about = about; text = text } ∷ []) }
 {
-    Ok(said.push(Said { level, about, text })?)
+    Ok(said.push(SaidLine { level, about, text })?)
 }
 
 /// Appends each of these texts, at one level and about one thing. The only error is lack of memory: then some of them may be there.
 pub fn push_each(
-    said: &mut Vec<Said>,
+    said: &mut Vec<SaidLine>,
     level: Level,
     about: About,
     texts: Vec<Text>,
@@ -58,7 +58,7 @@ pub fn desk_of(
     place: Vec<u8>,
     count: u32,
     now: Reading,
-    said: &[Said],
+    said: &[SaidLine],
 ) -> Result<Desk, AllocError>
     ensures { IfOk result (BeginsDesk form place.items count now said.now) }
 {

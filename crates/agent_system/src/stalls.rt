@@ -4,7 +4,7 @@ ghost use Rattle.agent_system.specs.Stalls.{WarnsBy, WarnsOfDisks, WarnsOfEnds, 
 
 use crate::mounts::is_in_memory;
 use crate::said::push;
-use agent_words::{About, Said};
+use agent_words::{About, SaidLine};
 use base_log::Level;
 use base_moment::Text;
 use state_secrets::{FileStamp, SecretFiles};
@@ -25,7 +25,7 @@ pub fn warn_of_disks<I: SecretFiles>(
     alloc: Global,
     files: &mut I,
     ends: Option<&str>,
-    said: &mut Vec<Said>,
+    said: &mut Vec<SaidLine>,
 ) -> Result<(), AllocError>
     ensures { OnOk result (WarnsOfDisks I.calls (option_map (λ folder. folder.now) ends.entry) files.old files.new said.old.items said.new.items) }
 {
@@ -41,7 +41,7 @@ fn warn_by<I: SecretFiles>(
     mounts: &[u8],
     files: &mut I,
     ends: Option<&str>,
-    said: &mut Vec<Said>,
+    said: &mut Vec<SaidLine>,
 ) -> Result<(), AllocError>
     ensures { OnOk result (WarnsBy I.calls (Ok mounts.now) (option_map (λ folder. folder.now) ends.entry) files.old files.new said.old.items said.new.items) }
 {
@@ -56,7 +56,7 @@ fn warn_of_ends<I: SecretFiles>(
     mounts: &[u8],
     files: &mut I,
     ends: Option<&str>,
-    said: &mut Vec<Said>,
+    said: &mut Vec<SaidLine>,
 ) -> Result<(), AllocError>
     ensures { OnOk result (WarnsOfEnds I.calls mounts.now (option_map (λ folder. folder.now) ends.entry) files.old files.new said.old.items said.new.items) }
 {
@@ -72,7 +72,7 @@ fn warn_of_log(
     alloc: Global,
     mounts: &[u8],
     stamp: Option<FileStamp>,
-    said: &mut Vec<Said>,
+    said: &mut Vec<SaidLine>,
 ) -> Result<(), AllocError>
     ensures { OnOk result (said.new.items ≡ said.old.items ++ log_warning mounts.now stamp) }
 {
@@ -92,7 +92,7 @@ fn warn_of_folder(
     alloc: Global,
     mounts: &[u8],
     stamp: Option<FileStamp>,
-    said: &mut Vec<Said>,
+    said: &mut Vec<SaidLine>,
 ) -> Result<(), AllocError>
     ensures { OnOk result (said.new.items ≡ said.old.items ++ ends_warning mounts.now stamp) }
 {
@@ -108,7 +108,7 @@ fn warn_of_folder(
 }
 
 // Adds a warning.
-fn warn(alloc: Global, about: About, text: &[u8], said: &mut Vec<Said>) -> Result<(), AllocError>
+fn warn(alloc: Global, about: About, text: &[u8], said: &mut Vec<SaidLine>) -> Result<(), AllocError>
     ensures { OnOk result (said.new.items ≡ said.old.items ++ warning_of about text.now) }
 {
     push(said, Level::Warning, about, Text::of(alloc, text)?)

@@ -8,7 +8,7 @@ use Rattle.agent_standing.specs.Shorts.{all_said, said_standings}
 use Rattle.agent_standing.specs.Standings.{standing_in, standings_after}
 use Rattle.agent_standing.specs.Turns.{AgentTurn, beginnings_after, inventory_after}
 use Rattle.agent_standing.specs.Turns as turns
-use Rattle.agent_standing.specs.declared.standing.Standing.{Standing}
+use Rattle.agent_standing.specs.declared.standing.EntryStanding.{EntryStanding}
 use Rattle.agent_standing.proofs.WasOf.{former_by}
 use Rattle.vault_asking.proofs.Once.{turn_once}
 use Rattle.vault_asking.specs.Handing.{out_of}
@@ -21,12 +21,12 @@ use Rattle.vault_lanes.specs.declared.lanes.Answered.{Answered}
 use Rattle.plan_forest.specs.Forest.{Forest}
 use Rattle.watch_machine.specs.Change.{changed, former}
 use Rattle.watch_machine.specs.declared.change.Was.{Was}
-use Rattle.watch_machine.specs.declared.command.Command.{Command}
-use Rattle.watch_machine.specs.declared.command.Command.TheVariants.{Go, Taken}
-use Rattle.watch_machine.specs.declared.command.Output.{Output}
-use Rattle.watch_machine.specs.declared.command.Request.{Request}
-use Rattle.watch_machine.specs.declared.event.Event.{Event}
-use Rattle.watch_machine.specs.declared.event.Event.TheVariants as events
+use Rattle.watch_machine.specs.declared.command.WatchCommand.{WatchCommand}
+use Rattle.watch_machine.specs.declared.command.WatchCommand.TheVariants.{Go, Taken}
+use Rattle.watch_machine.specs.declared.command.WatchOutput.{WatchOutput}
+use Rattle.watch_machine.specs.declared.command.WatchRequest.{WatchRequest}
+use Rattle.watch_machine.specs.declared.event.WatchEvent.{WatchEvent}
+use Rattle.watch_machine.specs.declared.event.WatchEvent.TheVariants as events
 use Rattle.watch_machine.specs.declared.fault.WatchFault.{WatchFault}
 use Rattle.watch_machine.specs.declared.lanes.Out.{Out}
 use Rattle.watch_machine.specs.History.{Turn}
@@ -37,8 +37,8 @@ use Rattle.agent_turns.specs.Changes.{AgentIsTurned, ChangeIsMade, MadeChange, O
 use Rattle.agent_turns.specs.Held.{Held, ServingSide, serving_side}
 use Rattle.agent_turns.specs.Stages.{AnswerIsTaken, AnswersAreTaken}
 use Rattle.agent_turns.specs.Words.{HandsBy, SaysBy, TurnFollowsWords, Words, WordsHandIn}
-use Rattle.agent_turns.specs.declared.change.Change.{Change}
-use Rattle.agent_turns.specs.declared.change.Change.TheVariants.{Need, Begin, Known, Serve, Kept}
+use Rattle.agent_turns.specs.declared.change.AgentChange.{AgentChange}
+use Rattle.agent_turns.specs.declared.change.AgentChange.TheVariants.{Need, Begin, Known, Serve, Kept}
 use Rattle.agent_turns.proofs.OneWay.{not_both}
 
 -- ---- the agent
@@ -47,7 +47,7 @@ need_alike : (s t : Inventory) (i need : ℕ) → AreInventoriesAlike s t → Ar
 unfolding inventory_with_need
 need_alike s t i need alike = ap (λ (x : Inventory). inventory_with_need x i need) alike
 
-inventory_alike : (event : Event) (s t : Inventory) → AreInventoriesAlike s t → AreInventoriesAlike (inventory_after event s) (inventory_after event t)
+inventory_alike : (event : WatchEvent) (s t : Inventory) → AreInventoriesAlike s t → AreInventoriesAlike (inventory_after event s) (inventory_after event t)
 inventory_alike (events.Need i until) s t alike = need_alike s t i _ alike
 inventory_alike _ s t alike = alike
 
@@ -55,7 +55,7 @@ same_agents : (old other a b : Agent) → a ≡ old → b ≡ other → AreAgent
 same_agents old other a b one two alike = subst (λ (x : Agent). AreAgentsAlike x b) (sym one) (subst (λ (y : Agent). AreAgentsAlike old y) (sym two) alike)
 
 -- what the machine takes
-taken_alike : (old other a b : Agent) (event : Event) (x y : Output) → AreAgentsAlike old other → turns.EventIsTaken old event x a → turns.EventIsTaken other event y b → (y ≡ x) × AreAgentsAlike a b
+taken_alike : (old other a b : Agent) (event : WatchEvent) (x y : WatchOutput) → AreAgentsAlike old other → turns.EventIsTaken old event x a → turns.EventIsTaken other event y b → (y ≡ x) × AreAgentsAlike a b
 taken_alike old other a b event x y alike one two =
     let machine = turn_once old.machine a.machine b.machine event x y one.machine (subst (λ (m : WatchState). Turn m event (Ok y) b.machine) alike.machine two.machine) in
     let inventory = inventory_alike event old.inventory other.inventory alike.inventory in (
@@ -63,12 +63,12 @@ taken_alike old other a b event x y alike one two =
       record {
         machine = machine.1;
         inventory = subst (λ (t : Inventory). AreInventoriesAlike a.inventory t) (sym two.inventory) (subst (λ (s : Inventory). AreInventoriesAlike s (inventory_after event other.inventory)) (sym one.inventory) inventory);
-        standings = two.standings ∙ ap₂ (λ (m : WatchState) (xs : List Standing). standings_after m event xs) machine.1 alike.standings ∙ sym one.standings;
-        beginnings = two.beginnings ∙ ap₂ (λ (o : Output) (n : ℕ). beginnings_after o.notes.began n) machine.0 alike.beginnings ∙ sym one.beginnings;
+        standings = two.standings ∙ ap₂ (λ (m : WatchState) (xs : List EntryStanding). standings_after m event xs) machine.1 alike.standings ∙ sym one.standings;
+        beginnings = two.beginnings ∙ ap₂ (λ (o : WatchOutput) (n : ℕ). beginnings_after o.notes.began n) machine.0 alike.beginnings ∙ sym one.beginnings;
       },
     )
 
-turned_alike : (old other a b : Agent) (event : Event) (x y : Result Output WatchFault) → (TurnMayWantMemory event → ⊥) → AreAgentsAlike old other → AgentTurn old event x a → AgentTurn other event y b → AreAgentsAlike a b
+turned_alike : (old other a b : Agent) (event : WatchEvent) (x y : Result WatchOutput WatchFault) → (TurnMayWantMemory event → ⊥) → AreAgentsAlike old other → AgentTurn old event x a → AgentTurn other event y b → AreAgentsAlike a b
 turned_alike old other a b event (Ok x) (Ok y) wants alike one two = (taken_alike old other a b event x y alike one two).1
 turned_alike old other a b event (Ok x) (Err f) wants alike one two = absurd (not_both old.machine event x a.machine f wants one.machine (subst (λ (m : WatchState). Turn m event (Err f) m) alike.machine two.0))
 turned_alike old other a b event (Err f) (Ok y) wants alike one two = absurd (not_both old.machine event y b.machine f wants (subst (λ (m : WatchState). Turn m event (Ok y) b.machine) alike.machine two.machine) one.0)
@@ -83,7 +83,7 @@ one_alike x y old other a b alike one two index said =
     let event : event_as two.request.operation y.index two.said.reply two.said.terms ≡ event_as one.request.operation x.index one.said.reply one.said.terms =
     ap₂ (λ (r : Out) (s : Said). event_as r.operation y.index s.reply s.terms) request said ∙ ap (λ i. event_as one.request.operation i one.said.reply one.said.terms) index in
     (taken_alike old other a b (event_as one.request.operation x.index one.said.reply one.said.terms) one.output two.output alike one.turn
-    (subst (λ (e : Event). turns.EventIsTaken other e two.output b) event two.turn)).1
+    (subst (λ (e : WatchEvent). turns.EventIsTaken other e two.output b) event two.turn)).1
 
 abbrev head_or : {X : Type 0} → X → List X → X
 head_or d [] = d
@@ -104,28 +104,28 @@ answers_alike _ _ old other a b alike one two same = absurd cc
 
 -- ---- the time
 
-abbrev requests_by : Command → List Request
+abbrev requests_by : WatchCommand → List WatchRequest
 requests_by (Go requests until) = requests
 requests_by Taken = []
 
-abbrev until_by : Command → ℕ
+abbrev until_by : WatchCommand → ℕ
 until_by (Go requests until) = until
 until_by Taken = zero
 
-abbrev requests_in : Output → List Request
+abbrev requests_in : WatchOutput → List WatchRequest
 requests_in o = requests_by o.command
 
-abbrev until_in : Output → ℕ
+abbrev until_in : WatchOutput → ℕ
 until_in o = until_by o.command
 
 says_alike : (is_said : Bool) (mid other a b : Agent) → AreAgentsAlike mid other → SaysBy is_said mid a → SaysBy is_said other b → AreAgentsAlike a b
 says_alike true mid other a b alike one two =
     same_agents (all_said mid) (all_said other) a b one two
-    (record { machine = alike.machine; inventory = alike.inventory; standings = ap (λ (s : Inventory). said_standings other.machine s.terms other.standings) alike.inventory ∙ ap₂ (λ (m : WatchState) (xs : List Standing). said_standings m mid.inventory.terms xs) alike.machine alike.standings; beginnings = alike.beginnings })
+    (record { machine = alike.machine; inventory = alike.inventory; standings = ap (λ (s : Inventory). said_standings other.machine s.terms other.standings) alike.inventory ∙ ap₂ (λ (m : WatchState) (xs : List EntryStanding). said_standings m mid.inventory.terms xs) alike.machine alike.standings; beginnings = alike.beginnings })
 says_alike false mid other a b alike one two = same_agents mid other a b one two alike
 
 hands_alike :
-    (r : Reading) (came more : List Answered) (is_said : Bool) (h k a b : Held) (sent out : List Request) → AreHeldAlike h k → (one : WordsHandIn r came is_said h sent a) (two : WordsHandIn r more is_said k out b) →
+    (r : Reading) (came more : List Answered) (is_said : Bool) (h k a b : Held) (sent out : List WatchRequest) → AreHeldAlike h k → (one : WordsHandIn r came is_said h sent a) (two : WordsHandIn r more is_said k out b) →
     contents_taken (k.pending ++ more) k.agent two.told two.taken ≡ contents_taken (h.pending ++ came) h.agent one.told one.taken → (out ≡ sent) × AreHeldAlike a b
 hands_alike r came more is_said h k a b sent out alike one two same =
     let told = answers_alike (h.pending ++ came) (k.pending ++ more) h.agent k.agent one.told two.told alike.agent one.taken two.taken same in
@@ -133,7 +133,7 @@ hands_alike r came more is_said h k a b sent out alike one two same =
     let commanded : two.commanded ≡ one.commanded = ap requests_in turned.0 in
     let until : two.until ≡ one.until = ap until_in turned.0 in
     let at : two.until - two.mid.machine.clocks.phase ≡ one.until - one.mid.machine.clocks.phase = ap₂ (λ (n : ℕ) (m : WatchState). n - m.clocks.phase) until turned.1.machine in (
-      two.sent_is ∙ ap₂ (λ (xs : List Request) (ys : List Request). xs ++ ys) alike.unsent commanded ∙ sym one.sent_is,
+      two.sent_is ∙ ap₂ (λ (xs : List WatchRequest) (ys : List WatchRequest). xs ++ ys) alike.unsent commanded ∙ sym one.sent_is,
       record {
         agent = says_alike is_said one.mid two.mid a.agent b.agent turned.1 one.said two.said;
         unsent = ap (λ (x : Held). x.unsent) two.held ∙ sym (ap (λ (x : Held). x.unsent) one.held);
@@ -146,17 +146,17 @@ same_held : (h k a b : Held) → a ≡ h → b ≡ k → AreHeldAlike h k → Ar
 same_held h k a b one two alike = subst (λ (x : Held). AreHeldAlike x b) (sym one) (subst (λ (y : Held). AreHeldAlike h y) (sym two) alike)
 
 -- the words of the second turn stand as those of the first, but for the answers
-abbrev HandsAlike : (w : Words) (reading : Option Reading) (is_said : Bool) (v : Words) (h k a b : Held) (sent out : List Request) → Type 0
+abbrev HandsAlike : (w : Words) (reading : Option Reading) (is_said : Bool) (v : Words) (h k a b : Held) (sent out : List WatchRequest) → Type 0
 HandsAlike w reading is_said v h k a b sent out =
     (one : HandsBy reading w.came is_said h sent a) (two : HandsBy reading v.came is_said k out b) → contents_at reading v.came is_said k out b two ≡ contents_at reading w.came is_said h sent a one → (out ≡ sent) × AreHeldAlike a b
 
-hands_by_alike : (w v : Words) (reading : Option Reading) (is_said : Bool) (h k a b : Held) (sent out : List Request) → AreHeldAlike h k → HandsAlike w reading is_said v h k a b sent out
+hands_by_alike : (w v : Words) (reading : Option Reading) (is_said : Bool) (h k a b : Held) (sent out : List WatchRequest) → AreHeldAlike h k → HandsAlike w reading is_said v h k a b sent out
 hands_by_alike w v None is_said h k a b sent out alike one two same = (two.0 ∙ sym one.0, same_held h k a b one.1 two.1 alike)
 hands_by_alike w v (Some r) is_said h k a b sent out alike one two same = hands_alike r w.came v.came is_said h k a b sent out alike one two same
 
 -- ---- changes
 
-event_alike : (event : Event) (h k : Held) (l m : Lanes) (a b : ServingSide) → (TurnMayWantMemory event → ⊥) → AreHeldAlike h k → AgentIsTurned event (serving_side h l) a → AgentIsTurned event (serving_side k m) b → AreHeldAlike a.held b.held
+event_alike : (event : WatchEvent) (h k : Held) (l m : Lanes) (a b : ServingSide) → (TurnMayWantMemory event → ⊥) → AreHeldAlike h k → AgentIsTurned event (serving_side h l) a → AgentIsTurned event (serving_side k m) b → AreHeldAlike a.held b.held
 event_alike event h k l m a b wants alike one two = record {
   agent = turned_alike h.agent k.agent a.held.agent b.held.agent event one.result two.result wants alike.agent one.turn two.turn;
   unsent = ap (λ (x : ServingSide). x.held.unsent) two.rest ∙ alike.unsent ∙ sym (ap (λ (x : ServingSide). x.held.unsent) one.rest);
@@ -164,7 +164,7 @@ event_alike event h k l m a b wants alike one two = record {
   until = ap (λ (x : ServingSide). x.held.until) two.rest ∙ alike.until ∙ sym (ap (λ (x : ServingSide). x.held.until) one.rest);
 }
 
-change_alike : (c : Change) (is_made : Bool) (h k : Held) (l m : Lanes) (a b : ServingSide) → KeepsInventory c → AreHeldAlike h k → ChangeIsMade c is_made (serving_side h l) a → ChangeIsMade c is_made (serving_side k m) b → AreHeldAlike a.held b.held
+change_alike : (c : AgentChange) (is_made : Bool) (h k : Held) (l m : Lanes) (a b : ServingSide) → KeepsInventory c → AreHeldAlike h k → ChangeIsMade c is_made (serving_side h l) a → ChangeIsMade c is_made (serving_side k m) b → AreHeldAlike a.held b.held
 change_alike c false h k l m a b keep alike one two = same_held h k a.held b.held (ap (λ (x : ServingSide). x.held) one.1) (ap (λ (x : ServingSide). x.held) two.1) alike
 change_alike (Need i until) true h k l m a b keep alike one two = event_alike (events.Need i until) h k l m a b (λ wants. wants) alike one two
 change_alike Begin true h k l m a b keep alike one two = event_alike events.Begin h k l m a b (λ wants. wants) alike one two
@@ -178,7 +178,7 @@ made_alike (Some c) h k l m a b keep alike one two = change_alike c.change c.is_
 
 -- ---- turns
 
-follows_alike : (w v : Words) (h k a b : Held) (sent out : List Request) → AreHeldAlike h k → AreWordsAlike w v → (one : TurnFollowsWords w h sent a) (two : TurnFollowsWords v k out b) → contents_in v k out b two ≡ contents_in w h sent a one → (out ≡ sent) × AreHeldAlike a b
+follows_alike : (w v : Words) (h k a b : Held) (sent out : List WatchRequest) → AreHeldAlike h k → AreWordsAlike w v → (one : TurnFollowsWords w h sent a) (two : TurnFollowsWords v k out b) → contents_in v k out b two ≡ contents_in w h sent a one → (out ≡ sent) × AreHeldAlike a b
 follows_alike w v h k a b sent out alike words one two same =
     let hands = by v.reading words.reading v.is_said words.is_said two.hands same in
     (hands.0, made_alike w.made one.mid two.mid one.before two.before (serving_side a one.after) (serving_side b two.after) words.keep hands.1 one.made (subst (λ made. OneIsMade made (serving_side two.mid two.before) (serving_side b two.after)) words.made two.made)) where
@@ -202,20 +202,20 @@ alike_law _ _ h k new last sent out one two alike words same = absurd words
 -- ---- another inventory
 
 -- what is said of an entry is what was said of it where it was
-abbrev by_was : Agent → Was → Standing
+abbrev by_was : Agent → Was → EntryStanding
 by_was a w = standing_of a (former w)
 
 carried_by : (a : Agent) (s : Inventory) (xs : List ℕ) → map (carried_standing a s) xs ≡ map (by_was a) (map (was_of a.inventory s) xs)
 unfolding carried_standing was_of
 carried_by a s [] = refl
-carried_by a s (j ∷ js) = ap₂ (λ (y : Standing) (ys : List Standing). y ∷ ys) (ap (standing_of a) (sym (former_by a.inventory s j (agents.former a.inventory s j)))) (carried_by a s js)
+carried_by a s (j ∷ js) = ap₂ (λ (y : EntryStanding) (ys : List EntryStanding). y ∷ ys) (ap (standing_of a) (sym (former_by a.inventory s j (agents.former a.inventory s j)))) (carried_by a s js)
 
 by_was_alike : (a b : Agent) (ws : List Was) → b.standings ≡ a.standings → map (by_was b) ws ≡ map (by_was a) ws
 by_was_alike a b [] same = refl
-by_was_alike a b (w ∷ ws) same = ap₂ (λ (y : Standing) (ys : List Standing). y ∷ ys) (said_alike a b (former w) same) (by_was_alike a b ws same) where
+by_was_alike a b (w ∷ ws) same = ap₂ (λ (y : EntryStanding) (ys : List EntryStanding). y ∷ ys) (said_alike a b (former w) same) (by_was_alike a b ws same) where
   said_alike : (a b : Agent) (o : Option ℕ) → b.standings ≡ a.standings → standing_of b o ≡ standing_of a o
   said_alike a b None same = refl
-  said_alike a b (Some i) same = ap (λ (xs : List Standing). standing_in xs i) same
+  said_alike a b (Some i) same = ap (λ (xs : List EntryStanding). standing_in xs i) same
 
 pub changed_alike_law : ChangedAlikeLaw
 unfolding all_was

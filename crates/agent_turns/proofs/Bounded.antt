@@ -15,7 +15,7 @@ use Rattle.agent_turns.specs.Laws.{CallsLaw, TurnWaitLaw}
 use Rattle.agent_turns.specs.Neighbours.{GoOn, Rest, calls_for_change}
 use Rattle.agent_turns.specs.Stages.{AnswersAreTaken, Commands, HandsInAnswers, HaveTaken, LeftOverGoesFirst, OnHeld, TakesAnswers, TakesUp, Then, of_answers, of_coming, of_commands, of_left, of_stages}
 use Rattle.agent_turns.specs.Turns.{ServingTurn, TurnHears, longest_wait, turn_wait_by}
-use Rattle.agent_turns.specs.declared.change.Change.{Change}
+use Rattle.agent_turns.specs.declared.change.AgentChange.{AgentChange}
 use Rattle.agent_turns.proofs.Staged.{sends_keeps}
 
 -- ---- the wait
@@ -116,7 +116,7 @@ module _ (port : ℕ) (r : Reading) where
       omega (arith, count, room, left)
   few_heard width old is_whole new (inr h) step = omega arith
 
-few_of_change : (a : Agent) (r : Reading) (told : Change → Agent) (made : Option MadeChange) → length (calls_for_change a r told made) ≤ 2
+few_of_change : (a : Agent) (r : Reading) (told : AgentChange → Agent) (made : Option MadeChange) → length (calls_for_change a r told made) ≤ 2
 few_of_change a r told None = omega arith
 few_of_change a r told (Some m) = omega arith
 

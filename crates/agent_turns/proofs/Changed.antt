@@ -13,10 +13,10 @@ use Rattle.vault_asking.proofs.Sound.{IsQuiet, turn_begin, turn_known, turn_need
 use Rattle.vault_inventory.specs.Inventories.{Inventory}
 use Rattle.vault_lanes.specs.Out as lanes
 use Rattle.vault_lanes.specs.Out.{renamed}
-use Rattle.watch_machine.specs.declared.command.Output.{Output}
-use Rattle.watch_machine.specs.declared.command.Request.{Request}
-use Rattle.watch_machine.specs.declared.event.Event.{Event}
-use Rattle.watch_machine.specs.declared.event.Event.TheVariants as events
+use Rattle.watch_machine.specs.declared.command.WatchOutput.{WatchOutput}
+use Rattle.watch_machine.specs.declared.command.WatchRequest.{WatchRequest}
+use Rattle.watch_machine.specs.declared.event.WatchEvent.{WatchEvent}
+use Rattle.watch_machine.specs.declared.event.WatchEvent.TheVariants as events
 use Rattle.watch_machine.specs.declared.fault.WatchFault.{WatchFault}
 use Rattle.watch_machine.specs.declared.lanes.Out.{Out}
 use Rattle.watch_machine.specs.History.{Changed}
@@ -24,8 +24,8 @@ use Rattle.watch_machine.specs.State.{WatchState}
 use Rattle.watch_machine.proofs.Changing.{out_length}
 use Rattle.agent_turns.specs.Changes.{AllGiven, ChangeIsMade, InventoryIsServed, MadeChange, OneIsMade, ServesInventory}
 use Rattle.agent_turns.specs.Held.{Held, IsInStep, ServingSide, entries_unsent, serving_side}
-use Rattle.agent_turns.specs.declared.change.Change.{Change}
-use Rattle.agent_turns.specs.declared.change.Change.TheVariants.{Need, Begin, Known, Serve, Kept}
+use Rattle.agent_turns.specs.declared.change.AgentChange.{AgentChange}
+use Rattle.agent_turns.specs.declared.change.AgentChange.TheVariants.{Need, Begin, Known, Serve, Kept}
 use Rattle.agent_turns.proofs.InStep.{still_named}
 
 -- ---- an inventory
@@ -69,7 +69,7 @@ another_served s h k old new l m from to pending unsent agent change held from_i
 
 -- ---- one after another
 
-pub given_join : (xs ys : List Change) (a b c : Option (List Change)) → AllGiven xs a b → AllGiven ys b c → AllGiven (xs ++ ys) a c
+pub given_join : (xs ys : List AgentChange) (a b c : Option (List AgentChange)) → AllGiven xs a b → AllGiven ys b c → AllGiven (xs ++ ys) a c
 given_join xs ys a b None h k = tt
 given_join xs ys a b (Some given) h k =
     let first : AllGiven xs a (Some k.0) = subst (AllGiven xs a) k.1.0 h in
@@ -91,7 +91,7 @@ quiet_in_step width out h new quiet entries step =
       each = λ i. step.each i ∙ sym (ap (λ (o : List Out). times i (map (λ (r : Out). r.entry) o)) quiet.out);
     }
 
-pub turned_in_step : (width : ℕ) (out : List lanes.Out) (event : Event) (h : Held) (new : Agent) → ((output : Output) → AgentTurn h.agent event (Ok output) new → IsQuiet h.agent.machine new.machine) → (result : Result Output WatchFault) → AgentTurn h.agent event result new →
+pub turned_in_step : (width : ℕ) (out : List lanes.Out) (event : WatchEvent) (h : Held) (new : Agent) → ((output : WatchOutput) → AgentTurn h.agent event (Ok output) new → IsQuiet h.agent.machine new.machine) → (result : Result WatchOutput WatchFault) → AgentTurn h.agent event result new →
     IsInStep width out h → IsInStep width out (record h { agent = new })
 turned_in_step width out event h new quiet (Ok output) turn step =
     quiet_in_step width out h new (quiet output turn) (turn_entries h.agent.machine new.machine event (Ok output) turn.machine) step
@@ -120,7 +120,7 @@ all_on_lanes width out h pending unsent step =
 
 abreast_in_step : (width : ℕ) (out : List lanes.Out) (h : Held) → h.pending ≡ [] → h.unsent ≡ [] → IsAbreast h.agent.machine width out → IsInStep width out h
 abreast_in_step width out h pending unsent abreast =
-    let IsNamed : Request → Type 0 = λ r. r.entry < length h.agent.machine.forest.entries in
+    let IsNamed : WatchRequest → Type 0 = λ r. r.entry < length h.agent.machine.forest.entries in
     let n = abreast.in_step.count in
     let room = abreast.room in
     let a = ap length pending in
@@ -150,7 +150,7 @@ serves_in_step : (width : ℕ) (s : Inventory) (old new : ServingSide) → Serve
 serves_in_step width s old new (inl h) step = subst (λ (x : ServingSide). IsInStep width x.lanes.out x.held) (sym h.1) step
 serves_in_step width s old new (inr h) step = served_in_step width s old new h.1 step
 
-made_one : (width : ℕ) (c : Change) (is_made : Bool) (old new : ServingSide) → ChangeIsMade c is_made old new → IsInStep width old.lanes.out old.held → IsInStep width new.lanes.out new.held
+made_one : (width : ℕ) (c : AgentChange) (is_made : Bool) (old new : ServingSide) → ChangeIsMade c is_made old new → IsInStep width old.lanes.out old.held → IsInStep width new.lanes.out new.held
 made_one width c false old new h step = subst (λ (s : ServingSide). IsInStep width s.lanes.out s.held) (sym h.1) step
 made_one width (Need i until) true old new h step =
     subst (λ (s : ServingSide). IsInStep width s.lanes.out s.held) (sym h.rest)

@@ -4,7 +4,7 @@ use Rattle.std.proofs.lemmas.List.Elements.{All-head, All-tail}
 use Rattle.agent_standing.specs.Agent.{Agent}
 use Rattle.base_clock.specs.declared.reading.Reading.{Reading}
 use Rattle.vault_lanes.specs.declared.lanes.Answered.{Answered}
-use Rattle.watch_machine.specs.declared.command.Request.{Request}
+use Rattle.watch_machine.specs.declared.command.WatchRequest.{WatchRequest}
 use Rattle.agent_turns.specs.Held.{Held, ServingSide}
 use Rattle.agent_turns.specs.Laws.{WordsLaw}
 use Rattle.agent_turns.specs.Stages.{AnswersAreTaken, AnswersCome, Commands, HandsInAnswers as HandsStage, HaveTaken, LeftOverGoesFirst, OnHeld, SendsRequests, ShortsAreSaid, TakesAnswers, TakesReadings, TakesUp, Then, TimeIsHandedIn}
@@ -57,7 +57,7 @@ module _ (r : Reading) (old first second third fourth fifth new : Held) (sends :
 
 -- what a turn at readings hears of others, and what it then gives
 abbrev Heard : Reading → Held → Held → Type 0
-Heard r old new = (came : List Answered) × ((is_said : Bool) × ((sent : List Request) × WordsHandIn r came is_said old sent new))
+Heard r old new = (came : List Answered) × ((is_said : Bool) × ((sent : List WatchRequest) × WordsHandIn r came is_said old sent new))
 
 -- a chain of stages goes on where memory sufficed
 both : (first second : ServingSide → Bool → ServingSide → Type 0) (old new : ServingSide) → Then first second old true new → (mid : ServingSide) × (first old true mid × second mid true new)
@@ -89,7 +89,7 @@ heard port r old new h =
 -- ---- turns
 
 abbrev Given : ServingTurn → Option Reading → ServingSide → ServingSide → Type 0
-Given t reading old new = (came : List Answered) × ((is_said : Bool) × ((sent : List Request) × TurnFollowsWords (record { reading = reading; came = came; is_said = is_said; made = t.made }) old.held sent new.held))
+Given t reading old new = (came : List Answered) × ((is_said : Bool) × ((sent : List WatchRequest) × TurnFollowsWords (record { reading = reading; came = came; is_said = is_said; made = t.made }) old.held sent new.held))
 
 one_turn_by : (port : ℕ) (old new : ServingSide) (t : ServingTurn) (h : IsServingTurn port old t new) (reading : Option Reading) → TurnHears port reading old t.is_whole h.mid → SufficesBy reading t.is_whole → Given t reading old new
 one_turn_by port old new t h None hears enough = ([], (false, ([], record { mid = h.mid.held; hands = (refl, ap (λ (x : ServingSide). x.held) hears.1); before = h.mid.lanes; after = new.lanes; made = h.made })))

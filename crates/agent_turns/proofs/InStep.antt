@@ -15,16 +15,16 @@ use Rattle.base_clock.specs.declared.reading.Reading.{Reading}
 use Rattle.vault_inventory.specs.Inventories.{Inventory}
 use Rattle.vault_lanes.specs.Out as lanes
 use Rattle.vault_lanes.specs.declared.lanes.Answered.{Answered}
-use Rattle.watch_machine.specs.declared.command.Request.{Request}
+use Rattle.watch_machine.specs.declared.command.WatchRequest.{WatchRequest}
 use Rattle.watch_machine.specs.declared.event.Operation.{Operation}
 use Rattle.watch_machine.specs.declared.event.Operation.TheVariants.{Look, Renew}
-use Rattle.watch_machine.specs.declared.event.Reply.{Reply}
-use Rattle.watch_machine.specs.declared.event.Terms.{Terms}
+use Rattle.watch_machine.specs.declared.event.WatchReply.{WatchReply}
+use Rattle.watch_machine.specs.declared.event.WatchTerms.{WatchTerms}
 use Rattle.watch_machine.specs.State.{WatchState}
 use Rattle.agent_turns.specs.Held.{Held, IsInStep, ServingSide, entries_unsent}
 use Rattle.agent_turns.specs.Stages.{AnswersAreTaken, HaveCome, HaveGone, HaveTaken, IsKeptBack, ShortsAreSaid, TimeIsHandedIn}
 
-unsent_append : (xs ys : List Request) → entries_unsent (xs ++ ys) ≡ entries_unsent xs ++ entries_unsent ys
+unsent_append : (xs ys : List WatchRequest) → entries_unsent (xs ++ ys) ≡ entries_unsent xs ++ entries_unsent ys
 unsent_append [] ys = refl
 unsent_append (x ∷ xs) ys = ap (λ ns. x.entry ∷ ns) (unsent_append xs ys)
 
@@ -34,10 +34,10 @@ answers_append (x ∷ xs) ys = ap (λ ns. x.index ∷ ns) (answers_append xs ys)
 
 -- ---- what waits to be sent is of an entry, and finds a lane
 
-abbrev IsNamed : Held → Request → Type 0
+abbrev IsNamed : Held → WatchRequest → Type 0
 IsNamed h r = r.entry < length h.agent.machine.forest.entries
 
-pub unsent_within : (width : ℕ) (out : List lanes.Out) (h : Held) (r : Request) (later : List Request) → IsInStep width out h → h.unsent ≡ r ∷ later → r.entry < length h.agent.machine.forest.entries
+pub unsent_within : (width : ℕ) (out : List lanes.Out) (h : Held) (r : WatchRequest) (later : List WatchRequest) → IsInStep width out h → h.unsent ≡ r ∷ later → r.entry < length h.agent.machine.forest.entries
 unsent_within width out h r later step is = All-head (IsNamed h) r later (subst (All (IsNamed h)) is step.named)
 
 all_behind : {X : Type 0} (P : X → Type 0) (xs ys : List X) → All P (xs ++ ys) → All P ys
@@ -45,15 +45,15 @@ all_behind P [] ys all = all
 all_behind P (x ∷ xs) ys all = all_behind P xs ys (All-tail P x (xs ++ ys) all)
 
 -- as many entries as before are as many as are named
-pub still_named : (requests : List Request) (n m : ℕ) → m ≡ n → All (λ (r : Request). r.entry < n) requests → All (λ (r : Request). r.entry < m) requests
-still_named requests n m same named = subst (λ k. All (λ (r : Request). r.entry < k) requests) (sym same) named
+pub still_named : (requests : List WatchRequest) (n m : ℕ) → m ≡ n → All (λ (r : WatchRequest). r.entry < n) requests → All (λ (r : WatchRequest). r.entry < m) requests
+still_named requests n m same named = subst (λ k. All (λ (r : WatchRequest). r.entry < k) requests) (sym same) named
 
 -- the first of a list that has one
 pub first_of : {T : Type 0} → (xs : List T) (d : T) → 0 < length xs → xs ≡ slice_index_or xs 0 d ∷ drop 1 xs
 first_of [] d some = absurd (omega (arith, some))
 first_of (x ∷ xs) d some = refl
 
-pub first_within : (width : ℕ) (out : List lanes.Out) (h : Held) (r : Request) → IsInStep width out h → 0 < length h.unsent → r ≡ slice_index_or h.unsent 0 r → r.entry < length h.agent.machine.forest.entries
+pub first_within : (width : ℕ) (out : List lanes.Out) (h : Held) (r : WatchRequest) → IsInStep width out h → 0 < length h.unsent → r ≡ slice_index_or h.unsent 0 r → r.entry < length h.agent.machine.forest.entries
 first_within width out h r step some is = unsent_within width out h r (drop 1 h.unsent) step (first_of h.unsent r some ∙ ap (λ x. x ∷ drop 1 h.unsent) (sym is))
 
 -- ---- requests have gone out
@@ -104,7 +104,7 @@ in_step_come now width old new h step =
 
 -- ---- answers have been handed in
 
-same_inventory : (operation : Operation) (i : ℕ) (reply : Reply) (terms : Terms) (s : Inventory) → inventory_after (event_as operation i reply terms) s ≡ s
+same_inventory : (operation : Operation) (i : ℕ) (reply : WatchReply) (terms : WatchTerms) (s : Inventory) → inventory_after (event_as operation i reply terms) s ≡ s
 same_inventory Look i reply terms s = refl
 same_inventory Renew i reply terms s = refl
 

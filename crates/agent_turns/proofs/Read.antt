@@ -6,11 +6,11 @@ use Rattle.agent_standing.specs.Turns.{AgentTurn}
 use Rattle.agent_standing.specs.declared.shorts.Short.{Short}
 use Rattle.vault_lanes.specs.declared.lanes.Answered.{Answered}
 use Rattle.base_clock.specs.declared.reading.Reading.{Reading}
-use Rattle.watch_machine.specs.declared.command.Command.{Command}
-use Rattle.watch_machine.specs.declared.command.Command.TheVariants.{Go}
-use Rattle.watch_machine.specs.declared.command.Output.{Output}
-use Rattle.watch_machine.specs.declared.command.Request.{Request}
-use Rattle.watch_machine.specs.declared.event.Event.TheVariants.{Clock}
+use Rattle.watch_machine.specs.declared.command.WatchCommand.{WatchCommand}
+use Rattle.watch_machine.specs.declared.command.WatchCommand.TheVariants.{Go}
+use Rattle.watch_machine.specs.declared.command.WatchOutput.{WatchOutput}
+use Rattle.watch_machine.specs.declared.command.WatchRequest.{WatchRequest}
+use Rattle.watch_machine.specs.declared.event.WatchEvent.TheVariants.{Clock}
 use Rattle.watch_machine.specs.declared.outlook.Next.{Next}
 use Rattle.agent_turns.specs.Calls.{calls_of_readings, needs_of}
 use Rattle.agent_turns.specs.Held.{Held}
@@ -20,42 +20,42 @@ use Rattle.agent_turns.specs.Stages.{ShortsAreSaid, TakesReadings}
 use Rattle.agent_turns.proofs.Called.{called_twice}
 
 -- what is held once the agent has taken the time
-abbrev pub ready : Reading → Held → Agent → List Request → ℕ → Held
+abbrev pub ready : Reading → Held → Agent → List WatchRequest → ℕ → Held
 ready r old mid requests until = record { agent = mid; pending = old.pending; unsent = requests; asked = r; until = until - mid.machine.clocks.phase }
 
 pub ready_is :
-    (r : Reading) (old : Held) (mid : Agent) (requests : List Request) (until here : ℕ) (pending : List Answered) (unsent : List Request) → pending ≡ old.pending → unsent ≡ requests → here ≡ until - mid.machine.clocks.phase →
+    (r : Reading) (old : Held) (mid : Agent) (requests : List WatchRequest) (until here : ℕ) (pending : List Answered) (unsent : List WatchRequest) → pending ≡ old.pending → unsent ≡ requests → here ≡ until - mid.machine.clocks.phase →
     record { agent = mid; pending = pending; unsent = unsent; asked = r; until = here } ≡ ready r old mid requests until
 ready_is r old mid requests until here pending unsent a b c =
     ap {B = Held} (λ (xs : List Answered). record { agent = mid; pending = xs; unsent = unsent; asked = r; until = here }) a
-    ∙ ap {B = Held} (λ (rs : List Request). record { agent = mid; pending = old.pending; unsent = rs; asked = r; until = here }) b
+    ∙ ap {B = Held} (λ (rs : List WatchRequest). record { agent = mid; pending = old.pending; unsent = rs; asked = r; until = here }) b
     ∙ ap {B = Held} (λ (n : ℕ). record { agent = mid; pending = old.pending; unsent = requests; asked = r; until = n }) c
 
 module _ {N : Type 0} (does : NeighbourCall → N → N → Type 0) where
   -- the neighbours hear of the time, and then of what is short
   pub read_whole :
-      (r : Reading) (old : Held) (mid : Agent) (requests : List Request) (until : ℕ) (output : Output) (next : Option (Option Next)) (between new : Held) (a b c : N) → old.unsent ≡ [] → output.command ≡ Go requests until →
+      (r : Reading) (old : Held) (mid : Agent) (requests : List WatchRequest) (until : ℕ) (output : WatchOutput) (next : Option (Option Next)) (between new : Held) (a b c : N) → old.unsent ≡ [] → output.command ≡ Go requests until →
       AgentTurn old.agent (Clock r.wall r.elapsed) (Ok output) mid → IfSome next (IsOutlook mid.machine) → between ≡ ready r old mid requests until → new ≡ record between { agent = new.agent } →
       does (Hear mid (Time output.notes requests next)) a b → ((said : ShortsAreSaid mid new.agent) × does (Hear new.agent (needs_of mid new.agent said)) b c) →
       WithCalls does (TakesReadings r old true new) (calls_of_readings r old true new) a c
   read_whole r old mid requests until output next between new a b c none is turn outlook made rest timed short =
       let all : new ≡ record (ready r old mid requests until) { agent = new.agent } = rest ∙ ap (λ (h : Held). record h { agent = new.agent }) made in
       let unsent : new.unsent ≡ requests = ap (λ (h : Held). h.unsent) all in
-      let command : output.command ≡ Go new.unsent until = is ∙ ap (λ (rs : List Request). Go rs until) (sym unsent) in
+      let command : output.command ≡ Go new.unsent until = is ∙ ap (λ (rs : List WatchRequest). Go rs until) (sym unsent) in
       record {
         is = record {
           none = none;
           until = until;
           notes = output.notes;
           mid = mid;
-          turn = subst (λ (k : Command). AgentTurn old.agent (Clock r.wall r.elapsed) (Ok (record { command = k; notes = output.notes })) mid) command turn;
+          turn = subst (λ (k : WatchCommand). AgentTurn old.agent (Clock r.wall r.elapsed) (Ok (record { command = k; notes = output.notes })) mid) command turn;
           next = next;
           outlook = outlook;
           said = short.0;
-          held = all ∙ ap (λ (rs : List Request). record { agent = new.agent; pending = old.pending; unsent = rs; asked = r; until = until - mid.machine.clocks.phase }) (sym unsent);
+          held = all ∙ ap (λ (rs : List WatchRequest). record { agent = new.agent; pending = old.pending; unsent = rs; asked = r; until = until - mid.machine.clocks.phase }) (sym unsent);
         };
         called = called_twice does (Hear mid (Time output.notes new.unsent next)) (Hear new.agent (needs_of mid new.agent short.0)) a b c
-            (subst (λ (rs : List Request). does (Hear mid (Time output.notes rs next)) a b) (sym unsent) timed) short.1;
+            (subst (λ (rs : List WatchRequest). does (Hear mid (Time output.notes rs next)) a b) (sym unsent) timed) short.1;
       }
 
   -- what is short was said, or memory was wanting for it

@@ -6,7 +6,7 @@ use Rattle.base_clock.proofs.Joined.{joined_law}
 use Rattle.agent_turns.specs.Changes.{AllGiven, given_by}
 use Rattle.agent_turns.specs.Runs.{all_calls, all_changes}
 use Rattle.agent_turns.specs.Turns.{ServingTurn, calls_of_turn}
-use Rattle.agent_turns.specs.declared.change.Change.{Change}
+use Rattle.agent_turns.specs.declared.change.AgentChange.{AgentChange}
 use Rattle.agent_turns.proofs.Changed.{given_join}
 
 append_none : {T : Type 0} → (xs : List T) → xs ++ [] ≡ xs
@@ -24,7 +24,7 @@ changes_append (x ∷ xs) t = ap (λ cs. given_by x.made ++ cs) (changes_append 
 pub calls_on : (ts : List ServingTurn) (t : ServingTurn) (a b c : ClockSeen) → AllMade (all_calls ts) a b → AllMade (calls_of_turn t) b c → AllMade (all_calls (ts ++ t ∷ [])) a c
 calls_on ts t a b c h one = subst (λ cs. AllMade cs a c) (sym (calls_append ts t)) (joined_law (all_calls ts) (calls_of_turn t) a b c h one)
 
-pub changes_run : (ts : List ServingTurn) (t : ServingTurn) (a b c : Option (List Change)) → AllGiven (all_changes ts) a b → AllGiven (given_by t.made) b c → AllGiven (all_changes (ts ++ t ∷ [])) a c
+pub changes_run : (ts : List ServingTurn) (t : ServingTurn) (a b c : Option (List AgentChange)) → AllGiven (all_changes ts) a b → AllGiven (given_by t.made) b c → AllGiven (all_changes (ts ++ t ∷ [])) a c
 changes_run ts t a b c h one = subst (λ cs. AllGiven cs a c) (sym (changes_append ts t)) (given_join (all_changes ts) (given_by t.made) a b c h one)
 
 pub one_more : (ts : List ServingTurn) (t : ServingTurn) (n : ℕ) → length ts ≡ n → length (ts ++ t ∷ []) ≡ n + 1

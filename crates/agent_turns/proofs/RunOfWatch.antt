@@ -1,8 +1,8 @@
 -- RunOfWatch: the law that all that happens to the Watch of an agent from its start on is one run of it.
 use Rattle.std.proofs.Common.{◌≡◌, ◌++◌, true, List, [], ◌∷◌, ℕ, filter, ap, refl, subst}
 use Rattle.agent_standing.specs.Agent.{Agent, fresh}
-use Rattle.watch_machine.specs.declared.event.Event.{Event}
-use Rattle.watch_machine.specs.declared.event.Event.TheVariants as events
+use Rattle.watch_machine.specs.declared.event.WatchEvent.{WatchEvent}
+use Rattle.watch_machine.specs.declared.event.WatchEvent.TheVariants as events
 use Rattle.watch_machine.specs.State.{opened}
 use Rattle.agent_turns.specs.Apart.{Ending, EndsBy, Spent, Unread, Over, Changed}
 use Rattle.agent_turns.specs.Happenings.{happenings_of}
@@ -17,11 +17,11 @@ use Rattle.agent_turns.proofs.Stretch.{and_then, by_change, by_event, nowhere, s
 same_machine : (old new : Agent) → new ≡ old → Lead old.machine [] new.machine
 same_machine old new same = nowhere old.machine new.machine (ap (λ (a : Agent). a.machine) same)
 
-known_leads : (e : Event) (old new : Agent) (h : IsResumed e old new) → Lead old.machine (happenings_of_known e old new h) new.machine
+known_leads : (e : WatchEvent) (old new : Agent) (h : IsResumed e old new) → Lead old.machine (happenings_of_known e old new h) new.machine
 known_leads (events.Known i end renewable) old new h = by_event (events.Known i end renewable) old new h.0 h.1
 known_leads _ old new h = same_machine old new h
 
-resuming_leads : (es : List Event) (old new : Agent) (h : AreResumed es old new) → Lead old.machine (happenings_of_resuming es old new h) new.machine
+resuming_leads : (es : List WatchEvent) (old new : Agent) (h : AreResumed es old new) → Lead old.machine (happenings_of_resuming es old new h) new.machine
 resuming_leads [] old new h = same_machine old new h
 resuming_leads (e ∷ rest) old new h =
     and_then old.machine h.0.machine new.machine (happenings_of_known e old h.0 h.1.0) (happenings_of_resuming rest h.0 new h.1.1) (known_leads e old h.0 h.1.0) (resuming_leads rest h.0 new h.1.1)
@@ -47,7 +47,7 @@ serving_law port width until most known s agent shown start begun new w turns re
     and_then (opened s.forest width) agent.machine new.held.agent.machine (happenings_of_resuming known (fresh s width) agent resumed) (waits ++ goes) (resuming_leads known (fresh s width) agent resumed)
     (subst (λ (h : Held). Lead h.agent.machine (waits ++ goes) new.held.agent.machine) is later)
 
-resumed_events : (es : List Event) (old new : Agent) (h : AreResumed es old new) → events_of (happenings_of_resuming es old new h) ≡ filter is_told_before es
+resumed_events : (es : List WatchEvent) (old new : Agent) (h : AreResumed es old new) → events_of (happenings_of_resuming es old new h) ≡ filter is_told_before es
 resumed_events [] old new h = refl
 resumed_events (events.Clock wall elapsed ∷ rest) old new h = resumed_events rest h.0 new h.1.1
 resumed_events (events.Looked i reply terms ∷ rest) old new h = resumed_events rest h.0 new h.1.1

@@ -4,7 +4,7 @@ use Rattle.vault_asking.specs.Sending.{GoesOut, Lanes}
 use Rattle.vault_asking.proofs.InStep.{gone_more}
 use Rattle.vault_lanes.specs.Serving.{BehindLanes, BrokerIsLeft}
 use Rattle.vault_http.specs.declared.request.Request.{Request}
-use Rattle.watch_machine.specs.declared.command.Request as machine
+use Rattle.watch_machine.specs.declared.command.WatchRequest as machine
 use Rattle.watch_machine.specs.Clocks.{second_of_wall}
 use Rattle.agent_turns.specs.Held.{Held, ServingSide, serving_side}
 use Rattle.agent_turns.specs.Stages.{HaveGone, IsKeptBack}

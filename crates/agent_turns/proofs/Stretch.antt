@@ -7,10 +7,10 @@ use Rattle.vault_asking.specs.declared.told.Said.{Said}
 use Rattle.base_clock.specs.declared.reading.Reading.{Reading}
 use Rattle.vault_inventory.specs.Inventories.{Inventory}
 use Rattle.vault_lanes.specs.declared.lanes.Answered.{Answered}
-use Rattle.watch_machine.specs.declared.command.Command.TheVariants.{Go}
-use Rattle.watch_machine.specs.declared.command.Output.{Output}
-use Rattle.watch_machine.specs.declared.event.Event.{Event}
-use Rattle.watch_machine.specs.declared.event.Event.TheVariants as events
+use Rattle.watch_machine.specs.declared.command.WatchCommand.TheVariants.{Go}
+use Rattle.watch_machine.specs.declared.command.WatchOutput.{WatchOutput}
+use Rattle.watch_machine.specs.declared.event.WatchEvent.{WatchEvent}
+use Rattle.watch_machine.specs.declared.event.WatchEvent.TheVariants as events
 use Rattle.watch_machine.specs.declared.fault.WatchFault.{WatchFault}
 use Rattle.watch_machine.specs.History.{AllHappen, Happening, Turn, state_after, state_after_all}
 use Rattle.watch_machine.specs.State.{WatchState}
@@ -21,14 +21,14 @@ use Rattle.agent_turns.specs.Stages.{AnswerIsTaken, AnswersAreTaken, AnswersCome
 use Rattle.agent_turns.specs.Turns as turns
 use Rattle.agent_turns.specs.Turns.{IsServingTurn, TurnHears}
 use Rattle.agent_turns.specs.Happenings.{happening_of_answer, handed, happenings_in, happenings_of, happenings_of_answers, happenings_of_change, happenings_of_hearing, happenings_of_one, happenings_of_readings, happenings_of_serving, happenings_of_stages, happenings_of_taking}
-use Rattle.agent_turns.specs.declared.change.Change.{Change}
-use Rattle.agent_turns.specs.declared.change.Change.TheVariants.{Need, Begin, Known, Serve, Kept}
+use Rattle.agent_turns.specs.declared.change.AgentChange.{AgentChange}
+use Rattle.agent_turns.specs.declared.change.AgentChange.TheVariants.{Need, Begin, Known, Serve, Kept}
 use Rattle.agent_turns.proofs.InStep.{said_machine}
 
 pub nowhere : (old new : WatchState) → new ≡ old → Lead old [] new
 nowhere old new same = (tt, sym same)
 
-by_turn : (old new : Agent) (event : Event) (result : Result Output WatchFault) → Turn old.machine event result new.machine → Lead old.machine (handed event result new ∷ []) new.machine
+by_turn : (old new : Agent) (event : WatchEvent) (result : Result WatchOutput WatchFault) → Turn old.machine event result new.machine → Lead old.machine (handed event result new ∷ []) new.machine
 by_turn old new event result turn = ((turn, tt), refl)
 
 happen_then : (old : WatchState) (first more : List Happening) → AllHappen old first → AllHappen (state_after_all old first) more → AllHappen old (first ++ more) × (state_after_all old (first ++ more) ≡ state_after_all (state_after_all old first) more)
@@ -77,7 +77,7 @@ by_comes now old new false h = nowhere old.held.agent.machine new.held.agent.mac
 
 by_reads : (r : Reading) → Leads (OnHeld (TakesReadings r)) (happenings_of_readings r)
 by_reads r old new true h =
-    let output : Output = record { command = Go new.held.unsent h.0.until; notes = h.0.notes } in
+    let output : WatchOutput = record { command = Go new.held.unsent h.0.until; notes = h.0.notes } in
     and_then old.held.agent.machine h.0.mid.machine new.held.agent.machine (handed (events.Clock r.wall r.elapsed) (Ok output) h.0.mid ∷ []) [] (by_turn old.held.agent h.0.mid (events.Clock r.wall r.elapsed) (Ok output) h.0.turn.machine)
     (nowhere h.0.mid.machine new.held.agent.machine (said_machine h.0.mid new.held.agent h.0.said))
 by_reads r old new false h = nowhere old.held.agent.machine new.held.agent.machine (ap (λ (x : Held). x.agent.machine) h.0)
@@ -100,7 +100,7 @@ by_hears port (Some r) old is_whole new h = by_goes port r old new is_whole h
 
 -- ---- by change
 
-pub by_event : (event : Event) (old new : Agent) (result : Result Output WatchFault) → AgentTurn old event result new → Lead old.machine (handed event result new ∷ []) new.machine
+pub by_event : (event : WatchEvent) (old new : Agent) (result : Result WatchOutput WatchFault) → AgentTurn old event result new → Lead old.machine (handed event result new ∷ []) new.machine
 by_event event old new (Ok output) turn = by_turn old new event (Ok output) turn.machine
 by_event event old new (Err fault) turn = by_turn old new event (Err fault) (subst (λ (a : Agent). Turn old.machine event (Err fault) a.machine) (sym turn.1) turn.0)
 
@@ -108,7 +108,7 @@ by_serving : (s : Inventory) (old new : ServingSide) (h : ServesInventory s old 
 by_serving s old new (inl h) = nowhere old.held.agent.machine new.held.agent.machine (ap (λ (x : ServingSide). x.held.agent.machine) h.1)
 by_serving s old new (inr h) = ((h.1.agent.machine, tt), refl)
 
-pub by_change : (c : Change) (is_made : Bool) (old new : ServingSide) (h : ChangeIsMade c is_made old new) → Lead old.held.agent.machine (happenings_of_change c is_made old new h) new.held.agent.machine
+pub by_change : (c : AgentChange) (is_made : Bool) (old new : ServingSide) (h : ChangeIsMade c is_made old new) → Lead old.held.agent.machine (happenings_of_change c is_made old new h) new.held.agent.machine
 by_change c false old new h = nowhere old.held.agent.machine new.held.agent.machine (ap (λ (s : ServingSide). s.held.agent.machine) h.1)
 by_change (Need i until) true old new h = by_event (events.Need i until) old.held.agent new.held.agent h.result h.turn
 by_change Begin true old new h = by_event events.Begin old.held.agent new.held.agent h.result h.turn

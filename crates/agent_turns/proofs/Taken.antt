@@ -13,7 +13,7 @@ use Rattle.agent_turns.specs.Neighbours.{Answer, Hear, NeighbourCall, WithCalls}
 use Rattle.agent_turns.specs.Stages.{AnswerIsTaken, AnswersAreTaken, HaveTaken, TakesAnswers}
 use Rattle.agent_turns.specs.code.Firsts.{TakesFirst, calls_of_first}
 use Rattle.agent_turns.proofs.Called.{called_once}
-use Rattle.watch_machine.specs.declared.command.Output.{Output}
+use Rattle.watch_machine.specs.declared.command.WatchOutput.{WatchOutput}
 use Rattle.watch_machine.specs.declared.lanes.Out.{Out}
 
 module _ {N : Type 0} (does : NeighbourCall → N → N → Type 0) where
@@ -48,7 +48,7 @@ module _ {N : Type 0} (does : NeighbourCall → N → N → Type 0) where
 
   -- the first of them is, as the event of the request that is out of its entry
   pub first_heard :
-      (old new : Held) (a : Answered) (request : Out) (said : Said) (output : Output) (x y : N) → old.pending ≡ a ∷ new.pending → out_of old.agent.machine.out a.index ≡ Some request → said ≡ said_to old.agent.inventory request.operation a.index a.answer →
+      (old new : Held) (a : Answered) (request : Out) (said : Said) (output : WatchOutput) (x y : N) → old.pending ≡ a ∷ new.pending → out_of old.agent.machine.out a.index ≡ Some request → said ≡ said_to old.agent.inventory request.operation a.index a.answer →
       AgentTurn old.agent (event_as request.operation a.index said.reply said.terms) (Ok output) new.agent → new ≡ record old { agent = new.agent; pending = new.pending } → does (Hear new.agent (Answer a.index request.operation said output.notes)) x y →
       WithCalls does (TakesFirst old new) (calls_of_first old new) x y
   first_heard old new a request said output x y first is_out said_is turn held hears = record {

@@ -11,7 +11,7 @@ use Rattle.agent_turns.specs.Held.{ServingSide}
 use Rattle.agent_turns.specs.Neighbours.{AllCalled, GoOn, NeighbourCall, Rest, WithCalls, calls_for_change}
 use Rattle.agent_turns.specs.Stages.{LeftOverGoesFirst, of_stages}
 use Rattle.agent_turns.specs.Turns.{IsDue, IsServingTurn, ServingTurn, turn_wait_by}
-use Rattle.agent_turns.specs.declared.change.Change.{Change}
+use Rattle.agent_turns.specs.declared.change.AgentChange.{AgentChange}
 use Rattle.agent_turns.proofs.Called.{called_join, called_once}
 
 -- no clock could be read
@@ -21,11 +21,11 @@ unread = record { reading = None; is_whole = false; made = None; is_busy = false
 pub unread_turn : {N : Type 0} → (does : NeighbourCall → N → N → Type 0) (port : ℕ) (s : ServingSide) (n : N) → WithCalls does (IsServingTurn port s unread s) (calls_in port s unread s) n n
 unread_turn does port s n = record { is = record { mid = s; hears = (refl, refl); made = refl; due = refl; waits = refl }; called = refl }
 
-append_none : (xs : List Change) → xs ++ [] ≡ xs
+append_none : (xs : List AgentChange) → xs ++ [] ≡ xs
 append_none [] = refl
 append_none (x ∷ xs) = ap (λ ys. x ∷ ys) (append_none xs)
 
-pub given_none : (a : Option (List Change)) → AllGiven [] a a
+pub given_none : (a : Option (List AgentChange)) → AllGiven [] a a
 given_none None = tt
 given_none (Some given) = (given, (refl, sym (append_none given)))
 

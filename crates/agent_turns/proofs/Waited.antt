@@ -5,8 +5,8 @@ use Rattle.std.proofs.lemmas.List.Elements.{All-nil, All-push}
 use Rattle.std.specs.List.{All, flat_map}
 use Rattle.agent_standing.specs.Agent.{Agent}
 use Rattle.base_clock.specs.Seen.{AllMade, ClockSeen, read_call}
-use Rattle.base_clock.specs.declared.call.Call.{Call}
-use Rattle.base_clock.specs.declared.call.Call.TheVariants.{Wait}
+use Rattle.base_clock.specs.declared.call.ClockCall.{ClockCall}
+use Rattle.base_clock.specs.declared.call.ClockCall.TheVariants.{Wait}
 use Rattle.base_clock.specs.declared.reading.Reading.{Reading}
 use Rattle.base_clock.proofs.Joined.{joined_law, none_law}
 use Rattle.agent_turns.specs.Apart.{Changed, Ending, EndsAfter, EndsBy, IsPause, IsWaitedApart, Over, Pause, AreShown, IsShown, Spent, Unread, Waited, all_called, all_clocked, all_given, called_at, called_by, called_in, clocked_at, clocked_in, given_at, goes_on, is_change_kept, pause_by, told_by}
@@ -14,20 +14,20 @@ use Rattle.agent_turns.specs.Changes.{AllGiven, ChangeIsMade, MadeChange, given_
 use Rattle.agent_turns.specs.Held.{IsInStep, ServingSide}
 use Rattle.agent_turns.specs.Neighbours.{AllCalled, Give, GoOn, NeighbourCall, Settle}
 use Rattle.agent_turns.specs.code.Pauses.{IsEnded, IsPausedApart}
-use Rattle.agent_turns.specs.declared.change.Change.{Change}
-use Rattle.agent_turns.specs.declared.change.Change.TheVariants.{Need, Begin, Known, Serve, Kept}
+use Rattle.agent_turns.specs.declared.change.AgentChange.{AgentChange}
+use Rattle.agent_turns.specs.declared.change.AgentChange.TheVariants.{Need, Begin, Known, Serve, Kept}
 use Rattle.agent_turns.proofs.Called.{called_join, called_twice}
 use Rattle.agent_turns.proofs.Changed.{given_join, made_keeps}
 use Rattle.agent_turns.proofs.Turned.{given_none}
 
 -- ---- one pause
 
-pub ended_over : {N : Type 0} → (does : NeighbourCall → N → N → Type 0) (until : ℕ) (r : Reading) (seen : Agent) (s : ServingSide) (g : Option (List Change)) (a : N) → until ≤ r.elapsed → IsEnded does until (Some r) seen s s g g a a
+pub ended_over : {N : Type 0} → (does : NeighbourCall → N → N → Type 0) (until : ℕ) (r : Reading) (seen : Agent) (s : ServingSide) (g : Option (List AgentChange)) (a : N) → until ≤ r.elapsed → IsEnded does until (Some r) seen s s g g a a
 ended_over does until r seen s g a over = record { ending = Over r; read = refl; shows = tt; is = (over, refl); gives = given_none g; calls = refl }
 
 -- no change is given
 pub paused_without :
-    {N : Type 0} → (does : NeighbourCall → N → N → Type 0) (until millis : ℕ) (is_busy : Bool) (r : Reading) (seen shown : Agent) (s : ServingSide) (g h : Option (List Change)) (a b c : N) → r.elapsed < until → millis ≡ pause_by is_busy until r → IsShown r seen shown →
+    {N : Type 0} → (does : NeighbourCall → N → N → Type 0) (until millis : ℕ) (is_busy : Bool) (r : Reading) (seen shown : Agent) (s : ServingSide) (g h : Option (List AgentChange)) (a b c : N) → r.elapsed < until → millis ≡ pause_by is_busy until r → IsShown r seen shown →
     does (GoOn shown r is_busy) a b → does (Give shown r None) b c → AllGiven [] g h → IsPausedApart does until (Some r) millis seen shown s s g h a c
 paused_without does until millis is_busy r seen shown s g h a b c before waits shows went gave given =
     record {
@@ -43,23 +43,23 @@ paused_without does until millis is_busy r seen shown s g h a b c before waits s
     }
 
 -- what is not made now changes nothing
-still : (change : Change) (is_made : Bool) (old new : ServingSide) → ChangeIsMade change is_made old new → is_change_kept change || not is_made ≡ true → new ≡ old
+still : (change : AgentChange) (is_made : Bool) (old new : ServingSide) → ChangeIsMade change is_made old new → is_change_kept change || not is_made ≡ true → new ≡ old
 still change false old new made on = made.1
 still Kept true old new made on = made
 still _ true old new made on = absurd (let e : false ≡ true = on in cc)
 
 -- the calls of a pause in which a change is given
 called_for_one :
-    {N : Type 0} → (does : NeighbourCall → N → N → Type 0) (shown own : Agent) (r : Reading) (is_busy : Bool) (change : Change) (is_made : Bool) (a b c d : N) → does (GoOn shown r is_busy) a b → does (Give shown r (Some change)) b c →
+    {N : Type 0} → (does : NeighbourCall → N → N → Type 0) (shown own : Agent) (r : Reading) (is_busy : Bool) (change : AgentChange) (is_made : Bool) (a b c d : N) → does (GoOn shown r is_busy) a b → does (Give shown r (Some change)) b c →
     does (Settle (told_by shown own change) is_made) c d → AllCalled does (called_by shown own r is_busy (Some (record { change = change; is_made = is_made }))) a d
 called_for_one does shown own r is_busy change is_made a b c d went gave settled = (b, (went, called_twice does (Give shown r (Some change)) (Settle (told_by shown own change) is_made) b c d gave settled))
 
 -- before the change was given and after it nothing else was
-pub given_once : (change : Change) (g h k l : Option (List Change)) → h ≡ g → AllGiven (change ∷ []) h k → l ≡ k → AllGiven (change ∷ []) g l
+pub given_once : (change : AgentChange) (g h k l : Option (List AgentChange)) → h ≡ g → AllGiven (change ∷ []) h k → l ≡ k → AllGiven (change ∷ []) g l
 given_once change g h k l went gave settled = subst (λ x. AllGiven (change ∷ []) g x) (sym settled) (subst (λ x. AllGiven (change ∷ []) x k) went gave)
 
 pub paused_with :
-    {N : Type 0} → (does : NeighbourCall → N → N → Type 0) (until millis : ℕ) (is_busy : Bool) (r : Reading) (seen shown : Agent) (change : Change) (is_made : Bool) (old new : ServingSide) (g h : Option (List Change)) (a b c d : N) → r.elapsed < until →
+    {N : Type 0} → (does : NeighbourCall → N → N → Type 0) (until millis : ℕ) (is_busy : Bool) (r : Reading) (seen shown : Agent) (change : AgentChange) (is_made : Bool) (old new : ServingSide) (g h : Option (List AgentChange)) (a b c d : N) → r.elapsed < until →
     millis ≡ pause_by (is_made || is_busy) until r → IsShown r seen shown → ChangeIsMade change is_made old new → true ≡ goes_on (Some (record { change = change; is_made = is_made })) → does (GoOn shown r is_busy) a b → does (Give shown r (Some change)) b c →
     does (Settle (told_by shown new.held.agent change) is_made) c d → AllGiven (change ∷ []) g h → IsPausedApart does until (Some r) millis seen shown old new g h a d
 paused_with does until millis is_busy r seen shown change is_made old new g h a b c d before waits shows made on went gave settled given =
@@ -77,7 +77,7 @@ paused_with does until millis is_busy r seen shown change is_made old new g h a 
     }
 
 -- a change is made now
-changes_now : (change : Change) (is_made : Bool) → false ≡ goes_on (Some (record { change = change; is_made = is_made })) → (is_change_kept change ≡ false) × (is_made ≡ true)
+changes_now : (change : AgentChange) (is_made : Bool) → false ≡ goes_on (Some (record { change = change; is_made = is_made })) → (is_change_kept change ≡ false) × (is_made ≡ true)
 changes_now Kept true on = absurd (let e : false ≡ true = on in cc)
 changes_now (Need i end) false on = absurd (let e : false ≡ true = on in cc)
 changes_now Begin false on = absurd (let e : false ≡ true = on in cc)
@@ -87,7 +87,7 @@ changes_now Kept false on = absurd (let e : false ≡ true = on in cc)
 changes_now _ true on = (refl, refl)
 
 pub ended_changed :
-    {N : Type 0} → (does : NeighbourCall → N → N → Type 0) (until : ℕ) (is_busy : Bool) (r : Reading) (seen shown : Agent) (change : Change) (is_made : Bool) (old new : ServingSide) (g h : Option (List Change)) (a b c d : N) → r.elapsed < until →
+    {N : Type 0} → (does : NeighbourCall → N → N → Type 0) (until : ℕ) (is_busy : Bool) (r : Reading) (seen shown : Agent) (change : AgentChange) (is_made : Bool) (old new : ServingSide) (g h : Option (List AgentChange)) (a b c d : N) → r.elapsed < until →
     IsShown r seen shown → ChangeIsMade change is_made old new → false ≡ goes_on (Some (record { change = change; is_made = is_made })) → does (GoOn shown r is_busy) a b → does (Give shown r (Some change)) b c →
     does (Settle (told_by shown new.held.agent change) is_made) c d → AllGiven (change ∷ []) g h → IsEnded does until (Some r) seen old new g h a d
 ended_changed does until is_busy r seen shown change is_made old new g h a b c d before shows made on went gave settled given =
@@ -104,7 +104,7 @@ ended_changed does until is_busy r seen shown change is_made old new g h a b c d
 -- ---- all of them
 
 -- all that some pauses did
-pub record ArePaused {N : Type 0} (does : NeighbourCall → N → N → Type 0) (until count : ℕ) (own seen shown : Agent) (clock clock_now : ClockSeen) (before given : Option (List Change)) (a b : N) : Type 0 where
+pub record ArePaused {N : Type 0} (does : NeighbourCall → N → N → Type 0) (until count : ℕ) (own seen shown : Agent) (clock clock_now : ClockSeen) (before given : Option (List AgentChange)) (a b : N) : Type 0 where
   pub pauses : List Pause
   pub count_is : length pauses ≡ count
   pub all : All (IsPause until) pauses
@@ -113,7 +113,7 @@ pub record ArePaused {N : Type 0} (does : NeighbourCall → N → N → Type 0) 
   pub gives : AllGiven (flat_map (λ (p : Pause). given_by p.made) pauses) before given
   pub called : AllCalled does (flat_map (called_in own) pauses) a b
 
-pub none_paused : {N : Type 0} → (does : NeighbourCall → N → N → Type 0) (until : ℕ) (own seen : Agent) (s : ClockSeen) (g : Option (List Change)) (a : N) → ArePaused does until 0 own seen seen s s g g a a
+pub none_paused : {N : Type 0} → (does : NeighbourCall → N → N → Type 0) (until : ℕ) (own seen : Agent) (s : ClockSeen) (g : Option (List AgentChange)) (a : N) → ArePaused does until 0 own seen seen s s g g a a
 none_paused does until own seen s g a = record { pauses = []; count_is = refl; all = All-nil (IsPause until); shows = refl; clocked = none_law s; gives = given_none g; called = refl }
 
 shown_more : (ps : List Pause) (p : Pause) (a b c : Agent) → AreShown ps a b → IsShown p.reading b p.shown → c ≡ p.shown → AreShown (ps ++ p ∷ []) a c
@@ -121,7 +121,7 @@ shown_more [] p a b c h one is = (subst (λ (x : Agent). IsShown p.reading x p.s
 shown_more (q ∷ qs) p a b c h one is = (h.0, shown_more qs p q.shown b c h.1 one is)
 
 pub one_paused :
-    {N : Type 0} → (does : NeighbourCall → N → N → Type 0) (until count millis : ℕ) (reading : Option Reading) (own seen mid shown : Agent) (old new : ServingSide) (s t u v : ClockSeen) (g h k : Option (List Change)) (a b c : N) →
+    {N : Type 0} → (does : NeighbourCall → N → N → Type 0) (until count millis : ℕ) (reading : Option Reading) (own seen mid shown : Agent) (old new : ServingSide) (s t u v : ClockSeen) (g h k : Option (List AgentChange)) (a b c : N) →
     ArePaused does until count own seen mid s t g h a b → old.held.agent ≡ own → AllMade (read_call reading ∷ []) t u → IsPausedApart does until reading millis mid shown old new h k b c → AllMade (Wait millis ∷ []) u v →
     ArePaused does until (count + 1) own seen shown s v g k a c
 one_paused does until count millis reading own seen mid shown old new s t u v g h k a b c so_far own_is reads one waits =
@@ -144,12 +144,12 @@ one_paused does until count millis reading own seen mid shown old new s t u v g 
     }
 
 -- all that a wait did
-abbrev pub HasWaited : {N : Type 0} → (NeighbourCall → N → N → Type 0) → ℕ → ℕ → Agent → ServingSide → ServingSide → ClockSeen → ClockSeen → Option (List Change) → Option (List Change) → N → N → Type 0
+abbrev pub HasWaited : {N : Type 0} → (NeighbourCall → N → N → Type 0) → ℕ → ℕ → Agent → ServingSide → ServingSide → ClockSeen → ClockSeen → Option (List AgentChange) → Option (List AgentChange) → N → N → Type 0
 HasWaited does until most seen old new s t g h a b =
     (w : Waited) × (IsWaitedApart until most seen old w new × (AllMade (all_clocked w) s t × (AllGiven (all_given w) g h × AllCalled does (all_called old.held.agent new.held.agent w) a b)))
 
 pub waited_long :
-    {N : Type 0} → (does : NeighbourCall → N → N → Type 0) (until most : ℕ) (seen shown : Agent) (old new : ServingSide) (s t : ClockSeen) (g h : Option (List Change)) (a b : N) → ArePaused does until most old.held.agent seen shown s t g h a b → new ≡ old →
+    {N : Type 0} → (does : NeighbourCall → N → N → Type 0) (until most : ℕ) (seen shown : Agent) (old new : ServingSide) (s t : ClockSeen) (g h : Option (List AgentChange)) (a b : N) → ArePaused does until most old.held.agent seen shown s t g h a b → new ≡ old →
     HasWaited does until most seen old new s t g h a b
 waited_long does until most seen shown old new s t g h a b all same =
     let ps = all.pauses in (
@@ -167,14 +167,14 @@ waited_long does until most seen shown old new s t g h a b all same =
     )
 
 -- one that reads the clocks comes before all pauses are spent
-after_fewer : (pauses most : ℕ) (e : Ending) (call : Call) → clocked_at e ≡ call ∷ [] → pauses < most → EndsAfter pauses most e
+after_fewer : (pauses most : ℕ) (e : Ending) (call : ClockCall) → clocked_at e ≡ call ∷ [] → pauses < most → EndsAfter pauses most e
 after_fewer pauses most Spent call is few = absurd (let e : clocked_at Spent ≡ call ∷ [] = is in cc)
 after_fewer pauses most Unread call is few = few
 after_fewer pauses most (Over r) call is few = few
 after_fewer pauses most (Changed r shown is_busy change) call is few = few
 
 pub waited_less :
-    {N : Type 0} → (does : NeighbourCall → N → N → Type 0) (until most count : ℕ) (reading : Option Reading) (seen shown : Agent) (old mid new : ServingSide) (s t u : ClockSeen) (g h k : Option (List Change)) (a b c : N) →
+    {N : Type 0} → (does : NeighbourCall → N → N → Type 0) (until most count : ℕ) (reading : Option Reading) (seen shown : Agent) (old mid new : ServingSide) (s t u : ClockSeen) (g h k : Option (List AgentChange)) (a b c : N) →
     ArePaused does until count old.held.agent seen shown s t g h a b → count < most → mid ≡ old → AllMade (read_call reading ∷ []) t u → IsEnded does until reading shown mid new h k b c → HasWaited does until most seen old new s u g k a c
 waited_less does until most count reading seen shown old mid new s t u g h k a b c all few same reads one =
     let ps = all.pauses in

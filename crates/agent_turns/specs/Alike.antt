@@ -8,13 +8,13 @@ use Rattle.vault_asking.specs.declared.told.Said.{Said}
 use Rattle.base_clock.specs.declared.reading.Reading.{Reading}
 use Rattle.vault_inventory.specs.Inventories.{Inventory}
 use Rattle.vault_lanes.specs.declared.lanes.Answered.{Answered}
-use Rattle.watch_machine.specs.declared.command.Request.{Request}
+use Rattle.watch_machine.specs.declared.command.WatchRequest.{WatchRequest}
 use Rattle.agent_turns.specs.Changes.{MadeChange, ServesInventory}
 use Rattle.agent_turns.specs.Held.{Held, ServingSide, serving_side}
 use Rattle.agent_turns.specs.Stages.{AnswersAreTaken}
 use Rattle.agent_turns.specs.Words.{AllFollow, HandsBy, TurnFollowsWords, Words}
-use Rattle.agent_turns.specs.declared.change.Change.{Change}
-use Rattle.agent_turns.specs.declared.change.Change.TheVariants.{Need, Begin, Known, Serve, Kept}
+use Rattle.agent_turns.specs.declared.change.AgentChange.{AgentChange}
+use Rattle.agent_turns.specs.declared.change.AgentChange.TheVariants.{Need, Begin, Known, Serve, Kept}
 
 -- ---- what is alike
 
@@ -35,7 +35,7 @@ pub record AreHeldAlike (h k : Held) : Type 0 where
   pub until : k.until ≡ h.until
 
 -- the same inventory is served after a change, and after that of a turn
-abbrev pub KeepsInventory : Change → Type 0
+abbrev pub KeepsInventory : AgentChange → Type 0
 KeepsInventory (Need i until) = Unit {0}
 KeepsInventory Begin = Unit {0}
 KeepsInventory (Known i end renewable) = Unit {0}
@@ -71,14 +71,14 @@ contents_taken [] old new h = []
 contents_taken (a ∷ rest) old new h = record { index = a.index; said = h.1.0.said } ∷ contents_taken rest h.0 new h.1.1
 
 -- of those that are handed in in a turn, and in turns one after another
-abbrev pub contents_at : (reading : Option Reading) (came : List Answered) (is_said : Bool) (old : Held) (sent : List Request) (new : Held) → HandsBy reading came is_said old sent new → List Content
+abbrev pub contents_at : (reading : Option Reading) (came : List Answered) (is_said : Bool) (old : Held) (sent : List WatchRequest) (new : Held) → HandsBy reading came is_said old sent new → List Content
 contents_at None came is_said old sent new h = []
 contents_at (Some r) came is_said old sent new h = contents_taken (old.pending ++ came) old.agent h.told h.taken
 
-abbrev pub contents_in : (w : Words) (old : Held) (sent : List Request) (new : Held) → TurnFollowsWords w old sent new → List Content
+abbrev pub contents_in : (w : Words) (old : Held) (sent : List WatchRequest) (new : Held) → TurnFollowsWords w old sent new → List Content
 contents_in w old sent new h = contents_at w.reading w.came w.is_said old sent h.mid h.hands
 
-abbrev pub contents : (words : List Words) (old : Held) (sent : List (List Request)) (new : Held) → AllFollow words old sent new → List (List Content)
+abbrev pub contents : (words : List Words) (old : Held) (sent : List (List WatchRequest)) (new : Held) → AllFollow words old sent new → List (List Content)
 contents [] old sent new h = []
 contents (w ∷ rest) old [] new h = []
 contents (w ∷ rest) old (s ∷ later) new h = contents_in w old s h.0 h.1.0 ∷ contents rest h.0 later new h.1.1
@@ -89,7 +89,7 @@ contents (w ∷ rest) old (s ∷ later) new h = contents_in w old s h.0 h.1.0 �
 -- same requests go out, of the same entries, and the agents differ in credentials alone again, in each turn
 abbrev pub AlikeLaw : Type 0
 AlikeLaw =
-    (words more : List Words) (h k new last : Held) (sent out : List (List Request)) (one : AllFollow words h sent new) (two : AllFollow more k out last) → AreHeldAlike h k → AllWordsAlike words more →
+    (words more : List Words) (h k new last : Held) (sent out : List (List WatchRequest)) (one : AllFollow words h sent new) (two : AllFollow more k out last) → AreHeldAlike h k → AllWordsAlike words more →
     contents more k out last two ≡ contents words h sent new one → (out ≡ sent) × AreHeldAlike new last
 
 -- and so they do after another inventory is served, if the same of its entries were served before

@@ -7,18 +7,18 @@ use Rattle.agent_standing.specs.Agent.{Agent, standing_at}
 use Rattle.agent_standing.specs.Turns.{AgentTurn}
 use Rattle.agent_standing.specs.declared.standing.Told.{Told}
 use Rattle.base_clock.specs.Seen.{read_call}
-use Rattle.base_clock.specs.declared.call.Call.{Call}
-use Rattle.base_clock.specs.declared.call.Call.TheVariants.{Wait}
+use Rattle.base_clock.specs.declared.call.ClockCall.{ClockCall}
+use Rattle.base_clock.specs.declared.call.ClockCall.TheVariants.{Wait}
 use Rattle.base_clock.specs.declared.reading.Reading.{Reading}
 use Rattle.plan_forest.specs.Carried.{carried}
-use Rattle.watch_machine.specs.declared.command.Output.{Output}
-use Rattle.watch_machine.specs.declared.event.Event.TheVariants as events
+use Rattle.watch_machine.specs.declared.command.WatchOutput.{WatchOutput}
+use Rattle.watch_machine.specs.declared.event.WatchEvent.TheVariants as events
 use Rattle.watch_machine.specs.declared.fault.WatchFault.{WatchFault}
 use Rattle.agent_turns.specs.Changes.{MadeChange, MakesChange, given_by, is_one_made}
 use Rattle.agent_turns.specs.Held.{ServingSide}
 use Rattle.agent_turns.specs.Neighbours.{GoOn, NeighbourCall, calls_for_change}
-use Rattle.agent_turns.specs.declared.change.Change.{Change}
-use Rattle.agent_turns.specs.declared.change.Change.TheVariants.{Need, Begin, Known, Serve, Kept}
+use Rattle.agent_turns.specs.declared.change.AgentChange.{AgentChange}
+use Rattle.agent_turns.specs.declared.change.AgentChange.TheVariants.{Need, Begin, Known, Serve, Kept}
 
 -- ---- whether it may
 
@@ -51,7 +51,7 @@ pub record Pause : Type 0 where
   pub made : Option MadeChange
   pub millis : ℕ
 
-abbrev pub is_change_kept : Change → Bool
+abbrev pub is_change_kept : AgentChange → Bool
 is_change_kept (Need i until) = false
 is_change_kept Begin = false
 is_change_kept (Known i end renewable) = false
@@ -77,7 +77,7 @@ pub data Ending : Type 0 where
   Spent : Ending
   Unread : Ending
   Over : Reading → Ending
-  Changed : Reading → Agent → Bool → Change → Ending
+  Changed : Reading → Agent → Bool → AgentChange → Ending
 
 -- nothing is sent, and nothing is another, but for that change
 abbrev pub EndsBy : ℕ → Ending → ServingSide → ServingSide → Type 0
@@ -93,7 +93,7 @@ EndsAfter pauses most ending = pauses < most
 
 -- the neighbours see an agent of their own, to which the time of each pause is handed in; where memory is wanting for that, it is as it was
 abbrev pub IsShown : Reading → Agent → Agent → Type 0
-IsShown r old new = (result : Result Output WatchFault) × AgentTurn old (events.Clock r.wall r.elapsed) result new
+IsShown r old new = (result : Result WatchOutput WatchFault) × AgentTurn old (events.Clock r.wall r.elapsed) result new
 
 abbrev pub AreShown : List Pause → Agent → Agent → Type 0
 AreShown [] old new = new ≡ old
@@ -118,29 +118,29 @@ pub record IsWaitedApart (until most : ℕ) (shown : Agent) (old : ServingSide) 
 
 -- ---- what is asked of the clock meanwhile: one reading a pause, and one wait
 
-abbrev pub clocked_in : Pause → List Call
+abbrev pub clocked_in : Pause → List ClockCall
 clocked_in p = read_call (Some p.reading) ∷ Wait p.millis ∷ []
 
-abbrev pub clocked_at : Ending → List Call
+abbrev pub clocked_at : Ending → List ClockCall
 clocked_at Spent = []
 clocked_at Unread = read_call None ∷ []
 clocked_at (Over r) = read_call (Some r) ∷ []
 clocked_at (Changed r shown is_busy change) = read_call (Some r) ∷ []
 
-abbrev pub all_clocked : Waited → List Call
+abbrev pub all_clocked : Waited → List ClockCall
 all_clocked w = flat_map clocked_in w.pauses ++ clocked_at w.ending
 
 -- ---- what the neighbours are called for: they go on once a pause, and are asked for one change
 
 -- where another inventory is served, or was to be, they are told so by the agent itself
-abbrev pub is_change_served : Change → Bool
+abbrev pub is_change_served : AgentChange → Bool
 is_change_served (Need i until) = false
 is_change_served Begin = false
 is_change_served (Known i end renewable) = false
 is_change_served (Serve s) = true
 is_change_served Kept = false
 
-abbrev pub told_by : Agent → Agent → Change → Agent
+abbrev pub told_by : Agent → Agent → AgentChange → Agent
 told_by shown own change = if is_change_served change then own else shown
 
 abbrev pub called_by : Agent → Agent → Reading → Bool → Option MadeChange → List NeighbourCall
@@ -159,9 +159,9 @@ all_called old new w = flat_map (called_in old) w.pauses ++ called_at new w.endi
 
 -- ---- the changes that they give
 
-abbrev pub given_at : Ending → List Change
+abbrev pub given_at : Ending → List AgentChange
 given_at (Changed r shown is_busy change) = change ∷ []
 given_at ending = []
 
-abbrev pub all_given : Waited → List Change
+abbrev pub all_given : Waited → List AgentChange
 all_given w = flat_map (λ (p : Pause). given_by p.made) w.pauses ++ given_at w.ending

@@ -6,17 +6,17 @@ use Rattle.agent_standing.specs.Turns.{AgentTurn}
 use Rattle.vault_asking.specs.InStep.{entries_out}
 use Rattle.vault_inventory.specs.Inventories.{Inventory}
 use Rattle.vault_lanes.specs.Out.{renamed}
-use Rattle.watch_machine.specs.declared.command.Output.{Output}
-use Rattle.watch_machine.specs.declared.event.Event.{Event}
-use Rattle.watch_machine.specs.declared.event.Event.TheVariants as events
+use Rattle.watch_machine.specs.declared.command.WatchOutput.{WatchOutput}
+use Rattle.watch_machine.specs.declared.event.WatchEvent.{WatchEvent}
+use Rattle.watch_machine.specs.declared.event.WatchEvent.TheVariants as events
 use Rattle.watch_machine.specs.declared.fault.WatchFault.{WatchFault}
 use Rattle.agent_turns.specs.Held.{ServingSide}
-use Rattle.agent_turns.specs.declared.change.Change.{Change}
-use Rattle.agent_turns.specs.declared.change.Change.TheVariants.{Need, Begin, Known, Serve, Kept}
+use Rattle.agent_turns.specs.declared.change.AgentChange.{AgentChange}
+use Rattle.agent_turns.specs.declared.change.AgentChange.TheVariants.{Need, Begin, Known, Serve, Kept}
 
 -- the agent takes an event of its own; one of no entry leaves it as it was
-pub record AgentIsTurned (event : Event) (old new : ServingSide) : Type 0 where
-  pub result : Result Output WatchFault
+pub record AgentIsTurned (event : WatchEvent) (old new : ServingSide) : Type 0 where
+  pub result : Result WatchOutput WatchFault
   pub turn : AgentTurn old.held.agent event result new.held.agent
   pub rest : new ≡ record old { held = record old.held { agent = new.held.agent } }
 
@@ -34,7 +34,7 @@ abbrev pub ServesInventory : Inventory → ServingSide → ServingSide → Type 
 ServesInventory s old new = ((s ≡ old.held.agent.inventory) × (new ≡ old)) ⊎ ((s ≢ old.held.agent.inventory) × InventoryIsServed s old new)
 
 -- what a change makes
-abbrev pub MakesChange : Change → ServingSide → ServingSide → Type 0
+abbrev pub MakesChange : AgentChange → ServingSide → ServingSide → Type 0
 MakesChange (Need i until) old new = AgentIsTurned (events.Need i until) old new
 MakesChange Begin old new = AgentIsTurned events.Begin old new
 MakesChange (Known i end renewable) old new = AgentIsTurned (events.Known i end renewable) old new
@@ -43,18 +43,18 @@ MakesChange Kept old new = new ≡ old
 
 -- a change that was taken, and whether memory sufficed to make it; where it did not, all is as it was, and it is to be given again
 pub record MadeChange : Type 0 where
-  pub change : Change
+  pub change : AgentChange
   pub is_made : Bool
 
 -- none but another inventory wants memory
-abbrev pub WantsMemory : Change → ServingSide → Type 0
+abbrev pub WantsMemory : AgentChange → ServingSide → Type 0
 WantsMemory (Need i until) old = ⊥
 WantsMemory Begin old = ⊥
 WantsMemory (Known i end renewable) old = ⊥
 WantsMemory (Serve s) old = s ≢ old.held.agent.inventory
 WantsMemory Kept old = ⊥
 
-abbrev pub ChangeIsMade : Change → Bool → ServingSide → ServingSide → Type 0
+abbrev pub ChangeIsMade : AgentChange → Bool → ServingSide → ServingSide → Type 0
 ChangeIsMade change true old new = MakesChange change old new
 ChangeIsMade change false old new = WantsMemory change old × (new ≡ old)
 
@@ -67,12 +67,12 @@ abbrev pub is_one_made : Option MadeChange → Bool
 is_one_made None = false
 is_one_made (Some m) = m.is_made
 
-abbrev pub given_by : Option MadeChange → List Change
+abbrev pub given_by : Option MadeChange → List AgentChange
 given_by None = []
 given_by (Some m) = m.change ∷ []
 
 -- ---- what the neighbours that give changes have given
 
 -- these were given and no others, in this order: what was given by now was given before, and these are more
-abbrev pub AllGiven : List Change → Option (List Change) → Option (List Change) → Type 0
-AllGiven more old new = IfSome new (λ given. (before : List Change) × ((old ≡ Some before) × (given ≡ before ++ more)))
+abbrev pub AllGiven : List AgentChange → Option (List AgentChange) → Option (List AgentChange) → Type 0
+AllGiven more old new = IfSome new (λ given. (before : List AgentChange) × ((old ≡ Some before) × (given ≡ before ++ more)))

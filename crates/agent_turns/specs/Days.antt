@@ -9,8 +9,8 @@ use Rattle.watch_machine.specs.State.{WatchState}
 use Rattle.watch_machine.specs.Clocks.{second_of_wall}
 use Rattle.agent_turns.specs.Apart.{MayWait}
 use Rattle.agent_turns.specs.Neighbours.{Answer, End, Give, GoOn, Hear, NeighbourCall, Needs, Rest, Settle, Step, Thing, Time, Want}
-use Rattle.agent_turns.specs.declared.change.Change.{Change}
-use Rattle.agent_turns.specs.declared.change.Change.TheVariants.{Begin}
+use Rattle.agent_turns.specs.declared.change.AgentChange.{AgentChange}
+use Rattle.agent_turns.specs.declared.change.AgentChange.TheVariants.{Begin}
 use Rattle.agent_turns.specs.declared.day.EarlyDay.{EarlyDay}
 use Rattle.agent_turns.specs.declared.day.TheConstants.{DAY}
 
@@ -50,7 +50,7 @@ BeginningIsDue agent now day due = BeginningIsDueBy (day_has_passed day.earlier 
 -- ---- what is asked
 
 -- it is asked once for each beginning
-abbrev pub AsksBy : {N E : Type 0} → Result Bool E → EarlyDay N → Option Change → EarlyDay N → Type 0
+abbrev pub AsksBy : {N E : Type 0} → Result Bool E → EarlyDay N → Option AgentChange → EarlyDay N → Type 0
 AsksBy (Ok true) old change new = (change ≡ Some Begin) × (new ≡ record old { begun = None; is_own = true })
 AsksBy (Ok false) old change new = (change ≡ None) × (new ≡ old)
 AsksBy (Err e) old change new = (change ≡ None) × (new ≡ old)
@@ -58,11 +58,11 @@ AsksBy (Err e) old change new = (change ≡ None) × (new ≡ old)
 -- ---- what a call does
 
 -- they give the change; or they give none, and everything is to be looked up anew, if it is time to
-abbrev pub GivesOthers : {N : Type 0} → (NeighbourCall → N → N → Type 0) → Agent → Reading → Option Change → EarlyDay N → EarlyDay N → Type 0
+abbrev pub GivesOthers : {N : Type 0} → (NeighbourCall → N → N → Type 0) → Agent → Reading → Option AgentChange → EarlyDay N → EarlyDay N → Type 0
 GivesOthers does a now None old new = ⊥
 GivesOthers does a now (Some change) old new = does (Give a now (Some change)) old.others new.others × (new ≡ record old { others = new.others; is_own = false })
 
-pub record AsksAnew {N : Type 0} (does : NeighbourCall → N → N → Type 0) (a : Agent) (now : Reading) (change : Option Change) (old new : EarlyDay N) : Type 0 where
+pub record AsksAnew {N : Type 0} (does : NeighbourCall → N → N → Type 0) (a : Agent) (now : Reading) (change : Option AgentChange) (old new : EarlyDay N) : Type 0 where
   pub due : Result Bool AllocError
   pub is_due : IfOk due (λ is. BeginningIsDue a now old is)
   pub none : does (Give a now None) old.others new.others

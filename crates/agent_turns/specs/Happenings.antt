@@ -10,10 +10,10 @@ use Rattle.vault_asking.specs.Told.{event_of_answer}
 use Rattle.base_clock.specs.declared.reading.Reading.{Reading}
 use Rattle.vault_inventory.specs.Inventories.{Inventory}
 use Rattle.vault_lanes.specs.declared.lanes.Answered.{Answered}
-use Rattle.watch_machine.specs.declared.command.Command.TheVariants.{Go}
-use Rattle.watch_machine.specs.declared.command.Output.{Output}
-use Rattle.watch_machine.specs.declared.event.Event.{Event}
-use Rattle.watch_machine.specs.declared.event.Event.TheVariants as events
+use Rattle.watch_machine.specs.declared.command.WatchCommand.TheVariants.{Go}
+use Rattle.watch_machine.specs.declared.command.WatchOutput.{WatchOutput}
+use Rattle.watch_machine.specs.declared.event.WatchEvent.{WatchEvent}
+use Rattle.watch_machine.specs.declared.event.WatchEvent.TheVariants as events
 use Rattle.watch_machine.specs.declared.fault.WatchFault.{WatchFault}
 use Rattle.watch_machine.specs.History.{Happening, Hands, Changes}
 use Rattle.agent_turns.specs.Changes.{ChangeIsMade, MadeChange, OneIsMade, ServesInventory}
@@ -21,11 +21,11 @@ use Rattle.agent_turns.specs.Held.{ServingSide}
 use Rattle.agent_turns.specs.Runs.{AreTurns}
 use Rattle.agent_turns.specs.Stages.{AnswerIsTaken, AnswersAreTaken, LeftOverGoesFirst, Listed, OnHeld, TakesAnswers, TakesReadings, of_stages}
 use Rattle.agent_turns.specs.Turns.{IsServingTurn, ServingTurn, TurnHears}
-use Rattle.agent_turns.specs.declared.change.Change.{Change}
-use Rattle.agent_turns.specs.declared.change.Change.TheVariants.{Need, Begin, Known, Serve, Kept}
+use Rattle.agent_turns.specs.declared.change.AgentChange.{AgentChange}
+use Rattle.agent_turns.specs.declared.change.AgentChange.TheVariants.{Need, Begin, Known, Serve, Kept}
 
 -- the event was handed in, and this came of it
-abbrev pub handed : Event → Result Output WatchFault → Agent → Happening
+abbrev pub handed : WatchEvent → Result WatchOutput WatchFault → Agent → Happening
 handed event result new = Hands (record { event = event; result = result; state = new.machine })
 
 -- ---- answers
@@ -66,7 +66,7 @@ happenings_of_serving s old new (inl h) = []
 happenings_of_serving s old new (inr h) = Changes (record { forest = s.forest; was = all_was old.held.agent.inventory s; state = new.held.agent.machine }) ∷ []
 
 -- a change that memory sufficed to make; an event that the Watch refuses is one, too
-abbrev pub happenings_of_change : (c : Change) (is_made : Bool) (old new : ServingSide) → ChangeIsMade c is_made old new → List Happening
+abbrev pub happenings_of_change : (c : AgentChange) (is_made : Bool) (old new : ServingSide) → ChangeIsMade c is_made old new → List Happening
 happenings_of_change c false old new h = []
 happenings_of_change (Need i until) true old new h = handed (events.Need i until) h.result new.held.agent ∷ []
 happenings_of_change Begin true old new h = handed events.Begin h.result new.held.agent ∷ []

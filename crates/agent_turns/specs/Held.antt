@@ -7,18 +7,18 @@ use Rattle.vault_lanes.specs.Out as lanes
 use Rattle.vault_lanes.specs.declared.lanes.Answered.{Answered}
 use Rattle.vault_asking.specs.InStep.{MachineIsSound, entries_answered, entries_on, entries_out, times}
 use Rattle.vault_asking.specs.Sending.{Lanes}
-use Rattle.watch_machine.specs.declared.command.Request.{Request}
+use Rattle.watch_machine.specs.declared.command.WatchRequest.{WatchRequest}
 
 -- the agent; the answers that came and are not handed in yet; the requests that the Watch commands and that are not sent yet; the
 -- reading at which it commanded them; and the moment of the same clock before which nothing else is to be done
 pub record Held : Type 0 where
   pub agent : Agent
   pub pending : List Answered
-  pub unsent : List Request
+  pub unsent : List WatchRequest
   pub asked : Reading
   pub until : ℕ
 
-abbrev pub entries_unsent : List Request → List ℕ
+abbrev pub entries_unsent : List WatchRequest → List ℕ
 entries_unsent unsent = map (λ r. r.entry) unsent
 
 -- what the Watch has out is on a lane, or its answer waits to be handed in, or it waits to be sent, which is then of an entry; and as many may
@@ -28,7 +28,7 @@ pub record IsInStep (width : ℕ) (out : List lanes.Out) (h : Held) : Type 0 whe
   pub room : length h.agent.machine.out ≤ width
   pub sound : MachineIsSound h.agent.machine
   pub count : length out + (length h.pending + length h.unsent) ≡ length h.agent.machine.out
-  pub named : All (λ (r : Request). r.entry < length h.agent.machine.forest.entries) h.unsent
+  pub named : All (λ (r : WatchRequest). r.entry < length h.agent.machine.forest.entries) h.unsent
   pub each : (i : ℕ) → times i (entries_on out) + (times i (entries_answered h.pending) + times i (entries_unsent h.unsent)) ≡ times i (entries_out h.agent.machine)
 
 -- what is held, and the lanes

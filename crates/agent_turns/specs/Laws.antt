@@ -5,7 +5,7 @@ use Rattle.std.specs.List.{All}
 use Rattle.base_clock.specs.declared.reading.Reading.{Reading}
 use Rattle.watch_machine.specs.History.{AllHappen, Happening, state_after_all}
 use Rattle.watch_machine.specs.State.{WatchState}
-use Rattle.watch_machine.specs.declared.command.Request.{Request}
+use Rattle.watch_machine.specs.declared.command.WatchRequest.{WatchRequest}
 use Rattle.agent_turns.specs.Calls.{calls_in}
 use Rattle.agent_turns.specs.Happenings.{happenings_of}
 use Rattle.agent_turns.specs.Held.{Held, IsInStep, ServingSide}
@@ -27,11 +27,11 @@ StretchLaw = (port : ℕ) (old new : ServingSide) (turns : List ServingTurn) (ar
 abbrev pub WordsLaw : Type 0
 WordsLaw =
     (port : ℕ) (old new : ServingSide) (turns : List ServingTurn) → AreTurns port old turns new → All Suffices turns →
-    (words : List Words) × ((sent : List (List Request)) × (AllAreWordsOf turns words × AllFollow words old.held sent new.held))
+    (words : List Words) × ((sent : List (List WatchRequest)) × (AllAreWordsOf turns words × AllFollow words old.held sent new.held))
 
 -- and from the same words and the same beginning the same follows: the requests that go out in each turn, and what is held after it
 abbrev pub OneWayLaw : Type 0
-OneWayLaw = (words : List Words) (old a b : Held) (sent out : List (List Request)) → AllFollow words old sent a → AllFollow words old out b → (out ≡ sent) × (b ≡ a)
+OneWayLaw = (words : List Words) (old a b : Held) (sent out : List (List WatchRequest)) → AllFollow words old sent a → AllFollow words old out b → (out ≡ sent) × (b ≡ a)
 
 -- a turn waits no longer than the longest wait by the margin that is served, and where the time was handed in never past the Watch's
 -- moment, nor longer than the neighbours may be left alone

@@ -6,10 +6,10 @@ use Rattle.agent_standing.specs.declared.shorts.Short.{Short}
 use Rattle.vault_asking.specs.declared.told.Said.{Said}
 use Rattle.base_clock.specs.declared.reading.Reading.{Reading}
 use Rattle.agent_turns.specs.Changes.{MadeChange}
-use Rattle.agent_turns.specs.declared.change.Change.{Change}
+use Rattle.agent_turns.specs.declared.change.AgentChange.{AgentChange}
 use Rattle.agent_turns.specs.declared.neighbours.Happened.{Happened}
 use Rattle.agent_turns.specs.declared.neighbours.Happened.TheVariants as happened
-use Rattle.watch_machine.specs.declared.command.Request.{Request}
+use Rattle.watch_machine.specs.declared.command.WatchRequest.{WatchRequest}
 use Rattle.watch_machine.specs.declared.event.Operation.{Operation}
 use Rattle.watch_machine.specs.declared.notes.Notes.{Notes}
 use Rattle.watch_machine.specs.declared.outlook.Next.{Next}
@@ -20,10 +20,10 @@ use Rattle.watch_machine.specs.declared.outlook.Next.{Next}
 -- requests; and that memory was wanting
 pub data Thing : Type 0 where
   Answer : ℕ → Operation → Said → Notes → Thing
-  Time : Notes → List Request → Option (Option Next) → Thing
+  Time : Notes → List WatchRequest → Option (Option Next) → Thing
   Needs : Option (List Short) → Thing
   End : ℕ → ℕ → Thing
-  Step : ℕ → List Request → Thing
+  Step : ℕ → List WatchRequest → Thing
   Want : Thing
 
 abbrev pub thing_of : Happened → Thing
@@ -41,7 +41,7 @@ thing_of happened.Wanting = Want
 pub data NeighbourCall : Type 0 where
   Hear : Agent → Thing → NeighbourCall
   GoOn : Agent → Reading → Bool → NeighbourCall
-  Give : Agent → Reading → Option Change → NeighbourCall
+  Give : Agent → Reading → Option AgentChange → NeighbourCall
   Settle : Agent → Bool → NeighbourCall
   Rest : ℕ → Option ℕ → NeighbourCall
 
@@ -56,6 +56,6 @@ pub record WithCalls {N : Type 0} (does : NeighbourCall → N → N → Type 0) 
   pub called : AllCalled does (calls is) old new
 
 -- at a reading they are asked for a change, once, and told of one that they gave whether it was made, by the agent as it is then
-abbrev pub calls_for_change : Agent → Reading → (Change → Agent) → Option MadeChange → List NeighbourCall
+abbrev pub calls_for_change : Agent → Reading → (AgentChange → Agent) → Option MadeChange → List NeighbourCall
 calls_for_change a r told None = Give a r None ∷ []
 calls_for_change a r told (Some m) = Give a r (Some m.change) ∷ Settle (told m.change) m.is_made ∷ []

@@ -6,8 +6,8 @@ use Rattle.std.specs.List.{flat_map}
 use Rattle.agent_standing.specs.Agent.{Agent, fresh}
 use Rattle.vault_inventory.specs.Inventories.{Inventory}
 use Rattle.plan_forest.specs.Forest.{Forest}
-use Rattle.watch_machine.specs.declared.event.Event.{Event}
-use Rattle.watch_machine.specs.declared.event.Event.TheVariants as events
+use Rattle.watch_machine.specs.declared.event.WatchEvent.{WatchEvent}
+use Rattle.watch_machine.specs.declared.event.WatchEvent.TheVariants as events
 use Rattle.watch_machine.specs.History.{Happening, Hands, Changes, IsRun, state_after_all}
 use Rattle.watch_machine.specs.State.{WatchState, opened}
 use Rattle.agent_turns.specs.Apart.{Ending, EndsBy, IsWaitedApart, Waited, Spent, Unread, Over, Changed}
@@ -20,7 +20,7 @@ use Rattle.agent_turns.specs.Turns.{ServingTurn}
 -- ---- what it is handed first
 
 -- an end that was told before, also one that the Watch refuses; anything else is no event
-abbrev pub happenings_of_known : (e : Event) (old new : Agent) → IsResumed e old new → List Happening
+abbrev pub happenings_of_known : (e : WatchEvent) (old new : Agent) → IsResumed e old new → List Happening
 happenings_of_known (events.Clock wall elapsed) old new h = []
 happenings_of_known (events.Looked i reply terms) old new h = []
 happenings_of_known (events.Renewed i reply) old new h = []
@@ -28,7 +28,7 @@ happenings_of_known (events.Need i until) old new h = []
 happenings_of_known events.Begin old new h = []
 happenings_of_known (events.Known i end renewable) old new h = handed (events.Known i end renewable) h.0 new ∷ []
 
-abbrev pub happenings_of_resuming : (es : List Event) (old new : Agent) → AreResumed es old new → List Happening
+abbrev pub happenings_of_resuming : (es : List WatchEvent) (old new : Agent) → AreResumed es old new → List Happening
 happenings_of_resuming [] old new h = []
 happenings_of_resuming (e ∷ rest) old new h = happenings_of_known e old h.0 h.1.0 ++ happenings_of_resuming rest h.0 new h.1.1
 
@@ -51,12 +51,12 @@ IsRunTo g width happenings now = IsRun g width happenings × (state_after_all (o
 -- after it: all that happens to the Watch of the agent, from its making on, is one run, whatever inventories are served one after another
 abbrev pub ServingLaw : Type 0
 ServingLaw =
-    (port width until most : ℕ) (known : List Event) (s : Inventory) (agent shown : Agent) (start begun new : ServingSide) (w : Waited) (turns : List ServingTurn) →
+    (port width until most : ℕ) (known : List WatchEvent) (s : Inventory) (agent shown : Agent) (start begun new : ServingSide) (w : Waited) (turns : List ServingTurn) →
     (resumed : AreResumed known (fresh s width) agent) → start.held ≡ held_at_first agent → (waited : IsWaitedApart until most shown start w begun) (are : AreTurns port begun turns new) →
     IsRunTo s.forest width (happenings_of_resuming known (fresh s width) agent resumed ++ (happenings_of_wait until w.ending start begun waited.ends ++ happenings_of port begun turns new are)) new.held.agent.machine
 
 -- the first events of it are those of all ends that the start was given
-abbrev pub is_told_before : Event → Bool
+abbrev pub is_told_before : WatchEvent → Bool
 is_told_before (events.Clock wall elapsed) = false
 is_told_before (events.Looked i reply terms) = false
 is_told_before (events.Renewed i reply) = false
@@ -64,12 +64,12 @@ is_told_before (events.Need i until) = false
 is_told_before events.Begin = false
 is_told_before (events.Known i end renewable) = true
 
-abbrev pub event_in : Happening → List Event
+abbrev pub event_in : Happening → List WatchEvent
 event_in (Hands turn) = turn.event ∷ []
 event_in (Changes c) = []
 
-abbrev pub events_of : List Happening → List Event
+abbrev pub events_of : List Happening → List WatchEvent
 events_of happenings = flat_map event_in happenings
 
 abbrev pub ResumedLaw : Type 0
-ResumedLaw = (es : List Event) (s : Inventory) (width : ℕ) (new : Agent) (h : AreResumed es (fresh s width) new) → events_of (happenings_of_resuming es (fresh s width) new h) ≡ filter is_told_before es
+ResumedLaw = (es : List WatchEvent) (s : Inventory) (width : ℕ) (new : Agent) (h : AreResumed es (fresh s width) new) → events_of (happenings_of_resuming es (fresh s width) new h) ≡ filter is_told_before es

@@ -15,10 +15,10 @@ use Rattle.base_clock.specs.declared.reading.Reading.{Reading}
 use Rattle.vault_lanes.specs.Out.{AreThereAt, IsParted}
 use Rattle.vault_lanes.specs.Serving.{BrokerIsLeft}
 use Rattle.vault_lanes.specs.declared.lanes.Answered.{Answered}
-use Rattle.watch_machine.specs.declared.command.Command.TheVariants.{Go}
-use Rattle.watch_machine.specs.declared.command.Output.{Output}
-use Rattle.watch_machine.specs.declared.command.Request.{Request}
-use Rattle.watch_machine.specs.declared.event.Event.TheVariants.{Clock}
+use Rattle.watch_machine.specs.declared.command.WatchCommand.TheVariants.{Go}
+use Rattle.watch_machine.specs.declared.command.WatchOutput.{WatchOutput}
+use Rattle.watch_machine.specs.declared.command.WatchRequest.{WatchRequest}
+use Rattle.watch_machine.specs.declared.event.WatchEvent.TheVariants.{Clock}
 use Rattle.watch_machine.specs.declared.lanes.Out.{Out}
 use Rattle.watch_machine.specs.declared.notes.Notes.{Notes}
 use Rattle.watch_machine.specs.declared.outlook.Next.{Next}
@@ -30,15 +30,15 @@ use Rattle.agent_turns.specs.Outlook.{IsOutlook}
 
 -- the first of the requests that were not sent went out in their order, each as it was commanded
 pub record HaveGone (port : ℕ) (old new : ServingSide) : Type 0 where
-  pub sent : List Request
+  pub sent : List WatchRequest
   pub parts : old.held.unsent ≡ sent ++ new.held.unsent
   pub out : GoOut port old.held.agent.inventory old.held.agent.machine (second_of_wall old.held.asked.wall) old.held.asked.elapsed sent old.lanes new.lanes
   pub held : new.held ≡ record old.held { unsent = new.held.unsent }
 
 -- memory is wanting for the next, which is not out. A broker in memory may have served it
 pub record IsKeptBack (port : ℕ) (old new : ServingSide) : Type 0 where
-  pub request : Request
-  pub later : List Request
+  pub request : WatchRequest
+  pub later : List WatchRequest
   pub first : old.held.unsent ≡ request ∷ later
   pub held : new.held ≡ old.held
   pub out : new.lanes.out ≡ old.lanes.out
@@ -70,7 +70,7 @@ pub record AnswerIsTaken (a : Answered) (old new : Agent) : Type 0 where
   pub is_out : out_of old.machine.out a.index ≡ Some request
   pub said : Said
   pub said_is : said ≡ said_to old.inventory request.operation a.index a.answer
-  pub output : Output
+  pub output : WatchOutput
   pub turn : AgentTurn old (event_as request.operation a.index said.reply said.terms) (Ok output) new
 
 abbrev pub AnswersAreTaken : List Answered → Agent → Agent → Type 0

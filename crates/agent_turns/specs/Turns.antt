@@ -2,8 +2,8 @@
 -- Source: this project's own.
 use Rattle.std.specs.Prelude.{◌≡◌, ℕ, ◌-◌, ◌*◌, ◌/◌, Bool, false, ◌||◌, if◌then◌else◌, List, [], ◌∷◌, Option, Some, None, IfSome, max, min}
 use Rattle.base_clock.specs.Seen.{read_call}
-use Rattle.base_clock.specs.declared.call.Call.{Call}
-use Rattle.base_clock.specs.declared.call.Call.TheVariants.{Wait}
+use Rattle.base_clock.specs.declared.call.ClockCall.{ClockCall}
+use Rattle.base_clock.specs.declared.call.ClockCall.TheVariants.{Wait}
 use Rattle.base_clock.specs.declared.reading.Reading.{Reading}
 use Rattle.base_device.specs.Moments.{earlier}
 use Rattle.vault_lanes.specs.Out.{first_at}
@@ -65,5 +65,5 @@ pub record IsServingTurn (port : ℕ) (old : ServingSide) (t : ServingTurn) (new
   pub waits : t.millis ≡ wait_of t new.held
 
 -- what is asked of the clock: one reading, and one wait
-abbrev pub calls_of_turn : ServingTurn → List Call
+abbrev pub calls_of_turn : ServingTurn → List ClockCall
 calls_of_turn t = read_call t.reading ∷ Wait t.millis ∷ []

@@ -8,9 +8,9 @@ use Rattle.agent_standing.specs.Turns.{AgentTurn}
 use Rattle.vault_asking.specs.Sending.{Lanes}
 use Rattle.base_clock.specs.declared.reading.Reading.{Reading}
 use Rattle.vault_lanes.specs.declared.lanes.Answered.{Answered}
-use Rattle.watch_machine.specs.declared.command.Command.TheVariants.{Go}
-use Rattle.watch_machine.specs.declared.command.Request.{Request}
-use Rattle.watch_machine.specs.declared.event.Event.TheVariants.{Clock}
+use Rattle.watch_machine.specs.declared.command.WatchCommand.TheVariants.{Go}
+use Rattle.watch_machine.specs.declared.command.WatchRequest.{WatchRequest}
+use Rattle.watch_machine.specs.declared.event.WatchEvent.TheVariants.{Clock}
 use Rattle.watch_machine.specs.declared.notes.Notes.{Notes}
 use Rattle.agent_turns.specs.Changes.{MadeChange, OneIsMade}
 use Rattle.agent_turns.specs.Held.{Held, serving_side}
@@ -31,10 +31,10 @@ SaysBy false old new = new ≡ old
 
 -- the answers that were left over and those that came are handed in, and then the readings; what goes out is what was left over and
 -- then what is commanded
-pub record WordsHandIn (r : Reading) (came : List Answered) (is_said : Bool) (old : Held) (sent : List Request) (new : Held) : Type 0 where
+pub record WordsHandIn (r : Reading) (came : List Answered) (is_said : Bool) (old : Held) (sent : List WatchRequest) (new : Held) : Type 0 where
   pub told : Agent
   pub taken : AnswersAreTaken (old.pending ++ came) old.agent told
-  pub commanded : List Request
+  pub commanded : List WatchRequest
   pub until : ℕ
   pub notes : Notes
   pub mid : Agent
@@ -43,12 +43,12 @@ pub record WordsHandIn (r : Reading) (came : List Answered) (is_said : Bool) (ol
   pub sent_is : sent ≡ old.unsent ++ commanded
   pub held : new ≡ record { agent = new.agent; pending = []; unsent = []; asked = r; until = until - mid.machine.clocks.phase }
 
-abbrev pub HandsBy : Option Reading → List Answered → Bool → Held → List Request → Held → Type 0
+abbrev pub HandsBy : Option Reading → List Answered → Bool → Held → List WatchRequest → Held → Type 0
 HandsBy None came is_said old sent new = (sent ≡ []) × (new ≡ old)
 HandsBy (Some r) came is_said old sent new = WordsHandIn r came is_said old sent new
 
 -- what goes out in a turn of these words, and what is held after it, whatever is on the lanes
-pub record TurnFollowsWords (w : Words) (old : Held) (sent : List Request) (new : Held) : Type 0 where
+pub record TurnFollowsWords (w : Words) (old : Held) (sent : List WatchRequest) (new : Held) : Type 0 where
   pub mid : Held
   pub hands : HandsBy w.reading w.came w.is_said old sent mid
   pub before : Lanes
@@ -56,7 +56,7 @@ pub record TurnFollowsWords (w : Words) (old : Held) (sent : List Request) (new 
   pub made : OneIsMade w.made (serving_side mid before) (serving_side new after)
 
 -- and in turns one after another
-abbrev pub AllFollow : List Words → Held → List (List Request) → Held → Type 0
+abbrev pub AllFollow : List Words → Held → List (List WatchRequest) → Held → Type 0
 AllFollow [] old sent new = (sent ≡ []) × (new ≡ old)
 AllFollow (w ∷ rest) old [] new = ⊥
 AllFollow (w ∷ rest) old (s ∷ later) new = (mid : Held) × (TurnFollowsWords w old s mid × AllFollow rest mid later new)

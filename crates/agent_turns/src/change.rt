@@ -2,7 +2,7 @@ use vault_inventory::Inventory;
 
 /// What is taken from clients and files while the agent runs.
 #[derive(Debug, Drop)]
-pub enum Change {
+pub enum AgentChange {
     /// The entry at this index is needed until that moment by the broker's clock, in seconds since 1970-01-01T00:00:00Z; 0 where
     /// it is not needed. One of no entry changes nothing.
     Need {
@@ -20,6 +20,6 @@ pub enum Change {
     },
     /// This inventory is served from now on. One that is served already, with the same needs, is no change at all.
     Serve(Inventory),
-    /// It is kept, and nothing is made of it now: a later [`Change::Serve`] takes it up.
+    /// It is kept, and nothing is made of it now: a later [`AgentChange::Serve`] takes it up.
     Kept,
 }

@@ -4,11 +4,11 @@ ghost use Rattle.agent_standing.specs.Turns.{AgentTurn};
 ghost use Rattle.agent_turns.specs.Changes.{AllGiven, ChangeIsMade, InventoryIsServed, MadeChange, OneIsMade, given_by, is_one_made};
 ghost use Rattle.agent_turns.specs.Held.{serving_side};
 ghost use Rattle.agent_turns.specs.Neighbours.{AllCalled, calls_for_change};
-ghost use Rattle.agent_turns.specs.declared.change.Change.TheVariants.{Serve};
-ghost use Rattle.watch_machine.specs.declared.command.Output.{Output};
+ghost use Rattle.agent_turns.specs.declared.change.AgentChange.TheVariants.{Serve};
+ghost use Rattle.watch_machine.specs.declared.command.WatchOutput.{WatchOutput};
 ghost use Rattle.watch_machine.specs.declared.fault.WatchFault.{WatchFault};
 
-use crate::change::Change;
+use crate::change::AgentChange;
 use crate::neighbours::Neighbours;
 use crate::serving::Serving;
 use base_clock::Reading;
@@ -16,7 +16,7 @@ use std::alloc::Global;
 use vault_asking::SeenLanes;
 use vault_inventory::Inventory;
 use vault_lanes::Lanes;
-use watch_machine::{Event, Out, WatchFault};
+use watch_machine::{WatchEvent, Out, WatchFault};
 
 impl Serving {
     /// Takes a change, where the neighbours have one, and makes it. Whether it was made.
@@ -42,28 +42,28 @@ impl Serving {
     }
 
     /// Makes a change. Whether memory sufficed; where it did not all is as it was. None but another inventory wants memory.
-    pub(crate) fn make<L: Lanes>(&mut self, alloc: Global, lanes: &mut L, change: Change) -> bool
+    pub(crate) fn make<L: Lanes>(&mut self, alloc: Global, lanes: &mut L, change: AgentChange) -> bool
         ensures made { ChangeIsMade change result (serving_side self.old (⟦<L as SeenLanes>⟧.seen lanes.old)) (serving_side self.new (⟦<L as SeenLanes>⟧.seen lanes.new)) }
         ensures width { L.width lanes.new ≡ L.width lanes.old }
         ensures port { L.host_port lanes.new ≡ L.host_port lanes.old }
     {
         match change {
-            Change::Need { entry, until } => {
-                self.take(alloc, Event::Need { entry, until });
+            AgentChange::Need { entry, until } => {
+                self.take(alloc, WatchEvent::Need { entry, until });
                 true
             }
-            Change::Begin => {
-                self.take(alloc, Event::Begin);
+            AgentChange::Begin => {
+                self.take(alloc, WatchEvent::Begin);
                 true
             }
-            Change::Known {
+            AgentChange::Known {
                 entry,
                 end,
                 renewable,
             } => {
                 self.take(
                     alloc,
-                    Event::Known {
+                    WatchEvent::Known {
                         entry,
                         end,
                         renewable,
@@ -71,14 +71,14 @@ impl Serving {
                 );
                 true
             }
-            Change::Serve(inventory) => self.serve(alloc, lanes, inventory),
-            Change::Kept => true,
+            AgentChange::Serve(inventory) => self.serve(alloc, lanes, inventory),
+            AgentChange::Kept => true,
         }
     }
 
     /// The agent takes an event of its own. One of no entry leaves it as it was.
-    pub(crate) fn take(&mut self, alloc: Global, event: Event)
-        ensures turned { (result : Result Output WatchFault) × AgentTurn self.old.agent event result self.new.agent }
+    pub(crate) fn take(&mut self, alloc: Global, event: WatchEvent)
+        ensures turned { (result : Result WatchOutput WatchFault) × AgentTurn self.old.agent event result self.new.agent }
         ensures rest { self.new ≡ record self.old { agent = self.new.agent } }
     {
         let _turned = self.agent.turn(alloc, event);

@@ -5,7 +5,7 @@ ghost use Rattle.agent_turns.specs.Days.{AsksAnew, AsksBy, BeginningIsDue, Gives
 ghost use Rattle.agent_turns.specs.Neighbours.{thing_of};
 
 use crate::apart::may_wait;
-use crate::change::Change;
+use crate::change::AgentChange;
 use crate::neighbours::{Happened, Neighbours};
 use agent_standing::Agent;
 use base_clock::{Reading, rest_until, shorter};
@@ -52,14 +52,14 @@ impl<N> EarlyDay<N> {
     }
 
     /// Asks that everything is looked up anew, where it is time to.
-    fn ask_anew(&mut self, alloc: Global, agent: &Agent, now: Reading) -> Option<Change>
+    fn ask_anew(&mut self, alloc: Global, agent: &Agent, now: Reading) -> Option<AgentChange>
         ensures { (due : Result Bool AllocError) × (IfOk due (λ is. BeginningIsDue agent.now now self.old is) × AsksBy due self.old result self.new) }
     {
         match self.is_due(alloc, agent, now) {
             Ok(true) => {
                 self.begun = None;
                 self.is_own = true;
-                Some(Change::Begin)
+                Some(AgentChange::Begin)
             }
             Ok(false) | Err(AllocError) => None,
         }
@@ -116,7 +116,7 @@ fn day_due(earlier: Millis, begun: Option<Millis>) -> Option<Millis>
 
 impl<N: Neighbours> EarlyDay<N> {
     /// The others give a change, or everything is to be looked up anew.
-    fn give(&mut self, alloc: Global, agent: &Agent, now: Reading) -> Option<Change>
+    fn give(&mut self, alloc: Global, agent: &Agent, now: Reading) -> Option<AgentChange>
         ensures { GivesOthers N.does agent.now now result self.old self.new ⊎ AsksAnew N.does agent.now now result self.old self.new }
     {
         if let Some(change) = self.others.change(alloc, agent, now) {
@@ -164,7 +164,7 @@ impl<N: Neighbours> Neighbours for EarlyDay<N> {
         self.others.go_on(alloc, agent, now)
     }
 
-    fn change(&mut self, alloc: Global, agent: &Agent, now: Reading) -> Option<Change> {
+    fn change(&mut self, alloc: Global, agent: &Agent, now: Reading) -> Option<AgentChange> {
         self.give(alloc, agent, now)
     }
 

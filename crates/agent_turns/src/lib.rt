@@ -29,7 +29,7 @@ mod turn;
 mod waiting;
 
 pub use apart::may_wait;
-pub use change::Change;
+pub use change::AgentChange;
 pub use day::{DAY, EarlyDay};
 pub use laws::{
     a_serving_is_a_run, a_stretch_is_a_run, a_turn_is_bounded, nothing_else_is_heard,

@@ -3,14 +3,14 @@ ghost use Rattle.std.specs.Prelude.{◌≡◌, List, Option, option_to_list};
 ghost use Rattle.agent_turns.specs.Changes.{AllGiven};
 ghost use Rattle.agent_turns.specs.Neighbours.{Give, GoOn, Hear, NeighbourCall, Rest, Settle, thing_of};
 ghost use Rattle.agent_turns.specs.Outlook.{IsToldNext};
-ghost use Rattle.agent_turns.specs.declared.change.Change.{Change};
+ghost use Rattle.agent_turns.specs.declared.change.AgentChange.{AgentChange};
 
-use crate::change::Change;
+use crate::change::AgentChange;
 use agent_standing::{Agent, Short};
 use base_clock::Reading;
 use std::alloc::Global;
 use vault_asking::HandedIn;
-use watch_machine::{Millis, Next, Notes, Request};
+use watch_machine::{Millis, Next, Notes, WatchRequest};
 
 /// What has happened, for the log.
 #[derive(Debug, Drop)]
@@ -20,7 +20,7 @@ pub enum Happened<'a> {
     /// memory is wanting for it, the next time is `None`.
     Clocked {
         notes: &'a Notes,
-        requests: &'a [Request],
+        requests: &'a [WatchRequest],
         next: Option<Option<Next>>,
     },
     /// Needs were found to be past what their entries reach.
@@ -37,7 +37,7 @@ pub enum Happened<'a> {
     /// that moment on, the one in front has left undone.
     StepsIn {
         lead: Millis,
-        requests: &'a [Request],
+        requests: &'a [WatchRequest],
     },
     /// Memory was refused for a look at which needs are past what their entries reach.
     Refused,
@@ -52,7 +52,7 @@ pub enum Happened<'a> {
 /// To contracts they are the changes that they have given, and what a call may do to them.
 pub trait Neighbours {
     /// The changes that were given so far, where that is known.
-    ghost given: { Self → Option (List Change) };
+    ghost given: { Self → Option (List AgentChange) };
 
     /// What a call may do to them: what they are called for, what they were before it, and what they are after it.
     ghost does: { NeighbourCall → Self → Self → Type 0 };
@@ -70,7 +70,7 @@ pub trait Neighbours {
         ensures does { Self.does (GoOn agent.now now result) self.old self.new };
 
     /// The next change that is to be made, if there is one.
-    fn change(&mut self, alloc: Global, agent: &Agent, now: Reading) -> Option<Change>
+    fn change(&mut self, alloc: Global, agent: &Agent, now: Reading) -> Option<AgentChange>
         ensures given { AllGiven (option_to_list result) (Self.given self.old) (Self.given self.new) }
         ensures does { Self.does (Give agent.now now result) self.old self.new };
 

@@ -11,7 +11,7 @@ use agent_standing::Agent;
 use base_clock::Reading;
 use std::alloc::{AllocError, Global};
 use std::collections::VecDeque;
-use watch_machine::{Command, Event, Next, Output};
+use watch_machine::{WatchCommand, WatchEvent, Next, WatchOutput};
 
 impl Serving {
     /// Hands in the readings of both clocks; what the Watch commands is then to be sent. The only error is out of memory: all is
@@ -27,11 +27,11 @@ impl Serving {
         ensures given { N.given neighbours.new ≡ N.given neighbours.old }
     {
         let Reading { wall, elapsed } = reading;
-        let Ok(output) = self.agent.turn(alloc, Event::Clock { wall, elapsed }) else {
+        let Ok(output) = self.agent.turn(alloc, WatchEvent::Clock { wall, elapsed }) else {
             return Err(AllocError);
         };
-        let Output { command, notes } = output;
-        let Command::Go { requests, until } = command else {
+        let WatchOutput { command, notes } = output;
+        let WatchCommand::Go { requests, until } = command else {
             return Ok(());
         };
         let happened = Happened::Clocked {

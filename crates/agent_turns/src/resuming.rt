@@ -8,17 +8,17 @@ use crate::serving::Serving;
 use std::alloc::Global;
 use vault_inventory::Inventory;
 use vault_lanes::Lanes;
-use watch_machine::{Event, WatchFault};
+use watch_machine::{WatchEvent, WatchFault};
 
 impl Serving {
     /// What serves an inventory from now on, as [`Serving::begin`] gives it, where ends were told before in the same boot: each
-    /// [`Event::Known`] of these is handed in before anything else, one after another. Any other event is left out. The only error
+    /// [`WatchEvent::Known`] of these is handed in before anything else, one after another. Any other event is left out. The only error
     /// is out of memory.
     pub fn resume<L: Lanes>(
         alloc: Global,
         inventory: Inventory,
         lanes: &L,
-        known: &[Event],
+        known: &[WatchEvent],
     ) -> Result<Serving, WatchFault>
         requires free { L.out lanes.now ≡ [] }
         ensures resumed { IfOk result (λ serving. (agent : Agent) × ((serving ≡ held_at_first agent) × AreResumed known.now (fresh inventory (L.width lanes.now)) agent)) }
@@ -30,7 +30,7 @@ impl Serving {
     }
 
     /// Hands the ends in that were told before, one after another. Any other event is left out.
-    fn hand_all_known(&mut self, alloc: Global, known: &[Event])
+    fn hand_all_known(&mut self, alloc: Global, known: &[WatchEvent])
         ensures resumed { AreResumed known.now self.old.agent self.new.agent }
         ensures rest { self.new ≡ record self.old { agent = self.new.agent } }
     {
@@ -40,17 +40,17 @@ impl Serving {
     }
 
     /// Hands an end in that was told before. Any other event is left out.
-    fn hand_known(&mut self, alloc: Global, event: Event)
+    fn hand_known(&mut self, alloc: Global, event: WatchEvent)
         ensures resumed { IsResumed event self.old.agent self.new.agent }
         ensures rest { self.new ≡ record self.old { agent = self.new.agent } }
     {
         match event {
-            Event::Known { .. } => self.take(alloc, event),
-            Event::Clock { .. }
-            | Event::Looked { .. }
-            | Event::Renewed { .. }
-            | Event::Need { .. }
-            | Event::Begin => {}
+            WatchEvent::Known { .. } => self.take(alloc, event),
+            WatchEvent::Clock { .. }
+            | WatchEvent::Looked { .. }
+            | WatchEvent::Renewed { .. }
+            | WatchEvent::Need { .. }
+            | WatchEvent::Begin => {}
         }
     }
 }

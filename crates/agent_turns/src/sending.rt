@@ -10,7 +10,7 @@ use base_moment::{LAST, Moment};
 use std::alloc::{AllocError, Global};
 use vault_asking::{SeenLanes, ask_for};
 use vault_lanes::Lanes;
-use watch_machine::Request;
+use watch_machine::WatchRequest;
 
 impl Serving {
     /// Sends the requests that were not sent, in their order. The only error is out of memory: those that are left are kept.

@@ -8,7 +8,7 @@ use std::alloc::Global;
 use std::collections::VecDeque;
 use std::marker::Model;
 use vault_lanes::Answered;
-use watch_machine::Request;
+use watch_machine::WatchRequest;
 
 /// The agent, and what is under way between it and its lanes.
 #[derive(Debug, Drop)]
@@ -17,7 +17,7 @@ pub struct Serving {
     /// Answers that came and are not handed in yet. Between turns there are some only where memory was wanting.
     pub(crate) pending: VecDeque<Answered>,
     /// Requests that the Watch commands and that are not sent yet. Between turns there are some only where memory was wanting.
-    pub(crate) unsent: VecDeque<Request>,
+    pub(crate) unsent: VecDeque<WatchRequest>,
     /// The reading at which it commanded them.
     pub(crate) asked: Reading,
     /// The moment of the clock that never steps before which nothing is to be done but to take answers and changes, in

@@ -7,7 +7,7 @@ ghost use Rattle.agent_turns.specs.Held.{IsInStep, serving_side};
 ghost use Rattle.agent_turns.specs.Neighbours.{AllCalled, Settle};
 ghost use Rattle.agent_turns.specs.code.Pauses.{Pauses};
 
-use crate::change::Change;
+use crate::change::AgentChange;
 use crate::neighbours::Neighbours;
 use crate::serving::Serving;
 use crate::turn::A_SECOND;
@@ -15,7 +15,7 @@ use base_clock::{Clock, Reading};
 use std::alloc::Global;
 use vault_asking::SeenLanes;
 use vault_lanes::Lanes;
-use watch_machine::Event;
+use watch_machine::WatchEvent;
 
 impl Serving {
     /// Waits before the first turn, until a moment of the clock that never steps, in milliseconds, by `most` pauses at most. Nothing is
@@ -70,7 +70,7 @@ impl Serving {
             return None;
         }
         let Reading { wall, elapsed } = reading;
-        shown.take(alloc, Event::Clock { wall, elapsed });
+        shown.take(alloc, WatchEvent::Clock { wall, elapsed });
         let is_busy = neighbours.go_on(alloc, &shown.agent, reading);
         let Some(change) = neighbours.change(alloc, &shown.agent, reading) else {
             return Some(pause_by(false, is_busy, until, reading));
@@ -91,7 +91,7 @@ impl Serving {
         shown: &Serving,
         lanes: &mut L,
         neighbours: &mut N,
-        change: Change,
+        change: AgentChange,
     ) -> bool
         ensures made { ChangeIsMade change result (serving_side self.old (⟦<L as SeenLanes>⟧.seen lanes.old)) (serving_side self.new (⟦<L as SeenLanes>⟧.seen lanes.new)) }
         ensures settled { N.does (Settle (told_by shown.now.agent self.new.agent change) result) neighbours.old neighbours.new }
@@ -108,22 +108,22 @@ impl Serving {
 }
 
 /// Whether nothing is made of a change now.
-fn is_kept(change: &Change) -> bool
+fn is_kept(change: &AgentChange) -> bool
     ensures { result ≡ is_change_kept change.now }
 {
     match change {
-        Change::Need { .. } | Change::Begin | Change::Known { .. } | Change::Serve(_) => false,
-        Change::Kept => true,
+        AgentChange::Need { .. } | AgentChange::Begin | AgentChange::Known { .. } | AgentChange::Serve(_) => false,
+        AgentChange::Kept => true,
     }
 }
 
 /// Whether another inventory is to be served.
-fn is_served(change: &Change) -> bool
+fn is_served(change: &AgentChange) -> bool
     ensures { result ≡ is_change_served change.now }
 {
     match change {
-        Change::Need { .. } | Change::Begin | Change::Known { .. } | Change::Kept => false,
-        Change::Serve(_) => true,
+        AgentChange::Need { .. } | AgentChange::Begin | AgentChange::Known { .. } | AgentChange::Kept => false,
+        AgentChange::Serve(_) => true,
     }
 }
 

@@ -7,7 +7,7 @@ use Rattle.state_changes.specs.declared.row.Row.{Row}
 use Rattle.base_device.specs.declared.fault.InputFault.TheVariants as inputs
 use Rattle.base_files.specs.Files.{FileIsRead, Files}
 use Rattle.vault_inventory.specs.Values.{is_credential}
-use Rattle.vault_inventory.specs.declared.note.Note.{Note}
+use Rattle.vault_inventory.specs.declared.note.EntryNote.{EntryNote}
 use Rattle.state_secrets.specs.Credentials.{placed}
 use Rattle.state_secrets.specs.declared.credential.TheConstants.{MOST_SECRET}
 use Rattle.base_words.specs.Texts.{stripped}
@@ -70,5 +70,5 @@ AreUnfilled known folder i (r ∷ rs) faults =
     (fault : Option StartFault) × (IsFaultOfRow known folder i r fault × ((rest : List StartFault) × (AreUnfilled known folder (i + 1) rs rest × (faults ≡ fault_list fault ++ rest))))
 
 -- no entry names a file
-abbrev pub names_no_file : List Note → Bool
+abbrev pub names_no_file : List EntryNote → Bool
 names_no_file notes = list_all (λ note. is_none note.file) notes

@@ -1,8 +1,8 @@
 -- Moments: the moments that are written, in lines and in words.
 -- Source: docs/running.md, "What the operator sees".
 use Rattle.std.specs.Prelude.{ℕ, ◌+◌, ◌-◌, ◌/◌, min}
-use Rattle.base_log.specs.declared.line.Word.{Word}
-use Rattle.base_log.specs.declared.line.Word.TheVariants as words
+use Rattle.base_log.specs.declared.line.LineWord.{LineWord}
+use Rattle.base_log.specs.declared.line.LineWord.TheVariants as words
 use Rattle.base_moment.specs.declared.moment.TheConstants.{LAST}
 use Rattle.watch_machine.specs.State.{WatchState}
 
@@ -11,7 +11,7 @@ abbrev pub number_held : ℕ → ℕ
 number_held n = min n 18446744073709551615
 
 -- a moment, no later than the last one
-abbrev pub moment_word : ℕ → Word
+abbrev pub moment_word : ℕ → LineWord
 moment_word seconds = words.Moment (min seconds LAST)
 
 -- the second that a wall clock shows at so many milliseconds, no later than the last moment

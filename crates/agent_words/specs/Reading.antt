@@ -8,7 +8,7 @@ use Rattle.vault_inventory.specs.Inventories.{Inventory}
 use Rattle.vault_inventory.specs.Inventory.{read_served}
 use Rattle.vault_inventory.specs.Served.{Served}
 use Rattle.vault_inventory.specs.declared.limits.TheConstants.{MOST_INVENTORY}
-use Rattle.vault_inventory.specs.declared.note.Note.{Note}
+use Rattle.vault_inventory.specs.declared.note.EntryNote.{EntryNote}
 use Rattle.vault_inventory.specs.declared.fault.InvFault.{InvFault}
 use Rattle.vault_served.specs.ForGood.{inventory_for_good}
 use Rattle.state_file.specs.Settled.{TextIsSettled}
@@ -27,7 +27,7 @@ abbrev pub keeps_margin : Demands → Bool
 keeps_margin d = is_none d.behind && nat_eq d.earlier 0
 
 -- the inventory is served just as it is written: with that margin, and no entry names a file
-abbrev pub is_as_written : Demands → List Note → Bool
+abbrev pub is_as_written : Demands → List EntryNote → Bool
 is_as_written d notes = keeps_margin d && names_no_file notes
 
 -- the margin with which the agent wakes up so much earlier; behind another, the one that its number gives it

@@ -3,7 +3,7 @@
 use Rattle.std.specs.Prelude.{ℕ, List, ◌++◌, codes, decimal}
 use Rattle.base_disk.specs.declared.fault.DiskFault.{DiskFault}
 use Rattle.base_disk.specs.declared.fault.DiskFault.TheVariants as disks
-use Rattle.base_disk.specs.declared.fault.Why.TheVariants.{Full, ReadOnly, Denied, Missing, Irregular, Other}
+use Rattle.base_disk.specs.declared.fault.DiskTrouble.TheVariants.{Full, ReadOnly, Denied, Missing, Irregular, Other}
 use Rattle.program_report.specs.FaultLine.{inventory_words}
 use Rattle.state_file.specs.declared.fault.ReadFault.{ReadFault}
 use Rattle.state_file.specs.declared.fault.ReadFault.TheVariants as reads

@@ -4,14 +4,14 @@ use Rattle.std.specs.Prelude.{◌≡◌, ℕ, ◌+◌, ◌*◌, Bool, not, ◌&&
 use Rattle.state_changes.specs.declared.row.Row.{Row}
 use Rattle.vault_inventory.specs.Inventories.{credential_at}
 use Rattle.vault_inventory.specs.Served.{Served}
-use Rattle.vault_inventory.specs.declared.note.Note.{Note}
+use Rattle.vault_inventory.specs.declared.note.EntryNote.{EntryNote}
 use Rattle.program_lines.specs.Text.{name_of}
 use Rattle.agent_words.specs.declared.demands.Demands.{Demands}
 use Rattle.agent_words.specs.declared.fault.StartFault.{StartFault}
 use Rattle.agent_words.specs.declared.fault.StartFault.TheVariants.{NoMargin, SmallMargin, NoCredential}
 
 -- an entry has neither a credential of its own, so that its name stands for one, nor a file with one
-abbrev pub is_bare : Served → ℕ → Note → Bool
+abbrev pub is_bare : Served → ℕ → EntryNote → Bool
 is_bare v i note = is_none note.file && bytes_eq (credential_at v.inventory.credentials i) (name_of v.inventory.forest i)
 
 -- the same of a row
@@ -31,10 +31,10 @@ abbrev pub margin_fault : Demands → Served → Option StartFault
 margin_fault d v = if not v.has_margin then Some NoMargin else (if nat_lt v.inventory.forest.margin (least_margin d) then Some SmallMargin else None)
 
 -- the fault of each of these entries, which are those from this index on, that is bare
-abbrev pub bare_at : Served → ℕ → Note → List StartFault
+abbrev pub bare_at : Served → ℕ → EntryNote → List StartFault
 bare_at v i note = if is_bare v i note then NoCredential i ∷ [] else []
 
-abbrev pub bare_faults : Served → ℕ → List Note → List StartFault
+abbrev pub bare_faults : Served → ℕ → List EntryNote → List StartFault
 bare_faults v i [] = []
 bare_faults v i (note ∷ notes) = bare_at v i note ++ bare_faults v (i + 1) notes
 

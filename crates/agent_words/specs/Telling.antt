@@ -4,7 +4,7 @@ use Rattle.std.specs.Prelude.{◌≡◌, ℕ, ◌==◌, Bool, true, false, if◌
 use Rattle.state_changes.specs.Rows.{is_lease_if}
 use Rattle.state_changes.specs.declared.row.Row.{Row}
 use Rattle.agent_control.specs.Replies.{control_reply_text}
-use Rattle.agent_control.specs.declared.reply.Reply.TheVariants as replies
+use Rattle.agent_control.specs.declared.reply.ControlReply.TheVariants as replies
 use Rattle.vault_inventory.specs.declared.need.Need.{Need}
 use Rattle.vault_inventory.specs.declared.need.Need.TheVariants as needs
 use Rattle.base_moment.specs.Rfc3339.{IsDateText}

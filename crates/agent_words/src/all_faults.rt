@@ -1,7 +1,7 @@
 //! Why the text of an inventory is not served: every fault of it that can be told beside the others.
 ghost use Rattle.std.specs.Prelude.{◌≡◌, ◌∷◌, [], List, ℕ, IfOk, Ok};
 ghost use Rattle.vault_inventory.specs.Inventory.{read_served};
-ghost use Rattle.vault_inventory.specs.Served.{Served};
+ghost use Rattle.vault_inventory.specs.ServedInventory.{ServedInventory};
 ghost use Rattle.agent_words.specs.Reading.{AreFaults, AreFaultsOf, AreLast, AreWrittenFaults, FirstIsWhy};
 
 use crate::demands::Demands;
@@ -12,7 +12,7 @@ use crate::secret_files::push_unfilled;
 use base_files::Inputs;
 use state_changes::rows_of;
 use std::alloc::{AllocError, Global};
-use vault_inventory::{InvFault, Served, read_served};
+use vault_inventory::{InvFault, ServedInventory, read_served};
 
 /// All faults that keep the text of an inventory from being served, in the order of [`StartFault`] and then of the entries; none, where
 /// [`read_to_serve`] serves it. The first is the one that it gives.
@@ -61,7 +61,7 @@ pub fn faults_as_written(
 fn faults_of<I: Inputs>(
     alloc: Global,
     bytes: &[u8],
-    served: &Served,
+    served: &ServedInventory,
     demands: Demands,
     folder: &str,
     inputs: &mut I,
@@ -87,7 +87,7 @@ fn last_fault<I: Inputs>(
     folder: &str,
     inputs: &mut I,
 ) -> Result<Vec<StartFault>, AllocError>
-    requires { (served : Served) × (read_served bytes.now ≡ Ok served) }
+    requires { (served : ServedInventory) × (read_served bytes.now ≡ Ok served) }
     ensures last { IfOk result (λ faults. AreLast demands (I.bytes_at inputs.old) folder.now bytes.now faults.items) }
     ensures same { (path : List ℕ) → I.bytes_at inputs.new path ≡ I.bytes_at inputs.old path }
 {

@@ -6,7 +6,7 @@ ghost use Rattle.state_changes.specs.Rows.{is_lease_if};
 ghost use Rattle.agent_words.specs.Outcomes.{nothing_kept};
 ghost use Rattle.agent_words.specs.Telling.{AreNeedLines, AreReachLines, IsAddLine, IsDated, IsDoneReply, IsDropLine, IsEndedLine, IsNeedLine, IsNeedReply, IsRefusalFor, IsRefusedReply, IsReplyTo, SaysNeeded, reload_line, replaced_text, settle_line, unkept_line};
 
-use agent_control::{Lines, Reply, write_reply};
+use agent_control::{Lines, ControlReply, write_reply};
 use base_moment::{LAST, Moment, Text, date_text};
 use state_changes::Row;
 use std::alloc::{AllocError, Global};
@@ -163,7 +163,7 @@ fn done_reply(alloc: Global, line: Option<Text>) -> Option<Text>
     let line = line?;
     let mut lines = Vec::new(alloc);
     lines.push(line).ok()?;
-    write_reply(alloc, &Reply::Done(Lines::of(lines))).ok()
+    write_reply(alloc, &ControlReply::Done(Lines::of(lines))).ok()
 }
 
 /// `ok` and the line about a need; until when the entry can be kept, where it does not reach as far; and where nothing keeps the need,
@@ -178,7 +178,7 @@ pub fn need_reply(
 {
     let line = line?;
     let lines = need_lines(alloc, line, reach, is_kept).ok()?;
-    write_reply(alloc, &Reply::Done(Lines::of(lines))).ok()
+    write_reply(alloc, &ControlReply::Done(Lines::of(lines))).ok()
 }
 
 // The line about a need, and those after it.
@@ -230,7 +230,7 @@ fn refused_reply(alloc: Global, why: Option<Text>) -> Option<Text>
     ensures { IsRefusedReply why result }
 {
     let why = why?;
-    write_reply(alloc, &Reply::Refused(why, Lines::of(Vec::new(alloc)))).ok()
+    write_reply(alloc, &ControlReply::Refused(why, Lines::of(Vec::new(alloc)))).ok()
 }
 
 /// The lines of the answer to what was not done for these reasons; `None` where there are none, or memory was wanting.
@@ -241,5 +241,5 @@ pub fn refusal_for(alloc: Global, mut whys: Vec<Text>) -> Option<Text>
         return None;
     }
     let why = whys.remove(0);
-    write_reply(alloc, &Reply::Refused(why, Lines::of(whys))).ok()
+    write_reply(alloc, &ControlReply::Refused(why, Lines::of(whys))).ok()
 }

@@ -8,11 +8,11 @@ use crate::demands::Demands;
 use crate::fault::StartFault;
 use state_changes::Row;
 use std::alloc::{AllocError, Global};
-use vault_inventory::{Inventory, Note, Served};
+use vault_inventory::{Inventory, EntryNote, ServedInventory};
 
 /// The first fault of what is written.
 #[tactic(auto, unfolding(crate::specs::Starts::first_start_fault, crate::specs::Starts::written_faults))]
-pub(crate) fn first_fault(demands: Demands, served: &Served) -> Option<StartFault>
+pub(crate) fn first_fault(demands: Demands, served: &ServedInventory) -> Option<StartFault>
     ensures { result ≡ first_start_fault demands served.now }
 {
     if let Some(fault) = margin_fault(demands, served) {
@@ -29,7 +29,7 @@ pub(crate) fn first_fault(demands: Demands, served: &Served) -> Option<StartFaul
 pub(crate) fn written_faults(
     alloc: Global,
     demands: Demands,
-    served: &Served,
+    served: &ServedInventory,
 ) -> Result<Vec<StartFault>, AllocError>
     ensures { IfOk result (λ faults. faults.items ≡ written_faults demands served.now) }
 {
@@ -56,7 +56,7 @@ pub(crate) fn push_if(
 }
 
 // The fault of the margin.
-fn margin_fault(demands: Demands, served: &Served) -> Option<StartFault>
+fn margin_fault(demands: Demands, served: &ServedInventory) -> Option<StartFault>
     ensures { result ≡ margin_fault demands served.now }
 {
     if !served.has_margin() {
@@ -70,7 +70,7 @@ fn margin_fault(demands: Demands, served: &Served) -> Option<StartFault>
 }
 
 // The fault of the first entry without a credential of its own and without a file.
-fn first_bare(served: &Served, notes: &[Note]) -> Option<StartFault>
+fn first_bare(served: &ServedInventory, notes: &[EntryNote]) -> Option<StartFault>
     requires { length notes.now ≡ length served.now.inventory.forest.entries }
     ensures { result ≡ first_listed_fault (bare_faults served.now 0 notes.now) }
 {
@@ -84,8 +84,8 @@ fn first_bare(served: &Served, notes: &[Note]) -> Option<StartFault>
 
 // Appends the fault of each such entry.
 fn push_bare(
-    served: &Served,
-    notes: &[Note],
+    served: &ServedInventory,
+    notes: &[EntryNote],
     faults: &mut Vec<StartFault>,
 ) -> Result<(), AllocError>
     requires { length notes.now ≡ length served.now.inventory.forest.entries }
@@ -98,7 +98,7 @@ fn push_bare(
 }
 
 // The fault of an entry without a credential of its own and without a file.
-fn bare_fault(served: &Served, entry: usize, note: &Note) -> Option<StartFault>
+fn bare_fault(served: &ServedInventory, entry: usize, note: &EntryNote) -> Option<StartFault>
     requires { entry < length served.now.inventory.forest.entries }
     ensures { fault_list result ≡ bare_at served.now entry note.now }
 {
@@ -110,7 +110,7 @@ fn bare_fault(served: &Served, entry: usize, note: &Note) -> Option<StartFault>
 }
 
 // Whether an entry has neither a credential of its own nor a file with one.
-fn is_bare(served: &Served, entry: usize, note: &Note) -> bool
+fn is_bare(served: &ServedInventory, entry: usize, note: &EntryNote) -> bool
     requires { entry < length served.now.inventory.forest.entries }
     ensures { result ≡ is_bare served.now entry note.now }
 {

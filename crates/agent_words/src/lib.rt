@@ -40,6 +40,6 @@ pub use moments::{moment_word, now_of, second_of};
 pub use reading::{read_to_serve, wide};
 pub use reasons::{after, disk_words, file_words, inventory_words, unread_words};
 pub use reread::Reread;
-pub use said::{About, Said};
+pub use said::{About, SaidLine};
 pub use unserved::why_not_served;
 pub use verdict_words::{endless_text, status_text, why_endless, why_later, why_refused};

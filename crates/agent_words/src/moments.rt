@@ -1,8 +1,8 @@
 ghost use Rattle.std.specs.Prelude.{◌≡◌};
-ghost use Rattle.base_log.specs.declared.line.Word.{Word};
+ghost use Rattle.base_log.specs.declared.line.LineWord.{LineWord};
 ghost use Rattle.agent_words.specs.Moments.{moment_word, now_of, second_of};
 
-use base_log::Word;
+use base_log::LineWord;
 use base_moment::{LAST, Moment};
 use watch_machine::Watch;
 
@@ -23,8 +23,8 @@ pub fn now_of(watch: &Watch) -> Moment
 }
 
 /// A moment as a word, no later than the last one.
-pub fn moment_word(seconds: u64) -> Word
+pub fn moment_word(seconds: u64) -> LineWord
     ensures { result ≡ moment_word seconds }
 {
-    Word::Moment(Moment::new(seconds.min(LAST)).unwrap())
+    LineWord::Moment(Moment::new(seconds.min(LAST)).unwrap())
 }

@@ -6,7 +6,7 @@ ghost use Rattle.agent_words.specs.Reasons.{disk_words, file_words, unread_words
 use crate::demands::Demands;
 use crate::fault::StartFault;
 use crate::fault_line::push_start;
-use base_disk::{DiskFault, Why};
+use base_disk::{DiskFault, DiskTrouble};
 use base_moment::Text;
 use base_words::push_number;
 use plan_forest::Forest;
@@ -62,12 +62,12 @@ pub fn disk_words(fault: DiskFault) -> &'static [u8]
     ensures { result.now ≡ disk_words fault }
 {
     match fault {
-        DiskFault::Failed(Why::Full) => b"no space is left",
-        DiskFault::Failed(Why::ReadOnly) => b"the file system is read-only",
-        DiskFault::Failed(Why::Denied) => b"permission denied",
-        DiskFault::Failed(Why::Missing) => b"no such file or folder",
-        DiskFault::Failed(Why::Irregular) => b"it is not a regular file",
-        DiskFault::Failed(Why::Other) => b"the disk failed",
+        DiskFault::Failed(DiskTrouble::Full) => b"no space is left",
+        DiskFault::Failed(DiskTrouble::ReadOnly) => b"the file system is read-only",
+        DiskFault::Failed(DiskTrouble::Denied) => b"permission denied",
+        DiskFault::Failed(DiskTrouble::Missing) => b"no such file or folder",
+        DiskFault::Failed(DiskTrouble::Irregular) => b"it is not a regular file",
+        DiskFault::Failed(DiskTrouble::Other) => b"the disk failed",
         DiskFault::TooLong => b"too long",
         DiskFault::OutOfMemory => b"out of memory",
     }

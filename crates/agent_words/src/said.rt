@@ -36,7 +36,7 @@ impl About {
 
 /// What is said: of the state folder or the file, or of a file for which the loop waits.
 #[derive(Debug, Drop)]
-pub struct Said {
+pub struct SaidLine {
     pub level: Level,
     pub about: About,
     pub text: Text,

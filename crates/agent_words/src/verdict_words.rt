@@ -4,7 +4,7 @@ ghost use Rattle.agent_words.specs.VerdictWords.{endless_words, kept_words, late
 
 use base_moment::Text;
 use base_words::push_number;
-use state_changes::What;
+use state_changes::ChangeKind;
 use std::alloc::{AllocError, Global};
 
 /// That another credential is being looked up; `None` where memory was wanting.
@@ -16,7 +16,7 @@ pub fn why_later(alloc: Global) -> Option<Text>
 
 /// That the broker refuses to look the credential up which this change of the entry of that name brings. The only error is lack of
 /// memory, here and in what follows.
-pub fn why_refused(alloc: Global, name: &[u8], what: &What, status: u16) -> Result<Text, AllocError>
+pub fn why_refused(alloc: Global, name: &[u8], what: &ChangeKind, status: u16) -> Result<Text, AllocError>
     ensures { IfOk result (λ why. why ≡ status_words status ++ kept_words name.now what.now) }
 {
     let mut text = status_text(alloc, status)?;
@@ -35,7 +35,7 @@ pub fn status_text(alloc: Global, status: u16) -> Result<Vec<u8>, AllocError>
 }
 
 /// That it is that of a token which never ends.
-pub fn why_endless(alloc: Global, name: &[u8], what: &What) -> Result<Text, AllocError>
+pub fn why_endless(alloc: Global, name: &[u8], what: &ChangeKind) -> Result<Text, AllocError>
     ensures { IfOk result (λ why. why ≡ endless_words ++ kept_words name.now what.now) }
 {
     let mut text = endless_text(alloc)?;
@@ -51,15 +51,15 @@ pub fn endless_text(alloc: Global) -> Result<Vec<u8>, AllocError>
 }
 
 // Appends that the entry keeps the old one, where it was to have another.
-fn push_kept(name: &[u8], what: &What, text: &mut Vec<u8>) -> Result<(), AllocError>
+fn push_kept(name: &[u8], what: &ChangeKind, text: &mut Vec<u8>) -> Result<(), AllocError>
     ensures { OnOk result (text.new.items ≡ text.old.items ++ kept_words name.now what.now) }
 {
     match what {
-        What::Replace(_) => {
+        ChangeKind::Replace(_) => {
             text.extend_from_slice(b": ")?;
             text.extend_from_slice(name)?;
             text.extend_from_slice(b" keeps the old one")
         }
-        What::Need(_) | What::Add(_) | What::Drop => Ok(()),
+        ChangeKind::Need(_) | ChangeKind::Add(_) | ChangeKind::Drop => Ok(()),
     }
 }

@@ -4,10 +4,10 @@ use Rattle.std.proofs.lemmas.List.Quantifiers.{position-Some}
 use Rattle.std.specs.List.{position, slice_get}
 use Rattle.base_clients.specs.Guests.{GuestIsFed, is_stage_asked}
 use Rattle.base_clients.specs.Tables.{BecomesAt, Feeds, FeedsAt, GuestTable, TakesAt, TakesFrom, TakesRequest, follows_as}
-use Rattle.base_clients.specs.declared.clients.Request.{Request}
+use Rattle.base_clients.specs.declared.clients.GuestRequest.{GuestRequest}
 use Rattle.base_clients.specs.declared.fed.Fed.{Fed}
 use Rattle.base_clients.specs.declared.guest.Guest.{Guest}
-use Rattle.base_clients.specs.declared.limits.Limits.{Limits}
+use Rattle.base_clients.specs.declared.limits.GuestLimits.{GuestLimits}
 
 got : {X : Type 0} (xs : List X) (i : ℕ) (x : X) → i < length xs → x ≡ get_or xs i x → slice_get xs i ≡ Some x
 got [] i x within is = absurd (omega arith)
@@ -17,7 +17,7 @@ got (y ∷ ys) (suc i) x within is = got ys i x (omega arith) is
 true_false : {P : Type 0} → true ≡ false → P
 true_false e = absurd (subst (λ (b : Bool). cond b (Unit {0}) ⊥) e tt)
 
-module _ {T F : Type 0} (next : ℕ) (limits : Limits) (framing : F) where
+module _ {T F : Type 0} (next : ℕ) (limits : GuestLimits) (framing : F) where
   abbrev table : List (Guest T) → GuestTable T F
   table xs = record { guests = xs; next = next; limits = limits; framing = framing }
 
@@ -38,12 +38,12 @@ module _ {T F : Type 0} (next : ℕ) (limits : Limits) (framing : F) where
       subst (λ o. Feeds id bytes fed o (table (set xs i n))) is
       (subst (λ o. FeedsAt o bytes fed (table xs) (table (set xs i n))) (sym at) (g, (n, (got xs i g inside here, (done, refl)))))
 
-  asked_taken : (r : Option Request) (xs : List (Guest T)) (i : ℕ) (g n : Guest T) → is_stage_asked g.stage ≡ true → slice_get xs i ≡ Some g → TakesFrom g r n
+  asked_taken : (r : Option GuestRequest) (xs : List (Guest T)) (i : ℕ) (g n : Guest T) → is_stage_asked g.stage ≡ true → slice_get xs i ≡ Some g → TakesFrom g r n
       → TakesAt (Some i) (table xs) r (table (set xs i n))
   asked_taken None xs i g n asked here h = true_false (sym asked ∙ h.0)
   asked_taken (Some r) xs i g n asked here h = (g, (n, (here, (h, refl))))
 
-  pub taken_at : (r : Option Request) (old : GuestTable T F) (xs ys : List (Guest T)) (i : ℕ) (found : Option ℕ) (g n : Guest T) → table xs ≡ old → ys ≡ xs
+  pub taken_at : (r : Option GuestRequest) (old : GuestTable T F) (xs ys : List (Guest T)) (i : ℕ) (found : Option ℕ) (g n : Guest T) → table xs ≡ old → ys ≡ xs
       → found ≡ position (λ (it : Guest T). is_stage_asked it.stage) ys → found ≡ Some i → i < length ys → g ≡ get_or xs i g → TakesFrom g r n → TakesRequest old r (table (set xs i n))
   taken_at r old xs ys i found g n is same found_is some within here done =
       let at : position (λ (it : Guest T). is_stage_asked it.stage) xs ≡ Some i = ap (position (λ (it : Guest T). is_stage_asked it.stage)) (sym same) ∙ sym found_is ∙ some in

@@ -7,9 +7,9 @@ use Rattle.base_clients.specs.Guests.{GuestGoesOn, GuestIsLost, is_stage_over}
 use Rattle.base_clients.specs.Tables.{EachGoesOn, GuestTable, LetsIn, OneGoesOn, Turns}
 use Rattle.base_clients.specs.Doors.{DoorLog}
 use Rattle.base_clients.proofs.Let.{lets_less}
-use Rattle.base_clients.specs.declared.limits.Limits.{Limits}
+use Rattle.base_clients.specs.declared.limits.GuestLimits.{GuestLimits}
 use Rattle.base_clients.specs.declared.guest.Guest.{Guest}
-use Rattle.base_clients.specs.declared.talk.Call.{Call}
+use Rattle.base_clients.specs.declared.talk.TalkCall.{TalkCall}
 
 and_false : (e : Bool) → (e && false) ≡ false
 and_false true = refl
@@ -18,7 +18,7 @@ and_false false = refl
 pub rest_next : {X : Type 0} (old out : List X) (i : ℕ) (n : X) → drop i out ≡ drop i old → drop (i + 1) (set out i n) ≡ drop (i + 1) old
 rest_next old out i n rest = drop-set-lt (i + 1) out i n (omega arith) ∙ drop_more_same out old i rest
 
-module _ {T : Type 0} (remaining written : T → Option (List ℕ)) (calls : T → Option (List Call)) (tells : List ℕ → Bool → Type 0) (most now : ℕ) where
+module _ {T : Type 0} (remaining written : T → Option (List ℕ)) (calls : T → Option (List TalkCall)) (tells : List ℕ → Bool → Type 0) (most now : ℕ) where
   abbrev Each : Bool → List (Guest T) → List (Guest T) → Type 0
   Each = EachGoesOn remaining written calls tells most now
 
@@ -54,7 +54,7 @@ module _ {T : Type 0} (remaining written : T → Option (List ℕ)) (calls : T �
       (each_more (e && b) (take i old) (take i out) s n (each_less e b (take i old) (take i out) h) (subst (λ w. One (e && b) w n) is one)))
 
 -- each goes on, those that are over leave, and some are let in
-pub turned : {T F : Type 0} (remaining written : T → Option (List ℕ)) (calls : T → Option (List Call)) (tells : F → List ℕ → Bool → Type 0) (now next : ℕ) (limits : Limits) (framing : F) (old new : GuestTable T F)
+pub turned : {T F : Type 0} (remaining written : T → Option (List ℕ)) (calls : T → Option (List TalkCall)) (tells : F → List ℕ → Bool → Type 0) (now next : ℕ) (limits : GuestLimits) (framing : F) (old new : GuestTable T F)
     (xs ys went mid left : List (Guest T)) (a b : Option (DoorLog T)) (e f r : Bool) → (let it : GuestTable T F = record { guests = xs; next = next; limits = limits; framing = framing } in it) ≡ old → ys ≡ xs
     → EachGoesOn remaining written calls (tells framing) limits.bytes now e ys went → r ≡ (e && f) → left ≡ filter (λ g. not (is_stage_over g.stage)) mid → mid ≡ went
     → LetsIn now f (record { guests = left; next = next; limits = limits; framing = framing }) new a b → Turns remaining written calls tells now r old new a b

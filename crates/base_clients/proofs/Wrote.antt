@@ -4,7 +4,7 @@ use Rattle.std.proofs.lemmas.List.{length-take-le, take-take}
 use Rattle.std.specs.Io.KnownBytes.{Appends, Consumes, IsAtEnd, Keeps}
 use Rattle.base_clients.specs.Guests.{count}
 use Rattle.base_clients.specs.declared.guest.Guest.{Guest}
-use Rattle.base_clients.specs.declared.stage.Stage.{Stage}
+use Rattle.base_clients.specs.declared.stage.GuestStage.{GuestStage}
 use Rattle.base_device.specs.Tries.{IfTryDone, MatchTried}
 use Rattle.base_device.specs.declared.tried.Tried.{Tried}
 use Rattle.base_device.specs.declared.tried.Tried.TheVariants.{Done, Waits, Failed}
@@ -36,10 +36,10 @@ appended Waits left piece before after is few h = kept before after h
 appended Failed left piece before after is few h = kept before after h
 
 -- a guest that one call has moved
-pub made : {T : Type 0} (old : Guest T) (talk : T) (s t : Stage) (m n : ℕ) (v w : Bool) → s ≡ t → m ≡ n → v ≡ w
+pub made : {T : Type 0} (old : Guest T) (talk : T) (s t : GuestStage) (m n : ℕ) (v w : Bool) → s ≡ t → m ≡ n → v ≡ w
     → (let it : Guest T = record { id = old.id; talk = talk; stage = s; by = old.by; moved = m; waits = v } in it) ≡ record old { talk = talk; stage = t; moved = n; waits = w }
 made {T} old talk s t m n v w stages moments waiting =
-    ap (λ (x : Stage). let it : Guest T = record { id = old.id; talk = talk; stage = x; by = old.by; moved = m; waits = v } in it) stages
+    ap (λ (x : GuestStage). let it : Guest T = record { id = old.id; talk = talk; stage = x; by = old.by; moved = m; waits = v } in it) stages
     ∙ ap (λ (x : ℕ). let it : Guest T = record { id = old.id; talk = talk; stage = t; by = old.by; moved = x; waits = v } in it) moments
     ∙ ap (λ (x : Bool). let it : Guest T = record { id = old.id; talk = talk; stage = t; by = old.by; moved = n; waits = x } in it) waiting
 

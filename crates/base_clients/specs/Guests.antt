@@ -9,12 +9,12 @@ use Rattle.base_clients.specs.Calls.{Logs}
 use Rattle.base_clients.specs.declared.fed.Fed.{Fed}
 use Rattle.base_clients.specs.declared.fed.Fed.TheVariants.{Gone, Full, Taken}
 use Rattle.base_clients.specs.declared.guest.Guest.{Guest}
-use Rattle.base_clients.specs.declared.stage.Stage.{Stage}
-use Rattle.base_clients.specs.declared.stage.Stage.TheVariants.{Reading, Asked, Waiting, Answering, Following, Over}
-use Rattle.base_clients.specs.declared.talk.Call.{Call}
-use Rattle.base_clients.specs.declared.talk.Call.TheVariants.{Gave, Got}
+use Rattle.base_clients.specs.declared.stage.GuestStage.{GuestStage}
+use Rattle.base_clients.specs.declared.stage.GuestStage.TheVariants.{Reading, Asked, Waiting, Answering, Following, Over}
+use Rattle.base_clients.specs.declared.talk.TalkCall.{TalkCall}
+use Rattle.base_clients.specs.declared.talk.TalkCall.TheVariants.{Gave, Got}
 
-abbrev pub is_stage_over : Stage → Bool
+abbrev pub is_stage_over : GuestStage → Bool
 is_stage_over (Reading bytes) = false
 is_stage_over (Asked bytes) = false
 is_stage_over Waiting = false
@@ -22,7 +22,7 @@ is_stage_over (Answering left) = false
 is_stage_over (Following left) = false
 is_stage_over Over = true
 
-abbrev pub is_stage_asked : Stage → Bool
+abbrev pub is_stage_asked : GuestStage → Bool
 is_stage_asked (Reading bytes) = false
 is_stage_asked (Asked bytes) = true
 is_stage_asked Waiting = false
@@ -31,7 +31,7 @@ is_stage_asked (Following left) = false
 is_stage_asked Over = false
 
 -- its request, where nobody has taken it yet
-abbrev pub asked_bytes : Stage → Option (List ℕ)
+abbrev pub asked_bytes : GuestStage → Option (List ℕ)
 asked_bytes (Reading bytes) = None
 asked_bytes (Asked bytes) = Some bytes
 asked_bytes Waiting = None
@@ -39,7 +39,7 @@ asked_bytes (Answering left) = None
 asked_bytes (Following left) = None
 asked_bytes Over = None
 
-abbrev pub is_waiting : Stage → Bool
+abbrev pub is_waiting : GuestStage → Bool
 is_waiting (Reading bytes) = false
 is_waiting (Asked bytes) = false
 is_waiting Waiting = true
@@ -48,7 +48,7 @@ is_waiting (Following left) = false
 is_waiting Over = false
 
 -- it has to be read or written by a moment
-abbrev pub is_stage_busy : Stage → Bool
+abbrev pub is_stage_busy : GuestStage → Bool
 is_stage_busy (Reading bytes) = true
 is_stage_busy (Asked bytes) = false
 is_stage_busy Waiting = false
@@ -57,7 +57,7 @@ is_stage_busy (Following left) = false
 is_stage_busy Over = false
 
 -- its answer goes on
-abbrev pub is_following : Stage → Bool
+abbrev pub is_following : GuestStage → Bool
 is_following (Reading bytes) = false
 is_following (Asked bytes) = false
 is_following Waiting = false
@@ -66,7 +66,7 @@ is_following (Following left) = true
 is_following Over = false
 
 -- it has to be read and written in time; what is done by others is not on its account, and an answer that goes on has all the time
-abbrev pub in_time : ℕ → ℕ → Stage → Stage
+abbrev pub in_time : ℕ → ℕ → GuestStage → GuestStage
 in_time now by (Reading bytes) = if nat_lt now by then Reading bytes else Over
 in_time now by (Asked bytes) = Asked bytes
 in_time now by Waiting = Waiting
@@ -81,30 +81,30 @@ count Waits = 0
 count Failed = 0
 
 -- with these bytes so far, by a read: a request is handed on once it is whole, or longer than may be, or no more comes
-abbrev pub read_to : Tried → Bool → ℕ → List ℕ → Stage
+abbrev pub read_to : Tried → Bool → ℕ → List ℕ → GuestStage
 read_to (Done zero) whole most bytes = Asked bytes
 read_to (Done (suc n)) whole most bytes = if whole || nat_lt most (length bytes) then Asked bytes else Reading bytes
 read_to Waits whole most bytes = Reading bytes
 read_to Failed whole most bytes = Over
 
 -- with this left, by a write
-abbrev pub answering_rest : List ℕ → Stage
+abbrev pub answering_rest : List ℕ → GuestStage
 answering_rest [] = Over
 answering_rest (b ∷ bs) = Answering (b ∷ bs)
 
-abbrev pub written_to : Tried → List ℕ → Stage
+abbrev pub written_to : Tried → List ℕ → GuestStage
 written_to (Done n) left = answering_rest left
 written_to Waits left = answering_rest left
 written_to Failed left = Over
 
 -- with this left of what it was given so far, by a write; more may be given
-abbrev pub told_to : Tried → List ℕ → Stage
+abbrev pub told_to : Tried → List ℕ → GuestStage
 told_to (Done n) left = Following left
 told_to Waits left = Following left
 told_to Failed left = Over
 
 -- by a read, where all that it was given is written: one that sends more, or has gone, is sent away
-abbrev pub heard_to : Tried → List ℕ → Stage
+abbrev pub heard_to : Tried → List ℕ → GuestStage
 heard_to (Done n) left = Over
 heard_to Waits left = Following left
 heard_to Failed left = Over
@@ -133,7 +133,7 @@ newcomer now id talk = record { id = id; talk = talk; stage = Reading []; by = b
 abbrev pub can_go_on : {T : Type 0} → Guest T → Bool
 can_go_on g = (is_stage_busy g.stage || is_following g.stage) && not g.waits
 
-module _ {T : Type 0} (remaining written : T → Option (List ℕ)) (calls : T → Option (List Call)) where
+module _ {T : Type 0} (remaining written : T → Option (List ℕ)) (calls : T → Option (List TalkCall)) where
   -- it is read once: all that comes is kept, and handed on where it is told whole
   pub record IsReadOn (tells : List ℕ → Bool → Type 0) (most now : ℕ) (bytes : List ℕ) (old new : Guest T) : Type 0 where
     pub tried : Tried
@@ -148,7 +148,7 @@ module _ {T : Type 0} (remaining written : T → Option (List ℕ)) (calls : T �
     pub same : new ≡ record old { talk = new.talk; stage = in_time now old.by (read_to tried whole most (bytes ++ came)); moved = moved_by tried now old.moved; waits = has_waited tried }
 
   -- it is written to once: the front of what is left of its answer, and nothing else
-  pub record GuestIsWrittenTo (now : ℕ) (tried : Tried) (stage : Stage) (left : List ℕ) (old new : Guest T) : Type 0 where
+  pub record GuestIsWrittenTo (now : ℕ) (tried : Tried) (stage : GuestStage) (left : List ℕ) (old new : Guest T) : Type 0 where
     pub logged : Logs (calls old.talk) (calls new.talk) (Gave tried)
     pub unread : Keeps (remaining old.talk) (remaining new.talk)
     pub few : count tried ≤ 4096
@@ -171,7 +171,7 @@ module _ {T : Type 0} (remaining written : T → Option (List ℕ)) (calls : T �
   IsToldOn now (b ∷ bs) old new = (tried : Tried) × GuestIsWrittenTo now tried (told_to tried (drop (count tried) (b ∷ bs))) (b ∷ bs) old new
 
   -- it goes on by one call at most
-  abbrev pub GoesOnFrom : (List ℕ → Bool → Type 0) → ℕ → ℕ → Stage → Guest T → Guest T → Type 0
+  abbrev pub GoesOnFrom : (List ℕ → Bool → Type 0) → ℕ → ℕ → GuestStage → Guest T → Guest T → Type 0
   GoesOnFrom tells most now (Reading bytes) old new = IsReadOn tells most now bytes old new
   GoesOnFrom tells most now (Asked bytes) old new = new ≡ old
   GoesOnFrom tells most now Waiting old new = new ≡ old
@@ -183,7 +183,7 @@ module _ {T : Type 0} (remaining written : T → Option (List ℕ)) (calls : T �
   GuestGoesOn tells most now old new = GoesOnFrom tells most now old.stage old new
 
 -- it is lost for lack of memory, after one read by which something came: it was told nothing
-pub record GuestIsLost {T : Type 0} (written : T → Option (List ℕ)) (calls : T → Option (List Call)) (old new : Guest T) : Type 0 where
+pub record GuestIsLost {T : Type 0} (written : T → Option (List ℕ)) (calls : T → Option (List TalkCall)) (old new : Guest T) : Type 0 where
   pub tried : Tried
   pub some : 0 < count tried
   pub logged : Logs (calls old.talk) (calls new.talk) (Got tried)
@@ -204,7 +204,7 @@ abbrev pub FeedsOn : {T E : Type 0} → List ℕ → List ℕ → Result Fed E �
 FeedsOn bytes left fed old new = (now : List ℕ) × (AddsFront bytes fed left now × (new ≡ record old { stage = Following now }))
 
 -- the guest is given of these bytes what one call writes, where all that it was given is written
-abbrev pub IsFedFrom : {T E : Type 0} → Stage → List ℕ → Result Fed E → Guest T → Guest T → Type 0
+abbrev pub IsFedFrom : {T E : Type 0} → GuestStage → List ℕ → Result Fed E → Guest T → Guest T → Type 0
 IsFedFrom (Reading bytes) piece fed old new = (fed ≡ Ok Gone) × (new ≡ old)
 IsFedFrom (Asked bytes) piece fed old new = (fed ≡ Ok Gone) × (new ≡ old)
 IsFedFrom Waiting piece fed old new = (fed ≡ Ok Gone) × (new ≡ old)

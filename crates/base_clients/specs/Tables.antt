@@ -7,20 +7,20 @@ use Rattle.base_clients.specs.Doors.{AskedFor, DoorLog}
 use Rattle.base_clients.specs.Guests.{GuestGoesOn, GuestIsFed, GuestIsLost, asked_bytes, by_after, is_following, is_stage_asked, is_stage_busy, is_stage_over, is_waiting, newcomer}
 use Rattle.base_clients.specs.declared.clients.Came.{Came}
 use Rattle.base_clients.specs.declared.clients.Came.TheVariants.{One, Nobody, NoPlace}
-use Rattle.base_clients.specs.declared.clients.Request.{Request}
+use Rattle.base_clients.specs.declared.clients.GuestRequest.{GuestRequest}
 use Rattle.base_clients.specs.declared.fed.Fed.{Fed}
 use Rattle.base_clients.specs.declared.fed.Fed.TheVariants.{Gone}
 use Rattle.base_clients.specs.declared.guest.Guest.{Guest}
-use Rattle.base_clients.specs.declared.limits.Limits.{Limits}
-use Rattle.base_clients.specs.declared.stage.Stage.TheVariants.{Asked, Answering, Following, Waiting}
-use Rattle.base_clients.specs.declared.talk.Call.{Call}
+use Rattle.base_clients.specs.declared.limits.GuestLimits.{GuestLimits}
+use Rattle.base_clients.specs.declared.stage.GuestStage.TheVariants.{Asked, Answering, Following, Waiting}
+use Rattle.base_clients.specs.declared.talk.TalkCall.{TalkCall}
 
 -- the guests, the first to come first; the number of the next; how many may be there and how long a request may be; what tells
 -- that one is whole
 pub record GuestTable (T F : Type 0) : Type 0 where
   pub guests : List (Guest T)
   pub next : ℕ
-  pub limits : Limits
+  pub limits : GuestLimits
   pub framing : F
 
 -- ---- who makes room
@@ -76,7 +76,7 @@ arrive_all now table (t ∷ ts) = arrive_all now (arrive now table t) ts
 
 -- ---- a turn
 
-module _ {T : Type 0} (remaining written : T → Option (List ℕ)) (calls : T → Option (List Call)) (tells : List ℕ → Bool → Type 0) (most now : ℕ) where
+module _ {T : Type 0} (remaining written : T → Option (List ℕ)) (calls : T → Option (List TalkCall)) (tells : List ℕ → Bool → Type 0) (most now : ℕ) where
   -- each goes on by one call at most, for itself; one is lost only where it is told that memory was wanting
   abbrev pub OneGoesOn : Bool → Guest T → Guest T → Type 0
   OneGoesOn enough old new = GuestGoesOn remaining written calls tells most now old new ⊎ ((enough ≡ false) × GuestIsLost written calls old new)
@@ -97,7 +97,7 @@ pub record LetsIn {T F : Type 0} (now : ℕ) (enough : Bool) (old new : GuestTab
   pub stops : (asks ≡ 16) ⊎ ((asks ≡ length talks + 1) ⊎ (IsFull new ⊎ (enough ≡ false)))
 
 -- each goes on, those that are over leave, and some are let in
-pub record Turns {T F : Type 0} (remaining written : T → Option (List ℕ)) (calls : T → Option (List Call)) (tells : F → List ℕ → Bool → Type 0) (now : ℕ) (enough : Bool)
+pub record Turns {T F : Type 0} (remaining written : T → Option (List ℕ)) (calls : T → Option (List TalkCall)) (tells : F → List ℕ → Bool → Type 0) (now : ℕ) (enough : Bool)
     (old new : GuestTable T F) (before after : Option (DoorLog T)) : Type 0 where
   pub went : List (Guest T)
   pub on : EachGoesOn remaining written calls (tells old.framing) old.limits.bytes now enough old.guests went
@@ -106,17 +106,17 @@ pub record Turns {T F : Type 0} (remaining written : T → Option (List ℕ)) (c
 -- ---- requests and answers
 
 -- the request of this guest is taken, and it waits for an answer; where there is none it is as it was
-abbrev pub TakesFrom : {T : Type 0} → Guest T → Option Request → Guest T → Type 0
+abbrev pub TakesFrom : {T : Type 0} → Guest T → Option GuestRequest → Guest T → Type 0
 TakesFrom old None new = (is_stage_asked old.stage ≡ false) × (new ≡ old)
 TakesFrom old (Some request) new = (request.id ≡ old.id) × ((old.stage ≡ Asked request.bytes) × (new ≡ record old { stage = Waiting }))
 
 -- the first request that nobody has taken yet is taken, where there is one
-abbrev pub TakesAt : {T F : Type 0} → Option ℕ → GuestTable T F → Option Request → GuestTable T F → Type 0
+abbrev pub TakesAt : {T F : Type 0} → Option ℕ → GuestTable T F → Option GuestRequest → GuestTable T F → Type 0
 TakesAt None old request new = (request ≡ None) × (new ≡ old)
 TakesAt (Some i) old None new = ⊥
 TakesAt {T} (Some i) old (Some request) new = (g : Guest T) × ((n : Guest T) × ((slice_get old.guests i ≡ Some g) × (TakesFrom g (Some request) n × (new ≡ record old { guests = slice_set old.guests i n }))))
 
-abbrev pub TakesRequest : {T F : Type 0} → GuestTable T F → Option Request → GuestTable T F → Type 0
+abbrev pub TakesRequest : {T F : Type 0} → GuestTable T F → Option GuestRequest → GuestTable T F → Type 0
 TakesRequest old request new = TakesAt (position (λ g. is_stage_asked g.stage) old.guests) old request new
 
 -- the first request that nobody has taken yet, where there is one

@@ -9,7 +9,7 @@ use crate::fed::Fed;
 use crate::framing::Framing;
 use crate::guest::Guest;
 use crate::letting::{first_by, idle_since, make_place};
-use crate::limits::{Limits, MOST_AT_ONCE, MOST_PIECE};
+use crate::limits::{GuestLimits, MOST_AT_ONCE, MOST_PIECE};
 use crate::talk::Talk;
 use base_moment::Text;
 use std::alloc::{AllocError, Global};
@@ -17,7 +17,7 @@ use std::marker::Model;
 
 /// A request of a guest.
 #[derive(Debug, Drop)]
-pub struct Request {
+pub struct GuestRequest {
     /// The number under which it is answered.
     pub id: u64,
     /// What the guest has sent: to its end where it has one, and otherwise up to where it was too long or no more came.
@@ -37,7 +37,7 @@ pub(crate) enum Came {
 /// The guests of a listener.
 #[derive(Debug, Drop)]
 pub struct Clients<T, F> {
-    limits: Limits,
+    limits: GuestLimits,
     framing: F,
     /// The first to come first.
     guests: Vec<Guest<T>>,
@@ -54,7 +54,7 @@ impl<T, F> Model for Clients<T, F> {
 
 impl<T: Talk, F: Framing + Drop> Clients<T, F> {
     /// A table with nobody in it. It takes no memory.
-    pub fn new(alloc: Global, limits: Limits, framing: F) -> Clients<T, F>
+    pub fn new(alloc: Global, limits: GuestLimits, framing: F) -> Clients<T, F>
         ensures { result ≡ record { guests = []; next = 0; limits = limits; framing = framing } }
     {
         Clients {
@@ -118,7 +118,7 @@ impl<T: Talk, F: Framing + Drop> Clients<T, F> {
     }
 
     /// The first request that nobody has taken yet, if there is one. Its guest waits for an answer then.
-    pub fn take_request(&mut self) -> Option<Request>
+    pub fn take_request(&mut self) -> Option<GuestRequest>
         ensures { TakesRequest self.old result self.new }
     {
         match place_asked(&self.guests) {

@@ -2,14 +2,14 @@
 ghost use Rattle.std.specs.Prelude.{◌≡◌, ◌++◌, ◌<◌, ◌≤◌, [], OnErr, OnOk, drop, length, take};
 ghost use Rattle.base_clients.specs.Guests.{FeedsOn, GuestGoesOn, GuestIsFed, GuestIsLost, GuestIsWrittenTo, IsListenedTo, IsReadOn, IsToldOn, IsWrittenOn, can_go_on, count, newcomer};
 ghost use Rattle.base_clients.specs.Tables.{TakesFrom, following, guest_answered};
-ghost use Rattle.base_clients.specs.declared.stage.Stage.TheVariants.{Over};
+ghost use Rattle.base_clients.specs.declared.stage.GuestStage.TheVariants.{Over};
 
-use crate::clients::Request;
+use crate::clients::GuestRequest;
 use crate::fed::Fed;
 use crate::framing::Framing;
 use crate::left::Left;
 use crate::limits::PATIENCE;
-use crate::stage::{Stage, count, has_waited, heard_to, moved_by, read_to, told_to, written_to};
+use crate::stage::{GuestStage, count, has_waited, heard_to, moved_by, read_to, told_to, written_to};
 use crate::talk::Talk;
 use base_device::Tried;
 use base_moment::Text;
@@ -22,7 +22,7 @@ pub struct Guest<T> {
     /// Its number.
     pub id: u64,
     pub talk: T,
-    pub stage: Stage,
+    pub stage: GuestStage,
     /// The moment by which its request has to be whole, or its answer written, in milliseconds of the clock that is handed in.
     pub by: u64,
     /// The moment of its last progress.
@@ -39,7 +39,7 @@ impl<T> Guest<T> {
         Guest {
             id,
             talk,
-            stage: Stage::Reading(Text::from_vec(Vec::new(alloc))),
+            stage: GuestStage::Reading(Text::from_vec(Vec::new(alloc))),
             by: now.saturating_add(PATIENCE),
             moved: now,
             waits: false,
@@ -47,11 +47,11 @@ impl<T> Guest<T> {
     }
 
     /// Its request, where nobody has taken it yet. It waits for an answer then.
-    pub(crate) fn take_request(&mut self) -> Option<Request>
+    pub(crate) fn take_request(&mut self) -> Option<GuestRequest>
         ensures { TakesFrom self.old result self.new }
     {
-        match mem::replace(&mut self.stage, Stage::Waiting) {
-            Stage::Asked(bytes) => Some(Request { id: self.id, bytes }),
+        match mem::replace(&mut self.stage, GuestStage::Waiting) {
+            GuestStage::Asked(bytes) => Some(GuestRequest { id: self.id, bytes }),
             stage => {
                 self.stage = stage;
                 None
@@ -63,7 +63,7 @@ impl<T> Guest<T> {
     pub(crate) fn set_answer(&mut self, answer: Vec<u8>, now: u64)
         ensures { self.new ≡ guest_answered now answer.items self.old }
     {
-        self.stage = Stage::Answering(Left::of(answer));
+        self.stage = GuestStage::Answering(Left::of(answer));
         self.by = now.saturating_add(PATIENCE);
         self.moved = now;
         self.waits = false;
@@ -73,7 +73,7 @@ impl<T> Guest<T> {
     pub(crate) fn set_following(&mut self, answer: Vec<u8>)
         ensures { self.new ≡ following answer.items self.old }
     {
-        self.stage = Stage::Following(Left::of(answer));
+        self.stage = GuestStage::Following(Left::of(answer));
         self.waits = false;
     }
 
@@ -82,8 +82,8 @@ impl<T> Guest<T> {
     pub(crate) fn feed(&mut self, bytes: &[u8]) -> Result<Fed, AllocError>
         ensures { GuestIsFed bytes.now result self.old self.new }
     {
-        match mem::replace(&mut self.stage, Stage::Waiting) {
-            Stage::Following(left) => self.feed_on(left, bytes),
+        match mem::replace(&mut self.stage, GuestStage::Waiting) {
+            GuestStage::Following(left) => self.feed_on(left, bytes),
             stage => {
                 self.stage = stage;
                 Ok(Fed::Gone)
@@ -96,7 +96,7 @@ impl<T> Guest<T> {
         ensures { FeedsOn bytes.now left result self.old self.new }
     {
         let fed = left.add_front(bytes);
-        self.stage = Stage::Following(left);
+        self.stage = GuestStage::Following(left);
         fed
     }
 
@@ -123,13 +123,13 @@ impl<T: Talk> Guest<T> {
         ensures on { OnOk result (GuestGoesOn T.remaining T.written T.calls (F.tells framing.now) most now self.old self.new) }
         ensures lost { OnErr result (GuestIsLost T.written T.calls self.old self.new) }
     {
-        match mem::replace(&mut self.stage, Stage::Over) {
-            Stage::Reading(bytes) => self.read_on(room, framing, most, bytes.into_vec(), now),
-            Stage::Answering(left) => {
+        match mem::replace(&mut self.stage, GuestStage::Over) {
+            GuestStage::Reading(bytes) => self.read_on(room, framing, most, bytes.into_vec(), now),
+            GuestStage::Answering(left) => {
                 self.write_on(left, now);
                 Ok(())
             }
-            Stage::Following(left) => {
+            GuestStage::Following(left) => {
                 self.tell_on(room, left, now);
                 Ok(())
             }

@@ -21,14 +21,14 @@ mod sockets;
 mod stage;
 mod talk;
 
-pub use clients::{Clients, Request};
+pub use clients::{Clients, GuestRequest};
 pub use door::Door;
 pub use entrance::{Entrance, entrance_of};
 pub use fed::Fed;
 pub use framing::Framing;
 pub use guest::Guest;
 pub use left::Left;
-pub use limits::{Limits, MOST_AT_ONCE, MOST_PIECE, PATIENCE};
+pub use limits::{GuestLimits, MOST_AT_ONCE, MOST_PIECE, PATIENCE};
 pub use sockets::{SocketDoor, SocketTalk};
-pub use stage::Stage;
-pub use talk::{Call, Talk};
+pub use stage::GuestStage;
+pub use talk::{TalkCall, Talk};

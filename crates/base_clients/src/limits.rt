@@ -1,6 +1,6 @@
 /// How many guests there may be, and how long a request may be.
 #[derive(Clone, Copy, Debug, PartialEq, Eq)]
-pub struct Limits {
+pub struct GuestLimits {
     pub guests: usize,
     /// In bytes. A request that has more is handed on as it is by then, and nothing more is read of it.
     pub bytes: usize,

@@ -8,7 +8,7 @@ use base_moment::Text;
 
 /// How far a guest has come.
 #[derive(Debug, Drop)]
-pub enum Stage {
+pub enum GuestStage {
     /// This has come of its request, and more is to come.
     Reading(Text),
     /// This is its request, which nobody has taken yet.
@@ -23,18 +23,18 @@ pub enum Stage {
     Over,
 }
 
-impl Stage {
+impl GuestStage {
     /// Whether its connection is to be closed.
     pub(crate) fn is_over(&self) -> bool
         ensures { result ≡ is_stage_over self.now }
     {
         match self {
-            Stage::Over => true,
-            Stage::Reading(_)
-            | Stage::Asked(_)
-            | Stage::Waiting
-            | Stage::Answering(_)
-            | Stage::Following(_) => false,
+            GuestStage::Over => true,
+            GuestStage::Reading(_)
+            | GuestStage::Asked(_)
+            | GuestStage::Waiting
+            | GuestStage::Answering(_)
+            | GuestStage::Following(_) => false,
         }
     }
 
@@ -43,12 +43,12 @@ impl Stage {
         ensures { result ≡ is_stage_asked self.now }
     {
         match self {
-            Stage::Asked(_) => true,
-            Stage::Reading(_)
-            | Stage::Waiting
-            | Stage::Answering(_)
-            | Stage::Following(_)
-            | Stage::Over => false,
+            GuestStage::Asked(_) => true,
+            GuestStage::Reading(_)
+            | GuestStage::Waiting
+            | GuestStage::Answering(_)
+            | GuestStage::Following(_)
+            | GuestStage::Over => false,
         }
     }
 
@@ -57,12 +57,12 @@ impl Stage {
         ensures { option_map (λ bytes. bytes.now) result ≡ asked_bytes self.now }
     {
         match self {
-            Stage::Asked(bytes) => Some(bytes.list()),
-            Stage::Reading(_)
-            | Stage::Waiting
-            | Stage::Answering(_)
-            | Stage::Following(_)
-            | Stage::Over => None,
+            GuestStage::Asked(bytes) => Some(bytes.list()),
+            GuestStage::Reading(_)
+            | GuestStage::Waiting
+            | GuestStage::Answering(_)
+            | GuestStage::Following(_)
+            | GuestStage::Over => None,
         }
     }
 
@@ -71,12 +71,12 @@ impl Stage {
         ensures { result ≡ is_waiting self.now }
     {
         match self {
-            Stage::Waiting => true,
-            Stage::Reading(_)
-            | Stage::Asked(_)
-            | Stage::Answering(_)
-            | Stage::Following(_)
-            | Stage::Over => false,
+            GuestStage::Waiting => true,
+            GuestStage::Reading(_)
+            | GuestStage::Asked(_)
+            | GuestStage::Answering(_)
+            | GuestStage::Following(_)
+            | GuestStage::Over => false,
         }
     }
 
@@ -85,8 +85,8 @@ impl Stage {
         ensures { result ≡ is_stage_busy self.now }
     {
         match self {
-            Stage::Reading(_) | Stage::Answering(_) => true,
-            Stage::Asked(_) | Stage::Waiting | Stage::Following(_) | Stage::Over => false,
+            GuestStage::Reading(_) | GuestStage::Answering(_) => true,
+            GuestStage::Asked(_) | GuestStage::Waiting | GuestStage::Following(_) | GuestStage::Over => false,
         }
     }
 
@@ -95,72 +95,72 @@ impl Stage {
         ensures { result ≡ is_following self.now }
     {
         match self {
-            Stage::Following(_) => true,
-            Stage::Reading(_)
-            | Stage::Asked(_)
-            | Stage::Waiting
-            | Stage::Answering(_)
-            | Stage::Over => false,
+            GuestStage::Following(_) => true,
+            GuestStage::Reading(_)
+            | GuestStage::Asked(_)
+            | GuestStage::Waiting
+            | GuestStage::Answering(_)
+            | GuestStage::Over => false,
         }
     }
 
     /// What it is at a moment, where it has to be read and written by another.
-    pub(crate) fn in_time(self, now: u64, by: u64) -> Stage
+    pub(crate) fn in_time(self, now: u64, by: u64) -> GuestStage
         ensures { result ≡ in_time now by self }
     {
         match self {
-            Stage::Reading(bytes) if now < by => Stage::Reading(bytes),
-            Stage::Answering(left) if now < by => Stage::Answering(left),
-            Stage::Reading(_) | Stage::Answering(_) | Stage::Over => Stage::Over,
-            Stage::Asked(bytes) => Stage::Asked(bytes),
-            Stage::Waiting => Stage::Waiting,
-            Stage::Following(left) => Stage::Following(left),
+            GuestStage::Reading(bytes) if now < by => GuestStage::Reading(bytes),
+            GuestStage::Answering(left) if now < by => GuestStage::Answering(left),
+            GuestStage::Reading(_) | GuestStage::Answering(_) | GuestStage::Over => GuestStage::Over,
+            GuestStage::Asked(bytes) => GuestStage::Asked(bytes),
+            GuestStage::Waiting => GuestStage::Waiting,
+            GuestStage::Following(left) => GuestStage::Following(left),
         }
     }
 }
 
 /// What a guest becomes by a read, with all that has come of its request by now.
-pub(crate) fn read_to(tried: Tried, is_whole: bool, most: usize, bytes: Vec<u8>) -> Stage
+pub(crate) fn read_to(tried: Tried, is_whole: bool, most: usize, bytes: Vec<u8>) -> GuestStage
     ensures { result ≡ read_to tried is_whole most bytes.items }
 {
     let is_long = bytes.len() > most;
     let bytes = Text::from_vec(bytes);
     match tried {
-        Tried::Done(0) => Stage::Asked(bytes),
-        Tried::Done(_) if is_whole || is_long => Stage::Asked(bytes),
-        Tried::Done(_) | Tried::Waits => Stage::Reading(bytes),
-        Tried::Failed => Stage::Over,
+        Tried::Done(0) => GuestStage::Asked(bytes),
+        Tried::Done(_) if is_whole || is_long => GuestStage::Asked(bytes),
+        Tried::Done(_) | Tried::Waits => GuestStage::Reading(bytes),
+        Tried::Failed => GuestStage::Over,
     }
 }
 
 /// What a guest becomes by a write, with all that has still to be written of its answer.
-pub(crate) fn written_to(tried: Tried, left: Left) -> Stage
+pub(crate) fn written_to(tried: Tried, left: Left) -> GuestStage
     ensures { result ≡ written_to tried left }
 {
     match tried {
-        Tried::Failed => Stage::Over,
-        Tried::Done(_) | Tried::Waits if left.is_empty() => Stage::Over,
-        Tried::Done(_) | Tried::Waits => Stage::Answering(left),
+        Tried::Failed => GuestStage::Over,
+        Tried::Done(_) | Tried::Waits if left.is_empty() => GuestStage::Over,
+        Tried::Done(_) | Tried::Waits => GuestStage::Answering(left),
     }
 }
 
 /// What a guest whose answer goes on becomes by a write, with all that has still to be written of what it was given.
-pub(crate) fn told_to(tried: Tried, left: Left) -> Stage
+pub(crate) fn told_to(tried: Tried, left: Left) -> GuestStage
     ensures { result ≡ told_to tried left }
 {
     match tried {
-        Tried::Failed => Stage::Over,
-        Tried::Done(_) | Tried::Waits => Stage::Following(left),
+        Tried::Failed => GuestStage::Over,
+        Tried::Done(_) | Tried::Waits => GuestStage::Following(left),
     }
 }
 
 /// What it becomes by a read, where all that it was given is written: one that sends more, or has gone, is sent away.
-pub(crate) fn heard_to(tried: Tried, left: Left) -> Stage
+pub(crate) fn heard_to(tried: Tried, left: Left) -> GuestStage
     ensures { result ≡ heard_to tried left }
 {
     match tried {
-        Tried::Done(_) | Tried::Failed => Stage::Over,
-        Tried::Waits => Stage::Following(left),
+        Tried::Done(_) | Tried::Failed => GuestStage::Over,
+        Tried::Waits => GuestStage::Following(left),
     }
 }
 

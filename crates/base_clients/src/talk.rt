@@ -2,14 +2,14 @@ ghost use Rattle.std.specs.Prelude.{◌≡◌, ℕ, ◌<◌, ◌≤◌, List, le
 ghost use Rattle.std.specs.Io.KnownBytes.{Appends, Consumes, IsAtEnd, Keeps};
 ghost use Rattle.base_device.specs.Tries.{IfTryDone, MatchTried};
 ghost use Rattle.base_clients.specs.Calls.{Logs};
-ghost use Rattle.base_clients.specs.declared.talk.Call.{Call};
-ghost use Rattle.base_clients.specs.declared.talk.Call.TheVariants.{Gave, Got};
+ghost use Rattle.base_clients.specs.declared.talk.TalkCall.{TalkCall};
+ghost use Rattle.base_clients.specs.declared.talk.TalkCall.TheVariants.{Gave, Got};
 
 use base_device::Tried;
 
 /// A call of a connection, and what it came to.
 #[derive(Clone, Copy, Debug, PartialEq, Eq)]
-pub enum Call {
+pub enum TalkCall {
     /// It was read.
     Got(Tried),
     /// It was written to.
@@ -27,7 +27,7 @@ pub trait Talk: Drop {
     ghost written: { Self → Option (List ℕ) } = { λ _. None };
 
     /// The calls of it, where they are known, the first of them first.
-    ghost calls: { Self → Option (List Call) } = { λ _. None };
+    ghost calls: { Self → Option (List TalkCall) } = { λ _. None };
 
     /// Reads some bytes into the front of `buf`, none only at the end of the input or where `buf` is empty.
     fn get(&mut self, buf: &mut [u8]) -> Tried

@@ -1,11 +1,11 @@
 -- Laws of clocks. Each is the contract of a public function without a body.
 use Rattle.std.specs.Prelude.{List, [], ◌++◌}
 use Rattle.base_clock.specs.Seen.{AllMade, ClockSeen}
-use Rattle.base_clock.specs.declared.call.Call.{Call}
+use Rattle.base_clock.specs.declared.call.ClockCall.{ClockCall}
 
 -- calls that follow others are those and then these
 abbrev pub JoinedLaw : Type 0
-JoinedLaw = (cs ds : List Call) (a b c : ClockSeen) → AllMade cs a b → AllMade ds b c → AllMade (cs ++ ds) a c
+JoinedLaw = (cs ds : List ClockCall) (a b c : ClockSeen) → AllMade cs a b → AllMade ds b c → AllMade (cs ++ ds) a c
 
 -- where nothing is done, none is made
 abbrev pub NoneLaw : Type 0

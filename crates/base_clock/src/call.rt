@@ -1,6 +1,6 @@
 /// A call of a clock.
 #[derive(Clone, Copy, Debug, PartialEq, Eq)]
-pub enum Call {
+pub enum ClockCall {
     /// Both clocks were read, and told this, in milliseconds.
     Read { wall: u64, elapsed: u64 },
     /// They could not be read.

@@ -2,7 +2,7 @@ ghost use Rattle.std.specs.Prelude.{◌≡◌};
 ghost use Rattle.std.specs.Result.{result_ok};
 ghost use Rattle.base_device.specs.Failures.{CountsRead};
 ghost use Rattle.base_clock.specs.Seen.{CallIsMade, ClockSeen, read_call};
-ghost use Rattle.base_clock.specs.declared.call.Call.TheVariants.{Wait};
+ghost use Rattle.base_clock.specs.declared.call.ClockCall.TheVariants.{Wait};
 
 use crate::reading::Reading;
 use base_device::Failed;

@@ -15,7 +15,7 @@ mod rest;
 mod system;
 mod times;
 
-pub use call::Call;
+pub use call::ClockCall;
 pub use clock::Clock;
 pub use laws::calls_are_joined;
 pub use memory::MemoryClock;

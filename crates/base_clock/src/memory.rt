@@ -3,9 +3,9 @@ ghost use Rattle.base_device.specs.Failures.{CountsRead};
 ghost use Rattle.std.specs.Result.{result_ok};
 ghost use Rattle.base_clock.specs.Scripts.{after_read, later_readings, next_reading, seen_of_script, with_call};
 ghost use Rattle.base_clock.specs.Seen.{CallIsMade, read_call};
-ghost use Rattle.base_clock.specs.declared.call.Call.TheVariants.{Wait};
+ghost use Rattle.base_clock.specs.declared.call.ClockCall.TheVariants.{Wait};
 
-use crate::call::Call;
+use crate::call::ClockCall;
 use crate::clock::Clock;
 use crate::reading::Reading;
 use base_device::Failed;
@@ -17,7 +17,7 @@ use std::marker::Model;
 pub struct MemoryClock {
     readings: Vec<Option<Reading>>,
     next: usize,
-    calls: Vec<Call>,
+    calls: Vec<ClockCall>,
     room: usize,
     is_whole: bool,
     failures: u64,
@@ -55,7 +55,7 @@ impl MemoryClock {
     }
 
     /// The calls that it keeps, the first of them first.
-    pub fn calls(&self) -> &[Call]
+    pub fn calls(&self) -> &[ClockCall]
         ensures { result.now ≡ self.now.calls }
     {
         &self.calls
@@ -69,7 +69,7 @@ impl MemoryClock {
     }
 
     // Keeps a call, where there is room.
-    fn keep(&mut self, call: Call)
+    fn keep(&mut self, call: ClockCall)
         ensures { self.new ≡ with_call call self.old }
     {
         if self.calls.len() < self.room {
@@ -110,12 +110,12 @@ impl Clock for MemoryClock {
     {
         match self.take() {
             Some(Reading { wall, elapsed }) => {
-                self.keep(Call::Read { wall, elapsed });
+                self.keep(ClockCall::Read { wall, elapsed });
                 Ok(Reading { wall, elapsed })
             }
             None => {
                 self.failures = self.failures.saturating_add(1);
-                self.keep(Call::Unread);
+                self.keep(ClockCall::Unread);
                 Err(Failed)
             }
         }
@@ -126,6 +126,6 @@ impl Clock for MemoryClock {
         ensures count { self.new.failures ≡ self.old.failures }
         ensures script { self.new ≡ with_call (Wait millis) self.old }
     {
-        self.keep(Call::Wait { millis });
+        self.keep(ClockCall::Wait { millis });
     }
 }

@@ -10,9 +10,9 @@ use Rattle.base_disk.specs.State.{DiskState}
 use Rattle.base_disk.specs.History.{state_after_call, state_after_calls, left_after_what, file_after, sound_after}
 use Rattle.base_disk.specs.Left.{MayStand, MayMake, PathIsFollowed}
 use Rattle.base_disk.specs.Memory.{EitherEach}
-use Rattle.base_disk.specs.declared.call.Call.{Call}
-use Rattle.base_disk.specs.declared.call.What.{What}
-use Rattle.base_disk.specs.declared.call.What.TheVariants as what
+use Rattle.base_disk.specs.declared.call.DiskCall.{DiskCall}
+use Rattle.base_disk.specs.declared.call.CallMade.{CallMade}
+use Rattle.base_disk.specs.declared.call.CallMade.TheVariants as what
 use Rattle.base_disk.proofs.Runs.{after_all_push}
 
 yes_side : {X : Type 0} (b : Bool) (x y : X) → b ≡ true → (if b then x else y) ≡ x
@@ -80,7 +80,7 @@ tears_past q p step f d c apart tears = record {
 }
 
 -- a call at the path
-stands_made : (asked : What) (path : List ℕ) (may_leave : Image → Type 0) (sound : Bool) (seen old new : Option File) → MayMake asked sound seen old new
+stands_made : (asked : CallMade) (path : List ℕ) (may_leave : Image → Type 0) (sound : Bool) (seen old new : Option File) → MayMake asked sound seen old new
     → ((c : Image) → may_leave c → may_leave (image_changed path (λ _. old) c))
     → (c : Image) → left_after_what asked path may_leave sound seen c → left_after_what asked path may_leave sound seen (image_changed path (λ _. new) c)
 stands_made (what.Write at bytes done) path may_leave sound seen old new made stands c left =
@@ -108,7 +108,7 @@ stands_made (what.Move mode bytes done) path may_leave sound seen old new (inr i
         ∙ put_twice path (Some (record { mode = mode; bytes = bytes.items })) (Some (record { mode = mode; bytes = bytes.items })) left.0
 
 -- a call at another path
-stands_past : (asked : What) (q p : List ℕ) (may_leave : Image → Type 0) (sound : Bool) (seen f : Option File) → bytes_eq q p ≡ false
+stands_past : (asked : CallMade) (q p : List ℕ) (may_leave : Image → Type 0) (sound : Bool) (seen f : Option File) → bytes_eq q p ≡ false
     → ((c : Image) → may_leave c → may_leave (image_changed p (λ _. f) c))
     → (c : Image) → left_after_what asked q may_leave sound seen c → left_after_what asked q may_leave sound seen (image_changed p (λ _. f) c)
 stands_past (what.Write at bytes done) q p may_leave sound seen f apart stands c left =
@@ -123,7 +123,7 @@ stands_past (what.Move mode bytes done) q p may_leave sound seen f apart stands 
     here (inl is) = inl (λ i. image_changed p (λ _. f) (is i))
     here (inr moved) = inr ((λ i. image_changed p (λ _. f) (moved i)) ∙ put_both p q f (Some (record { mode = mode; bytes = bytes.items })) left.0 apart)
 
-pub stands_after : (call : Call) (path : List ℕ) (s : DiskState) (old new : Option File) → call.path.items ≡ path
+pub stands_after : (call : DiskCall) (path : List ℕ) (s : DiskState) (old new : Option File) → call.path.items ≡ path
     → MayMake call.what (s.is_sound path) (s.seen path) old new → MayStand path old s → MayStand path new (state_after_call call s)
 stands_after call path s old new is made stands =
     subst (λ (p : List ℕ). MayStand p new (state_after_call call s)) is
@@ -131,7 +131,7 @@ stands_after call path s old new is made stands =
     (subst (λ (p : List ℕ). MayMake call.what (s.is_sound p) (s.seen p) old new) (sym is) made)
     (subst (λ (p : List ℕ). MayStand p old s) (sym is) stands) c left)
 
-pub stands_still : (call : Call) (path : List ℕ) (s : DiskState) (f : Option File) → bytes_eq call.path.items path ≡ false → MayStand path f s → MayStand path f (state_after_call call s)
+pub stands_still : (call : DiskCall) (path : List ℕ) (s : DiskState) (f : Option File) → bytes_eq call.path.items path ≡ false → MayStand path f s → MayStand path f (state_after_call call s)
 stands_still call path s f apart stands c left =
     stands_past call.what call.path.items path s.may_leave (s.is_sound call.path.items) (s.seen call.path.items) f apart stands c left
 
@@ -174,7 +174,7 @@ pub torn_in_file : (at n : ℕ) (piece : List ℕ) (file : File) → length piec
     → IsTornFile (Torn at n) (Some file) (with_bytes (overwritten at piece) (Some file))
 torn_in_file at n piece file short within = (refl, torn_piece at n piece file.bytes short within)
 
-pub followed_here : (call : Call) (path : List ℕ) (seen left new : Option File) (sound : Bool) (s : DiskState) → call.path.items ≡ path → PathIsFollowed path seen left sound s
+pub followed_here : (call : DiskCall) (path : List ℕ) (seen left new : Option File) (sound : Bool) (s : DiskState) → call.path.items ≡ path → PathIsFollowed path seen left sound s
     → MayMake call.what sound seen left new → PathIsFollowed path (file_after call.what seen) new (sound_after call.what sound) (state_after_call call s)
 followed_here call path seen left new sound s is f made = record {
   seen_is = ap (file_after call.what) f.seen_is ∙ sym (yes_side (bytes_eq call.path.items path) (file_after call.what (s.seen path)) (s.seen path) ((bytes_eq-Decides call.path.items path).1 is));
@@ -183,7 +183,7 @@ followed_here call path seen left new sound s is f made = record {
       (subst (λ (b : Bool). MayMake call.what b (s.seen path) left new) f.sound_is (subst (λ (o : Option File). MayMake call.what sound o left new) f.seen_is made)) f.stands;
 }
 
-pub followed_past : (call : Call) (path : List ℕ) (seen left : Option File) (sound : Bool) (s : DiskState) → bytes_eq call.path.items path ≡ false → PathIsFollowed path seen left sound s
+pub followed_past : (call : DiskCall) (path : List ℕ) (seen left : Option File) (sound : Bool) (s : DiskState) → bytes_eq call.path.items path ≡ false → PathIsFollowed path seen left sound s
     → PathIsFollowed path seen left sound (state_after_call call s)
 followed_past call path seen left sound s apart f = record {
   seen_is = f.seen_is ∙ sym (no_side (bytes_eq call.path.items path) (file_after call.what (s.seen path)) (s.seen path) apart);
@@ -192,7 +192,7 @@ followed_past call path seen left sound s apart f = record {
 }
 
 -- the state after one call more
-pub state_more : (calls : List Call) (k : ℕ) (call : Call) (s : DiskState) → k < length calls → call ≡ get_or calls k call → state_after_calls (take (k + 1) calls) s ≡ state_after_call call (state_after_calls (take k calls) s)
+pub state_more : (calls : List DiskCall) (k : ℕ) (call : DiskCall) (s : DiskState) → k < length calls → call ≡ get_or calls k call → state_after_calls (take (k + 1) calls) s ≡ state_after_call call (state_after_calls (take k calls) s)
 state_more calls k call s below is =
     (λ i. state_after_calls (take_more calls k call below i) s)
     ∙ after_all_push (take k calls) (get_or calls k call) s

@@ -10,20 +10,20 @@ use Rattle.base_disk.specs.State.{DiskState, Beside, Touches, Elapses, OutcomesF
 use Rattle.base_disk.specs.History.{state_after_call, state_after_calls, file_after, left_by_call, file_after_all}
 use Rattle.base_disk.specs.Memory.{state_of, memory_state, at_first, image_of, kept_of, beside_of, IsSame, HasEntered, EntersCall}
 use Rattle.base_disk.proofs.Torn.{torn_not, tears_not}
-use Rattle.base_disk.specs.declared.call.Call.{Call}
-use Rattle.base_disk.specs.declared.call.What.{What}
-use Rattle.base_disk.specs.declared.call.What.TheVariants as what
+use Rattle.base_disk.specs.declared.call.DiskCall.{DiskCall}
+use Rattle.base_disk.specs.declared.call.CallMade.{CallMade}
+use Rattle.base_disk.specs.declared.call.CallMade.TheVariants as what
 use Rattle.base_disk.specs.declared.fault.DiskFault.{DiskFault}
 use Rattle.base_disk.specs.declared.fault.DiskFault.TheVariants as faults
 use Rattle.base_disk.specs.declared.memory.MemoryDisk.{MemoryDisk}
 
 -- the last call comes after all others
-pub after_all_push : (calls : List Call) (call : Call) (s : DiskState) → state_after_calls (calls ++ call ∷ []) s ≡ state_after_call call (state_after_calls calls s)
+pub after_all_push : (calls : List DiskCall) (call : DiskCall) (s : DiskState) → state_after_calls (calls ++ call ∷ []) s ≡ state_after_call call (state_after_calls calls s)
 after_all_push [] call s = refl
 after_all_push (first ∷ calls) call s = after_all_push calls call (state_after_call first s)
 
 -- what is seen at one path
-pub seen_at : (path : List ℕ) (calls : List Call) (s : DiskState) → (state_after_calls calls s).seen path ≡ file_after_all path calls (s.seen path)
+pub seen_at : (path : List ℕ) (calls : List DiskCall) (s : DiskState) → (state_after_calls calls s).seen path ≡ file_after_all path calls (s.seen path)
 seen_at path [] s = refl
 seen_at path (call ∷ calls) s = seen_at path calls (state_after_call call s)
 
@@ -36,7 +36,7 @@ either : {X : Type 0} (b : Bool) (x : X) → (if b then x else x) ≡ x
 either true x = refl
 either false x = refl
 
-module _ (call : Call) (s : DiskState) (n : ℕ) where
+module _ (call : DiskCall) (s : DiskState) (n : ℕ) where
   abbrev next : DiskState
   next = record (state_after_call call s) { faults = n }
 
@@ -66,7 +66,7 @@ module _ (m n : MemoryDisk) (same : IsSame m n) where
   pub still : n.calls.items ≡ m.calls.items → memory_state n ≡ record (memory_state m) { faults = n.faults }
   still calls = λ i. state_of (calls i) (same.files i) (same.kept i) (same.beside i) (same.taken i) n.faults (same.fault i)
 
-  module _ (path : List ℕ) (asked : What) where
+  module _ (path : List ℕ) (asked : CallMade) where
     -- one call was
     pub entered : (h : HasEntered path asked m n) → memory_state n ≡ record (state_after_call (record { path = h.name; what = asked }) (memory_state m)) { faults = n.faults }
     entered h =

@@ -4,15 +4,15 @@ use Rattle.std.specs.Prelude.{◌≡◌, ◌⊎◌, List, ℕ, length, Option, S
 use Rattle.base_disk.specs.Image.{File, Image, image_changed}
 use Rattle.base_disk.specs.Torn.{Torn, IsTornFile}
 use Rattle.base_disk.specs.State.{DiskState}
-use Rattle.base_disk.specs.declared.call.What.{What}
-use Rattle.base_disk.specs.declared.call.What.TheVariants as what
+use Rattle.base_disk.specs.declared.call.CallMade.{CallMade}
+use Rattle.base_disk.specs.declared.call.CallMade.TheVariants as what
 
 -- whatever a crash may leave, it may leave with this file, or none, at the path
 abbrev pub MayStand : List ℕ → Option File → DiskState → Type 0
 MayStand path file s = (c : Image) → s.may_leave c → s.may_leave (image_changed path (λ _. file) c)
 
 -- what a call may make of the file that a crash leaves at its path, where this one was seen there and was sound or not
-abbrev pub MayMake : What → Bool → Option File → Option File → Option File → Type 0
+abbrev pub MayMake : CallMade → Bool → Option File → Option File → Option File → Type 0
 MayMake (what.Write at bytes done) sound seen old new = IsTornFile (Torn at (length bytes.items)) old new
 MayMake (what.Sync true) sound seen old new = new ≡ (if sound then seen else old)
 MayMake (what.Sync false) sound seen old new = new ≡ old

@@ -6,17 +6,17 @@ use Rattle.base_disk.specs.Image.{File, Image}
 use Rattle.base_disk.specs.State.{DiskState, Beside}
 use Rattle.base_disk.specs.History.{state_after_calls}
 use Rattle.base_disk.specs.declared.call.Stored.{Stored}
-use Rattle.base_disk.specs.declared.call.Call.{Call}
+use Rattle.base_disk.specs.declared.call.DiskCall.{DiskCall}
 use Rattle.base_disk.specs.declared.call.Held.{Held}
 use Rattle.std.specs.declared.alloc.Global.{Global}
-use Rattle.base_disk.specs.declared.call.What.{What}
+use Rattle.base_disk.specs.declared.call.CallMade.{CallMade}
 use Rattle.base_disk.specs.declared.fault.DiskFault.{DiskFault}
 use Rattle.base_disk.specs.declared.fault.DiskFault.TheVariants as faults
 use Rattle.base_disk.specs.declared.failing.Failing.{Failing}
 use Rattle.base_disk.specs.declared.failing.Failing.TheVariants as failing
-use Rattle.base_disk.specs.declared.fault.Why.{Why}
+use Rattle.base_disk.specs.declared.fault.DiskTrouble.{DiskTrouble}
 use Rattle.base_disk.specs.declared.memory.MemoryDisk.{MemoryDisk}
-use Rattle.base_disk.specs.declared.call.Draft.{Draft}
+use Rattle.base_disk.specs.declared.call.FileDraft.{FileDraft}
 
 -- a file that code holds
 abbrev pub held_file : Option Held → Option File
@@ -33,7 +33,7 @@ abbrev pub kept_of : List Stored → Option (Vec Stored Global) → Image
 kept_of files None = image_of files
 kept_of files (Some kept) = image_of kept.items
 
-abbrev pub beside_of : Option Draft → Option Beside
+abbrev pub beside_of : Option FileDraft → Option Beside
 beside_of None = None
 beside_of (Some draft) = Some (record { path = draft.path.items; file = record { mode = draft.file.mode; bytes = draft.file.bytes.items }; is_synced = draft.is_synced })
 
@@ -42,7 +42,7 @@ abbrev pub EitherEach : Image → Image → Image → Type 0
 EitherEach seen kept c = (path : List ℕ) → (c path ≡ seen path) ⊎ (c path ≡ kept path)
 
 -- before the first call, where one image is seen and the other one is on the disk
-abbrev pub at_first : Image → Image → Why → DiskState
+abbrev pub at_first : Image → Image → DiskTrouble → DiskState
 at_first image kept why = record {
   seen = image;
   beside = None;
@@ -56,11 +56,11 @@ at_first image kept why = record {
 }
 
 -- what these calls made of these files
-abbrev pub state_of : List Call → List Stored → Option (Vec Stored Global) → Option Draft → Bool → ℕ → Why → DiskState
+abbrev pub state_of : List DiskCall → List Stored → Option (Vec Stored Global) → Option FileDraft → Bool → ℕ → DiskTrouble → DiskState
 state_of calls files kept beside taken faults fault = record (state_after_calls calls (at_first (image_of files) (kept_of files kept) fault)) { beside = beside_of beside; taken = λ path. taken; faults = faults; fault = fault }
 
 -- the calls on its files, in their order
-abbrev pub calls_of_disk : MemoryDisk → List Call
+abbrev pub calls_of_disk : MemoryDisk → List DiskCall
 calls_of_disk m = m.calls.items
 
 abbrev pub memory_state : MemoryDisk → DiskState
@@ -75,13 +75,13 @@ pub record IsSame (old new : MemoryDisk) : Type 0 where
   pub fault : new.fault ≡ old.fault
 
 -- one call more was made, on this path
-pub record HasEntered (path : List ℕ) (what : What) (old new : MemoryDisk) : Type 0 where
+pub record HasEntered (path : List ℕ) (what : CallMade) (old new : MemoryDisk) : Type 0 where
   pub name : Vec ℕ Global
   pub name_is : name.items ≡ path
   pub calls : new.calls.items ≡ old.calls.items ++ record { path = name; what = what } ∷ []
 
 -- a call is entered unless there was no memory for it
-abbrev pub EntersCall : List ℕ → What → MemoryDisk → MemoryDisk → Result Unit DiskFault → Type 0
+abbrev pub EntersCall : List ℕ → CallMade → MemoryDisk → MemoryDisk → Result Unit DiskFault → Type 0
 EntersCall path what old new (Err faults.OutOfMemory) = new.calls.items ≡ old.calls.items
 EntersCall path what old new answer = HasEntered path what old new
 
@@ -101,7 +101,7 @@ next_turn (failing.From zero) = failing.From zero
 next_turn (failing.From (suc n)) = failing.From n
 
 -- nothing has happened yet: the one image is seen, the other one is on the disk, and no call has failed
-pub record IsFreshDisk (image kept : Image) (why : Why) (s : DiskState) : Type 0 where
+pub record IsFreshDisk (image kept : Image) (why : DiskTrouble) (s : DiskState) : Type 0 where
   pub seen : s.seen ≡ image
   pub beside : s.beside ≡ None
   pub sound : (path : List ℕ) → s.is_sound path ≡ true

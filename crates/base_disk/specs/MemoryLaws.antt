@@ -6,25 +6,25 @@ use Rattle.base_disk.specs.Image.{Image}
 use Rattle.base_disk.specs.State.{DiskState}
 use Rattle.base_disk.specs.History.{state_after_call, state_after_calls}
 use Rattle.base_disk.specs.Memory.{at_first, image_of, kept_of, memory_state, IsLawful}
-use Rattle.base_disk.specs.declared.call.Call.{Call}
-use Rattle.base_disk.specs.declared.fault.Why.{Why}
+use Rattle.base_disk.specs.declared.call.DiskCall.{DiskCall}
+use Rattle.base_disk.specs.declared.fault.DiskTrouble.{DiskTrouble}
 use Rattle.base_disk.specs.declared.memory.MemoryDisk.{MemoryDisk}
 
-lawful_first : (image kept : Image) (why : Why) → IsLawful (at_first image kept why)
+lawful_first : (image kept : Image) (why : DiskTrouble) → IsLawful (at_first image kept why)
 lawful_first image kept why = record {
   counts = λ t c le now. (le, now);
   only = λ t c le left. left.1;
   none_later = λ t c left. left.0;
 }
 
-lawful_after : (call : Call) (s : DiskState) → IsLawful s → IsLawful (state_after_call call s)
+lawful_after : (call : DiskCall) (s : DiskState) → IsLawful s → IsLawful (state_after_call call s)
 lawful_after call s laws = record {
   counts = λ t c le now. inr (le, now);
   only = λ t c le left. ⊎_elim (λ was. absurd (not-suc-le_self s.moment (le_trans le (laws.none_later t c was)))) (λ now. now.1) left;
   none_later = λ t c left. ⊎_elim (λ was. le_trans (laws.none_later t c was) (le_of_lt (lt-suc_self s.moment))) (λ now. now.0) left;
 }
 
-lawful_all : (calls : List Call) (s : DiskState) → IsLawful s → IsLawful (state_after_calls calls s)
+lawful_all : (calls : List DiskCall) (s : DiskState) → IsLawful s → IsLawful (state_after_calls calls s)
 lawful_all [] s laws = laws
 lawful_all (call ∷ calls) s laws = lawful_all calls (state_after_call call s) (lawful_after call s laws)
 

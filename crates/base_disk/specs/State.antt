@@ -4,7 +4,7 @@ use Rattle.std.specs.Prelude.{◌≡◌, ◌⊎◌, ℕ, ◌≤◌, List, Bool, 
 use Rattle.std.specs.Str.{bytes_eq}
 use Rattle.base_device.specs.Failures.{one_more}
 use Rattle.base_disk.specs.Image.{Image, File, SameElsewhere}
-use Rattle.base_disk.specs.declared.fault.Why.{Why}
+use Rattle.base_disk.specs.declared.fault.DiskTrouble.{DiskTrouble}
 use Rattle.base_disk.specs.declared.fault.DiskFault.{DiskFault}
 use Rattle.base_disk.specs.declared.fault.DiskFault.TheVariants as faults
 
@@ -30,7 +30,7 @@ pub record DiskState : Type 1 where
   pub left_since : ℕ → Image → Type 0
   -- how many calls failed, up to the greatest number, and what the last of them met
   pub faults : ℕ
-  pub fault : Why
+  pub fault : DiskTrouble
 
 -- what a read gives of this path is on the disk, and stays there until it is changed
 pub record DiskKeeps (path : List ℕ) (s : DiskState) : Type 0 where

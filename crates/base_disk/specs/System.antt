@@ -3,9 +3,9 @@
 use Rattle.std.specs.Prelude.{ℕ, None, false, Result, Err}
 use Rattle.base_disk.specs.State.{DiskState}
 use Rattle.base_disk.specs.declared.fault.DiskFault.{DiskFault}
-use Rattle.base_disk.specs.declared.fault.Why.{Why}
+use Rattle.base_disk.specs.declared.fault.DiskTrouble.{DiskTrouble}
 
-abbrev pub system_state : ℕ → Why → DiskState
+abbrev pub system_state : ℕ → DiskTrouble → DiskState
 system_state faults why = record {
   seen = λ path. None;
   beside = None;

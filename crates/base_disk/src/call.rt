@@ -18,7 +18,7 @@ pub struct Stored {
 
 /// A file that stands beside its place.
 #[derive(Debug, Drop)]
-pub struct Draft {
+pub struct FileDraft {
     /// The place.
     pub path: Vec<u8>,
     /// What it holds.
@@ -29,16 +29,16 @@ pub struct Draft {
 
 /// A call on the file at a path.
 #[derive(Debug, Drop)]
-pub struct Call {
+pub struct DiskCall {
     /// The path.
     pub path: Vec<u8>,
     /// What it asked for, and whether it went well.
-    pub what: What,
+    pub what: CallMade,
 }
 
 /// What a call asked for, and whether it went well.
 #[derive(Debug, Drop)]
-pub enum What {
+pub enum CallMade {
     /// Bytes from an offset on.
     Write {
         /// The offset.

@@ -3,7 +3,7 @@ ghost use Rattle.base_disk.specs.Image.{overwritten, with_bytes};
 ghost use Rattle.base_disk.specs.History.{file_after};
 ghost use Rattle.base_disk.specs.Memory.{image_of, held_file};
 
-use crate::call::{Held, Stored, What};
+use crate::call::{Held, Stored, CallMade};
 use std::alloc::{AllocError, Global};
 
 /// The first of these files at a path.
@@ -29,16 +29,16 @@ pub(crate) fn first_of(
 pub(crate) fn after_call(
     alloc: Global,
     file: Option<Held>,
-    what: &What,
+    what: &CallMade,
 ) -> Result<Option<Held>, AllocError>
     ensures { IfOk result (λ after. held_file after ≡ file_after what.now (held_file file)) }
 {
     match what {
-        What::Move { mode, bytes, done } if *done => Ok(Some(Held {
+        CallMade::Move { mode, bytes, done } if *done => Ok(Some(Held {
             mode: *mode,
             bytes: Vec::from_slice(alloc, bytes)?,
         })),
-        What::Write { at, bytes, done } => {
+        CallMade::Write { at, bytes, done } => {
             let taken = if *done {
                 bytes.as_slice()
             } else {

@@ -6,7 +6,7 @@ ghost use Rattle.base_disk.specs.Left.{MayStand, MayMake};
 ghost use Rattle.base_disk.specs.Memory.{memory_state, held_file, image_of, kept_of};
 
 use crate::MemoryDisk;
-use crate::call::{Call, Held, What};
+use crate::call::{DiskCall, Held, CallMade};
 use crate::content::{after_call, copy_of, first_of, overwrite};
 use std::alloc::{AllocError, Global};
 
@@ -45,7 +45,7 @@ impl MemoryDisk {
 }
 
 /// Whether a call was made at another path.
-fn is_elsewhere(call: &Call, path: &str) -> bool
+fn is_elsewhere(call: &DiskCall, path: &str) -> bool
     ensures { result ≡ not (bytes_eq call.now.path.items path.now) }
 {
     call.path.as_slice() != path.as_bytes()
@@ -58,19 +58,19 @@ fn next_draw(draw: u64) -> u64 {
 }
 
 /// Whether the file is sound after a call on it.
-fn is_sound_after(what: &What, sound: bool) -> bool
+fn is_sound_after(what: &CallMade, sound: bool) -> bool
     ensures { result ≡ sound_after what.now sound }
 {
     match what {
-        What::Write { done, .. } | What::Sync { done } => *done & sound,
-        What::Move { done, .. } => *done | sound,
+        CallMade::Write { done, .. } | CallMade::Sync { done } => *done & sound,
+        CallMade::Move { done, .. } => *done | sound,
     }
 }
 
 /// What a crash in a call or after it makes of the file that one before it would have left.
 fn made_by(
     alloc: Global,
-    what: &What,
+    what: &CallMade,
     sound: bool,
     seen: &Option<Held>,
     left: Option<Held>,
@@ -79,9 +79,9 @@ fn made_by(
     ensures { IfOk result (λ after. MayMake what.now sound (held_file seen.now) (held_file left) (held_file after)) }
 {
     match what {
-        What::Write { at, bytes, .. } => torn(alloc, left, *at, bytes, choice),
-        What::Sync { done } if *done & sound => copy_of(alloc, seen),
-        What::Move { mode, bytes, .. } if choice % 2 == 1 => Ok(Some(Held {
+        CallMade::Write { at, bytes, .. } => torn(alloc, left, *at, bytes, choice),
+        CallMade::Sync { done } if *done & sound => copy_of(alloc, seen),
+        CallMade::Move { mode, bytes, .. } if choice % 2 == 1 => Ok(Some(Held {
             mode: *mode,
             bytes: Vec::from_slice(alloc, bytes)?,
         })),

@@ -10,7 +10,7 @@ use std::alloc::Global;
 
 /// What tells that a file may have changed, and who may read it.
 #[derive(Clone, Copy, Debug, PartialEq, Eq)]
-pub struct Stamp {
+pub struct DiskStamp {
     /// When its bytes were last changed, in seconds since 1970, and the nanoseconds of that second.
     pub modified: (i64, i64),
     /// How many bytes it has.
@@ -46,7 +46,7 @@ pub trait Disk {
         ensures cause { TellsFailure (state self.old) (state self.new) result };
 
     /// The stamp of the file at `path`, `None` where there is no file.
-    fn stamp(&mut self, path: &str) -> Result<Option<Stamp>, DiskFault>
+    fn stamp(&mut self, path: &str) -> Result<Option<DiskStamp>, DiskFault>
         ensures stamp { IsTrue is_known → IfOk result (λ found. MatchOption found ((state self.old).seen path.now ≡ None)
             (λ stamp. (file : File) × ((state self.old).seen path.now ≡ Some file) × (stamp.mode ≡ file.mode) × (stamp.size ≡ length file.bytes))) }
         ensures alone { IsTrue is_known → LeavesAlone (state self.old) (state self.new) }

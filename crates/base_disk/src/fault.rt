@@ -6,7 +6,7 @@ use thiserror::Error;
 
 /// What a call of the disk met. It holds nothing of what was read or written.
 #[derive(Clone, Copy, Debug, PartialEq, Eq, Error)]
-pub enum Why {
+pub enum DiskTrouble {
     /// No room is left on the disk, or for this user.
     #[error("no space is left")]
     Full,
@@ -32,7 +32,7 @@ pub enum Why {
 pub enum DiskFault {
     /// The call failed, and the disk has counted it.
     #[error("{0}")]
-    Failed(Why),
+    Failed(DiskTrouble),
     /// The file has more bytes than were asked for.
     #[error("too long")]
     TooLong,

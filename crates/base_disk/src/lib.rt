@@ -18,10 +18,10 @@ mod replacing;
 mod synced;
 mod system;
 
-pub use call::{Call, Draft, Held, Stored, What};
-pub use disk::{Disk, Stamp};
+pub use call::{DiskCall, FileDraft, Held, Stored, CallMade};
+pub use disk::{Disk, DiskStamp};
 pub use failing::Failing;
-pub use fault::{DiskFault, Why};
+pub use fault::{DiskFault, DiskTrouble};
 pub use lock::Lock;
 pub use memory::MemoryDisk;
 pub use replacing::replace;

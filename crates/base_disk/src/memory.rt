@@ -6,10 +6,10 @@ ghost use Rattle.base_disk.specs.MemoryLaws.{memory_lawful};
 ghost use Rattle.std.proofs.Common.{le_refl};
 ghost use Rattle.base_disk.specs.Memory.{IsFreshDisk, IsSame, EntersCall, image_of, calls_of_disk, memory_state, held_file, is_turn, next_turn};
 
-use crate::call::{Call, Draft, Held, Stored, What};
+use crate::call::{DiskCall, FileDraft, Held, Stored, CallMade};
 use crate::content::{after_call, first_of};
 use crate::failing::Failing;
-use crate::{Disk, DiskFault, Lock, Stamp, Why};
+use crate::{Disk, DiskFault, Lock, DiskStamp, DiskTrouble};
 use base_moment::Text;
 use std::alloc::{AllocError, Global};
 
@@ -20,18 +20,18 @@ pub struct MemoryDisk {
     pub(crate) files: Vec<Stored>,
     // What stands on the disk of them; `None` where that is all of them.
     pub(crate) kept: Option<Vec<Stored>>,
-    pub(crate) calls: Vec<Call>,
-    beside: Option<Draft>,
+    pub(crate) calls: Vec<DiskCall>,
+    beside: Option<FileDraft>,
     // Another process holds each lock.
     taken: bool,
     failing: Failing,
     faults: u64,
-    fault: Why,
+    fault: DiskTrouble,
 }
 
 impl MemoryDisk {
     /// A disk with these files, all of them on it. Of two with one path the first is there. Calls that fail meet `fault`.
-    pub fn new(alloc: Global, files: Vec<Stored>, failing: Failing, fault: Why) -> MemoryDisk
+    pub fn new(alloc: Global, files: Vec<Stored>, failing: Failing, fault: DiskTrouble) -> MemoryDisk
         ensures first { IsFreshDisk (image_of files.items) (image_of files.items) fault (memory_state result) }
         ensures kept { (path : List ℕ) → DiskKeeps path (memory_state result) }
     {
@@ -55,7 +55,7 @@ impl MemoryDisk {
         files: Vec<Stored>,
         kept: Vec<Stored>,
         failing: Failing,
-        fault: Why,
+        fault: DiskTrouble,
     ) -> MemoryDisk
         ensures { IsFreshDisk (image_of files.items) (image_of kept.items) fault (memory_state result) }
     {
@@ -85,7 +85,7 @@ impl MemoryDisk {
     }
 
     /// The calls that were made on its files, in their order: writes, syncs and moves, also those that failed.
-    pub fn calls(&self) -> &[Call]
+    pub fn calls(&self) -> &[DiskCall]
         ensures { result.now ≡ calls_of_disk self.now }
     {
         &self.calls
@@ -127,7 +127,7 @@ impl MemoryDisk {
     }
 
     /// Makes a call on the file at a path.
-    fn enter(&mut self, path: &str, what: What) -> Result<(), DiskFault>
+    fn enter(&mut self, path: &str, what: CallMade) -> Result<(), DiskFault>
         ensures entered { EntersCall path.now what self.old self.new result }
         ensures same { IsSame self.old self.new }
         ensures done { OnOk result (is_turn self.old.failing ≡ false) }
@@ -135,7 +135,7 @@ impl MemoryDisk {
         ensures which { IfErr result IsNotTooLong }
     {
         let path = Vec::from_slice(self.alloc, path.as_bytes())?;
-        self.calls.push(Call { path, what })?;
+        self.calls.push(DiskCall { path, what })?;
         self.end()
     }
 }
@@ -159,10 +159,10 @@ impl Disk for MemoryDisk {
         }
     }
 
-    fn stamp(&mut self, path: &str) -> Result<Option<Stamp>, DiskFault> {
+    fn stamp(&mut self, path: &str) -> Result<Option<DiskStamp>, DiskFault> {
         let file = self.file(self.alloc, path)?;
         self.end()?;
-        Ok(file.map(|held| Stamp {
+        Ok(file.map(|held| DiskStamp {
             modified: (self.calls.len() as i64, 0),
             size: held.bytes.len() as u64,
             mode: held.mode,
@@ -173,19 +173,19 @@ impl Disk for MemoryDisk {
     fn write_at(&mut self, path: &str, at: usize, bytes: &[u8]) -> Result<(), DiskFault> {
         let bytes = Vec::from_slice(self.alloc, bytes)?;
         let done = !self.failing.is_turn();
-        self.enter(path, What::Write { at, bytes, done })
+        self.enter(path, CallMade::Write { at, bytes, done })
     }
 
     fn sync(&mut self, path: &str) -> Result<(), DiskFault> {
         let done = !self.failing.is_turn();
-        self.enter(path, What::Sync { done })
+        self.enter(path, CallMade::Sync { done })
     }
 
     fn write_beside(&mut self, path: &str, mode: u32, bytes: &[u8]) -> Result<(), DiskFault> {
         let path = Vec::from_slice(self.alloc, path.as_bytes())?;
         let bytes = Vec::from_slice(self.alloc, bytes)?;
         self.end()?;
-        self.beside = Some(Draft {
+        self.beside = Some(FileDraft {
             path,
             file: Held { mode, bytes },
             is_synced: false,
@@ -209,7 +209,7 @@ impl Disk for MemoryDisk {
         let mode = draft.file.mode;
         let bytes = Vec::from_slice(self.alloc, &draft.file.bytes)?;
         let done = !self.failing.is_turn();
-        self.enter(path, What::Move { mode, bytes, done })
+        self.enter(path, CallMade::Move { mode, bytes, done })
     }
 
     fn lock(&mut self, path: &str) -> Result<Option<Lock>, DiskFault> {

@@ -3,7 +3,7 @@ ghost use Rattle.base_disk.specs.State.{IsNotTooLong, TellsFailure};
 ghost use Rattle.base_disk.specs.System.{system_state, refused};
 
 use crate::places::{beside_of, folder_of};
-use crate::{Disk, DiskFault, Lock, Stamp, Why};
+use crate::{Disk, DiskFault, Lock, DiskStamp, DiskTrouble};
 use base_device::{Counted, InputFault, read_all};
 use base_moment::Text;
 use std::alloc::Global;
@@ -26,7 +26,7 @@ pub const FOLDER_MODE: u32 = 0o700;
 pub struct SystemDisk<'a, R> {
     rt: &'a R,
     faults: u64,
-    fault: Why,
+    fault: DiskTrouble,
     // What stands at these paths has its name on the disk: the folder was synced, and no file was moved there since.
     named: Vec<String>,
     // Those that are locked until the process ends, with their paths.
@@ -39,7 +39,7 @@ impl<'a, R: Files<File = File> + AllocGlobal> SystemDisk<'a, R> {
         SystemDisk {
             rt,
             faults: 0,
-            fault: Why::Other,
+            fault: DiskTrouble::Other,
             named: Vec::new(rt.alloc()),
             locks: Vec::new(rt.alloc()),
         }
@@ -213,18 +213,18 @@ fn is_unwritable(error: &io::Error) -> bool {
 }
 
 /// Counts a call that failed, unless it failed because memory ran out.
-fn count(faults: &mut u64, fault: &mut Why, error: &io::Error) -> DiskFault
+fn count(faults: &mut u64, fault: &mut DiskTrouble, error: &io::Error) -> DiskFault
     ensures cause { TellsFailure (system_state faults.old fault.old) (system_state faults.new fault.new) (refused result) }
     ensures which { IsNotTooLong result }
 {
     let why = match error.kind() {
         ErrorKind::OutOfMemory => return DiskFault::OutOfMemory,
-        ErrorKind::StorageFull | ErrorKind::QuotaExceeded => Why::Full,
-        ErrorKind::ReadOnlyFilesystem => Why::ReadOnly,
-        ErrorKind::PermissionDenied => Why::Denied,
-        ErrorKind::NotFound => Why::Missing,
-        ErrorKind::InvalidInput => Why::Irregular,
-        _ => Why::Other,
+        ErrorKind::StorageFull | ErrorKind::QuotaExceeded => DiskTrouble::Full,
+        ErrorKind::ReadOnlyFilesystem => DiskTrouble::ReadOnly,
+        ErrorKind::PermissionDenied => DiskTrouble::Denied,
+        ErrorKind::NotFound => DiskTrouble::Missing,
+        ErrorKind::InvalidInput => DiskTrouble::Irregular,
+        _ => DiskTrouble::Other,
     };
     *faults = faults.saturating_add(1);
     *fault = why;
@@ -232,9 +232,9 @@ fn count(faults: &mut u64, fault: &mut Why, error: &io::Error) -> DiskFault
 }
 
 /// The stamp of the file at a path, `None` where there is none.
-fn stamp_of<R: Files>(rt: &R, path: &str) -> io::Result<Option<Stamp>> {
+fn stamp_of<R: Files>(rt: &R, path: &str) -> io::Result<Option<DiskStamp>> {
     match fs::metadata(rt, path) {
-        Ok(found) => Ok(Some(Stamp {
+        Ok(found) => Ok(Some(DiskStamp {
             modified: (found.mtime(), found.mtime_nsec()),
             size: found.len(),
             mode: found.mode() & 0o7777,
@@ -268,7 +268,7 @@ impl<'a, R: Files<File = File> + AllocGlobal> Disk for SystemDisk<'a, R> {
         }
     }
 
-    fn stamp(&mut self, path: &str) -> Result<Option<Stamp>, DiskFault> {
+    fn stamp(&mut self, path: &str) -> Result<Option<DiskStamp>, DiskFault> {
         let found = stamp_of(self.rt, path);
         self.answer(found)
     }

@@ -8,11 +8,11 @@ use std::rt::Files;
 
 /// The files of the system, of which nothing is known before they are read.
 #[derive(Debug, Drop)]
-pub struct Disk<'a, R> {
+pub struct SystemInputs<'a, R> {
     pub rt: &'a R,
 }
 
-impl<'a, R: Files + AllocGlobal> Inputs for Disk<'a, R> {
+impl<'a, R: Files + AllocGlobal> Inputs for SystemInputs<'a, R> {
     ghost bytes_at = { λ _ _. None };
 
     fn read(&mut self, _alloc: Global, path: &str, max: usize) -> Result<Text, InputFault> {

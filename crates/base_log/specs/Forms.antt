@@ -12,24 +12,24 @@ use Rattle.base_log.specs.declared.keys.Key.{Key}
 use Rattle.base_log.specs.declared.keys.Rest.{Rest}
 use Rattle.base_log.specs.declared.keys.Rest.TheVariants.{Names, Message, One}
 use Rattle.base_log.specs.declared.level.Level.{Level}
-use Rattle.base_log.specs.declared.line.Word.{Word}
-use Rattle.base_log.specs.declared.line.Word.TheVariants as words
+use Rattle.base_log.specs.declared.line.LineWord.{LineWord}
+use Rattle.base_log.specs.declared.line.LineWord.TheVariants as words
 
 -- ---- for people
 
 -- the text of a word: a moment is a date
-abbrev pub SaysWord : Word → List ℕ → Type 0
+abbrev pub SaysWord : LineWord → List ℕ → Type 0
 SaysWord (words.Text w) text = text ≡ w
 SaysWord (words.Number n) text = text ≡ decimal n
 SaysWord (words.Moment m) text = IsDateText text m
 
 -- the texts of words, a space (32) before each
-abbrev pub SayWords : List Word → List ℕ → Type 0
+abbrev pub SayWords : List LineWord → List ℕ → Type 0
 SayWords [] text = text ≡ []
 SayWords (w ∷ ws) text = (front rest : List ℕ) × SaysWord w front × SayWords ws rest × (text ≡ 32 ∷ (front ++ rest))
 
 -- the date, the level unless it is `info`, the event, its words, and a line feed (10)
-abbrev pub IsLineText : ℕ → Level → List ℕ → List Word → List ℕ → Type 0
+abbrev pub IsLineText : ℕ → Level → List ℕ → List LineWord → List ℕ → Type 0
 IsLineText moment level event ws text =
     (date said : List ℕ) × IsDateText date moment × SayWords ws said
     × (text ≡ date ++ 32 ∷ (level_mark level ++ (event ++ (said ++ 10 ∷ []))))
@@ -61,7 +61,7 @@ abbrev pub json_text : List ℕ → List ℕ
 json_text text = flat_map json_char (chars (utf8_lossy text))
 
 -- a word between quotes: a moment is a date
-abbrev pub SaysInside : Word → List ℕ → Type 0
+abbrev pub SaysInside : LineWord → List ℕ → Type 0
 SaysInside (words.Text w) text = text ≡ json_text w
 SaysInside (words.Number n) text = text ≡ decimal n
 SaysInside (words.Moment m) text = IsDateText text m
@@ -71,18 +71,18 @@ abbrev pub quoted : List ℕ → List ℕ
 quoted inside = 34 ∷ (inside ++ 34 ∷ [])
 
 -- a word as a value: a number as it is, all else as a string
-abbrev pub SaysValue : Word → List ℕ → Type 0
+abbrev pub SaysValue : LineWord → List ℕ → Type 0
 SaysValue (words.Text w) text = text ≡ quoted (json_text w)
 SaysValue (words.Number n) text = text ≡ decimal n
 SaysValue (words.Moment m) text = (date : List ℕ) × IsDateText date m × (text ≡ quoted date)
 
 -- words, each after this
-abbrev pub SayEach : List ℕ → List Word → List ℕ → Type 0
+abbrev pub SayEach : List ℕ → List LineWord → List ℕ → Type 0
 SayEach between [] text = text ≡ []
 SayEach between (w ∷ ws) text = (first others : List ℕ) × SaysInside w first × SayEach between ws others × (text ≡ between ++ (first ++ others))
 
 -- one word and others with this between them
-abbrev pub SayJoined : List ℕ → Word → List Word → List ℕ → Type 0
+abbrev pub SayJoined : List ℕ → LineWord → List LineWord → List ℕ → Type 0
 SayJoined between w ws text = (first others : List ℕ) × SaysInside w first × SayEach between ws others × (text ≡ first ++ others)
 
 -- ---- members, each after a comma
@@ -90,32 +90,32 @@ SayJoined between w ws text = (first others : List ℕ) × SaysInside w first ×
 abbrev pub member : List ℕ → List ℕ → List ℕ
 member key value = codes ", \"" ++ (key ++ (codes "\": " ++ value))
 
-abbrev pub SaysMember : Key → Word → List ℕ → Type 0
+abbrev pub SaysMember : Key → LineWord → List ℕ → Type 0
 SaysMember key w text = (value : List ℕ) × SaysValue w value × (text ≡ member (key_name (key_of key w)) value)
 
 -- names, as an array of strings
-abbrev pub SaysNames : List Word → List ℕ → Type 0
+abbrev pub SaysNames : List LineWord → List ℕ → Type 0
 SaysNames [] text = text ≡ codes ", \"entries\": []"
 SaysNames (w ∷ ws) text = (names : List ℕ) × SayJoined (codes "\", \"") w ws names × (text ≡ codes ", \"entries\": [\"" ++ (names ++ codes "\"]"))
 
 -- words for people, as one string: the event, and each word after a space, as in a line for people
-abbrev pub SaysMessage : List ℕ → List Word → List ℕ → Type 0
+abbrev pub SaysMessage : List ℕ → List LineWord → List ℕ → Type 0
 SaysMessage event [] text = text ≡ []
 SaysMessage event (w ∷ ws) text = (said : List ℕ) × SayEach (codes " ") (w ∷ ws) said × (text ≡ codes ", \"message\": \"" ++ (json_text event ++ (said ++ codes "\"")))
 
-abbrev pub SaysRest : List ℕ → Rest → List Word → List ℕ → Type 0
+abbrev pub SaysRest : List ℕ → Rest → List LineWord → List ℕ → Type 0
 SaysRest event Names ws text = SaysNames ws text
 SaysRest event Message ws text = SaysMessage event ws text
 SaysRest event (One key) [] text = text ≡ []
 SaysRest event (One key) (w ∷ ws) text = (first others : List ℕ) × SaysMember key w first × SaysMessage event ws others × (text ≡ first ++ others)
 
-abbrev pub SayMembers : List ℕ → Option Key → Rest → List Word → List ℕ → Type 0
+abbrev pub SayMembers : List ℕ → Option Key → Rest → List LineWord → List ℕ → Type 0
 SayMembers event None rest ws text = SaysRest event rest ws text
 SayMembers event (Some key) rest [] text = SaysRest event rest [] text
 SayMembers event (Some key) rest (w ∷ ws) text = (first others : List ℕ) × SaysMember key w first × SaysRest event rest ws others × (text ≡ first ++ others)
 
 -- all that is said of an event
-abbrev pub SaysEvent : List ℕ → List Word → List ℕ → Type 0
+abbrev pub SaysEvent : List ℕ → List LineWord → List ℕ → Type 0
 SaysEvent event ws text = SayMembers event (shape_of event (length ws)).lead (shape_of event (length ws)).rest ws text
 
 abbrev pub json_event : List ℕ → List ℕ
@@ -125,7 +125,7 @@ abbrev pub json_level : Level → List ℕ → List ℕ
 json_level level event = codes "\", \"level\": \"" ++ (level_name level ++ json_event event)
 
 -- an object of the moment as a date, the level, the event and what is said of it, and a line feed
-abbrev pub IsLineJson : ℕ → Level → List ℕ → List Word → List ℕ → Type 0
+abbrev pub IsLineJson : ℕ → Level → List ℕ → List LineWord → List ℕ → Type 0
 IsLineJson moment level event ws text =
     (date said : List ℕ) × IsDateText date moment × SaysEvent event ws said
     × (text ≡ codes "{\"moment\": \"" ++ (date ++ (json_level level event ++ (said ++ codes "}\n"))))

@@ -7,8 +7,8 @@ use Rattle.base_log.specs.declared.keys.Key.TheVariants.{At, Entry, End, Seconds
 use Rattle.base_log.specs.declared.keys.Rest.{Rest}
 use Rattle.base_log.specs.declared.keys.Rest.TheVariants.{Names, Message, One}
 use Rattle.base_log.specs.declared.keys.Shape.{Shape}
-use Rattle.base_log.specs.declared.line.Word.{Word}
-use Rattle.base_log.specs.declared.line.Word.TheVariants as words
+use Rattle.base_log.specs.declared.line.LineWord.{LineWord}
+use Rattle.base_log.specs.declared.line.LineWord.TheVariants as words
 
 abbrev pub key_name : Key → List ℕ
 key_name At = codes "at"
@@ -25,7 +25,7 @@ abbrev pub number_key : Key → Key
 number_key Reason = Status
 number_key key = key
 
-abbrev pub key_of : Key → Word → Key
+abbrev pub key_of : Key → LineWord → Key
 key_of key (words.Text w) = key
 key_of key (words.Number n) = number_key key
 key_of key (words.Moment m) = key

@@ -4,8 +4,8 @@ use Rattle.std.specs.Prelude.{◌≡◌, ℕ, ◌-◌, ◌∷◌, [], List, ◌+
 use Rattle.base_device.specs.Failures.{one_more}
 use Rattle.base_device.specs.declared.tried.Tried.{Tried}
 use Rattle.base_device.specs.declared.tried.Tried.TheVariants as tries
-use Rattle.base_log.specs.declared.memory.Answer.{Answer}
-use Rattle.base_log.specs.declared.memory.Answer.TheVariants as answers
+use Rattle.base_log.specs.declared.memory.SinkAnswer.{SinkAnswer}
+use Rattle.base_log.specs.declared.memory.SinkAnswer.TheVariants as answers
 
 -- one failure more where the sink has failed
 abbrev pub CountsFailure : Tried → ℕ → ℕ → Type 0
@@ -16,19 +16,19 @@ CountsFailure tries.Failed before now = now ≡ one_more before
 -- the answers to come, what it took, what its tries came to, where all of that is kept, and its tries and failures, up to the
 -- greatest `u64`
 pub record SinkScript : Type 0 where
-  pub to_come : List Answer
+  pub to_come : List SinkAnswer
   pub written : List ℕ
   pub tried : Option (List Tried)
   pub tries : ℕ
   pub failures : ℕ
 
 -- the next answer: past the last one it takes all
-abbrev pub next_answer : List Answer → Option Answer
+abbrev pub next_answer : List SinkAnswer → Option SinkAnswer
 next_answer [] = None
 next_answer (answer ∷ answers) = Some answer
 
 -- what an answer is at a piece of so many bytes: a sink takes one at least where there is one
-abbrev pub tried_of : Option Answer → ℕ → Tried
+abbrev pub tried_of : Option SinkAnswer → ℕ → Tried
 tried_of None length = tries.Done length
 tried_of (Some (answers.Takes n)) length = tries.Done (min (max n 1) length)
 tried_of (Some answers.Waits) length = tries.Waits

@@ -3,7 +3,7 @@ ghost use Rattle.base_words.specs.Texts.{hex_digit};
 ghost use Rattle.base_log.specs.Forms.{IsLineJson, SayEach, SayJoined, SayMembers, SaysEvent, SaysInside, SaysMember, SaysMessage, SaysNames, SaysRest, SaysValue, escaped, json_char, json_event, json_level, json_text, quoted, six_characters};
 
 use crate::keys::{Key, Rest, shape_of};
-use crate::line::{LogLine, Word};
+use crate::line::{LogLine, LineWord};
 use crate::text_form::push_date;
 use base_words::push_number;
 use std::alloc::{AllocError, Global};
@@ -45,7 +45,7 @@ fn push_event(alloc: Global, event: &str, text: &mut Vec<u8>) -> Result<(), Allo
 fn push_said(
     alloc: Global,
     event: &str,
-    words: &[Word],
+    words: &[LineWord],
     text: &mut Vec<u8>,
 ) -> Result<(), AllocError>
     ensures { OnOk result ((said : List ℕ) × SaysEvent event.now words.now said × (text.new.items ≡ text.old.items ++ said)) }
@@ -61,7 +61,7 @@ fn push_members(
     event: &str,
     lead: Option<Key>,
     rest: Rest,
-    words: &[Word],
+    words: &[LineWord],
     text: &mut Vec<u8>,
 ) -> Result<(), AllocError>
     ensures { OnOk result ((said : List ℕ) × SayMembers event.now lead rest words.now said × (text.new.items ≡ text.old.items ++ said)) }
@@ -84,7 +84,7 @@ fn push_rest(
     alloc: Global,
     event: &str,
     rest: Rest,
-    words: &[Word],
+    words: &[LineWord],
     text: &mut Vec<u8>,
 ) -> Result<(), AllocError>
     ensures { OnOk result ((said : List ℕ) × SaysRest event.now rest words.now said × (text.new.items ≡ text.old.items ++ said)) }
@@ -104,7 +104,7 @@ fn push_rest(
 
 // Appends a member of one word.
 #[tactic(auto, using(crate::proofs::Members::member_said))]
-fn push_member(alloc: Global, key: Key, word: &Word, text: &mut Vec<u8>) -> Result<(), AllocError>
+fn push_member(alloc: Global, key: Key, word: &LineWord, text: &mut Vec<u8>) -> Result<(), AllocError>
     ensures { OnOk result ((said : List ℕ) × SaysMember key word.now said × (text.new.items ≡ text.old.items ++ said)) }
 {
     text.extend_from_slice(b", \"")?;
@@ -115,7 +115,7 @@ fn push_member(alloc: Global, key: Key, word: &Word, text: &mut Vec<u8>) -> Resu
 
 // Appends the names of entries.
 #[tactic(auto, using(crate::proofs::Members::names_said))]
-fn push_names(alloc: Global, words: &[Word], text: &mut Vec<u8>) -> Result<(), AllocError>
+fn push_names(alloc: Global, words: &[LineWord], text: &mut Vec<u8>) -> Result<(), AllocError>
     ensures { OnOk result ((said : List ℕ) × SaysNames words.now said × (text.new.items ≡ text.old.items ++ said)) }
 {
     match words {
@@ -133,7 +133,7 @@ fn push_names(alloc: Global, words: &[Word], text: &mut Vec<u8>) -> Result<(), A
 fn push_message(
     alloc: Global,
     event: &str,
-    words: &[Word],
+    words: &[LineWord],
     text: &mut Vec<u8>,
 ) -> Result<(), AllocError>
     ensures { OnOk result ((said : List ℕ) × SaysMessage event.now words.now said × (text.new.items ≡ text.old.items ++ said)) }
@@ -154,8 +154,8 @@ fn push_message(
 fn push_joined(
     alloc: Global,
     between: &[u8],
-    first: &Word,
-    others: &[Word],
+    first: &LineWord,
+    others: &[LineWord],
     text: &mut Vec<u8>,
 ) -> Result<(), AllocError>
     ensures { OnOk result ((said : List ℕ) × SayJoined between.now first.now others.now said × (text.new.items ≡ text.old.items ++ said)) }
@@ -168,7 +168,7 @@ fn push_joined(
 fn push_each(
     alloc: Global,
     between: &[u8],
-    words: &[Word],
+    words: &[LineWord],
     text: &mut Vec<u8>,
 ) -> Result<(), AllocError>
     ensures { OnOk result ((said : List ℕ) × SayEach between.now words.now said × (text.new.items ≡ text.old.items ++ said)) }
@@ -182,13 +182,13 @@ fn push_each(
 
 // Appends a word as a value.
 #[tactic(auto, using(crate::proofs::Members::date_said))]
-fn push_value(alloc: Global, word: &Word, text: &mut Vec<u8>) -> Result<(), AllocError>
+fn push_value(alloc: Global, word: &LineWord, text: &mut Vec<u8>) -> Result<(), AllocError>
     ensures { OnOk result ((said : List ℕ) × SaysValue word.now said × (text.new.items ≡ text.old.items ++ said)) }
 {
     match word {
-        Word::Number(number) => push_number(alloc, *number, text),
-        Word::Text(name) => push_string(alloc, name.list(), text),
-        Word::Moment(moment) => {
+        LineWord::Number(number) => push_number(alloc, *number, text),
+        LineWord::Text(name) => push_string(alloc, name.list(), text),
+        LineWord::Moment(moment) => {
             text.push(b'"')?;
             push_date(alloc, *moment, text)?;
             text.push(b'"')?;
@@ -209,13 +209,13 @@ fn push_string(alloc: Global, bytes: &[u8], text: &mut Vec<u8>) -> Result<(), Al
 }
 
 // Appends what stands between the quotes of a word.
-fn push_inside(alloc: Global, word: &Word, text: &mut Vec<u8>) -> Result<(), AllocError>
+fn push_inside(alloc: Global, word: &LineWord, text: &mut Vec<u8>) -> Result<(), AllocError>
     ensures { OnOk result ((said : List ℕ) × SaysInside word.now said × (text.new.items ≡ text.old.items ++ said)) }
 {
     match word {
-        Word::Text(name) => push_text(alloc, name.list(), text),
-        Word::Number(number) => push_number(alloc, *number, text),
-        Word::Moment(moment) => push_date(alloc, *moment, text),
+        LineWord::Text(name) => push_text(alloc, name.list(), text),
+        LineWord::Number(number) => push_number(alloc, *number, text),
+        LineWord::Moment(moment) => push_date(alloc, *moment, text),
     }
 }
 

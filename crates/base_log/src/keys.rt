@@ -2,7 +2,7 @@
 ghost use Rattle.std.specs.Prelude.{◌≡◌};
 ghost use Rattle.base_log.specs.Keys.{has_end, has_names, has_reason, has_seconds, is_about_entry, is_change, is_trouble, key_name, key_of, number_key, shape, shape_of};
 
-use crate::line::Word;
+use crate::line::LineWord;
 
 /// The key of a member.
 #[derive(Clone, Copy, Debug, PartialEq, Eq)]
@@ -69,12 +69,12 @@ impl Key {
     }
 
     /// The key of this word: a reason that is a number is the status of a reply.
-    pub(crate) fn of(self, word: &Word) -> Key
+    pub(crate) fn of(self, word: &LineWord) -> Key
         ensures { result ≡ key_of self word.now }
     {
         match word {
-            Word::Text(_) | Word::Moment(_) => self,
-            Word::Number(_) => self.of_number(),
+            LineWord::Text(_) | LineWord::Moment(_) => self,
+            LineWord::Number(_) => self.of_number(),
         }
     }
 

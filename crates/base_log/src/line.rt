@@ -3,7 +3,7 @@ use base_moment::{Moment, Text};
 
 /// A word of a line.
 #[derive(Debug, Drop)]
-pub enum Word {
+pub enum LineWord {
     /// A name, or words for people.
     Text(Text),
     /// A number.
@@ -22,5 +22,5 @@ pub struct LogLine {
     /// What happened, in one word.
     pub event: &'static str,
     /// What belongs to it: names and numbers, never a credential.
-    pub words: Vec<Word>,
+    pub words: Vec<LineWord>,
 }

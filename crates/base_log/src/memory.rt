@@ -13,7 +13,7 @@ use std::marker::Model;
 
 /// What a sink in memory does at a try.
 #[derive(Clone, Copy, Debug, PartialEq, Eq)]
-pub enum Answer {
+pub enum SinkAnswer {
     /// It takes so many bytes at most, and one at least.
     Takes(usize),
     /// It would have to wait.
@@ -25,8 +25,8 @@ pub enum Answer {
 /// A sink that answers as it was told, one try after the other, and past that takes all. It keeps what it takes; where memory
 /// runs out it fails. It keeps what its tries came to, too, as long as there is memory for all of them.
 #[derive(Debug, Drop)]
-pub struct MemorySink {
-    answers: Vec<Answer>,
+pub struct MemoryLogSink {
+    answers: Vec<SinkAnswer>,
     next: usize,
     taken: Vec<u8>,
     tried: Option<Vec<Tried>>,
@@ -34,7 +34,7 @@ pub struct MemorySink {
     failures: u64,
 }
 
-impl Model for MemorySink {
+impl Model for MemoryLogSink {
     ghost use Rattle.std.specs.Prelude.{◌≤◌, drop, option_map, vec_len};
     ghost use Rattle.base_log.specs.Sinks.{SinkScript};
 
@@ -45,12 +45,12 @@ impl Model for MemorySink {
     ghost invariant = { λ s. s.next ≤ vec_len s.answers };
 }
 
-impl MemorySink {
+impl MemoryLogSink {
     /// A sink with these answers to come.
-    pub fn new(alloc: Global, answers: Vec<Answer>) -> MemorySink
+    pub fn new(alloc: Global, answers: Vec<SinkAnswer>) -> MemoryLogSink
         ensures { result ≡ record { to_come = answers.items; written = []; tried = Some []; tries = 0; failures = 0 } }
     {
-        MemorySink {
+        MemoryLogSink {
             answers,
             next: 0,
             taken: Vec::new(alloc),
@@ -68,7 +68,7 @@ impl MemorySink {
     }
 
     // The next of its answers, `None` past the last.
-    fn answer(&mut self) -> Option<Answer>
+    fn answer(&mut self) -> Option<SinkAnswer>
         ensures answer { result ≡ next_answer self.old.to_come }
         ensures rest { self.new ≡ record self.old { to_come = drop 1 self.old.to_come } }
     {
@@ -121,7 +121,7 @@ impl MemorySink {
     }
 }
 
-impl LogSink for MemorySink {
+impl LogSink for MemoryLogSink {
     ghost written = { λ s. Some s.written };
 
     ghost tried = { λ s. s.tried };
@@ -154,9 +154,9 @@ impl LogSink for MemorySink {
         self.tries = self.tries.saturating_add(1);
         let tried = match self.answer() {
             None => self.take(piece, piece.len()),
-            Some(Answer::Takes(n)) => self.take(piece, n.max(1).min(piece.len())),
-            Some(Answer::Waits) => Tried::Waits,
-            Some(Answer::Fails) => self.fail(),
+            Some(SinkAnswer::Takes(n)) => self.take(piece, n.max(1).min(piece.len())),
+            Some(SinkAnswer::Waits) => Tried::Waits,
+            Some(SinkAnswer::Fails) => self.fail(),
         };
         self.keep(tried);
         tried

@@ -1,7 +1,7 @@
 ghost use Rattle.std.specs.Prelude.{◌≡◌, ◌++◌, List, ℕ, IfOk, OnOk};
 ghost use Rattle.base_log.specs.Forms.{IsLineText, SayWords, SaysWord};
 
-use crate::line::{LogLine, Word};
+use crate::line::{LogLine, LineWord};
 use base_moment::{Moment, date_text};
 use base_words::push_number;
 use std::alloc::{AllocError, Global};
@@ -22,7 +22,7 @@ pub fn text_of_line(alloc: Global, line: &LogLine) -> Result<Vec<u8>, AllocError
 
 /// Appends the date of a moment.
 pub(crate) fn push_date(alloc: Global, moment: Moment, text: &mut Vec<u8>) -> Result<(), AllocError>
-    ensures { OnOk result ((date : List ℕ) × SaysWord (Word.Moment moment) date × (text.new.items ≡ text.old.items ++ date)) }
+    ensures { OnOk result ((date : List ℕ) × SaysWord (LineWord.Moment moment) date × (text.new.items ≡ text.old.items ++ date)) }
 {
     match date_text(alloc, moment) {
         Ok(date) => text.extend_from_slice(date.list()),
@@ -31,7 +31,7 @@ pub(crate) fn push_date(alloc: Global, moment: Moment, text: &mut Vec<u8>) -> Re
 }
 
 // Appends words, a space before each.
-fn push_words(alloc: Global, words: &[Word], text: &mut Vec<u8>) -> Result<(), AllocError>
+fn push_words(alloc: Global, words: &[LineWord], text: &mut Vec<u8>) -> Result<(), AllocError>
     ensures { OnOk result ((said : List ℕ) × SayWords words.now said × (text.new.items ≡ text.old.items ++ said)) }
 {
     for word in words {
@@ -42,12 +42,12 @@ fn push_words(alloc: Global, words: &[Word], text: &mut Vec<u8>) -> Result<(), A
 }
 
 // Appends a word.
-fn push_word(alloc: Global, word: &Word, text: &mut Vec<u8>) -> Result<(), AllocError>
+fn push_word(alloc: Global, word: &LineWord, text: &mut Vec<u8>) -> Result<(), AllocError>
     ensures { OnOk result ((said : List ℕ) × SaysWord word.now said × (text.new.items ≡ text.old.items ++ said)) }
 {
     match word {
-        Word::Text(name) => text.extend_from_slice(name.list()),
-        Word::Number(number) => push_number(alloc, *number, text),
-        Word::Moment(moment) => push_date(alloc, *moment, text),
+        LineWord::Text(name) => text.extend_from_slice(name.list()),
+        LineWord::Number(number) => push_number(alloc, *number, text),
+        LineWord::Moment(moment) => push_date(alloc, *moment, text),
     }
 }

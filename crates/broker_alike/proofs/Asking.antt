@@ -12,7 +12,7 @@ use Rattle.vault_inventory.proofs.Inventories.{credential_text}
 use Rattle.vault_json.specs.Request.{increment_answer}
 use Rattle.vault_json.specs.Written.{lease_text, renew_text}
 use Rattle.vault_json.proofs.ReadBack.{lease_body_is_read, renew_body_is_read}
-use Rattle.broker_rule.specs.declared.call.Call.TheVariants.{RenewSelf, RenewLease}
+use Rattle.broker_rule.specs.declared.call.ApiCall.TheVariants.{RenewSelf, RenewLease}
 use Rattle.broker_rule.specs.Granted.{AsksRenewal, asked_for, bearer_for, call_for}
 use Rattle.broker_rule.specs.Request.{a_text, asked, asked_of_lease as lease_asked, asked_of_token as token_asked, call_of, increment_in, is_write, lease_id_in, read_or_none}
 use Rattle.vault_exchange.specs.Requests.{asked_as, renewal_request}

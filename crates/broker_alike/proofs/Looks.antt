@@ -13,9 +13,9 @@ use Rattle.vault_inventory.proofs.Inventories.{credential_text}
 use Rattle.vault_http.specs.declared.request.Request.{Request}
 use Rattle.vault_json.specs.Written.{lookup_text, renew_text}
 use Rattle.vault_json.proofs.ReadBack.{lookup_body_is_read}
-use Rattle.broker_rule.specs.declared.row.Row.{Row}
-use Rattle.broker_rule.specs.declared.call.Call.{Call}
-use Rattle.broker_rule.specs.declared.call.Call.TheVariants.{RenewSelf, LookupSelf, LookupLease}
+use Rattle.broker_rule.specs.declared.row.BrokerRow.{BrokerRow}
+use Rattle.broker_rule.specs.declared.call.ApiCall.{ApiCall}
+use Rattle.broker_rule.specs.declared.call.ApiCall.TheVariants.{RenewSelf, LookupSelf, LookupLease}
 use Rattle.broker_rule.specs.declared.refusal.Refusal.{Refusal}
 use Rattle.broker_rule.specs.declared.refusal.Refusal.TheVariants.{BadRequest, PermissionDenied}
 use Rattle.broker_rule.specs.Granted.{call_for}
@@ -37,16 +37,16 @@ look_asked id utf8 =
     ap (λ a. asked_of_lease (a_text (read_or_none a)) (Some None)) (lookup_body_is_read id utf8) ∙ ap (λ a. asked_of_lease a (Some None)) (cond-true (is_utf8 id) (Some id) None (is_utf8-from_IsUtf8 id utf8))
 
 -- a body that names no increment that can be read
-unread : Option Row → Result Subject Refusal
+unread : Option BrokerRow → Result Subject Refusal
 unread None = Err PermissionDenied
 unread (Some r) = Err BadRequest
 
-unread_told : (rows : List Row) (body : List ℕ) → asked RenewSelf body ≡ None → (o : Option Row) → with_bearer rows RenewSelf body o ≡ unread o
+unread_told : (rows : List BrokerRow) (body : List ℕ) → asked RenewSelf body ≡ None → (o : Option BrokerRow) → with_bearer rows RenewSelf body o ≡ unread o
 unfolding unread
 unread_told rows body is None = refl
 unread_told rows body is (Some token) = ap (with_asked rows token) is
 
-unread_subject : (rows : List Row) (r : Request) (c : List ℕ) → r.token ≡ Some c → asked RenewSelf r.body ≡ None → subject rows RenewSelf r ≡ unread (token_with rows c)
+unread_subject : (rows : List BrokerRow) (r : Request) (c : List ℕ) → r.token ≡ Some c → asked RenewSelf r.body ≡ None → subject rows RenewSelf r ≡ unread (token_with rows c)
 unfolding subject
 unread_subject rows r c bears body = ap (λ o. with_bearer rows RenewSelf r.body (bearer rows o)) bears ∙ unread_told rows r.body body (token_with rows c)
 
@@ -70,15 +70,15 @@ unfolding broker_step call_of is_write
 renewal_step l t port c n = refl
 
 module _ (g : Forest) (cs ds : List (List ℕ)) where
-  abbrev R : Row → Row → Type 0
+  abbrev R : BrokerRow → BrokerRow → Type 0
   R = AreRowsAlike g cs ds
 
-  looked_both : (call : Call) (i : ℕ) (x y : Result Subject Refusal) → SubjectsOf g cs ds i x y → AnswersOf g cs ds call i (lookup_answer call x) (lookup_answer call y)
+  looked_both : (call : ApiCall) (i : ℕ) (x y : Result Subject Refusal) → SubjectsOf g cs ds i x y → AnswersOf g cs ds call i (lookup_answer call x) (lookup_answer call y)
   looked_both call i (Err x) (Err y) same = same
   looked_both call i (Ok a) (Ok b) same = (refl, (refl, same.0))
   looked_both call i _ _ same = absurd same
 
-  unread_both : (i : ℕ) (x y : Option Row) → BothFound R (is_token_with (credential_at cs i)) (is_token_with (credential_at ds i)) x y → SubjectsOf g cs ds i (unread x) (unread y)
+  unread_both : (i : ℕ) (x y : Option BrokerRow) → BothFound R (is_token_with (credential_at cs i)) (is_token_with (credential_at ds i)) x y → SubjectsOf g cs ds i (unread x) (unread y)
   unfolding unread
   unread_both i None (Some q) both = absurd both
   unread_both i (Some r) None both = absurd both
@@ -86,7 +86,7 @@ module _ (g : Forest) (cs ds : List (List ℕ)) where
 
   -- ---- a token's renewal by any step
 
-  renewed_both : (i : ℕ) (xs ys : List Row) (r q : Request) → i < length g.entries → (entry_at g.entries i).kind ≡ Token → AllZip R xs ys → r.token ≡ Some (credential_at cs i) → q.token ≡ Some (credential_at ds i) →
+  renewed_both : (i : ℕ) (xs ys : List BrokerRow) (r q : Request) → i < length g.entries → (entry_at g.entries i).kind ≡ Token → AllZip R xs ys → r.token ≡ Some (credential_at cs i) → q.token ≡ Some (credential_at ds i) →
       q.body ≡ r.body → (o : Option (Option ℕ)) → asked RenewSelf r.body ≡ asked_of_token o → SubjectsOf g cs ds i (subject xs RenewSelf r) (subject ys RenewSelf q)
   renewed_both i xs ys r q within token zip bears bears' body None is =
       let c = credential_at cs i in

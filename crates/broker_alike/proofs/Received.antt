@@ -16,8 +16,8 @@ use Rattle.base_moment.specs.Rfc3339.{face}
 use Rattle.plan_forest.specs.declared.entry.Kind.TheVariants.{Lease}
 use Rattle.plan_forest.specs.Forest.{entry_at}
 use Rattle.plan_forest.specs.Push.{is_lease}
-use Rattle.broker_rule.specs.declared.call.Call.TheVariants.{LookupLease}
-use Rattle.broker_rule.specs.declared.row.Row.{Row}
+use Rattle.broker_rule.specs.declared.call.ApiCall.TheVariants.{LookupLease}
+use Rattle.broker_rule.specs.declared.row.BrokerRow.{BrokerRow}
 use Rattle.broker_rule.specs.declared.served.Served.TheVariants as served
 use Rattle.broker_rule.specs.Step.{IsReplyBody, TellsRow, seconds_to}
 use Rattle.vault_http.specs.declared.http_fault.HttpFault.TheVariants as https
@@ -41,10 +41,10 @@ pub small : (end t : ℕ) → seconds_to end t < 2 ^ 32
 small end t = omega arith
 
 -- what a lookup of a lease tells, and that its reply is received
-abbrev pub lease_told : List ℕ → Row → ℕ → Lookup
+abbrev pub lease_told : List ℕ → BrokerRow → ℕ → Lookup
 lease_told id row t = lookups.Lease id row.issued row.renewable (seconds_to row.end t)
 
-pub lease_read : LookedLeaseIsRead → (id : List ℕ) (t : ℕ) (row : Row) (reply : Reply) → row.credential ≡ id → IsUtf8 id → length id ≤ 256 → row.issued ≤ LAST → TellsRow t LookupLease row (served.Reply reply) →
+pub lease_read : LookedLeaseIsRead → (id : List ℕ) (t : ℕ) (row : BrokerRow) (reply : Reply) → row.credential ≡ id → IsUtf8 id → length id ≤ 256 → row.issued ≤ LAST → TellsRow t LookupLease row (served.Reply reply) →
     (received (served.Reply reply) ≡ Ok reply) × (lookup_lease_answer reply.body ≡ Ok (lease_told id row t))
 unfolding IsReplyBody
 lease_read read id t row reply same text brief early is =

@@ -10,7 +10,7 @@ use Rattle.plan_forest.specs.declared.forest.TheConstants.{MAX_ENTRIES}
 use Rattle.plan_forest.specs.Forest.{Forest, entry_at}
 use Rattle.plan_forest.specs.Push.{is_lease}
 use Rattle.vault_inventory.specs.Inventories.{credential_at}
-use Rattle.broker_rule.specs.declared.row.Row.{Row}
+use Rattle.broker_rule.specs.declared.row.BrokerRow.{BrokerRow}
 use Rattle.broker_rule.specs.Renewing.{with_row}
 use Rattle.broker_rule.specs.Rows.{row_named}
 use Rattle.broker_rule.specs.Subject.{is_lease_with, is_token_with, lease_with, token_with}
@@ -70,23 +70,23 @@ if_lease Token b c same = refl
 if_lease Lease b c same = same refl
 
 module _ (g : Forest) (cs ds : List (List ℕ)) where
-  abbrev pub R : Row → Row → Type 0
+  abbrev pub R : BrokerRow → BrokerRow → Type 0
   R = AreRowsAlike g cs ds
 
-  pub name_both : (r q : Row) → R r q → q.name ≡ r.name
-  name_both r q a = ap (λ (x : Row). x.name) a.same
+  pub name_both : (r q : BrokerRow) → R r q → q.name ≡ r.name
+  name_both r q a = ap (λ (x : BrokerRow). x.name) a.same
 
-  kind_both : (r q : Row) → R r q → q.kind ≡ r.kind
-  kind_both r q a = ap (λ (x : Row). x.kind) a.same
+  kind_both : (r q : BrokerRow) → R r q → q.kind ≡ r.kind
+  kind_both r q a = ap (λ (x : BrokerRow). x.kind) a.same
 
-  pub token_both : (i : ℕ) → i < length g.entries → (entry_at g.entries i).kind ≡ Token → (r q : Row) → R r q → is_token_with (credential_at ds i) q ≡ is_token_with (credential_at cs i) r
+  pub token_both : (i : ℕ) → i < length g.entries → (entry_at g.entries i).kind ≡ Token → (r q : BrokerRow) → R r q → is_token_with (credential_at ds i) q ≡ is_token_with (credential_at cs i) r
   unfolding is_token_with
   token_both i within token r q a =
       ap (λ k. not (is_lease k) && bytes_eq q.credential (credential_at ds i)) (kind_both r q a)
       ∙ if_token r.kind (bytes_eq r.credential (credential_at cs i)) (bytes_eq q.credential (credential_at ds i))
       (λ is. eq_both r.credential (credential_at cs i) q.credential (credential_at ds i) (a.found i within (token ∙ sym is)))
 
-  pub lease_both : (i : ℕ) → i < length g.entries → (entry_at g.entries i).kind ≡ Lease → (r q : Row) → R r q → is_lease_with (credential_at ds i) q ≡ is_lease_with (credential_at cs i) r
+  pub lease_both : (i : ℕ) → i < length g.entries → (entry_at g.entries i).kind ≡ Lease → (r q : BrokerRow) → R r q → is_lease_with (credential_at ds i) q ≡ is_lease_with (credential_at cs i) r
   unfolding is_lease_with
   lease_both i within lease r q a =
       ap (λ k. is_lease k && bytes_eq q.credential (credential_at ds i)) (kind_both r q a)
@@ -95,29 +95,29 @@ module _ (g : Forest) (cs ds : List (List ℕ)) where
 
   -- ---- a sweep
 
-  module _ (xs ys : List Row) (zip : AllZip R xs ys) where
-    named_both : (name : List ℕ) → BothFound R (λ (r : Row). bytes_eq r.name name) (λ (r : Row). bytes_eq r.name name) (row_named xs name) (row_named ys name)
+  module _ (xs ys : List BrokerRow) (zip : AllZip R xs ys) where
+    named_both : (name : List ℕ) → BothFound R (λ (r : BrokerRow). bytes_eq r.name name) (λ (r : BrokerRow). bytes_eq r.name name) (row_named xs name) (row_named ys name)
     unfolding row_named
-    named_both name = find_both R (λ (r : Row). bytes_eq r.name name) (λ (r : Row). bytes_eq r.name name) (λ r q a. ap (λ n. bytes_eq n name) (name_both r q a)) xs ys zip
+    named_both name = find_both R (λ (r : BrokerRow). bytes_eq r.name name) (λ (r : BrokerRow). bytes_eq r.name name) (λ r q a. ap (λ n. bytes_eq n name) (name_both r q a)) xs ys zip
 
-    found_passes : (p q test : Row → Bool) (other : Row → Bool) → ((r z : Row) → R r z → other z ≡ test r) → (x y : Option Row) → BothFound R p q x y → passes other y ≡ passes test x
+    found_passes : (p q test : BrokerRow → Bool) (other : BrokerRow → Bool) → ((r z : BrokerRow) → R r z → other z ≡ test r) → (x y : Option BrokerRow) → BothFound R p q x y → passes other y ≡ passes test x
     found_passes p q test other same None None both = refl
     found_passes p q test other same (Some x) (Some y) both = same x y both.0
     found_passes p q test other same _ _ both = absurd both
 
-    parents_pass : (test other : Row → Bool) → ((r z : Row) → R r z → other z ≡ test r) → (o : Option (List ℕ)) → parent_passes other ys o ≡ parent_passes test xs o
+    parents_pass : (test other : BrokerRow → Bool) → ((r z : BrokerRow) → R r z → other z ≡ test r) → (o : Option (List ℕ)) → parent_passes other ys o ≡ parent_passes test xs o
     parents_pass test other same None = refl
     parents_pass test other same (Some name) =
-        found_passes (λ (r : Row). bytes_eq r.name name) (λ (r : Row). bytes_eq r.name name) test other same (row_named xs name) (row_named ys name) (named_both name)
+        found_passes (λ (r : BrokerRow). bytes_eq r.name name) (λ (r : BrokerRow). bytes_eq r.name name) test other same (row_named xs name) (row_named ys name) (named_both name)
 
-    lives_both_of : (n t : ℕ) (r q : Row) → R r q → lives_of n ys t q ≡ lives_of n xs t r
+    lives_both_of : (n t : ℕ) (r q : BrokerRow) → R r q → lives_of n ys t q ≡ lives_of n xs t r
     unfolding lives_of
     lives_both_of zero t r q a = refl
     lives_both_of (suc n) t r q a =
-        ap (λ (x : Row). nat_lt t x.end && parent_passes (lives_of n ys t) ys x.parent) a.same
+        ap (λ (x : BrokerRow). nat_lt t x.end && parent_passes (lives_of n ys t) ys x.parent) a.same
         ∙ ap (λ b. nat_lt t r.end && b) (parents_pass (lives_of n xs t) (lives_of n ys t) (lives_both_of n t) r.parent)
 
-    lives_both : (t : ℕ) (r q : Row) → R r q → lives ys t q ≡ lives xs t r
+    lives_both : (t : ℕ) (r q : BrokerRow) → R r q → lives ys t q ≡ lives xs t r
     unfolding lives
     lives_both t r q a = lives_both_of MAX_ENTRIES t r q a
 
@@ -127,10 +127,10 @@ module _ (g : Forest) (cs ds : List (List ℕ)) where
 
     -- ---- a renewed row
 
-    pub with_both : (r q : Row) → R r q → AllZip R (with_row xs r) (with_row ys q)
+    pub with_both : (r q : BrokerRow) → R r q → AllZip R (with_row xs r) (with_row ys q)
     unfolding with_row
     with_both r q a =
-        map_both R (λ (x : Row). cond (bytes_eq x.name r.name) r x) (λ (y : Row). cond (bytes_eq y.name q.name) q y)
+        map_both R (λ (x : BrokerRow). cond (bytes_eq x.name r.name) r x) (λ (y : BrokerRow). cond (bytes_eq y.name q.name) q y)
         (λ x y b.
         by_test R (bytes_eq x.name r.name) (bytes_eq y.name q.name) r x q y (ap (λ n. bytes_eq n q.name) (name_both x y b) ∙ ap (bytes_eq x.name) (name_both r q a))
         (λ yes'. a) (λ no'. b)) xs ys zip

@@ -14,9 +14,9 @@ use Rattle.plan_forest.proofs.Chains.{cases_Option}
 use Rattle.vault_inventory.specs.Inventories.{IsInventory, Inventory, credential_at}
 use Rattle.vault_inventory.specs.declared.terms.Terms.{Terms}
 use Rattle.vault_http.specs.declared.request.Request.{Request}
-use Rattle.broker_rule.specs.declared.row.Row.{Row}
-use Rattle.broker_rule.specs.declared.call.Call.{Call}
-use Rattle.broker_rule.specs.declared.call.Call.TheVariants.{RenewSelf, RenewLease}
+use Rattle.broker_rule.specs.declared.row.BrokerRow.{BrokerRow}
+use Rattle.broker_rule.specs.declared.call.ApiCall.{ApiCall}
+use Rattle.broker_rule.specs.declared.call.ApiCall.TheVariants.{RenewSelf, RenewLease}
 use Rattle.broker_rule.specs.declared.fault.Fault.{Fault}
 use Rattle.broker_rule.specs.declared.refusal.Refusal.{Refusal}
 use Rattle.broker_rule.specs.declared.refusal.Refusal.TheVariants.{NotRenewable, PermissionDenied, UnsupportedMethod}
@@ -63,30 +63,30 @@ owner_of g forest i within lease =
 
 -- ---- of whom a request speaks
 
-pub by_token : Option ℕ → Option Row → Result Subject Refusal
+pub by_token : Option ℕ → Option BrokerRow → Result Subject Refusal
 by_token n None = Err PermissionDenied
 by_token n (Some r) = Ok (record { row = r; increment = n })
 
-pub by_owner : List Row → List ℕ → Option ℕ → Option Row → Result Subject Refusal
+pub by_owner : List BrokerRow → List ℕ → Option ℕ → Option BrokerRow → Result Subject Refusal
 by_owner rows id n None = Err PermissionDenied
 by_owner rows id n (Some token) = owned token n (lease_with rows id)
 
-token_told : (rows : List Row) (call : Call) (body : List ℕ) (n : Option ℕ) → asked call body ≡ Some (record { lease_id = None; increment = n }) → (o : Option Row) → with_bearer rows call body o ≡ by_token n o
+token_told : (rows : List BrokerRow) (call : ApiCall) (body : List ℕ) (n : Option ℕ) → asked call body ≡ Some (record { lease_id = None; increment = n }) → (o : Option BrokerRow) → with_bearer rows call body o ≡ by_token n o
 unfolding by_token
 token_told rows call body n is None = refl
 token_told rows call body n is (Some token) = ap (with_asked rows token) is
 
-lease_told : (rows : List Row) (call : Call) (body c : List ℕ) (n : Option ℕ) → asked call body ≡ Some (record { lease_id = Some c; increment = n }) → (o : Option Row) → with_bearer rows call body o ≡ by_owner rows c n o
+lease_told : (rows : List BrokerRow) (call : ApiCall) (body c : List ℕ) (n : Option ℕ) → asked call body ≡ Some (record { lease_id = Some c; increment = n }) → (o : Option BrokerRow) → with_bearer rows call body o ≡ by_owner rows c n o
 unfolding by_owner
 lease_told rows call body c n is None = refl
 lease_told rows call body c n is (Some token) = ap (with_asked rows token) is
 
-pub token_subject : (rows : List Row) (call : Call) (r : Request) (c : List ℕ) (n : Option ℕ) → r.token ≡ Some c → asked call r.body ≡ Some (record { lease_id = None; increment = n }) →
+pub token_subject : (rows : List BrokerRow) (call : ApiCall) (r : Request) (c : List ℕ) (n : Option ℕ) → r.token ≡ Some c → asked call r.body ≡ Some (record { lease_id = None; increment = n }) →
     subject rows call r ≡ by_token n (token_with rows c)
 unfolding subject
 token_subject rows call r c n bears body = ap (λ o. with_bearer rows call r.body (bearer rows o)) bears ∙ token_told rows call r.body n body (token_with rows c)
 
-pub lease_subject : (rows : List Row) (call : Call) (r : Request) (owner c : List ℕ) (n : Option ℕ) → r.token ≡ Some owner → asked call r.body ≡ Some (record { lease_id = Some c; increment = n }) →
+pub lease_subject : (rows : List BrokerRow) (call : ApiCall) (r : Request) (owner c : List ℕ) (n : Option ℕ) → r.token ≡ Some owner → asked call r.body ≡ Some (record { lease_id = Some c; increment = n }) →
     subject rows call r ≡ by_owner rows c n (token_with rows owner)
 unfolding subject
 lease_subject rows call r owner c n bears body = ap (λ o. with_bearer rows call r.body (bearer rows o)) bears ∙ lease_told rows call r.body c n body (token_with rows owner)
@@ -95,23 +95,23 @@ allowed : (l : BrokerTable) (t : ℕ) (r : Request) (k : Kind) → is_write r.me
 allowed l t r Token write = cond-true (is_write r.method) (renewal_outcome l t RenewSelf r) (record { answer = refuses UnsupportedMethod; table = l }) write
 allowed l t r Lease write = cond-true (is_write r.method) (renewal_outcome l t RenewLease r) (record { answer = refuses UnsupportedMethod; table = l }) write
 
-credential_hit : (c : List ℕ) (b : Bool) (r : Row) → b && bytes_eq r.credential c ≡ true → r.credential ≡ c
+credential_hit : (c : List ℕ) (b : Bool) (r : BrokerRow) → b && bytes_eq r.credential c ≡ true → r.credential ≡ c
 credential_hit c b r hit = (bytes_decides r.credential c).0 (and_right b (bytes_eq r.credential c) hit)
 
-token_hit : (c : List ℕ) (r : Row) → is_token_with c r ≡ true → r.credential ≡ c
+token_hit : (c : List ℕ) (r : BrokerRow) → is_token_with c r ≡ true → r.credential ≡ c
 unfolding is_token_with
 token_hit c r hit = credential_hit c (not (is_lease r.kind)) r hit
 
-lease_hit : (c : List ℕ) (r : Row) → is_lease_with c r ≡ true → r.credential ≡ c
+lease_hit : (c : List ℕ) (r : BrokerRow) → is_lease_with c r ≡ true → r.credential ≡ c
 unfolding is_lease_with
 lease_hit c r hit = credential_hit c (is_lease r.kind) r hit
 
-same_end : (fault : Option Fault) (t : ℕ) (r q : Row) (x y : Option ℕ) → q ≡ record r { credential = q.credential } → y ≡ x → new_end fault t q y ≡ new_end fault t r x
+same_end : (fault : Option Fault) (t : ℕ) (r q : BrokerRow) (x y : Option ℕ) → q ≡ record r { credential = q.credential } → y ≡ x → new_end fault t q y ≡ new_end fault t r x
 unfolding new_end step_of_row
-same_end fault t r q x y same increment = ap (λ (row : Row). new_end fault t row y) same ∙ ap (new_end fault t r) increment
+same_end fault t r q x y same increment = ap (λ (row : BrokerRow). new_end fault t row y) same ∙ ap (new_end fault t r) increment
 
 module _ (g : Forest) (cs ds : List (List ℕ)) where
-  abbrev R : Row → Row → Type 0
+  abbrev R : BrokerRow → BrokerRow → Type 0
   R = AreRowsAlike g cs ds
 
   abbrev pub SubjectsOf : ℕ → Result Subject Refusal → Result Subject Refusal → Type 0
@@ -119,29 +119,29 @@ module _ (g : Forest) (cs ds : List (List ℕ)) where
   SubjectsOf i (Ok a) (Ok b) = RowsOf g cs ds i a.row b.row × (b.increment ≡ a.increment)
   SubjectsOf i _ _ = ⊥
 
-  abbrev RenewedOf : ℕ → Result Row Refusal → Result Row Refusal → Type 0
+  abbrev RenewedOf : ℕ → Result BrokerRow Refusal → Result BrokerRow Refusal → Type 0
   RenewedOf i (Err x) (Err y) = y ≡ x
   RenewedOf i (Ok r) (Ok q) = RowsOf g cs ds i r q
   RenewedOf i _ _ = ⊥
 
-  pub token_both : (i : ℕ) (n : Option ℕ) (x y : Option Row) → BothFound R (is_token_with (credential_at cs i)) (is_token_with (credential_at ds i)) x y → SubjectsOf i (by_token n x) (by_token n y)
+  pub token_both : (i : ℕ) (n : Option ℕ) (x y : Option BrokerRow) → BothFound R (is_token_with (credential_at cs i)) (is_token_with (credential_at ds i)) x y → SubjectsOf i (by_token n x) (by_token n y)
   unfolding by_token
   token_both i n None None both = refl
   token_both i n (Some r) (Some q) both = ((both.0, (token_hit (credential_at cs i) r both.1.0, token_hit (credential_at ds i) q both.1.1)), refl)
   token_both i n _ _ both = absurd both
 
-  belongs_both : (r q a b : Row) → R r q → R a b → belongs q.parent b.name ≡ belongs r.parent a.name
-  belongs_both r q a b one two = ap (λ n. belongs q.parent n) (name_both g cs ds a b two) ∙ ap (λ (x : Row). belongs x.parent a.name) one.same
+  belongs_both : (r q a b : BrokerRow) → R r q → R a b → belongs q.parent b.name ≡ belongs r.parent a.name
+  belongs_both r q a b one two = ap (λ n. belongs q.parent n) (name_both g cs ds a b two) ∙ ap (λ (x : BrokerRow). belongs x.parent a.name) one.same
 
-  owned_both : (i : ℕ) (n : Option ℕ) (a b : Row) → R a b → (x y : Option Row) → BothFound R (is_lease_with (credential_at cs i)) (is_lease_with (credential_at ds i)) x y → SubjectsOf i (owned a n x) (owned b n y)
+  owned_both : (i : ℕ) (n : Option ℕ) (a b : BrokerRow) → R a b → (x y : Option BrokerRow) → BothFound R (is_lease_with (credential_at cs i)) (is_lease_with (credential_at ds i)) x y → SubjectsOf i (owned a n x) (owned b n y)
   owned_both i n a b two None None both = refl
   owned_both i n a b two (Some r) (Some q) both =
       by_test (SubjectsOf i) (belongs r.parent a.name) (belongs q.parent b.name) (Ok (record { row = r; increment = n })) (Err PermissionDenied) (Ok (record { row = q; increment = n })) (Err PermissionDenied)
       (belongs_both r q a b both.0 two) (λ hit. ((both.0, (lease_hit (credential_at cs i) r both.1.0, lease_hit (credential_at ds i) q both.1.1)), refl)) (λ miss. refl)
   owned_both i n a b two _ _ both = absurd both
 
-  pub owner_both : (i : ℕ) (n : Option ℕ) (c d : List ℕ) (xs ys : List Row) → BothFound R (is_lease_with (credential_at cs i)) (is_lease_with (credential_at ds i)) (lease_with xs (credential_at cs i)) (lease_with ys (credential_at ds i)) →
-      (x y : Option Row) → BothFound R (is_token_with c) (is_token_with d) x y → SubjectsOf i (by_owner xs (credential_at cs i) n x) (by_owner ys (credential_at ds i) n y)
+  pub owner_both : (i : ℕ) (n : Option ℕ) (c d : List ℕ) (xs ys : List BrokerRow) → BothFound R (is_lease_with (credential_at cs i)) (is_lease_with (credential_at ds i)) (lease_with xs (credential_at cs i)) (lease_with ys (credential_at ds i)) →
+      (x y : Option BrokerRow) → BothFound R (is_token_with c) (is_token_with d) x y → SubjectsOf i (by_owner xs (credential_at cs i) n x) (by_owner ys (credential_at ds i) n y)
   unfolding by_owner
   owner_both i n c d xs ys leases None None both = refl
   owner_both i n c d xs ys leases (Some a) (Some b) both = owned_both i n a b both.0 (lease_with xs (credential_at cs i)) (lease_with ys (credential_at ds i)) leases
@@ -149,10 +149,10 @@ module _ (g : Forest) (cs ds : List (List ℕ)) where
 
   -- ---- what a renewal leaves
 
-  with_end : (i m n : ℕ) (r q : Row) → RowsOf g cs ds i r q → n ≡ m → RowsOf g cs ds i (record r { end = m }) (record q { end = n })
+  with_end : (i m n : ℕ) (r q : BrokerRow) → RowsOf g cs ds i r q → n ≡ m → RowsOf g cs ds i (record r { end = m }) (record q { end = n })
   with_end i m n r q a is = (
     record {
-      same = ap (λ (row : Row). record row { end = n }) a.0.same ∙ ap (λ k. record r { end = k; credential = q.credential }) is;
+      same = ap (λ (row : BrokerRow). record row { end = n }) a.0.same ∙ ap (λ k. record r { end = k; credential = q.credential }) is;
       found = a.0.found;
     },
     a.1,
@@ -162,18 +162,18 @@ module _ (g : Forest) (cs ds : List (List ℕ)) where
   granted_both i t fault (Err x) (Err y) same = same
   granted_both i t fault (Ok a) (Ok b) same =
       by_test (RenewedOf i) a.row.renewable b.row.renewable (Ok (record a.row { end = new_end fault t a.row a.increment })) (Err NotRenewable) (Ok (record b.row { end = new_end fault t b.row b.increment })) (Err NotRenewable)
-      (ap (λ (row : Row). row.renewable) same.0.0.same)
+      (ap (λ (row : BrokerRow). row.renewable) same.0.0.same)
       (λ able. with_end i (new_end fault t a.row a.increment) (new_end fault t b.row b.increment) a.row b.row same.0 (same_end fault t a.row b.row a.increment b.increment same.0.0.same same.1))
       (λ unable. refl)
   granted_both i t fault _ _ same = absurd same
 
-  renewal_both : (i t : ℕ) (xs ys : List Row) (call : Call) (r q : Request) (fault : Option Fault) → SubjectsOf i (subject xs call r) (subject ys call q) → RenewedOf i (renewal_by_broker xs t call r fault) (renewal_by_broker ys t call q fault)
+  renewal_both : (i t : ℕ) (xs ys : List BrokerRow) (call : ApiCall) (r q : Request) (fault : Option Fault) → SubjectsOf i (subject xs call r) (subject ys call q) → RenewedOf i (renewal_by_broker xs t call r fault) (renewal_by_broker ys t call q fault)
   unfolding renewal_by_broker
   renewal_both i t xs ys call r q fault same =
       by_test (RenewedOf i) (is_deny fault) (is_deny fault) (Err PermissionDenied) (granted_row fault t (subject xs call r)) (Err PermissionDenied) (granted_row fault t (subject ys call q)) refl
       (λ deny. refl) (λ none. granted_both i t fault (subject xs call r) (subject ys call q) same)
 
-  counted_both : (i n : ℕ) (l m : BrokerTable) (fault : Option Fault) (x y : Result Row Refusal) → AreTablesAlike g cs ds l m → RenewedOf i x y →
+  counted_both : (i n : ℕ) (l m : BrokerTable) (fault : Option Fault) (x y : Result BrokerRow Refusal) → AreTablesAlike g cs ds l m → RenewedOf i x y →
       OutcomesOf g cs ds (call_for (entry_at g.entries i).kind) i (counted_renewal l n (call_for (entry_at g.entries i).kind) fault x) (counted_renewal m n (call_for (entry_at g.entries i).kind) fault y)
   counted_both i n l m fault (Err x) (Err y) a same = (same, record { rows = a.rows; faults = ap (λ fs. without_fault fs n) a.faults; count = refl })
   counted_both i n l m fault (Ok r) (Ok q) a same =
@@ -209,7 +209,7 @@ module _ (g : Forest) (cs ds : List (List ℕ)) where
     u : Inventory
     u = record { forest = g; credentials = ds; terms = us }
 
-    subjects_both : (i : ℕ) (r q : Request) (xs ys : List Row) → i < length g.entries → AllZip R xs ys → AsksRenewal s i r → AsksRenewal u i q →
+    subjects_both : (i : ℕ) (r q : Request) (xs ys : List BrokerRow) → i < length g.entries → AllZip R xs ys → AsksRenewal s i r → AsksRenewal u i q →
         SubjectsOf i (subject xs (call_for (entry_at g.entries i).kind) r) (subject ys (call_for (entry_at g.entries i).kind) q)
     unfolding s u
     subjects_both i r q xs ys within zip a b =

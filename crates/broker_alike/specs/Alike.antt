@@ -8,7 +8,7 @@ use Rattle.plan_forest.specs.declared.entry.Kind.TheVariants.{Lease}
 use Rattle.plan_forest.specs.Forest.{Forest, entry_at}
 use Rattle.vault_inventory.specs.Inventories.{credential_at}
 use Rattle.base_moment.specs.declared.moment.TheConstants.{LAST}
-use Rattle.broker_rule.specs.declared.row.Row.{Row}
+use Rattle.broker_rule.specs.declared.row.BrokerRow.{BrokerRow}
 use Rattle.broker_rule.specs.Table.{BrokerTable}
 
 -- what a forest keeps of the one that was supplied, whatever lookups and renewals tell: as many entries, each of its kind, and
@@ -21,7 +21,7 @@ pub record KeepsSupplied (g h : Forest) : Type 0 where
 
 -- two rows that differ in their credentials alone; the one has the credential of an entry of its kind by these credentials
 -- exactly where the other has it by those
-pub record AreRowsAlike (g : Forest) (cs ds : List (List ℕ)) (r q : Row) : Type 0 where
+pub record AreRowsAlike (g : Forest) (cs ds : List (List ℕ)) (r q : BrokerRow) : Type 0 where
   pub same : q ≡ record r { credential = q.credential }
   pub found : (i : ℕ) → i < length g.entries → (entry_at g.entries i).kind ≡ r.kind → (r.credential ≡ credential_at cs i) ↔ (q.credential ≡ credential_at ds i)
 

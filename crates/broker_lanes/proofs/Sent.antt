@@ -5,12 +5,12 @@ use Rattle.vault_lanes.specs.Serving.{BehindLanes, BrokerIsLeft, ComesOfRequest,
 use Rattle.vault_lanes.specs.declared.allowance.Allowance.{Allowance}
 use Rattle.vault_lanes.specs.declared.coming.Coming.{Coming}
 use Rattle.vault_lanes.specs.declared.fault.LaneFault.{LaneFault}
-use Rattle.vault_lanes.specs.declared.fault.NumberedFault.{NumberedFault}
+use Rattle.vault_lanes.specs.declared.fault.NumberedLaneFault.{NumberedLaneFault}
 use Rattle.vault_lanes.specs.declared.lanes.Ask.{Ask}
 use Rattle.broker_rule.specs.Table.{BrokerTable}
 use Rattle.vault_http.specs.declared.request.Request.{Request}
 
-pub sent_with : (seconds t now : ℕ) (ask : Ask) (old : BehindLanes) (olds news : List Out) (coming : Coming) (table : BrokerTable) (number : ℕ) (fault : Option LaneFault) (faults : List NumberedFault) (a : Allowance)
+pub sent_with : (seconds t now : ℕ) (ask : Ask) (old : BehindLanes) (olds news : List Out) (coming : Coming) (table : BrokerTable) (number : ℕ) (fault : Option LaneFault) (faults : List NumberedLaneFault) (a : Allowance)
     → OutIsPut (record { index = ask.index; comes = Some coming }) olds news → ComesOfRequest fault a old.table t ask.request coming table → number ≡ next_lane_number old.count
     → fault ≡ lane_fault_at faults number → faults ≡ old.faults → a ≡ allowed seconds now ask
     → RequestIsSent seconds t now ask (Some old) olds (Some (record { table = table; faults = old.faults; count = number })) news

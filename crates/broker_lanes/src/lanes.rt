@@ -16,14 +16,14 @@ use vault_exchange::{Exchange, ExchangeFault};
 use vault_http::{DatedReply, Reply, Request};
 use vault_lanes::{
     Allowance, Answered, Ask, Coming, ConnectReason, LaneFault, Lanes, Loss, MOST_WIDTH,
-    NumberedFault, Seat, free_of, loss_of, put, rename, take_out,
+    NumberedLaneFault, Seat, free_of, loss_of, put, rename, take_out,
 };
 
 /// Lanes with a broker's table in memory, with faults by number.
 #[derive(Debug, Drop)]
 pub struct MemoryLanes {
     exchange: MemoryExchange,
-    faults: Vec<NumberedFault>,
+    faults: Vec<NumberedLaneFault>,
     count: u64,
     seconds: u32,
     width: u32,
@@ -64,7 +64,7 @@ impl MemoryLanes {
         ensures unchanged { OnErr result (self.new ≡ self.old) }
     {
         self.faults.reserve(1)?;
-        self.faults.push_reserved(NumberedFault { number, fault });
+        self.faults.push_reserved(NumberedLaneFault { number, fault });
         Ok(())
     }
 
@@ -182,7 +182,7 @@ fn later(answer: Result<DatedReply, Loss>, allowance: &Allowance, millis: u64) -
 
 /// The fault of the request with that number: the first that was given to it.
 #[tactic(auto, unfolding(vault_lanes::specs::Serving::lane_fault_at))]
-fn fault_at(faults: &[NumberedFault], number: u64) -> Option<LaneFault>
+fn fault_at(faults: &[NumberedLaneFault], number: u64) -> Option<LaneFault>
     ensures { result ≡ lane_fault_at faults.now number }
 {
     match faults.iter().find(|numbered| numbered.number == number) {

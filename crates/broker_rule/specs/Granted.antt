@@ -7,15 +7,15 @@ use Rattle.plan_forest.specs.Forest.{end_of, entry_at}
 use Rattle.plan_forest.specs.Renewal.{renewed}
 use Rattle.vault_inventory.specs.Inventories.{Inventory, credential_at}
 use Rattle.vault_http.specs.declared.request.Request.{Request}
-use Rattle.broker_rule.specs.declared.row.Row.{Row}
-use Rattle.broker_rule.specs.declared.asked.Asked.{Asked}
-use Rattle.broker_rule.specs.declared.call.Call.{Call}
-use Rattle.broker_rule.specs.declared.call.Call.TheVariants.{RenewSelf, RenewLease}
+use Rattle.broker_rule.specs.declared.row.BrokerRow.{BrokerRow}
+use Rattle.broker_rule.specs.declared.asked.AskedBody.{AskedBody}
+use Rattle.broker_rule.specs.declared.call.ApiCall.{ApiCall}
+use Rattle.broker_rule.specs.declared.call.ApiCall.TheVariants.{RenewSelf, RenewLease}
 use Rattle.broker_rule.specs.Request.{asked, call_of, is_write}
 use Rattle.broker_rule.specs.Rows.{broker_row}
 
 -- the call that renews an entry of that kind
-abbrev pub call_for : Kind → Call
+abbrev pub call_for : Kind → ApiCall
 call_for Token = RenewSelf
 call_for Lease = RenewLease
 
@@ -25,7 +25,7 @@ bearer_for Token s i = Some (credential_at s.credentials i)
 bearer_for Lease s i = option_map (credential_at s.credentials) (entry_at s.forest.entries i).parent
 
 -- and the body asks for the entry's step, of a lease with its id
-abbrev pub asked_for : Kind → List ℕ → ℕ → Asked
+abbrev pub asked_for : Kind → List ℕ → ℕ → AskedBody
 asked_for Token credential step = record { lease_id = None; increment = Some step }
 asked_for Lease credential step = record { lease_id = Some credential; increment = Some step }
 
@@ -38,5 +38,5 @@ pub record AsksRenewal (s : Inventory) (i : ℕ) (r : Request) : Type 0 where
       ≡ Some (asked_for (entry_at s.forest.entries i).kind (credential_at s.credentials i) (entry_at s.forest.entries i).step)
 
 -- the row of the entry i with the end that the renewal rule gives at t, with a margin of one second
-unfoldable pub renewed_row : Inventory → ℕ → ℕ → Row
+unfoldable pub renewed_row : Inventory → ℕ → ℕ → BrokerRow
 renewed_row s t i = record (broker_row s i) { end = renewed s.forest.entries 1 (end_of s.forest.entries) t i }

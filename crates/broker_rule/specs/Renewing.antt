@@ -5,8 +5,8 @@
 use Rattle.std.specs.Prelude.{ℕ, ◌+◌, ◌==◌, min, Bool, true, false, List, map, Option, Some, None, Result, Ok, Err, bytes_eq, if◌then◌else◌}
 use Rattle.plan_forest.specs.Renewal.{capped}
 use Rattle.vault_http.specs.declared.request.Request.{Request}
-use Rattle.broker_rule.specs.declared.row.Row.{Row}
-use Rattle.broker_rule.specs.declared.call.Call.{Call}
+use Rattle.broker_rule.specs.declared.row.BrokerRow.{BrokerRow}
+use Rattle.broker_rule.specs.declared.call.ApiCall.{ApiCall}
 use Rattle.broker_rule.specs.declared.fault.Fault.{Fault}
 use Rattle.broker_rule.specs.declared.fault.Fault.TheVariants.{Short, Drop, Deny}
 use Rattle.broker_rule.specs.declared.refusal.Refusal.{Refusal}
@@ -19,7 +19,7 @@ asked_or step None = step
 asked_or step (Some increment) = if increment == 0 then step else increment
 
 -- the period where it is not 0, else that
-unfoldable pub step_of_row : Row → Option ℕ → ℕ
+unfoldable pub step_of_row : BrokerRow → Option ℕ → ℕ
 step_of_row row increment = if row.period == 0 then asked_or row.step increment else row.period
 
 -- a grant that a fault shortens
@@ -30,11 +30,11 @@ shortened (Some Drop) t end = end
 shortened (Some Deny) t end = end
 
 -- the end that a renewal at t gives: by the renewal rule, changed by the request's fault
-unfoldable pub new_end : Option Fault → ℕ → Row → Option ℕ → ℕ
+unfoldable pub new_end : Option Fault → ℕ → BrokerRow → Option ℕ → ℕ
 new_end fault t row increment = shortened fault t (capped row.ceiling (t + step_of_row row increment))
 
 -- the row with its new end, or why it is not renewed
-abbrev pub granted_row : Option Fault → ℕ → Result Subject Refusal → Result Row Refusal
+abbrev pub granted_row : Option Fault → ℕ → Result Subject Refusal → Result BrokerRow Refusal
 granted_row fault t (Err refusal) = Err refusal
 granted_row fault t (Ok s) = if s.row.renewable then Ok (record s.row { end = new_end fault t s.row s.increment }) else Err NotRenewable
 
@@ -45,14 +45,14 @@ is_deny (Some Drop) = false
 is_deny (Some Deny) = true
 
 -- what a renewal request with that fault comes to
-unfoldable pub renewal_by_broker : List Row → ℕ → Call → Request → Option Fault → Result Row Refusal
+unfoldable pub renewal_by_broker : List BrokerRow → ℕ → ApiCall → Request → Option Fault → Result BrokerRow Refusal
 renewal_by_broker rows t call r fault = if is_deny fault then Err PermissionDenied else granted_row fault t (subject rows call r)
 
 -- the rows, that of the given name replaced
-unfoldable pub with_row : List Row → Row → List Row
+unfoldable pub with_row : List BrokerRow → BrokerRow → List BrokerRow
 with_row rows row = map (λ r. if bytes_eq r.name row.name then row else r) rows
 
 -- the rows after a renewal request
-abbrev pub rows_after : List Row → Result Row Refusal → List Row
+abbrev pub rows_after : List BrokerRow → Result BrokerRow Refusal → List BrokerRow
 rows_after rows (Err refusal) = rows
 rows_after rows (Ok row) = with_row rows row

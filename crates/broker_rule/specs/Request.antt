@@ -6,15 +6,15 @@ use Rattle.std.specs.Str.{is_utf8}
 use Rattle.vault_json.specs.Request.{increment_answer, lease_id_answer}
 use Rattle.vault_json.specs.declared.fault.ReplyFault.{ReplyFault}
 use Rattle.vault_http.specs.Written.{is_get}
-use Rattle.broker_rule.specs.declared.call.Call.{Call}
-use Rattle.broker_rule.specs.declared.call.Call.TheVariants.{RenewSelf, RenewLease, LookupSelf, LookupLease}
-use Rattle.broker_rule.specs.declared.asked.Asked.{Asked}
+use Rattle.broker_rule.specs.declared.call.ApiCall.{ApiCall}
+use Rattle.broker_rule.specs.declared.call.ApiCall.TheVariants.{RenewSelf, RenewLease, LookupSelf, LookupLease}
+use Rattle.broker_rule.specs.declared.asked.AskedBody.{AskedBody}
 use Rattle.broker_rule.specs.declared.refusal.Refusal.{Refusal}
 use Rattle.broker_rule.specs.declared.refusal.Refusal.TheVariants.{UnsupportedPath, UnsupportedMethod, PermissionDenied, BadRequest, UnknownLease, NotRenewable}
 
 -- ---- the path and the method
 
-unfoldable pub call_of : List ℕ → Option Call
+unfoldable pub call_of : List ℕ → Option ApiCall
 call_of path =
     if bytes_eq path (codes "/v1/auth/token/renew-self") then Some RenewSelf
     else (if bytes_eq path (codes "/v1/sys/leases/renew") then Some RenewLease
@@ -25,13 +25,13 @@ unfoldable pub is_write : List ℕ → Bool
 is_write method = bytes_eq method (codes "POST") || bytes_eq method (codes "PUT")
 
 -- the method is listed for the call
-abbrev pub allows : Call → List ℕ → Bool
+abbrev pub allows : ApiCall → List ℕ → Bool
 allows RenewSelf method = is_write method
 allows RenewLease method = is_write method
 allows LookupSelf method = is_get method
 allows LookupLease method = is_write method
 
-abbrev pub is_renewal : Call → Bool
+abbrev pub is_renewal : ApiCall → Bool
 is_renewal RenewSelf = true
 is_renewal RenewLease = true
 is_renewal LookupSelf = false
@@ -55,17 +55,17 @@ increment_in body = read_or_none (increment_answer body)
 unfoldable pub lease_id_in : List ℕ → Option (List ℕ)
 lease_id_in body = a_text (read_or_none (lease_id_answer body))
 
-abbrev pub asked_of_token : Option (Option ℕ) → Option Asked
+abbrev pub asked_of_token : Option (Option ℕ) → Option AskedBody
 asked_of_token None = None
 asked_of_token (Some increment) = Some (record { lease_id = None; increment = increment })
 
-abbrev pub asked_of_lease : Option (List ℕ) → Option (Option ℕ) → Option Asked
+abbrev pub asked_of_lease : Option (List ℕ) → Option (Option ℕ) → Option AskedBody
 asked_of_lease None increment = None
 asked_of_lease (Some id) None = None
 asked_of_lease (Some id) (Some increment) = Some (record { lease_id = Some id; increment = increment })
 
 -- what the body of a call asks; none where it is not as the call wants it
-unfoldable pub asked : Call → List ℕ → Option Asked
+unfoldable pub asked : ApiCall → List ℕ → Option AskedBody
 asked RenewSelf body = asked_of_token (increment_in body)
 asked RenewLease body = asked_of_lease (lease_id_in body) (increment_in body)
 asked LookupSelf body = asked_of_token (Some None)

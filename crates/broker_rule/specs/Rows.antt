@@ -4,10 +4,10 @@ use Rattle.std.specs.Prelude.{ℕ, List, Option, length, map, option_map, bytes_
 use Rattle.std.specs.List.{find, range_with_len}
 use Rattle.plan_forest.specs.Forest.{entry_at}
 use Rattle.vault_inventory.specs.Inventories.{Inventory, terms_at, credential_at}
-use Rattle.broker_rule.specs.declared.row.Row.{Row}
+use Rattle.broker_rule.specs.declared.row.BrokerRow.{BrokerRow}
 
 -- the row of the entry at an index: its parent by name, and of its terms those that a renewal or a lookup speaks of
-unfoldable pub broker_row : Inventory → ℕ → Row
+unfoldable pub broker_row : Inventory → ℕ → BrokerRow
 broker_row s i = record {
   name = (entry_at s.forest.entries i).name;
   kind = (entry_at s.forest.entries i).kind;
@@ -23,9 +23,9 @@ broker_row s i = record {
 }
 
 -- the rows of an inventory: one for each entry, in their order
-unfoldable pub broker_rows : Inventory → List Row
+unfoldable pub broker_rows : Inventory → List BrokerRow
 broker_rows s = map (broker_row s) (range_with_len 0 (length s.forest.entries))
 
 -- the row of that name, if it is listed
-unfoldable pub row_named : List Row → List ℕ → Option Row
+unfoldable pub row_named : List BrokerRow → List ℕ → Option BrokerRow
 row_named rows name = find (λ r. bytes_eq r.name name) rows

@@ -5,9 +5,9 @@ use Rattle.std.specs.Prelude.{◌≡◌, ℕ, ◌-◌, min, Bool, true, false, L
 use Rattle.vault_inventory.specs.declared.limits.TheConstants.{SPAN_MAX}
 use Rattle.vault_http.specs.declared.request.Request.{Request}
 use Rattle.vault_json.specs.Written.{renewed_self_text, renewed_lease_text, looked_self_text, errors_text, IsLookedLease}
-use Rattle.broker_rule.specs.declared.row.Row.{Row}
-use Rattle.broker_rule.specs.declared.call.Call.{Call}
-use Rattle.broker_rule.specs.declared.call.Call.TheVariants.{RenewSelf, RenewLease, LookupSelf, LookupLease}
+use Rattle.broker_rule.specs.declared.row.BrokerRow.{BrokerRow}
+use Rattle.broker_rule.specs.declared.call.ApiCall.{ApiCall}
+use Rattle.broker_rule.specs.declared.call.ApiCall.TheVariants.{RenewSelf, RenewLease, LookupSelf, LookupLease}
 use Rattle.broker_rule.specs.declared.fault.Fault.{Fault}
 use Rattle.broker_rule.specs.declared.fault.Fault.TheVariants as faults
 use Rattle.broker_rule.specs.declared.refusal.Refusal.{Refusal}
@@ -24,7 +24,7 @@ use Rattle.broker_rule.specs.Sweep.{swept}
 -- what is answered: a refusal, what a call says of a row, or nothing
 pub data BrokerAnswer : Type 0 where
   refuses : Refusal → BrokerAnswer
-  tells : Call → Row → BrokerAnswer
+  tells : ApiCall → BrokerRow → BrokerAnswer
   drops : BrokerAnswer
 
 -- an answer, and the table after it
@@ -39,27 +39,27 @@ is_drop (Some faults.Drop) = true
 is_drop (Some faults.Deny) = false
 
 -- what a lookup answers
-abbrev pub lookup_answer : Call → Result Subject Refusal → BrokerAnswer
+abbrev pub lookup_answer : ApiCall → Result Subject Refusal → BrokerAnswer
 lookup_answer call (Err refusal) = refuses refusal
 lookup_answer call (Ok s) = tells call s.row
 
 -- what a renewal answers; a refusal is sent whatever the fault
-abbrev pub renewal_answer : Call → Option Fault → Result Row Refusal → BrokerAnswer
+abbrev pub renewal_answer : ApiCall → Option Fault → Result BrokerRow Refusal → BrokerAnswer
 renewal_answer call fault (Err refusal) = refuses refusal
 renewal_answer call fault (Ok row) = if is_drop fault then drops else tells call row
 
 -- a renewal request is counted, and its fault is used
-abbrev pub counted_renewal : BrokerTable → ℕ → Call → Option Fault → Result Row Refusal → BrokerOutcome
+abbrev pub counted_renewal : BrokerTable → ℕ → ApiCall → Option Fault → Result BrokerRow Refusal → BrokerOutcome
 counted_renewal l number call fault found = record {
   answer = renewal_answer call fault found;
   table = record { rows = rows_after l.rows found; faults = without_fault l.faults number; count = number };
 }
 
-unfoldable pub renewal_outcome : BrokerTable → ℕ → Call → Request → BrokerOutcome
+unfoldable pub renewal_outcome : BrokerTable → ℕ → ApiCall → Request → BrokerOutcome
 renewal_outcome l t call r =
     counted_renewal l (next_number l.count) call (fault_at l.faults (next_number l.count)) (renewal_by_broker l.rows t call r (fault_at l.faults (next_number l.count)))
 
-abbrev pub by_call : BrokerTable → ℕ → Request → Option Call → BrokerOutcome
+abbrev pub by_call : BrokerTable → ℕ → Request → Option ApiCall → BrokerOutcome
 by_call l t r None = record { answer = refuses UnsupportedPath; table = l }
 by_call l t r (Some call) =
     if allows call r.method then (if is_renewal call then renewal_outcome l t call r else record { answer = lookup_answer call (subject l.rows call r); table = l })
@@ -79,7 +79,7 @@ abbrev pub seconds_to : ℕ → ℕ → ℕ
 seconds_to end t = min (end - t) SPAN_MAX
 
 -- the body of a reply that speaks of a row
-unfoldable pub IsReplyBody : Call → Row → ℕ → List ℕ → Type 0
+unfoldable pub IsReplyBody : ApiCall → BrokerRow → ℕ → List ℕ → Type 0
 IsReplyBody RenewSelf row t body = body ≡ renewed_self_text (seconds_to row.end t) row.renewable
 IsReplyBody RenewLease row t body = body ≡ renewed_lease_text row.credential (seconds_to row.end t) row.renewable
 IsReplyBody LookupSelf row t body = body ≡ looked_self_text (seconds_to row.end t) row.issued row.explicit_max (is_none row.parent) row.renewable row.period
@@ -91,7 +91,7 @@ Refuses refusal (served.Reply reply) = (reply.status ≡ status_of_refusal refus
 Refuses refusal served.Dropped = ⊥
 
 -- a reply that speaks of a row
-abbrev pub TellsRow : ℕ → Call → Row → Served → Type 0
+abbrev pub TellsRow : ℕ → ApiCall → BrokerRow → Served → Type 0
 TellsRow t call row (served.Reply reply) = (reply.status ≡ 200) × IsReplyBody call row t reply.body
 TellsRow t call row served.Dropped = ⊥
 

@@ -12,9 +12,9 @@ mod refusal;
 mod row;
 mod served;
 
-pub use asked::Asked;
-pub use call::Call;
+pub use asked::AskedBody;
+pub use call::ApiCall;
 pub use fault::{Fault, NumberedFault, SetFault};
 pub use refusal::Refusal;
-pub use row::Row;
+pub use row::BrokerRow;
 pub use served::{ServeFault, Served};

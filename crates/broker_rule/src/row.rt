@@ -6,7 +6,7 @@ use std::fmt;
 ///
 /// Source: Vault, "Tokens"; Vault, "Lease, renew, and revoke".
 #[derive(Drop)]
-pub struct Row {
+pub struct BrokerRow {
     /// The name, which no other row has.
     pub name: Name,
     pub kind: Kind,
@@ -30,7 +30,7 @@ pub struct Row {
     pub credential: Text,
 }
 
-impl fmt::Debug for Row {
+impl fmt::Debug for BrokerRow {
     /// Shows all but the credential, which is secret.
     fn fmt<W: fmt::Write>(&self, f: &mut fmt::Formatter<W>) -> fmt::Result {
         f.debug_struct("Row")

@@ -14,9 +14,9 @@ use Rattle.plan_forest.proofs.Chains.{cases_Option}
 use Rattle.vault_inventory.specs.Inventories.{IsInventory, Inventory, credential_at, terms_at}
 use Rattle.vault_inventory.proofs.Inventories.{period_is}
 use Rattle.vault_http.specs.declared.request.Request.{Request}
-use Rattle.broker_rule.specs.declared.row.Row.{Row}
-use Rattle.broker_rule.specs.declared.call.Call.{Call}
-use Rattle.broker_rule.specs.declared.call.Call.TheVariants.{RenewSelf, RenewLease}
+use Rattle.broker_rule.specs.declared.row.BrokerRow.{BrokerRow}
+use Rattle.broker_rule.specs.declared.call.ApiCall.{ApiCall}
+use Rattle.broker_rule.specs.declared.call.ApiCall.TheVariants.{RenewSelf, RenewLease}
 use Rattle.broker_rule.specs.declared.refusal.Refusal.{Refusal}
 use Rattle.broker_rule.specs.declared.refusal.Refusal.TheVariants.{NotRenewable, PermissionDenied, UnknownLease, UnsupportedMethod}
 use Rattle.broker_rule.specs.Faults.{fault_at, next_number}
@@ -145,7 +145,7 @@ lease_has_token s forest i within lease =
     (p, (child, (placed.parent_first p child, token_under es p under))))
 
 -- a token may renew its own lease
-owner_may : (token lease : Row) (increment : Option ℕ) → lease.parent ≡ Some token.name → owned token increment (Some lease) ≡ Ok (record { row = lease; increment = increment })
+owner_may : (token lease : BrokerRow) (increment : Option ℕ) → lease.parent ≡ Some token.name → owned token increment (Some lease) ≡ Ok (record { row = lease; increment = increment })
 owner_may token lease increment over =
     cond-true (belongs lease.parent token.name) (Ok (record { row = lease; increment = increment })) (Err PermissionDenied)
     (ap (λ o. belongs o token.name) over ∙ (bytes_decides token.name token.name).1 refl)
@@ -230,7 +230,7 @@ allowed l t r Token write = cond-true (is_write r.method) (renewal_outcome l t R
 allowed l t r Lease write = cond-true (is_write r.method) (renewal_outcome l t RenewLease r) (record { answer = refused UnsupportedMethod; table = l }) write
 
 renews_plain :
-    (l : BrokerTable) (t : ℕ) (call : Call) (r : Request) → fault_at l.faults (next_number l.count) ≡ None →
+    (l : BrokerTable) (t : ℕ) (call : ApiCall) (r : Request) → fault_at l.faults (next_number l.count) ≡ None →
     renewal_outcome l t call r ≡ counted_renewal l (next_number l.count) call None (renewal_served l.rows t call r None)
 unfolding renewal_outcome
 renews_plain l t call r none = ap (λ f. counted_renewal l (next_number l.count) call f (renewal_served l.rows t call r f)) none
@@ -249,7 +249,7 @@ renewed_by s t i grant =
 
 -- a renewal without a fault is counted with what it comes to
 serves : (s : Inventory) (t i : ℕ) (l : BrokerTable) → swept t l.rows ≡ rows_listed s t → fault_at l.faults (next_number l.count) ≡ None → (r : Request) → AsksRenewal s i r →
-    (found : Result Row Refusal) → renewal_served (rows_listed s t) t (call_for (entry_at s.forest.entries i).kind) r None ≡ found →
+    (found : Result BrokerRow Refusal) → renewal_served (rows_listed s t) t (call_for (entry_at s.forest.entries i).kind) r None ≡ found →
     broker_step l t r ≡ counted_renewal (record { rows = rows_listed s t; faults = l.faults; count = l.count }) (next_number l.count) (call_for (entry_at s.forest.entries i).kind) None found
 unfolding broker_step
 serves s t i l same none r asks found is =
@@ -292,7 +292,7 @@ lease_gone s inventory t i within lease gone =
 
 -- a token that is not listed is not let in
 denied : (s : Inventory) → IsInventory s → (t i : ℕ) → i < length s.forest.entries → (entry_at s.forest.entries i).kind ≡ Token → is_entry_alive s.forest t i ≡ false →
-    (call : Call) (r : Request) → r.token ≡ Some (credential_at s.credentials i) → subject (rows_listed s t) call r ≡ Err PermissionDenied
+    (call : ApiCall) (r : Request) → r.token ≡ Some (credential_at s.credentials i) → subject (rows_listed s t) call r ≡ Err PermissionDenied
 unfolding subject
 denied s inventory t i within token gone call r bears =
     let rows = rows_listed s t in

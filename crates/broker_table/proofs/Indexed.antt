@@ -12,7 +12,7 @@ use Rattle.std.specs.Ordering.{nat_cmp, is_eq}
 use Rattle.plan_forest.specs.declared.entry.Kind.{Kind}
 use Rattle.plan_forest.specs.declared.entry.Kind.TheVariants.{Token, Lease}
 use Rattle.plan_forest.specs.Push.{is_lease}
-use Rattle.broker_rule.specs.declared.row.Row.{Row}
+use Rattle.broker_rule.specs.declared.row.BrokerRow.{BrokerRow}
 use Rattle.broker_table.specs.declared.slot.Slot.{Slot}
 use Rattle.broker_table.specs.declared.index.Index.{Index}
 use Rattle.broker_table.specs.Index.{AreUnlike, EntersRow, FindsSlots, IsFresh, IsIndexOf, IsIndexOfNone, IsIndexed, credentials_of, if_listed, place_in}
@@ -38,7 +38,7 @@ last_or_before : (n i : ℕ) (P : Type 0) → i < n + 1 → (i ≡ n → P) → 
 last_or_before n i P h last before = ⊎_elim (λ below. before below) (λ above. last (omega (arith, above, h))) (cases_lt i n)
 
 found_more :
-    (has : List ℕ → Row → Bool) (slots : List Slot) (n : ℕ) (m new : BTreeMap (Vec ℕ Global) ℕ) (credential : List ℕ) →
+    (has : List ℕ → BrokerRow → Bool) (slots : List Slot) (n : ℕ) (m new : BTreeMap (Vec ℕ Global) ℕ) (credential : List ℕ) →
     ((q : List ℕ) → has q (slot_at slots n).row ≡ bytes_eq credential q) → place_in m credential ≡ None →
     ((q : List ℕ) → place_in new q ≡ cond (bytes_eq credential q) (Some n) (place_in m q)) → FindsSlots m has slots n →
     (q : List ℕ) (i : ℕ) → i < n + 1 → has q (slot_at slots i).row ≡ true → place_in new q ≡ Some i
@@ -55,7 +55,7 @@ found_more has slots n m new credential is none entered finds q i h pass =
 
 -- a slot of the kind, with a credential that none before it has
 finds_more :
-    (has : List ℕ → Row → Bool) (slots : List Slot) (n : ℕ) (m new : BTreeMap (Vec ℕ Global) ℕ) (credential : List ℕ) →
+    (has : List ℕ → BrokerRow → Bool) (slots : List Slot) (n : ℕ) (m new : BTreeMap (Vec ℕ Global) ℕ) (credential : List ℕ) →
     ((q : List ℕ) → has q (slot_at slots n).row ≡ bytes_eq credential q) → place_in m credential ≡ None →
     ((q : List ℕ) → place_in new q ≡ cond (bytes_eq credential q) (Some n) (place_in m q)) → FindsSlots m has slots n → FindsSlots new has slots (n + 1)
 finds_more has slots n m new credential is none entered finds = record {
@@ -69,7 +69,7 @@ finds_more has slots n m new credential is none entered finds = record {
 }
 
 -- a slot of the other kind
-finds_past : (has : List ℕ → Row → Bool) (slots : List Slot) (n : ℕ) (m : BTreeMap (Vec ℕ Global) ℕ) → ((q : List ℕ) → has q (slot_at slots n).row ≡ false) → FindsSlots m has slots n → FindsSlots m has slots (n + 1)
+finds_past : (has : List ℕ → BrokerRow → Bool) (slots : List Slot) (n : ℕ) (m : BTreeMap (Vec ℕ Global) ℕ) → ((q : List ℕ) → has q (slot_at slots n).row ≡ false) → FindsSlots m has slots n → FindsSlots m has slots (n + 1)
 finds_past has slots n m fails finds = record {
   found = λ q i h pass.
       last_or_before n i (place_in m q ≡ Some i) h
@@ -82,19 +82,19 @@ finds_past has slots n m fails finds = record {
       (finds.within q);
 }
 
-token_by : (r : Row) (q : List ℕ) → r.kind ≡ Token → is_token_with q r ≡ bytes_eq r.credential q
+token_by : (r : BrokerRow) (q : List ℕ) → r.kind ≡ Token → is_token_with q r ≡ bytes_eq r.credential q
 unfolding is_token_with
 token_by r q kind = ap (λ k. not (is_lease k) && bytes_eq r.credential q) kind
 
-no_token : (r : Row) (q : List ℕ) → r.kind ≡ Lease → is_token_with q r ≡ false
+no_token : (r : BrokerRow) (q : List ℕ) → r.kind ≡ Lease → is_token_with q r ≡ false
 unfolding is_token_with
 no_token r q kind = ap (λ k. not (is_lease k) && bytes_eq r.credential q) kind
 
-lease_by : (r : Row) (q : List ℕ) → r.kind ≡ Lease → is_lease_with q r ≡ bytes_eq r.credential q
+lease_by : (r : BrokerRow) (q : List ℕ) → r.kind ≡ Lease → is_lease_with q r ≡ bytes_eq r.credential q
 unfolding is_lease_with
 lease_by r q kind = ap (λ k. is_lease k && bytes_eq r.credential q) kind
 
-no_lease : (r : Row) (q : List ℕ) → r.kind ≡ Token → is_lease_with q r ≡ false
+no_lease : (r : BrokerRow) (q : List ℕ) → r.kind ≡ Token → is_lease_with q r ≡ false
 unfolding is_lease_with
 no_lease r q kind = ap (λ k. is_lease k && bytes_eq r.credential q) kind
 
@@ -106,18 +106,18 @@ lease_passes : (k : Kind) (b : Bool) → (is_lease k && b) ≡ true → (k ≡ L
 lease_passes Token b e = absurd cc
 lease_passes Lease b e = (refl, e)
 
-token_like : (r : Row) (q : List ℕ) → is_token_with q r ≡ true → (r.kind ≡ Token) × (r.credential ≡ q)
+token_like : (r : BrokerRow) (q : List ℕ) → is_token_with q r ≡ true → (r.kind ≡ Token) × (r.credential ≡ q)
 unfolding is_token_with
 token_like r q e = let passed = token_passes r.kind (bytes_eq r.credential q) e in (passed.0, (bytes_decides r.credential q).0 passed.1)
 
-lease_like : (r : Row) (q : List ℕ) → is_lease_with q r ≡ true → (r.kind ≡ Lease) × (r.credential ≡ q)
+lease_like : (r : BrokerRow) (q : List ℕ) → is_lease_with q r ≡ true → (r.kind ≡ Lease) × (r.credential ≡ q)
 unfolding is_lease_with
 lease_like r q e = let passed = lease_passes r.kind (bytes_eq r.credential q) e in (passed.0, (bytes_decides r.credential q).0 passed.1)
 
 -- the map has no place for the credential of a row of which none before it has the kind and the credential
 none_before :
-    (has : List ℕ → Row → Bool) (kind : Kind) (slots : List Slot) (n : ℕ) (m : BTreeMap (Vec ℕ Global) ℕ) (r : Row) (credential : List ℕ) (o : Option ℕ) →
-    ((row : Row) → has credential row ≡ true → (row.kind ≡ kind) × (row.credential ≡ credential)) → r.kind ≡ kind → credential ≡ r.credential →
+    (has : List ℕ → BrokerRow → Bool) (kind : Kind) (slots : List Slot) (n : ℕ) (m : BTreeMap (Vec ℕ Global) ℕ) (r : BrokerRow) (credential : List ℕ) (o : Option ℕ) →
+    ((row : BrokerRow) → has credential row ≡ true → (row.kind ≡ kind) × (row.credential ≡ credential)) → r.kind ≡ kind → credential ≡ r.credential →
     o ≡ place_in m credential → IsFresh r slots n → FindsSlots m has slots n → o ≡ None
 none_before has kind slots n m r credential None like of is e fresh finds = refl
 none_before has kind slots n m r credential (Some i) like of is e fresh finds =
@@ -126,7 +126,7 @@ none_before has kind slots n m r credential (Some i) like of is e fresh finds =
     absurd (fresh i there.0 (same.0 ∙ sym of) (same.1 ∙ is))
 
 pub token_enters :
-    {E : Type 0} (answer : Result (Unit {0}) E) (x : Index) (new : BTreeMap (Vec ℕ Global) ℕ) (r : Row) (n : ℕ) (credential : List ℕ) → r.kind ≡ Token → credential ≡ r.credential →
+    {E : Type 0} (answer : Result (Unit {0}) E) (x : Index) (new : BTreeMap (Vec ℕ Global) ℕ) (r : BrokerRow) (n : ℕ) (credential : List ℕ) → r.kind ≡ Token → credential ≡ r.credential →
     OnOk answer ((q : List ℕ) → place_in new q ≡ cond (bytes_eq credential q) (Some n) (place_in x.tokens q)) →
     OnOk answer (EntersRow x (record x { tokens = new }) r n)
 token_enters (Err e) x new r n credential kind is entered = tt
@@ -137,7 +137,7 @@ token_enters (Ok u) x new r n credential kind is entered = λ slots there fresh 
 }
 
 pub lease_enters :
-    {E : Type 0} (answer : Result (Unit {0}) E) (x : Index) (new : BTreeMap (Vec ℕ Global) ℕ) (r : Row) (n : ℕ) (credential : List ℕ) → r.kind ≡ Lease → credential ≡ r.credential →
+    {E : Type 0} (answer : Result (Unit {0}) E) (x : Index) (new : BTreeMap (Vec ℕ Global) ℕ) (r : BrokerRow) (n : ℕ) (credential : List ℕ) → r.kind ≡ Lease → credential ≡ r.credential →
     OnOk answer ((q : List ℕ) → place_in new q ≡ cond (bytes_eq credential q) (Some n) (place_in x.leases q)) →
     OnOk answer (EntersRow x (record x { leases = new }) r n)
 lease_enters (Err e) x new r n credential kind is entered = tt
@@ -153,7 +153,7 @@ fresh_next slots n unlike h = λ i below kind same.
     let here : i ≡ n = unlike i n (omega (arith, below, h)) h kind same in
     omega (arith, here, below)
 
-finds_none : (has : List ℕ → Row → Bool) (slots : List Slot) (m : BTreeMap (Vec ℕ Global) ℕ) → IsEmpty m → FindsSlots m has slots 0
+finds_none : (has : List ℕ → BrokerRow → Bool) (slots : List Slot) (m : BTreeMap (Vec ℕ Global) ℕ) → IsEmpty m → FindsSlots m has slots 0
 finds_none has slots m empty = record {
   found = λ q i h pass. absurd (omega (arith, h));
   within = λ q. subst (λ o. IfSome o (λ i. (i < 0) × (has q (slot_at slots i).row ≡ true))) (sym (none_in m empty q)) tt;
@@ -164,7 +164,7 @@ index_of_none x tokens leases = λ slots. record { tokens = finds_none is_token_
 
 -- ---- the look-ups
 
-pub place_is_within : (has : List ℕ → Row → Bool) (slots : List Slot) (m : BTreeMap (Vec ℕ Global) ℕ) (q : List ℕ) (o : Option ℕ) → o ≡ place_in m q → FindsSlots m has slots (length slots) → IfSome o (λ p. p < length slots)
+pub place_is_within : (has : List ℕ → BrokerRow → Bool) (slots : List Slot) (m : BTreeMap (Vec ℕ Global) ℕ) (q : List ℕ) (o : Option ℕ) → o ≡ place_in m q → FindsSlots m has slots (length slots) → IfSome o (λ p. p < length slots)
 place_is_within has slots m q None e finds = tt
 place_is_within has slots m q (Some p) e finds =
     (subst (λ o. IfSome o (λ i. (i < length slots) × (has q (slot_at slots i).row ≡ true))) (sym e) (finds.within q)).0
@@ -175,7 +175,7 @@ row_if slots p false = refl
 
 -- the slot in the place has the row that the look-up among the listed rows finds
 pub row_by_index :
-    (has : List ℕ → Row → Bool) (slots : List Slot) (m : BTreeMap (Vec ℕ Global) ℕ) (q : List ℕ) (o : Option ℕ) → o ≡ place_in m q → FindsSlots m has slots (length slots) →
+    (has : List ℕ → BrokerRow → Bool) (slots : List Slot) (m : BTreeMap (Vec ℕ Global) ℕ) (q : List ℕ) (o : Option ℕ) → o ≡ place_in m q → FindsSlots m has slots (length slots) →
     option_map (λ i. (slot_at slots i).row) (if_listed slots o) ≡ find (λ r. has q r) (listed_rows slots)
 row_by_index has slots m q None e finds =
     sym (none_listed (λ r. has q r) slots (λ i h. false_from_ne_true (has q (slot_at slots i).row) (λ pass. absurd (let both : None ≡ Some i = e ∙ finds.found q i h pass in cc))))
@@ -195,7 +195,7 @@ listed_by_index slots (Some p) h = listed_if slots p (slot_at slots p).listed re
 -- ---- after a change
 
 finds_like :
-    (has : List ℕ → Row → Bool) (slots now : List Slot) (n : ℕ) (m : BTreeMap (Vec ℕ Global) ℕ) →
+    (has : List ℕ → BrokerRow → Bool) (slots now : List Slot) (n : ℕ) (m : BTreeMap (Vec ℕ Global) ℕ) →
     ((i : ℕ) → i < n → (q : List ℕ) → has q (slot_at now i).row ≡ has q (slot_at slots i).row) → FindsSlots m has slots n → FindsSlots m has now n
 finds_like has slots now n m like finds = record {
   found = λ q i h pass. finds.found q i h (sym (like i h q) ∙ pass);
@@ -206,14 +206,14 @@ finds_like has slots now n m like finds = record {
       (finds.within q);
 }
 
-abbrev pair : Row → Kind × List ℕ
+abbrev pair : BrokerRow → Kind × List ℕ
 pair r = (r.kind, r.credential)
 
-like_token : (a b : Row) (q : List ℕ) → pair a ≡ pair b → is_token_with q a ≡ is_token_with q b
+like_token : (a b : BrokerRow) (q : List ℕ) → pair a ≡ pair b → is_token_with q a ≡ is_token_with q b
 unfolding is_token_with
 like_token a b q e = ap (λ (p : Kind × List ℕ). not (is_lease p.0) && bytes_eq p.1 q) e
 
-like_lease : (a b : Row) (q : List ℕ) → pair a ≡ pair b → is_lease_with q a ≡ is_lease_with q b
+like_lease : (a b : BrokerRow) (q : List ℕ) → pair a ≡ pair b → is_lease_with q a ≡ is_lease_with q b
 unfolding is_lease_with
 like_lease a b q e = ap (λ (p : Kind × List ℕ). is_lease p.0 && bytes_eq p.1 q) e
 
@@ -238,7 +238,7 @@ indexed_like x slots now e is =
       leases = finds_like is_lease_with slots now (length slots) x.leases (λ i h q. like_lease (slot_at now i).row (slot_at slots i).row q (like i h)) is.leases;
     })
 
-relisted_credentials : (test : Row → Bool) (slots : List Slot) → credentials_of (map (relisted test) slots) ≡ credentials_of slots
+relisted_credentials : (test : BrokerRow → Bool) (slots : List Slot) → credentials_of (map (relisted test) slots) ≡ credentials_of slots
 unfolding credentials_of relisted
 relisted_credentials test [] = refl
 relisted_credentials test (s ∷ slots) = ap (λ us. pair s.row ∷ us) (relisted_credentials test slots)

@@ -7,7 +7,7 @@ use Rattle.std.proofs.lemmas.List.{get_or-map, get_or-set_same, get_or-set_other
 use Rattle.std.proofs.Math.Nat.{min-le_left, min-le_right}
 use Rattle.plan_forest.proofs.Carrying.{and_right}
 use Rattle.vault_inventory.specs.Inventories.{Inventory}
-use Rattle.broker_rule.specs.declared.row.Row.{Row}
+use Rattle.broker_rule.specs.declared.row.BrokerRow.{BrokerRow}
 use Rattle.broker_table.specs.declared.slot.Slot.{Slot}
 use Rattle.broker_rule.specs.Sweep.{lives}
 use Rattle.broker_table.specs.Slots.{AreKept, AreSlots, EndFrom, end_in_slot, is_listed, listed_rows, no_slot, relisted, slot_at, slot_of, slots_of, swept_slots}
@@ -21,7 +21,7 @@ later : (t soonest end : ℕ) → t < soonest → soonest ≤ end → nat_lt t e
 later t soonest end before from = grind (arith, nat_tests)
 
 over_all :
-    (test : Row → Bool) (slots : List Slot) (over : Option ℕ) → is_listed slots over ≡ true →
+    (test : BrokerRow → Bool) (slots : List Slot) (over : Option ℕ) → is_listed slots over ≡ true →
     ((p : ℕ) → over ≡ Some p → (slot_at slots p).listed ≡ true → test (slot_at slots p).row ≡ true) → over_passes test slots over ≡ true
 unfolding over_passes
 over_all test slots None listed passes = refl

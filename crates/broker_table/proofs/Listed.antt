@@ -8,7 +8,7 @@ use Rattle.std.proofs.lemmas.List.Folds.{find_at}
 use Rattle.std.proofs.lemmas.List.Quantifiers.{position-Some}
 use Rattle.std.proofs.lemmas.Option.{slice_get-get_or, slice_get_cases}
 use Rattle.std.specs.List.{find, filter, position, position_or_len, slice_get}
-use Rattle.broker_rule.specs.declared.row.Row.{Row}
+use Rattle.broker_rule.specs.declared.row.BrokerRow.{BrokerRow}
 use Rattle.broker_table.specs.declared.slot.Slot.{Slot}
 use Rattle.broker_rule.specs.Rows.{row_named}
 use Rattle.broker_table.specs.Slots.{AreSlots, listed_rows, no_slot, relisted, slot_at}
@@ -20,7 +20,7 @@ slot_read slots i x h e = get_or_read slots i x h e no_slot
 
 pub ruleset reading = (slot_read)
 
-pub none_listed : (f : Row → Bool) (slots : List Slot) → ((i : ℕ) → i < length slots → f (slot_at slots i).row ≡ false) → find f (listed_rows slots) ≡ None
+pub none_listed : (f : BrokerRow → Bool) (slots : List Slot) → ((i : ℕ) → i < length slots → f (slot_at slots i).row ≡ false) → find f (listed_rows slots) ≡ None
 unfolding listed_rows slot_at
 none_listed f [] fails = refl
 none_listed f (s ∷ slots) fails =
@@ -30,7 +30,7 @@ none_listed f (s ∷ slots) fails =
       | false ↦ more
     ]
 
-skipped : (f : Row → Bool) (s : Slot) (slots : List Slot) → f s.row ≡ false → find f (listed_rows (s ∷ slots)) ≡ find f (listed_rows slots)
+skipped : (f : BrokerRow → Bool) (s : Slot) (slots : List Slot) → f s.row ≡ false → find f (listed_rows (s ∷ slots)) ≡ find f (listed_rows slots)
 unfolding listed_rows
 skipped f s slots fails =
     elim s.listed as (λ b. find f (cond b (s.row ∷ listed_rows slots) (listed_rows slots)) ≡ find f (listed_rows slots)) [
@@ -40,7 +40,7 @@ skipped f s slots fails =
 
 -- where one slot alone passes, its row is found if it is listed, and else none
 pub found_listed :
-    (f : Row → Bool) (slots : List Slot) (p : ℕ) → p < length slots → f (slot_at slots p).row ≡ true →
+    (f : BrokerRow → Bool) (slots : List Slot) (p : ℕ) → p < length slots → f (slot_at slots p).row ≡ true →
     ((i : ℕ) → i < length slots → f (slot_at slots i).row ≡ true → i ≡ p) →
     find f (listed_rows slots) ≡ cond (slot_at slots p).listed (Some (slot_at slots p).row) None
 unfolding listed_rows slot_at
@@ -56,7 +56,7 @@ found_listed f (s ∷ slots) (suc p) h pass lone =
     ∙ found_listed f slots p (omega arith) pass (λ i within other_pass. let e : suc i ≡ suc p = lone (suc i) (omega arith) other_pass in omega arith)
 
 -- the first slot that is listed and passes has the first row that passes
-pub found_first : (f : Row → Bool) (slots : List Slot) → option_map (λ (s : Slot). s.row) (find (λ (s : Slot). s.listed && f s.row) slots) ≡ find f (listed_rows slots)
+pub found_first : (f : BrokerRow → Bool) (slots : List Slot) → option_map (λ (s : Slot). s.row) (find (λ (s : Slot). s.listed && f s.row) slots) ≡ find f (listed_rows slots)
 unfolding listed_rows
 found_first f [] = refl
 found_first f (s ∷ slots) =
@@ -68,7 +68,7 @@ found_first f (s ∷ slots) =
     ]
 
 -- the rows of the slots that stay listed are those rows that pass
-pub listed_passing : (f : Row → Bool) (slots : List Slot) → listed_rows (map (relisted f) slots) ≡ filter f (listed_rows slots)
+pub listed_passing : (f : BrokerRow → Bool) (slots : List Slot) → listed_rows (map (relisted f) slots) ≡ filter f (listed_rows slots)
 unfolding listed_rows relisted
 listed_passing f [] = refl
 listed_passing f (s ∷ slots) =
@@ -101,7 +101,7 @@ at_position : {X Y : Type 0} (get : X → Y) (test : X → Bool) (xs : List X) (
 at_position get test xs d = found_at get (nat_lt (position_or_len test xs) (length xs)) (position_or_len test xs) xs d refl ∙ ap (option_map get) (sym (find_at test xs))
 
 -- the first place that is listed and passes has the first row that passes
-pub place_found : (f : Row → Bool) (slots : List Slot) → option_map (λ i. (slot_at slots i).row) (position (λ (s : Slot). s.listed && f s.row) slots) ≡ find f (listed_rows slots)
+pub place_found : (f : BrokerRow → Bool) (slots : List Slot) → option_map (λ i. (slot_at slots i).row) (position (λ (s : Slot). s.listed && f s.row) slots) ≡ find f (listed_rows slots)
 unfolding slot_at
 place_found f slots = at_position (λ (s : Slot). s.row) (λ (s : Slot). s.listed && f s.row) slots no_slot ∙ found_first f slots
 
@@ -109,7 +109,7 @@ and_first : (a b : Bool) → a && b ≡ true → a ≡ true
 and_first true b e = refl
 and_first false b e = e
 
-pub place_within : (f : Row → Bool) (slots : List Slot) (o : Option ℕ) → o ≡ position (λ (s : Slot). s.listed && f s.row) slots → IfSome o (λ i. (i < length slots) × ((slot_at slots i).listed ≡ true))
+pub place_within : (f : BrokerRow → Bool) (slots : List Slot) (o : Option ℕ) → o ≡ position (λ (s : Slot). s.listed && f s.row) slots → IfSome o (λ i. (i < length slots) × ((slot_at slots i).listed ≡ true))
 unfolding slot_at
 place_within f slots None e = tt
 place_within f slots (Some i) e =

@@ -3,24 +3,24 @@ use Rattle.std.proofs.Common.{◌≡◌, ℕ, zero, suc, ◌+◌, ◌<◌, ◌�
 use Rattle.std.proofs.lemmas.List.{drop_all, get_or-append_right, get_or_append_left, get_or-drop, get_or-map, get_or-take, get_or_default, append-nil, length-append, length-drop, length-map, length-take-le, take_all}
 use Rattle.std.proofs.lemmas.List.Edits.{map_over_more}
 use Rattle.plan_forest.specs.declared.forest.TheConstants.{MAX_ENTRIES}
-use Rattle.broker_rule.specs.declared.row.Row.{Row}
+use Rattle.broker_rule.specs.declared.row.BrokerRow.{BrokerRow}
 use Rattle.broker_table.specs.declared.slot.Slot.{Slot}
 use Rattle.broker_rule.specs.Sweep.{lives, lives_of, parent_passes, passes, swept}
 use Rattle.broker_table.specs.Slots.{AreSlots, IsTied, is_listed, listed_rows, no_slot, relisted, slot_at, stands, swept_slots}
 use Rattle.broker_table.proofs.Listed.{listed_passing, named_listed}
 
 -- the slot over another, where there is one, is listed and its row passes
-unfoldable pub over_passes : (Row → Bool) → List Slot → Option ℕ → Bool
+unfoldable pub over_passes : (BrokerRow → Bool) → List Slot → Option ℕ → Bool
 over_passes test slots None = true
 over_passes test slots (Some p) = (slot_at slots p).listed && test (slot_at slots p).row
 
-passes_cond : (test : Row → Bool) (b : Bool) (r : Row) → passes test (cond b (Some r) None) ≡ b && test r
+passes_cond : (test : BrokerRow → Bool) (b : Bool) (r : BrokerRow) → passes test (cond b (Some r) None) ≡ b && test r
 passes_cond test true r = refl
 passes_cond test false r = refl
 
 -- the parent of a row that is listed by name is the one of its place
 by_place :
-    (test : Row → Bool) (slots : List Slot) → AreSlots slots → (i : ℕ) → i < length slots → (over : Option ℕ) (parent : Option (List ℕ)) → IsTied slots i over parent →
+    (test : BrokerRow → Bool) (slots : List Slot) → AreSlots slots → (i : ℕ) → i < length slots → (over : Option ℕ) (parent : Option (List ℕ)) → IsTied slots i over parent →
     parent_passes test (listed_rows slots) parent ≡ over_passes test slots over
 unfolding over_passes
 by_place test slots sound i h None parent tied = ap (parent_passes test (listed_rows slots)) tied
@@ -33,7 +33,7 @@ pub over_below : (slots : List Slot) (i : ℕ) (over : Option ℕ) (parent : Opt
 over_below slots i None parent tied p e = absurd cc
 over_below slots i (Some q) parent tied p e = let same : q ≡ p = cc in let below : q < i = tied.0 in omega arith
 
-same_over : (f g : Row → Bool) (slots : List Slot) (over : Option ℕ) → ((p : ℕ) → over ≡ Some p → f (slot_at slots p).row ≡ g (slot_at slots p).row) → over_passes f slots over ≡ over_passes g slots over
+same_over : (f g : BrokerRow → Bool) (slots : List Slot) (over : Option ℕ) → ((p : ℕ) → over ≡ Some p → f (slot_at slots p).row ≡ g (slot_at slots p).row) → over_passes f slots over ≡ over_passes g slots over
 unfolding over_passes
 same_over f g slots None same = refl
 same_over f g slots (Some p) same = ap (λ b. (slot_at slots p).listed && b) (same p refl)

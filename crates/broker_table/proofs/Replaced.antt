@@ -3,16 +3,16 @@ use Rattle.std.proofs.Common.{◌≡◌, ℕ, zero, suc, ◌<◌, Bool, true, fa
 use Rattle.std.proofs.lemmas.Bool.{cases_eq, cond-true, cond-false, false_from_ne_true}
 use Rattle.std.proofs.lemmas.List.{get_or-set_same, get_or-set_other, length-set}
 use Rattle.std.specs.Cmp.Lexicographic.{bytes_decides}
-use Rattle.broker_rule.specs.declared.row.Row.{Row}
+use Rattle.broker_rule.specs.declared.row.BrokerRow.{BrokerRow}
 use Rattle.broker_table.specs.declared.slot.Slot.{Slot}
 use Rattle.broker_rule.specs.Renewing.{with_row}
 use Rattle.broker_table.specs.Slots.{AreSlots, listed_rows, no_slot, slot_at}
 use Rattle.broker_table.proofs.Living.{like_sound}
 
-abbrev instead : (Row → Bool) → Row → Row → Row
+abbrev instead : (BrokerRow → Bool) → BrokerRow → BrokerRow → BrokerRow
 instead f new r = cond (f r) new r
 
-untouched : (f : Row → Bool) (new : Row) (slots : List Slot) → ((i : ℕ) → i < length slots → f (slot_at slots i).row ≡ false) → listed_rows slots ≡ map (instead f new) (listed_rows slots)
+untouched : (f : BrokerRow → Bool) (new : BrokerRow) (slots : List Slot) → ((i : ℕ) → i < length slots → f (slot_at slots i).row ≡ false) → listed_rows slots ≡ map (instead f new) (listed_rows slots)
 unfolding listed_rows slot_at
 untouched f new [] fails = refl
 untouched f new (s ∷ slots) fails =
@@ -24,7 +24,7 @@ untouched f new (s ∷ slots) fails =
 
 -- where one slot alone passes
 replaced :
-    (f : Row → Bool) (new : Row) (slots : List Slot) (p : ℕ) → p < length slots → f (slot_at slots p).row ≡ true →
+    (f : BrokerRow → Bool) (new : BrokerRow) (slots : List Slot) (p : ℕ) → p < length slots → f (slot_at slots p).row ≡ true →
     ((i : ℕ) → i < length slots → f (slot_at slots i).row ≡ true → i ≡ p) →
     listed_rows (set slots p (record (slot_at slots p) { row = new })) ≡ map (instead f new) (listed_rows slots)
 unfolding listed_rows slot_at

@@ -12,7 +12,7 @@ use Rattle.plan_forest.proofs.Carrying.{and_right}
 use Rattle.plan_forest.proofs.Chains.{all_last_child, all_last_root, cases_Option}
 use Rattle.plan_forest.proofs.Placed.{parents_first}
 use Rattle.vault_inventory.specs.Inventories.{Inventory}
-use Rattle.broker_rule.specs.declared.row.Row.{Row}
+use Rattle.broker_rule.specs.declared.row.BrokerRow.{BrokerRow}
 use Rattle.broker_rule.specs.Rows.{broker_row, broker_rows, row_named}
 use Rattle.broker_rule.specs.Sweep.{lives, lives_of, parent_passes, passes, swept}
 use Rattle.broker_table.specs.Laws.{SweptInventory}
@@ -34,10 +34,10 @@ unfolding is_entry_alive end_of
 alive_child g forest t i p child = all_last_child g.entries (λ k. (entry_at g.entries k).end) (t + 1) i p (parents_first g forest) child
 
 -- of these entries each parent is one too, and is the row that has its name
-abbrev Named : Inventory → List Row → (ℕ → Type 0) → Type 0
+abbrev Named : Inventory → List BrokerRow → (ℕ → Type 0) → Type 0
 Named s rows these = (i p : ℕ) → these i → (entry_at s.forest.entries i).parent ≡ Some p → these p × (row_named rows (entry_at s.forest.entries p).name ≡ Some (broker_row s p))
 
-lives_step : (n : ℕ) (rows : List Row) (t : ℕ) (r : Row) → lives_of (suc n) rows t r ≡ nat_lt t r.end && parent_passes (lives_of n rows t) rows r.parent
+lives_step : (n : ℕ) (rows : List BrokerRow) (t : ℕ) (r : BrokerRow) → lives_of (suc n) rows t r ≡ nat_lt t r.end && parent_passes (lives_of n rows t) rows r.parent
 unfolding lives_of
 lives_step n rows t r = refl
 
@@ -55,7 +55,7 @@ name_in s i = refl
 
 -- a row lives where its entry is alive
 lives_of_alive :
-    (s : Inventory) → IsForest s.forest → (rows : List Row) (t : ℕ) (these : ℕ → Type 0) → Named s rows these → (n i : ℕ) → i < n → these i → lives_of n rows t (broker_row s i) ≡ is_entry_alive s.forest t i
+    (s : Inventory) → IsForest s.forest → (rows : List BrokerRow) (t : ℕ) (these : ℕ → Type 0) → Named s rows these → (n i : ℕ) → i < n → these i → lives_of n rows t (broker_row s i) ≡ is_entry_alive s.forest t i
 lives_of_alive s forest rows t these named zero i below here = absurd (omega arith)
 lives_of_alive s forest rows t these named (suc n) i below here =
     let g = s.forest in
@@ -79,7 +79,7 @@ lives_of_alive s forest rows t these named (suc n) i below here =
     ∙ sym (alive_child g forest t i p child))
 
 lives_alive :
-    (s : Inventory) → IsForest s.forest → (rows : List Row) (t : ℕ) (these : ℕ → Type 0) → Named s rows these → (i : ℕ) → i < length s.forest.entries → these i → lives rows t (broker_row s i) ≡ is_entry_alive s.forest t i
+    (s : Inventory) → IsForest s.forest → (rows : List BrokerRow) (t : ℕ) (these : ℕ → Type 0) → Named s rows these → (i : ℕ) → i < length s.forest.entries → these i → lives rows t (broker_row s i) ≡ is_entry_alive s.forest t i
 unfolding lives
 lives_alive s forest rows t these named i within here = lives_of_alive s forest rows t these named MAX_ENTRIES i (let few = forest.few in omega arith) here
 

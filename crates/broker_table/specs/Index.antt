@@ -5,7 +5,7 @@ use Rattle.std.specs.Cmp.Lexicographic.{slice_cmp}
 use Rattle.std.specs.Ordering.{nat_cmp}
 use Rattle.std.specs.declared.alloc.Global.{Global}
 use Rattle.plan_forest.specs.declared.entry.Kind.{Kind}
-use Rattle.broker_rule.specs.declared.row.Row.{Row}
+use Rattle.broker_rule.specs.declared.row.BrokerRow.{BrokerRow}
 use Rattle.broker_table.specs.declared.slot.Slot.{Slot}
 use Rattle.broker_table.specs.declared.index.Index.{Index}
 use Rattle.broker_table.specs.Slots.{slot_at}
@@ -16,7 +16,7 @@ abbrev pub place_in : BTreeMap (Vec ℕ Global) ℕ → List ℕ → Option ℕ
 place_in places credential = get_by (λ k. slice_cmp nat_cmp credential k.items) places
 
 -- of the first n slots, the map has for each credential the one whose row has it, and no other place
-pub record FindsSlots (places : BTreeMap (Vec ℕ Global) ℕ) (has : List ℕ → Row → Bool) (slots : List Slot) (n : ℕ) : Type 0 where
+pub record FindsSlots (places : BTreeMap (Vec ℕ Global) ℕ) (has : List ℕ → BrokerRow → Bool) (slots : List Slot) (n : ℕ) : Type 0 where
   pub found : (credential : List ℕ) (i : ℕ) → i < n → has credential (slot_at slots i).row ≡ true → place_in places credential ≡ Some i
   pub within : (credential : List ℕ) → IfSome (place_in places credential) (λ i. (i < n) × (has credential (slot_at slots i).row ≡ true))
 
@@ -30,12 +30,12 @@ abbrev pub IsIndexOfNone : Index → Type 0
 IsIndexOfNone index = (slots : List Slot) → IsIndexOf index slots 0
 
 -- none of the first n slots has the kind and the credential of a row
-abbrev pub IsFresh : Row → List Slot → ℕ → Type 0
+abbrev pub IsFresh : BrokerRow → List Slot → ℕ → Type 0
 IsFresh row slots n = (i : ℕ) → i < n → (slot_at slots i).row.kind ≡ row.kind → (slot_at slots i).row.credential ≢ row.credential
 
 -- the row of slot n is entered: if none before it has its kind and its credential, an index of the first n slots becomes
 -- one of the first n + 1
-abbrev pub EntersRow : Index → Index → Row → ℕ → Type 0
+abbrev pub EntersRow : Index → Index → BrokerRow → ℕ → Type 0
 EntersRow old new row n = (slots : List Slot) → (slot_at slots n).row ≡ row → IsFresh row slots n → IsIndexOf old slots n → IsIndexOf new slots (n + 1)
 
 -- no two of the slots have the same kind and the same credential

@@ -6,7 +6,7 @@ use Rattle.plan_forest.specs.Push.{IsForest}
 use Rattle.plan_forest.specs.Renewal.{is_granted}
 use Rattle.vault_inventory.specs.Inventories.{IsInventory, Inventory}
 use Rattle.vault_http.specs.declared.request.Request.{Request}
-use Rattle.broker_rule.specs.declared.row.Row.{Row}
+use Rattle.broker_rule.specs.declared.row.BrokerRow.{BrokerRow}
 use Rattle.broker_rule.specs.declared.refusal.Refusal.{Refusal}
 use Rattle.broker_rule.specs.Faults.{fault_at, next_number, without_fault}
 use Rattle.broker_rule.specs.Granted.{AsksRenewal, call_for, renewed_row}
@@ -20,11 +20,11 @@ use Rattle.broker_rule.specs.Sweep.{lives, swept}
 -- every row that a sweep has kept lives among those that it has kept: each row over it is listed and ends later, which is
 -- what the renewal rule asks with a margin of one second
 abbrev pub SweptRowsLive : Type 0
-SweptRowsLive = (rows : List Row) (t : ℕ) → list_all (lives (swept t rows) t) (swept t rows) ≡ true
+SweptRowsLive = (rows : List BrokerRow) (t : ℕ) → list_all (lives (swept t rows) t) (swept t rows) ≡ true
 
 -- a later sweep takes in an earlier one
 abbrev pub SweptLater : Type 0
-SweptLater = (rows : List Row) (t m : ℕ) → t ≤ m → swept m (swept t rows) ≡ swept m rows
+SweptLater = (rows : List BrokerRow) (t m : ℕ) → t ≤ m → swept m (swept t rows) ≡ swept m rows
 
 -- of the rows of an inventory a sweep leaves exactly those of the entries that are alive
 abbrev pub SweptInventory : Type 0

@@ -5,7 +5,7 @@ use Rattle.plan_forest.specs.Forest.{entry_at}
 use Rattle.plan_forest.specs.declared.entry.Kind.TheVariants.{Token}
 use Rattle.plan_forest.specs.declared.forest.TheConstants.{MAX_ENTRIES}
 use Rattle.vault_inventory.specs.Inventories.{Inventory}
-use Rattle.broker_rule.specs.declared.row.Row.{Row}
+use Rattle.broker_rule.specs.declared.row.BrokerRow.{BrokerRow}
 use Rattle.broker_table.specs.declared.slot.Slot.{Slot}
 use Rattle.broker_rule.specs.Rows.{broker_row}
 use Rattle.broker_rule.specs.Sweep.{lives}
@@ -22,7 +22,7 @@ unfoldable pub slot_at : List Slot → ℕ → Slot
 slot_at slots i = slice_index_or slots i no_slot
 
 -- the rows that are listed
-unfoldable pub listed_rows : List Slot → List Row
+unfoldable pub listed_rows : List Slot → List BrokerRow
 listed_rows [] = []
 listed_rows (s ∷ slots) = if s.listed then s.row ∷ listed_rows slots else listed_rows slots
 
@@ -68,7 +68,7 @@ unfoldable pub stands : List Slot → ℕ → Slot → Bool
 stands slots t s = s.listed && nat_lt t s.row.end && is_listed slots s.over
 
 -- a slot that stays listed where its row passes
-unfoldable pub relisted : (Row → Bool) → Slot → Slot
+unfoldable pub relisted : (BrokerRow → Bool) → Slot → Slot
 relisted test s = record s { listed = s.listed && test s.row }
 
 -- the slots after a sweep

@@ -3,7 +3,7 @@ ghost use Rattle.std.specs.Str.{is_utf8};
 ghost use Rattle.broker_rule.specs.Request.{increment_in, lease_id_in, asked};
 
 use base_moment::{Span, Text};
-use broker_rule::{Asked, Call};
+use broker_rule::{AskedBody, ApiCall};
 use std::alloc::{AllocError, Global};
 use vault_json::{ReplyFault, read_increment, read_lease_id};
 
@@ -11,38 +11,38 @@ use vault_json::{ReplyFault, read_increment, read_lease_id};
 #[tactic(auto, unfolding(broker_rule::specs::Request::asked))]
 pub(crate) fn read_asked(
     alloc: Global,
-    call: Call,
+    call: ApiCall,
     body: &[u8],
-) -> Result<Option<Asked>, AllocError>
+) -> Result<Option<AskedBody>, AllocError>
     ensures { IfOk result (λ a. a ≡ asked call body.now) }
 {
     match call {
-        Call::RenewSelf => match increment_in(alloc, body)? {
+        ApiCall::RenewSelf => match increment_in(alloc, body)? {
             None => Ok(None),
-            Some(increment) => Ok(Some(Asked {
+            Some(increment) => Ok(Some(AskedBody {
                 lease_id: None,
                 increment,
             })),
         },
-        Call::RenewLease => {
+        ApiCall::RenewLease => {
             let Some(lease_id) = lease_id_in(alloc, body)? else {
                 return Ok(None);
             };
             let Some(increment) = increment_in(alloc, body)? else {
                 return Ok(None);
             };
-            Ok(Some(Asked {
+            Ok(Some(AskedBody {
                 lease_id: Some(lease_id),
                 increment,
             }))
         }
-        Call::LookupSelf => Ok(Some(Asked {
+        ApiCall::LookupSelf => Ok(Some(AskedBody {
             lease_id: None,
             increment: None,
         })),
-        Call::LookupLease => match lease_id_in(alloc, body)? {
+        ApiCall::LookupLease => match lease_id_in(alloc, body)? {
             None => Ok(None),
-            Some(lease_id) => Ok(Some(Asked {
+            Some(lease_id) => Ok(Some(AskedBody {
                 lease_id: Some(lease_id),
                 increment: None,
             })),

@@ -3,7 +3,7 @@ ghost use Rattle.broker_table.specs.Found.{NamesText};
 ghost use Rattle.broker_rule.specs.Step.{IsReplyBody, seconds_to};
 
 use base_moment::{Moment, Span, Text};
-use broker_rule::{Call, Row};
+use broker_rule::{ApiCall, BrokerRow};
 use std::alloc::{AllocError, Global};
 use vault_inventory::SPAN_MAX;
 use vault_json::{LookedToken, looked_lease, looked_self, renewed_lease, renewed_self};
@@ -12,8 +12,8 @@ use vault_json::{LookedToken, looked_lease, looked_self, renewed_lease, renewed_
 #[tactic(auto, unfolding(broker_rule::specs::Step::IsReplyBody))]
 pub(crate) fn body_of(
     alloc: Global,
-    call: Call,
-    row: &Row,
+    call: ApiCall,
+    row: &BrokerRow,
     end: u64,
     t: Moment,
 ) -> Result<Text, AllocError>
@@ -22,9 +22,9 @@ pub(crate) fn body_of(
 {
     let seconds = seconds_to(end, t);
     match call {
-        Call::RenewSelf => renewed_self(alloc, seconds, row.renewable),
-        Call::RenewLease => renewed_lease(alloc, row.credential.list(), seconds, row.renewable),
-        Call::LookupSelf => looked_self(
+        ApiCall::RenewSelf => renewed_self(alloc, seconds, row.renewable),
+        ApiCall::RenewLease => renewed_lease(alloc, row.credential.list(), seconds, row.renewable),
+        ApiCall::LookupSelf => looked_self(
             alloc,
             LookedToken {
                 ttl: seconds,
@@ -35,7 +35,7 @@ pub(crate) fn body_of(
                 period: row.period,
             },
         ),
-        Call::LookupLease => looked_lease(
+        ApiCall::LookupLease => looked_lease(
             alloc,
             row.credential.list(),
             row.issued,

@@ -7,14 +7,14 @@ use crate::slot::slot_in;
 use crate::slots::Slots;
 use crate::subject::{Found, subject};
 use base_moment::{Moment, Span};
-use broker_rule::{Call, Fault, Refusal, Row};
+use broker_rule::{ApiCall, Fault, Refusal, BrokerRow};
 use plan_forest::capped;
 use std::alloc::{AllocError, Global};
 use vault_http::Request;
 
 /// The slot of a row that is renewed, and its new end.
 #[derive(Clone, Copy, Debug)]
-pub struct Grant {
+pub struct RenewedRow {
     pub place: usize,
     pub end: u64,
 }
@@ -25,10 +25,10 @@ pub(crate) fn renewal(
     alloc: Global,
     slots: &Slots,
     t: Moment,
-    call: Call,
+    call: ApiCall,
     request: &Request,
     fault: Option<Fault>,
-) -> Result<Result<Grant, Refusal>, AllocError>
+) -> Result<Result<RenewedRow, Refusal>, AllocError>
     ensures granted { IfOk result (λ grant. row_granted slots.now grant ≡ renewal_by_broker (listed_rows slots.now) t call request.now fault) }
     ensures within { IfOk result (λ grant. IsGrantWithin slots.now grant) }
 {
@@ -54,7 +54,7 @@ fn granted(
     t: Moment,
     fault: Option<Fault>,
     found: Result<Found, Refusal>,
-) -> Result<Grant, Refusal>
+) -> Result<RenewedRow, Refusal>
     requires { IsFoundWithin slots.now found }
     ensures granted { row_granted slots.now result ≡ granted_row fault t (subject_at slots.now found) }
     ensures within { IsGrantWithin slots.now result }
@@ -64,7 +64,7 @@ fn granted(
         Ok(found) => {
             let row = &slot_in(slots.list(), found.place).row;
             if row.renewable {
-                Ok(Grant {
+                Ok(RenewedRow {
                     place: found.place,
                     end: new_end(fault, t, row, found.increment),
                 })
@@ -77,7 +77,7 @@ fn granted(
 
 /// The end that a renewal at `t` gives a row: no later than its ceiling, and no later than its fault says.
 #[tactic(auto, unfolding(broker_rule::specs::Renewing::new_end, broker_rule::specs::Renewing::step_of_row))]
-fn new_end(fault: Option<Fault>, t: Moment, row: &Row, increment: Option<Span>) -> u64
+fn new_end(fault: Option<Fault>, t: Moment, row: &BrokerRow, increment: Option<Span>) -> u64
     ensures { result ≡ new_end fault t row.now increment }
 {
     let end = capped(row.ceiling, t.plus(step_of(row, increment)));
@@ -86,7 +86,7 @@ fn new_end(fault: Option<Fault>, t: Moment, row: &Row, increment: Option<Span>) 
 
 /// How long after the renewal the row is to end: its period where it is not 0, else what is asked, else its own step.
 #[tactic(auto, unfolding(broker_rule::specs::Renewing::step_of_row))]
-fn step_of(row: &Row, increment: Option<Span>) -> Span
+fn step_of(row: &BrokerRow, increment: Option<Span>) -> Span
     ensures { result ≡ step_of_row row.now increment }
 {
     if row.period == 0 {

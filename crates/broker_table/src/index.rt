@@ -3,7 +3,7 @@ ghost use Rattle.broker_table.specs.Index.{AreUnlike, EntersRow, IsIndexOfNone, 
 ghost use Rattle.broker_table.specs.Slots.{AreSlots};
 
 use crate::slot::{Slot, slot_in};
-use broker_rule::Row;
+use broker_rule::BrokerRow;
 use plan_forest::Kind;
 use std::alloc::{AllocError, Global};
 use std::collections::BTreeMap;
@@ -50,7 +50,7 @@ impl Index {
     }
 
     /// Enters the row of the next slot.
-    fn add(&mut self, alloc: Global, row: &Row, place: u32) -> Result<(), AllocError>
+    fn add(&mut self, alloc: Global, row: &BrokerRow, place: u32) -> Result<(), AllocError>
         ensures { OnOk result (EntersRow self.old self.new row.now place) }
     {
         let credential = row.credential.list();

@@ -9,14 +9,14 @@ ghost use Rattle.broker_rule.specs.declared.served.Served.TheVariants as served;
 
 use crate::body::body_of;
 use crate::call::{allows, call_of, is_renewal};
-use crate::grant::{Grant, renewal};
+use crate::grant::{RenewedRow, renewal};
 use crate::refusal::{status_of, text_of};
 use crate::slot::slot_in;
 use crate::slots::Slots;
 use crate::subject::subject;
 use crate::table::Table;
 use base_moment::{Moment, Text};
-use broker_rule::{Call, Fault, Refusal, Served};
+use broker_rule::{ApiCall, Fault, Refusal, Served};
 use std::alloc::{AllocError, Global};
 use vault_http::{Reply, Request};
 use vault_json::errors;
@@ -44,7 +44,7 @@ impl Table {
 
     /// Serves a renewal request: it is counted, and its fault is used.
     #[tactic(auto, unfolding(broker_rule::specs::Step::renewal_outcome))]
-    fn renew(&mut self, t: Moment, call: Call, request: &Request) -> Result<Served, AllocError>
+    fn renew(&mut self, t: Moment, call: ApiCall, request: &Request) -> Result<Served, AllocError>
         ensures says { IfOk result (λ served. SaysAnswer t (renewal_outcome self.old t call request.now).answer served) }
         ensures table { OnOk result (self.new ≡ (renewal_outcome self.old t call request.now).table) }
         ensures unchanged { OnErr result (self.new ≡ self.old) }
@@ -75,7 +75,7 @@ fn look_up(
     alloc: Global,
     slots: &Slots,
     t: Moment,
-    call: Call,
+    call: ApiCall,
     request: &Request,
 ) -> Result<Served, AllocError>
     ensures { IfOk result (λ served. SaysAnswer t (lookup_answer call (subject (listed_rows slots.now) call request.now)) served) }
@@ -94,9 +94,9 @@ fn renewed(
     alloc: Global,
     slots: &Slots,
     t: Moment,
-    call: Call,
+    call: ApiCall,
     fault: Option<Fault>,
-    grant: Result<Grant, Refusal>,
+    grant: Result<RenewedRow, Refusal>,
 ) -> Result<Served, AllocError>
     requires within { IsGrantWithin slots.now grant }
     requires text { GrantNamesText call (row_granted slots.now grant) }
@@ -130,7 +130,7 @@ fn is_drop(fault: Option<Fault>) -> bool
 }
 
 /// Gives a row that is renewed its new end.
-fn settle(slots: &mut Slots, grant: Result<Grant, Refusal>)
+fn settle(slots: &mut Slots, grant: Result<RenewedRow, Refusal>)
     requires { IsGrantWithin slots.old grant }
     ensures { listed_rows slots.new ≡ rows_after (listed_rows slots.old) (row_granted slots.old grant) }
 {

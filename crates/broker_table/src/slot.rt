@@ -9,7 +9,7 @@ ghost use Rattle.broker_table.specs.Slots.{AreKept, AreSlots, EndFrom, end_in_sl
 ghost use Rattle.broker_table.specs.Index.{AreUnlike, credentials_of, if_listed};
 
 use base_moment::{Moment, Name};
-use broker_rule::Row;
+use broker_rule::BrokerRow;
 use std::alloc::{AllocError, Global};
 use vault_inventory::Inventory;
 
@@ -17,7 +17,7 @@ use vault_inventory::Inventory;
 /// more: so no other row moves.
 #[derive(Debug, Drop)]
 pub struct Slot {
-    pub row: Row,
+    pub row: BrokerRow,
     /// The place of the row over this one.
     pub over: Option<u32>,
     pub listed: bool,
@@ -44,7 +44,7 @@ fn slot_of(alloc: Global, inventory: &Inventory, index: u32) -> Result<Slot, All
 {
     let entry = inventory.forest().get(index);
     let terms = inventory.terms(index);
-    let row = Row {
+    let row = BrokerRow {
         name: Name::of(alloc, entry.name.list())?,
         kind: entry.kind,
         parent: parent_of(alloc, inventory, entry.parent)?,

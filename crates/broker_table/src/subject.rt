@@ -7,7 +7,7 @@ use crate::asked::read_asked;
 use crate::slot::slot_in;
 use crate::slots::Slots;
 use base_moment::{Name, Span, Text};
-use broker_rule::{Asked, Call, Refusal};
+use broker_rule::{AskedBody, ApiCall, Refusal};
 use std::alloc::{AllocError, Global};
 use vault_http::Request;
 
@@ -23,7 +23,7 @@ pub struct Found {
 pub(crate) fn subject(
     alloc: Global,
     slots: &Slots,
-    call: Call,
+    call: ApiCall,
     request: &Request,
 ) -> Result<Result<Found, Refusal>, AllocError>
     ensures found { IfOk result (λ found. subject_at slots.now found ≡ subject (listed_rows slots.now) call request.now) }
@@ -50,7 +50,7 @@ fn bearer(slots: &Slots, credential: &Option<Text>) -> Option<usize>
 }
 
 /// The place of the row that a body asks about: the token's own, or that of the lease that it names.
-fn named(slots: &Slots, token: usize, asked: &Asked) -> Result<Found, Refusal>
+fn named(slots: &Slots, token: usize, asked: &AskedBody) -> Result<Found, Refusal>
     requires { token < length slots.now }
     ensures found { subject_at slots.now result ≡ named_subject (listed_rows slots.now) (slot_at slots.now token).row asked.now.increment asked.now.lease_id }
     ensures within { IsFoundWithin slots.now result }

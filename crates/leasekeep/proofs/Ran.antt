@@ -11,9 +11,9 @@ use Rattle.program_report.specs.declared.exit.Exit.{Exit}
 use Rattle.program_report.specs.declared.exit.Exit.TheVariants as exits
 use Rattle.state_secrets.specs.Stamps.{FileCall}
 use Rattle.agent_turns.specs.Neighbours.{NeighbourCall}
-use Rattle.agent_turns.specs.declared.change.Change.{Change}
+use Rattle.agent_turns.specs.declared.change.AgentChange.{AgentChange}
 use Rattle.agent_turns.specs.declared.day.EarlyDay.{EarlyDay}
-use Rattle.program_commands.specs.declared.job.Served.{Served}
+use Rattle.program_commands.specs.declared.job.ServeWords.{ServeWords}
 use Rattle.agent_words.specs.declared.demands.Demands.{Demands}
 use Rattle.agent_start.specs.Alone.{IsServedAlone}
 use Rattle.agent_start.specs.declared.start.Start.{Start}
@@ -30,8 +30,8 @@ pub served_alone : {K : Type 0} (had has : Bool) (known_file known : Files) (giv
 served_alone had has known_file known given file d s same named alone =
     subst (λ b. IsServedAlone b known_file known file d s) same (subst (λ f. IsServedAlone had known_file known f d s) named alone)
 
-module _ {D I L S T O E C P F J G : Type 0} (does : NeighbourCall → EarlyDay (Behind (House S T O (Late D I L G) E) L) → EarlyDay (Behind (House S T O (Late D I L G) E) L) → Type 0) (given : EarlyDay (Behind (House S T O (Late D I L G) E) L) → Option (List Change)) (calls : P → Option (List FileCall)) (asked : P → Option (List (DoorCall O))) (known : Bool) (disk_seen : E → DiskState)
+module _ {D I L S T O E C P F J G : Type 0} (does : NeighbourCall → EarlyDay (Behind (House S T O (Late D I L G) E) L) → EarlyDay (Behind (House S T O (Late D I L G) E) L) → Type 0) (given : EarlyDay (Behind (House S T O (Late D I L G) E) L) → Option (List AgentChange)) (calls : P → Option (List FileCall)) (asked : P → Option (List (DoorCall O))) (known : Bool) (disk_seen : E → DiskState)
     (clock_seen : C → ClockSeen) (seen : L → Lanes) (port width : L → ℕ) (file_bytes : F → Files) (secret_bytes : J → Files) where
   pub has_run_by :
-      (served : Served) (log other : S) → log ≡ other → HasRun does given calls asked known disk_seen clock_seen seen port width file_bytes secret_bytes served log → HasRun does given calls asked known disk_seen clock_seen seen port width file_bytes secret_bytes served other
+      (served : ServeWords) (log other : S) → log ≡ other → HasRun does given calls asked known disk_seen clock_seen seen port width file_bytes secret_bytes served log → HasRun does given calls asked known disk_seen clock_seen seen port width file_bytes secret_bytes served other
   has_run_by served log other same has = subst (HasRun does given calls asked known disk_seen clock_seen seen port width file_bytes secret_bytes served) same has

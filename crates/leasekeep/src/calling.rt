@@ -1,6 +1,6 @@
 //! A command of a running agent: it is sent over the agent's control socket.
 use base_device::{Counted, Sink};
-use program_calls::{Call, Ended, connect, follow, request_for, talk, tell_unreached};
+use program_calls::{AgentCall, Ended, connect, follow, request_for, talk, tell_unreached};
 use program_commands::Called;
 use program_report::{PROGRAM, Stop};
 use std::alloc::{AllocError, Global};
@@ -25,7 +25,7 @@ where
         let _exit = Stop::Memory.report(PROGRAM, errors);
         return Ended::Memory;
     };
-    let call = Call {
+    let call = AgentCall {
         program: PROGRAM,
         ask: called.ask,
         socket: socket.as_str(),

@@ -5,7 +5,7 @@ use crate::live::keep;
 use crate::rehearsing::rehearse;
 use crate::serve::serve;
 use base_device::{Counted, Sink, Streams};
-use plan_commands::{Command, obey};
+use plan_commands::{PlanCommand, obey};
 use program_commands::{Job, overview, read_command};
 use program_report::{Exit, PROGRAM, Stop};
 use program_words::{SystemFiles, words};
@@ -69,7 +69,7 @@ fn streams_of<R: Print, I: Read, E: Write>(
 /// Does what a command about plans asks.
 fn do_plans<R: Files + AllocGlobal + Print, E: Sink>(
     rt: &R,
-    command: &Command,
+    command: &PlanCommand,
     errors: &mut E,
 ) -> Exit {
     let mut out = Counted::new(io::writer(rt));

@@ -1,14 +1,14 @@
 use agent_house::Demands;
 use agent_system::{SystemSecrets, folder_of};
 use base_device::{Counted, Sink};
-use program_commands::Linted;
+use program_commands::LintWords;
 use program_lint::run_lint;
 use program_report::Exit;
 use std::io;
 use std::rt::{Clock, Files};
 
 /// Shows what is wrong with an inventory, on standard output.
-pub fn lint<R, E>(rt: &R, linted: &Linted<'_>, errors: &mut E) -> Exit
+pub fn lint<R, E>(rt: &R, linted: &LintWords<'_>, errors: &mut E) -> Exit
 where
     R: Files + AllocGlobal + Print + Clock,
     E: Sink,

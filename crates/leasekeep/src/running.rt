@@ -18,7 +18,7 @@ use base_device::{Sink, Watched};
 use base_disk::{Disk, SystemDisk};
 use base_files::Inputs;
 use base_log::StandardOutput;
-use program_commands::{Room, Served};
+use program_commands::{EndsRoom, ServeWords};
 use program_report::{Exit, PROGRAM, Stop};
 use state_secrets::SecretFiles;
 use std::alloc::{AllocError, Global};
@@ -57,7 +57,7 @@ type SystemLate<'a, R, L> = Late<
 /// are made before it reads what it serves, which is so large that few steps hold it.
 pub fn run<'a, R, E>(
     rt: &'a R,
-    served: &Served<'a>,
+    served: &ServeWords<'a>,
     demands: Demands,
     log: StandardOutput,
     errors: &mut E,
@@ -86,7 +86,7 @@ where
 /// would be past the prover's limit of steps.)
 fn run_among<'a, R, L, P, C, E>(
     rt: &'a R,
-    served: &Served<'a>,
+    served: &ServeWords<'a>,
     demands: Demands,
     parts: Parts<StandardOutput, SystemDisk<'a, R>, L>,
     doors: P,
@@ -143,7 +143,7 @@ fn sources_of<'a, R: Files<File = File> + AllocGlobal>(
 }
 
 /// The state folder, where there is one.
-fn state_folder<'a>(alloc: Global, served: &Served<'a>) -> Option<Folder<'a>>
+fn state_folder<'a>(alloc: Global, served: &ServeWords<'a>) -> Option<Folder<'a>>
     ensures { is_some result ≡ is_some served.now.state }
 {
     match served.state {
@@ -167,7 +167,7 @@ fn ended<E: Sink>(ran: Result<(), AllocError>, errors: &mut E) -> Exit
 /// What an agent is put together from. The only error is lack of memory.
 fn parts_of<'a, R>(
     rt: &'a R,
-    served: &Served<'a>,
+    served: &ServeWords<'a>,
     log: StandardOutput,
     clock: &SystemClock<'_, R>,
 ) -> Result<SystemParts<'a, R>, AllocError>
@@ -192,7 +192,7 @@ where
 }
 
 /// A lane of its own for whoever looks a credential up.
-fn own_lane<'a, R>(rt: &'a R, served: &Served<'a>, clock: &SystemClock<'_, R>) -> SocketLanes<'a, R>
+fn own_lane<'a, R>(rt: &'a R, served: &ServeWords<'a>, clock: &SystemClock<'_, R>) -> SocketLanes<'a, R>
 where
     R: Files<File = File> + AllocGlobal + Net + Clock,
     ensures { IsOwnLane (⟦<SocketLanes<'a, R> as Lanes>⟧.out) (⟦<SocketLanes<'a, R> as Lanes>⟧.seconds) (⟦<SocketLanes<'a, R> as Lanes>⟧.width) served.now result }
@@ -201,13 +201,13 @@ where
 }
 
 /// Where the file of the ends is, if there is room for one. The only error is lack of memory.
-fn ends_path(alloc: Global, room: Option<Room<'_>>) -> Result<Option<String>, AllocError>
+fn ends_path(alloc: Global, room: Option<EndsRoom<'_>>) -> Result<Option<String>, AllocError>
     ensures { IfOk result (λ path. option_map string_bytes path ≡ ends_path room.entry) }
 {
     match room {
         None => Ok(None),
-        Some(Room::Folder(folder)) => Ok(Some(format!(in alloc; "{folder}/ends")?)),
-        Some(Room::Beside(path)) => {
+        Some(EndsRoom::Folder(folder)) => Ok(Some(format!(in alloc; "{folder}/ends")?)),
+        Some(EndsRoom::Beside(path)) => {
             let folder = folder_of(path);
             Ok(Some(format!(in alloc; "{folder}ends")?))
         }
@@ -218,7 +218,7 @@ fn ends_path(alloc: Global, room: Option<Room<'_>>) -> Result<Option<String>, Al
 #[tactic(auto, using(crate::proofs::Widths::least_twice))]
 fn own_lanes<'a, R>(
     rt: &'a R,
-    served: &Served<'a>,
+    served: &ServeWords<'a>,
     clock: &SystemClock<'_, R>,
 ) -> SocketLanes<'a, R>
 where
@@ -234,7 +234,7 @@ where
 /// So many lanes to the broker, which this clock waits for.
 fn lanes_of<'a, R>(
     rt: &'a R,
-    served: &Served<'a>,
+    served: &ServeWords<'a>,
     clock: &SystemClock<'_, R>,
     width: u32,
 ) -> SocketLanes<'a, R>

@@ -18,7 +18,7 @@ use base_files::Inputs;
 use base_log::StandardOutput;
 use plan_forest::MARGIN_MAX;
 use plan_spread::part_by;
-use program_commands::Served;
+use program_commands::ServeWords;
 use program_report::{Exit, PROGRAM, Stop};
 use program_words::SystemFiles;
 use state_secrets::SecretFiles;
@@ -33,7 +33,7 @@ use vault_lanes::{Lanes, SocketLanes};
 /// Serves an inventory, with the log on standard output. It ends where the start is refused, which it tells; else after 2^64 - 1
 /// turns.
 #[tactic(auto, using(agent_run::proofs::Having::is_demanded, agent_run::proofs::Having::has_run_so))]
-pub fn serve<'a, R, E>(rt: &'a R, served: &Served<'a>, output: Stdout, errors: &mut E) -> Exit
+pub fn serve<'a, R, E>(rt: &'a R, served: &ServeWords<'a>, output: Stdout, errors: &mut E) -> Exit
 where
     R: Files<File = File> + AllocGlobal + Net + Clock,
     E: Sink,
@@ -49,7 +49,7 @@ where
 }
 
 /// What is demanded of an inventory that is served by an agent whose name has that number.
-fn demands_of(served: &Served<'_>, number: u64) -> Demands
+fn demands_of(served: &ServeWords<'_>, number: u64) -> Demands
     ensures { result ≡ demands_of served.now number }
 {
     let spread = served.spread.min(u64::from(MARGIN_MAX)) as u32;
@@ -64,7 +64,7 @@ fn demands_of(served: &Served<'_>, number: u64) -> Demands
 /// The number of this agent's name. The only error is lack of memory.
 fn number_of<R: Files<File = File> + AllocGlobal>(
     rt: &R,
-    served: &Served<'_>,
+    served: &ServeWords<'_>,
 ) -> Result<u64, AllocError>
     ensures { IfOk result (IsNumber (option_copied served.now.name) served.now.file.now) }
 {

@@ -1,6 +1,6 @@
 use crate::serving::tell_served;
 use crate::sockets::{serve_path, serve_port};
-use crate::words::{Command, PROGRAM, read_command};
+use crate::words::{BrokerWords, PROGRAM, read_command};
 use base_device::{Counted, Place, Sink, Source};
 use base_files::Inputs;
 use broker_table::Table;
@@ -42,7 +42,7 @@ pub fn run<R: Env + Files + AllocGlobal + Print + Net, I: Read + Drop, E: Write 
 /// Serves so many connections one after the other, then says so.
 fn obey<R: Files + AllocGlobal + Print + Net, I: Inputs, S: Source, E: Sink>(
     rt: &R,
-    command: &Command<'_>,
+    command: &BrokerWords<'_>,
     files: &mut I,
     lines: &mut S,
     errors: &mut E,

@@ -2,7 +2,7 @@ ghost use Rattle.minibroker.specs.Serving.{IsNoneHanded};
 
 use crate::connections::{Connections, Handed};
 use crate::serving::serve_all;
-use crate::words::Command;
+use crate::words::BrokerWords;
 use base_device::{Counted, Sink, Source};
 use broker_table::Table;
 use program_report::{Stop, tell};
@@ -60,7 +60,7 @@ impl<'a> Connections for Paths<'a> {
 pub fn serve_port<R: AllocGlobal + Net, S: Source, E: Sink>(
     rt: &R,
     port: u16,
-    command: &Command<'_>,
+    command: &BrokerWords<'_>,
     table: &mut Table,
     lines: &mut S,
     errors: &mut E,
@@ -93,7 +93,7 @@ pub fn serve_port<R: AllocGlobal + Net, S: Source, E: Sink>(
 pub fn serve_path<R: AllocGlobal + Net + Files, S: Source>(
     rt: &R,
     path: &str,
-    command: &Command<'_>,
+    command: &BrokerWords<'_>,
     table: &mut Table,
     lines: &mut S,
 ) -> Result<(), Stop> {

@@ -26,7 +26,7 @@ const SECONDS_MISTAKE: &str = "SECONDS is not in 1..=60";
 
 /// What the command line asks, with all its values.
 #[derive(Drop)]
-pub struct Command<'a> {
+pub struct BrokerWords<'a> {
     pub file: &'a str,
     /// Where it listens; port 0 stands for any.
     pub place: Place<'a>,
@@ -42,7 +42,7 @@ pub fn read_command<'a, R: AllocGlobal + Print, E: Sink>(
     rt: &R,
     words: &'a [String],
     errors: &mut E,
-) -> Result<Command<'a>, Exit> {
+) -> Result<BrokerWords<'a>, Exit> {
     let alloc = rt.alloc();
     let mut out = Counted::new(io::writer(rt));
     let matches = match parse(alloc, words) {
@@ -59,11 +59,11 @@ pub fn read_command<'a, R: AllocGlobal + Print, E: Sink>(
 }
 
 /// The command, with all its values; or the mistake of the first that is none. After this nothing asks for a value by its name.
-fn command_of<'a>(matches: &ArgMatches<'a>) -> Result<Command<'a>, &'static str> {
+fn command_of<'a>(matches: &ArgMatches<'a>) -> Result<BrokerWords<'a>, &'static str> {
     let file = matches.get_str("FILE").ok_or(FILE_MISTAKE)?;
     let place = matches.get_str("PORT").ok_or(PORT_MISTAKE)?;
     let moments = matches.get_str("MOMENT").ok_or(MOMENT_MISTAKE)?;
-    Ok(Command {
+    Ok(BrokerWords {
         file,
         place: place_to_listen(place).ok_or(PORT_MISTAKE)?,
         count: count_of(matches).ok_or(COUNT_MISTAKE)?,

@@ -20,7 +20,7 @@ use vault_inventory::MOST_INVENTORY;
 
 /// A command about plans, with the paths of the files that it reads.
 #[derive(Debug, Drop)]
-pub enum Command {
+pub enum PlanCommand {
     /// The ends of all entries of an inventory once every entry was asked at each of the moments.
     Ends {
         file: String,
@@ -52,17 +52,17 @@ pub enum Command {
     },
 }
 
-impl Command {
+impl PlanCommand {
     /// The path of its inventory.
     pub fn inventory(&self) -> &str
         ensures { result.now ≡ path_of_command self.now }
     {
         match self {
-            Command::Ends { file, .. }
-            | Command::Plan { file, .. }
-            | Command::Margin { file, .. }
-            | Command::Reach { file, .. }
-            | Command::Check { file, .. } => file,
+            PlanCommand::Ends { file, .. }
+            | PlanCommand::Plan { file, .. }
+            | PlanCommand::Margin { file, .. }
+            | PlanCommand::Reach { file, .. }
+            | PlanCommand::Check { file, .. } => file,
         }
     }
 }
@@ -74,7 +74,7 @@ impl Command {
 /// it was refused. Then `out` is untouched.
 pub fn obey<I: Inputs, W: Sink, E: Sink>(
     alloc: Global,
-    command: &Command,
+    command: &PlanCommand,
     inputs: &mut I,
     out: &mut W,
     errors: &mut E,
@@ -90,7 +90,7 @@ pub fn obey<I: Inputs, W: Sink, E: Sink>(
 /// Does what a command asks over the bytes of its inventory. For `check` it reads the certificate.
 fn obey_over<I: Inputs, W: Sink, E: Sink>(
     alloc: Global,
-    command: &Command,
+    command: &PlanCommand,
     inventory: &[u8],
     inputs: &mut I,
     out: &mut W,
@@ -99,17 +99,17 @@ fn obey_over<I: Inputs, W: Sink, E: Sink>(
     ensures { ObeysOver command.now (I.bytes_at inputs.old) inventory.now result (⟦<W as Watched>⟧.change out.old out.new) (⟦<E as Watched>⟧.change errors.old errors.new) }
 {
     match command {
-        Command::Ends { start, moments, .. } => {
+        PlanCommand::Ends { start, moments, .. } => {
             run_ends(alloc, inventory, *start, moments, out, errors)
         }
-        Command::Plan { start, dates, .. } => {
+        PlanCommand::Plan { start, dates, .. } => {
             plan_in(alloc, inventory, *start, *dates, out, errors)
         }
-        Command::Margin { query, .. } => run_margin(alloc, inventory, query, out, errors),
-        Command::Reach { start, dates, .. } => {
+        PlanCommand::Margin { query, .. } => run_margin(alloc, inventory, query, out, errors),
+        PlanCommand::Reach { start, dates, .. } => {
             run_reach(alloc, inventory, *start, *dates, out, errors)
         }
-        Command::Check {
+        PlanCommand::Check {
             certificate,
             start,
             ..

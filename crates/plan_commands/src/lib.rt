@@ -27,7 +27,7 @@ mod reach_text;
 mod renewed;
 
 pub use check::run_check;
-pub use command::{Command, obey, tell_unread};
+pub use command::{PlanCommand, obey, tell_unread};
 pub use ends::run_ends;
 pub use laws::{
     bound_law, no_secret_shows, own_certificates_are_accepted, secrets_change_no_run, short_law,

@@ -4,7 +4,7 @@ use std::{fmt, io};
 
 /// Why a case is not played.
 #[derive(Clone, Copy)]
-pub enum Fault {
+pub enum CaseFault {
     /// The line with that number cannot be read.
     Line(usize),
     /// The step of that line does not come about.
@@ -13,53 +13,53 @@ pub enum Fault {
     Memory,
 }
 
-impl fmt::Display for Fault {
+impl fmt::Display for CaseFault {
     fn fmt<W: fmt::Write>(&self, f: &mut fmt::Formatter<W>) -> fmt::Result {
         match self {
-            Fault::Line(line) => write!(f, "line {line} of the case cannot be read"),
-            Fault::Step(line) => write!(
+            CaseFault::Line(line) => write!(f, "line {line} of the case cannot be read"),
+            CaseFault::Step(line) => write!(
                 f,
                 "the step of line {line} does not come about: the play cannot begin or go on with it"
             ),
-            Fault::Streams => write!(f, "standard streams"),
-            Fault::Memory => write!(f, "out of memory"),
+            CaseFault::Streams => write!(f, "standard streams"),
+            CaseFault::Memory => write!(f, "out of memory"),
         }
     }
 }
 
-impl Fault {
+impl CaseFault {
     /// The exit status.
     pub fn code(self) -> u8 {
         match self {
-            Fault::Line(_) | Fault::Step(_) => 2,
-            Fault::Streams | Fault::Memory => 1,
+            CaseFault::Line(_) | CaseFault::Step(_) => 2,
+            CaseFault::Streams | CaseFault::Memory => 1,
         }
     }
 }
 
-impl From<InputFault> for Fault {
-    fn from(fault: InputFault) -> Fault {
+impl From<InputFault> for CaseFault {
+    fn from(fault: InputFault) -> CaseFault {
         match fault {
-            InputFault::OutOfMemory => Fault::Memory,
-            InputFault::ReadFailed | InputFault::TooLong => Fault::Streams,
+            InputFault::OutOfMemory => CaseFault::Memory,
+            InputFault::ReadFailed | InputFault::TooLong => CaseFault::Streams,
         }
     }
 }
 
-impl From<io::Error> for Fault {
-    fn from(_error: io::Error) -> Fault {
-        Fault::Streams
+impl From<io::Error> for CaseFault {
+    fn from(_error: io::Error) -> CaseFault {
+        CaseFault::Streams
     }
 }
 
-impl From<AllocError> for Fault {
-    fn from(_error: AllocError) -> Fault {
-        Fault::Memory
+impl From<AllocError> for CaseFault {
+    fn from(_error: AllocError) -> CaseFault {
+        CaseFault::Memory
     }
 }
 
-impl<T: Drop> From<AllocFailed<T>> for Fault {
-    fn from(_error: AllocFailed<T>) -> Fault {
-        Fault::Memory
+impl<T: Drop> From<AllocFailed<T>> for CaseFault {
+    fn from(_error: AllocFailed<T>) -> CaseFault {
+        CaseFault::Memory
     }
 }

@@ -13,8 +13,8 @@ mod words;
 
 pub use drawers::{Drawer, Stamping};
 pub use ending::Ending;
-pub use fault::Fault;
+pub use fault::CaseFault;
 pub use places::put;
-pub use settings::{BOOT, ENDS, FILE, Setting, Store, put_file};
-pub use steps::{Case, Step, read_case};
+pub use settings::{BOOT, ENDS, FILE, Setting, DiskBefore, put_file};
+pub use steps::{Case, CaseStep, read_case};
 pub use words::{Stretch, answer, failing, lane_fault, number, readings, small};

@@ -1,16 +1,16 @@
 //! What a play begins with.
 use crate::drawers::{Drawer, Stamping};
 use crate::ending::{Ending, files_of};
-use crate::fault::Fault;
+use crate::fault::CaseFault;
 use crate::places::put;
-use crate::steps::Step;
+use crate::steps::CaseStep;
 use crate::words::{answer, failing, lane_fault, number, readings, small};
 use base_clock::Reading;
-use base_disk::{Failing, Held, MemoryDisk, Stored, Why};
-use base_log::{Answer, Form};
+use base_disk::{Failing, Held, MemoryDisk, Stored, DiskTrouble};
+use base_log::{SinkAnswer, Form};
 use std::alloc::{AllocError, Global};
 use std::mem;
-use vault_lanes::NumberedFault;
+use vault_lanes::NumberedLaneFault;
 
 /// The inventory's file.
 pub const FILE: &str = "web.toml";
@@ -40,14 +40,14 @@ pub struct Setting {
     pub broker: Vec<u8>,
     /// The one that it knows to who looks ahead, and what goes wrong with one of these requests.
     pub ahead: Vec<u8>,
-    pub ahead_fault: Option<NumberedFault>,
+    pub ahead_fault: Option<NumberedLaneFault>,
     /// Whether credentials are looked up before they are taken, and what goes wrong with one of these requests.
     pub looks_up: bool,
-    pub lookup_fault: Option<NumberedFault>,
+    pub lookup_fault: Option<NumberedLaneFault>,
     /// What the clocks read, one reading after the other; the first is that of the start.
     pub readings: Vec<Option<Reading>>,
     /// What the log's reader answers to its calls, one after the other.
-    pub answers: Vec<Answer>,
+    pub answers: Vec<SinkAnswer>,
     /// The number of the call of the first guest's connection that fails.
     pub guest_fails: u64,
     /// The text of the inventory that is served.
@@ -55,15 +55,15 @@ pub struct Setting {
     /// From when on the state folder can be used, in milliseconds of the clock that never steps, where it cannot be at the start.
     pub later: Option<u64>,
     /// Where changes are kept, and where ends.
-    pub state: Store,
-    pub ends: Store,
+    pub state: DiskBefore,
+    pub ends: DiskBefore,
     /// The files of credentials.
     pub drawer: Drawer,
 }
 
 /// A disk before a start.
 #[derive(Drop)]
-pub struct Store {
+pub struct DiskBefore {
     /// Which of its calls fail; `None` where there is no such disk.
     pub failing: Option<Failing>,
     pub files: Vec<Stored>,
@@ -73,9 +73,9 @@ pub struct Store {
     pub ending: Ending,
 }
 
-impl Store {
-    fn new(alloc: Global) -> Store {
-        Store {
+impl DiskBefore {
+    fn new(alloc: Global) -> DiskBefore {
+        DiskBefore {
             failing: None,
             files: Vec::new(alloc),
             kept: None,
@@ -84,7 +84,7 @@ impl Store {
     }
 
     // Its one file has the text of this step.
-    fn hold(&mut self, alloc: Global, path: &str, step: &Step<'_>) -> Result<(), AllocError> {
+    fn hold(&mut self, alloc: Global, path: &str, step: &CaseStep<'_>) -> Result<(), AllocError> {
         let bytes = step.bytes(alloc)?;
         self.files = Vec::new(alloc);
         self.push(alloc, path, Held { mode: 0o600, bytes })
@@ -118,8 +118,8 @@ impl Store {
     pub fn disk(&mut self, alloc: Global, failing: Failing) -> MemoryDisk {
         let files = mem::replace(&mut self.files, Vec::new(alloc));
         match mem::replace(&mut self.kept, None) {
-            None => MemoryDisk::new(alloc, files, failing, Why::Full),
-            Some(kept) => MemoryDisk::after_kill(alloc, files, kept, failing, Why::Full),
+            None => MemoryDisk::new(alloc, files, failing, DiskTrouble::Full),
+            Some(kept) => MemoryDisk::after_kill(alloc, files, kept, failing, DiskTrouble::Full),
         }
     }
 
@@ -154,14 +154,14 @@ impl Setting {
             guest_fails: u64::MAX,
             file: Vec::new(alloc),
             later: None,
-            state: Store::new(alloc),
-            ends: Store::new(alloc),
+            state: DiskBefore::new(alloc),
+            ends: DiskBefore::new(alloc),
             drawer: Drawer::new(alloc),
         }
     }
 
     /// Takes what the first steps say, up to the first one at which something happens, and gives the number of those.
-    pub fn take_first(&mut self, steps: &[Step<'_>]) -> Result<usize, Fault> {
+    pub fn take_first(&mut self, steps: &[CaseStep<'_>]) -> Result<usize, CaseFault> {
         let mut first = steps.len();
         for (number, step) in steps.iter().enumerate() {
             if !self.take(step)? {
@@ -179,7 +179,7 @@ impl Setting {
     }
 
     // Takes what a step says, where that is what a play begins with.
-    fn take(&mut self, step: &Step<'_>) -> Result<bool, Fault> {
+    fn take(&mut self, step: &CaseStep<'_>) -> Result<bool, CaseFault> {
         let alloc = self.alloc;
         match step.words.as_slice() {
             ["inventory"] => {
@@ -215,7 +215,7 @@ impl Setting {
     }
 
     // The same of one that has no text.
-    fn take_words(&mut self, words: &[&str], unread: Fault) -> Result<bool, Fault> {
+    fn take_words(&mut self, words: &[&str], unread: CaseFault) -> Result<bool, CaseFault> {
         match words {
             ["form", "json"] => self.form = Form::Json,
             ["clock", words @ ..] => self.take_readings(words, unread)?,
@@ -239,7 +239,7 @@ impl Setting {
         Ok(true)
     }
 
-    fn take_readings(&mut self, words: &[&str], unread: Fault) -> Result<(), Fault> {
+    fn take_readings(&mut self, words: &[&str], unread: CaseFault) -> Result<(), CaseFault> {
         for word in words {
             let readings = readings(word, unread)?;
             for number in 0..readings.count {
@@ -250,9 +250,9 @@ impl Setting {
     }
 
     /// The log's reader takes all up to the call with that number, to which it answers this.
-    pub fn answer_at(&mut self, call: u64, answer: Answer) -> Result<(), AllocError> {
+    pub fn answer_at(&mut self, call: u64, answer: SinkAnswer) -> Result<(), AllocError> {
         for _ in self.answers.len() as u64..call {
-            self.answers.push(Answer::Takes(usize::MAX))?;
+            self.answers.push(SinkAnswer::Takes(usize::MAX))?;
         }
         self.answers.push(answer)?;
         Ok(())
@@ -273,8 +273,8 @@ impl Setting {
 }
 
 /// What goes wrong with the request of that number.
-fn numbered_fault(request: &str, fault: &[&str], unread: Fault) -> Result<NumberedFault, Fault> {
-    Ok(NumberedFault {
+fn numbered_fault(request: &str, fault: &[&str], unread: CaseFault) -> Result<NumberedLaneFault, CaseFault> {
+    Ok(NumberedLaneFault {
         number: number(request, unread)?,
         fault: lane_fault(fault, unread)?,
     })
@@ -291,11 +291,11 @@ fn boot(alloc: Global) -> Result<Held, AllocError> {
 /// Puts the file of a step into a drawer, as its words have it.
 pub fn put_file(
     alloc: Global,
-    step: &Step<'_>,
+    step: &CaseStep<'_>,
     path: &str,
     words: &[&str],
     drawer: &mut Drawer,
-) -> Result<(), Fault> {
+) -> Result<(), CaseFault> {
     let stamping = match words {
         [] => Stamping::Written,
         ["moved"] => Stamping::Moved,

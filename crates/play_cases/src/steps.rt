@@ -1,5 +1,5 @@
 //! The steps of a case.
-use crate::fault::Fault;
+use crate::fault::CaseFault;
 use crate::texts::{bytes_of, push_text};
 use std::alloc::{AllocError, Global};
 
@@ -8,7 +8,7 @@ const MARK: &[u8] = b"== ";
 
 /// A step: its words, and the lines up to the next one.
 #[derive(Drop)]
-pub struct Step<'a> {
+pub struct CaseStep<'a> {
     /// The number of its line, from 1.
     pub line: usize,
     pub words: Vec<&'a str>,
@@ -22,19 +22,19 @@ pub struct Case<'a> {
     /// How many lines it has.
     lines: usize,
     pub front: Vec<u8>,
-    pub steps: Vec<Step<'a>>,
+    pub steps: Vec<CaseStep<'a>>,
 }
 
-impl<'a> Step<'a> {
-    fn new(alloc: Global, line: usize, words: &'a [u8]) -> Result<Step<'a>, Fault> {
+impl<'a> CaseStep<'a> {
+    fn new(alloc: Global, line: usize, words: &'a [u8]) -> Result<CaseStep<'a>, CaseFault> {
         let Ok(text) = std::str::from_utf8(words) else {
-            return Err(Fault::Line(line));
+            return Err(CaseFault::Line(line));
         };
         let mut words = Vec::new(alloc);
         for word in text.split(' ') {
             words.push(word)?;
         }
-        Ok(Step {
+        Ok(CaseStep {
             line,
             words,
             written: Vec::new(alloc),
@@ -47,18 +47,18 @@ impl<'a> Step<'a> {
     }
 
     /// That it cannot be read.
-    pub fn unread(&self) -> Fault {
-        Fault::Line(self.line)
+    pub fn unread(&self) -> CaseFault {
+        CaseFault::Line(self.line)
     }
 
     /// That it does not come about.
-    pub fn refused(&self) -> Fault {
-        Fault::Step(self.line)
+    pub fn refused(&self) -> CaseFault {
+        CaseFault::Step(self.line)
     }
 }
 
 /// Reads a case.
-pub fn read_case<'a>(alloc: Global, text: &'a [u8]) -> Result<Case<'a>, Fault> {
+pub fn read_case<'a>(alloc: Global, text: &'a [u8]) -> Result<Case<'a>, CaseFault> {
     let mut case = Case {
         lines: 0,
         front: Vec::new(alloc),
@@ -73,11 +73,11 @@ pub fn read_case<'a>(alloc: Global, text: &'a [u8]) -> Result<Case<'a>, Fault> {
 
 impl<'a> Case<'a> {
     // Takes its next line.
-    fn take_line(&mut self, alloc: Global, line: &'a [u8]) -> Result<(), Fault> {
+    fn take_line(&mut self, alloc: Global, line: &'a [u8]) -> Result<(), CaseFault> {
         self.lines = self.lines.saturating_add(1);
         match line.strip_prefix(MARK) {
             Some(words) => {
-                let step = Step::new(alloc, self.lines, words)?;
+                let step = CaseStep::new(alloc, self.lines, words)?;
                 self.steps.push(step)?;
             }
             None => self.push_line(line)?,

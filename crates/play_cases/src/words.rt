@@ -1,12 +1,12 @@
 //! What the words of steps say; each has the fault of a step of which it cannot be read.
-use crate::fault::Fault;
+use crate::fault::CaseFault;
 use base_clock::Reading;
 use base_disk::Failing;
-use base_log::Answer;
+use base_log::SinkAnswer;
 use vault_lanes::LaneFault;
 
 /// A number.
-pub fn number(word: &str, unread: Fault) -> Result<u64, Fault> {
+pub fn number(word: &str, unread: CaseFault) -> Result<u64, CaseFault> {
     match word.parse::<u64>() {
         Ok(number) => Ok(number),
         Err(_) => Err(unread),
@@ -14,7 +14,7 @@ pub fn number(word: &str, unread: Fault) -> Result<u64, Fault> {
 }
 
 /// A number that a small one can be.
-pub fn small(word: &str, unread: Fault) -> Result<u32, Fault> {
+pub fn small(word: &str, unread: CaseFault) -> Result<u32, CaseFault> {
     match word.parse::<u32>() {
         Ok(number) => Ok(number),
         Err(_) => Err(unread),
@@ -22,7 +22,7 @@ pub fn small(word: &str, unread: Fault) -> Result<u32, Fault> {
 }
 
 /// What goes wrong with a request to the broker.
-pub fn lane_fault(words: &[&str], unread: Fault) -> Result<LaneFault, Fault> {
+pub fn lane_fault(words: &[&str], unread: CaseFault) -> Result<LaneFault, CaseFault> {
     match words {
         ["refuse"] => Ok(LaneFault::Refuse),
         ["lose"] => Ok(LaneFault::Lose),
@@ -38,17 +38,17 @@ pub fn lane_fault(words: &[&str], unread: Fault) -> Result<LaneFault, Fault> {
 }
 
 /// What the log's reader answers to a call.
-pub fn answer(words: &[&str], unread: Fault) -> Result<Answer, Fault> {
+pub fn answer(words: &[&str], unread: CaseFault) -> Result<SinkAnswer, CaseFault> {
     match words {
-        ["waits"] => Ok(Answer::Waits),
-        ["fails"] => Ok(Answer::Fails),
-        ["takes", most] => Ok(Answer::Takes(number(most, unread)? as usize)),
+        ["waits"] => Ok(SinkAnswer::Waits),
+        ["fails"] => Ok(SinkAnswer::Fails),
+        ["takes", most] => Ok(SinkAnswer::Takes(number(most, unread)? as usize)),
         _ => Err(unread),
     }
 }
 
 /// Which calls of a disk fail.
-pub fn failing(words: &[&str], unread: Fault) -> Result<Failing, Fault> {
+pub fn failing(words: &[&str], unread: CaseFault) -> Result<Failing, CaseFault> {
     match words {
         [] => Ok(Failing::Never),
         ["fails", "once", call] => Ok(Failing::Once(number(call, unread)?)),
@@ -69,7 +69,7 @@ pub struct Stretch {
 
 /// The readings that a word says: `none`, or milliseconds, of the wall's clock and the elapsed one where they differ, how much later each
 /// next one is, and how many they are, as in `1000000/5000+2000*3`.
-pub fn readings(word: &str, unread: Fault) -> Result<Stretch, Fault> {
+pub fn readings(word: &str, unread: CaseFault) -> Result<Stretch, CaseFault> {
     let (word, count) = with_number(word, '*', 1, unread)?;
     let (word, step) = with_number(word, '+', 0, unread)?;
     let first = match word {
@@ -80,14 +80,14 @@ pub fn readings(word: &str, unread: Fault) -> Result<Stretch, Fault> {
 }
 
 /// What stands in front of a mark, and the number after it; `none` where there is no mark.
-fn with_number(word: &str, mark: char, none: u64, unread: Fault) -> Result<(&str, u64), Fault> {
+fn with_number(word: &str, mark: char, none: u64, unread: CaseFault) -> Result<(&str, u64), CaseFault> {
     match word.split_once(mark) {
         None => Ok((word, none)),
         Some((front, after)) => Ok((front, number(after, unread)?)),
     }
 }
 
-fn reading(word: &str, unread: Fault) -> Result<Reading, Fault> {
+fn reading(word: &str, unread: CaseFault) -> Result<Reading, CaseFault> {
     let (wall, elapsed) = word.split_once('/').unwrap_or((word, word));
     Ok(Reading {
         wall: number(wall, unread)?,

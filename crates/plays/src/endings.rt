@@ -1,16 +1,16 @@
 //! The agent of a play ends, and is started again.
 use crate::play::Play;
-use play_cases::{Ending, Fault, Setting, Step, number};
+use play_cases::{Ending, CaseFault, Setting, CaseStep, number};
 
 impl<'a> Play<'a> {
     /// The agent ends as these words of a step say, and is started again over the same disks, of which no call fails from now on.
     pub fn end(
         &mut self,
         setting: &mut Setting,
-        step: &Step<'_>,
+        step: &CaseStep<'_>,
         how: &str,
         seed: &str,
-    ) -> Result<(), Fault> {
+    ) -> Result<(), CaseFault> {
         let seed = number(seed, step.unread())?;
         let ending = match how {
             "killed" => Ending::Killed(seed),

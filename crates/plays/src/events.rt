@@ -1,11 +1,11 @@
 //! What happens in a play.
 use crate::guests::{Peer, guest_named};
-use crate::play::{Play, Told};
+use crate::play::{Play, PlayedText};
 use crate::running::Running;
 use agent_ledger::Late;
 use base_words::push_number;
 use plan_forest::Forest;
-use play_cases::{Fault, Setting, Step, lane_fault, number, put_file};
+use play_cases::{CaseFault, Setting, CaseStep, lane_fault, number, put_file};
 use std::alloc::{AllocError, Global};
 use watch_machine::{Operation, Out};
 
@@ -14,8 +14,8 @@ impl<'a> Play<'a> {
     pub fn go_on(
         &mut self,
         setting: &mut Setting,
-        step: &Step<'_>,
-    ) -> Result<Option<Vec<u8>>, Fault> {
+        step: &CaseStep<'_>,
+    ) -> Result<Option<Vec<u8>>, CaseFault> {
         let words = step.words.as_slice();
         match self.happens(setting, step, words) {
             None => {
@@ -31,9 +31,9 @@ impl<'a> Play<'a> {
     fn happens(
         &mut self,
         setting: &mut Setting,
-        step: &Step<'_>,
+        step: &CaseStep<'_>,
         words: &[&str],
-    ) -> Option<Result<(), Fault>> {
+    ) -> Option<Result<(), CaseFault>> {
         match words {
             ["turns", count] => Some(self.turns(count, step.unread())),
             ["client", name, words @ ..] => Some(self.client_comes(step, name, words)),
@@ -53,21 +53,21 @@ impl<'a> Play<'a> {
     }
 
     // A request to come goes wrong.
-    fn goes_wrong(&mut self, request: &str, fault: &[&str], unread: Fault) -> Result<(), Fault> {
+    fn goes_wrong(&mut self, request: &str, fault: &[&str], unread: CaseFault) -> Result<(), CaseFault> {
         let request = number(request, unread)?;
         let fault = lane_fault(fault, unread)?;
         self.running.set_fault(request, fault)?;
         Ok(())
     }
 
-    fn put(&mut self, step: &Step<'_>, path: &str, words: &[&str]) -> Result<(), Fault> {
+    fn put(&mut self, step: &CaseStep<'_>, path: &str, words: &[&str]) -> Result<(), CaseFault> {
         match &mut self.house.others.others.state {
             None | Some(Late::NotYet(_)) => Err(step.refused()),
             Some(Late::Open(ledger)) => put_file(self.alloc, step, path, words, &mut ledger.inputs),
         }
     }
 
-    fn client_comes(&mut self, step: &Step<'_>, name: &str, words: &[&str]) -> Result<(), Fault> {
+    fn client_comes(&mut self, step: &CaseStep<'_>, name: &str, words: &[&str]) -> Result<(), CaseFault> {
         let peer = self.peer(step, name, words)?;
         match &mut self.house.others.others.control {
             None => Err(step.refused()),
@@ -75,7 +75,7 @@ impl<'a> Play<'a> {
         }
     }
 
-    fn onlooker_comes(&mut self, step: &Step<'_>, name: &str, words: &[&str]) -> Result<(), Fault> {
+    fn onlooker_comes(&mut self, step: &CaseStep<'_>, name: &str, words: &[&str]) -> Result<(), CaseFault> {
         let peer = self.peer(step, name, words)?;
         match &mut self.house.others.others.onlookers {
             None => Err(step.refused()),
@@ -84,13 +84,13 @@ impl<'a> Play<'a> {
     }
 
     // The connection of a guest who comes.
-    fn peer(&self, step: &Step<'_>, name: &str, words: &[&str]) -> Result<Peer<'a>, Fault> {
+    fn peer(&self, step: &CaseStep<'_>, name: &str, words: &[&str]) -> Result<Peer<'a>, CaseFault> {
         let guest = guest_named(self.guests, name, step.unread())?;
         let text = step.bytes(self.alloc)?;
         Peer::new(guest, text, words, step.unread())
     }
 
-    fn turns(&mut self, count: &str, unread: Fault) -> Result<(), Fault> {
+    fn turns(&mut self, count: &str, unread: CaseFault) -> Result<(), CaseFault> {
         for _ in 0..number(count, unread)? {
             self.running
                 .turn(self.alloc, &mut self.clock, &mut self.house);
@@ -101,7 +101,7 @@ impl<'a> Play<'a> {
 }
 
 // Keeps the requests that are out and were not after the turn before, each under the name that its entry has.
-fn keep_asked(alloc: Global, running: &Running, told: &mut Told) -> Result<(), AllocError> {
+fn keep_asked(alloc: Global, running: &Running, told: &mut PlayedText) -> Result<(), AllocError> {
     let Some(agent) = running.agent() else {
         return Ok(());
     };

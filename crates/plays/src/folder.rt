@@ -1,10 +1,10 @@
 //! A state folder in memory that cannot be used until a moment.
 use crate::starts::{MemoryLedger, demands_of};
-use agent_ledger::{Opened, Opening};
+use agent_ledger::{OpenedLedger, Opening};
 use agent_start::later_with;
 use agent_words::Demands;
 use base_disk::{Failing, MemoryDisk};
-use play_cases::{Drawer, Fault, Setting};
+use play_cases::{Drawer, CaseFault, Setting};
 use state_keeping::{Paths, State};
 use std::alloc::Global;
 use std::mem;
@@ -36,7 +36,7 @@ pub fn later_of<'a>(
     alloc: Global,
     paths: &'a Paths,
     setting: &mut Setting,
-) -> Result<Option<MemoryFolder<'a>>, Fault> {
+) -> Result<Option<MemoryFolder<'a>>, CaseFault> {
     let Some(from) = setting.later else {
         return Ok(None);
     };
@@ -55,7 +55,7 @@ pub fn later_of<'a>(
 }
 
 impl<'a> Opening<MemoryLedger<'a>> for MemoryFolder<'a> {
-    fn open(&mut self, alloc: Global, now: u64) -> Option<Opened<MemoryLedger<'a>>> {
+    fn open(&mut self, alloc: Global, now: u64) -> Option<OpenedLedger<MemoryLedger<'a>>> {
         if now < self.from {
             return None;
         }

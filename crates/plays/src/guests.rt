@@ -6,7 +6,7 @@ use base_clients::{Door, Entrance, Talk};
 use base_device::{InputFault, Tried};
 use base_files::Inputs;
 use base_moment::Text;
-use play_cases::{Fault, Step, number};
+use play_cases::{CaseFault, CaseStep, number};
 use state_secrets::{FileStamp, SecretFiles};
 use std::alloc::{AllocError, Global};
 use std::cell::Cell;
@@ -14,7 +14,7 @@ use std::collections::VecDeque;
 
 /// A guest: the calls of its connection, which of them fails, and what it was sent since that was told.
 #[derive(Drop)]
-pub struct Guest<'a> {
+pub struct PlayedGuest<'a> {
     alloc: Global,
     pub name: &'a str,
     /// The number of the call that fails, counted from 0.
@@ -23,10 +23,10 @@ pub struct Guest<'a> {
     sent: Cell<Vec<u8>>,
 }
 
-impl<'a> Guest<'a> {
+impl<'a> PlayedGuest<'a> {
     /// One that has not come yet.
-    pub fn new(alloc: Global, name: &'a str, fails: u64) -> Guest<'a> {
-        Guest {
+    pub fn new(alloc: Global, name: &'a str, fails: u64) -> PlayedGuest<'a> {
+        PlayedGuest {
             alloc,
             name,
             fails,
@@ -63,14 +63,14 @@ impl<'a> Guest<'a> {
 /// The guests of these steps, in the order in which they come; the call of the first of them with that number fails.
 pub fn guests_of<'a>(
     alloc: Global,
-    steps: &[Step<'a>],
+    steps: &[CaseStep<'a>],
     fails: u64,
-) -> Result<Vec<Guest<'a>>, Fault> {
+) -> Result<Vec<PlayedGuest<'a>>, CaseFault> {
     let mut guests = Vec::new(alloc);
     for step in steps {
         if let ["client" | "onlooker", name, ..] = step.words.as_slice() {
             let fails = if guests.is_empty() { fails } else { u64::MAX };
-            guests.push(Guest::new(alloc, *name, fails))?;
+            guests.push(PlayedGuest::new(alloc, *name, fails))?;
         }
     }
     Ok(guests)
@@ -78,10 +78,10 @@ pub fn guests_of<'a>(
 
 /// The guest of that name.
 pub fn guest_named<'a>(
-    guests: &'a [Guest<'a>],
+    guests: &'a [PlayedGuest<'a>],
     name: &str,
-    unread: Fault,
-) -> Result<&'a Guest<'a>, Fault> {
+    unread: CaseFault,
+) -> Result<&'a PlayedGuest<'a>, CaseFault> {
     for guest in guests {
         if guest.name == name {
             return Ok(guest);
@@ -93,7 +93,7 @@ pub fn guest_named<'a>(
 /// A connection of a guest.
 #[derive(Drop)]
 pub struct Peer<'a> {
-    guest: &'a Guest<'a>,
+    guest: &'a PlayedGuest<'a>,
     /// What it sends, in pieces of so many bytes, and how much of that it has sent.
     text: Vec<u8>,
     piece: usize,
@@ -105,11 +105,11 @@ pub struct Peer<'a> {
 impl<'a> Peer<'a> {
     /// One that sends this text, and takes what it is sent, as these words have it: at once, where they say nothing.
     pub fn new(
-        guest: &'a Guest<'a>,
+        guest: &'a PlayedGuest<'a>,
         text: Vec<u8>,
         words: &[&str],
-        unread: Fault,
-    ) -> Result<Peer<'a>, Fault> {
+        unread: CaseFault,
+    ) -> Result<Peer<'a>, CaseFault> {
         let (piece, takes) = match words {
             [] => (4096, 4096),
             ["piece", piece] => (number(piece, unread)? as usize, 4096),
@@ -179,7 +179,7 @@ impl<'a> PeerDoor<'a> {
     }
 
     /// One more comes to it.
-    pub fn bring(&mut self, peer: Peer<'a>) -> Result<(), Fault> {
+    pub fn bring(&mut self, peer: Peer<'a>) -> Result<(), CaseFault> {
         self.peers.push_back(peer)?;
         Ok(())
     }

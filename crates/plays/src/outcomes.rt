@@ -5,9 +5,9 @@ use crate::running::Running;
 use crate::starts::MemoryHouse;
 use agent_ledger::Late;
 use agent_standing::Agent;
-use base_clock::Call;
+use base_clock::ClockCall;
 use base_words::push_number;
-use play_cases::Fault;
+use play_cases::CaseFault;
 use std::alloc::{AllocError, Global};
 use std::mem;
 use watch_machine::End;
@@ -26,7 +26,7 @@ enum Asked {
 }
 
 // What a word asks for.
-fn read_asked(word: &str, unread: Fault) -> Result<Asked, Fault> {
+fn read_asked(word: &str, unread: CaseFault) -> Result<Asked, CaseFault> {
     match word {
         "log" => Ok(Asked::Log),
         "waiting" => Ok(Asked::Waiting),
@@ -42,7 +42,7 @@ fn read_asked(word: &str, unread: Fault) -> Result<Asked, Fault> {
 
 impl<'a> Play<'a> {
     /// What these words ask for.
-    pub fn outcome(&mut self, words: &[&str], unread: Fault) -> Result<Vec<u8>, Fault> {
+    pub fn outcome(&mut self, words: &[&str], unread: CaseFault) -> Result<Vec<u8>, CaseFault> {
         match words {
             [word] => {
                 let asked = read_asked(word, unread)?;
@@ -61,7 +61,7 @@ impl<'a> Play<'a> {
         }
     }
 
-    fn told_of(&mut self, asked: Asked) -> Result<Vec<u8>, Fault> {
+    fn told_of(&mut self, asked: Asked) -> Result<Vec<u8>, CaseFault> {
         let alloc = self.alloc;
         let house = &self.house.others.others;
         match asked {
@@ -78,7 +78,7 @@ impl<'a> Play<'a> {
 }
 
 // A number, in a line.
-fn line_of(alloc: Global, number: u64) -> Result<Vec<u8>, Fault> {
+fn line_of(alloc: Global, number: u64) -> Result<Vec<u8>, CaseFault> {
     let mut line = Vec::new(alloc);
     push_number(alloc, number, &mut line)?;
     line.push(b'\n')?;
@@ -86,25 +86,25 @@ fn line_of(alloc: Global, number: u64) -> Result<Vec<u8>, Fault> {
 }
 
 // These bytes.
-fn copy_of(alloc: Global, bytes: &[u8]) -> Result<Vec<u8>, Fault> {
+fn copy_of(alloc: Global, bytes: &[u8]) -> Result<Vec<u8>, CaseFault> {
     match Vec::from_slice(alloc, bytes) {
         Ok(bytes) => Ok(bytes),
-        Err(_) => Err(Fault::Memory),
+        Err(_) => Err(CaseFault::Memory),
     }
 }
 
 // The bytes after so many, which are told with that.
-fn part_after(alloc: Global, bytes: &[u8], before: &mut usize) -> Result<Vec<u8>, Fault> {
+fn part_after(alloc: Global, bytes: &[u8], before: &mut usize) -> Result<Vec<u8>, CaseFault> {
     let part = bytes.get(*before..).unwrap_or(&[]);
     *before = bytes.len();
     copy_of(alloc, part)
 }
 
 // How long each wait after so many calls of the clock took, in milliseconds, in one line; they are told with that.
-fn pauses_after(alloc: Global, calls: &[Call], before: &mut usize) -> Result<Vec<u8>, Fault> {
+fn pauses_after(alloc: Global, calls: &[ClockCall], before: &mut usize) -> Result<Vec<u8>, CaseFault> {
     let mut line = Vec::new(alloc);
     for call in calls.get(*before..).unwrap_or(&[]) {
-        if let Call::Wait { millis } = call {
+        if let ClockCall::Wait { millis } = call {
             if !line.is_empty() {
                 line.push(b' ')?;
             }
@@ -125,7 +125,7 @@ fn counts_of(house: &MemoryHouse<'_>) -> (u64, u64) {
 }
 
 // The bytes of a file of the state, or of the ends.
-fn file_of(alloc: Global, house: &MemoryHouse<'_>, path: &str) -> Result<Vec<u8>, Fault> {
+fn file_of(alloc: Global, house: &MemoryHouse<'_>, path: &str) -> Result<Vec<u8>, CaseFault> {
     if let Some(Late::Open(ledger)) = &house.state {
         if let Some(held) = ledger.state.disk().file(alloc, path)? {
             return Ok(held.bytes);
@@ -140,7 +140,7 @@ fn file_of(alloc: Global, house: &MemoryHouse<'_>, path: &str) -> Result<Vec<u8>
 }
 
 // Of each entry that is served, the second at which it is believed to end, and that at which it ends at the broker.
-fn entries_of(alloc: Global, running: &Running) -> Result<Vec<u8>, Fault> {
+fn entries_of(alloc: Global, running: &Running) -> Result<Vec<u8>, CaseFault> {
     let mut lines = Vec::new(alloc);
     if let Some(agent) = running.agent() {
         for index in 0..agent.inventory().forest().len() {

@@ -1,5 +1,5 @@
 //! A play, from its start on.
-use crate::guests::{Guest, guests_of};
+use crate::guests::{PlayedGuest, guests_of};
 use crate::running::{MemoryLanes, Running};
 use crate::starts::{MemoryDay, lanes_of};
 use crate::sweeps::Disturbance;
@@ -8,8 +8,8 @@ use agent_house::{Desk, House};
 use agent_pages::{FileReading, Standby};
 use agent_turns::EarlyDay;
 use base_clock::MemoryClock;
-use base_log::MemorySink;
-use play_cases::{FILE, Fault, Setting, Step};
+use base_log::MemoryLogSink;
+use play_cases::{FILE, CaseFault, Setting, CaseStep};
 use state_keeping::Paths;
 use std::alloc::Global;
 use std::mem;
@@ -32,16 +32,16 @@ const UNREAD: FileReading = FileReading {
 pub struct Play<'a> {
     pub alloc: Global,
     pub paths: &'a Paths,
-    pub guests: &'a [Guest<'a>],
+    pub guests: &'a [PlayedGuest<'a>],
     pub clock: MemoryClock,
     pub running: Running,
     pub house: MemoryDay<'a>,
-    pub told: Told,
+    pub told: PlayedText,
 }
 
 /// What was told of it so far.
 #[derive(Drop)]
-pub struct Told {
+pub struct PlayedText {
     /// How many bytes of the log.
     pub log: usize,
     /// How many calls of the clock.
@@ -56,9 +56,9 @@ pub struct Told {
 /// first step at which something happens.
 pub fn outcomes_of(
     alloc: Global,
-    steps: &[Step<'_>],
+    steps: &[CaseStep<'_>],
     disturbance: Disturbance,
-) -> Result<Vec<Option<Vec<u8>>>, Fault> {
+) -> Result<Vec<Option<Vec<u8>>>, CaseFault> {
     let mut setting = Setting::new(alloc);
     played(alloc, &mut setting, steps, disturbance)
 }
@@ -67,15 +67,15 @@ pub fn outcomes_of(
 fn played(
     alloc: Global,
     setting: &mut Setting,
-    steps: &[Step<'_>],
+    steps: &[CaseStep<'_>],
     disturbance: Disturbance,
-) -> Result<Vec<Option<Vec<u8>>>, Fault> {
+) -> Result<Vec<Option<Vec<u8>>>, CaseFault> {
     let first = setting.take_first(steps)?;
     disturbance.disturb(setting)?;
     let guests = guests_of(alloc, steps, setting.guest_fails)?;
     match Paths::of(alloc, FILE, FOLDER) {
         Ok(paths) => played_among(alloc, setting, &paths, &guests, steps, first),
-        Err(_) => Err(Fault::Memory),
+        Err(_) => Err(CaseFault::Memory),
     }
 }
 
@@ -87,12 +87,12 @@ fn played_among(
     alloc: Global,
     setting: &mut Setting,
     paths: &Paths,
-    guests: &[Guest<'_>],
-    steps: &[Step<'_>],
+    guests: &[PlayedGuest<'_>],
+    steps: &[CaseStep<'_>],
     first: usize,
-) -> Result<Vec<Option<Vec<u8>>>, Fault> {
+) -> Result<Vec<Option<Vec<u8>>>, CaseFault> {
     let refused = match steps.get(first) {
-        None => Fault::Step(0),
+        None => CaseFault::Step(0),
         Some(step) => step.refused(),
     };
     let readings = mem::replace(&mut setting.readings, Vec::new(alloc));
@@ -107,7 +107,7 @@ fn played_among(
 /// A house in which there is the log alone.
 fn house_of<'a>(alloc: Global, setting: &mut Setting, desk: Desk) -> MemoryDay<'a> {
     let answers = mem::replace(&mut setting.answers, Vec::new(alloc));
-    let sink = MemorySink::new(alloc, answers);
+    let sink = MemoryLogSink::new(alloc, answers);
     let house = House::new(desk, sink, UNREAD, Standby::new(false));
     EarlyDay::new(
         Behind::new(house, None),
@@ -115,10 +115,10 @@ fn house_of<'a>(alloc: Global, setting: &mut Setting, desk: Desk) -> MemoryDay<'
     )
 }
 
-impl Told {
+impl PlayedText {
     /// Nothing.
-    fn new(alloc: Global) -> Told {
-        Told {
+    fn new(alloc: Global) -> PlayedText {
+        PlayedText {
             log: 0,
             clock: 0,
             out: Vec::new(alloc),
@@ -132,7 +132,7 @@ impl<'a> Play<'a> {
     fn new(
         alloc: Global,
         paths: &'a Paths,
-        guests: &'a [Guest<'a>],
+        guests: &'a [PlayedGuest<'a>],
         clock: MemoryClock,
         lanes: MemoryLanes,
         house: MemoryDay<'a>,
@@ -144,7 +144,7 @@ impl<'a> Play<'a> {
             clock,
             running: Running::new(lanes),
             house,
-            told: Told::new(alloc),
+            told: PlayedText::new(alloc),
         }
     }
 
@@ -152,10 +152,10 @@ impl<'a> Play<'a> {
     fn over(
         self,
         setting: &mut Setting,
-        steps: &[Step<'_>],
+        steps: &[CaseStep<'_>],
         first: usize,
-        refused: Fault,
-    ) -> Result<Vec<Option<Vec<u8>>>, Fault> {
+        refused: CaseFault,
+    ) -> Result<Vec<Option<Vec<u8>>>, CaseFault> {
         let mut play = self;
         let outcomes = play.outcomes(setting, steps, first, refused);
         drop(play);
@@ -166,10 +166,10 @@ impl<'a> Play<'a> {
     fn outcomes(
         &mut self,
         setting: &mut Setting,
-        steps: &[Step<'_>],
+        steps: &[CaseStep<'_>],
         first: usize,
-        refused: Fault,
-    ) -> Result<Vec<Option<Vec<u8>>>, Fault> {
+        refused: CaseFault,
+    ) -> Result<Vec<Option<Vec<u8>>>, CaseFault> {
         self.start(setting, refused)?;
         let mut outcomes = Vec::new(self.alloc);
         for (number, step) in steps.iter().enumerate() {

@@ -1,7 +1,7 @@
 use crate::play::outcomes_of;
 use crate::sweeps::{Disturbance, swept};
 use base_device::{Counted, read_all};
-use play_cases::{Case, Fault, read_case};
+use play_cases::{Case, CaseFault, read_case};
 use std::alloc::Global;
 use std::io::{self, Read, Write as _};
 
@@ -9,7 +9,7 @@ use std::io::{self, Read, Write as _};
 const MOST_CASE: usize = 1 << 20;
 
 /// Plays the case on standard input.
-pub fn run<R: AllocGlobal + Print, I: Read + Drop>(rt: &R, input: I) -> Result<(), Fault> {
+pub fn run<R: AllocGlobal + Print, I: Read + Drop>(rt: &R, input: I) -> Result<(), CaseFault> {
     let alloc = rt.alloc();
     let text = read_all(alloc, &mut Counted::new(input), MOST_CASE)?;
     let case = read_case(alloc, text.list())?;
@@ -20,7 +20,7 @@ pub fn run<R: AllocGlobal + Print, I: Read + Drop>(rt: &R, input: I) -> Result<(
 }
 
 /// What came of each step, those that sweep included.
-fn all_outcomes(alloc: Global, case: &Case<'_>) -> Result<Vec<Option<Vec<u8>>>, Fault> {
+fn all_outcomes(alloc: Global, case: &Case<'_>) -> Result<Vec<Option<Vec<u8>>>, CaseFault> {
     let mut outcomes = outcomes_of(alloc, &case.steps, Disturbance::Nothing)?;
     let whole = case.written(alloc, &outcomes)?;
     for (number, step) in case.steps.iter().enumerate() {

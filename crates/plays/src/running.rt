@@ -10,8 +10,8 @@ use agent_start::Start;
 use agent_turns::{Neighbours, Serving};
 use base_clock::{Clock, Reading};
 pub use broker_lanes::MemoryLanes;
-use play_cases::{Fault, put};
-use program_commands::Served;
+use play_cases::{CaseFault, put};
+use program_commands::ServeWords;
 use std::alloc::{AllocError, Global};
 use std::marker::Model;
 use vault_lanes::{LaneFault, Lanes};
@@ -49,11 +49,11 @@ impl Running {
         &mut self,
         alloc: Global,
         now: Reading,
-        served: &Served<'_>,
+        served: &ServeWords<'_>,
         start: Start<MemoryLedger<'a>>,
         later: Option<MemoryFolder<'a>>,
         parts: MemoryParts,
-    ) -> Result<MemoryDay<'a>, Fault>
+    ) -> Result<MemoryDay<'a>, CaseFault>
         requires free { parts.lane.out ≡ [] }
         requires one { parts.lane.width ≡ 1 }
     {
@@ -72,7 +72,7 @@ impl Running {
                 put(&mut self.serving, Some(serving));
                 Ok(neighbours)
             }
-            Err(_) => Err(Fault::Memory),
+            Err(_) => Err(CaseFault::Memory),
         }
     }
 

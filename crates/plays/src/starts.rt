@@ -17,15 +17,15 @@ use base_clients::Entrance;
 use base_clock::{Clock as _, Reading};
 use base_device::Place;
 use base_disk::{Failing, MemoryDisk};
-use base_log::MemorySink;
+use base_log::MemoryLogSink;
 use broker_table::Table;
-use play_cases::{BOOT, Drawer, ENDS, FILE, Fault, Setting, put};
-use program_commands::{Served, Socket};
-use state_keeping::{Opened, Paths, State};
+use play_cases::{BOOT, Drawer, ENDS, FILE, CaseFault, Setting, put};
+use program_commands::{ServeWords, Socket};
+use state_keeping::{OpenedState, Paths, State};
 use std::alloc::{AllocError, Global};
 use std::mem;
 use vault_inventory::{Inventory, read};
-use vault_lanes::NumberedFault;
+use vault_lanes::NumberedLaneFault;
 use vault_proving::Proving;
 
 pub type MemoryLedger<'a> = Ledger<'a, MemoryDisk, Drawer, MemoryLanes>;
@@ -33,13 +33,13 @@ pub type MemoryLedger<'a> = Ledger<'a, MemoryDisk, Drawer, MemoryLanes>;
 /// The same, which may come later.
 pub type MemoryLate<'a> = Late<'a, MemoryDisk, Drawer, MemoryLanes, MemoryFolder<'a>>;
 
-pub type MemoryHouse<'a> = House<MemorySink, Peer<'a>, PeerDoor<'a>, MemoryLate<'a>, MemoryDisk>;
+pub type MemoryHouse<'a> = House<MemoryLogSink, Peer<'a>, PeerDoor<'a>, MemoryLate<'a>, MemoryDisk>;
 
 /// The neighbours of an agent of a play.
 pub type MemoryDay<'a> = EarlyDay<Behind<MemoryHouse<'a>, MemoryLanes>>;
 
 /// What an agent of a play is put together from.
-pub type MemoryParts = Parts<MemorySink, MemoryDisk, MemoryLanes>;
+pub type MemoryParts = Parts<MemoryLogSink, MemoryDisk, MemoryLanes>;
 
 /// So many lanes to a broker that knows the inventory of this text.
 pub fn lanes_of(
@@ -47,8 +47,8 @@ pub fn lanes_of(
     setting: &Setting,
     known: &[u8],
     width: u32,
-    refused: Fault,
-) -> Result<MemoryLanes, Fault>
+    refused: CaseFault,
+) -> Result<MemoryLanes, CaseFault>
     ensures none { IfOk result (λ lanes. lanes.out ≡ []) }
     ensures wide { IfOk result (λ lanes. lanes.width ≡ max 1 (min width 32)) }
 {
@@ -57,13 +57,13 @@ pub fn lanes_of(
 }
 
 /// The table of a broker that knows the inventory of this text.
-fn table_of(alloc: Global, text: &[u8], refused: Fault) -> Result<Table, Fault> {
+fn table_of(alloc: Global, text: &[u8], refused: CaseFault) -> Result<Table, CaseFault> {
     let known = read_or(alloc, text, refused)?;
     Ok(Table::load(alloc, &known)?)
 }
 
 /// The inventory of this text.
-fn read_or(alloc: Global, text: &[u8], refused: Fault) -> Result<Inventory, Fault> {
+fn read_or(alloc: Global, text: &[u8], refused: CaseFault) -> Result<Inventory, CaseFault> {
     match read(alloc, text) {
         Ok(inventory) => Ok(inventory),
         Err(_) => Err(refused),
@@ -72,7 +72,7 @@ fn read_or(alloc: Global, text: &[u8], refused: Fault) -> Result<Inventory, Faul
 
 impl<'a> Play<'a> {
     /// The agent is started; its log has the same reader as before.
-    pub fn start(&mut self, setting: &mut Setting, refused: Fault) -> Result<(), Fault> {
+    pub fn start(&mut self, setting: &mut Setting, refused: CaseFault) -> Result<(), CaseFault> {
         let alloc = self.alloc;
         let now = self.clock.read().unwrap_or(Reading {
             wall: 0,
@@ -93,7 +93,7 @@ impl<'a> Play<'a> {
     }
 
     /// The agent is ended and started again, over the same disks, of which no call fails from now on.
-    pub fn restart(&mut self, setting: &mut Setting, refused: Fault) -> Result<(), Fault> {
+    pub fn restart(&mut self, setting: &mut Setting, refused: CaseFault) -> Result<(), CaseFault> {
         let Some(Late::Open(ledger)) = &mut self.house.others.others.state else {
             return Err(refused);
         };
@@ -106,7 +106,7 @@ impl<'a> Play<'a> {
     }
 
     // What the agent is put together from.
-    fn parts(&mut self, setting: &mut Setting, refused: Fault) -> Result<MemoryParts, Fault>
+    fn parts(&mut self, setting: &mut Setting, refused: CaseFault) -> Result<MemoryParts, CaseFault>
         ensures free { IfOk result (λ parts. parts.lane.out ≡ []) }
         ensures one { IfOk result (λ parts. parts.lane.width ≡ 1) }
     {
@@ -115,7 +115,7 @@ impl<'a> Play<'a> {
         let lane = lane_of(alloc, setting, refused)?;
         let askers = askers_of(alloc, setting, refused)?;
         let ahead = lanes_ahead(alloc, setting, refused)?;
-        let nobody = MemorySink::new(alloc, Vec::new(alloc));
+        let nobody = MemoryLogSink::new(alloc, Vec::new(alloc));
         Ok(Parts {
             log: mem::replace(&mut self.house.others.others.sink, nobody),
             ends,
@@ -147,8 +147,8 @@ fn started<'a>(
     alloc: Global,
     paths: &'a Paths,
     setting: &mut Setting,
-    refused: Fault,
-) -> Result<Start<MemoryLedger<'a>>, Fault> {
+    refused: CaseFault,
+) -> Result<Start<MemoryLedger<'a>>, CaseFault> {
     let mut start = match setting.state.failing {
         Some(failing) if setting.later.is_none() => {
             of_state(alloc, paths, setting, failing, refused)?
@@ -163,8 +163,8 @@ fn started<'a>(
 fn of_file<'a>(
     alloc: Global,
     setting: &Setting,
-    refused: Fault,
-) -> Result<Start<MemoryLedger<'a>>, Fault> {
+    refused: CaseFault,
+) -> Result<Start<MemoryLedger<'a>>, CaseFault> {
     let Ok(text) = std::str::from_utf8(&setting.file) else {
         return Err(refused);
     };
@@ -189,8 +189,8 @@ fn of_state<'a>(
     paths: &'a Paths,
     setting: &mut Setting,
     failing: Failing,
-    refused: Fault,
-) -> Result<Start<MemoryLedger<'a>>, Fault> {
+    refused: CaseFault,
+) -> Result<Start<MemoryLedger<'a>>, CaseFault> {
     let opened = opened(alloc, paths, setting, failing, refused)?;
     let drawer = mem::replace(&mut setting.drawer, Drawer::new(alloc));
     let demands = demands_of(setting);
@@ -203,8 +203,8 @@ fn opened<'a>(
     paths: &'a Paths,
     setting: &mut Setting,
     failing: Failing,
-    refused: Fault,
-) -> Result<Opened<'a, MemoryDisk>, Fault> {
+    refused: CaseFault,
+) -> Result<OpenedState<'a, MemoryDisk>, CaseFault> {
     let copy = setting.state.bytes_at(alloc, paths.copy())?;
     let disk = setting.state.disk(alloc, failing);
     match State::open(alloc, disk, paths, Some(&setting.file), copy.as_deref()) {
@@ -224,12 +224,12 @@ pub fn demands_of(setting: &Setting) -> Demands {
 }
 
 /// What the words of a command line would ask.
-fn served_of(setting: &Setting) -> Served<'static> {
+fn served_of(setting: &Setting) -> ServeWords<'static> {
     let socket = Socket {
         word: "",
         entrance: Entrance::Path(""),
     };
-    Served {
+    ServeWords {
         file: FILE,
         place: Place::Port(8200),
         patience: u64::from(setting.timeout),
@@ -247,21 +247,21 @@ fn served_of(setting: &Setting) -> Served<'static> {
 }
 
 /// The lane over which credentials are looked up.
-fn lane_of(alloc: Global, setting: &Setting, refused: Fault) -> Result<MemoryLanes, Fault>
+fn lane_of(alloc: Global, setting: &Setting, refused: CaseFault) -> Result<MemoryLanes, CaseFault>
     ensures free { IfOk result (λ lane. lane.out ≡ []) }
     ensures one { IfOk result (λ lane. lane.width ≡ 1) }
 {
     let mut lane = lanes_of(alloc, setting, &setting.broker, 1, refused)?;
-    if let Some(NumberedFault { number, fault }) = setting.lookup_fault {
+    if let Some(NumberedLaneFault { number, fault }) = setting.lookup_fault {
         lane.set_fault(number, fault)?;
     }
     Ok(lane)
 }
 
 /// The lanes over which entries are looked up ahead.
-fn lanes_ahead(alloc: Global, setting: &Setting, refused: Fault) -> Result<MemoryLanes, Fault> {
+fn lanes_ahead(alloc: Global, setting: &Setting, refused: CaseFault) -> Result<MemoryLanes, CaseFault> {
     let mut lanes = lanes_of(alloc, setting, &setting.ahead, setting.width, refused)?;
-    if let Some(NumberedFault { number, fault }) = setting.ahead_fault {
+    if let Some(NumberedLaneFault { number, fault }) = setting.ahead_fault {
         lanes.set_fault(number, fault)?;
     }
     Ok(lanes)
@@ -271,8 +271,8 @@ fn lanes_ahead(alloc: Global, setting: &Setting, refused: Fault) -> Result<Memor
 fn askers_of(
     alloc: Global,
     setting: &Setting,
-    refused: Fault,
-) -> Result<Vec<Asker<MemoryLanes>>, Fault> {
+    refused: CaseFault,
+) -> Result<Vec<Asker<MemoryLanes>>, CaseFault> {
     let mut askers = Vec::new(alloc);
     for _ in 0..setting.width {
         let lane = lane_of(alloc, setting, refused)?;
@@ -301,8 +301,8 @@ fn leave(
     paths: &Paths,
     ledger: &mut MemoryLedger<'_>,
     setting: &mut Setting,
-    refused: Fault,
-) -> Result<(), Fault> {
+    refused: CaseFault,
+) -> Result<(), CaseFault> {
     let places = [FILE, paths.journal(), paths.copy(), paths.aside()];
     setting.state.keep(alloc, ledger.state.disk(), &places)?;
     let Some(file) = setting.state.bytes_at(alloc, FILE)? else {

@@ -1,9 +1,9 @@
 //! A case that is played again and again, where each time another call fails, and how its outcomes then differ.
 use crate::play::outcomes_of;
 use base_disk::Failing;
-use base_log::Answer;
+use base_log::SinkAnswer;
 use base_words::push_number;
-use play_cases::{Case, Fault, Setting, answer, number};
+use play_cases::{Case, CaseFault, Setting, answer, number};
 use std::alloc::{AllocError, Global};
 
 /// What goes wrong beside what the case says.
@@ -15,7 +15,7 @@ pub enum Disturbance {
     /// A call of the disk with the ends.
     Ends(Failing),
     /// The log's reader gives this answer to the call with that number, from 0.
-    Reader(u64, Answer),
+    Reader(u64, SinkAnswer),
     /// The reading of the clocks with that number fails.
     Clock(u64),
     /// The call with that number of the first guest's connection.
@@ -38,7 +38,7 @@ impl Disturbance {
 }
 
 /// What a sweep says to the call with that number.
-fn disturbance_at(words: &[&str], call: u64, unread: Fault) -> Result<Disturbance, Fault> {
+fn disturbance_at(words: &[&str], call: u64, unread: CaseFault) -> Result<Disturbance, CaseFault> {
     match words {
         ["state", "once"] => Ok(Disturbance::State(Failing::Once(call))),
         ["state", "from"] => Ok(Disturbance::State(Failing::From(call))),
@@ -57,8 +57,8 @@ pub fn swept(
     case: &Case<'_>,
     whole: &[u8],
     words: &[&str],
-    unread: Fault,
-) -> Result<Vec<u8>, Fault> {
+    unread: CaseFault,
+) -> Result<Vec<u8>, CaseFault> {
     let [count, words @ ..] = words else {
         return Err(unread);
     };
@@ -79,13 +79,13 @@ fn differs(
     case: &Case<'_>,
     whole: &[u8],
     disturbance: Disturbance,
-) -> Result<Vec<u8>, Fault> {
+) -> Result<Vec<u8>, CaseFault> {
     match outcomes_of(alloc, &case.steps, disturbance) {
         Ok(outcomes) => {
             let other = case.written(alloc, &outcomes)?;
             Ok(difference(alloc, whole, &other)?)
         }
-        Err(Fault::Step(_)) => Ok(Vec::from_slice(alloc, b"the start is refused\n")?),
+        Err(CaseFault::Step(_)) => Ok(Vec::from_slice(alloc, b"the start is refused\n")?),
         Err(fault) => Err(fault),
     }
 }

@@ -15,19 +15,19 @@ use Rattle.agent_control.specs.declared.fault.RequestFault.TheVariants.{TooLong,
 use Rattle.agent_control.specs.declared.fault.RequestFault.TheVariants as faults
 use Rattle.agent_control.specs.declared.front.Front.TheVariants.{Whole}
 use Rattle.agent_control.specs.declared.limits.TheConstants.{LINE_MAX}
-use Rattle.agent_control.specs.declared.request.Request.{Request}
+use Rattle.agent_control.specs.declared.request.ControlRequest.{ControlRequest}
 use Rattle.agent_control.proofs.Chosen.{granted, ok_same, refused, then_ok}
 use Rattle.agent_control.proofs.OneLine.{front_is, line_lacks}
 use Rattle.agent_control.proofs.WordTrees.{AllUtf8, line_read, line_text, words_back}
 use Rattle.base_words.specs.Texts.{stripped}
 use Rattle.program_calls.specs.Asking.{is_ask_text, line_for_ask, tree_for_ask, words_for_ask, words_line}
 use Rattle.program_calls.specs.Laws.{AreText, LineIsTooLong, SaysOnly, SentIsAsked, UnsentIsRefused}
-use Rattle.program_calls.specs.declared.ask.Ask.{Ask}
-use Rattle.program_calls.specs.declared.ask.Ask.TheVariants.{Need, Replace, Add, Drop, Status, Health, Settle, Reload, Follow}
+use Rattle.program_calls.specs.declared.ask.CallWords.{CallWords}
+use Rattle.program_calls.specs.declared.ask.CallWords.TheVariants.{Need, Replace, Add, Drop, Status, Health, Settle, Reload, Follow}
 
 -- ---- the words
 
-all_utf8 : (ask : Ask) (input : List ℕ) → AreText ask → is_ask_text ask input ≡ true → AllUtf8 (words_for_ask ask input)
+all_utf8 : (ask : CallWords) (input : List ℕ) → AreText ask → is_ask_text ask input ≡ true → AllUtf8 (words_for_ask ask input)
 all_utf8 (Need name when) input is text = (IsUtf8-are_ascii _ refl, (is.0, (is.1, tt)))
 all_utf8 (Replace name) input is text = (IsUtf8-are_ascii _ refl, (is, (IsUtf8-from_is_utf8 (stripped input) text, tt)))
 all_utf8 Add input is text = (IsUtf8-are_ascii _ refl, (IsUtf8-from_is_utf8 input text, tt))
@@ -39,7 +39,7 @@ all_utf8 Reload input is text = (IsUtf8-are_ascii _ refl, tt)
 all_utf8 (Follow false) input is text = (IsUtf8-are_ascii _ refl, tt)
 all_utf8 (Follow true) input is text = (IsUtf8-are_ascii _ refl, (IsUtf8-are_ascii _ refl, tt))
 
-are_words : (ask : Ask) (input : List ℕ) → words_in_tree (tree_of_words (words_for_ask ask input)) ≡ Some (words_for_ask ask input)
+are_words : (ask : CallWords) (input : List ℕ) → words_in_tree (tree_of_words (words_for_ask ask input)) ≡ Some (words_for_ask ask input)
 are_words (Need name when) input = words_back _ _
 are_words (Replace name) input = words_back _ _
 are_words Add input = words_back _ _
@@ -51,7 +51,7 @@ are_words Reload input = words_back _ _
 are_words (Follow false) input = words_back _ _
 are_words (Follow true) input = words_back _ _
 
-line_is : (ask : Ask) (input line : List ℕ) → words_line ask input ≡ Ok line → (is_ask_text ask input ≡ true) × (line ≡ compact_text (tree_of_words (words_for_ask ask input)))
+line_is : (ask : CallWords) (input line : List ℕ) → words_line ask input ≡ Ok line → (is_ask_text ask input ≡ true) × (line ≡ compact_text (tree_of_words (words_for_ask ask input)))
 unfolding words_line tree_for_ask
 line_is ask input line e =
     let t = then_ok (tree_for_ask ask input) (λ d. Ok (compact_text d)) line e in
@@ -60,26 +60,26 @@ line_is ask input line e =
 
 -- ---- a line is read as what its words ask for
 
-asked_is : (ask : Ask) (input : List ℕ) → AreText ask → is_ask_text ask input ≡ true → asked_by_line (compact_text (tree_of_words (words_for_ask ask input))) ≡ command_of (words_for_ask ask input)
+asked_is : (ask : CallWords) (input : List ℕ) → AreText ask → is_ask_text ask input ≡ true → asked_by_line (compact_text (tree_of_words (words_for_ask ask input))) ≡ command_of (words_for_ask ask input)
 unfolding asked_by_line words_of
 asked_is ask input is text =
     let ws = words_for_ask ask input in
     ap (λ o. or_not_words (option_and_then words_in_tree o) >>= command_of) (line_read ws (all_utf8 ask input is text))
     ∙ ap (λ o. or_not_words o >>= command_of) (are_words ask input)
 
-read_is : (ask : Ask) (input line : List ℕ) → AreText ask → words_line ask input ≡ Ok line → nat_lt LINE_MAX (length line) ≡ false → request_in_line line ≡ command_of (words_for_ask ask input)
+read_is : (ask : CallWords) (input line : List ℕ) → AreText ask → words_line ask input ≡ Ok line → nat_lt LINE_MAX (length line) ≡ false → request_in_line line ≡ command_of (words_for_ask ask input)
 unfolding request_in_line
 read_is ask input line is e short =
     let l = line_is ask input line e in
     cond-false (nat_lt LINE_MAX (length line)) _ _ short ∙ ap asked_by_line l.1 ∙ asked_is ask input is l.0
 
-is_short : (line : List ℕ) (r : Request) → request_in_line line ≡ Ok r → nat_lt LINE_MAX (length line) ≡ false
+is_short : (line : List ℕ) (r : ControlRequest) → request_in_line line ≡ Ok r → nat_lt LINE_MAX (length line) ≡ false
 unfolding request_in_line
 is_short line r e = (refused (nat_lt LINE_MAX (length line)) (asked_by_line line) TooLong r e).0
 
 -- ---- what is sent
 
-says_only : (ask : Ask) (input line text : List ℕ) (r : Request) → words_line ask input ≡ Ok line → request_in_line line ≡ Ok r → text ≡ line ++ 10 ∷ [] → SaysOnly text r
+says_only : (ask : CallWords) (input line text : List ℕ) (r : ControlRequest) → words_line ask input ≡ Ok line → request_in_line line ≡ Ok r → text ≡ line ++ 10 ∷ [] → SaysOnly text r
 says_only ask input line text r e read parts =
     let lacks : Lacks 10 line = subst (Lacks 10) (sym ((line_is ask input line e).1 ∙ line_text (words_for_ask ask input))) (line_lacks (words_for_ask ask input)) in
     let short : length line ≤ LINE_MAX = ltb-false _ _ (is_short line r read) in
@@ -111,7 +111,7 @@ not_granted : {A : Type 0} (b : Bool) (x : A) (why fault : RequestFault) → ◌
 not_granted true x why fault e = cc
 not_granted false x why fault e = (sym (err_same _ _ e), refl)
 
-is_no_text : (ask : Ask) (input : List ℕ) (fault : RequestFault) → words_line ask input ≡ Err fault → (fault ≡ NotWords) × (is_ask_text ask input ≡ false)
+is_no_text : (ask : CallWords) (input : List ℕ) (fault : RequestFault) → words_line ask input ≡ Err fault → (fault ≡ NotWords) × (is_ask_text ask input ≡ false)
 unfolding words_line tree_for_ask
 is_no_text ask input fault e =
     ⊎_elim
@@ -123,17 +123,17 @@ too_long_is : (line : List ℕ) (fault : RequestFault) → nat_lt LINE_MAX (leng
 unfolding request_in_line
 too_long_is line fault long fails = err_same _ _ (sym fails ∙ cond-true (nat_lt LINE_MAX (length line)) (Err TooLong) (asked_by_line line) long)
 
-unread_by : (b : Bool) (ask : Ask) (input line : List ℕ) (fault : RequestFault) → nat_lt LINE_MAX (length line) ≡ b → AreText ask → words_line ask input ≡ Ok line → request_in_line line ≡ Err fault
+unread_by : (b : Bool) (ask : CallWords) (input line : List ℕ) (fault : RequestFault) → nat_lt LINE_MAX (length line) ≡ b → AreText ask → words_line ask input ≡ Ok line → request_in_line line ≡ Err fault
     → ((fault ≡ TooLong) × LineIsTooLong ask input) ⊎ (command_of (words_for_ask ask input) ≡ Err fault)
 unread_by true ask input line fault long is e fails = inl (too_long_is line fault long fails, (line, (e, ltb-true _ _ long)))
 unread_by false ask input line fault short is e fails = inr (sym (read_is ask input line is e short) ∙ fails)
 
-unread : (ask : Ask) (input line : List ℕ) (fault : RequestFault) → AreText ask → words_line ask input ≡ Ok line → request_in_line line >>= (λ request. Ok (line ++ 10 ∷ [])) ≡ Err fault
+unread : (ask : CallWords) (input line : List ℕ) (fault : RequestFault) → AreText ask → words_line ask input ≡ Ok line → request_in_line line >>= (λ request. Ok (line ++ 10 ∷ [])) ≡ Err fault
     → ((fault ≡ TooLong) × LineIsTooLong ask input) ⊎ (command_of (words_for_ask ask input) ≡ Err fault)
 unread ask input line fault is e fails =
     ⊎_elim
     (λ (first : request_in_line line ≡ Err fault). unread_by (nat_lt LINE_MAX (length line)) ask input line fault refl is e first)
-    (λ (second : (r : Request) × ((request_in_line line ≡ Ok r) × (◌≡◌ {A = Result (List ℕ) RequestFault} (Ok (line ++ 10 ∷ [])) (Err fault)))). absurd (let no = second.1.1 in cc))
+    (λ (second : (r : ControlRequest) × ((request_in_line line ≡ Ok r) × (◌≡◌ {A = Result (List ℕ) RequestFault} (Ok (line ++ 10 ∷ [])) (Err fault)))). absurd (let no = second.1.1 in cc))
     (then_err (request_in_line line) (λ request. Ok (line ++ 10 ∷ [])) fault fails)
 
 pub unsent_is_refused : UnsentIsRefused

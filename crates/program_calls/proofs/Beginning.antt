@@ -5,7 +5,7 @@ use Rattle.std.proofs.lemmas.Slice.Eq.{bytes_eq-Decides}
 use Rattle.std.specs.Io.KnownBytes.{Appends, Consumes, IsAtEnd}
 use Rattle.std.specs.Prelude.{codes}
 use Rattle.agent_control.specs.Replies.{reply_in_text}
-use Rattle.agent_control.specs.declared.reply.Reply.{Reply}
+use Rattle.agent_control.specs.declared.reply.ControlReply.{ControlReply}
 use Rattle.base_device.specs.Failures.{CountsMore, one_more}
 use Rattle.base_device.specs.Seen.{Change, Input, Output, Seen, change}
 use Rattle.base_device.specs.Whole.{MakesAtMost, input_fault}
@@ -15,7 +15,7 @@ use Rattle.base_device.specs.declared.fault.SinkFault.{SinkFault}
 use Rattle.program_report.specs.Sent.{IsAll}
 use Rattle.program_calls.specs.Following.{AnswerOpens, CallBegins, FollowingGoesOn, IsLost, ListensToAll, PassesBy, PassesOn, ReadsFront, ReadsOther, ReadsSaid, TellsHow}
 use Rattle.program_calls.specs.Hearing.{IsSentOrGivenUp, fault_of_read, fault_of_write, heard_of}
-use Rattle.program_calls.specs.declared.call.Call.{Call}
+use Rattle.program_calls.specs.declared.call.AgentCall.{AgentCall}
 use Rattle.program_calls.specs.declared.ended.Ended.{Ended}
 use Rattle.program_calls.specs.declared.fault.CallFault.{CallFault}
 use Rattle.program_calls.specs.declared.fault.CallFault.TheVariants.{Memory}
@@ -95,7 +95,7 @@ module _ (old mid new : Seen) (in_memory : Bool) where
   all_sent request u sent same =
       (subst (λ (o : Output). Appends old.output.written o.written request) (sym same) sent.0.0, subst (λ (o : Output). IsTrue o.is_flushed) (sym same) sent.0.1)
 
-  says_from : (said : Result Reply CallFault) → mid.input ≡ old.input → mid.failed_calls ≡ old.failed_calls → ReadsSaid said (change in_memory mid new) → ReadsSaid said (change in_memory old new)
+  says_from : (said : Result ControlReply CallFault) → mid.input ≡ old.input → mid.failed_calls ≡ old.failed_calls → ReadsSaid said (change in_memory mid new) → ReadsSaid said (change in_memory old new)
   says_from said same still (inl h) = inl (h.0, (reads_front_from old mid new in_memory (Err h.0) same still h.1.0, h.1.1))
   says_from said same still (inr h) = inr (
     h.0,
@@ -113,7 +113,7 @@ module _ (old mid new : Seen) (in_memory : Bool) where
     ),
   )
 
-  listens_from : (heard : Result Reply CallFault) → mid.input ≡ old.input → mid.failed_calls ≡ old.failed_calls → ListensToAll heard (change in_memory mid new)
+  listens_from : (heard : Result ControlReply CallFault) → mid.input ≡ old.input → mid.failed_calls ≡ old.failed_calls → ListensToAll heard (change in_memory mid new)
       → ListensToAll heard (change in_memory old new)
   listens_from heard same still h = (h.0, (says_from h.0 same still h.1.0, h.1.1))
 
@@ -135,7 +135,7 @@ module _ (old mid new : Seen) (in_memory : Bool) where
   passes_from ways.Lost came out still h = (lost_from came still h.0, h.1)
   passes_from (ways.Stopped stop) came out still h = (h.0 ∙ still, h.1)
 
-  pub goes_on : (call : Call) (request : List ℕ) (ended : Ended) (followed : Followed) (out errors : Change) → CallBegins request (Ok Lines) (change in_memory old mid)
+  pub goes_on : (call : AgentCall) (request : List ℕ) (ended : Ended) (followed : Followed) (out errors : Change) → CallBegins request (Ok Lines) (change in_memory old mid)
       → PassesOn followed (change in_memory mid new) out → TellsHow call followed ended errors → FollowingGoesOn call request ended (change in_memory old new) out errors
   goes_on call request ended followed out errors begins passes told = record {
     followed = followed;

@@ -9,7 +9,7 @@ use Rattle.base_device.specs.declared.fault.InputFault.{InputFault}
 use Rattle.base_device.specs.declared.fault.SinkFault.{SinkFault}
 use Rattle.base_device.specs.declared.fault.SinkFault.TheVariants as sink
 use Rattle.base_device.specs.declared.limits.TheConstants.{MOST_READS}
-use Rattle.agent_control.specs.declared.reply.Reply.{Reply}
+use Rattle.agent_control.specs.declared.reply.ControlReply.{ControlReply}
 use Rattle.std.proofs.KnownBytes.{Appends-kept}
 use Rattle.program_report.proofs.Counting.{failed_once, later_once}
 use Rattle.program_report.proofs.Fronts.{whole_front}
@@ -40,7 +40,7 @@ module _ (old mid new : Seen) (in_memory : Bool) (request : List ℕ) where
   flushed (Err sink.OutOfMemory) whole same still kept is memory stays count = (whole_front _ _ _ request whole kept, stays ∙ same, memory refl)
 
 -- what was not sent whole was not answered
-pub unsent : (heard : Result Reply CallFault) (fault : SinkFault) (request : List ℕ) (line : Change) → heard ≡ Err (fault_of_write fault) → IsSentOrGivenUp (Err fault) request line → HearsReply request heard line
+pub unsent : (heard : Result ControlReply CallFault) (fault : SinkFault) (request : List ℕ) (line : Change) → heard ≡ Err (fault_of_write fault) → IsSentOrGivenUp (Err fault) request line → HearsReply request heard line
 unsent heard fault request line is sent = inl (fault, (is, sent))
 
 module _ (old mid new : Seen) (in_memory : Bool) where
@@ -55,7 +55,7 @@ module _ (old mid new : Seen) (in_memory : Bool) where
   }
 
   -- what was sent whole was answered by what was read after it
-  pub heard_after : (heard : Result Reply CallFault) (request : List ℕ) (u : Unit {0}) → IsSentOrGivenUp (Ok u) request (change in_memory old mid)
+  pub heard_after : (heard : Result ControlReply CallFault) (request : List ℕ) (u : Unit {0}) → IsSentOrGivenUp (Ok u) request (change in_memory old mid)
       → ListensToEnd heard (change in_memory mid new) → new.output ≡ mid.output → HearsReply request heard (change in_memory old new)
   heard_after heard request u sent listens same =
       let all : IsAll request (change in_memory old new) =
@@ -63,7 +63,7 @@ module _ (old mid new : Seen) (in_memory : Bool) where
       inr (all, (listens.0, (reads_from ANSWER_MAX listens.0 sent.1 sent.2 listens.1.0, listens.1.1)))
 
 -- what is heard, by the result of a function that hears
-abbrev pub Answers : Result Heard CallFault → (Result Reply CallFault → Type 0) → Type 0
+abbrev pub Answers : Result Heard CallFault → (Result ControlReply CallFault → Type 0) → Type 0
 Answers r P = MatchResult r (λ h. P (Ok h.reply)) (λ fault. P (Err fault))
 
 pub unsent_answers : (r : Result Heard CallFault) (fault : SinkFault) (request : List ℕ) (line : Change) → IsErr r × IsErrAnd r (λ e. e ≡ fault_of_write fault)

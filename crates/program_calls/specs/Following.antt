@@ -3,7 +3,7 @@
 use Rattle.std.specs.Prelude.{◌≡◌, ◌⊎◌, ℕ, ◌-◌, ◌^◌, ◌<◌, ◌≤◌, IsTrue, List, [], ◌++◌, false, IfOk, Option, Some, None, Result, Ok, Err, bytes_eq, codes, length}
 use Rattle.std.specs.Io.KnownBytes.{Consumes, IsAtEnd}
 use Rattle.agent_control.specs.Replies.{reply_in_text}
-use Rattle.agent_control.specs.declared.reply.Reply.{Reply}
+use Rattle.agent_control.specs.declared.reply.ControlReply.{ControlReply}
 use Rattle.base_device.specs.Failures.{CountsMore, one_more}
 use Rattle.base_device.specs.Seen.{Change, Receives, Seen, change}
 use Rattle.base_device.specs.Whole.{MakesAtMost, input_fault}
@@ -20,7 +20,7 @@ use Rattle.program_calls.specs.Hearing.{IsUnsent, fault_of_read, heard_of}
 use Rattle.program_calls.specs.Lines.{TellsOf}
 use Rattle.program_calls.specs.Requesting.{ReadsDevice}
 use Rattle.program_calls.specs.Showing.{ShowsAnswer, fault_words}
-use Rattle.program_calls.specs.declared.call.Call.{Call}
+use Rattle.program_calls.specs.declared.call.AgentCall.{AgentCall}
 use Rattle.program_calls.specs.declared.ended.Ended.{Ended}
 use Rattle.program_calls.specs.declared.ended.Ended.TheVariants as endings
 use Rattle.program_calls.specs.declared.fault.CallFault.{CallFault}
@@ -53,19 +53,19 @@ pub record ReadsOther (front : List ℕ) (rest : Result (List ℕ) InputFault) (
   pub others : ReadsDevice ANSWER_MAX rest (change line.is_in_memory mid line.new)
 
 -- the answer that its front and the other bytes are, where these were read
-abbrev pub heard_with : List ℕ → Result (List ℕ) InputFault → Result Reply CallFault
+abbrev pub heard_with : List ℕ → Result (List ℕ) InputFault → Result ControlReply CallFault
 heard_with front (Ok rest) = heard_of (front ++ rest)
 heard_with front (Err fault) = Err (fault_of_read fault)
 
 -- what was read says this: its front could not be read, or it is another answer than `ok`
-abbrev pub ReadsSaid : Result Reply CallFault → Change → Type 0
+abbrev pub ReadsSaid : Result ControlReply CallFault → Change → Type 0
 ReadsSaid said line =
     ((fault : MoreFault) × (ReadsFront (Err fault) line × (said ≡ Err (fault_of_read (input_fault fault)))))
     ⊎ ((front : List ℕ) × ((rest : Result (List ℕ) InputFault) × (ReadsOther front rest line × (said ≡ heard_with front rest))))
 
 -- another answer than `ok` was read, and this is the answer, unless memory was refused
-abbrev pub ListensToAll : Result Reply CallFault → Change → Type 0
-ListensToAll heard line = (said : Result Reply CallFault) × (ReadsSaid said line × ((said ≡ heard) ⊎ (heard ≡ Err Memory)))
+abbrev pub ListensToAll : Result ControlReply CallFault → Change → Type 0
+ListensToAll heard line = (said : Result ControlReply CallFault) × (ReadsSaid said line × ((said ≡ heard) ⊎ (heard ≡ Err Memory)))
 
 -- it begins with the line `ok`; or it is another answer
 abbrev pub AnswerOpens : Result Begun CallFault → Change → Type 0
@@ -74,7 +74,7 @@ AnswerOpens (Ok (Answer h)) line = ListensToAll (Ok h.reply) line × (reply_in_t
 AnswerOpens (Err fault) line = ListensToAll (Err fault) line
 
 -- the request was not sent whole, or it was
-abbrev pub HearsOtherAnswer : List ℕ → Result Reply CallFault → Change → Type 0
+abbrev pub HearsOtherAnswer : List ℕ → Result ControlReply CallFault → Change → Type 0
 HearsOtherAnswer request heard line = IsUnsent request heard line ⊎ (IsAll request line × ListensToAll heard line)
 
 abbrev pub CallBegins : List ℕ → Result Begun CallFault → Change → Type 0
@@ -127,7 +127,7 @@ abbrev pub PassesOne : Option Followed → Change → Change → Type 0
 PassesOne followed line out = (came : List ℕ) × (TakesBytes came line × PassesPiece followed came line out)
 
 -- what is told of how it ended
-abbrev pub TellsHow : Call → Followed → Ended → Change → Type 0
+abbrev pub TellsHow : AgentCall → Followed → Ended → Change → Type 0
 TellsHow call ways.Ended ended errors = (ended ≡ endings.Done) × IsUntouched errors
 TellsHow call ways.Lost ended errors = TellsOf call (fault_words NoAnswer) ended errors
 TellsHow call (ways.Stopped stop) ended errors = (ended ≡ ended_of stop) × Reports (fault_line call.program.now stop) errors
@@ -135,7 +135,7 @@ TellsHow call (ways.Stopped stop) ended errors = (ended ≡ ended_of stop) × Re
 -- ---- both
 
 -- the request was sent whole, and the answer began with `ok`; all that came after it is shown as it came
-pub record FollowingGoesOn (call : Call) (request : List ℕ) (ended : Ended) (line out errors : Change) : Type 0 where
+pub record FollowingGoesOn (call : AgentCall) (request : List ℕ) (ended : Ended) (line out errors : Change) : Type 0 where
   pub followed : Followed
   pub came : List ℕ
   pub sent : IsAll request line
@@ -144,13 +144,13 @@ pub record FollowingGoesOn (call : Call) (request : List ℕ) (ended : Ended) (l
   pub told : TellsHow call followed ended errors
 
 -- or there is another answer, or none, which is shown as that of any call
-abbrev pub FollowingEnds : Call → List ℕ → Ended → Change → Change → Change → Type 0
-FollowingEnds call request ended line out errors = (heard : Result Reply CallFault) × (HearsOtherAnswer request heard line × ShowsAnswer call heard ended out errors)
+abbrev pub FollowingEnds : AgentCall → List ℕ → Ended → Change → Change → Change → Type 0
+FollowingEnds call request ended line out errors = (heard : Result ControlReply CallFault) × (HearsOtherAnswer request heard line × ShowsAnswer call heard ended out errors)
 
 -- where memory was wanting, nothing is sent
-abbrev pub IsNotBegun : Call → Ended → Change → Change → Change → Type 0
+abbrev pub IsNotBegun : AgentCall → Ended → Change → Change → Change → Type 0
 IsNotBegun call ended line out errors = IsUntouched line × (IsUntouched out × TellsOf call None ended errors)
 
-abbrev pub CallFollows : Call → List ℕ → Ended → Change → Change → Change → Type 0
+abbrev pub CallFollows : AgentCall → List ℕ → Ended → Change → Change → Change → Type 0
 CallFollows call request ended line out errors =
     IsNotBegun call ended line out errors ⊎ (FollowingGoesOn call request ended line out errors ⊎ FollowingEnds call request ended line out errors)

@@ -8,7 +8,7 @@ use Rattle.base_device.specs.declared.fault.InputFault.TheVariants as inputs
 use Rattle.base_device.specs.declared.fault.SinkFault.{SinkFault}
 use Rattle.base_device.specs.declared.fault.SinkFault.TheVariants as sink
 use Rattle.agent_control.specs.Replies.{reply_in_text}
-use Rattle.agent_control.specs.declared.reply.Reply.{Reply}
+use Rattle.agent_control.specs.declared.reply.ControlReply.{ControlReply}
 use Rattle.program_report.specs.Sent.{IsAll}
 use Rattle.program_calls.specs.Requesting.{ReadsDevice}
 use Rattle.program_calls.specs.declared.fault.CallFault.{CallFault}
@@ -34,29 +34,29 @@ fault_of_read inputs.ReadFailed = faults.NoAnswer
 fault_of_read inputs.TooLong = faults.LongAnswer
 fault_of_read inputs.OutOfMemory = faults.Memory
 
-abbrev pub or_cut : Option Reply → Result Reply CallFault
+abbrev pub or_cut : Option ControlReply → Result ControlReply CallFault
 or_cut None = Err faults.CutAnswer
 or_cut (Some reply) = Ok reply
 
 -- the answer that all bytes are which came
-abbrev pub heard_of : List ℕ → Result Reply CallFault
+abbrev pub heard_of : List ℕ → Result ControlReply CallFault
 heard_of [] = Err faults.NoAnswer
 heard_of (byte ∷ bytes) = or_cut (reply_in_text (byte ∷ bytes))
 
-abbrev pub heard_of_read : Result (List ℕ) InputFault → Result Reply CallFault
+abbrev pub heard_of_read : Result (List ℕ) InputFault → Result ControlReply CallFault
 heard_of_read (Ok bytes) = heard_of bytes
 heard_of_read (Err fault) = Err (fault_of_read fault)
 
 -- the connection was read to its end, and this is the answer, unless memory was refused
-abbrev pub ListensToEnd : Result Reply CallFault → Change → Type 0
+abbrev pub ListensToEnd : Result ControlReply CallFault → Change → Type 0
 ListensToEnd heard line = (came : Result (List ℕ) InputFault) × (ReadsDevice ANSWER_MAX came line × ((heard_of_read came ≡ heard) ⊎ (heard ≡ Err faults.Memory)))
 
 -- ---- both
 
 -- the request was not sent whole, and nothing was read
-abbrev pub IsUnsent : List ℕ → Result Reply CallFault → Change → Type 0
+abbrev pub IsUnsent : List ℕ → Result ControlReply CallFault → Change → Type 0
 IsUnsent request heard line = (fault : SinkFault) × ((heard ≡ Err (fault_of_write fault)) × IsSentOrGivenUp (Err fault) request line)
 
 -- the request was not sent whole; or it was, and then the answer was read
-abbrev pub HearsReply : List ℕ → Result Reply CallFault → Change → Type 0
+abbrev pub HearsReply : List ℕ → Result ControlReply CallFault → Change → Type 0
 HearsReply request heard line = IsUnsent request heard line ⊎ (IsAll request line × ListensToEnd heard line)

@@ -6,12 +6,12 @@ use Rattle.program_report.specs.FaultLine.{before_colon, fault_line}
 use Rattle.program_report.specs.Told.{Reports}
 use Rattle.program_report.specs.declared.stop.Stop.TheVariants as stops
 use Rattle.program_calls.specs.Asking.{command_word}
-use Rattle.program_calls.specs.declared.call.Call.{Call}
+use Rattle.program_calls.specs.declared.call.AgentCall.{AgentCall}
 use Rattle.program_calls.specs.declared.ended.Ended.{Ended}
 use Rattle.program_calls.specs.declared.ended.Ended.TheVariants as endings
 
 -- the program and the command
-unfoldable pub call_front : Call → List ℕ
+unfoldable pub call_front : AgentCall → List ℕ
 call_front call = before_colon call.program.now ++ before_colon (command_word call.ask)
 
 -- the socket and what is said of it
@@ -19,19 +19,19 @@ unfoldable pub socket_rest : List ℕ → List ℕ → List ℕ
 socket_rest socket words = before_colon socket ++ (words ++ 10 ∷ [])
 
 -- `PROGRAM: COMMAND: WHY`
-unfoldable pub call_line : Call → List ℕ → List ℕ
+unfoldable pub call_line : AgentCall → List ℕ → List ℕ
 call_line call words = call_front call ++ (words ++ 10 ∷ [])
 
 -- a line for each reason
-abbrev pub call_lines : Call → List (List ℕ) → List ℕ
+abbrev pub call_lines : AgentCall → List (List ℕ) → List ℕ
 call_lines call [] = []
 call_lines call (why ∷ more) = call_line call why ++ call_lines call more
 
 -- `PROGRAM: COMMAND: SOCKET: WHY`
-unfoldable pub socket_line : Call → List ℕ → List ℕ
+unfoldable pub socket_line : AgentCall → List ℕ → List ℕ
 socket_line call words = call_front call ++ socket_rest call.socket.now words
 
 -- what went wrong at the socket is told; where that was memory, it is told as leasekeep tells it
-abbrev pub TellsOf : Call → Option (List ℕ) → Ended → Change → Type 0
+abbrev pub TellsOf : AgentCall → Option (List ℕ) → Ended → Change → Type 0
 TellsOf call None ended errors = (ended ≡ endings.Memory) × Reports (fault_line call.program.now stops.Memory) errors
 TellsOf call (Some words) ended errors = (ended ≡ endings.Refused) × Reports (socket_line call words) errors

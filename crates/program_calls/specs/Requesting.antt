@@ -17,8 +17,8 @@ use Rattle.program_report.specs.declared.stop.Stop.TheVariants as stops
 use Rattle.program_calls.specs.Asking.{line_for_ask, takes_input}
 use Rattle.program_calls.specs.Ending.{ended_of}
 use Rattle.program_calls.specs.Lines.{call_line}
-use Rattle.program_calls.specs.declared.ask.Ask.{Ask}
-use Rattle.program_calls.specs.declared.call.Call.{Call}
+use Rattle.program_calls.specs.declared.ask.CallWords.{CallWords}
+use Rattle.program_calls.specs.declared.call.AgentCall.{AgentCall}
 use Rattle.program_calls.specs.declared.ended.Ended.{Ended}
 use Rattle.program_calls.specs.declared.ended.Ended.TheVariants as endings
 use Rattle.program_calls.specs.declared.limits.TheConstants.{INPUT_MAX}
@@ -36,11 +36,11 @@ abbrev pub TakesIf : Bool → Result (List ℕ) InputFault → Change → Type 0
 TakesIf true read input = ReadsDevice INPUT_MAX read input × (input.new.output ≡ input.old.output)
 TakesIf false read input = (read ≡ Ok []) × IsUntouched input
 
-abbrev pub TakesInput : Ask → Result (List ℕ) InputFault → Change → Type 0
+abbrev pub TakesInput : CallWords → Result (List ℕ) InputFault → Change → Type 0
 TakesInput ask read input = TakesIf (takes_input ask) read input
 
 -- the line that is made of it, and nothing is told; or why there is none is told, without a word of what was read
-abbrev pub MakesLine : Call → Result (List ℕ) InputFault → Result (List ℕ) Ended → Change → Type 0
+abbrev pub MakesLine : AgentCall → Result (List ℕ) InputFault → Result (List ℕ) Ended → Change → Type 0
 MakesLine call (Ok text) (Ok line) errors = (line_for_ask call.ask text ≡ Ok line) × IsUntouched errors
 MakesLine call (Ok text) (Err endings.Refused) errors = (fault : RequestFault) × ((line_for_ask call.ask text ≡ Err fault) × Reports (call_line call (request_fault_text fault)) errors)
 MakesLine call (Ok text) (Err endings.Memory) errors = Reports (fault_line call.program.now stops.Memory) errors
@@ -49,5 +49,5 @@ MakesLine call (Err fault) (Ok line) errors = ⊥
 MakesLine call (Err fault) (Err ended) errors = (ended ≡ ended_of (stop_of_input fault)) × Reports (fault_line call.program.now (stop_of_input fault)) errors
 
 -- the line that a call sends, or how it ended
-abbrev pub CallAsks : Call → Result (List ℕ) Ended → Change → Change → Type 0
+abbrev pub CallAsks : AgentCall → Result (List ℕ) Ended → Change → Change → Type 0
 CallAsks call answer input errors = (read : Result (List ℕ) InputFault) × (TakesInput call.ask read input × MakesLine call read answer errors)

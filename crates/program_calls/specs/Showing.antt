@@ -2,8 +2,8 @@
 -- Source: this project's own; docs/commands/calls.md, "What it says".
 use Rattle.std.specs.Prelude.{◌≡◌, ◌⊎◌, ℕ, ◌==◌, List, ◌∷◌, Bool, not, ◌&&◌, ◌||◌, if◌then◌else◌, Option, Some, None, Result, Ok, Err, bytes_eq, codes, length}
 use Rattle.agent_control.specs.Replies.{lines_text}
-use Rattle.agent_control.specs.declared.reply.Reply.{Reply}
-use Rattle.agent_control.specs.declared.reply.Reply.TheVariants as replies
+use Rattle.agent_control.specs.declared.reply.ControlReply.{ControlReply}
+use Rattle.agent_control.specs.declared.reply.ControlReply.TheVariants as replies
 use Rattle.base_device.specs.Seen.{Change}
 use Rattle.program_report.specs.FaultLine.{fault_line}
 use Rattle.program_report.specs.Sent.{IsAll, IsUntouched, SendsText}
@@ -13,8 +13,8 @@ use Rattle.program_calls.specs.Asking.{is_health}
 use Rattle.program_calls.specs.Ending.{ended_of}
 use Rattle.program_calls.specs.Hearing.{HearsReply}
 use Rattle.program_calls.specs.Lines.{TellsOf, call_lines}
-use Rattle.program_calls.specs.declared.ask.Ask.{Ask}
-use Rattle.program_calls.specs.declared.call.Call.{Call}
+use Rattle.program_calls.specs.declared.ask.CallWords.{CallWords}
+use Rattle.program_calls.specs.declared.call.AgentCall.{AgentCall}
 use Rattle.program_calls.specs.declared.ended.Ended.{Ended}
 use Rattle.program_calls.specs.declared.ended.Ended.TheVariants as endings
 use Rattle.program_calls.specs.declared.fault.CallFault.{CallFault}
@@ -34,14 +34,14 @@ unfoldable pub names_no_entry : List ℕ → Bool
 names_no_entry lines = (length lines == 0) || (bytes_eq lines kept_text || bytes_eq lines kept_until_restart_text)
 
 -- a health without lines is shown as one that says so
-abbrev pub shown_text : Ask → List ℕ → List ℕ
+abbrev pub shown_text : CallWords → List ℕ → List ℕ
 shown_text ask lines = if is_health ask && (length lines == 0) then kept_text else lines
 
-abbrev pub ended_by : Ask → List ℕ → Ended
+abbrev pub ended_by : CallWords → List ℕ → Ended
 ended_by ask lines = if is_health ask && not (names_no_entry lines) then endings.Refused else endings.Done
 
 -- the lines are shown whole, and nothing is told; or only a front of them, and why is told
-abbrev pub PrintsLines : Call → List ℕ → Ended → Change → Change → Type 0
+abbrev pub PrintsLines : AgentCall → List ℕ → Ended → Change → Change → Type 0
 PrintsLines call lines ended out errors =
     (IsAll (shown_text call.ask lines) out × IsUntouched errors × (ended ≡ ended_by call.ask lines))
     ⊎ ((stop : Stop) × (SendsText (Err stop) (shown_text call.ask lines) out × Reports (fault_line call.program.now stop) errors × (ended ≡ ended_of stop)))
@@ -59,11 +59,11 @@ fault_words faults.Memory = None
 -- ---- both
 
 -- what is shown and told, by the call and the answer alone
-abbrev pub ShowsAnswer : Call → Result Reply CallFault → Ended → Change → Change → Type 0
+abbrev pub ShowsAnswer : AgentCall → Result ControlReply CallFault → Ended → Change → Change → Type 0
 ShowsAnswer call (Ok (replies.Done lines)) ended out errors = PrintsLines call (lines_text lines) ended out errors
 ShowsAnswer call (Ok (replies.Refused why more)) ended out errors = IsUntouched out × Reports (call_lines call (why ∷ more)) errors × (ended ≡ endings.Refused)
 ShowsAnswer call (Err fault) ended out errors = IsUntouched out × TellsOf call (fault_words fault) ended errors
 
 -- a request is sent, and what is heard is shown
-abbrev pub Talks : Call → List ℕ → Ended → Change → Change → Change → Type 0
-Talks call request ended line out errors = (heard : Result Reply CallFault) × (HearsReply request heard line × ShowsAnswer call heard ended out errors)
+abbrev pub Talks : AgentCall → List ℕ → Ended → Change → Change → Change → Type 0
+Talks call request ended line out errors = (heard : Result ControlReply CallFault) × (HearsReply request heard line × ShowsAnswer call heard ended out errors)

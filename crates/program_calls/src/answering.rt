@@ -1,14 +1,14 @@
 ghost use Rattle.std.specs.Prelude.{◌≡◌, ℕ, List, Ok, Some};
 ghost use Rattle.agent_control.specs.Replies.{lines_text, reply_in_text};
-ghost use Rattle.agent_control.specs.declared.reply.Reply.TheVariants as replies;
+ghost use Rattle.agent_control.specs.declared.reply.ControlReply.TheVariants as replies;
 ghost use Rattle.program_calls.specs.Showing.{PrintsLines, ShowsAnswer, ended_by, names_no_entry, shown_text};
 
-use crate::ask::Ask;
-use crate::call::Call;
+use crate::ask::CallWords;
+use crate::call::AgentCall;
 use crate::ended::Ended;
 use crate::hearing::Heard;
 use crate::telling::tell_of_refusal;
-use agent_control::{Reply, replies_are_read_back};
+use agent_control::{ControlReply, replies_are_read_back};
 use base_device::{Sink, Watched};
 use program_report::{Stop, send};
 
@@ -19,7 +19,7 @@ const KEPT_UNTIL_RESTART: &[u8] =
 
 /// Shows what was answered.
 pub(crate) fn show<W: Sink, E: Sink>(
-    call: &Call<'_>,
+    call: &AgentCall<'_>,
     heard: &Heard,
     out: &mut W,
     errors: &mut E,
@@ -28,8 +28,8 @@ pub(crate) fn show<W: Sink, E: Sink>(
     ensures { ShowsAnswer call.now (Ok heard.now.reply) result (⟦<W as Watched>⟧.change out.old out.new) (⟦<E as Watched>⟧.change errors.old errors.new) }
 {
     match &heard.reply {
-        Reply::Done(_) => print(call, lines_of(heard), out, errors),
-        Reply::Refused(why, more) => {
+        ControlReply::Done(_) => print(call, lines_of(heard), out, errors),
+        ControlReply::Refused(why, more) => {
             tell_of_refusal(errors, call, why.list(), more.list());
             Ended::Refused
         }
@@ -47,7 +47,7 @@ fn lines_of(heard: &Heard) -> &[u8]
 }
 
 // Prints the lines of an answer and flushes, or tells why only a front of them went out.
-fn print<W: Sink, E: Sink>(call: &Call<'_>, lines: &[u8], out: &mut W, errors: &mut E) -> Ended
+fn print<W: Sink, E: Sink>(call: &AgentCall<'_>, lines: &[u8], out: &mut W, errors: &mut E) -> Ended
     ensures { PrintsLines call.now lines.now result (⟦<W as Watched>⟧.change out.old out.new) (⟦<E as Watched>⟧.change errors.old errors.new) }
 {
     match send(out, shown_text(&call.ask, lines)) {
@@ -60,7 +60,7 @@ fn print<W: Sink, E: Sink>(call: &Call<'_>, lines: &[u8], out: &mut W, errors: &
 }
 
 // What is shown of these lines.
-fn shown_text<'t>(ask: &Ask<'_>, lines: &'t [u8]) -> &'t [u8]
+fn shown_text<'t>(ask: &CallWords<'_>, lines: &'t [u8]) -> &'t [u8]
     ensures { result.now ≡ shown_text ask.now lines.now }
 {
     if ask.is_health() && lines.is_empty() {
@@ -71,7 +71,7 @@ fn shown_text<'t>(ask: &Ask<'_>, lines: &'t [u8]) -> &'t [u8]
 }
 
 // How a call ended whose answer has these lines.
-fn ended_by(ask: &Ask<'_>, lines: &[u8]) -> Ended
+fn ended_by(ask: &CallWords<'_>, lines: &[u8]) -> Ended
     ensures { result ≡ ended_by ask.now lines.now }
 {
     if ask.is_health() && !is_kept(lines) {

@@ -3,7 +3,7 @@ ghost use Rattle.program_calls.specs.Asking.{command_word, is_follow, is_health,
 
 /// What is asked of a running agent, as the command line says it.
 #[derive(Clone, Copy, Debug)]
-pub enum Ask<'a> {
+pub enum CallWords<'a> {
     /// An entry is needed until then from now on.
     Need {
         /// Its name.
@@ -38,21 +38,21 @@ pub enum Ask<'a> {
     },
 }
 
-impl<'a> Ask<'a> {
+impl<'a> CallWords<'a> {
     /// The command's word.
     pub fn command(&self) -> &'static str
         ensures { result.now ≡ command_word self.now }
     {
         match self {
-            Ask::Need { .. } => "need",
-            Ask::Replace { .. } => "replace",
-            Ask::Add => "add",
-            Ask::Drop { .. } => "drop",
-            Ask::Status => "status",
-            Ask::Health => "health",
-            Ask::Settle => "settle",
-            Ask::Reload => "reload",
-            Ask::Follow { .. } => "follow",
+            CallWords::Need { .. } => "need",
+            CallWords::Replace { .. } => "replace",
+            CallWords::Add => "add",
+            CallWords::Drop { .. } => "drop",
+            CallWords::Status => "status",
+            CallWords::Health => "health",
+            CallWords::Settle => "settle",
+            CallWords::Reload => "reload",
+            CallWords::Follow { .. } => "follow",
         }
     }
 
@@ -60,20 +60,20 @@ impl<'a> Ask<'a> {
     pub fn takes_input(&self) -> bool
         ensures { result ≡ takes_input self.now }
     {
-        matches!(self, Ask::Replace { .. } | Ask::Add)
+        matches!(self, CallWords::Replace { .. } | CallWords::Add)
     }
 
     /// Whether its answer goes on.
     pub fn is_follow(&self) -> bool
         ensures { result ≡ is_follow self.now }
     {
-        matches!(self, Ask::Follow { .. })
+        matches!(self, CallWords::Follow { .. })
     }
 
     /// Whether it asks which needed entries are not kept.
     pub fn is_health(&self) -> bool
         ensures { result ≡ is_health self.now }
     {
-        matches!(self, Ask::Health)
+        matches!(self, CallWords::Health)
     }
 }

@@ -1,5 +1,5 @@
 //! The connection of the system.
-use crate::call::Call;
+use crate::call::AgentCall;
 use crate::limits::PATIENCE;
 use crate::unreached::Unreached;
 use base_device::Counted;
@@ -22,7 +22,7 @@ const MOST_TRIES: u64 = PATIENCE * 1000 / PAUSE;
 /// # Errors
 ///
 /// Why there is no connection.
-pub fn connect<R: Net + Clock>(rt: &R, call: &Call<'_>) -> Result<Counted<UnixStream>, Unreached> {
+pub fn connect<R: Net + Clock>(rt: &R, call: &AgentCall<'_>) -> Result<Counted<UnixStream>, Unreached> {
     match open(rt, call) {
         Ok(stream) => Ok(Counted::new(stream)),
         Err(error) => Err(Unreached::of(error.kind())),
@@ -30,7 +30,7 @@ pub fn connect<R: Net + Clock>(rt: &R, call: &Call<'_>) -> Result<Counted<UnixSt
 }
 
 /// A connection whose writes have a limit, and whose reads have one unless an answer goes on.
-fn open<R: Net + Clock>(rt: &R, call: &Call<'_>) -> io::Result<UnixStream> {
+fn open<R: Net + Clock>(rt: &R, call: &AgentCall<'_>) -> io::Result<UnixStream> {
     let stream = UnixStream::from(connect_within(rt, call.socket)?);
     let longest = Some(Duration::from_secs(PATIENCE));
     let longest_read = if call.ask.is_follow() { None } else { longest };

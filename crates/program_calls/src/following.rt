@@ -7,7 +7,7 @@ ghost use Rattle.base_device.specs.declared.limits.TheConstants.{MOST_ROOM};
 ghost use Rattle.program_calls.specs.Following.{AnswerOpens, CallBegins, CallFollows, PassesOn, PassesOne, TellsHow};
 
 use crate::answering::show;
-use crate::call::Call;
+use crate::call::AgentCall;
 use crate::ended::Ended;
 use crate::fault::CallFault;
 use crate::hearing::{Heard, give, reply_in};
@@ -46,7 +46,7 @@ pub(crate) enum Followed {
 /// `Refused`: the agent refuses, there is no answer, or a read failed. `Device`: `out` failed. `Memory`: memory was refused.
 pub fn follow<L: Source + Sink, W: Sink, E: Sink>(
     alloc: Global,
-    call: &Call<'_>,
+    call: &AgentCall<'_>,
     request: &[u8],
     line: &mut L,
     out: &mut W,
@@ -168,7 +168,7 @@ fn pass_one<L: Source, W: Sink>(room: &mut [u8], line: &mut L, out: &mut W) -> O
 }
 
 // Tells how it ended, where there is something to tell.
-fn tell_how<E: Sink>(call: &Call<'_>, followed: Followed, errors: &mut E) -> Ended
+fn tell_how<E: Sink>(call: &AgentCall<'_>, followed: Followed, errors: &mut E) -> Ended
     ensures { TellsHow call.now followed result (⟦<E as Watched>⟧.change errors.old errors.new) }
 {
     match followed {

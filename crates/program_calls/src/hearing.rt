@@ -5,7 +5,7 @@ ghost use Rattle.program_calls.specs.declared.fault.CallFault.TheVariants.{Memor
 
 use crate::fault::CallFault;
 use crate::limits::ANSWER_MAX;
-use agent_control::{Reply, read_reply};
+use agent_control::{ControlReply, read_reply};
 use base_device::{Sink, SinkFault, Source, Watched, read_all, write_all};
 use base_moment::Text;
 use std::alloc::Global;
@@ -14,7 +14,7 @@ use std::alloc::Global;
 #[derive(Drop)]
 pub(crate) struct Heard {
     pub(crate) text: Text,
-    pub(crate) reply: Reply,
+    pub(crate) reply: ControlReply,
 }
 
 /// Sends a request, once, and reads the answer to its end.

@@ -23,8 +23,8 @@ mod telling;
 mod unreached;
 mod words;
 
-pub use ask::Ask;
-pub use call::Call;
+pub use ask::CallWords;
+pub use call::AgentCall;
 pub use connecting::connect;
 pub use ended::Ended;
 pub use following::follow;

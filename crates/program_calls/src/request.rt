@@ -1,8 +1,8 @@
 ghost use Rattle.std.specs.Prelude.{Ok};
 ghost use Rattle.program_calls.specs.Requesting.{CallAsks, MakesLine, TakesInput};
 
-use crate::ask::Ask;
-use crate::call::Call;
+use crate::ask::CallWords;
+use crate::call::AgentCall;
 use crate::ended::Ended;
 use crate::limits::INPUT_MAX;
 use crate::telling::tell_of_call;
@@ -24,7 +24,7 @@ use std::alloc::Global;
 /// memory was refused.
 pub fn request_for<I: Source, E: Sink>(
     alloc: Global,
-    call: &Call<'_>,
+    call: &AgentCall<'_>,
     input: &mut I,
     errors: &mut E,
 ) -> Result<Text, Ended>
@@ -41,7 +41,7 @@ pub fn request_for<I: Source, E: Sink>(
 }
 
 // What a command takes of standard input.
-fn taken<I: Source>(alloc: Global, ask: &Ask<'_>, input: &mut I) -> Result<Text, InputFault>
+fn taken<I: Source>(alloc: Global, ask: &CallWords<'_>, input: &mut I) -> Result<Text, InputFault>
     ensures { TakesInput ask.now result (⟦<I as Watched>⟧.change input.old input.new) }
 {
     if !ask.takes_input() {
@@ -53,7 +53,7 @@ fn taken<I: Source>(alloc: Global, ask: &Ask<'_>, input: &mut I) -> Result<Text,
 // The line, or how the call ended, once the reason was told.
 fn told_line<E: Sink>(
     alloc: Global,
-    call: &Call<'_>,
+    call: &AgentCall<'_>,
     input: &[u8],
     errors: &mut E,
 ) -> Result<Text, Ended>

@@ -1,7 +1,7 @@
 ghost use Rattle.program_calls.specs.Showing.{Talks};
 
 use crate::answering::show;
-use crate::call::Call;
+use crate::call::AgentCall;
 use crate::ended::Ended;
 use crate::hearing::hear;
 use crate::telling::tell_of_socket;
@@ -16,7 +16,7 @@ use std::alloc::Global;
 /// `Refused` with the agent's reason, what the answer says holds; after anything else what was asked may have been done.
 pub fn talk<L: Source + Sink, W: Sink, E: Sink>(
     alloc: Global,
-    call: &Call<'_>,
+    call: &AgentCall<'_>,
     request: &[u8],
     line: &mut L,
     out: &mut W,

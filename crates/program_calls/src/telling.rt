@@ -4,14 +4,14 @@ ghost use Rattle.program_report.specs.Sent.{Puts};
 ghost use Rattle.program_report.specs.Told.{Reports};
 ghost use Rattle.program_calls.specs.Lines.{TellsOf, call_front, call_line, call_lines, socket_line, socket_rest};
 
-use crate::call::Call;
+use crate::call::AgentCall;
 use crate::ended::Ended;
 use base_device::{Sink, SinkFault, Watched};
 use base_moment::Text;
 use program_report::{Stop, put_before_colon, put_both};
 
 /// Tells why a call was refused.
-pub(crate) fn tell_of_call<E: Sink>(errors: &mut E, call: &Call<'_>, words: &[u8])
+pub(crate) fn tell_of_call<E: Sink>(errors: &mut E, call: &AgentCall<'_>, words: &[u8])
     ensures { Reports (call_line call.now words.now) (⟦<E as Watched>⟧.change errors.old errors.new) }
 {
     let _ = put_call_line(errors, call, words);
@@ -19,7 +19,7 @@ pub(crate) fn tell_of_call<E: Sink>(errors: &mut E, call: &Call<'_>, words: &[u8
 }
 
 /// Tells why an agent refused a call, a line for each reason.
-pub(crate) fn tell_of_refusal<E: Sink>(errors: &mut E, call: &Call<'_>, why: &[u8], more: &[Text])
+pub(crate) fn tell_of_refusal<E: Sink>(errors: &mut E, call: &AgentCall<'_>, why: &[u8], more: &[Text])
     ensures { Reports (call_lines call.now (why.now ∷ more.now)) (⟦<E as Watched>⟧.change errors.old errors.new) }
 {
     let _ = put_reasons(errors, call, why, more);
@@ -27,7 +27,7 @@ pub(crate) fn tell_of_refusal<E: Sink>(errors: &mut E, call: &Call<'_>, why: &[u
 }
 
 /// Tells what went wrong at the socket of a call, `None` being lack of memory.
-pub(crate) fn tell_of_socket<E: Sink>(call: &Call<'_>, words: Option<&str>, errors: &mut E) -> Ended
+pub(crate) fn tell_of_socket<E: Sink>(call: &AgentCall<'_>, words: Option<&str>, errors: &mut E) -> Ended
     ensures { TellsOf call.now (option_map (λ w. w.now) words.entry) result (⟦<E as Watched>⟧.change errors.old errors.new) }
 {
     match words {
@@ -42,7 +42,7 @@ pub(crate) fn tell_of_socket<E: Sink>(call: &Call<'_>, words: Option<&str>, erro
     }
 }
 
-fn tell_at_socket<E: Sink>(errors: &mut E, call: &Call<'_>, words: &[u8])
+fn tell_at_socket<E: Sink>(errors: &mut E, call: &AgentCall<'_>, words: &[u8])
     ensures { Reports (socket_line call.now words.now) (⟦<E as Watched>⟧.change errors.old errors.new) }
 {
     let _ = put_socket_line(errors, call, words);
@@ -52,7 +52,7 @@ fn tell_at_socket<E: Sink>(errors: &mut E, call: &Call<'_>, words: &[u8])
 #[tactic(auto, using(program_report::proofs::Pieces::piece_cut, program_report::proofs::Pieces::piece_more))]
 fn put_reasons<E: Sink>(
     errors: &mut E,
-    call: &Call<'_>,
+    call: &AgentCall<'_>,
     why: &[u8],
     more: &[Text],
 ) -> Result<(), SinkFault>
@@ -63,7 +63,7 @@ fn put_reasons<E: Sink>(
 }
 
 // A line for each of these reasons.
-fn put_call_lines<E: Sink>(errors: &mut E, call: &Call<'_>, whys: &[Text]) -> Result<(), SinkFault>
+fn put_call_lines<E: Sink>(errors: &mut E, call: &AgentCall<'_>, whys: &[Text]) -> Result<(), SinkFault>
     ensures { Puts result (call_lines call.now whys.now) (⟦<E as Watched>⟧.change errors.old errors.new) }
 {
     for why in whys {
@@ -72,14 +72,14 @@ fn put_call_lines<E: Sink>(errors: &mut E, call: &Call<'_>, whys: &[Text]) -> Re
     Ok(())
 }
 
-fn put_reason<E: Sink>(errors: &mut E, call: &Call<'_>, why: &Text) -> Result<(), SinkFault>
+fn put_reason<E: Sink>(errors: &mut E, call: &AgentCall<'_>, why: &Text) -> Result<(), SinkFault>
     ensures { Puts result (call_line call.now why.now) (⟦<E as Watched>⟧.change errors.old errors.new) }
 {
     put_call_line(errors, call, why.list())
 }
 
 #[tactic(auto, using(program_report::proofs::Pieces::piece_cut, program_report::proofs::Pieces::piece_more), unfolding(crate::specs::Lines::call_line))]
-fn put_call_line<E: Sink>(errors: &mut E, call: &Call<'_>, words: &[u8]) -> Result<(), SinkFault>
+fn put_call_line<E: Sink>(errors: &mut E, call: &AgentCall<'_>, words: &[u8]) -> Result<(), SinkFault>
     ensures { Puts result (call_line call.now words.now) (⟦<E as Watched>⟧.change errors.old errors.new) }
 {
     put_front(errors, call)?;
@@ -87,7 +87,7 @@ fn put_call_line<E: Sink>(errors: &mut E, call: &Call<'_>, words: &[u8]) -> Resu
 }
 
 #[tactic(auto, using(program_report::proofs::Pieces::piece_cut, program_report::proofs::Pieces::piece_more), unfolding(crate::specs::Lines::socket_line))]
-fn put_socket_line<E: Sink>(errors: &mut E, call: &Call<'_>, words: &[u8]) -> Result<(), SinkFault>
+fn put_socket_line<E: Sink>(errors: &mut E, call: &AgentCall<'_>, words: &[u8]) -> Result<(), SinkFault>
     ensures { Puts result (socket_line call.now words.now) (⟦<E as Watched>⟧.change errors.old errors.new) }
 {
     put_front(errors, call)?;
@@ -96,7 +96,7 @@ fn put_socket_line<E: Sink>(errors: &mut E, call: &Call<'_>, words: &[u8]) -> Re
 
 // The program and the command.
 #[tactic(auto, using(program_report::proofs::Pieces::piece_cut, program_report::proofs::Pieces::piece_more), unfolding(crate::specs::Lines::call_front))]
-fn put_front<E: Sink>(errors: &mut E, call: &Call<'_>) -> Result<(), SinkFault>
+fn put_front<E: Sink>(errors: &mut E, call: &AgentCall<'_>) -> Result<(), SinkFault>
     ensures { Puts result (call_front call.now) (⟦<E as Watched>⟧.change errors.old errors.new) }
 {
     put_before_colon(errors, call.program.as_bytes())?;

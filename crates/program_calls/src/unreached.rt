@@ -2,7 +2,7 @@ ghost use Rattle.std.specs.Prelude.{◌≡◌, option_map};
 ghost use Rattle.program_calls.specs.Lines.{TellsOf};
 ghost use Rattle.program_calls.specs.Reaching.{unreached_of, unreached_words};
 
-use crate::call::Call;
+use crate::call::AgentCall;
 use crate::ended::Ended;
 use crate::telling::tell_of_socket;
 use base_device::{Sink, Watched};
@@ -64,7 +64,7 @@ impl Unreached {
 }
 
 /// Tells that nobody was reached, and why.
-pub fn tell_unreached<E: Sink>(call: &Call<'_>, why: Unreached, errors: &mut E) -> Ended
+pub fn tell_unreached<E: Sink>(call: &AgentCall<'_>, why: Unreached, errors: &mut E) -> Ended
     ensures { TellsOf call.now (unreached_words why) result (⟦<E as Watched>⟧.change errors.old errors.new) }
 {
     tell_of_socket(call, why.words(), errors)

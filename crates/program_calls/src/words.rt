@@ -8,7 +8,7 @@ ghost use Rattle.agent_control.specs.declared.fault.RequestFault.TheVariants as 
 ghost use Rattle.base_words.specs.Texts.{stripped};
 ghost use Rattle.program_calls.specs.Asking.{line_for_ask, tree_for_ask, words_line};
 
-use crate::ask::Ask;
+use crate::ask::CallWords;
 use agent_control::{RequestFault, read_request};
 use base_moment::Text;
 use serde_json::{Value, json};
@@ -16,7 +16,7 @@ use std::alloc::{AllocError, Global};
 
 /// The line that asks for it, with its line feed, where an agent reads it as a request; else why it does not.
 #[tactic(auto, unfolding(crate::specs::Asking::line_for_ask))]
-pub(crate) fn line_for(alloc: Global, ask: &Ask<'_>, input: &[u8]) -> Result<Text, RequestFault>
+pub(crate) fn line_for(alloc: Global, ask: &CallWords<'_>, input: &[u8]) -> Result<Text, RequestFault>
     ensures { GivesOrRequestFault (λ text. text) result (line_for_ask ask.now input.now) }
 {
     let mut line = words_line(alloc, ask, input)?;
@@ -27,7 +27,7 @@ pub(crate) fn line_for(alloc: Global, ask: &Ask<'_>, input: &[u8]) -> Result<Tex
 
 // The words as a line.
 #[tactic(auto, unfolding(crate::specs::Asking::words_line))]
-fn words_line(alloc: Global, ask: &Ask<'_>, input: &[u8]) -> Result<Vec<u8>, RequestFault>
+fn words_line(alloc: Global, ask: &CallWords<'_>, input: &[u8]) -> Result<Vec<u8>, RequestFault>
     ensures { GivesOrRequestFault (λ line. line.items) result (words_line ask.now input.now) }
 {
     let tree = tree_for(alloc, ask, input)?;
@@ -36,26 +36,26 @@ fn words_line(alloc: Global, ask: &Ask<'_>, input: &[u8]) -> Result<Vec<u8>, Req
 
 // The array of the words.
 #[tactic(auto, unfolding(crate::specs::Asking::tree_for_ask))]
-fn tree_for(alloc: Global, ask: &Ask<'_>, input: &[u8]) -> Result<Value, RequestFault>
+fn tree_for(alloc: Global, ask: &CallWords<'_>, input: &[u8]) -> Result<Value, RequestFault>
     ensures { GivesOrRequestFault (λ v. view v) result (tree_for_ask ask.now input.now) }
 {
     match ask {
-        Ask::Need { name, when } => Ok(three(alloc, "need", name, when)?),
-        Ask::Replace { name } => {
+        CallWords::Need { name, when } => Ok(three(alloc, "need", name, when)?),
+        CallWords::Replace { name } => {
             let credential = text(stripped(input))?;
             Ok(three(alloc, "replace", name, credential)?)
         }
-        Ask::Add => {
+        CallWords::Add => {
             let table = text(input)?;
             Ok(two(alloc, "add", table)?)
         }
-        Ask::Drop { name } => Ok(two(alloc, "drop", name)?),
-        Ask::Status => Ok(one(alloc, "status")?),
-        Ask::Health => Ok(one(alloc, "health")?),
-        Ask::Settle => Ok(one(alloc, "settle")?),
-        Ask::Reload => Ok(one(alloc, "reload")?),
-        Ask::Follow { alerts: false } => Ok(one(alloc, "follow")?),
-        Ask::Follow { alerts: true } => Ok(two(alloc, "follow", "alerts")?),
+        CallWords::Drop { name } => Ok(two(alloc, "drop", name)?),
+        CallWords::Status => Ok(one(alloc, "status")?),
+        CallWords::Health => Ok(one(alloc, "health")?),
+        CallWords::Settle => Ok(one(alloc, "settle")?),
+        CallWords::Reload => Ok(one(alloc, "reload")?),
+        CallWords::Follow { alerts: false } => Ok(one(alloc, "follow")?),
+        CallWords::Follow { alerts: true } => Ok(two(alloc, "follow", "alerts")?),
     }
 }
 

@@ -1,5 +1,5 @@
 //! The commands that keep entries alive, with their help.
-use crate::described::{Described, FILE, Takes, Value, Word};
+use crate::described::{Described, FILE, Takes, Value, DescribedWord};
 use watch_machine::WIDTH_MAX;
 
 /// `run FILE PORT|SOCKET START [--timeout SECONDS]`
@@ -35,14 +35,14 @@ Exit status: 0 the lines have ended, 1 inventory, 2 command line, 5 more than 10
     words: &[
         FILE,
         PORT,
-        Word {
+        DescribedWord {
             name: "START",
             takes: Takes::Moment,
             help: "\
 The moment of the lookups, from which entries are kept; $(date +%s) is
 now",
         },
-        Word {
+        DescribedWord {
             name: "timeout",
             takes: Takes::Option("SECONDS", Value::Number(1, 60)),
             help: "\
@@ -88,63 +88,63 @@ Exit status: 1 the inventory is refused, or another agent holds FOLDER, 2 comman
         PORT,
         TIMEOUT_OF_LANES,
         WIDTH,
-        Word {
+        DescribedWord {
             name: "names-are-secrets",
             takes: Takes::Flag,
             help: "\
 For trials: sends the name of an entry in place of a credential that is
 not written",
         },
-        Word {
+        DescribedWord {
             name: "log",
             takes: Takes::Option("FORM", Value::OneOf(LOG_FORMS)),
             help: "\
 How the lines of the log are written: text or json
 [default: text]",
         },
-        Word {
+        DescribedWord {
             name: "state",
             takes: Takes::Option("FOLDER", Value::Text),
             help: "\
 Keeps the changes that commands make in this folder, which only one agent
 may use; it is created if it does not exist",
         },
-        Word {
+        DescribedWord {
             name: "control",
             takes: Takes::Option("SOCKET", Value::Text),
             help: "\
 Takes commands at this UNIX socket, a path with a `/` in it, for its user
 and its group",
         },
-        Word {
+        DescribedWord {
             name: "listen",
             takes: Takes::Option("PLACE", Value::Text),
             help: "\
 Serves /metrics, /health and /status over HTTP: at a port of 127.0.0.1,
 at ADDR:PORT, or at a UNIX socket, a path with a `/` in it",
         },
-        Word {
+        DescribedWord {
             name: "runtime",
             takes: Takes::Option("FOLDER", Value::Text),
             help: "\
 Keeps the ends in this folder for a restart in the same boot, in the file
 `ends` [default: the folder of SOCKET]",
         },
-        Word {
+        DescribedWord {
             name: "name",
             takes: Takes::Option("NAME", Value::Text),
             help: "\
 This agent's name, for --spread and --behind
 [default: the machine's name and the path FILE]",
         },
-        Word {
+        DescribedWord {
             name: "spread",
             takes: Takes::Option("SECONDS", Value::Number(0, 3600)),
             help: "\
 Wakes up earlier by this agent's share of SECONDS, 0 to 3600, so that
 agents of one Vault do not wake up together [default: 0]",
         },
-        Word {
+        DescribedWord {
             name: "behind",
             takes: Takes::Flag,
             help: "\
@@ -157,7 +157,7 @@ it renews, and renews what the one in front has left undone",
 /// The word that says where Vault is reached.
 pub const BROKER: &str = "PORT|SOCKET";
 
-const PORT: Word = Word {
+const PORT: DescribedWord = DescribedWord {
     name: BROKER,
     takes: Takes::Text,
     help: "\
@@ -165,7 +165,7 @@ Where Vault is reached: a port of 127.0.0.1, or the path of a UNIX socket,
 with a `/` in it",
 };
 
-const TIMEOUT_OF_LANES: Word = Word {
+const TIMEOUT_OF_LANES: DescribedWord = DescribedWord {
     name: "timeout",
     takes: Takes::Option("SECONDS", Value::Number(1, 60)),
     help: "\
@@ -173,7 +173,7 @@ How long the connect, the write and the first read of a request may take,
 1 to 60 seconds [default: 5]",
 };
 
-const WIDTH: Word = Word {
+const WIDTH: DescribedWord = DescribedWord {
     name: "width",
     takes: Takes::Option("K", Value::Number(1, WIDTH_MAX as i64)),
     help: "The greatest number of requests in parallel, 1 to 32 [default: 8]",

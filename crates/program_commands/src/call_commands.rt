@@ -1,8 +1,8 @@
 //! The commands of a running agent: how the command line has them, and what its words ask.
-use crate::described::{Described, Takes, Value, Word};
+use crate::described::{Described, Takes, Value, DescribedWord};
 use crate::job::Called;
 use clap::ArgMatches;
-use program_calls::Ask;
+use program_calls::CallWords;
 
 /// `need NAME WHEN [--control SOCKET]`
 pub const NEED: Described = Described {
@@ -19,7 +19,7 @@ Exit status: 0 done, 1 refused or no answer, 2 command line, 6 write, 7 memory",
     words: &[
         CONTROL,
         NAME,
-        Word {
+        DescribedWord {
             name: "WHEN",
             takes: Takes::Text,
             help: "Until when it is needed",
@@ -121,7 +121,7 @@ Examples:
 Exit status: 0 the agent ended, 1 refused or no answer, 2 command line, 6 write, 7 memory",
     words: &[
         CONTROL,
-        Word {
+        DescribedWord {
             name: "alerts",
             takes: Takes::Flag,
             help: "Only warnings and alerts",
@@ -133,7 +133,7 @@ const EXITS: &str =
     "Exit status: 0 done, 1 refused or no answer, 2 command line, 6 write, 7 memory";
 
 /// The agent's socket, which each of them may name.
-const CONTROL: Word = Word {
+const CONTROL: DescribedWord = DescribedWord {
     name: "control",
     takes: Takes::Option("SOCKET", Value::Text),
     help: "\
@@ -142,7 +142,7 @@ else in $XDG_RUNTIME_DIR/leasekeep, else in /run/leasekeep]",
 };
 
 /// The name of an entry.
-const NAME: Word = Word {
+const NAME: DescribedWord = DescribedWord {
     name: "NAME",
     takes: Takes::Text,
     help: "The entry",
@@ -157,24 +157,24 @@ pub fn called<'a>(command: &str, matches: &ArgMatches<'a>) -> Option<Called<'a>>
     })
 }
 
-fn ask<'a>(command: &str, matches: &ArgMatches<'a>) -> Option<Ask<'a>> {
+fn ask<'a>(command: &str, matches: &ArgMatches<'a>) -> Option<CallWords<'a>> {
     match command {
-        "need" => Some(Ask::Need {
+        "need" => Some(CallWords::Need {
             name: matches.get_str("NAME")?,
             when: matches.get_str("WHEN")?,
         }),
-        "replace" => Some(Ask::Replace {
+        "replace" => Some(CallWords::Replace {
             name: matches.get_str("NAME")?,
         }),
-        "add" => Some(Ask::Add),
-        "drop" => Some(Ask::Drop {
+        "add" => Some(CallWords::Add),
+        "drop" => Some(CallWords::Drop {
             name: matches.get_str("NAME")?,
         }),
-        "status" => Some(Ask::Status),
-        "health" => Some(Ask::Health),
-        "settle" => Some(Ask::Settle),
-        "reload" => Some(Ask::Reload),
-        "follow" => Some(Ask::Follow {
+        "status" => Some(CallWords::Status),
+        "health" => Some(CallWords::Health),
+        "settle" => Some(CallWords::Settle),
+        "reload" => Some(CallWords::Reload),
+        "follow" => Some(CallWords::Follow {
             alerts: matches.get_flag("alerts"),
         }),
         _ => None,

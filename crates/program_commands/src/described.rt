@@ -10,12 +10,12 @@ pub struct Described {
     pub about: &'static str,
     /// What its help has below the words.
     pub after: &'static str,
-    pub words: &'static [Word],
+    pub words: &'static [DescribedWord],
 }
 
 /// A word of a command, and what is written for it.
 #[derive(Clone, Copy, Debug)]
-pub struct Word {
+pub struct DescribedWord {
     pub name: &'static str,
     pub takes: Takes,
     pub help: &'static str,
@@ -54,7 +54,7 @@ pub enum Value {
 }
 
 /// The inventory.
-pub const FILE: Word = Word {
+pub const FILE: DescribedWord = DescribedWord {
     name: "FILE",
     takes: Takes::Text,
     help: "\
@@ -63,7 +63,7 @@ wrong with it, with line and fix",
 };
 
 /// The start of a plan.
-pub const START: Word = Word {
+pub const START: DescribedWord = DescribedWord {
     name: "START",
     takes: Takes::Moment,
     help: "\
@@ -90,7 +90,7 @@ impl Described {
     }
 }
 
-impl Word {
+impl DescribedWord {
     fn arg<'a>(&self, alloc: Global) -> Arg<'a> {
         let arg = Arg::new(alloc, self.name).help(self.help);
         match self.takes {

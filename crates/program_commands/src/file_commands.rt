@@ -1,5 +1,5 @@
 //! The commands over files alone, with their help.
-use crate::described::{Described, FILE, START, Takes, Value, Word};
+use crate::described::{Described, FILE, START, Takes, Value, DescribedWord};
 use plan_commands::LIMIT;
 
 /// `ends FILE START [MOMENT..]`
@@ -18,7 +18,7 @@ Exit status: 0 done, 1 inventory, 2 command line or moments, 6 read or write, 7 
     words: &[
         FILE,
         START,
-        Word {
+        DescribedWord {
             name: "MOMENT",
             takes: Takes::Moments,
             help: "A moment at which every entry is renewed",
@@ -49,7 +49,7 @@ Exit status: 0 done, 1 inventory, 2 command line, 3 unkeepable, 5 more than 1000
     words: &[
         FILE,
         START,
-        Word {
+        DescribedWord {
             name: "dates",
             takes: Takes::Flag,
             help: "\
@@ -86,14 +86,14 @@ wake-ups, 6 read or write, 7 memory",
     words: &[
         FILE,
         START,
-        Word {
+        DescribedWord {
             name: "WAKES",
             takes: Takes::NumberUpTo(LIMIT as i64),
             help: "\
 How many wake-ups the plan may have [default: as many as with the
 inventory's own margin]",
         },
-        Word {
+        DescribedWord {
             name: "renewed",
             takes: Takes::Flag,
             help: "Renews every entry once at START first",
@@ -120,7 +120,7 @@ Exit status: 0 done, 1 inventory, 2 command line, 6 read or write, 7 memory",
     words: &[
         FILE,
         START,
-        Word {
+        DescribedWord {
             name: "dates",
             takes: Takes::Flag,
             help: "\
@@ -151,7 +151,7 @@ Exit status: 0 done, 1 inventory, 2 command line or FAULT words, 5 more than 100
     words: &[
         FILE,
         START,
-        Word {
+        DescribedWord {
             name: "FAULT",
             takes: Takes::Texts,
             help: "What goes wrong with a renewal request: K=short:SECONDS, K=drop or K=deny",
@@ -175,12 +175,12 @@ Example:
 Exit status: 0 yes, 1 inventory, 2 command line, 4 no or unreadable, 6 read or write, 7 memory",
     words: &[
         FILE,
-        Word {
+        DescribedWord {
             name: "CERT",
             takes: Takes::Text,
             help: "The certificate, at most 16 MiB; read after FILE",
         },
-        Word {
+        DescribedWord {
             name: "START",
             takes: Takes::MomentIfAny,
             help: "The moment that the certificate has to start from [default: any]",
@@ -206,21 +206,21 @@ Example:
 Exit status: 0 no fault, 1 a fault, 2 command line, 6 read or write, 7 memory",
     words: &[
         FILE,
-        Word {
+        DescribedWord {
             name: "timeout",
             takes: Takes::Option("SECONDS", Value::Number(1, 60)),
             help: "\
 The time-out of the agent that is to serve it, 1 to 60 seconds
 [default: 5]",
         },
-        Word {
+        DescribedWord {
             name: "names-are-secrets",
             takes: Takes::Flag,
             help: "\
 Passes over credentials that are not written, as `serve` does with
 the same word, for trials",
         },
-        Word {
+        DescribedWord {
             name: "json",
             takes: Takes::Flag,
             help: "Shows an array of JSON, with an object for each finding",

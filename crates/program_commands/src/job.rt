@@ -3,14 +3,14 @@ use base_clients::Entrance;
 use base_device::Place;
 use base_log::Form;
 use base_moment::{Moment, Text};
-use plan_commands::Command;
-use program_calls::Ask;
+use plan_commands::PlanCommand;
+use program_calls::CallWords;
 
 /// What the words of the command line ask.
 #[derive(Debug, Drop)]
 pub enum Job<'a> {
     /// A command about plans.
-    Plans(Command),
+    Plans(PlanCommand),
     /// `rehearse`, which plays a plan against a broker of its own.
     Rehearse(Rehearsed<'a>),
     /// A command of a running agent.
@@ -18,15 +18,15 @@ pub enum Job<'a> {
     /// `run`, the agent.
     Live(Live<'a>),
     /// `serve`, the agent that runs by itself.
-    Serve(Served<'a>),
+    Serve(ServeWords<'a>),
     /// `lint`, which shows what is wrong with an inventory.
-    Lint(Linted<'a>),
+    Lint(LintWords<'a>),
 }
 
 /// What the words of the command line ask of a running agent.
 #[derive(Clone, Copy, Debug)]
 pub struct Called<'a> {
-    pub ask: Ask<'a>,
+    pub ask: CallWords<'a>,
     /// The path of its control socket, if it is given.
     pub control: Option<&'a str>,
 }
@@ -57,7 +57,7 @@ pub struct Rehearsed<'a> {
 
 /// What the words of `serve` ask.
 #[derive(Debug, Drop)]
-pub struct Served<'a> {
+pub struct ServeWords<'a> {
     /// The path of the inventory.
     pub file: &'a str,
     /// Where Vault is reached.
@@ -75,7 +75,7 @@ pub struct Served<'a> {
     /// Where pages are served.
     pub listen: Option<Socket<'a>>,
     /// Where the ends are kept over a restart.
-    pub room: Option<Room<'a>>,
+    pub room: Option<EndsRoom<'a>>,
     /// The agent's own name, where it is given one.
     pub name: Option<&'a str>,
     /// The folder in which changes are kept over a restart, where there is one.
@@ -88,7 +88,7 @@ pub struct Served<'a> {
 
 /// What the words of `lint` ask.
 #[derive(Clone, Copy, Debug)]
-pub struct Linted<'a> {
+pub struct LintWords<'a> {
     /// The path of the inventory.
     pub file: &'a str,
     /// Whether the findings are written as an array of JSON.
@@ -108,7 +108,7 @@ pub struct Socket<'a> {
 
 /// Where the file of the ends is.
 #[derive(Clone, Copy, Debug)]
-pub enum Room<'a> {
+pub enum EndsRoom<'a> {
     /// In this folder.
     Folder(&'a str),
     /// Beside the file of this path.

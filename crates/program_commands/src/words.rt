@@ -1,7 +1,7 @@
 //! What the words of the command line ask.
 use crate::agent_commands::BROKER;
 use crate::call_commands::called;
-use crate::job::{Called, Job, Linted, Live, Rehearsed, Room, Served, Socket};
+use crate::job::{Called, Job, LintWords, Live, Rehearsed, EndsRoom, ServeWords, Socket};
 use crate::parser::{mistake, parse};
 use base_clients::{Entrance, entrance_of};
 use base_device::{Counted, Place, Sink};
@@ -9,7 +9,7 @@ use base_log::Form;
 use base_moment::{Moment, Text};
 use clap::error::ErrorKind;
 use clap::{ArgMatches, Error};
-use plan_commands::{Command, MarginQuery};
+use plan_commands::{PlanCommand, MarginQuery};
 use program_report::{Exit, PROGRAM, Stop, tell};
 use program_words::{number_or, place_to_ask, show};
 use std::alloc::{AllocError, AllocFailed, Global};
@@ -186,7 +186,7 @@ fn live<'a>(matches: &ArgMatches<'a>) -> Result<Job<'a>, Unread> {
 
 /// What `serve` asks.
 fn served<'a>(matches: &ArgMatches<'a>) -> Result<Job<'a>, Unread> {
-    Ok(Job::Serve(Served {
+    Ok(Job::Serve(ServeWords {
         file: matches.get_str("FILE").ok_or(Unread::Value)?,
         place: place(matches)?,
         patience: number_or(matches, "timeout", PATIENCE).ok_or(Unread::Value)?,
@@ -205,7 +205,7 @@ fn served<'a>(matches: &ArgMatches<'a>) -> Result<Job<'a>, Unread> {
 
 /// What `lint` asks.
 fn linted<'a>(matches: &ArgMatches<'a>) -> Result<Job<'a>, Unread> {
-    Ok(Job::Lint(Linted {
+    Ok(Job::Lint(LintWords {
         file: matches.get_str("FILE").ok_or(Unread::Value)?,
         json: matches.get_flag("json"),
         patience: number_or(matches, "timeout", PATIENCE).ok_or(Unread::Value)?,
@@ -223,10 +223,10 @@ fn rehearsed<'a>(alloc: Global, matches: &ArgMatches<'a>) -> Result<Job<'a>, Unr
 }
 
 /// Where the ends are kept over a restart: in the folder that is given, else beside the control socket, if there is one.
-fn room<'a>(matches: &ArgMatches<'a>) -> Option<Room<'a>> {
+fn room<'a>(matches: &ArgMatches<'a>) -> Option<EndsRoom<'a>> {
     match matches.get_str("runtime") {
-        Some(folder) => Some(Room::Folder(folder)),
-        None => Some(Room::Beside(matches.get_str("control")?)),
+        Some(folder) => Some(EndsRoom::Folder(folder)),
+        None => Some(EndsRoom::Beside(matches.get_str("control")?)),
     }
 }
 
@@ -301,7 +301,7 @@ fn place<'a>(matches: &ArgMatches<'a>) -> Result<Place<'a>, Unread> {
 }
 
 /// The command about plans of this name, with all its values. After this nothing asks for a value by its name.
-fn command_of(alloc: Global, command: &str, matches: &ArgMatches<'_>) -> Result<Command, Unread> {
+fn command_of(alloc: Global, command: &str, matches: &ArgMatches<'_>) -> Result<PlanCommand, Unread> {
     match command {
         "ends" => ends(alloc, matches),
         "plan" => plan(alloc, matches),
@@ -312,24 +312,24 @@ fn command_of(alloc: Global, command: &str, matches: &ArgMatches<'_>) -> Result<
     }
 }
 
-fn ends(alloc: Global, matches: &ArgMatches<'_>) -> Result<Command, Unread> {
-    Ok(Command::Ends {
+fn ends(alloc: Global, matches: &ArgMatches<'_>) -> Result<PlanCommand, Unread> {
+    Ok(PlanCommand::Ends {
         file: word(alloc, matches, "FILE")?,
         start: start(matches)?,
         moments: moments(alloc, matches)?,
     })
 }
 
-fn plan(alloc: Global, matches: &ArgMatches<'_>) -> Result<Command, Unread> {
-    Ok(Command::Plan {
+fn plan(alloc: Global, matches: &ArgMatches<'_>) -> Result<PlanCommand, Unread> {
+    Ok(PlanCommand::Plan {
         file: word(alloc, matches, "FILE")?,
         start: start(matches)?,
         dates: matches.get_flag("dates"),
     })
 }
 
-fn margin(alloc: Global, matches: &ArgMatches<'_>) -> Result<Command, Unread> {
-    Ok(Command::Margin {
+fn margin(alloc: Global, matches: &ArgMatches<'_>) -> Result<PlanCommand, Unread> {
+    Ok(PlanCommand::Margin {
         file: word(alloc, matches, "FILE")?,
         query: MarginQuery {
             start: start(matches)?,
@@ -339,16 +339,16 @@ fn margin(alloc: Global, matches: &ArgMatches<'_>) -> Result<Command, Unread> {
     })
 }
 
-fn reach(alloc: Global, matches: &ArgMatches<'_>) -> Result<Command, Unread> {
-    Ok(Command::Reach {
+fn reach(alloc: Global, matches: &ArgMatches<'_>) -> Result<PlanCommand, Unread> {
+    Ok(PlanCommand::Reach {
         file: word(alloc, matches, "FILE")?,
         start: start(matches)?,
         dates: matches.get_flag("dates"),
     })
 }
 
-fn check(alloc: Global, matches: &ArgMatches<'_>) -> Result<Command, Unread> {
-    Ok(Command::Check {
+fn check(alloc: Global, matches: &ArgMatches<'_>) -> Result<PlanCommand, Unread> {
+    Ok(PlanCommand::Check {
         file: word(alloc, matches, "FILE")?,
         certificate: word(alloc, matches, "CERT")?,
         start: start_if_any(matches)?,

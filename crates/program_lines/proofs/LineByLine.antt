@@ -12,7 +12,7 @@ use Rattle.program_report.specs.Sent.{IsAll, IsUntouched}
 use Rattle.program_lines.specs.Hearing.{Hearing, HearsLine, IsSaidWhole, StopsAfter, TextIsSaid, counted_line, joined_changes}
 use Rattle.program_lines.specs.Listening.{AreHeard, HasEnded, HearerIsStopped, IsNoLine, ListeningHalts, ListensTo}
 use Rattle.program_lines.specs.code.LineByLine.{HaltsWithin, HearsUpTo}
-use Rattle.program_lines.specs.declared.limits.Limits.{Limits}
+use Rattle.program_lines.specs.declared.limits.InputLimits.{InputLimits}
 use Rattle.program_lines.specs.declared.limits.TheConstants.{MOST_LINE}
 use Rattle.program_lines.proofs.Cut.{cut_back, first_piece}
 use Rattle.base_words.specs.Pieces.{pieces}
@@ -243,7 +243,7 @@ module _ (S : Type 0) (h : Hearing S) where
 
     -- listening that ends after a text that was sent before
     pub listens_then :
-        (a b : Change) → a.new ≡ b.old → (limits : Limits) (read : List ℕ) (number : ℕ) (old : S) (behind : List (List ℕ)) (t u : List ℕ) (result : Result (Unit {0}) Stop) (new : S) (fed : Change) → IsSaidWhole t a →
+        (a b : Change) → a.new ≡ b.old → (limits : InputLimits) (read : List ℕ) (number : ℕ) (old : S) (behind : List (List ℕ)) (t u : List ℕ) (result : Result (Unit {0}) Stop) (new : S) (fed : Change) → IsSaidWhole t a →
         ListensTo S h limits read number old behind u result new fed b → ListensTo S h limits read number old behind (t ++ u) result new fed (joined_changes a b)
     listens_then a b same limits read number old behind t u (Ok v) new fed first ends = (ends.0, (ends.1.0, (ends.1.1.0, (ends.1.1.1.0, said_then a b same t u first.0 ends.1.1.1.1))))
     listens_then a b same limits read number old behind t u (Err stops.Read) new fed first ends = (ends.0, (ends.1.0, (ends.1.1.0, (ends.1.1.1.0, (ends.1.1.1.1.0, said_then a b same t u first.0 ends.1.1.1.1.1)))))

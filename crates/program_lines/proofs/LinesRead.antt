@@ -15,7 +15,7 @@ use Rattle.program_report.specs.declared.stop.Stop.TheVariants as stops
 use Rattle.program_lines.specs.Hearing.{Hearing, IsSaidWhole, StopsAfter, counted_line, joined_changes}
 use Rattle.program_lines.specs.Listening.{HasEnded, IsHeardFirst, IsOver, IsPrompt, IsReadWithin, ListeningHalts, Listens, ListensTo, MakesAtLeast, part_to_hear}
 use Rattle.program_lines.specs.code.LineByLine.{HaltsWithin, HearsUpTo, IsListening, SoManyAreLeft, left_after, part_left_to_hear}
-use Rattle.program_lines.specs.declared.limits.Limits.{Limits}
+use Rattle.program_lines.specs.declared.limits.InputLimits.{InputLimits}
 use Rattle.program_lines.specs.declared.limits.TheConstants.{MOST_LINE, ROOM}
 use Rattle.program_lines.proofs.Cut.{pieces_more}
 use Rattle.program_lines.proofs.LineByLine.{halts_behind, halts_where, said_appends, up_to_first, up_to_then}
@@ -136,7 +136,7 @@ nothing_cut : pieces 10 [] ≡ [] ∷ []
 unfolding pieces
 nothing_cut = refl
 
-module _ (S : Type 0) (m : Hearing S) (limits : Limits) where
+module _ (S : Type 0) (m : Hearing S) (limits : InputLimits) where
   pub listening_first : (old : S) (source : Seen) (in_memory : Bool) (a : Change) → IsSaidWhole [] a → IsListening S m limits old 0 [] limits.bytes old 0 (change in_memory source source) a
   listening_first old source in_memory a sent = record {
     read = [];

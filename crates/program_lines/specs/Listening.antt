@@ -8,7 +8,7 @@ use Rattle.base_device.specs.Whole.{MakesAtMost}
 use Rattle.program_report.specs.declared.stop.Stop.{Stop}
 use Rattle.program_report.specs.declared.stop.Stop.TheVariants as stops
 use Rattle.program_lines.specs.Hearing.{Hearing, TextIsSaid, counted_line}
-use Rattle.program_lines.specs.declared.limits.Limits.{Limits}
+use Rattle.program_lines.specs.declared.limits.InputLimits.{InputLimits}
 use Rattle.program_lines.specs.declared.limits.TheConstants.{MOST_LINE, ROOM}
 use Rattle.base_words.specs.Pieces.{pieces}
 
@@ -69,7 +69,7 @@ IsOver None read = ⊥
 IsOver (Some most) read = most < length read
 
 -- the input has ended, and is as long as it may be at most
-abbrev pub HasEnded : Limits → List ℕ → Change → Type 0
+abbrev pub HasEnded : InputLimits → List ℕ → Change → Type 0
 HasEnded limits read fed = IsAtEnd fed.new.input.remaining × IsReadWithin limits.bytes read
 
 -- where its bytes are known, at least so many reads were made of the input between the two states, or the count is at its
@@ -79,7 +79,7 @@ MakesAtLeast least before now = IfSome before.remaining (λ _. (before.reads_mad
 
 -- why the input is not read to its end: a read failed; or it is longer than it may be, or as many reads were made as there may be,
 -- of a byte each at least
-abbrev pub InputIsCutOff : Limits → List ℕ → Change → Type 0
+abbrev pub InputIsCutOff : InputLimits → List ℕ → Change → Type 0
 InputIsCutOff limits read fed =
     (fed.new.failed_calls ≡ one_more fed.old.failed_calls)
     ⊎ ((fed.new.failed_calls ≡ fed.old.failed_calls)
@@ -102,7 +102,7 @@ pub record IsPrompt (most : Option ℕ) (read : List ℕ) (lines : List (List �
 
 -- how listening ends after the lines of this text, before these pieces: the input has ended in a line feed, or with no line at
 -- all; or it is cut off; or a line stops it
-abbrev pub ListensTo : (S : Type 0) → Hearing S → Limits → List ℕ → ℕ → S → List (List ℕ) → List ℕ → Result (Unit {0}) Stop → S → Change → Change → Type 0
+abbrev pub ListensTo : (S : Type 0) → Hearing S → InputLimits → List ℕ → ℕ → S → List (List ℕ) → List ℕ → Result (Unit {0}) Stop → S → Change → Change → Type 0
 ListensTo S h limits read number old behind text (Ok u) new fed out =
     (behind ≡ [] ∷ []) × (HasEnded limits read fed × ((fed.new.failed_calls ≡ fed.old.failed_calls) × ((new ≡ old) × TextIsSaid text out)))
 ListensTo S h limits read number old behind text (Err stops.Read) new fed out =
@@ -112,7 +112,7 @@ ListensTo S h limits read number old behind text (Err stop) new fed out =
 
 -- listening to an input: what was read of it, by as many reads as there may be at most; the lines of what may be heard of that
 -- which were heard, and what that came to; and how it ended after them
-pub record Listens (S : Type 0) (h : Hearing S) (limits : Limits) (old : S) (result : Result (Unit {0}) Stop) (new : S) (fed : Change) (out : Change) : Type 0 where
+pub record Listens (S : Type 0) (h : Hearing S) (limits : InputLimits) (old : S) (result : Result (Unit {0}) Stop) (new : S) (fed : Change) (out : Change) : Type 0 where
   pub read : List ℕ
   pub consumed : Consumes fed.old.input.remaining fed.new.input.remaining read
   pub reads : MakesAtMost limits.reads fed.old.input fed.new.input

@@ -11,7 +11,7 @@ use plan_forest::Forest;
 
 /// What an event line says to the keeper of a forest.
 #[derive(Clone, Copy, Debug, PartialEq, Eq)]
-pub enum Heard {
+pub enum HeardLine {
     /// `tick T`: it is this moment now.
     Tick(Moment),
     /// `need NAME T`: the entry of that name is needed until then.
@@ -22,7 +22,7 @@ pub enum Heard {
 
 /// What a line without its line feed says; `None` where it is no event line.
 #[tactic(auto, unfolding(crate::specs::EventLines::heard_in))]
-pub fn heard_in(forest: &Forest, line: &[u8]) -> Option<Heard>
+pub fn heard_in(forest: &Forest, line: &[u8]) -> Option<HeardLine>
     ensures heard { result ≡ heard_in forest.now line.now }
     ensures within { IfSome result (λ h. IsEventLineWithin (length forest.now.entries) h) }
 {
@@ -36,17 +36,17 @@ pub fn heard_in(forest: &Forest, line: &[u8]) -> Option<Heard>
     need_in(forest, word, name, until)
 }
 
-fn tick_in(word: &[u8], t: &[u8]) -> Option<Heard>
+fn tick_in(word: &[u8], t: &[u8]) -> Option<HeardLine>
     ensures ticked { result ≡ tick_in word.now t.now }
     ensures within { (n : ℕ) → IfSome result (λ h. IsEventLineWithin n h) }
 {
     if word != b"tick".as_slice() {
         return None;
     }
-    Some(Heard::Tick(moment_in(t)?))
+    Some(HeardLine::Tick(moment_in(t)?))
 }
 
-fn need_in(forest: &Forest, word: &[u8], name: &[u8], until: &[u8]) -> Option<Heard>
+fn need_in(forest: &Forest, word: &[u8], name: &[u8], until: &[u8]) -> Option<HeardLine>
     ensures needed { result ≡ need_in forest.now word.now name.now until.now }
     ensures within { IfSome result (λ h. IsEventLineWithin (length forest.now.entries) h) }
 {
@@ -55,8 +55,8 @@ fn need_in(forest: &Forest, word: &[u8], name: &[u8], until: &[u8]) -> Option<He
     }
     let until = moment_in(until)?;
     match forest.find(name) {
-        Some(i) => Some(Heard::Need { i, until }),
-        None => Some(Heard::Unknown),
+        Some(i) => Some(HeardLine::Need { i, until }),
+        None => Some(HeardLine::Unknown),
     }
 }
 

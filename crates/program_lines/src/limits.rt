@@ -8,7 +8,7 @@ pub const ROOM: usize = 4096;
 
 /// How much of an input is heard.
 #[derive(Debug, Copy, Clone)]
-pub struct Limits {
+pub struct InputLimits {
     /// The most bytes, if there is a limit.
     pub bytes: Option<usize>,
     /// The most reads.

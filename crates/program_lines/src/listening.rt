@@ -8,7 +8,7 @@ ghost use Rattle.program_lines.specs.code.LineByLine.{HaltsWithin, HearsUpTo, le
 ghost use Rattle.program_lines.specs.declared.limits.TheConstants.{MOST_LINE};
 
 use crate::hearer::Hearer;
-use crate::limits::{Limits, MOST_LINE, ROOM};
+use crate::limits::{InputLimits, MOST_LINE, ROOM};
 use base_device::{Sink, Source, Watched, zeros};
 use base_words::cut;
 use program_report::Stop;
@@ -23,7 +23,7 @@ pub fn listen<N, H: Hearer<N>, R: Source, W: Sink>(
     alloc: Global,
     hearer: &mut H,
     neighbours: &mut N,
-    limits: Limits,
+    limits: InputLimits,
     lines: &mut R,
     out: &mut W,
 ) -> Result<(), Stop>

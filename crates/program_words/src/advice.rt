@@ -3,13 +3,13 @@
 ghost use Rattle.std.specs.Prelude.{◌≡◌, ◌<◌, ◌++◌, codes, length, option_map};
 ghost use Rattle.program_report.specs.Sent.{Puts};
 ghost use Rattle.program_report.specs.Told.{Reports};
-ghost use Rattle.vault_inventory.specs.Served.{first_untold};
+ghost use Rattle.vault_inventory.specs.ServedInventory.{first_untold};
 ghost use Rattle.program_words.specs.Advice.{Advises, advice_line, fault_advice, key_line, missing_words, open_line, unread_reason, value_words};
 
 use crate::unread::Unread;
 use base_device::{Sink, SinkFault, Watched};
 use program_report::{put_before_colon, put_both};
-use vault_inventory::{InvFault, Key, Note, Served};
+use vault_inventory::{InvFault, Key, EntryNote, ServedInventory};
 
 /// Tells that the file at a path was not read, and why.
 pub fn advise_on_file<E: Sink>(program: &str, path: &str, why: Unread, errors: &mut E)
@@ -37,7 +37,7 @@ pub fn advise_on_fault<E: Sink>(program: &str, fault: InvFault, errors: &mut E)
 
 /// Tells which entry is the first whose table leaves its end to a lookup, if one does, and who looks it up.
 #[tactic(auto, unfolding(crate::specs::Advice::open_line))]
-pub fn advise_on_open<E: Sink>(program: &str, served: &Served, errors: &mut E)
+pub fn advise_on_open<E: Sink>(program: &str, served: &ServedInventory, errors: &mut E)
     ensures { Advises (open_line program.now served.now) (⟦<E as Watched>⟧.change errors.old errors.new) }
 {
     let inventory = served.inventory();
@@ -53,7 +53,7 @@ pub fn advise_on_open<E: Sink>(program: &str, served: &Served, errors: &mut E)
 }
 
 // The first table that leaves its end to a lookup.
-fn first_untold(notes: &[Note]) -> Option<u32>
+fn first_untold(notes: &[EntryNote]) -> Option<u32>
     requires { length notes.now < 4097 }
     ensures { result ≡ first_untold 0 notes.now }
 {

@@ -2,7 +2,7 @@
 use crate::advice::{advise_on_fault, advise_on_file, advise_on_open};
 use crate::unread::Unread;
 use base_device::{InputFault, Sink};
-use base_files::{Disk, Inputs};
+use base_files::{SystemInputs, Inputs};
 use base_moment::Text;
 use program_report::Exit;
 use std::alloc::Global;
@@ -30,7 +30,7 @@ impl<'a, R: Files + AllocGlobal> Inputs for SystemFiles<'a, R> {
     ghost bytes_at = { λ _ _. None };
 
     fn read(&mut self, alloc: Global, path: &str, max: usize) -> Result<Text, InputFault> {
-        let read = Disk { rt: self.rt }.read(alloc, path, max);
+        let read = SystemInputs { rt: self.rt }.read(alloc, path, max);
         if let Err(fault) = &read {
             self.note(alloc, path, *fault);
         }
@@ -69,7 +69,7 @@ impl<'a, R: Files + AllocGlobal> SystemFiles<'a, R> {
             return;
         }
         let alloc = self.rt.alloc();
-        let Ok(text) = Disk { rt: self.rt }.read(alloc, file, MOST_INVENTORY) else {
+        let Ok(text) = SystemInputs { rt: self.rt }.read(alloc, file, MOST_INVENTORY) else {
             return;
         };
         match read_served(alloc, text.list()) {

@@ -12,8 +12,8 @@ use Rattle.vault_inventory.specs.declared.need.Need.TheVariants.{Always}
 use Rattle.state_changes.specs.declared.change.Change.{Change}
 use Rattle.state_changes.specs.declared.change.Record.{Record}
 use Rattle.state_changes.specs.declared.change.Record.TheVariants.{Made, Settling}
-use Rattle.state_changes.specs.declared.change.What.{What}
-use Rattle.state_changes.specs.declared.change.What.TheVariants as what
+use Rattle.state_changes.specs.declared.change.ChangeKind.{ChangeKind}
+use Rattle.state_changes.specs.declared.change.ChangeKind.TheVariants as what
 use Rattle.state_changes.specs.declared.fault.ChangeFault.{ChangeFault}
 use Rattle.state_changes.specs.declared.fault.ChangeFault.TheVariants.{NoEntry, CredentialTwice, InFile, HasUnder}
 use Rattle.state_changes.specs.declared.row.Row.{Row}
@@ -32,7 +32,7 @@ settled None rows new = new
 settled (Some fault) rows new = rows
 
 -- the rows after a change, or as they were
-abbrev made_rows : ℕ → List Row → List ℕ → What → List Row
+abbrev made_rows : ℕ → List Row → List ℕ → ChangeKind → List Row
 made_rows margin rows name w = settled (change_refusal margin rows name w) rows (rows_with_change rows name w)
 
 abbrev next : File → List Row → Record → List Row
@@ -176,7 +176,7 @@ push_alike n (r ∷ rows) x =
           ∙ ap (λ l. alike n (l ++ x ∷ [])) (sym (named_no (needed Always) n r rows e))
     ]
 
-after_alike : (n m : List ℕ) (w : What) (rows : List Row) → alike n (rows_with_change rows m w) ≡ alike n (rows_with_change (alike n rows) m w)
+after_alike : (n m : List ℕ) (w : ChangeKind) (rows : List Row) → alike n (rows_with_change rows m w) ≡ alike n (rows_with_change (alike n rows) m w)
 after_alike n m (what.Need u) rows = with_alike n (needed u) m (λ r. refl) (λ r. refl) rows
 after_alike n m (what.Replace c) rows = with_alike n (λ row. record row { credential = c }) m (λ r. refl) (λ r. refl) rows
 after_alike n m (what.Add x) rows = push_alike n rows x
@@ -298,7 +298,7 @@ credential_heedless : (rows : List Row) (c : List ℕ) → IsHeedless (refused_c
 unfolding is_taken
 credential_heedless rows c r u = refl
 
-refusal_alike : (margin : ℕ) (n m : List ℕ) (w : What) (rows : List Row) → change_refusal margin (alike n rows) m w ≡ change_refusal margin rows m w
+refusal_alike : (margin : ℕ) (n m : List ℕ) (w : ChangeKind) (rows : List Row) → change_refusal margin (alike n rows) m w ≡ change_refusal margin rows m w
 unfolding change_refusal
 refusal_alike margin n m (what.Need u) rows = entry_alike n m never_refuses never_refuses (λ r. refl) (λ r v. refl) rows
 refusal_alike margin n m (what.Replace c) rows = entry_alike n m (refused_credential (alike n rows) c) (refused_credential rows c) (credential_alike n rows c) (credential_heedless rows c) rows
@@ -311,7 +311,7 @@ settled_alike : (n : List ℕ) (o : Option ChangeFault) (a b new other : List Ro
 settled_alike n None a b new other h k = k
 settled_alike n (Some fault) a b new other h k = h
 
-made_alike : (margin : ℕ) (n m : List ℕ) (w : What) (a : List Row) → alike n (made_rows margin a m w) ≡ alike n (made_rows margin (alike n a) m w)
+made_alike : (margin : ℕ) (n m : List ℕ) (w : ChangeKind) (a : List Row) → alike n (made_rows margin a m w) ≡ alike n (made_rows margin (alike n a) m w)
 made_alike margin n m w a =
     settled_alike n (change_refusal margin a m w) a (alike n a) (rows_with_change a m w) (rows_with_change (alike n a) m w) (sym (twice Always Always n a)) (after_alike n m w a)
     ∙ ap (λ o. alike n (settled o (alike n a) (rows_with_change (alike n a) m w))) (sym (refusal_alike margin n m w a))
@@ -357,7 +357,7 @@ said_same rows n u v = refl
 abbrev IsThen : File → List ℕ → List ℕ → Need → Type 0
 IsThen f n was u = bytes_eq (said f.rows n (what.Need u)) was ≡ true
 
-made_again : (f : File) (c : Change) (w : What) (u : Need) (a b : List Row) → c.what ≡ w → is_need w ≡ true → IsThen f c.name c.was u → alike c.name a ≡ alike c.name b → next f a (Made c) ≡ next f b (Made c)
+made_again : (f : File) (c : Change) (w : ChangeKind) (u : Need) (a b : List Row) → c.what ≡ w → is_need w ≡ true → IsThen f c.name c.was u → alike c.name a ≡ alike c.name b → next f a (Made c) ≡ next f b (Made c)
 unfolding is_as_then
 made_again f c (what.Need v) u a b is need then h =
     let now : is_as_then f.rows c ≡ true = ap (λ x. bytes_eq (said f.rows c.name x) c.was) is ∙ ap (λ x. bytes_eq x c.was) (said_same f.rows c.name v u) ∙ then in
@@ -391,7 +391,7 @@ all_again f n was u then (r ∷ rs) any a b h =
 
 -- ---- so a void record may be left out
 
-void_change : (f : File) (c : Change) (w : What) (rs : List Record) (a : List Row) → c.what ≡ w → is_need w ≡ true → list_any (is_need_of c.name c.was) rs ≡ true → all f a rs ≡ all f (next f a (Made c)) rs
+void_change : (f : File) (c : Change) (w : ChangeKind) (rs : List Record) (a : List Row) → c.what ≡ w → is_need w ≡ true → list_any (is_need_of c.name c.was) rs ≡ true → all f a rs ≡ all f (next f a (Made c)) rs
 unfolding is_as_then
 void_change f c (what.Need u) rs a is need any =
     elim (cases_Bool (is_as_then f.rows c)) [

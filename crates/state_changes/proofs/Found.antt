@@ -10,8 +10,8 @@ use Rattle.vault_inventory.specs.declared.need.Need.{Need}
 use Rattle.vault_inventory.specs.Needs.{need_word}
 use Rattle.state_changes.specs.declared.change.Record.{Record}
 use Rattle.state_changes.specs.declared.change.Record.TheVariants.{Made, Settling}
-use Rattle.state_changes.specs.declared.change.What.{What}
-use Rattle.state_changes.specs.declared.change.What.TheVariants as what
+use Rattle.state_changes.specs.declared.change.ChangeKind.{ChangeKind}
+use Rattle.state_changes.specs.declared.change.ChangeKind.TheVariants as what
 use Rattle.state_changes.specs.Laws.{RecordReadIsWritten}
 use Rattle.state_changes.specs.declared.row.Row.{Row}
 use Rattle.state_changes.specs.RowText.{is_word, one_and_rest, parts, row_of_line}
@@ -51,7 +51,7 @@ spelled text ws e = sym (joined_back 32 text) ∙ ap (join_with_byte 32) e
 first_is : (text word w : List ℕ) (ws : List (List ℕ)) → pieces 32 text ≡ w ∷ ws → bytes_eq (keyword text) word ≡ true → w ≡ word
 first_is text word w ws e key = sym (keyword_back text w ws e) ∙ (bytes_decides (keyword text) word).0 key
 
-made_only : (name was : List ℕ) (w : What) (r : Record) → made_of name was w ≡ Some r → (is_name name ≡ true) × (is_word was ≡ true) × (r ≡ Made (record { name = name; was = was; what = w }))
+made_only : (name was : List ℕ) (w : ChangeKind) (r : Record) → made_of name was w ≡ Some r → (is_name name ≡ true) × (is_word was ≡ true) × (r ≡ Made (record { name = name; was = was; what = w }))
 unfolding made_of
 made_only name was w r e =
     let p = passed (is_name name && is_word was) _ r e in
@@ -62,7 +62,7 @@ abbrev Written : List ℕ → Record → Type 0
 Written text r = IsRecord r × (text ≡ record_text r)
 
 -- a line of these words writes the change
-change_written : (text name was : List ℕ) (w : What) (r : Record) → text ≡ join_with_byte 32 (change_words name was w) → IsWhat name w → made_of name was w ≡ Some r → Written text r
+change_written : (text name was : List ℕ) (w : ChangeKind) (r : Record) → text ≡ join_with_byte 32 (change_words name was w) → IsWhat name w → made_of name was w ≡ Some r → Written text r
 unfolding record_text
 change_written text name was w r e h made =
     let p = made_only name was w r made in

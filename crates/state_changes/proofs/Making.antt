@@ -1,13 +1,13 @@
 -- A change that is refused leaves a note of its refusal.
 use Rattle.std.proofs.Common.{◌≡◌, ◌≢◌, ◌∙◌, ◌++◌, ℕ, Option, Some, ap, inl, inr}
 use Rattle.state_changes.specs.declared.change.Change.{Change}
-use Rattle.state_changes.specs.declared.change.What.{What}
+use Rattle.state_changes.specs.declared.change.ChangeKind.{ChangeKind}
 use Rattle.state_changes.specs.declared.fault.ChangeFault.{ChangeFault}
 use Rattle.state_changes.specs.declared.fault.ChangeFault.TheVariants.{OutOfMemory}
 use Rattle.state_changes.specs.Changes.{IsWhy, change_refusal, rows_changed, rows_unless, rows_with_change}
 use Rattle.state_changes.specs.Replay.{ReplayState, made, made_with, refused_note}
 
-why_refused : (o : Option ChangeFault) (w : What) (fault : ChangeFault) → IsWhy o w fault → fault ≢ OutOfMemory → o ≡ Some fault
+why_refused : (o : Option ChangeFault) (w : ChangeKind) (fault : ChangeFault) → IsWhy o w fault → fault ≢ OutOfMemory → o ≡ Some fault
 why_refused o w fault (inl e) some = e
 why_refused o w fault (inr e) some = absurd (some e.2)
 

@@ -10,8 +10,8 @@ use Rattle.vault_inventory.specs.declared.need.Need.{Need}
 use Rattle.vault_inventory.specs.Needs.{IsNeed, need_word}
 use Rattle.state_changes.specs.declared.change.Record.{Record}
 use Rattle.state_changes.specs.declared.change.Record.TheVariants.{Made, Settling}
-use Rattle.state_changes.specs.declared.change.What.{What}
-use Rattle.state_changes.specs.declared.change.What.TheVariants as what
+use Rattle.state_changes.specs.declared.change.ChangeKind.{ChangeKind}
+use Rattle.state_changes.specs.declared.change.ChangeKind.TheVariants as what
 use Rattle.state_changes.specs.Laws.{RecordLineLaw, RecordWrittenIsRead}
 use Rattle.state_changes.specs.declared.row.Row.{Row}
 use Rattle.state_changes.specs.RowText.{IsRow, is_word, one_and_rest, row_of_line}
@@ -34,18 +34,18 @@ by_keyword_is : (text k : List ℕ) → keyword text ≡ k → record_of text �
 unfolding record_of
 by_keyword_is text k e = ap (λ w. by_keyword w text) e
 
-made_back : (name was : List ℕ) (w : What) → is_name name ≡ true → is_word was ≡ true → made_of name was w ≡ Some (Made (record { name = name; was = was; what = w }))
+made_back : (name was : List ℕ) (w : ChangeKind) → is_name name ≡ true → is_word was ≡ true → made_of name was w ≡ Some (Made (record { name = name; was = was; what = w }))
 unfolding made_of
 made_back name was w named worded = cond-true _ _ _ (and_from (is_name name) (is_word was) named worded)
 
 -- what is written of a change but for an added row
-abbrev IsPlainWhat : List ℕ → What → Type 0
+abbrev IsPlainWhat : List ℕ → ChangeKind → Type 0
 IsPlainWhat name (what.Need u) = IsNeed u
 IsPlainWhat name (what.Replace c) = is_word c ≡ true
 IsPlainWhat name (what.Add row) = ⊥
 IsPlainWhat name what.Drop = Unit {0}
 
-plain_change : (name was : List ℕ) (w : What) → is_name name ≡ true → is_word was ≡ true → IsPlainWhat name w → ArePlain (change_words name was w)
+plain_change : (name was : List ℕ) (w : ChangeKind) → is_name name ≡ true → is_word was ≡ true → IsPlainWhat name w → ArePlain (change_words name was w)
 plain_change name was (what.Need u) named worded h = (record { spaces = refl; feeds = refl }, (name_is_plain name named, (word_is_plain was worded, (need_is_plain u h, tt))))
 plain_change name was (what.Replace c) named worded h = (record { spaces = refl; feeds = refl }, (name_is_plain name named, (word_is_plain was worded, (word_is_plain c h, tt))))
 plain_change name was (what.Add row) named worded h = absurd h
@@ -80,7 +80,7 @@ unfolding add_line
 add_line_back was row worded h =
     rw (cut_back (codes "add") (was ++ 32 ∷ row_text row) refl, cut_back was (row_text row) (word_is_plain was worded).spaces, row_back row h) (made_back row.name was (what.Add row) h.name worded)
 
-change_back : (name was : List ℕ) (w : What) → is_name name ≡ true → is_word was ≡ true → IsWhat name w
+change_back : (name was : List ℕ) (w : ChangeKind) → is_name name ≡ true → is_word was ≡ true → IsWhat name w
     → record_of (join_with_byte 32 (change_words name was w)) ≡ Some (Made (record { name = name; was = was; what = w }))
 change_back name was (what.Need u) named worded h =
     let text = join_with_byte 32 (change_words name was (what.Need u)) in
@@ -110,7 +110,7 @@ written_is_read (Settling mark) h =
     let cut : pieces 32 text ≡ codes "settling" ∷ mark ∷ [] = words_back _ _ (plain_settling mark h) in
     by_keyword_is text (codes "settling") (keyword_back text _ _ cut) ∙ settling_line_back mark h text cut
 
-change_lacks : (name was : List ℕ) (w : What) → is_name name ≡ true → is_word was ≡ true → IsWhat name w → Lacks 10 (join_with_byte 32 (change_words name was w))
+change_lacks : (name was : List ℕ) (w : ChangeKind) → is_name name ≡ true → is_word was ≡ true → IsWhat name w → Lacks 10 (join_with_byte 32 (change_words name was w))
 change_lacks name was (what.Need u) named worded h = line_lacks (change_words name was (what.Need u)) (plain_change name was (what.Need u) named worded h)
 change_lacks name was (what.Replace c) named worded h = line_lacks (change_words name was (what.Replace c)) (plain_change name was (what.Replace c) named worded h)
 change_lacks name was (what.Add row) named worded h =

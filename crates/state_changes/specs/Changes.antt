@@ -4,8 +4,8 @@ use Rattle.std.specs.Prelude.{◌≡◌, ◌⊎◌, ℕ, ◌+◌, Bool, true, fa
 use Rattle.plan_forest.specs.declared.forest.TheConstants.{MAX_DEPTH, MAX_ENTRIES}
 use Rattle.vault_inventory.specs.Terms.{step_of}
 use Rattle.plan_forest.specs.Push.{first_met}
-use Rattle.state_changes.specs.declared.change.What.{What}
-use Rattle.state_changes.specs.declared.change.What.TheVariants as what
+use Rattle.state_changes.specs.declared.change.ChangeKind.{ChangeKind}
+use Rattle.state_changes.specs.declared.change.ChangeKind.TheVariants as what
 use Rattle.state_changes.specs.declared.fault.ChangeFault.{ChangeFault}
 use Rattle.state_changes.specs.declared.fault.ChangeFault.TheVariants.{NoEntry, NameTwice, NoParent, ParentIsLease, StepTooSmall, TooDeep, Full, CredentialTwice, InFile, HasUnder, OutOfMemory}
 use Rattle.state_changes.specs.declared.row.Row.{Row}
@@ -40,18 +40,18 @@ refusal_of_entry refused None = Some NoEntry
 refusal_of_entry refused (Some row) = refused row
 
 -- the same of a change, with the entry of its name. An entry that is added has the name of its row
-abbrev pub refused_of : ℕ → List Row → What → Option Row → Option ChangeFault
+abbrev pub refused_of : ℕ → List Row → ChangeKind → Option Row → Option ChangeFault
 refused_of margin rows (what.Need until) row = refusal_of_entry never_refuses row
 refused_of margin rows (what.Replace credential) row = refusal_of_entry (refused_credential rows credential) row
 refused_of margin rows (what.Add added) row = refused_row margin rows added
 refused_of margin rows what.Drop row = refusal_of_entry (refused_drop rows) row
 
 -- why a change of the entry of that name cannot be made within that margin, None where it can
-unfoldable pub change_refusal : ℕ → List Row → List ℕ → What → Option ChangeFault
+unfoldable pub change_refusal : ℕ → List Row → List ℕ → ChangeKind → Option ChangeFault
 change_refusal margin rows name w = refused_of margin rows w (named rows name)
 
 -- the rows as they are once it is made
-abbrev pub rows_with_change : List Row → List ℕ → What → List Row
+abbrev pub rows_with_change : List Row → List ℕ → ChangeKind → List Row
 rows_with_change rows name (what.Need until) = with_named (λ row. record row { need = until }) name rows
 rows_with_change rows name (what.Replace credential) = with_named (λ row. record row { credential = credential }) name rows
 rows_with_change rows name (what.Add added) = rows ++ added ∷ []
@@ -62,21 +62,21 @@ rows_unless rows None = Ok rows
 rows_unless rows (Some fault) = Err fault
 
 -- the rows after a change of the entry of that name, or why it cannot be made
-unfoldable pub rows_changed : ℕ → List Row → List ℕ → What → Result (List Row) ChangeFault
+unfoldable pub rows_changed : ℕ → List Row → List ℕ → ChangeKind → Result (List Row) ChangeFault
 rows_changed margin rows name w = rows_unless (rows_with_change rows name w) (change_refusal margin rows name w)
 
-abbrev pub is_added : What → Bool
+abbrev pub is_added : ChangeKind → Bool
 is_added (what.Need until) = false
 is_added (what.Replace credential) = false
 is_added (what.Add added) = true
 is_added what.Drop = false
 
-abbrev pub takes_memory : What → Bool
+abbrev pub takes_memory : ChangeKind → Bool
 takes_memory (what.Need until) = false
 takes_memory (what.Replace credential) = true
 takes_memory (what.Add added) = true
 takes_memory what.Drop = false
 
 -- why a change was not made: its refusal, or where there is none, that memory was wanting
-abbrev pub IsWhy : Option ChangeFault → What → ChangeFault → Type 0
+abbrev pub IsWhy : Option ChangeFault → ChangeKind → ChangeFault → Type 0
 IsWhy refused w fault = (refused ≡ Some fault) ⊎ ((refused ≡ None) × (takes_memory w ≡ true) × (fault ≡ OutOfMemory))

@@ -5,7 +5,7 @@ use Rattle.plan_forest.specs.declared.entry.Entry.{Entry}
 use Rattle.plan_forest.specs.Forest.{entry_at}
 use Rattle.vault_inventory.specs.declared.need.Need.{Need}
 use Rattle.vault_inventory.specs.declared.need.Need.TheVariants.{Until, Always}
-use Rattle.vault_inventory.specs.declared.note.Note.{Note}
+use Rattle.vault_inventory.specs.declared.note.EntryNote.{EntryNote}
 use Rattle.vault_inventory.specs.declared.terms.Terms.{Terms}
 use Rattle.vault_inventory.specs.Inventories.{credential_at, terms_at}
 use Rattle.vault_inventory.specs.Served.{Served, note_at}
@@ -19,7 +19,7 @@ need_with false t = Until t
 abbrev pub name_at : List Entry → ℕ → List ℕ
 name_at es i = (entry_at es i).name
 
-abbrev pub row_with_note : List Entry → Entry → List ℕ → Terms → Note → Row
+abbrev pub row_with_note : List Entry → Entry → List ℕ → Terms → EntryNote → Row
 row_with_note es e sent t note = record {
   name = e.name;
   kind = e.kind;

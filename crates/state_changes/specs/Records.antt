@@ -8,15 +8,15 @@ use Rattle.vault_inventory.specs.declared.need.Need.{Need}
 use Rattle.vault_inventory.specs.Needs.{IsNeed, need_word}
 use Rattle.state_changes.specs.declared.change.Record.{Record}
 use Rattle.state_changes.specs.declared.change.Record.TheVariants.{Made, Settling}
-use Rattle.state_changes.specs.declared.change.What.{What}
-use Rattle.state_changes.specs.declared.change.What.TheVariants as what
+use Rattle.state_changes.specs.declared.change.ChangeKind.{ChangeKind}
+use Rattle.state_changes.specs.declared.change.ChangeKind.TheVariants as what
 use Rattle.state_changes.specs.declared.row.Row.{Row}
 use Rattle.state_changes.specs.RowText.{◌>>=◌, IsRow, is_word, one_and_rest, row_of_line}
 use Rattle.state_changes.specs.Words.{need_in_word, row_text}
 
 -- ---- as it is written
 
-abbrev pub change_words : List ℕ → List ℕ → What → List (List ℕ)
+abbrev pub change_words : List ℕ → List ℕ → ChangeKind → List (List ℕ)
 change_words name was (what.Need until) = codes "need" ∷ name ∷ was ∷ need_word until ∷ []
 change_words name was (what.Replace credential) = codes "replace" ∷ name ∷ was ∷ credential ∷ []
 change_words name was (what.Add row) = codes "add" ∷ was ∷ row_text row ∷ []
@@ -33,7 +33,7 @@ record_text r = join_with_byte 32 (record_words r)
 
 -- ---- as it is read
 
-unfoldable pub made_of : List ℕ → List ℕ → What → Option Record
+unfoldable pub made_of : List ℕ → List ℕ → ChangeKind → Option Record
 made_of name was w = if is_name name && is_word was then Some (Made (record { name = name; was = was; what = w })) else None
 
 abbrev pub record_with_need : List ℕ → List ℕ → Option Need → Option Record
@@ -75,7 +75,7 @@ record_of text =
 -- ---- which records there are
 
 -- a change that a command may make of the entry of that name
-abbrev pub IsWhat : List ℕ → What → Type 0
+abbrev pub IsWhat : List ℕ → ChangeKind → Type 0
 IsWhat name (what.Need until) = IsNeed until
 IsWhat name (what.Replace credential) = is_word credential ≡ true
 IsWhat name (what.Add row) = IsRow row × (row.name ≡ name)

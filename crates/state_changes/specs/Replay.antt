@@ -8,13 +8,13 @@ use Rattle.vault_inventory.specs.Needs.{has_always}
 use Rattle.state_changes.specs.declared.change.Change.{Change}
 use Rattle.state_changes.specs.declared.change.Record.{Record}
 use Rattle.state_changes.specs.declared.change.Record.TheVariants.{Made, Settling}
-use Rattle.state_changes.specs.declared.change.What.{What}
-use Rattle.state_changes.specs.declared.change.What.TheVariants as what
+use Rattle.state_changes.specs.declared.change.ChangeKind.{ChangeKind}
+use Rattle.state_changes.specs.declared.change.ChangeKind.TheVariants as what
 use Rattle.state_changes.specs.declared.fault.ChangeFault.{ChangeFault}
 use Rattle.state_changes.specs.declared.fault.ChangeFault.TheVariants.{NoEntry}
 use Rattle.state_changes.specs.declared.replaying.File.{File}
-use Rattle.state_changes.specs.declared.replaying.Note.{Note}
-use Rattle.state_changes.specs.declared.replaying.Why.TheVariants.{FileWins, Refused}
+use Rattle.state_changes.specs.declared.replaying.JournalNote.{JournalNote}
+use Rattle.state_changes.specs.declared.replaying.NotMadeReason.TheVariants.{FileWins, Refused}
 use Rattle.state_changes.specs.declared.row.Row.{Row}
 use Rattle.state_changes.specs.Changes.{is_added, rows_changed}
 use Rattle.state_changes.specs.Rows.{named}
@@ -23,7 +23,7 @@ use Rattle.state_changes.specs.Said.{said}
 -- the rows so far, and notes on the changes so far that were not made
 pub record ReplayState : Type 0 where
   pub rows : List Row
-  pub notes : List Note
+  pub notes : List JournalNote
 
 abbrev pub replay_begun : File → ReplayState
 replay_begun f = record { rows = f.rows; notes = [] }
@@ -37,7 +37,7 @@ same_need (Until t) b = is_until t b
 same_need Always b = has_always b
 
 -- the entry is as the change would make it
-abbrev pub holds_of : Row → What → Bool
+abbrev pub holds_of : Row → ChangeKind → Bool
 holds_of row (what.Need until) = same_need row.need until
 holds_of row (what.Replace credential) = bytes_eq row.credential credential
 holds_of row (what.Add added) = true
@@ -48,7 +48,7 @@ unfoldable pub holds : List Row → Change → Bool
 holds rows c = elim (named rows c.name) [ None ↦ not (is_added c.what) | Some row ↦ holds_of row c.what ]
 
 -- a change of an entry that is no longer there is about what was dropped
-abbrev pub refused_note : ℕ → ChangeFault → List Note
+abbrev pub refused_note : ℕ → ChangeFault → List JournalNote
 refused_note at NoEntry = []
 refused_note at fault = record { at = at; why = Refused fault } ∷ []
 

@@ -8,7 +8,7 @@ use vault_inventory::Need;
 
 /// What a change makes of the entry that it names.
 #[derive(Drop)]
-pub enum What {
+pub enum ChangeKind {
     /// It is needed until then from now on; the moment 0 is no need.
     Need(Need),
     /// Its credential is this one from now on: a token's own value, or a lease's id.
@@ -26,7 +26,7 @@ pub struct Change {
     pub name: Name,
     /// What the file said then, as [`said`](crate::said) gives it.
     pub was: Text,
-    pub what: What,
+    pub what: ChangeKind,
 }
 
 /// A record of the journal.
@@ -38,28 +38,28 @@ pub enum Record {
     Settling(Text),
 }
 
-impl What {
+impl ChangeKind {
     /// The same once more. The only error is out of memory.
-    pub fn copy(&self) -> Result<What, AllocError>
+    pub fn copy(&self) -> Result<ChangeKind, AllocError>
         ensures { IfOk result (λ what. what ≡ self.now) }
     {
         match self {
-            What::Need(until) => Ok(What::Need(*until)),
-            What::Replace(credential) => Ok(What::Replace(credential.clone()?)),
-            What::Add(row) => Ok(What::Add(row.copy()?)),
-            What::Drop => Ok(What::Drop),
+            ChangeKind::Need(until) => Ok(ChangeKind::Need(*until)),
+            ChangeKind::Replace(credential) => Ok(ChangeKind::Replace(credential.clone()?)),
+            ChangeKind::Add(row) => Ok(ChangeKind::Add(row.copy()?)),
+            ChangeKind::Drop => Ok(ChangeKind::Drop),
         }
     }
 }
 
-impl fmt::Debug for What {
+impl fmt::Debug for ChangeKind {
     /// Shows what it changes, a need, and of a row the name and the kind. A credential is secret.
     fn fmt<W: fmt::Write>(&self, f: &mut fmt::Formatter<W>) -> fmt::Result {
         match self {
-            What::Need(need) => f.debug_tuple("Need").field(need).finish(),
-            What::Replace(_) => f.write_str("Replace(..)"),
-            What::Add(row) => f.debug_tuple("Add").field(row).finish(),
-            What::Drop => f.write_str("Drop"),
+            ChangeKind::Need(need) => f.debug_tuple("Need").field(need).finish(),
+            ChangeKind::Replace(_) => f.write_str("Replace(..)"),
+            ChangeKind::Add(row) => f.debug_tuple("Add").field(row).finish(),
+            ChangeKind::Drop => f.write_str("Drop"),
         }
     }
 }

@@ -4,7 +4,7 @@ ghost use Rattle.state_changes.specs.declared.change.Record.TheVariants.{Made};
 ghost use Rattle.state_changes.specs.Compaction.{is_need, is_void, voids};
 ghost use Rattle.state_changes.specs.code.Needed.{AreNeedsOf};
 
-use crate::change::{Change, Record, What};
+use crate::change::{Change, Record, ChangeKind};
 use base_moment::{Name, Text};
 use std::alloc::{AllocError, Global};
 use std::collections::BTreeSet;
@@ -62,11 +62,11 @@ fn is_given_again(later: &mut BTreeSet<Needed>, change: &Change) -> Result<bool,
     Ok(!is_new)
 }
 
-fn is_need(what: &What) -> bool
+fn is_need(what: &ChangeKind) -> bool
     ensures { result ≡ is_need what.now }
 {
     match what {
-        What::Need(_) => true,
-        What::Replace(_) | What::Add(_) | What::Drop => false,
+        ChangeKind::Need(_) => true,
+        ChangeKind::Replace(_) | ChangeKind::Add(_) | ChangeKind::Drop => false,
     }
 }

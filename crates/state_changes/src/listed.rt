@@ -1,6 +1,6 @@
 ghost use Rattle.std.specs.Prelude.{◌≡◌, ◌<◌, IfOk, length, option_map};
 ghost use Rattle.plan_forest.specs.Forest.{entry_at};
-ghost use Rattle.vault_inventory.specs.Served.{note_at};
+ghost use Rattle.vault_inventory.specs.ServedInventory.{note_at};
 ghost use Rattle.state_changes.specs.Listed.{name_at, need_with, row_at, rows_before, rows_of_served};
 
 use crate::row::{Row, copy_if};
@@ -8,10 +8,10 @@ use crate::rows::Rows;
 use base_moment::{Moment, Name, Text};
 use plan_forest::Forest;
 use std::alloc::{AllocError, Global};
-use vault_inventory::{Need, Note, Served};
+use vault_inventory::{Need, EntryNote, ServedInventory};
 
 /// The rows of what is served, one for each entry, in order. The only error is out of memory.
-pub fn rows_of(alloc: Global, served: &Served) -> Result<Rows, AllocError>
+pub fn rows_of(alloc: Global, served: &ServedInventory) -> Result<Rows, AllocError>
     ensures { IfOk result (λ rows. rows ≡ rows_of_served served.now) }
 {
     Rows::of(alloc, listed_rows(alloc, served)?)
@@ -19,7 +19,7 @@ pub fn rows_of(alloc: Global, served: &Served) -> Result<Rows, AllocError>
 
 /// The same rows, without a look-up by name. The only error is out of memory.
 #[tactic(auto, using(crate::proofs::Rowed::rows_none, crate::proofs::Rowed::rows_more), unfolding(crate::specs::Listed::rows_of_served))]
-pub fn listed_rows(alloc: Global, served: &Served) -> Result<Vec<Row>, AllocError>
+pub fn listed_rows(alloc: Global, served: &ServedInventory) -> Result<Vec<Row>, AllocError>
     ensures { IfOk result (λ rows. rows.items ≡ rows_of_served served.now) }
 {
     let mut rows = Vec::new(alloc);
@@ -31,7 +31,7 @@ pub fn listed_rows(alloc: Global, served: &Served) -> Result<Vec<Row>, AllocErro
 
 // The row of the entry at an index.
 #[tactic(auto, unfolding(crate::specs::Listed::row_at))]
-fn row_at(alloc: Global, served: &Served, index: u32) -> Result<Row, AllocError>
+fn row_at(alloc: Global, served: &ServedInventory, index: u32) -> Result<Row, AllocError>
     requires { index < length served.now.inventory.forest.entries }
     ensures { IfOk result (λ row. row ≡ row_at served.now index) }
 {
@@ -55,7 +55,7 @@ fn row_at(alloc: Global, served: &Served, index: u32) -> Result<Row, AllocError>
 
 // The note of an entry.
 #[tactic(auto, unfolding(vault_inventory::specs::Served::note_at))]
-fn note_at(served: &Served, index: u32) -> &Note
+fn note_at(served: &ServedInventory, index: u32) -> &EntryNote
     requires { index < length served.now.inventory.forest.entries }
     ensures { result.now ≡ note_at served.now.notes index }
 {

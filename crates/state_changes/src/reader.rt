@@ -1,7 +1,7 @@
 ghost use Rattle.std.specs.Prelude.{◌≡◌, IfOk};
 ghost use Rattle.state_changes.specs.Records.{add_line, added_of, drop_line, made_of, need_line, record_of, replace_line, settling_line};
 
-use crate::change::{Change, Record, What};
+use crate::change::{Change, Record, ChangeKind};
 use crate::row::Row;
 use crate::row_text::{is_name, is_word, one_and_rest, read_row};
 use crate::words::need_of;
@@ -41,7 +41,7 @@ fn need_line(alloc: Global, text: &[u8]) -> Result<Option<Record>, AllocError>
     };
     match need_of(until) {
         None => Ok(None),
-        Some(until) => made_of(alloc, name, was, What::Need(until)),
+        Some(until) => made_of(alloc, name, was, ChangeKind::Need(until)),
     }
 }
 
@@ -57,7 +57,7 @@ fn replace_line(alloc: Global, text: &[u8]) -> Result<Option<Record>, AllocError
         return Ok(None);
     }
     let credential = Text::of(alloc, credential)?;
-    made_of(alloc, name, was, What::Replace(credential))
+    made_of(alloc, name, was, ChangeKind::Replace(credential))
 }
 
 // The line `add WAS ROW`.
@@ -83,7 +83,7 @@ fn added_of(alloc: Global, was: &[u8], row: Option<Row>) -> Result<Option<Record
         return Ok(None);
     };
     let name = row.name.clone()?;
-    made_of(alloc, name.list(), was, What::Add(row))
+    made_of(alloc, name.list(), was, ChangeKind::Add(row))
 }
 
 // The line `drop NAME WAS`.
@@ -94,7 +94,7 @@ fn drop_line(alloc: Global, text: &[u8]) -> Result<Option<Record>, AllocError>
     let Some((_, name, was)) = three_words(text) else {
         return Ok(None);
     };
-    made_of(alloc, name, was, What::Drop)
+    made_of(alloc, name, was, ChangeKind::Drop)
 }
 
 // The line `settling MARK`.
@@ -113,7 +113,7 @@ fn settling_line(alloc: Global, text: &[u8]) -> Result<Option<Record>, AllocErro
 
 // A change of the entry of that name, where these can be its words.
 #[tactic(auto, unfolding(crate::specs::Records::made_of))]
-fn made_of(alloc: Global, name: &[u8], was: &[u8], what: What) -> Result<Option<Record>, AllocError>
+fn made_of(alloc: Global, name: &[u8], was: &[u8], what: ChangeKind) -> Result<Option<Record>, AllocError>
     ensures { IfOk result (λ read. read ≡ made_of name.now was.now what) }
 {
     if !is_name(name) || !is_word(was) {

@@ -3,7 +3,7 @@ ghost use Rattle.vault_inventory.specs.Needs.{has_always};
 ghost use Rattle.state_changes.specs.Changes.{is_added};
 ghost use Rattle.state_changes.specs.Replay.{holds, holds_of, is_as_then, is_until, made, overruled, refused_note, replay_begun, replay_step, replayed, same_need};
 
-use crate::change::{Change, Record, What};
+use crate::change::{Change, Record, ChangeKind};
 use crate::fault::ChangeFault;
 use crate::row::Row;
 use crate::rows::Rows;
@@ -28,7 +28,7 @@ pub struct File {
 
 /// Why a change of a journal was not made.
 #[derive(Clone, Copy, Debug, PartialEq, Eq)]
-pub enum Why {
+pub enum NotMadeReason {
     /// The file says something else of the word than it did when the change was made.
     FileWins,
     /// The change cannot be made.
@@ -37,17 +37,17 @@ pub enum Why {
 
 /// A change of a journal that was not made.
 #[derive(Clone, Copy, Debug, PartialEq, Eq)]
-pub struct Note {
+pub struct JournalNote {
     /// The place of its record, counted from 0.
     pub at: usize,
-    pub why: Why,
+    pub why: NotMadeReason,
 }
 
 /// The inventory that a file and the records of a journal give together, with a note on each change that was not made.
 #[derive(Debug, Drop)]
 pub struct Replayed {
     rows: Rows,
-    notes: Vec<Note>,
+    notes: Vec<JournalNote>,
 }
 
 impl Model for Replayed {
@@ -68,7 +68,7 @@ impl Replayed {
 
     /// The notes, in the order of the records. A change that was not made has none where the inventory is as the change
     /// would make it, or where its entry was dropped.
-    pub fn notes(&self) -> &[Note]
+    pub fn notes(&self) -> &[JournalNote]
         ensures { result.now ≡ self.now.notes }
     {
         &self.notes
@@ -100,7 +100,7 @@ impl Replayed {
         match fault {
             ChangeFault::NoEntry => Ok(()),
             ChangeFault::OutOfMemory => Err(AllocError),
-            fault => self.note(at, Why::Refused(fault)),
+            fault => self.note(at, NotMadeReason::Refused(fault)),
         }
     }
 
@@ -112,13 +112,13 @@ impl Replayed {
         if holds(&self.rows, change) {
             return Ok(());
         }
-        self.note(at, Why::FileWins)
+        self.note(at, NotMadeReason::FileWins)
     }
 
-    fn note(&mut self, at: usize, why: Why) -> Result<(), AllocError>
+    fn note(&mut self, at: usize, why: NotMadeReason) -> Result<(), AllocError>
         ensures { OnOk result (self.new ≡ record self.old { notes = self.old.notes ++ record { at = at; why = why } ∷ [] }) }
     {
-        self.notes.push(Note { at, why })?;
+        self.notes.push(JournalNote { at, why })?;
         Ok(())
     }
 }
@@ -196,23 +196,23 @@ fn holds(rows: &Rows, change: &Change) -> bool
     }
 }
 
-fn holds_of(row: &Row, what: &What) -> bool
+fn holds_of(row: &Row, what: &ChangeKind) -> bool
     ensures { result ≡ holds_of row.now what.now }
 {
     match what {
-        What::Need(until) => same_need(&row.need, until),
-        What::Replace(credential) => row.credential.list() == credential.list(),
-        What::Add(_) => true,
-        What::Drop => false,
+        ChangeKind::Need(until) => same_need(&row.need, until),
+        ChangeKind::Replace(credential) => row.credential.list() == credential.list(),
+        ChangeKind::Add(_) => true,
+        ChangeKind::Drop => false,
     }
 }
 
-fn is_added(what: &What) -> bool
+fn is_added(what: &ChangeKind) -> bool
     ensures { result ≡ is_added what.now }
 {
     match what {
-        What::Add(_) => true,
-        What::Need(_) | What::Replace(_) | What::Drop => false,
+        ChangeKind::Add(_) => true,
+        ChangeKind::Need(_) | ChangeKind::Replace(_) | ChangeKind::Drop => false,
     }
 }
 

@@ -5,7 +5,7 @@ ghost use Rattle.state_changes.specs.Changes.{IsWhy, change_refusal, never_refus
 ghost use Rattle.state_changes.specs.code.Index.{has_seen};
 ghost use Rattle.state_changes.specs.Rows.{has_under, is_deep, is_row_named, is_row_under_lease, is_taken, is_under, named, row_lacks_parent, with_named, without_row};
 
-use crate::change::What;
+use crate::change::ChangeKind;
 use crate::fault::ChangeFault;
 use crate::index::{Places, credentials_of, place_of, places_of};
 use crate::row::Row;
@@ -109,7 +109,7 @@ impl Rows {
     /// kind has it, and `InFile`, the entry names a file that holds its credential; of a drop, `HasUnder`, other entries
     /// are under the entry; of an addition, those from `NameTwice` to `CredentialTwice` in their order, and `OutOfMemory`.
     #[tactic(auto, using(crate::proofs::Places::free_name), unfolding(crate::specs::Changes::rows_changed))]
-    pub fn change(&mut self, margin: u32, name: &[u8], what: What) -> Result<(), ChangeFault>
+    pub fn change(&mut self, margin: u32, name: &[u8], what: ChangeKind) -> Result<(), ChangeFault>
         ensures made { OnOk result (rows_changed margin self.old name.now what ≡ Ok self.new) }
         ensures refused { IfErr result (IsWhy (change_refusal margin self.old name.now what) what) }
         ensures unchanged { OnErr result (self.new ≡ self.old) }
@@ -118,13 +118,13 @@ impl Rows {
             return Err(fault);
         }
         match what {
-            What::Need(until) => {
+            ChangeKind::Need(until) => {
                 self.set_need(name, until);
                 Ok(())
             }
-            What::Replace(credential) => self.set_credential(name, credential),
-            What::Add(row) => self.push(row),
-            What::Drop => {
+            ChangeKind::Replace(credential) => self.set_credential(name, credential),
+            ChangeKind::Add(row) => self.push(row),
+            ChangeKind::Drop => {
                 self.remove(name);
                 Ok(())
             }
@@ -185,14 +185,14 @@ impl Rows {
 
     /// Why a change of the entry of that name cannot be made, in an inventory of that margin in seconds; `None` where it can.
     #[tactic(auto, unfolding(crate::specs::Changes::change_refusal))]
-    pub fn refusal(&self, margin: u32, name: &[u8], what: &What) -> Option<ChangeFault>
+    pub fn refusal(&self, margin: u32, name: &[u8], what: &ChangeKind) -> Option<ChangeFault>
         ensures { result ≡ change_refusal margin self.now name.now what.now }
     {
         match what {
-            What::Need(_) => self.refused_need(name),
-            What::Replace(credential) => self.refused_credential(name, credential.list()),
-            What::Add(row) => self.refused_row(margin, row),
-            What::Drop => self.refused_drop(name),
+            ChangeKind::Need(_) => self.refused_need(name),
+            ChangeKind::Replace(credential) => self.refused_credential(name, credential.list()),
+            ChangeKind::Add(row) => self.refused_row(margin, row),
+            ChangeKind::Drop => self.refused_drop(name),
         }
     }
 

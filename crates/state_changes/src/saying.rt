@@ -1,7 +1,7 @@
 ghost use Rattle.std.specs.Prelude.{◌≡◌, IfOk};
 ghost use Rattle.state_changes.specs.Said.{said, said_of};
 
-use crate::change::What;
+use crate::change::ChangeKind;
 use crate::row::Row;
 use crate::rows::Rows;
 use crate::words::{fingerprint, push_need, push_row};
@@ -14,7 +14,7 @@ use std::alloc::{AllocError, Global};
 ///
 /// The only error is out of memory.
 #[tactic(auto, unfolding(crate::specs::Said::said))]
-pub fn said(alloc: Global, rows: &Rows, name: &[u8], what: &What) -> Result<Text, AllocError>
+pub fn said(alloc: Global, rows: &Rows, name: &[u8], what: &ChangeKind) -> Result<Text, AllocError>
     ensures { IfOk result (λ word. word ≡ said rows.now name.now what.now) }
 {
     match rows.named(name) {
@@ -23,17 +23,17 @@ pub fn said(alloc: Global, rows: &Rows, name: &[u8], what: &What) -> Result<Text
     }
 }
 
-fn said_of(alloc: Global, row: &Row, what: &What) -> Result<Text, AllocError>
+fn said_of(alloc: Global, row: &Row, what: &ChangeKind) -> Result<Text, AllocError>
     ensures { IfOk result (λ word. word ≡ said_of row.now what.now) }
 {
     let mut text = Vec::new(alloc);
     match what {
-        What::Need(_) => {
+        ChangeKind::Need(_) => {
             push_need(alloc, row.need, &mut text)?;
             Ok(Text::from_vec(text))
         }
-        What::Replace(_) => fingerprint(alloc, row.credential.list()),
-        What::Add(_) | What::Drop => {
+        ChangeKind::Replace(_) => fingerprint(alloc, row.credential.list()),
+        ChangeKind::Add(_) | ChangeKind::Drop => {
             push_row(alloc, row, &mut text)?;
             fingerprint(alloc, &text)
         }

@@ -2,7 +2,7 @@ ghost use Rattle.std.specs.Prelude.{◌≡◌, ◌++◌, IfOk, OnOk};
 ghost use Rattle.std.specs.List.{join_with_byte};
 ghost use Rattle.state_changes.specs.Records.{change_words, record_text};
 
-use crate::change::{Change, Record, What};
+use crate::change::{Change, Record, ChangeKind};
 use crate::words::{push_need, push_row, push_word};
 use base_moment::Text;
 use std::alloc::{AllocError, Global};
@@ -30,24 +30,24 @@ fn push_change(alloc: Global, change: &Change, text: &mut Vec<u8>) -> Result<(),
 {
     let (name, was) = (change.name.list(), change.was.list());
     match &change.what {
-        What::Need(until) => {
+        ChangeKind::Need(until) => {
             push_word(b"need", text)?;
             push_word(name, text)?;
             push_word(was, text)?;
             push_need(alloc, *until, text)
         }
-        What::Replace(credential) => {
+        ChangeKind::Replace(credential) => {
             push_word(b"replace", text)?;
             push_word(name, text)?;
             push_word(was, text)?;
             text.extend_from_slice(credential.list())
         }
-        What::Add(row) => {
+        ChangeKind::Add(row) => {
             push_word(b"add", text)?;
             push_word(was, text)?;
             push_row(alloc, row, text)
         }
-        What::Drop => {
+        ChangeKind::Drop => {
             push_word(b"drop", text)?;
             push_word(name, text)?;
             text.extend_from_slice(was)

@@ -12,14 +12,14 @@ use crate::text::{Form, file_text};
 use base_moment::Span;
 use state_changes::{Row, listed_rows};
 use std::alloc::Global;
-use vault_inventory::{InvFault, MOST_INVENTORY, Served, read_served};
+use vault_inventory::{InvFault, MOST_INVENTORY, ServedInventory, read_served};
 
 /// The text of a file, and the inventory that is read of it. It has no `Debug`: the text holds credentials.
 #[derive(Drop)]
 pub struct Settled {
     /// TOML in UTF-8, at most 1 MiB.
     pub text: String,
-    pub served: Served,
+    pub served: ServedInventory,
 }
 
 /// The text of a file that says what the rows say, with that margin and that maximum TTL of the system in seconds, where they are
@@ -78,7 +78,7 @@ fn read_back(
     margin: Option<u32>,
     system_max: Option<Span>,
     text: &[u8],
-) -> Result<Served, SettleFault>
+) -> Result<ServedInventory, SettleFault>
     ensures read { IfOk result (λ served. read_served text.now ≡ Ok served) }
     ensures margin { IfOk result (λ served. served.inventory.forest.margin ≡ unwrap_or margin 1) }
     ensures has_margin { IfOk result (λ served. served.has_margin ≡ is_some margin) }
@@ -94,7 +94,7 @@ fn read_back(
 
 // What is served by a text.
 #[tactic(auto, unfolding(crate::specs::Unwritten::IsWhyNoInventory))]
-fn read(alloc: Global, text: &[u8]) -> Result<Served, SettleFault>
+fn read(alloc: Global, text: &[u8]) -> Result<ServedInventory, SettleFault>
     ensures read { IfOk result (λ served. read_served text.now ≡ Ok served) }
     ensures refused { IfErr result (IsWhyNoInventory text.now) }
 {
@@ -106,7 +106,7 @@ fn read(alloc: Global, text: &[u8]) -> Result<Served, SettleFault>
 }
 
 // Whether it has that margin, and one that is written where that is.
-fn is_with(margin: Option<u32>, served: &Served) -> bool
+fn is_with(margin: Option<u32>, served: &ServedInventory) -> bool
     ensures margin { result ≡ true → served.now.inventory.forest.margin ≡ unwrap_or margin 1 }
     ensures has_margin { result ≡ true → served.now.has_margin ≡ is_some margin }
     ensures only { served.now.inventory.forest.margin ≡ unwrap_or margin 1 → served.now.has_margin ≡ is_some margin → result ≡ true }

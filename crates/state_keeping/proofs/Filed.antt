@@ -10,7 +10,7 @@ use Rattle.state_store.specs.declared.store.Store.{Store}
 use Rattle.state_store.specs.Stores.{FileHolds, IsKeptOrNone, IsReplayed, is_kept, journal_of, path_of_store}
 use Rattle.state_store.proofs.Kept.{holds_past}
 use Rattle.state_store.proofs.Marking.{rest_alone}
-use Rattle.state_keeping.specs.declared.keeper.Keeper.{Keeper}
+use Rattle.state_keeping.specs.declared.keeper.StateKeeper.{StateKeeper}
 use Rattle.state_keeping.specs.Keepers.{store_of}
 use Rattle.state_keeping.specs.Places.{Places, PlacesAreApart}
 use Rattle.state_keeping.specs.States.{IsKeeping}
@@ -53,7 +53,7 @@ kept_file known store target file s t at held kept is sound =
     ⊎_elim (λ yes. inl (record { sound = sound; durable = now is yes sound })) (λ none. inr (none is)) (subst (λ (p : List ℕ). IsKeptOrNone known store p s) at kept)
 
 -- a state goes on keeping: where FILE holds at a path that is its place
-module _ (known : Bool) (old new : Keeper) (places : Places) (s t : DiskState) (was : IsKeeping known old places s) (held : JournalHolds known (journal_of (store_of new)) t) (replayed : IsReplayed (store_of new))
+module _ (known : Bool) (old new : StateKeeper) (places : Places) (s t : DiskState) (was : IsKeeping known old places s) (held : JournalHolds known (journal_of (store_of new)) t) (replayed : IsReplayed (store_of new))
     (path : path_of_store (store_of new) ≡ path_of_store (store_of old)) where
   pub keeps_at : (target : List ℕ) → target ≡ places.file → FileHolds known (store_of new) target t → IsKeeping known new places t
   keeps_at target at file = record {
@@ -80,7 +80,7 @@ module _ (known : Bool) (old new : Keeper) (places : Places) (s t : DiskState) (
   }
 
 -- the same store, or one that differs in its rows alone
-pub keeps_still : (known : Bool) (old new : Keeper) (places : Places) (s : DiskState) → IsKeeping known old places s → journal_of (store_of new) ≡ journal_of (store_of old) → IsReplayed (store_of new)
+pub keeps_still : (known : Bool) (old new : StateKeeper) (places : Places) (s : DiskState) → IsKeeping known old places s → journal_of (store_of new) ≡ journal_of (store_of old) → IsReplayed (store_of new)
     → is_kept (store_of new) ≡ is_kept (store_of old) → IsKeeping known new places s
 keeps_still known old new places s was journal replayed same = record {
   held = subst (λ (j : Journal). JournalHolds known j s) (sym journal) was.held;
@@ -90,11 +90,11 @@ keeps_still known old new places s was journal replayed same = record {
   file = λ is kept. was.file is (sym same ∙ kept);
 }
 
-pub keeps_store : (known : Bool) (old new : Keeper) (places : Places) (s : DiskState) → IsKeeping known old places s → store_of new ≡ store_of old → IsKeeping known new places s
+pub keeps_store : (known : Bool) (old new : StateKeeper) (places : Places) (s : DiskState) → IsKeeping known old places s → store_of new ≡ store_of old → IsKeeping known new places s
 keeps_store known old new places s was same = keeps_still known old new places s was (ap journal_of same) (subst IsReplayed (sym same) was.replayed) (ap is_kept same)
 
 -- a call that changes nothing
-pub keeps_alone : (known : Bool) (keeper : Keeper) (places : Places) (s t : DiskState) → IsKeeping known keeper places s → (IsTrue known → LeavesAlone s t) → IsKeeping known keeper places t
+pub keeps_alone : (known : Bool) (keeper : StateKeeper) (places : Places) (s t : DiskState) → IsKeeping known keeper places s → (IsTrue known → LeavesAlone s t) → IsKeeping known keeper places t
 keeps_alone known keeper places s t was alone =
     let journal = journal_of (store_of keeper) in
     record {
@@ -109,7 +109,7 @@ keeps_alone known keeper places s t was alone =
     }
 
 -- the journal is handed over
-pub keeps_handed : (known : Bool) (old new : Keeper) (places : Places) (file : File) (P : List ℕ → Type 0) (s t : DiskState) → PlacesAreApart places → IsKeeping known old places s
+pub keeps_handed : (known : Bool) (old new : StateKeeper) (places : Places) (file : File) (P : List ℕ → Type 0) (s t : DiskState) → PlacesAreApart places → IsKeeping known old places s
     → JournalHolds known (journal_of (store_of new)) t → IsReplayed (store_of new) → path_of_store (store_of new) ≡ path_of_store (store_of old)
     → (IsTrue known → (other : List ℕ) → bytes_eq places.journal other ≡ false → bytes_eq places.copy other ≡ false → (t.seen other ≡ s.seen other) × (t.is_sound other ≡ s.is_sound other))
     → (IsTrue known → LeavesOnly s t (Exchanging places.journal places.copy file P s)) → ((n : ℕ) (c : Image) → n ≤ t.moment → t.may_leave c → t.left_since n c)
@@ -123,7 +123,7 @@ keeps_handed known old new places file P s t apart was held replayed path others
 }
 
 -- a state at a start
-pub keeps_opened : (known : Bool) (keeper : Keeper) (store : Store) (places : Places) (t : DiskState) → store_of keeper ≡ store → PlacesAreApart places → JournalHolds known (journal_of store) t → IsReplayed store
+pub keeps_opened : (known : Bool) (keeper : StateKeeper) (store : Store) (places : Places) (t : DiskState) → store_of keeper ≡ store → PlacesAreApart places → JournalHolds known (journal_of store) t → IsReplayed store
     → path_of_store store ≡ places.journal → is_kept store ≡ false → IsKeeping known keeper places t
 keeps_opened known keeper store places t is apart held replayed path fresh = record {
   held = subst (λ (st : Store). JournalHolds known (journal_of st) t) (sym is) held;

@@ -14,7 +14,7 @@ use Rattle.state_store.specs.Books.{Book}
 use Rattle.state_store.specs.Compacted.{damaged}
 use Rattle.state_store.specs.Moved.{FailsInSteps, MovesInSteps, PutsFile, PutsMark, SaysAllKept, SaysByItself, mark_line}
 use Rattle.state_store.specs.Stores.{book_of, is_sure, journal_of, lines_in, path_of_store}
-use Rattle.state_keeping.specs.declared.keeper.Keeper.{Keeper}
+use Rattle.state_keeping.specs.declared.keeper.StateKeeper.{StateKeeper}
 use Rattle.state_keeping.specs.Keepers.{store_of, waiting_in}
 use Rattle.state_keeping.specs.Lives.{Alone, HandOver, IsCall, IsOver, IsPlaced, IsReady, IsStill, LeavesAmid, Mark, MarksInSteps, Place, PlacesInSteps, SettlesInSteps}
 use Rattle.state_keeping.specs.Places.{Places}
@@ -23,7 +23,7 @@ use Rattle.state_keeping.specs.States.{IsKeeping, Kept, book_in, store_in}
 use Rattle.state_keeping.proofs.Filed.{keeps_alone, keeps_store}
 
 -- of a disk of which contracts know
-pub known_keeping : (known : Bool) (keeper : Keeper) (places : Places) (s : DiskState) → IsTrue known → IsKeeping known keeper places s → IsKeeping true keeper places s
+pub known_keeping : (known : Bool) (keeper : StateKeeper) (places : Places) (s : DiskState) → IsTrue known → IsKeeping known keeper places s → IsKeeping true keeper places s
 known_keeping known keeper places s is keeping = record {
   held = record { are_lines = keeping.held.are_lines; whole = λ yes. keeping.held.whole is };
   replayed = keeping.replayed;
@@ -33,11 +33,11 @@ known_keeping known keeper places s is keeping = record {
 }
 
 module _ {D : Type 0} (known : Bool) (is : IsTrue known) (state : D → DiskState) (places : Places) where
-  abbrev at : Keeper → D → Kept D
+  abbrev at : StateKeeper → D → Kept D
   at keeper disk = record { keeper = keeper; disk = disk; places = places }
 
   -- FILE is read
-  pub read_call : (keeper new : Keeper) (s t : D) → IsKeeping known keeper places (state s) → store_of new ≡ store_of keeper → LeavesAlone (state s) (state t) → LeavesOnly (state s) (state t) (state s).may_leave
+  pub read_call : (keeper new : StateKeeper) (s t : D) → IsKeeping known keeper places (state s) → store_of new ≡ store_of keeper → LeavesAlone (state s) (state t) → LeavesOnly (state s) (state t) (state s).may_leave
       → IsCall state (at keeper s) (record { aim = Alone; is_acknowledged = true; kept = at new t })
   read_call keeper new s t was same alone run = record {
     done = record { lines = ap lines_in same; file = ap (λ (st : Store). (book_of st).file) same; rows = ap (λ (st : Store). (book_of st).rows) same };
@@ -49,7 +49,7 @@ module _ {D : Type 0} (known : Bool) (is : IsTrue known) (state : D → DiskStat
   }
 
   -- the mark is put, or not
-  module _ (keeper new : Keeper) (s t : D) (text : List ℕ) (v : Served) (was : IsKeeping known keeper places (state s)) (says : SaysAllKept (book_of (store_of keeper)) text v)
+  module _ (keeper new : StateKeeper) (s t : D) (text : List ℕ) (v : Served) (was : IsKeeping known keeper places (state s)) (says : SaysAllKept (book_of (store_of keeper)) text v)
       (put : PutsMark known state (store_of keeper) places.file text s (store_of new) t) where
     marked_seen : (state t).seen places.file ≡ (state s).seen places.file
     marked_seen = put.others.seen places.file (ap (λ (p : List ℕ). bytes_eq p places.file) was.path ∙ was.apart)
@@ -71,7 +71,7 @@ module _ {D : Type 0} (known : Bool) (is : IsTrue known) (state : D → DiskStat
         }
 
   -- FILE is put in its place, or not
-  module _ (keeper new : Keeper) (s t : D) (mode : ℕ) (text : List ℕ) (v : Served) (present : List ℕ) (says : SaysAllKept (book_of (store_of keeper)) text v) (there : bytes_of_file ((state s).seen places.file) ≡ present)
+  module _ (keeper new : StateKeeper) (s t : D) (mode : ℕ) (text : List ℕ) (v : Served) (present : List ℕ) (says : SaysAllKept (book_of (store_of keeper)) text v) (there : bytes_of_file ((state s).seen places.file) ≡ present)
       (put : PutsFile state (store_of keeper) places.file (record { mode = mode; bytes = text }) v present s (store_of new) t) (now : IsKeeping known new places (state t)) where
     place_call : (is_placed : Bool) × IsCall state (at keeper s) (record { aim = Place mode text v; is_acknowledged = is_placed; kept = at new t })
     place_call =
@@ -105,7 +105,7 @@ module _ {D : Type 0} (known : Bool) (is : IsTrue known) (state : D → DiskStat
         put.outcome
 
   -- the copy is FILE, and the records are taken out of the journal, or not
-  pub hand_call : (keeper new : Keeper) (s t : D) (file : File) (text : List ℕ) (r : Result (Unit {0}) DiskFault) → SaysByItself (store_of keeper) → is_sure (store_of keeper) ≡ true → FileIsThere places.file file (state s)
+  pub hand_call : (keeper new : StateKeeper) (s t : D) (file : File) (text : List ℕ) (r : Result (Unit {0}) DiskFault) → SaysByItself (store_of keeper) → is_sure (store_of keeper) ≡ true → FileIsThere places.file file (state s)
       → OnOk r (lines_in (store_of new) ≡ damaged (lines_in (store_of keeper))) → OnErr r (lines_in (store_of new) ≡ lines_in (store_of keeper)) → book_of (store_of new) ≡ book_of (store_of keeper) → is_sure (store_of new) ≡ is_sure (store_of keeper)
       → (state t).seen places.file ≡ (state s).seen places.file → IsKeeping known new places (state t)
       → LeavesOnly (state s) (state t) (Exchanging (path_of_store (store_of keeper)) places.copy (copy_with text) (λ bytes. StandsFor bytes (damaged (lines_in (store_of keeper)))) (state s))
@@ -129,7 +129,7 @@ module _ {D : Type 0} (known : Bool) (is : IsTrue known) (state : D → DiskStat
       either_way (Err fault) taken same file_is rows_are = inl (record { lines = same; file = file_is; rows = rows_are })
 
   -- one after the other
-  module _ (keeper new : Keeper) (s r t : D) (mode : ℕ) (present : List ℕ) (was : IsKeeping known keeper places (state s)) (alone : LeavesAlone (state s) (state r)) (run : LeavesOnly (state s) (state r) (state s).may_leave)
+  module _ (keeper new : StateKeeper) (s r t : D) (mode : ℕ) (present : List ℕ) (was : IsKeeping known keeper places (state s)) (alone : LeavesAlone (state s) (state r)) (run : LeavesOnly (state s) (state r) (state s).may_leave)
       (there : bytes_of_file ((state r).seen places.file) ≡ present) where
     was_read : IsKeeping known keeper places (state r)
     was_read = keeps_alone known keeper places (state s) (state r) was (λ yes. alone)
@@ -142,7 +142,7 @@ module _ {D : Type 0} (known : Bool) (is : IsTrue known) (state : D → DiskStat
 
     module _ (text : List ℕ) (v : Served) (says : SaysAllKept (book_of (store_of keeper)) text v) (marked : Store) (mid : D) (put : PutsMark known state (store_of keeper) places.file text r marked mid)
         (placed : PutsFile state marked places.file (record { mode = mode; bytes = text }) v present mid (store_of new) t) (now : IsKeeping known new places (state t)) where
-      abbrev keeper_marked : Keeper
+      abbrev keeper_marked : StateKeeper
       keeper_marked = record { store = marked; waiting = waiting_in keeper }
 
       second_call : IsCall state (at keeper r) (record { aim = Mark text v; is_acknowledged = true; kept = at keeper_marked mid })
@@ -155,7 +155,7 @@ module _ {D : Type 0} (known : Bool) (is : IsTrue known) (state : D → DiskStat
       placed_last : SettlesInSteps state (at keeper s) (at new t)
       placed_last = inr (at keeper r, first_call, (mode, text, v, inr (at keeper_marked mid, second_call, (third_call.0, inl third_call.1))))
 
-      handed_last : (last : Keeper) (u : D) → IsCall state (at new t) (record { aim = HandOver text; is_acknowledged = true; kept = at last u }) → SettlesInSteps state (at keeper s) (at last u)
+      handed_last : (last : StateKeeper) (u : D) → IsCall state (at new t) (record { aim = HandOver text; is_acknowledged = true; kept = at last u }) → SettlesInSteps state (at keeper s) (at last u)
       handed_last last u hand = inr (at keeper r, first_call, (mode, text, v, inr (at keeper_marked mid, second_call, (third_call.0, inr (at new t, third_call.1, hand)))))
 
     pub not_settled : FailsInSteps known state (store_of keeper) places.file mode present r (store_of new) t → IsKeeping known new places (state t) → SettlesInSteps state (at keeper s) (at new t)
@@ -164,5 +164,5 @@ module _ {D : Type 0} (known : Bool) (is : IsTrue known) (state : D → DiskStat
     not_settled (inr (text, v, says, inr (marked, mid, put, placed))) now = placed_last text v says marked mid put placed now
 
     pub settled : (text : List ℕ) → MovesInSteps known state (store_of keeper) places.file mode present r (Some text) (store_of new) t → IsKeeping known new places (state t)
-        → (last : Keeper) (u : D) → IsCall state (at new t) (record { aim = HandOver text; is_acknowledged = true; kept = at last u }) → SettlesInSteps state (at keeper s) (at last u)
+        → (last : StateKeeper) (u : D) → IsCall state (at new t) (record { aim = HandOver text; is_acknowledged = true; kept = at last u }) → SettlesInSteps state (at keeper s) (at last u)
     settled text (v, says, (marked, mid, put, placed)) now last u hand = handed_last text v says marked mid put placed now last u hand

@@ -5,13 +5,13 @@ use Rattle.agent_standing.specs.Waiting.{is_change_due}
 use Rattle.vault_inventory.specs.Inventories.{Inventory}
 use Rattle.vault_served.specs.ForGood.{inventory_for_good}
 use Rattle.state_store.specs.declared.store.Store.{Store}
-use Rattle.state_keeping.specs.declared.keeper.Keeper.{Keeper}
+use Rattle.state_keeping.specs.declared.keeper.StateKeeper.{StateKeeper}
 
-abbrev pub store_of : Keeper → Store
+abbrev pub store_of : StateKeeper → Store
 store_of keeper = keeper.store
 
 -- when the first of the changes came that wait to be served
-abbrev pub waiting_in : Keeper → Option ℕ
+abbrev pub waiting_in : StateKeeper → Option ℕ
 waiting_in keeper = keeper.waiting
 
 -- an inventory is given exactly where one is due: the one that is read of this text

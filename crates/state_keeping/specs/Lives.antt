@@ -24,7 +24,7 @@ use Rattle.state_store.specs.Compacted.{compacted_lines, damaged, is_worth}
 use Rattle.state_store.specs.Moved.{SaysAllKept, SaysByItself, mark_line}
 use Rattle.state_store.specs.Records.{records_in}
 use Rattle.state_store.specs.Stores.{is_sure, journal_of, lines_in, path_of_store}
-use Rattle.state_keeping.specs.declared.opening.Opened.{Opened}
+use Rattle.state_keeping.specs.declared.opening.OpenedState.{OpenedState}
 use Rattle.state_keeping.specs.Opens.{IsOpenedState}
 use Rattle.state_keeping.specs.Places.{Places, PlacesAreApart}
 use Rattle.state_keeping.specs.Recovers.{LeftByStart}
@@ -241,7 +241,7 @@ pub record End (D : Type 0) : Type 0 where
   pub cut_short : List D
   pub file : File
   pub copy : Option (List ℕ)
-  pub opened : Opened D
+  pub opened : OpenedState D
 
 -- what a loss of power might have left at that end
 abbrev pub LeftAtEnd : {D : Type 0} → (D → DiskState) → Kept D → Option (Call D) → Image → Type 0

@@ -15,7 +15,7 @@ use Rattle.state_store.specs.Stores.{BookIsFrom, is_sure, lines_in}
 use Rattle.state_keeping.specs.Keepers.{waiting_in}
 use Rattle.state_keeping.specs.declared.fault.OpenFault.{OpenFault}
 use Rattle.state_keeping.specs.declared.fault.OpenFault.TheVariants.{Held, Disk, File, OutOfMemory}
-use Rattle.state_keeping.specs.declared.opening.Opened.{Opened}
+use Rattle.state_keeping.specs.declared.opening.OpenedState.{OpenedState}
 use Rattle.state_keeping.specs.Places.{Places}
 use Rattle.state_keeping.specs.Recovers.{IsAside, IsPutAside, LeftByStart, damage_of}
 use Rattle.state_keeping.specs.Settles.{IsCopiedTo}
@@ -62,7 +62,7 @@ abbrev pub takes_changes : Option FileFault → Option DiskFault → Bool
 takes_changes fault copy = is_none fault || is_none copy
 
 -- over a folder whose journal's file stands for these lines
-pub record IsOpenedOver (lines : List (List ℕ)) {D : Type 0} (known : Bool) (file copy : Option (List ℕ)) (places : Places) (s t : DiskState) (o : Opened D) : Type 0 where
+pub record IsOpenedOver (lines : List (List ℕ)) {D : Type 0} (known : Bool) (file copy : Option (List ℕ)) (places : Places) (s t : DiskState) (o : OpenedState D) : Type 0 where
   pub book : BookIsFrom file copy o.fault (records_in lines) (book_in o.state) o.notes.items
   pub damaged : o.damaged ≡ damage_of lines
   pub aside : IsAside lines o.aside (lines_in (store_in o.state))
@@ -74,7 +74,7 @@ pub record IsOpenedOver (lines : List (List ℕ)) {D : Type 0} (known : Bool) (f
 
 -- and over a disk, with the lock of the folder, which no other process held; FILE, and all but the journal, the file aside and the copy, is
 -- seen as before; a crash at any moment of the start leaves the same records
-pub record IsOpenedState {D : Type 0} (known : Bool) (file copy : Option (List ℕ)) (places : Places) (s t : DiskState) (o : Opened D) : Type 0 where
+pub record IsOpenedState {D : Type 0} (known : Bool) (file copy : Option (List ℕ)) (places : Places) (s t : DiskState) (o : OpenedState D) : Type 0 where
   pub lines : List (List ℕ)
   pub locked : o.lock ≡ places.lock
   pub free : IsTrue known → s.taken places.lock ≡ false

@@ -7,12 +7,12 @@ use Rattle.base_journal.specs.Journals.{JournalHolds}
 use Rattle.state_store.specs.declared.store.Store.{Store}
 use Rattle.state_store.specs.Books.{Book}
 use Rattle.state_store.specs.Stores.{FileHolds, IsReplayed, book_of, journal_of, path_of_store}
-use Rattle.state_keeping.specs.declared.keeper.Keeper.{Keeper}
+use Rattle.state_keeping.specs.declared.keeper.StateKeeper.{StateKeeper}
 use Rattle.state_keeping.specs.Keepers.{store_of}
 use Rattle.state_keeping.specs.Places.{Places}
 
 pub record Kept (D : Type 0) : Type 0 where
-  pub keeper : Keeper
+  pub keeper : StateKeeper
   pub disk : D
   pub places : Places
 
@@ -24,7 +24,7 @@ book_in s = book_of (store_of s.keeper)
 
 -- what a state always keeps: the journal of its folder holds on the disk, and its rows are those that FILE and the journal give
 -- together; and once FILE was synced a crash leaves it as it is seen
-pub record IsKeeping (known : Bool) (keeper : Keeper) (places : Places) (s : DiskState) : Type 0 where
+pub record IsKeeping (known : Bool) (keeper : StateKeeper) (places : Places) (s : DiskState) : Type 0 where
   pub held : JournalHolds known (journal_of (store_of keeper)) s
   pub replayed : IsReplayed (store_of keeper)
   pub path : path_of_store (store_of keeper) ≡ places.journal

@@ -1,7 +1,7 @@
 use agent_standing::Waiting;
 use base_disk::{Disk, DiskFault, FILE_MODE};
 use base_moment::Name;
-use state_changes::{Note, Secret, What};
+use state_changes::{JournalNote, Secret, ChangeKind};
 use state_file::SettleFault;
 use state_store::{FileFault, Store, TakeFault, Unsettled};
 use std::alloc::AllocError;
@@ -11,12 +11,12 @@ use watch_machine::Millis;
 /// A store, and when the first of the changes came that wait to be served. Readings are of the clock that never steps, in
 /// milliseconds.
 #[derive(Drop)]
-pub struct Keeper<'a> {
+pub struct StateKeeper<'a> {
     store: Store<'a>,
     waiting: Waiting,
 }
 
-impl<'a> Keeper<'a> {
+impl<'a> StateKeeper<'a> {
     ghost use Rattle.std.specs.Prelude.{◌≡◌, ℕ, List, Err, IfErr, IfOk, IsTrue, None, Ok, OnErr, OnOk, false, true, if◌then◌else◌, option_copied, option_map, string_bytes};
     ghost use Rattle.std.specs.Str.{bytes_eq};
     ghost use Rattle.agent_standing.specs.Waiting.{change_due_at, changed, is_change_due};
@@ -34,11 +34,11 @@ impl<'a> Keeper<'a> {
     ghost use Rattle.state_store.specs.Stores.{ChangeIsTaken, FileHolds, IsKeptOrNone, IsReplayed, IsWhyUntaken, KeepsAllBut, book_of, is_kept, is_sure, journal_of, lines_in, path_of_store, size_with};
 
     /// A store of which no change waits.
-    pub fn new(store: Store<'a>) -> Keeper<'a>
+    pub fn new(store: Store<'a>) -> StateKeeper<'a>
         ensures store { store_of result ≡ store.entry }
         ensures waiting { waiting_in result ≡ None }
     {
-        Keeper {
+        StateKeeper {
             store,
             waiting: Waiting::none(),
         }
@@ -59,7 +59,7 @@ impl<'a> Keeper<'a> {
         target: &str,
         now: Millis,
         name: Name,
-        what: What,
+        what: ChangeKind,
     ) -> Result<bool, TakeFault>
         requires apart { bytes_eq (path_of_store (store_of self.old)) target.now ≡ false }
         requires held { JournalHolds D.is_known (journal_of (store_of self.old)) (D.state disk.old) }
@@ -95,7 +95,7 @@ impl<'a> Keeper<'a> {
     }
 
     /// Serves what a file says from now on, as [`Store::reload`] does; that waits to be served from now on.
-    pub fn reload(&mut self, now: Millis, bytes: Option<&[u8]>) -> Result<Vec<Note>, FileFault>
+    pub fn reload(&mut self, now: Millis, bytes: Option<&[u8]>) -> Result<Vec<JournalNote>, FileFault>
         requires { IsReplayed (store_of self.old) }
         ensures reloaded { IfOk result (λ notes. IsBookIf (option_copied bytes.entry) (records_in (lines_in (store_of self.old))) (book_of (store_of self.old)).secrets (book_of (store_of self.new)) notes.items) }
         ensures waiting { OnOk result (waiting_in self.new ≡ changed (waiting_in self.old) now) }

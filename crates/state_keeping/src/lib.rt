@@ -19,9 +19,9 @@ mod state;
 mod table;
 
 pub use fault::{OpenFault, PathsFault, SettleWhy, TableFault};
-pub use keeper::Keeper;
+pub use keeper::StateKeeper;
 pub use laws::what_was_acknowledged_is_served;
-pub use opening::{Opened, Unopened};
+pub use opening::{OpenedState, Unopened};
 pub use paths::Paths;
 pub use reading::{FileRead, read_file};
 pub use recovering::{Recovered, recover};

@@ -2,7 +2,7 @@ ghost use Rattle.std.specs.Prelude.{◌≡◌, ◌++◌, IfOk, OnOk, option_copi
 ghost use Rattle.state_keeping.specs.Noted.{line_about, lines_in_note, note_lines};
 
 use base_moment::Text;
-use state_changes::{Note, Record, Why};
+use state_changes::{JournalNote, Record, NotMadeReason};
 use state_notes::note_line;
 use std::alloc::{AllocError, Global};
 
@@ -13,7 +13,7 @@ pub(crate) fn note_lines(
     alloc: Global,
     margin: u32,
     records: &[Record],
-    notes: &[Note],
+    notes: &[JournalNote],
 ) -> Result<Vec<Text>, AllocError>
     ensures { IfOk result (λ lines. lines.items ≡ note_lines margin records.now notes.now) }
 {
@@ -29,7 +29,7 @@ fn push_noted(
     alloc: Global,
     margin: u32,
     records: &[Record],
-    note: &Note,
+    note: &JournalNote,
     lines: &mut Vec<Text>,
 ) -> Result<(), AllocError>
     ensures { OnOk result (lines.new.items ≡ lines.old.items ++ lines_in_note margin records.now note.now) }
@@ -42,7 +42,7 @@ fn push_line(
     alloc: Global,
     margin: u32,
     noted: Option<&Record>,
-    why: Why,
+    why: NotMadeReason,
     lines: &mut Vec<Text>,
 ) -> Result<(), AllocError>
     ensures { OnOk result (lines.new.items ≡ lines.old.items ++ line_about margin why (option_copied noted.entry)) }

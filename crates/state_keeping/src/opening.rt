@@ -7,24 +7,24 @@ ghost use Rattle.state_store.specs.Stores.{IsReplayed, book_of, is_kept, is_sure
 ghost use Rattle.state_keeping.specs.Opens.{IsCopyOf, takes_changes};
 
 use crate::fault::OpenFault;
-use crate::keeper::Keeper;
+use crate::keeper::StateKeeper;
 use crate::paths::Paths;
 use crate::recovering::{Recovered, recover};
 use crate::state::State;
 use base_disk::{Disk, DiskFault, Lock};
-use state_changes::Note;
+use state_changes::JournalNote;
 use state_store::{FileFault, Store};
 use std::alloc::Global;
 
 /// A state at a start.
 #[derive(Drop)]
-pub struct Opened<'a, D: Disk> {
+pub struct OpenedState<'a, D: Disk> {
     /// The lock of the folder.
     pub lock: Lock,
     /// What is kept.
     pub state: State<'a, D>,
     /// A note on each change of the journal that was not made, by the place of its record.
-    pub notes: Vec<Note>,
+    pub notes: Vec<JournalNote>,
     /// Why the last good copy is served in place of FILE; `None` where FILE is.
     pub fault: Option<FileFault>,
     /// How many lines of the journal wrote no record, as no command has made them. They count for nothing.
@@ -67,7 +67,7 @@ impl<'a, D: Disk> State<'a, D> {
         paths: &'a Paths,
         file: Option<&[u8]>,
         copy: Option<&[u8]>,
-    ) -> Result<Opened<'a, D>, Unopened<D>>
+    ) -> Result<OpenedState<'a, D>, Unopened<D>>
         ensures opened { IfOk result (λ o. IsOpenedState D.is_known (option_copied file.entry) (option_copied copy.entry) paths.now (D.state disk) (D.state o.state.disk) o) }
         ensures refused { IfErr result (λ u. IsWhyUnopened D.is_known (option_copied file.entry) paths.now (D.state disk) u.why) }
 
@@ -92,17 +92,17 @@ impl<'a, D: Disk> State<'a, D> {
                 return Err(Unopened { why, disk });
             }
         };
-        let state_store::Opened {
+        let state_store::OpenedStore {
             mut store,
             notes,
             fault,
         } = opened;
         let copy = keep_good(&mut disk, &mut store, paths.copy(), fault, file);
-        Ok(Opened {
+        Ok(OpenedState {
             lock,
             state: State {
                 alloc,
-                keeper: Keeper::new(store),
+                keeper: StateKeeper::new(store),
                 disk,
                 paths,
             },

@@ -1,12 +1,12 @@
 ghost use Rattle.std.specs.Prelude.{◌≡◌};
 
-use crate::keeper::Keeper;
+use crate::keeper::StateKeeper;
 use crate::noting::note_lines;
 use crate::paths::Paths;
 use crate::reading::{FileRead, read_file};
 use base_disk::{Disk, DiskFault};
 use base_moment::{Name, Text};
-use state_changes::{File, Note, Record, Rows, Secret, What};
+use state_changes::{File, JournalNote, Record, Rows, Secret, ChangeKind};
 use state_file::{ReadFault, SettleFault};
 use state_store::{FileFault, TakeFault};
 use std::alloc::{AllocError, Global};
@@ -18,7 +18,7 @@ use watch_machine::Millis;
 #[derive(Drop)]
 pub struct State<'a, D: Disk> {
     pub(crate) alloc: Global,
-    pub(crate) keeper: Keeper<'a>,
+    pub(crate) keeper: StateKeeper<'a>,
     pub(crate) disk: D,
     pub(crate) paths: &'a Paths,
 }
@@ -37,7 +37,7 @@ impl<'a, D: Disk> Model for State<'a, D> {
 #[derive(Debug, Drop)]
 pub struct Reloaded {
     /// A note on each change of the journal that was not made, by the place of its record.
-    pub notes: Vec<Note>,
+    pub notes: Vec<JournalNote>,
     /// Why the good copy could not be kept; `None` where it was.
     pub copy: Option<DiskFault>,
 }
@@ -71,7 +71,7 @@ impl<'a, D: Disk> State<'a, D> {
     ///
     /// The first in the order of [`TakeFault`]. All is as it was then; but that the disk may have the change, where that is said.
     #[tactic(auto, using(crate::proofs::Filed::kept_file, crate::proofs::Filed::keeps_at))]
-    pub fn take(&mut self, now: Millis, name: Name, what: What) -> Result<bool, TakeFault>
+    pub fn take(&mut self, now: Millis, name: Name, what: ChangeKind) -> Result<bool, TakeFault>
         ensures taken { IfOk result (λ need. ChangeIsTaken (store_in self.old) name what need (store_in self.new)) }
         ensures waiting { IfOk result (λ need. waiting_in self.new.keeper ≡ (if need then waiting_in self.old.keeper else changed (waiting_in self.old.keeper) now)) }
         ensures acknowledged { OnOk result (IsTrue D.is_known → JournalIsWhole (journal_of (store_in self.new)) (D.state self.new.disk)) }
@@ -290,7 +290,7 @@ impl<'a, D: Disk> State<'a, D> {
     }
 
     /// The lines about these changes of the journal that were not made again. The only error is lack of memory.
-    pub fn note_lines(&self, notes: &[Note]) -> Result<Vec<Text>, AllocError>
+    pub fn note_lines(&self, notes: &[JournalNote]) -> Result<Vec<Text>, AllocError>
         ensures { IfOk result (λ lines. lines.items ≡ note_lines (book_in self.now).file.margin (records_in (lines_in (store_in self.now))) notes.now) }
     {
         let records = self.records()?;

@@ -14,7 +14,7 @@ use plan_forest::NAME_MAX;
 use state_changes::{Row, rows_of};
 use std::alloc::{AllocError, Global};
 use toml::{Table, Value};
-use vault_inventory::{Key, Served, read_document, read_served};
+use vault_inventory::{Key, ServedInventory, read_document, read_served};
 
 /// The entry that a text writes: one table `[[token]]` or `[[lease]]` of an inventory with that maximum TTL of the system, where one is
 /// written, whatever it stands under.
@@ -204,7 +204,7 @@ fn place_of(over: Option<&[u8]>) -> usize
 }
 
 // The row of the entry at a place.
-fn entry_at(alloc: Global, served: &Served, place: usize) -> Result<Row, TableFault>
+fn entry_at(alloc: Global, served: &ServedInventory, place: usize) -> Result<Row, TableFault>
     ensures { GivesOr result (row_at_place place (Ok served.now)) }
 {
     let rows = rows_of(alloc, served)?;

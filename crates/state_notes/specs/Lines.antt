@@ -3,24 +3,24 @@
 use Rattle.std.specs.Prelude.{ℕ, ◌==◌, Bool, true, false, if◌then◌else◌, List, ◌++◌, codes, decimal}
 use Rattle.plan_forest.specs.Push.{is_lease}
 use Rattle.state_changes.specs.declared.change.Change.{Change}
-use Rattle.state_changes.specs.declared.change.What.{What}
-use Rattle.state_changes.specs.declared.change.What.TheVariants as what
+use Rattle.state_changes.specs.declared.change.ChangeKind.{ChangeKind}
+use Rattle.state_changes.specs.declared.change.ChangeKind.TheVariants as what
 use Rattle.state_changes.specs.declared.fault.ChangeFault.{ChangeFault}
 use Rattle.state_changes.specs.declared.fault.ChangeFault.TheVariants.{NoEntry, NameTwice, NoParent, ParentIsLease, StepTooSmall, TooDeep, Full, CredentialTwice, InFile, HasUnder, OutOfMemory}
-use Rattle.state_changes.specs.declared.replaying.Why.{Why}
-use Rattle.state_changes.specs.declared.replaying.Why.TheVariants.{FileWins, Refused}
+use Rattle.state_changes.specs.declared.replaying.NotMadeReason.{NotMadeReason}
+use Rattle.state_changes.specs.declared.replaying.NotMadeReason.TheVariants.{FileWins, Refused}
 
 -- the key by which an entry that is added names the token over it
-abbrev pub over_words : What → List ℕ
+abbrev pub over_words : ChangeKind → List ℕ
 over_words (what.Add row) = if is_lease row.kind then codes " token: " else codes " parent: "
 over_words w = codes " parent: "
 
 -- the key of what its renewal would ask for
-abbrev pub step_words : What → List ℕ
+abbrev pub step_words : ChangeKind → List ℕ
 step_words (what.Add row) = if row.terms.period == 0 then codes " increment: " else codes " period: "
 step_words w = codes " increment: "
 
-abbrev pub twice_words : What → List ℕ
+abbrev pub twice_words : ChangeKind → List ℕ
 twice_words (what.Add row) = codes " is not added"
 twice_words w = codes " keeps its own"
 
@@ -41,19 +41,19 @@ why_by margin name over step twice InFile = name ++ codes " has its credential i
 why_by margin name over step twice HasUnder = name ++ codes " has entries under it: drop them first"
 why_by margin name over step twice OutOfMemory = codes "out of memory"
 
-abbrev pub change_fault_text : ℕ → List ℕ → What → ChangeFault → List ℕ
+abbrev pub change_fault_text : ℕ → List ℕ → ChangeKind → ChangeFault → List ℕ
 change_fault_text margin name w fault = why_by margin name (over_words w) (step_words w) (twice_words w) fault
 
-abbrev pub change_word : What → List ℕ
+abbrev pub change_word : ChangeKind → List ℕ
 change_word (what.Need until) = codes "need "
 change_word (what.Replace credential) = codes "replace "
 change_word (what.Add row) = codes "add "
 change_word what.Drop = codes "drop "
 
-abbrev pub reason_text : ℕ → Change → Why → List ℕ
+abbrev pub reason_text : ℕ → Change → NotMadeReason → List ℕ
 reason_text margin c FileWins = codes "the file has changed since, and wins"
 reason_text margin c (Refused fault) = change_fault_text margin c.name c.what fault
 
 -- the line about a change of a journal that was not made again
-unfoldable pub note_line : ℕ → Change → Why → List ℕ
+unfoldable pub note_line : ℕ → Change → NotMadeReason → List ℕ
 note_line margin c why = change_word c.what ++ (c.name ++ (codes ": " ++ reason_text margin c why))

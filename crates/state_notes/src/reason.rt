@@ -3,7 +3,7 @@ ghost use Rattle.state_notes.specs.Lines.{change_fault_text, margin_text, over_w
 
 use base_moment::Text;
 use base_words::push_number;
-use state_changes::{ChangeFault, Row, What};
+use state_changes::{ChangeFault, Row, ChangeKind};
 use std::alloc::{AllocError, Global};
 
 /// Why a change of the entry of that name cannot be made, in an inventory of that margin in seconds: words for the one who asked for
@@ -12,7 +12,7 @@ pub fn why(
     alloc: Global,
     margin: u32,
     name: &[u8],
-    what: &What,
+    what: &ChangeKind,
     fault: ChangeFault,
 ) -> Result<Text, AllocError>
     ensures { IfOk result (λ text. text ≡ change_fault_text margin name.now what.now fault) }
@@ -27,7 +27,7 @@ pub(crate) fn push_why(
     alloc: Global,
     margin: u32,
     name: &[u8],
-    what: &What,
+    what: &ChangeKind,
     fault: ChangeFault,
     text: &mut Vec<u8>,
 ) -> Result<(), AllocError>
@@ -71,7 +71,7 @@ fn push_step(
     alloc: Global,
     margin: u32,
     name: &[u8],
-    what: &What,
+    what: &ChangeKind,
     text: &mut Vec<u8>,
 ) -> Result<(), AllocError>
     ensures { OnOk result (text.new.items ≡ text.old.items ++ (name.now ++ (step_words what.now ++ margin_text margin))) }
@@ -100,30 +100,30 @@ fn push_all(first: &[u8], second: &[u8], third: &[u8], text: &mut Vec<u8>) -> Re
 }
 
 // The key by which an entry names the token over it.
-fn over_words(what: &What) -> &'static [u8]
+fn over_words(what: &ChangeKind) -> &'static [u8]
     ensures { result.now ≡ over_words what.now }
 {
     match what {
-        What::Add(row) if row.kind.is_lease() => b" token: ",
-        What::Add(_) | What::Need(_) | What::Replace(_) | What::Drop => b" parent: ",
+        ChangeKind::Add(row) if row.kind.is_lease() => b" token: ",
+        ChangeKind::Add(_) | ChangeKind::Need(_) | ChangeKind::Replace(_) | ChangeKind::Drop => b" parent: ",
     }
 }
 
 // The key of what its renewal would ask for.
-fn step_words(what: &What) -> &'static [u8]
+fn step_words(what: &ChangeKind) -> &'static [u8]
     ensures { result.now ≡ step_words what.now }
 {
     match what {
-        What::Add(row) if row.terms.period > 0 => b" period: ",
-        What::Add(_) | What::Need(_) | What::Replace(_) | What::Drop => b" increment: ",
+        ChangeKind::Add(row) if row.terms.period > 0 => b" period: ",
+        ChangeKind::Add(_) | ChangeKind::Need(_) | ChangeKind::Replace(_) | ChangeKind::Drop => b" increment: ",
     }
 }
 
-fn twice_words(what: &What) -> &'static [u8]
+fn twice_words(what: &ChangeKind) -> &'static [u8]
     ensures { result.now ≡ twice_words what.now }
 {
     match what {
-        What::Add(_) => b" is not added",
-        What::Need(_) | What::Replace(_) | What::Drop => b" keeps its own",
+        ChangeKind::Add(_) => b" is not added",
+        ChangeKind::Need(_) | ChangeKind::Replace(_) | ChangeKind::Drop => b" keeps its own",
     }
 }

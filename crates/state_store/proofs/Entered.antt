@@ -6,7 +6,7 @@ use Rattle.std.specs.List.{list_all}
 use Rattle.state_changes.specs.declared.change.Change.{Change}
 use Rattle.state_changes.specs.declared.change.Record.{Record}
 use Rattle.state_changes.specs.declared.change.Record.TheVariants.{Made, Settling}
-use Rattle.state_changes.specs.declared.change.What.{What}
+use Rattle.state_changes.specs.declared.change.ChangeKind.{ChangeKind}
 use Rattle.state_changes.specs.declared.fault.ChangeFault.{ChangeFault}
 use Rattle.state_changes.specs.declared.fault.ChangeFault.TheVariants.{OutOfMemory}
 use Rattle.state_changes.specs.declared.replaying.File.{File}
@@ -58,7 +58,7 @@ change_read None c e = cc
 change_read (Some (Made d)) c e = ap (λ (x : Change). Some (Made x)) (same_some d c e)
 change_read (Some (Settling mark)) c e = cc
 
-pub recorded_is : (b : Book) (name : List ℕ) (w : What) (line : List ℕ) (c : Change) → line ≡ line_for_change b.file name w → change_in (record_of line) ≡ Some c → is_as_then b.file.rows c ≡ true → IsRecorded b name w line c
+pub recorded_is : (b : Book) (name : List ℕ) (w : ChangeKind) (line : List ℕ) (c : Change) → line ≡ line_for_change b.file name w → change_in (record_of line) ≡ Some c → is_as_then b.file.rows c ≡ true → IsRecorded b name w line c
 recorded_is b name w line c is read same = record {
   line_is = is;
   is_line = read_line line (Made c) (change_read (record_of line) c read);
@@ -67,16 +67,16 @@ recorded_is b name w line c is read same = record {
 }
 
 -- a record is read in its line: so where no change is, or another, it is none that a journal can write
-pub not_read : (f : File) (name : List ℕ) (w : What) (line : List ℕ) → line ≡ line_for_change f name w → change_in (record_of line) ≡ None → IsRecord (record_for f name w) → ⊥
+pub not_read : (f : File) (name : List ℕ) (w : ChangeKind) (line : List ℕ) → line ≡ line_for_change f name w → change_in (record_of line) ≡ None → IsRecord (record_for f name w) → ⊥
 unfolding line_for_change
 not_read f name w line at none is = let read = ap change_in (ap record_of at ∙ written_is_read (record_for f name w) is) in cc
 
-as_then_self : (f : File) (name : List ℕ) (w : What) → is_as_then f.rows (record { name = name; was = said f.rows name w; what = w }) ≡ true
+as_then_self : (f : File) (name : List ℕ) (w : ChangeKind) → is_as_then f.rows (record { name = name; was = said f.rows name w; what = w }) ≡ true
 unfolding is_as_then
 as_then_self f name w = (bytes_decides (said f.rows name w) (said f.rows name w)).1 refl
 
 -- and where the change that is read is none that a replay makes, too
-pub not_then : (f : File) (name : List ℕ) (w : What) (line : List ℕ) (c : Change) → line ≡ line_for_change f name w → change_in (record_of line) ≡ Some c → is_as_then f.rows c ≡ false → IsRecord (record_for f name w) → ⊥
+pub not_then : (f : File) (name : List ℕ) (w : ChangeKind) (line : List ℕ) (c : Change) → line ≡ line_for_change f name w → change_in (record_of line) ≡ Some c → is_as_then f.rows c ≡ false → IsRecord (record_for f name w) → ⊥
 unfolding line_for_change
 not_then f name w line c at read differs is =
     let d : Change = record { name = name; was = said f.rows name w; what = w } in
@@ -85,7 +85,7 @@ not_then f name w line c at read differs is =
 
 -- ---- why a change is not made
 
-why_refused : (o : Option ChangeFault) (w : What) (fault : ChangeFault) → IsWhy o w fault → fault ≢ OutOfMemory → o ≡ Some fault
+why_refused : (o : Option ChangeFault) (w : ChangeKind) (fault : ChangeFault) → IsWhy o w fault → fault ≢ OutOfMemory → o ≡ Some fault
 why_refused o w fault (inl e) some = e
 why_refused o w fault (inr e) some = absurd (some e.2)
 
@@ -98,7 +98,7 @@ unless_ok rows new None e = refl
 unless_ok rows new (Some fault) e = cc
 
 -- one that can be made is not refused
-pub made_unrefused : (margin : ℕ) (rows new : List Row) (name : List ℕ) (w : What) → rows_changed margin rows name w ≡ Ok new → change_refusal margin rows name w ≡ None
+pub made_unrefused : (margin : ℕ) (rows new : List Row) (name : List ℕ) (w : ChangeKind) → rows_changed margin rows name w ≡ Ok new → change_refusal margin rows name w ≡ None
 unfolding rows_changed
 made_unrefused margin rows new name w e = unless_ok (rows_with_change rows name w) new (change_refusal margin rows name w) e
 
@@ -107,7 +107,7 @@ unwritten_unmade b c settles.OutOfMemory is = tt
 unwritten_unmade b c fault is = is
 
 -- what is unrecorded or unmade is not taken
-pub unrecorded_why : (b : Book) (name : List ℕ) (w : What) (fault : TakeFault) → IsUnrecorded b name w fault → IsWhyNot b name w fault
+pub unrecorded_why : (b : Book) (name : List ℕ) (w : ChangeKind) (fault : TakeFault) → IsUnrecorded b name w fault → IsWhyNot b name w fault
 unrecorded_why b name w Unread why = absurd why
 unrecorded_why b name w NoRecord why = why
 unrecorded_why b name w (Refused fault) why = absurd why
@@ -116,7 +116,7 @@ unrecorded_why b name w (Disk fault) why = absurd why
 unrecorded_why b name w (Unsure fault) why = absurd why
 unrecorded_why b name w takes.OutOfMemory why = tt
 
-pub unmade_why : (b : Book) (name : List ℕ) (w : What) (c : Change) (fault : TakeFault) → IsReadAs b.file name w c → IsUnmade b c fault → IsWhyNot b name w fault
+pub unmade_why : (b : Book) (name : List ℕ) (w : ChangeKind) (c : Change) (fault : TakeFault) → IsReadAs b.file name w c → IsUnmade b c fault → IsWhyNot b name w fault
 unmade_why b name w c Unread read why = absurd why
 unmade_why b name w c NoRecord read why = absurd why
 unmade_why b name w c (Refused fault) read why = (c, (read, why))
@@ -126,7 +126,7 @@ unmade_why b name w c (Unsure fault) read why = absurd why
 unmade_why b name w c takes.OutOfMemory read why = tt
 
 -- nor is what the disk has not kept
-pub unkept_why : (b : Book) (name : List ℕ) (w : What) (c : Change) (fault : DiskFault) (may : Bool) → IsReadAs b.file name w c → change_refusal b.file.margin b.rows c.name c.what ≡ None → IsWhyNot b name w (unkept fault may)
+pub unkept_why : (b : Book) (name : List ℕ) (w : ChangeKind) (c : Change) (fault : DiskFault) (may : Bool) → IsReadAs b.file name w c → change_refusal b.file.margin b.rows c.name c.what ≡ None → IsWhyNot b name w (unkept fault may)
 unkept_why b name w c fault true read is = (c, (read, is))
 unkept_why b name w c disks.OutOfMemory false read is = tt
 unkept_why b name w c (disks.Failed why) false read is = (c, (read, is))

@@ -2,7 +2,7 @@
 use Rattle.std.proofs.Common.{◌≡◌, ◌⊎◌, inl, inr, ⊎_elim, ℕ, List, [], Option, Some, None, refl, sym, ap, subst, ◌∙◌}
 use Rattle.state_changes.specs.declared.change.Record.{Record}
 use Rattle.state_changes.specs.declared.replaying.File.{File}
-use Rattle.state_changes.specs.declared.replaying.Note.{Note}
+use Rattle.state_changes.specs.declared.replaying.JournalNote.{JournalNote}
 use Rattle.state_changes.specs.declared.row.Row.{Row}
 use Rattle.state_changes.specs.Replay.{ReplayState, replayed}
 use Rattle.state_store.specs.declared.fault.FileFault.{FileFault}
@@ -22,17 +22,17 @@ or_memory file fault why is (inl same) = subst (IsFileFaultOf file) (sym same) i
 or_memory file fault why is (inr same) = subst (IsFileFaultOf file) (sym same) (no_memory file)
 
 -- the rows of a book are those of a replay
-pub rows_of_book : (bytes : List ℕ) (records : List Record) (secrets : List Secret) (b : Book) (notes : List Note) → IsBookOf bytes records secrets b notes → (replayed b.file records).rows ≡ b.rows
+pub rows_of_book : (bytes : List ℕ) (records : List Record) (secrets : List Secret) (b : Book) (notes : List JournalNote) → IsBookOf bytes records secrets b notes → (replayed b.file records).rows ≡ b.rows
 rows_of_book bytes records secrets b notes is = ap (λ (s : ReplayState). s.rows) is.rows
 
-pub rows_if : (file : Option (List ℕ)) (records : List Record) (secrets : List Secret) (b : Book) (notes : List Note) → IsBookIf file records secrets b notes → (replayed b.file records).rows ≡ b.rows
+pub rows_if : (file : Option (List ℕ)) (records : List Record) (secrets : List Secret) (b : Book) (notes : List JournalNote) → IsBookIf file records secrets b notes → (replayed b.file records).rows ≡ b.rows
 rows_if None records secrets b notes is = absurd is
 rows_if (Some bytes) records secrets b notes is = rows_of_book bytes records secrets b notes is
 
-pub rows_from : (file copy : Option (List ℕ)) (fault : Option FileFault) (records : List Record) (b : Book) (notes : List Note) → BookIsFrom file copy fault records b notes → (replayed b.file records).rows ≡ b.rows
+pub rows_from : (file copy : Option (List ℕ)) (fault : Option FileFault) (records : List Record) (b : Book) (notes : List JournalNote) → BookIsFrom file copy fault records b notes → (replayed b.file records).rows ≡ b.rows
 rows_from file copy None records b notes is = rows_if file records [] b notes is
 rows_from file copy (Some fault) records b notes is = rows_if copy records [] b notes is.1
 
 -- the copy stands for a file that is faulty
-pub from_copy : (file copy : Option (List ℕ)) (told : Option FileFault) (fault : FileFault) (records : List Record) (b : Book) (notes : List Note) → IsFileFaultOf file fault → told ≡ Some fault → IsBookIf copy records [] b notes → BookIsFrom file copy told records b notes
+pub from_copy : (file copy : Option (List ℕ)) (told : Option FileFault) (fault : FileFault) (records : List Record) (b : Book) (notes : List JournalNote) → IsFileFaultOf file fault → told ≡ Some fault → IsBookIf copy records [] b notes → BookIsFrom file copy told records b notes
 from_copy file copy told fault records b notes is same book = subst (λ (f : Option FileFault). BookIsFrom file copy f records b notes) (sym same) (is, book)

@@ -1,7 +1,7 @@
 -- A change that was taken, or not, beside its journal on a disk.
 use Rattle.std.proofs.Common.{◌≡◌, ◌⊎◌, inr, ℕ, Bool, List, [], ◌∷◌, ◌++◌, true, false, Result, Ok, refl, sym, ap, subst, ◌∙◌}
 use Rattle.std.specs.Prelude.{string_bytes}
-use Rattle.state_changes.specs.declared.change.What.{What}
+use Rattle.state_changes.specs.declared.change.ChangeKind.{ChangeKind}
 use Rattle.state_changes.specs.declared.fault.ChangeFault.{ChangeFault}
 use Rattle.state_changes.specs.declared.row.Row.{Row}
 use Rattle.state_changes.specs.Records.{record_of}
@@ -26,7 +26,7 @@ pub others_stay : (path : List ℕ) (s : disks.DiskState) → KeepsOthers path s
 others_stay path s = record { seen = λ other apart. refl; sound = λ other apart. refl }
 
 -- a change is not taken beside a file of which the store is sure, or because it is not
-pub why_untaken : (store : Store) (name : List ℕ) (w : What) (fault : TakeFault) → is_sure store ≡ true → IsWhyNot (book_of store) name w fault → IsWhyUntaken store name w fault
+pub why_untaken : (store : Store) (name : List ℕ) (w : ChangeKind) (fault : TakeFault) → is_sure store ≡ true → IsWhyNot (book_of store) name w fault → IsWhyUntaken store name w fault
 why_untaken store name w Unread sure why = absurd why
 why_untaken store name w NoRecord sure why = (sure, why)
 why_untaken store name w (Refused fault) sure why = (sure, why)
@@ -35,14 +35,14 @@ why_untaken store name w (Disk fault) sure why = (sure, why)
 why_untaken store name w (Unsure fault) sure why = (sure, why)
 why_untaken store name w takes.OutOfMemory sure why = (sure, why)
 
-pub unread_why : (store : Store) (name : List ℕ) (w : What) (fault : TakeFault) → fault ≡ Unread → is_sure store ≡ false → IsWhyUntaken store name w fault
+pub unread_why : (store : Store) (name : List ℕ) (w : ChangeKind) (fault : TakeFault) → fault ≡ Unread → is_sure store ≡ false → IsWhyUntaken store name w fault
 unread_why store name w fault same unsure = subst (IsWhyUntaken store name w) (sym same) unsure
 
 abbrev rows_made : Book → Result (List Row) ChangeFault
 rows_made b = Ok b.rows
 
 -- the book has the rows and the text of the change, and the journal has its line
-module _ (old new : Store) (name : List ℕ) (w : What) (e : Entered) (is : IsEntered (book_of old) name w e) (booked : book_of new ≡ record (book_of old) { rows = e.rows; text = string_bytes e.text })
+module _ (old new : Store) (name : List ℕ) (w : ChangeKind) (e : Entered) (is : IsEntered (book_of old) name w e) (booked : book_of new ≡ record (book_of old) { rows = e.rows; text = string_bytes e.text })
     (lined : lines_in new ≡ lines_in old ++ e.line ∷ []) where
   pub goes_on_replaying : IsReplayed old → IsReplayed new
   goes_on_replaying so =
@@ -59,7 +59,7 @@ same_replays old new so booked lined =
     ∙ so ∙ ap (λ (b : Book). b.rows) (sym booked)
 
 -- the disk is the last that can refuse a change
-pub unkept_untaken : (store : Store) (name : List ℕ) (w : What) (e : Entered) (fault : TakeFault) → is_sure store ≡ true → IsEntered (book_of store) name w e → IsUnkept fault → IsWhyUntaken store name w fault
+pub unkept_untaken : (store : Store) (name : List ℕ) (w : ChangeKind) (e : Entered) (fault : TakeFault) → is_sure store ≡ true → IsEntered (book_of store) name w e → IsUnkept fault → IsWhyUntaken store name w fault
 unkept_untaken store name w e fault sure is (why, may_have, same) =
     why_untaken store name w fault sure
     (subst (IsWhyNot (book_of store) name w) (sym same)

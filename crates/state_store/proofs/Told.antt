@@ -6,7 +6,7 @@ use Rattle.base_disk.specs.declared.fault.DiskFault.{DiskFault}
 use Rattle.base_disk.specs.declared.fault.DiskFault.TheVariants.{Failed, TooLong}
 use Rattle.base_disk.specs.declared.fault.DiskFault.TheVariants as disks
 use Rattle.state_changes.specs.declared.change.Change.{Change}
-use Rattle.state_changes.specs.declared.change.What.{What}
+use Rattle.state_changes.specs.declared.change.ChangeKind.{ChangeKind}
 use Rattle.state_store.specs.declared.fault.TakeFault.{TakeFault}
 use Rattle.state_store.specs.declared.fault.TakeFault.TheVariants.{Unread, NoRecord, Refused, Unwritten, Disk, Unsure, OutOfMemory}
 use Rattle.state_store.specs.Books.{Book}
@@ -44,7 +44,7 @@ alone_told s OutOfMemory alone = refl
 pub unread_alone : (s : DiskState) (fault : TakeFault) → fault ≡ Unread → FaultTellsDisk s s fault
 unread_alone s fault same = subst (FaultTellsDisk s s) (sym same) refl
 
-pub unrecorded_alone : (b : Book) (name : List ℕ) (w : What) (fault : TakeFault) → IsUnrecorded b name w fault → IsOfNoDisk fault
+pub unrecorded_alone : (b : Book) (name : List ℕ) (w : ChangeKind) (fault : TakeFault) → IsUnrecorded b name w fault → IsOfNoDisk fault
 unrecorded_alone b name w Unread why = tt
 unrecorded_alone b name w NoRecord why = tt
 unrecorded_alone b name w (Refused fault) why = tt

@@ -6,7 +6,7 @@ use Rattle.vault_inventory.specs.Inventory.{read_served}
 use Rattle.vault_inventory.specs.Served.{Served}
 use Rattle.state_changes.specs.declared.change.Record.{Record}
 use Rattle.state_changes.specs.declared.replaying.File.{File}
-use Rattle.state_changes.specs.declared.replaying.Note.{Note}
+use Rattle.state_changes.specs.declared.replaying.JournalNote.{JournalNote}
 use Rattle.state_changes.specs.declared.row.Row.{Row}
 use Rattle.state_changes.specs.Listed.{rows_of_served}
 use Rattle.state_changes.specs.Replay.{replayed}
@@ -39,7 +39,7 @@ abbrev pub IsFileOf : List ℕ → File → Type 0
 IsFileOf bytes f = (v : Served) × ((read_served bytes ≡ Ok v) × (f ≡ file_of bytes v))
 
 -- the book of a file with these bytes and the records of a journal, with a note on each change that was not made
-pub record IsBookOf (bytes : List ℕ) (records : List Record) (secrets : List Secret) (b : Book) (notes : List Note) : Type 0 where
+pub record IsBookOf (bytes : List ℕ) (records : List Record) (secrets : List Secret) (b : Book) (notes : List JournalNote) : Type 0 where
   pub file : IsFileOf bytes b.file
   pub rows : replayed b.file records ≡ record { rows = b.rows; notes = notes }
   pub secrets_are : b.secrets ≡ secrets
@@ -58,7 +58,7 @@ IsFileFaultOf None OutOfMemory = Unit {0}
 IsFileFaultOf None fault = ⊥
 IsFileFaultOf (Some bytes) fault = IsFault bytes fault
 
-abbrev pub IsBookIf : Option (List ℕ) → List Record → List Secret → Book → List Note → Type 0
+abbrev pub IsBookIf : Option (List ℕ) → List Record → List Secret → Book → List JournalNote → Type 0
 IsBookIf None records secrets b notes = ⊥
 IsBookIf (Some bytes) records secrets b notes = IsBookOf bytes records secrets b notes
 

@@ -4,7 +4,7 @@ use Rattle.std.specs.Prelude.{◌≡◌, ℕ, Bool, true, false, List, Option, S
 use Rattle.state_changes.specs.declared.change.Change.{Change}
 use Rattle.state_changes.specs.declared.change.Record.{Record}
 use Rattle.state_changes.specs.declared.change.Record.TheVariants.{Made}
-use Rattle.state_changes.specs.declared.change.What.{What}
+use Rattle.state_changes.specs.declared.change.ChangeKind.{ChangeKind}
 use Rattle.state_changes.specs.declared.replaying.File.{File}
 use Rattle.state_changes.specs.declared.row.Row.{Row}
 use Rattle.state_changes.specs.Changes.{change_refusal, rows_changed}
@@ -17,19 +17,19 @@ use Rattle.state_store.specs.declared.fault.TakeFault.TheVariants.{Unread, NoRec
 use Rattle.state_store.specs.Books.{Book}
 
 -- a change of the entry of that name, beside what the file says of it
-abbrev pub record_for : File → List ℕ → What → Record
+abbrev pub record_for : File → List ℕ → ChangeKind → Record
 record_for f name w = Made (record { name = name; was = said f.rows name w; what = w })
 
 -- the line that keeps it
-unfoldable pub line_for_change : File → List ℕ → What → List ℕ
+unfoldable pub line_for_change : File → List ℕ → ChangeKind → List ℕ
 line_for_change f name w = record_text (record_for f name w)
 
 -- the change as a later start reads it in that line: for what a journal can write it is the same
-abbrev pub IsReadAs : File → List ℕ → What → Change → Type 0
+abbrev pub IsReadAs : File → List ℕ → ChangeKind → Change → Type 0
 IsReadAs f name w c = record_of (line_for_change f name w) ≡ Some (Made c)
 
 -- a book after that change
-pub record IsChanged (old : Book) (name : List ℕ) (w : What) (c : Change) (new : Book) : Type 0 where
+pub record IsChanged (old : Book) (name : List ℕ) (w : ChangeKind) (c : Change) (new : Book) : Type 0 where
   pub read : IsReadAs old.file name w c
   pub made : rows_changed old.file.margin old.rows c.name c.what ≡ Ok new.rows
   pub file : new.file ≡ old.file
@@ -37,7 +37,7 @@ pub record IsChanged (old : Book) (name : List ℕ) (w : What) (c : Change) (new
 
 -- why a change is not taken beside a file that was read: no journal can write it; it is refused by name; the file that says what there is then would be none,
 -- as over 1 MiB; the disk failed, and has it or not; or memory was refused
-abbrev pub IsWhyNot : Book → List ℕ → What → TakeFault → Type 0
+abbrev pub IsWhyNot : Book → List ℕ → ChangeKind → TakeFault → Type 0
 IsWhyNot b name w Unread = ⊥
 IsWhyNot b name w NoRecord = IsRecord (record_for b.file name w) → ⊥
 IsWhyNot b name w (Refused fault) = (c : Change) × (IsReadAs b.file name w c × (change_refusal b.file.margin b.rows c.name c.what ≡ Some fault))

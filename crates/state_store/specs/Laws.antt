@@ -2,9 +2,9 @@
 use Rattle.std.specs.Prelude.{◌≡◌, ℕ, false, List, [], ◌∷◌, ◌++◌}
 use Rattle.std.specs.Str.{bytes_eq}
 use Rattle.state_changes.specs.declared.change.Change.{Change}
-use Rattle.state_changes.specs.declared.change.What.{What}
+use Rattle.state_changes.specs.declared.change.ChangeKind.{ChangeKind}
 use Rattle.state_changes.specs.declared.replaying.File.{File}
-use Rattle.state_changes.specs.declared.replaying.Note.{Note}
+use Rattle.state_changes.specs.declared.replaying.JournalNote.{JournalNote}
 use Rattle.state_changes.specs.Records.{IsRecord}
 use Rattle.state_changes.specs.Replay.{replayed}
 use Rattle.state_changes.specs.Said.{said}
@@ -21,12 +21,12 @@ use Rattle.state_store.specs.Stores.{IsReplayed, book_of, lines_in}
 
 -- the change that is made is the one that was given, beside what the file says of it, where a journal can write that
 abbrev pub AsGivenLaw : Type 0
-AsGivenLaw = (f : File) (name : List ℕ) (w : What) (c : Change) → IsRecord (record_for f name w) → IsReadAs f name w c → c ≡ record { name = name; was = said f.rows name w; what = w }
+AsGivenLaw = (f : File) (name : List ℕ) (w : ChangeKind) (c : Change) → IsRecord (record_for f name w) → IsReadAs f name w c → c ≡ record { name = name; was = said f.rows name w; what = w }
 
 -- a start on the same file, over a journal with the same lines, gives the same rows
 abbrev pub RestartLaw : Type 0
 RestartLaw =
-    (store : Store) → IsReplayed store → (bytes : List ℕ) (secrets : List Secret) (b : Book) (notes : List Note)
+    (store : Store) → IsReplayed store → (bytes : List ℕ) (secrets : List Secret) (b : Book) (notes : List JournalNote)
     → IsBookOf bytes (records_in (lines_in store)) secrets b notes → b.file ≡ (book_of store).file → b.rows ≡ (book_of store).rows
 
 -- Once a file has the text that says all that is kept, it gives those rows in the order of a file, without a note: with the lines and

@@ -5,8 +5,8 @@ use Rattle.std.specs.List.{flat_map}
 use Rattle.std.specs.Str.{bytes_eq}
 use Rattle.state_changes.specs.declared.change.Change.{Change}
 use Rattle.state_changes.specs.declared.change.Record.{Record}
-use Rattle.state_changes.specs.declared.change.What.{What}
-use Rattle.state_changes.specs.declared.replaying.Note.{Note}
+use Rattle.state_changes.specs.declared.change.ChangeKind.{ChangeKind}
+use Rattle.state_changes.specs.declared.replaying.JournalNote.{JournalNote}
 use Rattle.state_changes.specs.Compaction.{is_need}
 use Rattle.state_changes.specs.Records.{record_of}
 use Rattle.state_changes.specs.Replay.{replayed}
@@ -18,7 +18,7 @@ use Rattle.base_journal.specs.Records.{at_rest}
 use Rattle.state_store.specs.declared.fault.FileFault.{FileFault}
 use Rattle.state_store.specs.declared.fault.TakeFault.{TakeFault}
 use Rattle.state_store.specs.declared.fault.TakeFault.TheVariants.{Unread}
-use Rattle.state_store.specs.declared.store.Opened.{Opened}
+use Rattle.state_store.specs.declared.store.OpenedStore.{OpenedStore}
 use Rattle.state_store.specs.declared.store.Store.{Store}
 use Rattle.state_store.specs.Books.{Book, IsBookIf, IsFileFaultOf}
 use Rattle.state_store.specs.Entering.{IsChanged, IsWhyNot, line_for_change}
@@ -58,11 +58,11 @@ pub record KeepsAllBut (path target : List ℕ) (old new : DiskState) : Type 0 w
   pub sound : (other : List ℕ) → bytes_eq path other ≡ false → bytes_eq target other ≡ false → new.is_sound other ≡ old.is_sound other
 
 -- how many bytes the journal's file has with the line of that change
-abbrev pub size_with : Store → List ℕ → What → ℕ
+abbrev pub size_with : Store → List ℕ → ChangeKind → ℕ
 size_with store name w = length (at_rest (lines_in store ++ line_for_change (book_of store).file name w ∷ []))
 
 -- why a change is not taken: the file may be another one; or it is not taken beside this one
-abbrev pub IsWhyUntaken : Store → List ℕ → What → TakeFault → Type 0
+abbrev pub IsWhyUntaken : Store → List ℕ → ChangeKind → TakeFault → Type 0
 IsWhyUntaken store name w Unread = is_sure store ≡ false
 IsWhyUntaken store name w fault = (is_sure store ≡ true) × IsWhyNot store.book name w fault
 
@@ -71,7 +71,7 @@ abbrev pub IsReplayed : Store → Type 0
 IsReplayed store = (replayed store.book.file (records_in (lines_in store))).rows ≡ store.book.rows
 
 -- a store after a change that was taken, which its journal keeps; and whether it is a need
-pub record ChangeIsTaken (old : Store) (name : List ℕ) (w : What) (need : Bool) (new : Store) : Type 0 where
+pub record ChangeIsTaken (old : Store) (name : List ℕ) (w : ChangeKind) (need : Bool) (new : Store) : Type 0 where
   pub change : Change
   pub changed : IsChanged old.book name w change new.book
   pub lines : lines_in new ≡ lines_in old ++ line_for_change old.book.file name w ∷ []
@@ -79,11 +79,11 @@ pub record ChangeIsTaken (old : Store) (name : List ℕ) (w : What) (need : Bool
   pub needed : need ≡ is_need change.what
 
 -- the book is that of the file where there is no fault; else the fault is that of the file, and the book is that of its copy
-abbrev pub BookIsFrom : Option (List ℕ) → Option (List ℕ) → Option FileFault → List Record → Book → List Note → Type 0
+abbrev pub BookIsFrom : Option (List ℕ) → Option (List ℕ) → Option FileFault → List Record → Book → List JournalNote → Type 0
 BookIsFrom file copy None records b notes = IsBookIf file records [] b notes
 BookIsFrom file copy (Some fault) records b notes = IsFileFaultOf file fault × IsBookIf copy records [] b notes
 
 -- a store at a start, over this journal
-pub record StoreIsOpened (file copy : Option (List ℕ)) (journal : Journal) (o : Opened) : Type 0 where
+pub record StoreIsOpened (file copy : Option (List ℕ)) (journal : Journal) (o : OpenedStore) : Type 0 where
   pub journal_is : journal_of o.store ≡ journal
   pub book : BookIsFrom file copy o.fault (records_in (lines_of_journal journal)) (book_of o.store) o.notes.items

@@ -5,12 +5,12 @@ ghost use Rattle.state_store.specs.Moved.{IsMovedBook, SaysAllKept};
 
 use crate::fault::{FileFault, faulty, unhanded};
 use crate::handing::handed;
-use state_changes::{File, Note, Record, Rows, Secret, copy_secrets, fingerprint, replay, rows_of};
+use state_changes::{File, JournalNote, Record, Rows, Secret, copy_secrets, fingerprint, replay, rows_of};
 use state_file::{SettleFault, Settled, settle};
 use std::alloc::{AllocError, Global};
 use std::fmt;
 use std::marker::Model;
-use vault_inventory::{Inventory, Served, read_served};
+use vault_inventory::{Inventory, ServedInventory, read_served};
 use vault_served::read_for_good;
 
 /// What a file says, what the changes of a journal have made of it, what was taken from files of secrets, and the text of the
@@ -56,7 +56,7 @@ impl Book {
         bytes: &[u8],
         records: &[Record],
         secrets: &[Secret],
-    ) -> Result<(Book, Vec<Note>), FileFault>
+    ) -> Result<(Book, Vec<JournalNote>), FileFault>
         ensures read { IfOk result (λ r. IsBookOf bytes.now records.now secrets.now r.0 r.1.items) }
         ensures refused { IfErr result (IsFault bytes.now) }
     {
@@ -133,7 +133,7 @@ impl Book {
         &self,
         alloc: Global,
         text: &str,
-        served: &Served,
+        served: &ServedInventory,
     ) -> Result<Book, SettleFault>
         requires { SaysAllKept self.now text.now served.now }
         ensures { IfOk result (IsMovedBook self.now text.now served.now) }
@@ -174,7 +174,7 @@ fn read_file(alloc: Global, bytes: &[u8]) -> Result<File, FileFault>
 }
 
 // The only error is lack of memory.
-fn file_with(alloc: Global, bytes: &[u8], served: &Served) -> Result<File, AllocError>
+fn file_with(alloc: Global, bytes: &[u8], served: &ServedInventory) -> Result<File, AllocError>
     ensures { IfOk result (λ file. file ≡ file_of bytes.now served.now) }
 {
     Ok(File {
@@ -205,7 +205,7 @@ pub(crate) fn read_if(
     bytes: Option<&[u8]>,
     records: &[Record],
     secrets: &[Secret],
-) -> Result<(Book, Vec<Note>), FileFault>
+) -> Result<(Book, Vec<JournalNote>), FileFault>
     ensures read { IfOk result (λ r. IsBookIf (option_copied bytes.entry) records.now secrets.now r.0 r.1.items) }
     ensures refused { IfErr result (IsFileFaultOf (option_copied bytes.entry)) }
 {

@@ -25,4 +25,4 @@ pub use handing::handed;
 pub use laws::{
     a_crash_while_settling_changes_nothing, a_restart_changes_nothing, changes_are_taken_as_given,
 };
-pub use store::{Opened, Store};
+pub use store::{OpenedStore, Store};

@@ -6,9 +6,9 @@ ghost use Rattle.state_store.specs.declared.fault.FileFault.TheVariants.{OutOfMe
 use crate::book::{Book, read_if};
 use crate::fault::FileFault;
 use crate::records::records_in;
-use crate::store::{Opened, Store};
+use crate::store::{OpenedStore, Store};
 use base_journal::Journal;
-use state_changes::{Note, Record};
+use state_changes::{JournalNote, Record};
 use std::alloc::Global;
 
 impl<'a> Store<'a> {
@@ -29,7 +29,7 @@ impl<'a> Store<'a> {
         journal: Journal<'a>,
         file: Option<&[u8]>,
         copy: Option<&[u8]>,
-    ) -> Result<Opened<'a>, FileFault>
+    ) -> Result<OpenedStore<'a>, FileFault>
         ensures opened { IfOk result (StoreIsOpened (option_copied file.entry) (option_copied copy.entry) journal.entry) }
         ensures replayed { IfOk result (λ opened. IsReplayed opened.store) }
         ensures sure { IfOk result (λ opened. is_sure opened.store ≡ true) }
@@ -45,7 +45,7 @@ impl<'a> Store<'a> {
             is_sure: true,
             is_kept: false,
         };
-        Ok(Opened {
+        Ok(OpenedStore {
             store,
             notes,
             fault,
@@ -60,7 +60,7 @@ fn good_of(
     file: Option<&[u8]>,
     copy: Option<&[u8]>,
     records: &[Record],
-) -> Result<(Book, Vec<Note>, Option<FileFault>), FileFault>
+) -> Result<(Book, Vec<JournalNote>, Option<FileFault>), FileFault>
     ensures good { IfOk result (λ r. BookIsFrom (option_copied file.entry) (option_copied copy.entry) r.2 records.now r.0 r.1.items) }
     ensures refused { IfErr result (IsFileFaultOf (option_copied file.entry)) }
 {
@@ -77,7 +77,7 @@ fn copy_for(
     fault: FileFault,
     copy: Option<&[u8]>,
     records: &[Record],
-) -> Result<(Book, Vec<Note>, Option<FileFault>), FileFault>
+) -> Result<(Book, Vec<JournalNote>, Option<FileFault>), FileFault>
     ensures good { IfOk result (λ r. (r.2 ≡ Some fault) × IsBookIf (option_copied copy.entry) records.now [] r.0 r.1.items) }
     ensures refused { IfErr result (λ why. (why ≡ fault) ⊎ (why ≡ OutOfMemory)) }
 {

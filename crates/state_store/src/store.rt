@@ -10,7 +10,7 @@ use crate::records::records_in;
 use base_disk::{Disk, DiskFault, FILE_MODE, replace};
 use base_journal::Journal;
 use base_moment::{Name, Text};
-use state_changes::{Note, Record, Secret, What};
+use state_changes::{JournalNote, Record, Secret, ChangeKind};
 use state_file::SettleFault;
 use std::alloc::{AllocError, Global};
 use vault_inventory::Inventory;
@@ -29,11 +29,11 @@ pub struct Store<'a> {
 
 /// A store at a start.
 #[derive(Drop)]
-pub struct Opened<'a> {
+pub struct OpenedStore<'a> {
     /// What is kept.
     pub store: Store<'a>,
     /// A note on each change of the journal that was not made, by the place of its record.
-    pub notes: Vec<Note>,
+    pub notes: Vec<JournalNote>,
     /// Why the last good copy is served in place of the file; `None` where the file is.
     pub fault: Option<FileFault>,
 }
@@ -95,7 +95,7 @@ impl<'a> Store<'a> {
         disk: &mut D,
         target: &str,
         name: Name,
-        what: What,
+        what: ChangeKind,
     ) -> Result<bool, TakeFault>
         requires apart { bytes_eq (path_of_store self.old) target.now ≡ false }
         requires held { JournalHolds D.is_known (journal_of self.old) (D.state disk.old) }
@@ -217,7 +217,7 @@ impl<'a> Store<'a> {
     ///
     /// The fault of the file, or `OutOfMemory`.
     #[tactic(auto, using(crate::proofs::Starting::no_memory, crate::proofs::Starting::rows_if))]
-    pub fn reload(&mut self, bytes: Option<&[u8]>) -> Result<Vec<Note>, FileFault>
+    pub fn reload(&mut self, bytes: Option<&[u8]>) -> Result<Vec<JournalNote>, FileFault>
         requires replayed { IsReplayed self.old }
         ensures reloaded { IfOk result (λ notes. IsBookIf (option_copied bytes.entry) (records_in (lines_in self.old)) (book_of self.old).secrets (book_of self.new) notes.items) }
         ensures refused { IfErr result (IsFileFaultOf (option_copied bytes.entry)) }

@@ -10,10 +10,10 @@ use Rattle.vault_inventory.specs.declared.terms.Terms.{Terms}
 use Rattle.vault_inventory.proofs.Inventories.{credential_text}
 use Rattle.vault_http.specs.declared.reply.Reply.{Reply}
 use Rattle.vault_http.specs.declared.request.Request.{Request}
-use Rattle.broker_rule.specs.declared.call.Call.{Call}
+use Rattle.broker_rule.specs.declared.call.ApiCall.{ApiCall}
 use Rattle.broker_rule.specs.declared.refusal.Refusal.{Refusal}
 use Rattle.broker_rule.specs.declared.refusal.Refusal.TheVariants.{UnsupportedPath}
-use Rattle.broker_rule.specs.declared.row.Row.{Row}
+use Rattle.broker_rule.specs.declared.row.BrokerRow.{BrokerRow}
 use Rattle.broker_rule.specs.declared.served.Served.{Served}
 use Rattle.broker_rule.specs.declared.served.Served.TheVariants as served
 use Rattle.broker_rule.specs.Granted.{call_for}
@@ -72,7 +72,7 @@ dropped_same kind c d i t served.Dropped served.Dropped a b = (refl, refl)
 dropped_same kind c d i t (served.Reply r) y a b = absurd a
 dropped_same kind c d i t served.Dropped (served.Reply q) a b = absurd b
 
-told_status : (t : ℕ) (call : Call) (r : Row) (x : Served) → TellsRow t call r x → status_in (reply_in_served x) ≡ 200
+told_status : (t : ℕ) (call : ApiCall) (r : BrokerRow) (x : Served) → TellsRow t call r x → status_in (reply_in_served x) ≡ 200
 told_status t call r (served.Reply reply) is = is.0
 told_status t call r served.Dropped is = absurd is
 
@@ -102,7 +102,7 @@ module _ (g : Forest) (cs ds : List (List ℕ)) (ts : List Terms) (one : IsInven
       let second = subst (λ call. TellsRow t call q y) same.1.0 b in
       let rows = same.1.1 in (
         sent_told kind (credential_at ds i) i t q rows.1.1 (λ lease. credential_text u two i within) y second
-            ∙ ap (λ (row : Row). Told i (seconds_to row.end t) row.renewable) rows.0.same
+            ∙ ap (λ (row : BrokerRow). Told i (seconds_to row.end t) row.renewable) rows.0.same
             ∙ sym (sent_told kind (credential_at cs i) i t r rows.1.0 (λ lease. credential_text s one i within) x first),
         told_status t (call_for kind) q y second ∙ sym (told_status t (call_for kind) r x first),
       )

@@ -19,8 +19,8 @@ use Rattle.vault_exchange.specs.Exchanges.{Behind}
 use Rattle.broker_alike.specs.Alike.{AreBrokersAlike, KeepsSupplied}
 use Rattle.tick_runs.specs.Secrecy.{AlikeAnswersLaw, AreWorldsAlike}
 use Rattle.tick_runs.specs.Closed.{Exchanged, World, next_by, shorts_taken}
-use Rattle.program_lines.specs.declared.event_line.Heard.{Heard}
-use Rattle.program_lines.specs.declared.event_line.Heard.TheVariants.{Tick, Need, Unknown}
+use Rattle.program_lines.specs.declared.event_line.HeardLine.{HeardLine}
+use Rattle.program_lines.specs.declared.event_line.HeardLine.TheVariants.{Tick, Need, Unknown}
 use Rattle.tick_runs.specs.Listening.{EventLineIsHeard, EventLinesAreHeard}
 use Rattle.tick_runs.specs.Hearing.{EventIsHeard, NeedIsInForce, TicksLive, last_tick_line, next_tick_line}
 use Rattle.tick_runs.specs.Stops.{both}
@@ -90,7 +90,7 @@ module _ (g : Forest) (cs ds : List (List ℕ)) (ts : List Terms) (one : IsInven
         kept = subst (λ (z : CoreState). KeepsSupplied g z.forest) (sym first) (kept_shaped g k.forest a.keeper.forest like (shape k a.keeper event (Ok out.Planned) a.turn));
       }
 
-  heard_alike : (port other : ℕ) (says : Heard) (k : CoreState) (b c : Option Behind) (new last : World) (text more : List ℕ) → KeepsSupplied g k.forest → AreBrokersAlike g cs ds b c → EventIsHeard port cs (both k b) says new text → EventIsHeard other ds (both k c) says last more →
+  heard_alike : (port other : ℕ) (says : HeardLine) (k : CoreState) (b c : Option Behind) (new last : World) (text more : List ℕ) → KeepsSupplied g k.forest → AreBrokersAlike g cs ds b c → EventIsHeard port cs (both k b) says new text → EventIsHeard other ds (both k c) says last more →
       AreHeardAlike new last text more
   heard_alike port other (Tick t) k b c new last text more like alike (inl a) (inl d) = nothing_done k b c new last text more (codes "fault clock-back\n") like alike a.1.0 d.1.0 a.1.1 d.1.1
   heard_alike port other (Tick t) k b c new last text more like alike (inl a) (inr d) =
@@ -105,7 +105,7 @@ module _ (g : Forest) (cs ds : List (List ℕ)) (ts : List Terms) (one : IsInven
       EventLineIsHeard other ds (both k c) line last more → (more ≡ text) × (AreWorldsAlike g cs ds new last × KeepsSupplied g new.keeper.forest)
   line_alike port other k b c line new last text more like alike a d =
       let says : d.says ≡ a.says = (let e = sym d.is ∙ a.is in cc) in
-      let heard = heard_alike port other a.says k b c new last text more like alike a.heard (subst (λ (h : Heard). EventIsHeard other ds (both k c) h last more) says d.heard) in
+      let heard = heard_alike port other a.says k b c new last text more like alike a.heard (subst (λ (h : HeardLine). EventIsHeard other ds (both k c) h last more) says d.heard) in
       (heard.text_is, (record { keeper = heard.keeper; brokers = heard.brokers }, heard.kept))
 
   lines_alike : (port other : ℕ) (old begun new last : World) (lines : List (List ℕ)) (text more : List ℕ) → KeepsSupplied g old.keeper.forest → AreWorldsAlike g cs ds old begun → EventLinesAreHeard port cs old lines new text → EventLinesAreHeard other ds begun lines last more →

@@ -24,10 +24,10 @@ use Rattle.plan_forest.specs.declared.entry.Kind.{Kind}
 use Rattle.plan_forest.specs.declared.entry.Kind.TheVariants.{Token, Lease}
 use Rattle.plan_forest.specs.Forest.{Forest, entry_at}
 use Rattle.plan_forest.specs.Push.{is_lease}
-use Rattle.broker_rule.specs.declared.call.Call.TheVariants.{LookupSelf, LookupLease}
+use Rattle.broker_rule.specs.declared.call.ApiCall.TheVariants.{LookupSelf, LookupLease}
 use Rattle.broker_rule.specs.declared.refusal.Refusal.{Refusal}
 use Rattle.broker_rule.specs.declared.refusal.Refusal.TheVariants.{UnsupportedPath}
-use Rattle.broker_rule.specs.declared.row.Row.{Row}
+use Rattle.broker_rule.specs.declared.row.BrokerRow.{BrokerRow}
 use Rattle.broker_rule.specs.declared.served.Served.{Served}
 use Rattle.broker_rule.specs.declared.served.Served.TheVariants as served
 use Rattle.broker_rule.specs.Request.{status_of_refusal}
@@ -179,17 +179,17 @@ module _ (g : Forest) (cs ds : List (List ℕ)) (ts : List Terms) (one : IsInven
   dropped_alike v i t (served.Reply reply) b p q = absurd p
   dropped_alike v i t served.Dropped (served.Reply other) p q = absurd q
 
-  token_alike : (v : Inventory) (i t : ℕ) (r q : Row) → (entry_at v.forest.entries i).kind ≡ Token → q ≡ record r { credential = q.credential } → (a b : Served) → TellsRow t LookupSelf r a → TellsRow t LookupSelf q b → Alike v i t a b
+  token_alike : (v : Inventory) (i t : ℕ) (r q : BrokerRow) → (entry_at v.forest.entries i).kind ≡ Token → q ≡ record r { credential = q.credential } → (a b : Served) → TellsRow t LookupSelf r a → TellsRow t LookupSelf q b → Alike v i t a b
   unfolding IsReplyBody
   token_alike v i t r q token same served.Dropped b x y = absurd x
   token_alike v i t r q token same (served.Reply reply) served.Dropped x y = absurd y
   token_alike v i t r q token same (served.Reply reply) (served.Reply other) x y =
-      let text : Row → List ℕ = λ row. looked_self_text (seconds_to row.end t) row.issued row.explicit_max (is_none row.parent) row.renewable row.period in
+      let text : BrokerRow → List ℕ = λ row. looked_self_text (seconds_to row.end t) row.issued row.explicit_max (is_none row.parent) row.renewable row.period in
       let replied : other ≡ reply = reply_of_parts reply other (y.0 ∙ sym x.0) (y.1 ∙ ap text same ∙ sym x.1) in
       ap (λ z. inventory_after_lookup (other_of v) i t (received (served.Reply z))) replied ∙ reply_alike v i t token (received (served.Reply reply))
 
   -- a lease that is told by its own id
-  taken_lease : (v : Inventory) (i t : ℕ) (id : List ℕ) (row : Row) (reply : Reply) → credential_at v.credentials i ≡ id → (entry_at v.forest.entries i).kind ≡ Lease → reply.status ≡ 200 → received (served.Reply reply) ≡ Ok reply → lookup_lease_answer reply.body ≡ Ok (lease_told id row t) →
+  taken_lease : (v : Inventory) (i t : ℕ) (id : List ℕ) (row : BrokerRow) (reply : Reply) → credential_at v.credentials i ≡ id → (entry_at v.forest.entries i).kind ≡ Lease → reply.status ≡ 200 → received (served.Reply reply) ≡ Ok reply → lookup_lease_answer reply.body ≡ Ok (lease_told id row t) →
       inventory_after_lookup v i t (received (served.Reply reply)) ≡ Some (told v i (lease_told id row t) t)
   taken_lease v i t id row reply own lease ok here said =
       let answer = lookup_in (entry_at v.forest.entries i).kind reply.body in
@@ -199,16 +199,16 @@ module _ (g : Forest) (cs ds : List (List ℕ)) (ts : List Terms) (one : IsInven
       ∙ ap (applied v i t) said
       ∙ ap (λ fault. cond (is_none fault) (Some (told v i (lease_told id row t) t)) None) (own_lease v i id row.issued (seconds_to row.end t) row.renewable own lease)
 
-  lease_alike : (v : Inventory) (i t : ℕ) (r q : Row) → i < length g.entries → v.credentials ≡ cs → (entry_at v.forest.entries i).kind ≡ Lease → q ≡ record r { credential = q.credential } → r.credential ≡ credential_at cs i → q.credential ≡ credential_at ds i →
+  lease_alike : (v : Inventory) (i t : ℕ) (r q : BrokerRow) → i < length g.entries → v.credentials ≡ cs → (entry_at v.forest.entries i).kind ≡ Lease → q ≡ record r { credential = q.credential } → r.credential ≡ credential_at cs i → q.credential ≡ credential_at ds i →
       r.issued ≤ LAST → (a b : Served) → TellsRow t LookupLease r a → TellsRow t LookupLease q b → Alike v i t a b
   unfolding told
   lease_alike v i t r q within credentials lease same c d early served.Dropped b x y = absurd x
   lease_alike v i t r q within credentials lease same c d early (served.Reply reply) served.Dropped x y = absurd y
   lease_alike v i t r q within credentials lease same c d early (served.Reply reply) (served.Reply other) x y =
-      let dated : q.issued ≤ LAST = subst (λ (row : Row). row.issued ≤ LAST) (sym same) early in
+      let dated : q.issued ≤ LAST = subst (λ (row : BrokerRow). row.issued ≤ LAST) (sym same) early in
       let first = lease_read read (credential_at cs i) t r reply c (credential_text s one i within) (brief s one i within) early x in
       let second = lease_read read (credential_at ds i) t q other d (credential_text u two i within) (brief u two i within) dated y in
-      let said : lookup_lease_answer other.body ≡ Ok (lease_told (credential_at ds i) r t) = second.1 ∙ ap (λ (row : Row). Ok (lease_told (credential_at ds i) row t)) same in
+      let said : lookup_lease_answer other.body ≡ Ok (lease_told (credential_at ds i) r t) = second.1 ∙ ap (λ (row : BrokerRow). Ok (lease_told (credential_at ds i) row t)) same in
       taken_lease (other_of v) i t (credential_at ds i) r other refl lease y.0 second.0 said
       ∙ sym (ap (option_map other_of) (taken_lease v i t (credential_at cs i) r reply (ap (λ xs. credential_at xs i) credentials) lease x.0 first.0 first.1))
 

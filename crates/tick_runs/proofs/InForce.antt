@@ -9,7 +9,7 @@ use Rattle.plan_forest.specs.Forest.{Forest, entry_at}
 use Rattle.plan_forest.proofs.Entries.{entry_at_past}
 use Rattle.vault_inventory.specs.Inventories.{IsInventory, Inventory, credential_at, terms_at}
 use Rattle.vault_inventory.specs.declared.limits.TheConstants.{SPAN_MAX}
-use Rattle.broker_rule.specs.declared.row.Row.{Row}
+use Rattle.broker_rule.specs.declared.row.BrokerRow.{BrokerRow}
 use Rattle.broker_rule.specs.Rows.{broker_row, broker_rows}
 use Rattle.tick_keeper.specs.Replan.{IsPlanOf, Replan}
 use Rattle.tick_keeper.specs.Shorten.{need_left, pairs, shorten}
@@ -52,8 +52,8 @@ row_same s t i =
 rows_same : (s : Inventory) (t : ℕ) → broker_rows (in_force s t) ≡ broker_rows s
 unfolding broker_rows
 rows_same s t =
-    let rows : ◌≡◌ {A = ℕ → Row} (broker_row (in_force s t)) (broker_row s) = fun_ext λ i. row_same s t i in
-    ap (λ (f : ℕ → Row). map f (range_with_len 0 (length (shorten s.forest t).entries))) rows ∙ ap (λ n. map (broker_row s) (range_with_len 0 n)) (shorten_count s.forest t)
+    let rows : ◌≡◌ {A = ℕ → BrokerRow} (broker_row (in_force s t)) (broker_row s) = fun_ext λ i. row_same s t i in
+    ap (λ (f : ℕ → BrokerRow). map f (range_with_len 0 (length (shorten s.forest t).entries))) rows ∙ ap (λ n. map (broker_row s) (range_with_len 0 n)) (shorten_count s.forest t)
 
 in_force_is : (s : Inventory) (t : ℕ) → IsInventory s → IsInventory (in_force s t)
 in_force_is s t sound =
@@ -94,7 +94,7 @@ module _ (s : Inventory) (start : ℕ) (short : List ShortNeed) (w : World) (o :
     is = o.is
         ∙ ap (λ (k : CoreState). record { keeper = shorts_taken k; behind = Some (record { table = record { rows = broker_rows s; faults = []; count = 0 }; wire = [] }) }) o.planned.is
         ∙ ap (λ (g : Forest). record { keeper = record { forest = g; last = start; to_come = o.planned.moments; round = None; shortened = [] }; behind = Some (record { table = record { rows = broker_rows s; faults = []; count = 0 }; wire = [] }) }) (sym same.0)
-        ∙ ap (λ (rows : List Row). record { keeper = shorts_taken keeper; behind = Some (record { table = record { rows = rows; faults = []; count = 0 }; wire = [] }) }) (sym (rows_same s start));
+        ∙ ap (λ (rows : List BrokerRow). record { keeper = shorts_taken keeper; behind = Some (record { table = record { rows = rows; faults = []; count = 0 }; wire = [] }) }) (sym (rows_same s start));
   }
 
 pub least : LeastLaw

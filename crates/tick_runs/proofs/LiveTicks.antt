@@ -16,7 +16,7 @@ use Rattle.vault_inventory.specs.Inventories.{Inventory}
 use Rattle.program_report.specs.declared.stop.Stop.{Stop}
 use Rattle.tick_runs.specs.Closed.{AreAnswered, Beat, Exchanged, IsBeat, World, asked_by_output, asks_some, closing, shorts_taken}
 use Rattle.tick_runs.specs.Hearing.{IsBetweenEvents, TickIsUnderWay, TicksLive, TicksSoFar, TicksUpTo, last_tick_line, next_tick_line, tick_text}
-use Rattle.program_lines.specs.declared.event_line.Heard.TheVariants.{Need}
+use Rattle.program_lines.specs.declared.event_line.HeardLine.TheVariants.{Need}
 use Rattle.tick_runs.specs.code.Telling.{IsRoundSoFar, IsRoundUpTo, StopsNeed, TellsRound}
 use Rattle.tick_runs.specs.code.Playing.{AnswersAll, IsPlanFault, Ticks, stop_of}
 use Rattle.tick_runs.specs.Stops.{both}

@@ -18,7 +18,7 @@ use Rattle.plan_forest.proofs.Entries.{entry_at_set_other, entry_at_set_same}
 use Rattle.plan_forest.proofs.Placed.{parents_first, read_range, read_step, replaced_is_forest, replaces_read}
 use Rattle.vault_inventory.specs.Inventories.{IsInventory, Inventory, credential_at, terms_at}
 use Rattle.vault_inventory.specs.declared.terms.Terms.{Terms}
-use Rattle.broker_rule.specs.declared.row.Row.{Row}
+use Rattle.broker_rule.specs.declared.row.BrokerRow.{BrokerRow}
 use Rattle.broker_rule.specs.Rows.{broker_row, broker_rows}
 use Rattle.broker_rule.specs.Renewing.{with_row}
 use Rattle.broker_rule.specs.Listed.{is_entry_alive, rows_listed}
@@ -82,7 +82,7 @@ ended_alive g forest t i end within before after j =
 -- ---- the rows
 
 -- a row, by the names of the entries
-unfoldable pub row_by : (ℕ → List ℕ) → Entry → Terms → List ℕ → Row
+unfoldable pub row_by : (ℕ → List ℕ) → Entry → Terms → List ℕ → BrokerRow
 row_by names e terms credential = record {
   name = e.name;
   kind = e.kind;
@@ -116,7 +116,7 @@ row_ended_same s i end within =
     ∙ ap (λ (ns : ℕ → List ℕ). row_by ns (entry_at (with_entry_end g i end).entries i) (terms_at s.terms i) (credential_at s.credentials i)) (ended_names g i end within)
     ∙ ap (λ e. row_by names e (terms_at s.terms i) (credential_at s.credentials i)) (ended_same g i end within)
     ∙ by_end names (entry_at g.entries i) (terms_at s.terms i) (credential_at s.credentials i) end
-    ∙ ap (λ (r : Row). record r { end = end }) (sym (row_is s i))
+    ∙ ap (λ (r : BrokerRow). record r { end = end }) (sym (row_is s i))
 
 pub row_ended_other : (s : Inventory) (i end j : ℕ) → i < length s.forest.entries → j ≢ i → broker_row (with_forest s (with_entry_end s.forest i end)) j ≡ broker_row s j
 row_ended_other s i end j within apart =
@@ -136,8 +136,8 @@ with_row_listed s forest t i end within before after =
     let g = s.forest in
     let h = with_entry_end g i end in
     let n = length g.entries in
-    let row : Row = record (broker_row s i) { end = end } in
-    let put : Row → Row = λ r. cond (bytes_eq r.name row.name) row r in
+    let row : BrokerRow = record (broker_row s i) { end = end } in
+    let put : BrokerRow → BrokerRow = λ r. cond (bytes_eq r.name row.name) row r in
     let range = range_with_len 0 n in
     map_of_map put (broker_row s) (filter (is_entry_alive g t) range)
     ∙ map_range (λ j. put (broker_row s j)) (broker_row (with_forest s h)) (is_entry_alive g t) n 0 (λ j low high alive. elim (cases_eq j i) [

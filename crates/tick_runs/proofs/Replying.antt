@@ -13,7 +13,7 @@ use Rattle.vault_http.specs.declared.reply.Reply.{Reply}
 use Rattle.vault_json.specs.Renewed.{renew_lease_answer, renew_self_answer}
 use Rattle.vault_json.specs.Written.{renewed_lease_text}
 use Rattle.vault_json.proofs.ReadBack.{renewed_lease_is_read, renewed_self_is_read}
-use Rattle.broker_rule.specs.declared.row.Row.{Row}
+use Rattle.broker_rule.specs.declared.row.BrokerRow.{BrokerRow}
 use Rattle.broker_rule.specs.declared.served.Served.{Served}
 use Rattle.broker_rule.specs.declared.served.Served.TheVariants as served
 use Rattle.broker_rule.specs.Rows.{broker_row}
@@ -32,7 +32,7 @@ unfolding event_of
 ok_is_told kind id i r ok = cond-true (r.status == 200) (told_by_body kind id i r.body) (event_if_refused r.status (Refused i) (Lost i)) (ap (λ n. n == 200) ok)
 
 body_told :
-    (kind : Kind) (id : List ℕ) (i t : ℕ) (row : Row) (body : List ℕ) → row.credential ≡ id → (kind ≡ Lease → IsUtf8 id) → IsReplyBody (call_for kind) row t body →
+    (kind : Kind) (id : List ℕ) (i t : ℕ) (row : BrokerRow) (body : List ℕ) → row.credential ≡ id → (kind ≡ Lease → IsUtf8 id) → IsReplyBody (call_for kind) row t body →
     told_by_body kind id i body ≡ Told i (seconds_to row.end t) row.renewable
 unfolding IsReplyBody
 body_told Token id i t row body same text is =
@@ -46,7 +46,7 @@ body_told Lease id i t row body same text is =
     ∙ ap (told_of_body i) (cond-true (bytes_eq id id) (Some (record { seconds = n; renewable = row.renewable })) None ((bytes_decides id id).1 refl))
 
 pub sent_told :
-    (kind : Kind) (id : List ℕ) (i t : ℕ) (row : Row) → row.credential ≡ id → (kind ≡ Lease → IsUtf8 id) → (sent : Served) → TellsRow t (call_for kind) row sent →
+    (kind : Kind) (id : List ℕ) (i t : ℕ) (row : BrokerRow) → row.credential ≡ id → (kind ≡ Lease → IsUtf8 id) → (sent : Served) → TellsRow t (call_for kind) row sent →
     event_of kind id i (reply_in_served sent) ≡ Told i (seconds_to row.end t) row.renewable
 sent_told kind id i t row same text (served.Reply reply) says = ok_is_told kind id i reply says.0 ∙ body_told kind id i t row reply.body same text says.1
 sent_told kind id i t row same text served.Dropped says = absurd says

@@ -15,9 +15,9 @@ use Rattle.program_report.specs.Sent.{SendsText}
 use Rattle.tick_runs.specs.Closed.{World, asked_by_output, asks_some}
 use Rattle.tick_runs.specs.code.Telling.{IsSentWhole}
 use Rattle.tick_runs.specs.Hearing.{EventIsCutOff, EventIsHeard, HearingMayWantMemory, HearsTo, IsBrokenOff, IsHeardUpTo, NeedIsInForce, NeedIsOverlong, last_tick_line, next_tick_line}
-use Rattle.program_lines.specs.declared.event_line.Heard.{Heard}
-use Rattle.program_lines.specs.declared.event_line.Heard.TheVariants as heards
-use Rattle.program_lines.specs.declared.event_line.Heard.TheVariants.{Need}
+use Rattle.program_lines.specs.declared.event_line.HeardLine.{HeardLine}
+use Rattle.program_lines.specs.declared.event_line.HeardLine.TheVariants as heards
+use Rattle.program_lines.specs.declared.event_line.HeardLine.TheVariants.{Need}
 use Rattle.tick_runs.specs.code.Telling.{IsRoundBroken, IsRoundCut, StopsNeed, TellsRound}
 use Rattle.tick_runs.specs.code.Playing.{Ticks}
 use Rattle.tick_runs.specs.Stops.{both}
@@ -32,7 +32,7 @@ use Rattle.tick_runs.proofs.LiveTicks.{last_under_way, none_asked, one_more, qui
 module _ (port : ℕ) (cs : List (List ℕ)) where
   -- a write that is cut short, after what was told
   pub stops_short :
-      (old new : World) (heard : Heard) (told own : List ℕ) (stop : Stop) (a b : Change) → a.new ≡ b.old → IsSentWhole told a →
+      (old new : World) (heard : HeardLine) (told own : List ℕ) (stop : Stop) (a b : Change) → a.new ≡ b.old → IsSentWhole told a →
       IsHeardUpTo port cs old heard new told own → SendsText (Err stop) own b → HearsTo port cs old heard (Err stop) new (joined_changes a b)
   stops_short old new heard told own stops.Write a b same before up_to sent = (
     subst (λ n. HasFailed n b.new.failed_calls) (sym (ap (λ (s : Seen). s.failed_calls) same) ∙ before.1) sent.0,
@@ -44,7 +44,7 @@ module _ (port : ℕ) (cs : List (List ℕ)) where
 
   -- the write of its first lines is
   pub stops_at_once :
-      (old new : World) (heard : Heard) (own : List ℕ) (stop : Stop) (a : Change) → IsTrue a.old.output.is_flushed →
+      (old new : World) (heard : HeardLine) (own : List ℕ) (stop : Stop) (a : Change) → IsTrue a.old.output.is_flushed →
       IsHeardUpTo port cs old heard new [] own → SendsText (Err stop) own a → HearsTo port cs old heard (Err stop) new a
   stops_at_once old new heard own stop a flushed up_to sent =
       let none : Change = record a { new = a.old } in
@@ -52,7 +52,7 @@ module _ (port : ℕ) (cs : List (List ℕ)) where
 
   -- the write of all of its lines
   pub sent_at_once :
-      (o : Option Behind) (old new : CoreState) (heard : Heard) (text : List ℕ) (result : Result (Unit {0}) Stop) (a : Change) →
+      (o : Option Behind) (old new : CoreState) (heard : HeardLine) (text : List ℕ) (result : Result (Unit {0}) Stop) (a : Change) →
       EventIsHeard port cs (both old o) heard (both new o) text × IsHeardUpTo port cs (both old o) heard (both new o) [] text → SendsText result text a → IsTrue a.old.output.is_flushed →
       HearsTo port cs (both old o) heard result (both new o) a
   sent_at_once o old new heard text (Ok u) a is sent flushed = (text, (is.0, sent))
@@ -61,7 +61,7 @@ module _ (port : ℕ) (cs : List (List ℕ)) where
 
   -- the last line of a tick, after those before
   pub sent_last :
-      (old new : World) (heard : Heard) (told own : List ℕ) (result : Result (Unit {0}) Stop) (a b : Change) → a.new ≡ b.old → IsSentWhole told a →
+      (old new : World) (heard : HeardLine) (told own : List ℕ) (result : Result (Unit {0}) Stop) (a b : Change) → a.new ≡ b.old → IsSentWhole told a →
       EventIsHeard port cs old heard new (told ++ own) → IsHeardUpTo port cs old heard new told own →
       SendsText result own b → HearsTo port cs old heard result new (joined_changes a b)
   sent_last old new heard told own (Ok u) a b same before is up_to sent = (told ++ own, (is, all_then a b same told own before sent))
@@ -130,32 +130,32 @@ module _ (port : ℕ) (cs : List (List ℕ)) where
 module _ (port : ℕ) (cs : List (List ℕ)) (o : Option Behind) (old new : CoreState) where
   -- why a need stops, and nothing is sent
   pub need_halts :
-      (i until : ℕ) (heard : Heard) (stop : Stop) (out : Change) → heard ≡ Need i until → out.new ≡ out.old →
+      (i until : ℕ) (heard : HeardLine) (stop : Stop) (out : Change) → heard ≡ Need i until → out.new ≡ out.old →
       StopsNeed (both old o) (Need i until) stop (both new o) → HearsTo port cs (both old o) heard (Err stop) (both new o) out
   need_halts i until heard stops.TooLong out is same h = (
-    subst (λ (q : Heard). NeedIsOverlong (both old o) q (both new o)) (sym is) h,
+    subst (λ (q : HeardLine). NeedIsOverlong (both old o) q (both new o)) (sym is) h,
     same,
   )
-  need_halts i until heard stops.Memory out is same h = inl (subst (λ (q : Heard). HearingMayWantMemory old q) (sym is) tt, (refl, untouched_appends out same))
+  need_halts i until heard stops.Memory out is same h = inl (subst (λ (q : HeardLine). HearingMayWantMemory old q) (sym is) tt, (refl, untouched_appends out same))
   need_halts i until heard _ out is same h = absurd h
 
   -- the lines of a need are sent
   pub need_sent :
-      (i until : ℕ) (heard : Heard) (before after : List ℕ) (result : Result (Unit {0}) Stop) (out : Change) → heard ≡ Need i until → before ≡ [] →
+      (i until : ℕ) (heard : HeardLine) (before after : List ℕ) (result : Result (Unit {0}) Stop) (out : Change) → heard ≡ Need i until → before ≡ [] →
       (lines : List ℕ) × (NeedIsInForce i until (both old o) (both new o) lines × (after ≡ before ++ lines)) → SendsText result after out → IsTrue out.old.output.is_flushed → HearsTo port cs (both old o) heard result (both new o) out
   need_sent i until heard before after result out is empty needed sent flushed =
       let text : after ≡ needed.0 = needed.1.1 ∙ ap (λ l. l ++ needed.0) empty in
       let one = subst (NeedIsInForce i until (both old o) (both new o)) (sym text) needed.1.0 in
       sent_at_once port cs o old new heard after result out
-      (subst (λ (q : Heard). EventIsHeard port cs (both old o) q (both new o) after × IsHeardUpTo port cs (both old o) q (both new o) [] after) (sym is) (one, (refl, one))) sent flushed
+      (subst (λ (q : HeardLine). EventIsHeard port cs (both old o) q (both new o) after × IsHeardUpTo port cs (both old o) q (both new o) [] after) (sym is) (one, (refl, one))) sent flushed
 
 -- the line of an unknown name is sent
 pub unknown_sent :
-    (port : ℕ) (cs : List (List ℕ)) (o : Option Behind) (old : CoreState) (heard : Heard) (result : Result (Unit {0}) Stop) (out : Change) → heard ≡ heards.Unknown → SendsText result (codes "fault unknown-name\n") out → IsTrue out.old.output.is_flushed →
+    (port : ℕ) (cs : List (List ℕ)) (o : Option Behind) (old : CoreState) (heard : HeardLine) (result : Result (Unit {0}) Stop) (out : Change) → heard ≡ heards.Unknown → SendsText result (codes "fault unknown-name\n") out → IsTrue out.old.output.is_flushed →
     HearsTo port cs (both old o) heard result (both old o) out
 unknown_sent port cs o old heard result out is sent flushed =
     sent_at_once port cs o old old heard (codes "fault unknown-name\n") result out
-    (subst (λ (q : Heard). EventIsHeard port cs (both old o) q (both old o) (codes "fault unknown-name\n") × IsHeardUpTo port cs (both old o) q (both old o) [] (codes "fault unknown-name\n")) (sym is)
+    (subst (λ (q : HeardLine). EventIsHeard port cs (both old o) q (both old o) (codes "fault unknown-name\n") × IsHeardUpTo port cs (both old o) q (both old o) [] (codes "fault unknown-name\n")) (sym is)
     ((refl, refl), (refl, (refl, refl))))
     sent flushed
 

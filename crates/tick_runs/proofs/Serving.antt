@@ -4,7 +4,7 @@ use Rattle.std.proofs.lemmas.Bool.{and_from}
 use Rattle.plan_forest.specs.Forest.{end_of, entry_at}
 use Rattle.plan_forest.specs.Renewal.{all_last, is_granted, renewal}
 use Rattle.vault_inventory.specs.Inventories.{IsInventory, Inventory}
-use Rattle.broker_rule.specs.declared.row.Row.{Row}
+use Rattle.broker_rule.specs.declared.row.BrokerRow.{BrokerRow}
 use Rattle.broker_rule.specs.Faults.{fault_at, next_number, without_fault}
 use Rattle.broker_rule.specs.Granted.{call_for}
 use Rattle.broker_rule.specs.Table.{BrokerTable}
@@ -18,7 +18,7 @@ use Rattle.vault_exchange.specs.Requests.{renewal_request}
 use Rattle.broker_alike.proofs.Asking.{asks_renewal}
 
 -- the row of i, renewed at t
-abbrev pub renewed_row : Inventory → ℕ → ℕ → Row
+abbrev pub renewed_row : Inventory → ℕ → ℕ → BrokerRow
 renewed_row s t i = record (broker_row s i) { end = renewal (entry_at s.forest.entries i) t }
 
 -- ---- what is granted
@@ -46,5 +46,5 @@ serves s inventory port t i l within able alive none same =
     let call = call_for (entry_at s.forest.entries i).kind in
     let n = next_number l.count in
     by_the_rule s inventory t i within grant l same (ap (λ faults. fault_at faults n) none ∙ no_fault n) (renewal_request port s.credentials s.forest i) (asks_renewal s inventory port i within)
-    ∙ ap (λ (row : Row). record { answer = tells call row; table = record { rows = with_row (rows_listed s t) row; faults = without_fault l.faults n; count = n } }) (sym (renewed_by s t i grant))
+    ∙ ap (λ (row : BrokerRow). record { answer = tells call row; table = record { rows = with_row (rows_listed s t) row; faults = without_fault l.faults n; count = n } }) (sym (renewed_by s t i grant))
     ∙ ap (λ faults. record { answer = tells call (renewed_row s t i); table = record { rows = with_row (rows_listed s t) (renewed_row s t i); faults = faults; count = n } }) (ap (λ faults. without_fault faults n) none ∙ none_left n)

@@ -17,8 +17,8 @@ use Rattle.program_report.specs.declared.stop.Stop.{Stop}
 use Rattle.program_report.specs.declared.stop.Stop.TheVariants as stops
 use Rattle.program_report.specs.Sent.{IsAll, IsUntouched}
 use Rattle.tick_runs.specs.Closed.{AreAnswered, Beat, Exchanged, IsBeat, World, asked_by_output, asks_some, closing, shorts_taken}
-use Rattle.program_lines.specs.declared.event_line.Heard.{Heard}
-use Rattle.program_lines.specs.declared.event_line.Heard.TheVariants.{Tick, Need, Unknown}
+use Rattle.program_lines.specs.declared.event_line.HeardLine.{HeardLine}
+use Rattle.program_lines.specs.declared.event_line.HeardLine.TheVariants.{Tick, Need, Unknown}
 use Rattle.tick_runs.specs.Stops.{both}
 use Rattle.vault_http.specs.declared.reply.Reply.{Reply}
 use Rattle.program_lines.specs.Text.{line}
@@ -63,7 +63,7 @@ pub record NeedIsInForce (i until : ℕ) (old : World) (new : World) (text : Lis
   pub text_is : text ≡ short_need_lines keeper.forest keeper.shortened ++ codes "planned\n"
 
 -- what an event line comes to; its requests name this port
-abbrev pub EventIsHeard : ℕ → List (List ℕ) → World → Heard → World → List ℕ → Type 0
+abbrev pub EventIsHeard : ℕ → List (List ℕ) → World → HeardLine → World → List ℕ → Type 0
 EventIsHeard port cs old (Tick t) new text = IsClockBack t old new text ⊎ TicksLive port cs t old new text
 EventIsHeard port cs old (Need i until) new text = NeedIsInForce i until old new text
 EventIsHeard port cs old Unknown new text = (new ≡ old) × (text ≡ codes "fault unknown-name\n")
@@ -106,13 +106,13 @@ TicksSoFar port cs t old others new told =
     (b : Beat) × ((b.at ≡ t) × ((asks_some b.output ≡ true) × (TickIsUnderWay port cs old b others new × (told ≡ beat_text (inventory_with cs old.keeper.forest) b))))
 
 -- an event up to a write: what it had told, and the lines of that write, which are all but for a tick that asks somebody
-abbrev pub IsHeardUpTo : ℕ → List (List ℕ) → World → Heard → World → List ℕ → List ℕ → Type 0
+abbrev pub IsHeardUpTo : ℕ → List (List ℕ) → World → HeardLine → World → List ℕ → List ℕ → Type 0
 IsHeardUpTo port cs old (Tick t) new told own = ((told ≡ []) × IsClockBack t old new own) ⊎ TicksUpTo port cs t old new told own
 IsHeardUpTo port cs old heard new told own = (told ≡ []) × EventIsHeard port cs old heard new own
 
 -- an event is heard up to a write: after this text what it had told before is written, and no more than a front of the lines of
 -- that write
-pub record EventIsCutOff (port : ℕ) (cs : List (List ℕ)) (old : World) (heard : Heard) (new : World) (text : List ℕ) (out : Change) : Type 0 where
+pub record EventIsCutOff (port : ℕ) (cs : List (List ℕ)) (old : World) (heard : HeardLine) (new : World) (text : List ℕ) (out : Change) : Type 0 where
   pub told : List ℕ
   pub own : List ℕ
   pub up_to : IsHeardUpTo port cs old heard new told own
@@ -126,7 +126,7 @@ IsAskLeft port cs t old (i ∷ others) new =
     (new ≡ old.behind) ⊎ IfSome old.behind (λ b. (came : Result (Option Reply) AllocError) × ExchangeAsks b t (renewal_request port cs old.keeper.forest i) came new)
 
 -- a tick is heard up to some answer: after this text its lines so far are written, and nobody was asked after it, or the next was
-pub record IsBrokenOff (port : ℕ) (cs : List (List ℕ)) (old : World) (heard : Heard) (new : World) (text : List ℕ) (out : Change) : Type 0 where
+pub record IsBrokenOff (port : ℕ) (cs : List (List ℕ)) (old : World) (heard : HeardLine) (new : World) (text : List ℕ) (out : Change) : Type 0 where
   pub t : ℕ
   pub is : heard ≡ Tick t
   pub told : List ℕ
@@ -137,23 +137,23 @@ pub record IsBrokenOff (port : ℕ) (cs : List (List ℕ)) (old : World) (heard 
   pub left : IsAskLeft port cs t mid others new.behind
 
 -- whether hearing an event may ask for memory before anybody is asked: a tick that is not before the last moment, and a need
-abbrev pub HearingMayWantMemory : CoreState → Heard → Type 0
+abbrev pub HearingMayWantMemory : CoreState → HeardLine → Type 0
 HearingMayWantMemory old (Tick t) = old.last ≤ t
 HearingMayWantMemory old (Need i until) = Unit {0}
 HearingMayWantMemory old Unknown = ⊥
 
 -- memory was wanting before anybody was asked: nothing is written, and the exchange is as it was
-abbrev pub IsWanting : World → Heard → World → Change → Type 0
+abbrev pub IsWanting : World → HeardLine → World → Change → Type 0
 IsWanting old heard new out = HearingMayWantMemory old.keeper heard × ((new.behind ≡ old.behind) × Receives [] out)
 
 -- the plan with a new need would be too long, and nothing is changed
-abbrev pub NeedIsOverlong : World → Heard → World → Type 0
+abbrev pub NeedIsOverlong : World → HeardLine → World → Type 0
 NeedIsOverlong old (Need i until) new = CoreTurn old.keeper (events.Need i until) (Err steps.TooLong) new.keeper × (new.behind ≡ old.behind)
 NeedIsOverlong old heard new = ⊥
 
 -- what hearing an event comes to: its lines were written and flushed; the plan would be too long, and nothing is written; a write
 -- failed, and nobody was asked after it; or memory was wanting
-abbrev pub HearsTo : ℕ → List (List ℕ) → World → Heard → Result (Unit {0}) Stop → World → Change → Type 0
+abbrev pub HearsTo : ℕ → List (List ℕ) → World → HeardLine → Result (Unit {0}) Stop → World → Change → Type 0
 HearsTo port cs old heard (Ok u) new out = (text : List ℕ) × (EventIsHeard port cs old heard new text × IsAll text out)
 HearsTo port cs old heard (Err stops.TooLong) new out = NeedIsOverlong old heard new × IsUntouched out
 HearsTo port cs old heard (Err stops.Write) new out = HasFailed out.old.failed_calls out.new.failed_calls × EventIsCutOff port cs old heard new [] out

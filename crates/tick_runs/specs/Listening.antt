@@ -5,11 +5,11 @@ use Rattle.base_device.specs.Seen.{Change, Receives}
 use Rattle.base_device.specs.Failures.{HasFailed}
 use Rattle.program_lines.specs.Hearing.{Hearing}
 use Rattle.program_lines.specs.Listening as lines
-use Rattle.program_lines.specs.declared.limits.Limits.{Limits}
+use Rattle.program_lines.specs.declared.limits.InputLimits.{InputLimits}
 use Rattle.program_report.specs.declared.stop.Stop.{Stop}
 use Rattle.program_report.specs.declared.stop.Stop.TheVariants as stops
 use Rattle.program_report.specs.Sent.{IsAll}
-use Rattle.program_lines.specs.declared.event_line.Heard.{Heard}
+use Rattle.program_lines.specs.declared.event_line.HeardLine.{HeardLine}
 use Rattle.tick_runs.specs.declared.live.listening.TheConstants.{MOST_EVENTS, MOST_EVENT_READS}
 use Rattle.tick_runs.specs.Closed.{World}
 use Rattle.program_lines.specs.EventLines.{heard_in}
@@ -19,7 +19,7 @@ use Rattle.tick_runs.specs.Hearing.{EventIsCutOff, EventIsHeard, IsBrokenOff, Ne
 
 -- a line says an event in the forest of its moment; the event is heard, by requests that name this port, and has this text
 pub record EventLineIsHeard (port : ℕ) (cs : List (List ℕ)) (old : World) (line : List ℕ) (new : World) (text : List ℕ) : Type 0 where
-  pub says : Heard
+  pub says : HeardLine
   pub is : heard_in old.keeper.forest line ≡ Some says
   pub heard : EventIsHeard port cs old says new text
 
@@ -27,19 +27,19 @@ pub record EventLineIsHeard (port : ℕ) (cs : List (List ℕ)) (old : World) (l
 
 -- the line says a new need, with which the plan would be too long; nothing is changed
 abbrev pub PlanBecomesTooLong : World → List ℕ → World → Type 0
-PlanBecomesTooLong old line new = (says : Heard) × ((heard_in old.keeper.forest line ≡ Some says) × NeedIsOverlong old says new)
+PlanBecomesTooLong old line new = (says : HeardLine) × ((heard_in old.keeper.forest line ≡ Some says) × NeedIsOverlong old says new)
 
 -- the line is heard up to a write that was cut short
 abbrev pub IsCutShort : ℕ → List (List ℕ) → World → List ℕ → World → List ℕ → Change → Type 0
-IsCutShort port cs old line new text out = (says : Heard) × ((heard_in old.keeper.forest line ≡ Some says) × EventIsCutOff port cs old says new text out)
+IsCutShort port cs old line new text out = (says : HeardLine) × ((heard_in old.keeper.forest line ≡ Some says) × EventIsCutOff port cs old says new text out)
 
 -- the line is a tick that is heard up to some answer
 abbrev pub IsBrokenShort : ℕ → List (List ℕ) → World → List ℕ → World → List ℕ → Change → Type 0
-IsBrokenShort port cs old line new text out = (says : Heard) × ((heard_in old.keeper.forest line ≡ Some says) × IsBrokenOff port cs old says new text out)
+IsBrokenShort port cs old line new text out = (says : HeardLine) × ((heard_in old.keeper.forest line ≡ Some says) × IsBrokenOff port cs old says new text out)
 
 -- memory was wanting before anybody was asked for what the line says
 abbrev pub IsWantingAt : World → List ℕ → List ℕ → World → Change → Type 0
-IsWantingAt old line text new out = (says : Heard) × ((heard_in old.keeper.forest line ≡ Some says) × ((new.behind ≡ old.behind) × Receives text out))
+IsWantingAt old line text new out = (says : HeardLine) × ((heard_in old.keeper.forest line ≡ Some says) × ((new.behind ≡ old.behind) × Receives text out))
 
 -- how hearing a line ends short, after this text: the plan would be too long; a write failed; or memory was wanting
 abbrev pub EventEndsShort : ℕ → List (List ℕ) → World → List ℕ → List ℕ → Stop → World → Change → Type 0
@@ -61,7 +61,7 @@ pub record Asked : Type 0 where
   pub credentials : List (List ℕ)
 
 -- how much of the events is heard
-abbrev pub event_limits : Limits
+abbrev pub event_limits : InputLimits
 event_limits = record { bytes = Some MOST_EVENTS; reads = MOST_EVENT_READS }
 
 -- lines are heard, one after another, and their texts stand one after another

@@ -10,12 +10,12 @@ use Rattle.program_lines.proofs.LineByLine.{appends_then, said_appends}
 use Rattle.program_report.specs.declared.stop.Stop.TheVariants as stops
 use Rattle.tick_runs.specs.Listening.{IsCutShort, hearing_of_events}
 use Rattle.tick_runs.specs.Hearing.{EventIsCutOff, IsBrokenOff}
-use Rattle.program_lines.specs.declared.event_line.Heard.{Heard}
+use Rattle.program_lines.specs.declared.event_line.HeardLine.{HeardLine}
 use Rattle.tick_runs.specs.Closed.{World}
 
 module _ (a b : Change) (same : a.new ≡ b.old) where
   module _ (port : ℕ) (cs : List (List ℕ)) (old new : World) (t u : List ℕ) (first : Appends a.old.output.written a.new.output.written t) where
-    cut_then : (heard : Heard) → EventIsCutOff port cs old heard new u b → EventIsCutOff port cs old heard new (t ++ u) (joined_changes a b)
+    cut_then : (heard : HeardLine) → EventIsCutOff port cs old heard new u b → EventIsCutOff port cs old heard new (t ++ u) (joined_changes a b)
     cut_then heard second =
         let rest = second.told ++ take second.n second.own in
         record {
@@ -26,7 +26,7 @@ module _ (a b : Change) (same : a.new ≡ b.old) where
           front = subst (Appends a.old.output.written b.new.output.written) (sym (append_assoc t u rest)) (appends_then a b same t (u ++ rest) first second.front);
         }
 
-    broken_then : (heard : Heard) → IsBrokenOff port cs old heard new u b → IsBrokenOff port cs old heard new (t ++ u) (joined_changes a b)
+    broken_then : (heard : HeardLine) → IsBrokenOff port cs old heard new u b → IsBrokenOff port cs old heard new (t ++ u) (joined_changes a b)
     broken_then heard second = record {
       t = second.t;
       is = second.is;

@@ -3,7 +3,7 @@ ghost use Rattle.std.specs.Prelude.{◌≡◌, ◌<◌, IfSome, length};
 ghost use Rattle.tick_keeper.specs.History.{CoreTurn};
 ghost use Rattle.vault_exchange.specs.Requests.{ExchangeAsks, renewal_request};
 ghost use Rattle.vault_inventory.specs.Inventories.{credential_at};
-ghost use Rattle.tick_runs.specs.Agent.{AgentIsFit};
+ghost use Rattle.tick_runs.specs.KeeperAgent.{AgentIsFit};
 ghost use Rattle.tick_runs.specs.Closed.{shorts_taken};
 
 pub(crate) mod answering;
@@ -23,13 +23,13 @@ use vault_inventory::Credentials;
 
 /// A keeper with the credentials of its entries.
 #[derive(Debug, Drop)]
-pub struct Agent {
+pub struct KeeperAgent {
     keeper: Keeper,
     credentials: Credentials,
 }
 
-impl Model for Agent {
-    ghost use Rattle.tick_runs.specs.Agent.{AgentIsFit, RunAgent};
+impl Model for KeeperAgent {
+    ghost use Rattle.tick_runs.specs.KeeperAgent.{AgentIsFit, RunAgent};
 
     ghost Value = { RunAgent };
 
@@ -38,13 +38,13 @@ impl Model for Agent {
     ghost invariant = { λ a. AgentIsFit (record { keeper = a.keeper; credentials = a.credentials }) };
 }
 
-impl Agent {
+impl KeeperAgent {
     /// An agent that asks for the entries of this keeper, with a credential for each.
-    pub fn new(keeper: Keeper, credentials: Credentials) -> Agent
+    pub fn new(keeper: Keeper, credentials: Credentials) -> KeeperAgent
         requires { length credentials ≡ length keeper.forest.entries }
         ensures { result ≡ record { keeper = keeper; credentials = credentials } }
     {
-        Agent {
+        KeeperAgent {
             keeper,
             credentials,
         }

@@ -4,7 +4,7 @@
 //! The contracts for the program above are those of [`run_rehearse`], over a table in memory, and [`run_live`], over any
 //! exchange; both are made of one definition of an answer. The laws say what a rehearsal is where the broker has no faults,
 //! how any run goes on and ends, and that no secret changes what a live run says.
-//! Who asks is an [`Agent`]: the keeper with the credentials of its entries.
+//! Who asks is an [`KeeperAgent`]: the keeper with the credentials of its entries.
 //!
 //! There are three rooms: `agent` has who asks and what one answer comes to, `rehearse` the wake-ups and the FAULT words, and
 //! `live` the lookups and the event lines. Begin with `specs/Closed.antt` and `specs/Text.antt`, then `rehearse`. Of the live
@@ -17,7 +17,7 @@ pub mod laws;
 mod live;
 mod rehearse;
 
-pub use agent::Agent;
+pub use agent::KeeperAgent;
 pub use agent::reply::event_from;
 pub use live::hearing::hear;
 pub use live::listening::{MOST_EVENT_READS, MOST_EVENTS};

@@ -9,7 +9,7 @@ pub(crate) mod listening;
 mod looking;
 mod telling;
 
-use crate::agent::Agent;
+use crate::agent::KeeperAgent;
 use crate::agent::lines::push_short_lines;
 use crate::agent::refused::opened;
 use crate::live::listening::listen;
@@ -83,7 +83,7 @@ fn begin<E: Exchange, W: Sink>(
     start: Moment,
     exchange: &mut E,
     out: &mut W,
-) -> Result<Agent, Stop>
+) -> Result<KeeperAgent, Stop>
     requires { length always.now ≡ length inventory.forest.entries }
     ensures early { IfErr result (λ stop. EndsEarly (E.host_port exchange.old) start always.now (record { inventory = inventory; behind = E.behind exchange.old }) stop (⟦<W as Watched>⟧.change out.old out.new) (E.behind exchange.new)) }
     ensures opened { IfOk result (λ agent. RunIsOpened (E.host_port exchange.old) start always.now (record { inventory = inventory; behind = E.behind exchange.old }) agent.credentials agent.keeper (E.behind exchange.new) (⟦<W as Watched>⟧.change out.old out.new)) }
@@ -101,5 +101,5 @@ fn begin<E: Exchange, W: Sink>(
     let mut text = Vec::new(alloc);
     push_short_lines(alloc, keeper.forest(), short.list(), &mut text)?;
     send(out, &text)?;
-    Ok(Agent::new(keeper, credentials))
+    Ok(KeeperAgent::new(keeper, credentials))
 }

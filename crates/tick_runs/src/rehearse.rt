@@ -6,7 +6,7 @@ pub(crate) mod fault_words;
 pub(crate) mod playing;
 mod waking;
 
-use crate::agent::Agent;
+use crate::agent::KeeperAgent;
 use crate::agent::lines::push_short_lines;
 use crate::agent::refused::opened;
 use crate::rehearse::fault_words::set_faults;
@@ -82,6 +82,6 @@ fn rehearse<W: Sink>(
     let short = keeper.take_shortened();
     let mut lines = Vec::new(alloc);
     push_short_lines(alloc, keeper.forest(), short.list(), &mut lines)?;
-    let mut agent = Agent::new(keeper, credentials);
+    let mut agent = KeeperAgent::new(keeper, credentials);
     play(alloc, &mut agent, exchange, script.start.get(), &lines, out)
 }

@@ -3,11 +3,11 @@ use Rattle.std.proofs.Common.{◌≡◌, ◌≢◌, ◌∙◌, ℕ, ◌+◌, ◌
 use Rattle.std.proofs.lemmas.Bool.{cases_Bool, cond-false, cond-true, eqb-true}
 use Rattle.vault_inventory.specs.Inventories.{Inventory}
 use Rattle.vault_lanes.specs.declared.lanes.Answered as lanes
-use Rattle.watch_machine.specs.declared.command.Output.{Output}
+use Rattle.watch_machine.specs.declared.command.WatchOutput.{WatchOutput}
 use Rattle.watch_machine.specs.declared.event.Operation.{Operation}
 use Rattle.watch_machine.specs.declared.event.Operation.TheVariants.{Look, Renew}
-use Rattle.watch_machine.specs.declared.event.Reply.{Reply}
-use Rattle.watch_machine.specs.declared.event.Terms.{Terms}
+use Rattle.watch_machine.specs.declared.event.WatchReply.{WatchReply}
+use Rattle.watch_machine.specs.declared.event.WatchTerms.{WatchTerms}
 use Rattle.watch_machine.specs.declared.lanes.Out.{Out}
 use Rattle.watch_machine.specs.History.{Turn}
 use Rattle.watch_machine.specs.State.{WatchState}
@@ -32,7 +32,7 @@ some_out (r ∷ out) i some =
 
 -- ---- what is then out
 
-turned : (old new : WatchState) (operation : Operation) (i : ℕ) (reply : Reply) (terms : Terms) (output : Output) → Turn old (event_as operation i reply terms) (Ok output) new → MachineIsSound old → Answered old i new
+turned : (old new : WatchState) (operation : Operation) (i : ℕ) (reply : WatchReply) (terms : WatchTerms) (output : WatchOutput) → Turn old (event_as operation i reply terms) (Ok output) new → MachineIsSound old → Answered old i new
 turned old new Look i reply terms output turn sound = turn_looked old new i reply terms output turn sound
 turned old new Renew i reply terms output turn sound = turn_renewed old new i reply output turn sound
 

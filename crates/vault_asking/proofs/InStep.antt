@@ -6,9 +6,9 @@ use Rattle.vault_inventory.specs.Inventories.{Inventory}
 use Rattle.vault_lanes.specs.Out as lanes
 use Rattle.vault_lanes.specs.Out.{IsParted, OutIsPut}
 use Rattle.vault_lanes.specs.declared.lanes.Answered.{Answered}
-use Rattle.watch_machine.specs.declared.command.Output.{Output}
-use Rattle.watch_machine.specs.declared.command.Request.{Request}
-use Rattle.watch_machine.specs.declared.event.Event.TheVariants.{Clock, Looked, Renewed, Need, Begin, Known}
+use Rattle.watch_machine.specs.declared.command.WatchOutput.{WatchOutput}
+use Rattle.watch_machine.specs.declared.command.WatchRequest.{WatchRequest}
+use Rattle.watch_machine.specs.declared.event.WatchEvent.TheVariants.{Clock, Looked, Renewed, Need, Begin, Known}
 use Rattle.watch_machine.specs.declared.lanes.Out.{Out}
 use Rattle.watch_machine.specs.History.{Turn}
 use Rattle.watch_machine.specs.State.{WatchState, fresh_track}
@@ -41,11 +41,11 @@ put_count o old new h =
     omega (arith, after, before)
 
 -- all of some requests went out
-pub record AreSent (old : List lanes.Out) (requests : List Request) (new : List lanes.Out) : Type 0 where
+pub record AreSent (old : List lanes.Out) (requests : List WatchRequest) (new : List lanes.Out) : Type 0 where
   pub count : length new ≡ length old + length requests
   pub each : (i : ℕ) → times i (entries_on new) ≡ times i (entries_on old) + times i (entries_asked requests)
 
-pub sent_all : (port : ℕ) (s : Inventory) (m : WatchState) (t now : ℕ) (requests : List Request) (old new : Lanes) → GoOut port s m t now requests old new → AreSent old.out requests new.out
+pub sent_all : (port : ℕ) (s : Inventory) (m : WatchState) (t now : ℕ) (requests : List WatchRequest) (old new : Lanes) → GoOut port s m t now requests old new → AreSent old.out requests new.out
 sent_all port s m t now [] old new h = subst (λ (l : Lanes). AreSent old.out [] l.out) (sym h) (record { count = omega arith; each = λ i. omega arith })
 sent_all port s m t now (r ∷ rest) old new h =
     let mid = h.0 in
@@ -64,7 +64,7 @@ sent_all port s m t now (r ∷ rest) old new h =
     }
 
 -- as many lanes are free as the machine sends requests
-pub lanes_free : (old mid : WatchState) (requests : List Request) (width : ℕ) (out : List lanes.Out) → IsAbreast old width out → Gone old requests mid → length out + length requests ≤ width
+pub lanes_free : (old mid : WatchState) (requests : List WatchRequest) (width : ℕ) (out : List lanes.Out) → IsAbreast old width out → Gone old requests mid → length out + length requests ≤ width
 lanes_free old mid requests width out abreast gone =
     let w = abreast.width_is in
     let n = abreast.in_step.count in
@@ -72,7 +72,7 @@ lanes_free old mid requests width out abreast gone =
     let room = abreast.room in
     omega (arith, w, n, few, room)
 
-pub abreast_sent : (old mid : WatchState) (requests : List Request) (width : ℕ) (out new : List lanes.Out) → IsAbreast old width out → Gone old requests mid → AreSent out requests new → IsAbreast mid width new
+pub abreast_sent : (old mid : WatchState) (requests : List WatchRequest) (width : ℕ) (out new : List lanes.Out) → IsAbreast old width out → Gone old requests mid → AreSent out requests new → IsAbreast mid width new
 abreast_sent old mid requests width out new abreast gone sent =
     let n = abreast.in_step.count in
     let a = gone.count in
@@ -159,18 +159,18 @@ abreast_quiet old new width out abreast quiet = record {
   };
 }
 
-pub abreast_need : (old new : WatchState) (i until : ℕ) (output : Output) (width : ℕ) (out : List lanes.Out) → Turn old (Need i until) (Ok output) new → IsAbreast old width out → IsAbreast new width out
+pub abreast_need : (old new : WatchState) (i until : ℕ) (output : WatchOutput) (width : ℕ) (out : List lanes.Out) → Turn old (Need i until) (Ok output) new → IsAbreast old width out → IsAbreast new width out
 abreast_need old new i until output width out turn abreast = abreast_quiet old new width out abreast (turn_need old new i until output turn abreast.sound)
 
-pub abreast_begin : (old new : WatchState) (output : Output) (width : ℕ) (out : List lanes.Out) → Turn old Begin (Ok output) new → IsAbreast old width out → IsAbreast new width out
+pub abreast_begin : (old new : WatchState) (output : WatchOutput) (width : ℕ) (out : List lanes.Out) → Turn old Begin (Ok output) new → IsAbreast old width out → IsAbreast new width out
 abreast_begin old new output width out turn abreast = abreast_quiet old new width out abreast (turn_begin old new output turn abreast.sound)
 
-pub abreast_known : (old new : WatchState) (i end : ℕ) (renewable : Bool) (output : Output) (width : ℕ) (out : List lanes.Out) → Turn old (Known i end renewable) (Ok output) new → IsAbreast old width out → IsAbreast new width out
+pub abreast_known : (old new : WatchState) (i end : ℕ) (renewable : Bool) (output : WatchOutput) (width : ℕ) (out : List lanes.Out) → Turn old (Known i end renewable) (Ok output) new → IsAbreast old width out → IsAbreast new width out
 abreast_known old new i end renewable output width out turn abreast = abreast_quiet old new width out abreast (turn_known old new i end renewable output turn abreast.sound)
 
 -- one request more goes out after those before it
 pub gone_more :
-    (port : ℕ) (s : Inventory) (m : WatchState) (t now : ℕ) (requests : List Request) (r : Request) (old mid new : Lanes) → GoOut port s m t now requests old mid → GoesOut port s m t now r mid new → GoOut port s m t now (requests ++ r ∷ []) old new
+    (port : ℕ) (s : Inventory) (m : WatchState) (t now : ℕ) (requests : List WatchRequest) (r : WatchRequest) (old mid new : Lanes) → GoOut port s m t now requests old mid → GoesOut port s m t now r mid new → GoOut port s m t now (requests ++ r ∷ []) old new
 gone_more port s m t now [] r old mid new h one = (new, (subst (λ (l : Lanes). GoesOut port s m t now r l new) h one, refl))
 gone_more port s m t now (q ∷ rest) r old mid new h one = (h.0, (h.1.0, gone_more port s m t now rest r h.0 mid new h.1.1 one))
 

@@ -7,15 +7,15 @@ use Rattle.std.proofs.lemmas.List.Sorted.{sum_by-IsPermutation}
 use Rattle.std.proofs.lemmas.List.Sums.{sum_by-cons}
 use Rattle.plan_forest.specs.declared.entry.Entry.{Entry}
 use Rattle.watch_machine.specs.declared.clocks.Clocks.{Clocks}
-use Rattle.watch_machine.specs.declared.command.Command.{Command}
-use Rattle.watch_machine.specs.declared.command.Command.TheVariants.{Go, Taken}
-use Rattle.watch_machine.specs.declared.command.Output.{Output}
-use Rattle.watch_machine.specs.declared.command.Request.{Request}
-use Rattle.watch_machine.specs.declared.event.Event.{Event}
-use Rattle.watch_machine.specs.declared.event.Event.TheVariants.{Clock, Looked, Renewed, Need, Begin, Known}
+use Rattle.watch_machine.specs.declared.command.WatchCommand.{WatchCommand}
+use Rattle.watch_machine.specs.declared.command.WatchCommand.TheVariants.{Go, Taken}
+use Rattle.watch_machine.specs.declared.command.WatchOutput.{WatchOutput}
+use Rattle.watch_machine.specs.declared.command.WatchRequest.{WatchRequest}
+use Rattle.watch_machine.specs.declared.event.WatchEvent.{WatchEvent}
+use Rattle.watch_machine.specs.declared.event.WatchEvent.TheVariants.{Clock, Looked, Renewed, Need, Begin, Known}
 use Rattle.watch_machine.specs.declared.event.Operation.TheVariants.{Look, Renew}
-use Rattle.watch_machine.specs.declared.event.Reply.{Reply}
-use Rattle.watch_machine.specs.declared.event.Terms.{Terms}
+use Rattle.watch_machine.specs.declared.event.WatchReply.{WatchReply}
+use Rattle.watch_machine.specs.declared.event.WatchTerms.{WatchTerms}
 use Rattle.watch_machine.specs.declared.lanes.Out.{Out}
 use Rattle.watch_machine.specs.declared.lanes.Presence.{Presence}
 use Rattle.watch_machine.specs.declared.track.Track.{Track}
@@ -178,7 +178,7 @@ line_once g p at xs a b one two =
     order_once a b one.in_order two.in_order
     (λ q. sum_by-IsPermutation (λ k. cond (same_place q k) 1 0) (due g p at xs) b two.all ∙ sym (sum_by-IsPermutation (λ k. cond (same_place q k) 1 0) (due g p at xs) a one.all))
 
-going_once : (g : Forest) (p : Presence) (at : ℕ) (xs : List Track) (lanes : ℕ) (a b : List Request) → IsGoing g p at xs lanes a → IsGoing g p at xs lanes b → b ≡ a
+going_once : (g : Forest) (p : Presence) (at : ℕ) (xs : List Track) (lanes : ℕ) (a b : List WatchRequest) → IsGoing g p at xs lanes a → IsGoing g p at xs lanes b → b ≡ a
 going_once g p at xs lanes a b one two =
     let line = line_once g p at xs one.is_picked.0 two.is_picked.0 one.is_picked.1.0 two.is_picked.1.0 in
     let picked : two.picked ≡ one.picked = two.is_picked.1.1 ∙ ap (take lanes) line ∙ sym one.is_picked.1.1 in
@@ -186,7 +186,7 @@ going_once g p at xs lanes a b one two =
 
 -- ---- what is commanded, and the round that opens
 
-command_once : (mid x y : WatchState) (c d : Command) → StepCommand mid c x → StepCommand mid d y → (d ≡ c) × (y ≡ x)
+command_once : (mid x y : WatchState) (c d : WatchCommand) → StepCommand mid c x → StepCommand mid d y → (d ≡ c) × (y ≡ x)
 command_once mid x y (Go rs until) (Go qs other) a b =
     let requests : qs ≡ rs = going_once mid.forest mid.presence mid.clocks.at mid.tracks (mid.width - length mid.out) rs qs a.0.0 b.0.0 in
     let state : y ≡ x = b.0.1 ∙ ap (sent mid) requests ∙ sym a.0.1 in
@@ -219,29 +219,29 @@ round_once g xs c (Some asked) (Some other) x y =
 
 -- ---- a turn
 
-output_of : (a b : Output) → b.command ≡ a.command → b.notes ≡ a.notes → b ≡ a
+output_of : (a b : WatchOutput) → b.command ≡ a.command → b.notes ≡ a.notes → b ≡ a
 output_of a b command notes = ap₂ (λ c n. record { command = c; notes = n }) command notes
 
-clock_once : (old x y : WatchState) (wall elapsed : ℕ) (a b : Output) → StepClock old wall elapsed a x → StepClock old wall elapsed b y → (b ≡ a) × (y ≡ x)
+clock_once : (old x y : WatchState) (wall elapsed : ℕ) (a b : WatchOutput) → StepClock old wall elapsed a x → StepClock old wall elapsed b y → (b ≡ a) × (y ≡ x)
 clock_once old x y wall elapsed a b one two =
     let ready = readied old wall elapsed in
     let round = round_once ready.forest ready.tracks ready.clocks one.round two.round one.is_round two.is_round in
     let done = command_once (pressed ready (asked_by_round one.round)) x y a.command b.command one.command (subst (λ r. StepCommand (pressed ready (asked_by_round r)) b.command y) round two.command) in
     (output_of a b done.0 (two.notes ∙ ap (λ r. record nothing_noted { began = why old wall elapsed; round = r }) round ∙ sym one.notes), done.1)
 
-looked_once : (old x y : WatchState) (found : Option Out) (reply : Reply) (terms : Terms) (a b : Output) → StepLooked old found reply terms a x → StepLooked old found reply terms b y → (b ≡ a) × (y ≡ x)
+looked_once : (old x y : WatchState) (found : Option Out) (reply : WatchReply) (terms : WatchTerms) (a b : WatchOutput) → StepLooked old found reply terms a x → StepLooked old found reply terms b y → (b ≡ a) × (y ≡ x)
 looked_once old x y None reply terms a b one two = absurd one
 looked_once old x y (Some r) reply terms a b one two = (two.0 ∙ sym one.0, two.1 ∙ sym one.1)
 
-renewed_once : (old x y : WatchState) (found : Option Out) (reply : Reply) (a b : Output) → StepRenewed old found reply a x → StepRenewed old found reply b y → (b ≡ a) × (y ≡ x)
+renewed_once : (old x y : WatchState) (found : Option Out) (reply : WatchReply) (a b : WatchOutput) → StepRenewed old found reply a x → StepRenewed old found reply b y → (b ≡ a) × (y ≡ x)
 renewed_once old x y None reply a b one two = absurd one
 renewed_once old x y (Some r) reply a b one two = (two.0 ∙ sym one.0, two.1 ∙ sym one.1)
 
-step_once : (old x y : WatchState) (event : Event) (a b : Output) → Step old event a x → Step old event b y → (b ≡ a) × (y ≡ x)
+step_once : (old x y : WatchState) (event : WatchEvent) (a b : WatchOutput) → Step old event a x → Step old event b y → (b ≡ a) × (y ≡ x)
 step_once old x y (Clock wall elapsed) a b one two = clock_once old x y wall elapsed a b one two
 step_once old x y (Looked i reply terms) a b one two = looked_once old x y (request_out old.out i Look) reply terms a b one two
 step_once old x y (Renewed i reply) a b one two = renewed_once old x y (request_out old.out i Renew) reply a b one two
 step_once old x y _ a b one two = (two.0 ∙ sym one.0, two.1 ∙ sym one.1)
 
-pub turn_once : (old x y : WatchState) (event : Event) (a b : Output) → Turn old event (Ok a) x → Turn old event (Ok b) y → (b ≡ a) × (y ≡ x)
+pub turn_once : (old x y : WatchState) (event : WatchEvent) (a b : WatchOutput) → Turn old event (Ok a) x → Turn old event (Ok b) y → (b ≡ a) × (y ≡ x)
 turn_once old x y event a b one two = step_once old x y event a b one.1 two.1

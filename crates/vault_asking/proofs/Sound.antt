@@ -11,21 +11,21 @@ use Rattle.std.specs.List.{list_any, range_with_len}
 use Rattle.std.specs.Prelude.{slice_set}
 use Rattle.plan_forest.specs.declared.entry.Entry.{Entry}
 use Rattle.plan_forest.specs.Forest.{Forest, entry_at}
-use Rattle.watch_machine.specs.declared.command.Command.{Command}
-use Rattle.watch_machine.specs.declared.command.Command.TheVariants.{Go, Taken}
-use Rattle.watch_machine.specs.declared.command.Output.{Output}
-use Rattle.watch_machine.specs.declared.command.Request.{Request}
-use Rattle.watch_machine.specs.declared.event.Event.{Event}
-use Rattle.watch_machine.specs.declared.event.Event.TheVariants.{Clock, Looked, Renewed, Need, Begin, Known}
+use Rattle.watch_machine.specs.declared.command.WatchCommand.{WatchCommand}
+use Rattle.watch_machine.specs.declared.command.WatchCommand.TheVariants.{Go, Taken}
+use Rattle.watch_machine.specs.declared.command.WatchOutput.{WatchOutput}
+use Rattle.watch_machine.specs.declared.command.WatchRequest.{WatchRequest}
+use Rattle.watch_machine.specs.declared.event.WatchEvent.{WatchEvent}
+use Rattle.watch_machine.specs.declared.event.WatchEvent.TheVariants.{Clock, Looked, Renewed, Need, Begin, Known}
 use Rattle.watch_machine.specs.declared.event.Operation.TheVariants.{Look, Renew}
-use Rattle.watch_machine.specs.declared.event.Reply.{Reply}
-use Rattle.watch_machine.specs.declared.event.Reply.TheVariants.{Told, Refused, Busy, Lost}
-use Rattle.watch_machine.specs.declared.event.Terms.{Terms}
+use Rattle.watch_machine.specs.declared.event.WatchReply.{WatchReply}
+use Rattle.watch_machine.specs.declared.event.WatchReply.TheVariants.{Told, Refused, Busy, Lost}
+use Rattle.watch_machine.specs.declared.event.WatchTerms.{WatchTerms}
 use Rattle.watch_machine.specs.declared.fault.WatchFault.{WatchFault}
 use Rattle.watch_machine.specs.declared.fault.WatchFault.TheVariants.{NotAsked, BadIndex, OutOfMemory}
 use Rattle.watch_machine.specs.declared.lanes.Out.{Out}
 use Rattle.watch_machine.specs.declared.lanes.Presence.{Presence}
-use Rattle.watch_machine.specs.declared.notes.Why.{Why}
+use Rattle.watch_machine.specs.declared.notes.BeginReason.{BeginReason}
 use Rattle.watch_machine.specs.declared.track.Track.{Track}
 use Rattle.watch_machine.specs.declared.track.Try.{Try}
 use Rattle.watch_machine.specs.Answers.{answers_all, back_track, heard, lane_freed, noted, replied, silent, without_request}
@@ -146,21 +146,21 @@ entry_by : (p : Presence) (now : ℕ) (xs : List Track) (i : ℕ) (o : Option Tr
 entry_by p now xs i None = refl
 entry_by p now xs i (Some t) = refl
 
-entries_by : (p : Presence) (now : ℕ) (xs : List Track) (qs : List Place) → map (λ (r : Request). r.entry) (map (request p now xs) qs) ≡ map (λ (q : Place). q.entry) qs
+entries_by : (p : Presence) (now : ℕ) (xs : List Track) (qs : List Place) → map (λ (r : WatchRequest). r.entry) (map (request p now xs) qs) ≡ map (λ (q : Place). q.entry) qs
 unfolding request
 entries_by p now xs [] = refl
 entries_by p now xs (q ∷ qs) =
-    ap (λ n. n ∷ map (λ (r : Request). r.entry) (map (request p now xs) qs)) (entry_by p now xs q.entry (track_in xs q.entry).attempt) ∙ ap (λ ns. q.entry ∷ ns) (entries_by p now xs qs)
+    ap (λ n. n ∷ map (λ (r : WatchRequest). r.entry) (map (request p now xs) qs)) (entry_by p now xs q.entry (track_in xs q.entry).attempt) ∙ ap (λ ns. q.entry ∷ ns) (entries_by p now xs qs)
 
-abbrev pub entries_asked : List Request → List ℕ
-entries_asked requests = map (λ (r : Request). r.entry) requests
+abbrev pub entries_asked : List WatchRequest → List ℕ
+entries_asked requests = map (λ (r : WatchRequest). r.entry) requests
 
-pub record Goes (p : Presence) (at : ℕ) (xs : List Track) (lanes : ℕ) (requests : List Request) : Type 0 where
+pub record Goes (p : Presence) (at : ℕ) (xs : List Track) (lanes : ℕ) (requests : List WatchRequest) : Type 0 where
   pub due : All (λ i. (i < length xs) × (is_due p at (track_in xs i) ≡ true)) (entries_asked requests)
   pub once : (i : ℕ) → times i (entries_asked requests) ≤ 1
   pub few : length requests ≤ lanes
 
-goes : (g : Forest) (p : Presence) (at : ℕ) (xs : List Track) (lanes : ℕ) (requests : List Request) → IsGoing g p at xs lanes requests → Goes p at xs lanes requests
+goes : (g : Forest) (p : Presence) (at : ℕ) (xs : List Track) (lanes : ℕ) (requests : List WatchRequest) → IsGoing g p at xs lanes requests → Goes p at xs lanes requests
 goes g p at xs lanes requests h =
     let test : ℕ → Bool = λ i. is_due p at (track_in xs i) in
     let n = length xs in
@@ -186,7 +186,7 @@ goes g p at xs lanes requests h =
       few =
           let there = ap length front in
           let most = length-take lanes named in
-          let many = length-map requests (λ (r : Request). r.entry) in
+          let many = length-map requests (λ (r : WatchRequest). r.entry) in
           omega (arith, there, most, many);
     }
 
@@ -242,7 +242,7 @@ back_flag : (x : Track) → Flag (back_track x) x
 unfolding back_track
 back_flag x = refl
 
-begun_flag : (s : WatchState) (w : Option Why) (i : ℕ) → Flag (track_at (begun s w) i) (track_at s i)
+begun_flag : (s : WatchState) (w : Option BeginReason) (i : ℕ) → Flag (track_at (begun s w) i) (track_at s i)
 begun_flag s None i = refl
 begun_flag s (Some w) i =
     let xs = untopped s.tracks in
@@ -264,7 +264,7 @@ mid_flag s wall elapsed round i =
 
 -- ---- the rest of a state before requests go out
 
-begun_count : (s : WatchState) (w : Option Why) → length (begun s w).tracks ≡ length s.tracks
+begun_count : (s : WatchState) (w : Option BeginReason) → length (begun s w).tracks ≡ length s.tracks
 begun_count s None = refl
 begun_count s (Some w) =
     let xs = untopped s.tracks in
@@ -285,7 +285,7 @@ mid_count s wall elapsed round =
 abbrev Left : WatchState → WatchState → Type 0
 Left new old = (new.out ≡ old.out) × ((new.width ≡ old.width) × (new.forest ≡ old.forest))
 
-begun_left : (s : WatchState) (w : Option Why) → Left (begun s w) s
+begun_left : (s : WatchState) (w : Option BeginReason) → Left (begun s w) s
 begun_left s None = (refl, (refl, refl))
 begun_left s (Some w) = (refl, (refl, refl))
 
@@ -296,28 +296,28 @@ readied_left s wall elapsed = begun_left (settled (timed s wall elapsed)) (why s
 -- ---- a clock
 
 -- what the requests of a clock make of what is out
-pub record Gone (old : WatchState) (requests : List Request) (new : WatchState) : Type 0 where
+pub record Gone (old : WatchState) (requests : List WatchRequest) (new : WatchState) : Type 0 where
   pub entries : entries_out new ≡ entries_out old ++ entries_asked requests
   pub count : length new.out ≡ length old.out + length requests
   pub few : length requests ≤ old.width - length old.out
-  pub within : All (λ (r : Request). r.entry < length new.forest.entries) requests
+  pub within : All (λ (r : WatchRequest). r.entry < length new.forest.entries) requests
   pub width : new.width ≡ old.width
   pub sound : MachineIsSound new
 
-entries_more : (at : ℕ) (out : List Out) (requests : List Request) → map (λ (r : Out). r.entry) (out ++ map (out_at at) requests) ≡ map (λ (r : Out). r.entry) out ++ entries_asked requests
+entries_more : (at : ℕ) (out : List Out) (requests : List WatchRequest) → map (λ (r : Out). r.entry) (out ++ map (out_at at) requests) ≡ map (λ (r : Out). r.entry) out ++ entries_asked requests
 entries_more at [] [] = refl
 entries_more at [] (r ∷ requests) = ap (λ ns. r.entry ∷ ns) (entries_more at [] requests)
 entries_more at (r ∷ out) requests = ap (λ ns. r.entry ∷ ns) (entries_more at out requests)
 
 -- an entry that goes out is named, and one that does not is not
-is_named : (i : ℕ) (requests : List Request) → times i (entries_asked requests) ≢ 0 → list_any (λ (r : Request). r.entry == i) requests ≡ true
+is_named : (i : ℕ) (requests : List WatchRequest) → times i (entries_asked requests) ≢ 0 → list_any (λ (r : WatchRequest). r.entry == i) requests ≡ true
 is_named i [] some = absurd (some refl)
 is_named i (r ∷ requests) some =
     elim (cases_Bool (r.entry == i)) [
-      | inl same ↦ ap (λ b. b || list_any (λ (q : Request). q.entry == i) requests) same
+      | inl same ↦ ap (λ b. b || list_any (λ (q : WatchRequest). q.entry == i) requests) same
       | inr other ↦
           let more = skips i r.entry (entries_asked requests) other in
-          ap (λ b. b || list_any (λ (q : Request). q.entry == i) requests) other ∙ is_named i requests (λ none. some (more ∙ none))
+          ap (λ b. b || list_any (λ (q : WatchRequest). q.entry == i) requests) other ∙ is_named i requests (λ none. some (more ∙ none))
     ]
 
 not_so : (b : Bool) → not b ≡ true → b ≡ false
@@ -338,15 +338,15 @@ among P i (j ∷ js) all some =
     ]
 
 -- the mark of an entry that goes out, and of any other
-sent_mark : (s : WatchState) (requests : List Request) (i : ℕ) → (track_at s i).out ≡ true → i < length s.tracks → (track_at (sent s requests) i).out ≡ true
+sent_mark : (s : WatchState) (requests : List WatchRequest) (i : ℕ) → (track_at s i).out ≡ true → i < length s.tracks → (track_at (sent s requests) i).out ≡ true
 sent_mark s requests i marked within =
     ap (λ (x : Track). x.out) (each_read (sent_in s.clocks.at requests) s.tracks i within)
-    ∙ if_both (λ (x : Track). x.out ≡ true) (list_any (λ (r : Request). r.entry == i) requests) (sent_track s.clocks.at (track_at s i)) (track_at s i) refl marked
+    ∙ if_both (λ (x : Track). x.out ≡ true) (list_any (λ (r : WatchRequest). r.entry == i) requests) (sent_track s.clocks.at (track_at s i)) (track_at s i) refl marked
 
-went_mark : (s : WatchState) (requests : List Request) (i : ℕ) → list_any (λ (r : Request). r.entry == i) requests ≡ true → i < length s.tracks → (track_at (sent s requests) i).out ≡ true
+went_mark : (s : WatchState) (requests : List WatchRequest) (i : ℕ) → list_any (λ (r : WatchRequest). r.entry == i) requests ≡ true → i < length s.tracks → (track_at (sent s requests) i).out ≡ true
 went_mark s requests i named within =
     ap (λ (x : Track). x.out)
-    (each_read (sent_in s.clocks.at requests) s.tracks i within ∙ cond-true (list_any (λ (r : Request). r.entry == i) requests) (sent_track s.clocks.at (track_at s i)) (track_at s i) named)
+    (each_read (sent_in s.clocks.at requests) s.tracks i within ∙ cond-true (list_any (λ (r : WatchRequest). r.entry == i) requests) (sent_track s.clocks.at (track_at s i)) (track_at s i) named)
 
 -- an entry whose track says that a request of it is out is one
 marked_within : (xs : List Track) (i : ℕ) → (track_in xs i).out ≡ true → i < length xs
@@ -356,7 +356,7 @@ marked_within xs i marked =
       | inr past ↦ absurd (let e : false ≡ true = sym (ap (λ (x : Track). x.out) (get_or_past xs i no_track past)) ∙ marked in cc)
     ]
 
-sent_once : (s : WatchState) (requests : List Request) (i : ℕ) → Goes s.presence s.clocks.at s.tracks (s.width - length s.out) requests → times i (entries_out s) ≤ (if (track_at s i).out then 1 else 0) →
+sent_once : (s : WatchState) (requests : List WatchRequest) (i : ℕ) → Goes s.presence s.clocks.at s.tracks (s.width - length s.out) requests → times i (entries_out s) ≤ (if (track_at s i).out then 1 else 0) →
     times i (entries_out s ++ entries_asked requests) ≤ (if (track_at (sent s requests) i).out then 1 else 0)
 sent_once s requests i h once =
     let new = sent s requests in
@@ -382,7 +382,7 @@ sent_once s requests i h once =
     ]
 
 -- nothing goes out under an index past the last entry
-none_past : (s : WatchState) (requests : List Request) (i : ℕ) → Goes s.presence s.clocks.at s.tracks (s.width - length s.out) requests → length s.tracks ≤ i → times i (entries_asked requests) ≡ 0
+none_past : (s : WatchState) (requests : List WatchRequest) (i : ℕ) → Goes s.presence s.clocks.at s.tracks (s.width - length s.out) requests → length s.tracks ≤ i → times i (entries_asked requests) ≡ 0
 none_past s requests i h past = elim (cases_lt 0 (times i (entries_asked requests))) [
   | inl some ↦
       let named = among (λ j. (j < length s.tracks) × (is_due s.presence s.clocks.at (track_in s.tracks j) ≡ true)) i (entries_asked requests) h.due (λ none. omega (arith, some, none)) in
@@ -392,7 +392,7 @@ none_past s requests i h past = elim (cases_lt 0 (times i (entries_asked request
 ]
 
 sent_seats :
-    (s : WatchState) (requests : List Request) (i : ℕ) → length s.tracks ≡ length s.forest.entries → Goes s.presence s.clocks.at s.tracks (s.width - length s.out) requests →
+    (s : WatchState) (requests : List WatchRequest) (i : ℕ) → length s.tracks ≡ length s.forest.entries → Goes s.presence s.clocks.at s.tracks (s.width - length s.out) requests →
     times i (entries_out s) ≤ seats_of s i → times i (entries_out s ++ entries_asked requests) ≤ seats_of (sent s requests) i
 sent_seats s requests i count h once =
     elim (cases_lt i (length s.forest.entries)) as (λ _. times i (entries_out s ++ entries_asked requests) ≤ seats_of (sent s requests) i) [
@@ -407,7 +407,7 @@ sent_seats s requests i count h once =
           omega (arith, all, before, after, none, once)
     ]
 
-sent_gone : (s : WatchState) (requests : List Request) → MachineIsSound s → Goes s.presence s.clocks.at s.tracks (s.width - length s.out) requests → Gone s requests (sent s requests)
+sent_gone : (s : WatchState) (requests : List WatchRequest) → MachineIsSound s → Goes s.presence s.clocks.at s.tracks (s.width - length s.out) requests → Gone s requests (sent s requests)
 sent_gone s requests sound h =
     let new = sent s requests in
     let entries = entries_more s.clocks.at s.out requests in
@@ -417,9 +417,9 @@ sent_gone s requests sound h =
       few = h.few;
       within = λ k d below.
           let n = sound.count in
-          let many = length-map requests (λ (r : Request). r.entry) in
+          let many = length-map requests (λ (r : WatchRequest). r.entry) in
           let here = h.due k d.entry (omega (arith, below, many)) in
-          subst (λ m. m < length s.forest.entries) (get_or-map (λ (r : Request). r.entry) requests k d d.entry below) (omega (arith, n, here.0));
+          subst (λ m. m < length s.forest.entries) (get_or-map (λ (r : WatchRequest). r.entry) requests k d d.entry below) (omega (arith, n, here.0));
       width = refl;
       sound = record {
         count = each_length (sent_in s.clocks.at requests) s.tracks ∙ sound.count;
@@ -427,7 +427,7 @@ sent_gone s requests sound h =
       };
     }
 
-clock_gone : (old new : WatchState) (wall elapsed : ℕ) (output : Output) (requests : List Request) (until : ℕ) → StepClock old wall elapsed output new → output.command ≡ Go requests until → MachineIsSound old → Gone old requests new
+clock_gone : (old new : WatchState) (wall elapsed : ℕ) (output : WatchOutput) (requests : List WatchRequest) (until : ℕ) → StepClock old wall elapsed output new → output.command ≡ Go requests until → MachineIsSound old → Gone old requests new
 clock_gone old new wall elapsed output requests until step is sound =
     let round = round_of step.round in
     let mid = pressed (readied old wall elapsed) round in
@@ -451,7 +451,7 @@ clock_gone old new wall elapsed output requests until step is sound =
       sound = at.sound;
     }
 
-pub turn_gone : (old new : WatchState) (wall elapsed : ℕ) (output : Output) (requests : List Request) (until : ℕ) → Turn old (Clock wall elapsed) (Ok output) new → output.command ≡ Go requests until → MachineIsSound old → Gone old requests new
+pub turn_gone : (old new : WatchState) (wall elapsed : ℕ) (output : WatchOutput) (requests : List WatchRequest) (until : ℕ) → Turn old (Clock wall elapsed) (Ok output) new → output.command ≡ Go requests until → MachineIsSound old → Gone old requests new
 turn_gone old new wall elapsed output requests until turn is sound = clock_gone old new wall elapsed output requests until turn.1 is sound
 
 -- ---- an answer
@@ -500,7 +500,7 @@ heard_entries : (out : List Out) → SameEntries (map heard out) out
 heard_entries [] = (refl, refl)
 heard_entries (r ∷ out) = let rest = heard_entries out in (ap (λ ns. r.entry ∷ ns) rest.0, ap suc rest.1)
 
-replied_out : (s : WatchState) (r : Out) (reply : Reply) → SameEntries (replied s r reply).out (without_request r.entry s.out)
+replied_out : (s : WatchState) (r : Out) (reply : WatchReply) → SameEntries (replied s r reply).out (without_request r.entry s.out)
 replied_out s r reply =
     let free = lane_freed s r in
     let P : WatchState → Type 0 = λ t. SameEntries t.out (without_request r.entry s.out) in
@@ -513,7 +513,7 @@ replied_out s r reply =
 abbrev pub IsKeptBy : WatchState → WatchState → Type 0
 IsKeptBy new old = (new.width ≡ old.width) × ((length new.tracks ≡ length old.tracks) × (length new.forest.entries ≡ length old.forest.entries))
 
-replied_kept : (s : WatchState) (r : Out) (reply : Reply) → IsKeptBy (replied s r reply) s
+replied_kept : (s : WatchState) (r : Out) (reply : WatchReply) → IsKeptBy (replied s r reply) s
 replied_kept s r reply =
     let free = lane_freed s r in
     let P : WatchState → Type 0 = λ t. IsKeptBy t s in
@@ -521,7 +521,7 @@ replied_kept s r reply =
     (if_both P s.presence.away _ _ (refl, (each_length (λ j. back_track) s.tracks, refl)) (refl, (refl, refl)))
     (if_both P r.heard free (silent free) (refl, (refl, refl)) (if_both P s.presence.away _ _ (refl, (refl, refl)) (refl, (refl, refl))))
 
-replied_flag : (s : WatchState) (r : Out) (reply : Reply) (i : ℕ) → Flag (track_at (replied s r reply) i) (track_at s i)
+replied_flag : (s : WatchState) (r : Out) (reply : WatchReply) (i : ℕ) → Flag (track_at (replied s r reply) i) (track_at s i)
 replied_flag s r reply i =
     let free = lane_freed s r in
     let P : WatchState → Type 0 = λ t. Flag (track_at t i) (track_at s i) in
@@ -537,7 +537,7 @@ pub record Answered (old : WatchState) (j : ℕ) (new : WatchState) : Type 0 whe
   pub count : length new.out + times j (entries_out old) ≡ length old.out
   pub sound : MachineIsSound new
 
-answered : (old mid new : WatchState) (q : Out) (reply : Reply) → new ≡ replied mid q reply → mid.out ≡ old.out → IsKeptBy mid old → ((i : ℕ) → (q.entry == i) ≡ false → track_at mid i ≡ track_at old i) → MachineIsSound old → Answered old q.entry new
+answered : (old mid new : WatchState) (q : Out) (reply : WatchReply) → new ≡ replied mid q reply → mid.out ≡ old.out → IsKeptBy mid old → ((i : ℕ) → (q.entry == i) ≡ false → track_at mid i ≡ track_at old i) → MachineIsSound old → Answered old q.entry new
 answered old mid new q reply is out kept others sound =
     let left = replied_out mid q reply in
     let entries : entries_out new ≡ map (λ (r : Out). r.entry) (without_request q.entry old.out) =
@@ -568,37 +568,37 @@ answered old mid new q reply is out kept others sound =
 apart : (i j : ℕ) → (j == i) ≡ false → (i ≡ j → ⊥)
 apart i j other same = let both : false ≡ true = sym other ∙ ap (λ n. j == n) same ∙ same_index j in cc
 
-looked_other : (s : WatchState) (q : Out) (reply : Reply) (terms : Terms) (i : ℕ) → (i ≡ q.entry → ⊥) → track_at (looked s q reply terms) i ≡ track_at s i
+looked_other : (s : WatchState) (q : Out) (reply : WatchReply) (terms : WatchTerms) (i : ℕ) → (i ≡ q.entry → ⊥) → track_at (looked s q reply terms) i ≡ track_at s i
 looked_other s q (Told seconds renewable date) terms i other =
     get_or-set_other (told_state s q.entry q.since seconds renewable terms).tracks q.entry i _ no_track other ∙ get_or-set_other s.tracks q.entry i _ no_track other
 looked_other s q _ terms i other = get_or-set_other s.tracks q.entry i _ no_track other
 
-pub looked_out : (s : WatchState) (q : Out) (reply : Reply) (terms : Terms) → (looked s q reply terms).out ≡ s.out
+pub looked_out : (s : WatchState) (q : Out) (reply : WatchReply) (terms : WatchTerms) → (looked s q reply terms).out ≡ s.out
 looked_out s q (Told seconds renewable date) terms = refl
 looked_out s q _ terms = refl
 
-looked_kept : (s : WatchState) (q : Out) (reply : Reply) (terms : Terms) → IsKeptBy (looked s q reply terms) s
+looked_kept : (s : WatchState) (q : Out) (reply : WatchReply) (terms : WatchTerms) → IsKeptBy (looked s q reply terms) s
 looked_kept s q (Told seconds renewable date) terms = (refl, (length-set _ q.entry _ ∙ length-set s.tracks q.entry _, length-set s.forest.entries q.entry _))
 looked_kept s q _ terms = (refl, (length-set s.tracks q.entry _, refl))
 
-looked_answered : (old new : WatchState) (j : ℕ) (found : Option Out) (reply : Reply) (terms : Terms) (output : Output) → request_out old.out j Look ≡ found → StepLooked old found reply terms output new → MachineIsSound old → Answered old j new
+looked_answered : (old new : WatchState) (j : ℕ) (found : Option Out) (reply : WatchReply) (terms : WatchTerms) (output : WatchOutput) → request_out old.out j Look ≡ found → StepLooked old found reply terms output new → MachineIsSound old → Answered old j new
 looked_answered old new j None reply terms output is step sound = absurd step
 looked_answered old new j (Some q) reply terms output is step sound =
     let s = noted old q reply in
     subst (λ k. Answered old k new) (out_entry old.out j Look q is)
     (answered old (looked s q reply terms) new q reply step.1 (looked_out s q reply terms) (looked_kept s q reply terms) (λ i other. looked_other s q reply terms i (apart i q.entry other)) sound)
 
-renewed_answered : (old new : WatchState) (j : ℕ) (found : Option Out) (reply : Reply) (output : Output) → request_out old.out j Renew ≡ found → StepRenewed old found reply output new → MachineIsSound old → Answered old j new
+renewed_answered : (old new : WatchState) (j : ℕ) (found : Option Out) (reply : WatchReply) (output : WatchOutput) → request_out old.out j Renew ≡ found → StepRenewed old found reply output new → MachineIsSound old → Answered old j new
 renewed_answered old new j None reply output is step sound = absurd step
 renewed_answered old new j (Some q) reply output is step sound =
     let s = noted old q reply in
     subst (λ k. Answered old k new) (out_entry old.out j Renew q is)
     (answered old (state_renewed s q reply) new q reply step.1 refl (refl, (length-set s.tracks q.entry _, refl)) (λ i other. get_or-set_other s.tracks q.entry i _ no_track (apart i q.entry other)) sound)
 
-pub turn_looked : (old new : WatchState) (j : ℕ) (reply : Reply) (terms : Terms) (output : Output) → Turn old (Looked j reply terms) (Ok output) new → MachineIsSound old → Answered old j new
+pub turn_looked : (old new : WatchState) (j : ℕ) (reply : WatchReply) (terms : WatchTerms) (output : WatchOutput) → Turn old (Looked j reply terms) (Ok output) new → MachineIsSound old → Answered old j new
 turn_looked old new j reply terms output turn sound = looked_answered old new j (request_out old.out j Look) reply terms output refl turn.1 sound
 
-pub turn_renewed : (old new : WatchState) (j : ℕ) (reply : Reply) (output : Output) → Turn old (Renewed j reply) (Ok output) new → MachineIsSound old → Answered old j new
+pub turn_renewed : (old new : WatchState) (j : ℕ) (reply : WatchReply) (output : WatchOutput) → Turn old (Renewed j reply) (Ok output) new → MachineIsSound old → Answered old j new
 turn_renewed old new j reply output turn sound = renewed_answered old new j (request_out old.out j Renew) reply output refl turn.1 sound
 
 -- ---- the other events
@@ -609,7 +609,7 @@ pub record IsQuiet (old new : WatchState) : Type 0 where
   pub width : new.width ≡ old.width
   pub sound : MachineIsSound new
 
-pub turn_need : (old new : WatchState) (i until : ℕ) (output : Output) → Turn old (Need i until) (Ok output) new → MachineIsSound old → IsQuiet old new
+pub turn_need : (old new : WatchState) (i until : ℕ) (output : WatchOutput) → Turn old (Need i until) (Ok output) new → MachineIsSound old → IsQuiet old new
 turn_need old new i until output turn sound =
     subst (IsQuiet old) (sym turn.1.1)
     (record {
@@ -621,7 +621,7 @@ turn_need old new i until output turn sound =
       };
     })
 
-pub turn_begin : (old new : WatchState) (output : Output) → Turn old Begin (Ok output) new → MachineIsSound old → IsQuiet old new
+pub turn_begin : (old new : WatchState) (output : WatchOutput) → Turn old Begin (Ok output) new → MachineIsSound old → IsQuiet old new
 turn_begin old new output turn sound = subst (IsQuiet old) (sym turn.1.1) (record { out = refl; width = refl; sound = record { count = sound.count; once = sound.once } })
 
 known_flag : (old : WatchState) (i end : ℕ) (renewable : Bool) (k : ℕ) → Flag (track_at (known old i end renewable) k) (track_at old k)
@@ -629,7 +629,7 @@ known_flag old i end renewable k =
     let x = told_earlier end renewable (track_at old i) in
     set_kept Flag (λ y. refl) old.tracks i (owing_past old.clocks.at x) (past_flag old.clocks.at x) k
 
-pub turn_known : (old new : WatchState) (i end : ℕ) (renewable : Bool) (output : Output) → Turn old (Known i end renewable) (Ok output) new → MachineIsSound old → IsQuiet old new
+pub turn_known : (old new : WatchState) (i end : ℕ) (renewable : Bool) (output : WatchOutput) → Turn old (Known i end renewable) (Ok output) new → MachineIsSound old → IsQuiet old new
 turn_known old new i end renewable output turn sound =
     subst (IsQuiet old) (sym turn.1.1)
     (record {
@@ -643,31 +643,31 @@ turn_known old new i end renewable output turn sound =
 
 -- ---- and any event leaves as many entries
 
-clock_entries : (old new : WatchState) (wall elapsed : ℕ) (round : List ℕ) (command : Command) → StepCommand (pressed (readied old wall elapsed) round) command new → length new.forest.entries ≡ length old.forest.entries
+clock_entries : (old new : WatchState) (wall elapsed : ℕ) (round : List ℕ) (command : WatchCommand) → StepCommand (pressed (readied old wall elapsed) round) command new → length new.forest.entries ≡ length old.forest.entries
 clock_entries old new wall elapsed round (Go requests until) h =
     ap (λ (s : WatchState). length s.forest.entries) h.0.1 ∙ ap (λ (g : Forest). length g.entries) (readied_left old wall elapsed).1.1
 clock_entries old new wall elapsed round Taken h = absurd h
 
-looked_entries : (old new : WatchState) (found : Option Out) (reply : Reply) (terms : Terms) (output : Output) → StepLooked old found reply terms output new → length new.forest.entries ≡ length old.forest.entries
+looked_entries : (old new : WatchState) (found : Option Out) (reply : WatchReply) (terms : WatchTerms) (output : WatchOutput) → StepLooked old found reply terms output new → length new.forest.entries ≡ length old.forest.entries
 looked_entries old new None reply terms output step = absurd step
 looked_entries old new (Some q) reply terms output step =
     ap (λ (s : WatchState). length s.forest.entries) step.1 ∙ (replied_kept (looked (noted old q reply) q reply terms) q reply).1.1 ∙ (looked_kept (noted old q reply) q reply terms).1.1
 
-renewed_entries : (old new : WatchState) (found : Option Out) (reply : Reply) (output : Output) → StepRenewed old found reply output new → length new.forest.entries ≡ length old.forest.entries
+renewed_entries : (old new : WatchState) (found : Option Out) (reply : WatchReply) (output : WatchOutput) → StepRenewed old found reply output new → length new.forest.entries ≡ length old.forest.entries
 renewed_entries old new None reply output step = absurd step
 renewed_entries old new (Some q) reply output step = ap (λ (s : WatchState). length s.forest.entries) step.1 ∙ (replied_kept (state_renewed (noted old q reply) q reply) q reply).1.1
 
-step_entries : (old new : WatchState) (event : Event) (output : Output) → Step old event output new → length new.forest.entries ≡ length old.forest.entries
+step_entries : (old new : WatchState) (event : WatchEvent) (output : WatchOutput) → Step old event output new → length new.forest.entries ≡ length old.forest.entries
 step_entries old new (Clock wall elapsed) output step = clock_entries old new wall elapsed (round_of step.round) output.command step.command
 step_entries old new (Looked i reply terms) output step = looked_entries old new (request_out old.out i Look) reply terms output step
 step_entries old new (Renewed i reply) output step = renewed_entries old new (request_out old.out i Renew) reply output step
 step_entries old new (Need i until) output step = ap (λ (s : WatchState). length s.forest.entries) step.1 ∙ length-set old.forest.entries i _
 step_entries old new _ output step = ap (λ (s : WatchState). length s.forest.entries) step.1
 
-pub refused_stays : (old new : WatchState) (event : Event) (fault : WatchFault) → Turn old event (Err fault) new → new ≡ old
+pub refused_stays : (old new : WatchState) (event : WatchEvent) (fault : WatchFault) → Turn old event (Err fault) new → new ≡ old
 refused_stays old new event OutOfMemory h = h.1.1
 refused_stays old new event _ h = h.1
 
-pub turn_entries : (old new : WatchState) (event : Event) (result : Result Output WatchFault) → Turn old event result new → length new.forest.entries ≡ length old.forest.entries
+pub turn_entries : (old new : WatchState) (event : WatchEvent) (result : Result WatchOutput WatchFault) → Turn old event result new → length new.forest.entries ≡ length old.forest.entries
 turn_entries old new event (Ok output) turn = step_entries old new event output turn.1
 turn_entries old new event (Err fault) turn = ap (λ (s : WatchState). length s.forest.entries) (refused_stays old new event fault turn)

@@ -7,7 +7,7 @@ use Rattle.vault_lanes.specs.declared.lanes.Ask.{Ask}
 use Rattle.vault_http.specs.declared.request.Request as http
 use Rattle.watch_machine.specs.declared.command.Patience.{Patience}
 use Rattle.watch_machine.specs.declared.command.Patience.TheVariants.{Full, AtMost}
-use Rattle.watch_machine.specs.declared.command.Request.{Request}
+use Rattle.watch_machine.specs.declared.command.WatchRequest.{WatchRequest}
 use Rattle.watch_machine.specs.declared.event.Operation.{Operation}
 use Rattle.watch_machine.specs.declared.event.Operation.TheVariants.{Look, Renew}
 use Rattle.watch_machine.specs.State.{WatchState}
@@ -17,7 +17,7 @@ abbrev pub message_as : Operation → ℕ → Inventory → WatchState → ℕ �
 message_as Look port s m i = lookup_of port s.credentials s.forest i
 message_as Renew port s m i = renewal_request port s.credentials m.forest i
 
-abbrev pub message : ℕ → Inventory → WatchState → Request → http.Request
+abbrev pub message : ℕ → Inventory → WatchState → WatchRequest → http.Request
 message port s m r = message_as r.operation port s m r.entry
 
 -- how long it may take, in milliseconds: of lanes no more than their time-out counts
@@ -26,5 +26,5 @@ patience_in Full = 18446744073709551615
 patience_in (AtMost ms) = ms
 
 -- a request as it is handed to the lanes
-abbrev pub ask_of : ℕ → Inventory → WatchState → Request → Ask
+abbrev pub ask_of : ℕ → Inventory → WatchState → WatchRequest → Ask
 ask_of port s m r = record { index = r.entry; patience = patience_in r.patience; request = message port s m r }

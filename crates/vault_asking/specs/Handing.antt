@@ -3,7 +3,7 @@
 use Rattle.std.specs.Prelude.{◌≡◌, ◌==◌, ℕ, List, [], ◌∷◌, Option, Some, Ok, find}
 use Rattle.vault_inventory.specs.Inventories.{Inventory}
 use Rattle.vault_lanes.specs.declared.lanes.Answered.{Answered}
-use Rattle.watch_machine.specs.declared.command.Output.{Output}
+use Rattle.watch_machine.specs.declared.command.WatchOutput.{WatchOutput}
 use Rattle.watch_machine.specs.declared.lanes.Out.{Out}
 use Rattle.watch_machine.specs.History.{Turn}
 use Rattle.watch_machine.specs.State.{WatchState}
@@ -21,7 +21,7 @@ pub record IsHandedIn (s : Inventory) (a : Answered) (old new : WatchState) : Ty
   pub is_out : out_of old.out a.index ≡ Some request
   pub said : Said
   pub said_is : said ≡ said_to s request.operation a.index a.answer
-  pub output : Output
+  pub output : WatchOutput
   pub turn : Turn old (event_as request.operation a.index said.reply said.terms) (Ok output) new
 
 -- answers are handed in, one after another

@@ -6,11 +6,11 @@ use Rattle.vault_lanes.specs.Out as lanes
 use Rattle.vault_lanes.specs.Out.{IsParted, renamed}
 use Rattle.vault_lanes.specs.declared.lanes.Answered.{Answered}
 use Rattle.plan_forest.specs.Forest.{Forest}
-use Rattle.watch_machine.specs.declared.command.Command.TheVariants.{Go}
-use Rattle.watch_machine.specs.declared.command.Output.{Output}
-use Rattle.watch_machine.specs.declared.command.Request.{Request}
-use Rattle.watch_machine.specs.declared.event.Event.{Event}
-use Rattle.watch_machine.specs.declared.event.Event.TheVariants.{Clock, Looked, Renewed, Need, Begin, Known}
+use Rattle.watch_machine.specs.declared.command.WatchCommand.TheVariants.{Go}
+use Rattle.watch_machine.specs.declared.command.WatchOutput.{WatchOutput}
+use Rattle.watch_machine.specs.declared.command.WatchRequest.{WatchRequest}
+use Rattle.watch_machine.specs.declared.event.WatchEvent.{WatchEvent}
+use Rattle.watch_machine.specs.declared.event.WatchEvent.TheVariants.{Clock, Looked, Renewed, Need, Begin, Known}
 use Rattle.watch_machine.specs.History.{Changed, IsChanged, Turn}
 use Rattle.watch_machine.specs.State.{WatchState, opened}
 use Rattle.vault_asking.specs.Handing.{AreHandedIn}
@@ -24,7 +24,7 @@ NewLaw = (g : Forest) (width : ℕ) → IsAbreast (opened g width) width []
 -- the requests of a clock are of entries, as many lanes are free, and when they have gone out the lanes are in step again
 abbrev pub ClockLaw : Type 0
 ClockLaw =
-    (old new : WatchState) (wall elapsed : ℕ) (output : Output) (requests : List Request) (until width : ℕ) (before : Lanes) → Turn old (Clock wall elapsed) (Ok output) new → output.command ≡ Go requests until →
+    (old new : WatchState) (wall elapsed : ℕ) (output : WatchOutput) (requests : List WatchRequest) (until width : ℕ) (before : Lanes) → Turn old (Clock wall elapsed) (Ok output) new → output.command ≡ Go requests until →
     IsAbreast old width before.out → All (λ r. r.entry < length new.forest.entries) requests × ((length before.out + length requests ≤ width)
     × ((port : ℕ) (s : Inventory) (t now : ℕ) (after : Lanes) → GoOut port s new t now requests before after → IsAbreast new width after.out))
 
@@ -35,7 +35,7 @@ AnswersLaw =
     AreOut old answers × ((s : Inventory) (new : WatchState) → AreHandedIn s answers old new → IsAbreast new width left)
 
 -- an event that is no clock and no answer
-abbrev pub IsOtherEvent : Event → Type 0
+abbrev pub IsOtherEvent : WatchEvent → Type 0
 IsOtherEvent (Clock wall elapsed) = ⊥
 IsOtherEvent (Looked i reply terms) = ⊥
 IsOtherEvent (Renewed i reply) = ⊥
@@ -45,7 +45,7 @@ IsOtherEvent (Known i end renewable) = Unit {0}
 
 -- such an event leaves them in step
 abbrev pub OtherLaw : Type 0
-OtherLaw = (old new : WatchState) (event : Event) (output : Output) (width : ℕ) (out : List lanes.Out) → IsOtherEvent event → Turn old event (Ok output) new → IsAbreast old width out → IsAbreast new width out
+OtherLaw = (old new : WatchState) (event : WatchEvent) (output : WatchOutput) (width : ℕ) (out : List lanes.Out) → IsOtherEvent event → Turn old event (Ok output) new → IsAbreast old width out → IsAbreast new width out
 
 -- where another forest is watched, each request that is out goes on, on its lane, under the index that the machine has it under then
 abbrev pub ChangeLaw : Type 0

@@ -8,7 +8,7 @@ use std::alloc::{AllocError, Global};
 use vault_exchange::{lookup_for, request_for};
 use vault_inventory::Inventory;
 use vault_lanes::Ask;
-use watch_machine::{Operation, Patience, Request, Watch};
+use watch_machine::{Operation, Patience, WatchRequest, Watch};
 
 /// A request of the machine as it is handed to lanes whose broker listens at that port, with the credentials of the inventory
 /// that the machine was made of. A renewal asks for the step that the machine has, which lookups have told. The only error is
@@ -18,7 +18,7 @@ pub fn ask_for(
     port: u16,
     inventory: &Inventory,
     watch: &Watch,
-    request: Request,
+    request: WatchRequest,
 ) -> Result<Ask, AllocError>
     requires within { request.entry < length watch.now.forest.entries }
     requires whole { length watch.now.forest.entries ≡ length inventory.now.forest.entries }
@@ -39,7 +39,7 @@ fn message(
     port: u16,
     inventory: &Inventory,
     watch: &Watch,
-    request: Request,
+    request: WatchRequest,
 ) -> Result<vault_http::Request, AllocError>
     requires within { request.entry < length watch.now.forest.entries }
     requires whole { length watch.now.forest.entries ≡ length inventory.now.forest.entries }

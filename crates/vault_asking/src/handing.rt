@@ -4,7 +4,7 @@ ghost use Rattle.vault_asking.specs.Handing.{out_of};
 ghost use Rattle.vault_asking.specs.Told.{event_as};
 
 use crate::told::Said;
-use watch_machine::{Event, Notes, Operation, Out};
+use watch_machine::{WatchEvent, Notes, Operation, Out};
 
 /// An answer that was handed in.
 #[derive(Clone, Copy, Debug)]
@@ -27,16 +27,16 @@ pub fn out_of(out: &[Out], entry: u32) -> Option<Out>
 }
 
 /// The event of an answer that says this.
-pub fn event_of(operation: Operation, entry: u32, said: Said) -> Event
+pub fn event_of(operation: Operation, entry: u32, said: Said) -> WatchEvent
     ensures { result ≡ event_as operation entry said.reply said.terms }
 {
     let Said { reply, terms, .. } = said;
     match operation {
-        Operation::Look => Event::Looked {
+        Operation::Look => WatchEvent::Looked {
             entry,
             reply,
             terms,
         },
-        Operation::Renew => Event::Renewed { entry, reply },
+        Operation::Renew => WatchEvent::Renewed { entry, reply },
     }
 }

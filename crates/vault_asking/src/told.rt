@@ -1,23 +1,23 @@
 //! What the machine is told of an answer.
 ghost use Rattle.std.specs.Prelude.{◌≡◌, ◌<◌, IfOk, length};
 ghost use Rattle.vault_inventory.specs.Lookup.{lookup_fault};
-ghost use Rattle.watch_machine.specs.declared.event.Reply.TheVariants as replies;
+ghost use Rattle.watch_machine.specs.declared.event.WatchReply.TheVariants as replies;
 ghost use Rattle.vault_asking.specs.Told.{end_told, is_of_another, is_of_broker, lookup_reply, lookup_terms, loss_in, no_terms, renewal_reply, said_of_entry, said_of_nobody, said_to, terms_told};
 
 use base_moment::{Moment, Span};
 use std::alloc::{AllocError, Global};
-use vault_exchange::Terms as Told;
+use vault_exchange::ToldTerms as Told;
 use vault_http::DatedReply;
 use vault_inventory::{Inventory, LookupFault, told_terms};
 use vault_json::{Lookup, Renewed};
-use vault_lanes::{Heard, Loss, hear_lookup, hear_renewal};
-use watch_machine::{Operation, Reply, Terms};
+use vault_lanes::{HeardAnswer, Loss, hear_lookup, hear_renewal};
+use watch_machine::{Operation, WatchReply, WatchTerms};
 
 /// What an answer says: what the machine is told of it, the terms that a lookup told, and why it counts as lost, where it does.
 #[derive(Clone, Copy, Debug, PartialEq, Eq)]
 pub struct Said {
-    pub reply: Reply,
-    pub terms: Terms,
+    pub reply: WatchReply,
+    pub terms: WatchTerms,
     pub loss: Loss,
 }
 
@@ -70,10 +70,10 @@ fn said_of_nobody(answer: &Result<DatedReply, Loss>) -> Said
 {
     let (reply, loss) = match answer {
         Ok(dated) if is_of_broker(dated.reply.status) => {
-            (Reply::Busy, Loss::Status(dated.reply.status))
+            (WatchReply::Busy, Loss::Status(dated.reply.status))
         }
-        Ok(dated) => (Reply::Lost, Loss::Status(dated.reply.status)),
-        Err(why) => (Reply::Lost, *why),
+        Ok(dated) => (WatchReply::Lost, Loss::Status(dated.reply.status)),
+        Err(why) => (WatchReply::Lost, *why),
     };
     Said {
         reply,
@@ -93,10 +93,10 @@ fn is_of_broker(status: u16) -> bool
 }
 
 /// The terms of a reply that tells none.
-fn no_terms() -> Terms
+fn no_terms() -> WatchTerms
     ensures { result ≡ no_terms }
 {
-    Terms {
+    WatchTerms {
         step: None,
         ceiling: None,
         orphan: false,
@@ -105,7 +105,7 @@ fn no_terms() -> Terms
 }
 
 /// What an answer to a renewal says.
-fn said_of_renewal(heard: &Heard<Renewed>) -> Said
+fn said_of_renewal(heard: &HeardAnswer<Renewed>) -> Said
     ensures { result ≡ record { reply = renewal_reply heard.now; terms = no_terms; loss = loss_in heard.now } }
 {
     Said {
@@ -116,7 +116,7 @@ fn said_of_renewal(heard: &Heard<Renewed>) -> Said
 }
 
 /// What an answer to the lookup of an entry says.
-fn said_of_lookup(inventory: &Inventory, entry: u32, heard: &Heard<Told>) -> Said
+fn said_of_lookup(inventory: &Inventory, entry: u32, heard: &HeardAnswer<Told>) -> Said
     requires { entry < length inventory.now.forest.entries }
     ensures { result ≡ record { reply = lookup_reply inventory.now entry heard.now; terms = lookup_terms inventory.now entry heard.now; loss = loss_in heard.now } }
 {
@@ -130,65 +130,65 @@ fn said_of_lookup(inventory: &Inventory, entry: u32, heard: &Heard<Told>) -> Sai
 
 /// Why an answer counts as lost, where it does: a lookup that is said of another entry cannot be used, and the broker was busy
 /// with 429.
-fn loss_in<T>(heard: &Heard<T>) -> Loss
+fn loss_in<T>(heard: &HeardAnswer<T>) -> Loss
     ensures { result ≡ loss_in heard.now }
 {
     match heard {
-        Heard::Told(..) => Loss::Reply,
-        Heard::Refused(status, _) => Loss::Status(*status),
-        Heard::Busy => Loss::Status(429),
-        Heard::Lost(why) => *why,
+        HeardAnswer::Told(..) => Loss::Reply,
+        HeardAnswer::Refused(status, _) => Loss::Status(*status),
+        HeardAnswer::Busy => Loss::Status(429),
+        HeardAnswer::Lost(why) => *why,
     }
 }
 
 /// What the machine is told of an answer to a renewal.
-fn renewal_reply(heard: &Heard<Renewed>) -> Reply
+fn renewal_reply(heard: &HeardAnswer<Renewed>) -> WatchReply
     ensures { result ≡ renewal_reply heard.now }
 {
     match heard {
-        Heard::Told(renewed, date) => told(renewed.seconds, renewed.renewable, *date),
-        Heard::Refused(status, date) => refused(*status, *date),
-        Heard::Busy => Reply::Busy,
-        Heard::Lost(_) => Reply::Lost,
+        HeardAnswer::Told(renewed, date) => told(renewed.seconds, renewed.renewable, *date),
+        HeardAnswer::Refused(status, date) => refused(*status, *date),
+        HeardAnswer::Busy => WatchReply::Busy,
+        HeardAnswer::Lost(_) => WatchReply::Lost,
     }
 }
 
 /// What the machine is told of an answer to the lookup of an entry. One that is said of another entry, or of the other kind,
 /// counts as lost.
 #[tactic(auto, unfolding(crate::specs::Told::lookup_reply, crate::specs::Told::lookup_terms))]
-fn lookup_reply(inventory: &Inventory, entry: u32, heard: &Heard<Told>) -> (Reply, Terms)
+fn lookup_reply(inventory: &Inventory, entry: u32, heard: &HeardAnswer<Told>) -> (WatchReply, WatchTerms)
     requires { entry < length inventory.now.forest.entries }
     ensures reply { result.0 ≡ lookup_reply inventory.now entry heard.now }
     ensures terms { result.1 ≡ lookup_terms inventory.now entry heard.now }
 {
     match heard {
-        Heard::Told(said, date) => {
+        HeardAnswer::Told(said, date) => {
             if is_of_another(inventory, entry, &said.lookup) {
-                return (Reply::Lost, no_terms());
+                return (WatchReply::Lost, no_terms());
             }
             let terms = terms_of(inventory, entry, said);
             (end_told(&said.lookup, *date), terms)
         }
-        Heard::Refused(status, date) => (refused(*status, *date), no_terms()),
-        Heard::Busy => (Reply::Busy, no_terms()),
-        Heard::Lost(_) => (Reply::Lost, no_terms()),
+        HeardAnswer::Refused(status, date) => (refused(*status, *date), no_terms()),
+        HeardAnswer::Busy => (WatchReply::Busy, no_terms()),
+        HeardAnswer::Lost(_) => (WatchReply::Lost, no_terms()),
     }
 }
 
-fn told(seconds: Span, renewable: bool, date: Option<Moment>) -> Reply
+fn told(seconds: Span, renewable: bool, date: Option<Moment>) -> WatchReply
     ensures { result ≡ replies.Told seconds renewable date }
 {
-    Reply::Told {
+    WatchReply::Told {
         seconds,
         renewable,
         date: seconds_of(date),
     }
 }
 
-fn refused(status: u16, date: Option<Moment>) -> Reply
+fn refused(status: u16, date: Option<Moment>) -> WatchReply
     ensures { result ≡ replies.Refused status date }
 {
-    Reply::Refused {
+    WatchReply::Refused {
         status,
         date: seconds_of(date),
     }
@@ -215,7 +215,7 @@ fn is_of_another(inventory: &Inventory, entry: u32, lookup: &Lookup) -> bool
 }
 
 /// The end that a lookup tells, and whether the entry can be renewed.
-fn end_told(lookup: &Lookup, date: Option<Moment>) -> Reply
+fn end_told(lookup: &Lookup, date: Option<Moment>) -> WatchReply
     ensures { result ≡ end_told lookup.now date }
 {
     match lookup {
@@ -226,7 +226,7 @@ fn end_told(lookup: &Lookup, date: Option<Moment>) -> Reply
 }
 
 /// The terms that a lookup tells: a step and an orphan are a token's alone, and the ceiling counts from the issue that it tells.
-fn terms_of(inventory: &Inventory, entry: u32, said: &Told) -> Terms
+fn terms_of(inventory: &Inventory, entry: u32, said: &Told) -> WatchTerms
     requires { entry < length inventory.now.forest.entries }
     ensures { result ≡ terms_told inventory.now entry said.now }
 {
@@ -235,7 +235,7 @@ fn terms_of(inventory: &Inventory, entry: u32, said: &Told) -> Terms
         Lookup::Token { orphan, .. } => (Some(terms.step()), *orphan),
         Lookup::Lease { .. } => (None, false),
     };
-    Terms {
+    WatchTerms {
         step,
         ceiling: terms.ceiling(),
         orphan,

@@ -5,7 +5,7 @@ use Rattle.std.specs.Prelude.{ℕ, ◌==◌, ◌||◌, List, Bool, false, bytes_
 use Rattle.vault_exchange.specs.Lookups.{lookup_in}
 use Rattle.vault_exchange.specs.declared.heard.Heard.{Heard}
 use Rattle.vault_exchange.specs.declared.heard.Heard.TheVariants.{Told, Refused, Busy, Lost}
-use Rattle.vault_exchange.specs.declared.heard.Terms.{Terms}
+use Rattle.vault_exchange.specs.declared.heard.ToldTerms.{ToldTerms}
 use Rattle.plan_forest.specs.declared.entry.Kind.{Kind}
 use Rattle.plan_forest.specs.declared.entry.Kind.TheVariants.{Token, Lease}
 use Rattle.vault_http.specs.declared.dated_reply.DatedReply.{DatedReply}
@@ -55,12 +55,12 @@ abbrev pub has_no_end : Kind → List ℕ → Bool
 has_no_end Token body = told_or_false (never_ends_answer body)
 has_no_end Lease body = false
 
-abbrev pub looked_of : Bool → Result Lookup ReplyFault → Option Terms
+abbrev pub looked_of : Bool → Result Lookup ReplyFault → Option ToldTerms
 looked_of never (Ok lookup) = Some (record { lookup = lookup; never_ends = never })
 looked_of never (Err fault) = None
 
-abbrev pub looked_in : Kind → List ℕ → Option Terms
+abbrev pub looked_in : Kind → List ℕ → Option ToldTerms
 looked_in kind body = looked_of (has_no_end kind body) (lookup_in kind body)
 
-unfoldable pub looked_up_by_reply : Kind → DatedReply → Heard Terms
+unfoldable pub looked_up_by_reply : Kind → DatedReply → Heard ToldTerms
 looked_up_by_reply kind d = if d.reply.status == 200 then told_with_date d.date (looked_in kind d.reply.body) else refused_by_status d.reply.status d.date

@@ -26,7 +26,7 @@ pub enum Heard<T> {
 
 /// What a lookup tells.
 #[derive(Debug, Drop)]
-pub struct Terms {
+pub struct ToldTerms {
     /// What the broker says of the entry.
     pub lookup: Lookup,
     /// Whether it is a token that never ends.
@@ -58,7 +58,7 @@ pub fn hear_lookup(
     alloc: Global,
     kind: Kind,
     dated: &DatedReply,
-) -> Result<Heard<Terms>, AllocError>
+) -> Result<Heard<ToldTerms>, AllocError>
     ensures { IfOk result (λ heard. heard ≡ looked_up_by_reply kind dated.now) }
 {
     if dated.reply.status != 200 {
@@ -110,7 +110,7 @@ pub fn renewed_in(
 }
 
 /// What the body of a lookup tells of the entry; `None` where it cannot be read.
-fn looked_in(alloc: Global, kind: Kind, body: &[u8]) -> Result<Option<Terms>, AllocError>
+fn looked_in(alloc: Global, kind: Kind, body: &[u8]) -> Result<Option<ToldTerms>, AllocError>
     ensures { IfOk result (λ looked. looked ≡ looked_in kind body.now) }
 {
     let lookup = match lookup_in(alloc, kind, body) {
@@ -119,7 +119,7 @@ fn looked_in(alloc: Global, kind: Kind, body: &[u8]) -> Result<Option<Terms>, Al
         Err(_) => return Ok(None),
     };
     let never_ends = has_no_end(alloc, kind, body)?;
-    Ok(Some(Terms { lookup, never_ends }))
+    Ok(Some(ToldTerms { lookup, never_ends }))
 }
 
 /// Whether the body of a lookup says that the entry never ends, which a lease never does.

@@ -21,7 +21,7 @@ mod unix;
 pub use asking::ask;
 pub use exchange::{Exchange, can_carry};
 pub use fault::ExchangeFault;
-pub use heard::{Heard, Terms, hear_lookup, hear_renewal, renewed_in};
+pub use heard::{Heard, ToldTerms, hear_lookup, hear_renewal, renewed_in};
 pub use looking::{look_up, lookup_for};
 pub use over::here;
 pub use patience::PATIENCE;

@@ -14,7 +14,7 @@ use Rattle.vault_inventory.specs.declared.fault.InvFault.TheVariants.{BadValue}
 use Rattle.vault_inventory.specs.declared.key.Key.{Key}
 use Rattle.vault_inventory.specs.declared.key.Key.TheVariants.{SystemMax, Margin, Token, Lease, Name, Parent, Issued, End, Renewable, Increment, Period, MaxTtl, ExplicitMaxTtl, Reissued, Need, SecretFile, LeaseIdFile}
 use Rattle.vault_inventory.specs.declared.row.Life.{Life}
-use Rattle.vault_inventory.specs.declared.row.Row.{Row}
+use Rattle.vault_inventory.specs.declared.row.TableRow.{TableRow}
 use Rattle.vault_inventory.specs.declared.terms.Terms.{Terms}
 use Rattle.vault_inventory.specs.Keys.{top_keys, key_text}
 use Rattle.vault_inventory.specs.Answers.{◌>>=◌}
@@ -222,7 +222,7 @@ lease_terms_bare system_max index issued ms =
 -- ---- a row, but for its credential
 
 -- the row of the next token, with no credential of its own
-abbrev plain_token : ℕ → Forest → Members → Result Row InvFault
+abbrev plain_token : ℕ → Forest → Members → Result TableRow InvFault
 plain_token system_max g ms = do
   name_if ← value_at text (Some (length g.entries)) Name ms
   name ← needed_value (length g.entries) Name name_if
@@ -233,7 +233,7 @@ plain_token system_max g ms = do
   file ← value_at path (Some (length g.entries)) SecretFile ms
   Ok (made_token g name parent life terms need_if None file)
 
-abbrev plain_lease : ℕ → Forest → Members → Result Row InvFault
+abbrev plain_lease : ℕ → Forest → Members → Result TableRow InvFault
 plain_lease system_max g ms = do
   name_if ← value_at text (Some (length g.entries)) Name ms
   name ← needed_value (length g.entries) Name name_if
@@ -251,7 +251,7 @@ file_read index key beside ms file e =
     bind_ok (alone_if beside index key (is_some o)) _ file e1 (λ u b e2.
     let same : o ≡ file = cc in a ∙ ap (λ (x : Option (List ℕ)). Ok x) same))
 
-token_read : (system_max : ℕ) (g : Forest) (ms : Members) (row : Row) → (p : TokenParts full system_max g ms row) →
+token_read : (system_max : ℕ) (g : Forest) (ms : Members) (row : TableRow) → (p : TokenParts full system_max g ms row) →
     plain_token system_max g (bare_members ms) ≡ Ok (made_token g p.name p.parent p.life p.terms p.need_if None p.file)
 unfolding is_secret_key
 token_read system_max g ms row p =
@@ -264,7 +264,7 @@ token_read system_max g ms row p =
     (follow _ p.need_if _ _ (kept (need full) blind_need (Some n) Need refl ms ∙ p.need_read)
     (follow _ p.file _ _ (kept path blind_path (Some n) SecretFile refl ms ∙ file_read n SecretFile (is_some p.secret) ms p.file p.file_read) refl))))))
 
-lease_read : (system_max : ℕ) (g : Forest) (ms : Members) (row : Row) → (p : LeaseParts full system_max g ms row) →
+lease_read : (system_max : ℕ) (g : Forest) (ms : Members) (row : TableRow) → (p : LeaseParts full system_max g ms row) →
     plain_lease system_max g (bare_members ms) ≡ Ok (made_lease g p.name p.token p.life p.terms p.need_if None p.file)
 unfolding is_secret_key
 lease_read system_max g ms row p =
@@ -283,7 +283,7 @@ lease_read system_max g ms row p =
 abbrev shorn : Intake → Intake
 shorn s = record { forest = s.forest; secrets = []; lease_ids = []; terms = s.terms; notes = s.notes }
 
-abbrev with_row : Intake → Row → Intake
+abbrev with_row : Intake → TableRow → Intake
 with_row s row = record { forest = grown s.forest row.entry; secrets = []; lease_ids = []; terms = s.terms ++ row.terms ∷ []; notes = s.notes ++ row.note ∷ [] }
 
 abbrev plain_token_entered : ℕ → Intake → Members → Result Intake InvFault
@@ -300,14 +300,14 @@ token_shorn system_max s t ms e =
     let taken = token_entered_ok full system_max s t ms e in
     let p = token_parts full system_max s.forest ms taken.0 taken.1 in
     follow _ (made_token s.forest p.name p.parent p.life p.terms p.need_if None p.file) _ _ (token_read system_max s.forest ms taken.0 p)
-    (ap (λ (row : Row). Ok (with_row s row)) p.made ∙ ap (λ (i : Intake). Ok (shorn i)) taken.3)
+    (ap (λ (row : TableRow). Ok (with_row s row)) p.made ∙ ap (λ (i : Intake). Ok (shorn i)) taken.3)
 
 lease_shorn : (system_max : ℕ) → Shears (lease_entered full system_max) (plain_lease_entered system_max)
 lease_shorn system_max s t ms e =
     let taken = lease_entered_ok full system_max s t ms e in
     let p = lease_parts full system_max s.forest ms taken.0 taken.1 in
     follow _ (made_lease s.forest p.name p.token p.life p.terms p.need_if None p.file) _ _ (lease_read system_max s.forest ms taken.0 p)
-    (ap (λ (row : Row). Ok (with_row s row)) p.made ∙ ap (λ (i : Intake). Ok (shorn i)) taken.3)
+    (ap (λ (row : TableRow). Ok (with_row s row)) p.made ∙ ap (λ (i : Intake). Ok (shorn i)) taken.3)
 
 all_shorn : (step plain : Intake → Members → Result Intake InvFault) → Shears step plain → (key : Key) (s t : Intake) (ds : Items) → entered_by step key s ds ≡ Ok t → entered_by plain key (shorn s) (bare_items ds) ≡ Ok (shorn t)
 all_shorn step plain shears key s t no_items e = let same : s ≡ t = cc in ap (λ (i : Intake). Ok (shorn i)) same

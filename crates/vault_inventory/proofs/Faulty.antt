@@ -17,7 +17,7 @@ use Rattle.vault_inventory.specs.declared.key.Key.{Key}
 use Rattle.vault_inventory.specs.declared.key.Key.TheVariants.{SystemMax, Margin, Token, Lease, Name, Parent, Issued, End, Renewable, Increment, Period, MaxTtl, ExplicitMaxTtl, Reissued, Need, Secret, SecretFile, LeaseId, LeaseIdFile}
 use Rattle.vault_inventory.specs.declared.limits.TheConstants.{SPAN_MAX, SYSTEM_MAX}
 use Rattle.vault_inventory.specs.declared.row.Life.{Life}
-use Rattle.vault_inventory.specs.declared.row.Row.{Row}
+use Rattle.vault_inventory.specs.declared.row.TableRow.{TableRow}
 use Rattle.vault_inventory.specs.declared.terms.Terms.{Terms}
 use Rattle.vault_inventory.specs.Answers.{◌>>=◌}
 use Rattle.vault_inventory.specs.FirstFault.{FirstFaultLaw, IsFirstFault, IsFirstIn, IsInTables, LeaseFails, TokenFails, bad, bad_if, excluded_beside, fault_if, first_fault_of, front, lease_faults, missing_key, row_faults, token_faults, top_faults, unknown}
@@ -196,13 +196,13 @@ distinct_fault : (key : Key) (i : ℕ) (texts : List (List ℕ)) (text : List �
 unfolding distinct
 distinct_fault key i texts text = cond_fault (has_text texts text) (BadValue (Some i) key) (texts ++ text ∷ [])
 
-token_row_fault : (s : Intake) (row : Row) → fault_of (with_token s row) ≡ first_fault_of (row_faults (key_written Secret SecretFile row.note.file) s.forest s.secrets row)
+token_row_fault : (s : Intake) (row : TableRow) → fault_of (with_token s row) ≡ first_fault_of (row_faults (key_written Secret SecretFile row.note.file) s.forest s.secrets row)
 unfolding with_token
 token_row_fault s row =
     chain (pushed s.forest row.entry) _ _ _ (pushed_fault s.forest row.entry) (λ forest a.
     last (distinct (key_written Secret SecretFile row.note.file) (length s.forest.entries) s.secrets row.credential) _ _ (distinct_fault (key_written Secret SecretFile row.note.file) (length s.forest.entries) s.secrets row.credential) (λ secrets b. refl))
 
-lease_row_fault : (s : Intake) (row : Row) → fault_of (with_lease s row) ≡ first_fault_of (row_faults (key_written LeaseId LeaseIdFile row.note.file) s.forest s.lease_ids row)
+lease_row_fault : (s : Intake) (row : TableRow) → fault_of (with_lease s row) ≡ first_fault_of (row_faults (key_written LeaseId LeaseIdFile row.note.file) s.forest s.lease_ids row)
 unfolding with_lease
 lease_row_fault s row =
     chain (pushed s.forest row.entry) _ _ _ (pushed_fault s.forest row.entry) (λ forest a.
@@ -217,14 +217,14 @@ token_fails : (system_max : ℕ) (s : Intake) (ms : Members) (fault : InvFault) 
 unfolding token_entered
 token_fails system_max s ms fault e =
     bind_err (token_row full system_max s.forest ms) _ fault e
-    (λ fails. inl (sym (token_fault system_max s.forest ms) ∙ ap (λ (r : Result Row InvFault). fault_of r) fails))
+    (λ fails. inl (sym (token_fault system_max s.forest ms) ∙ ap (λ (r : Result TableRow InvFault). fault_of r) fails))
     (λ row read fails. inr (row, read, sym (token_row_fault s row) ∙ ap (λ (r : Result Intake InvFault). fault_of r) fails))
 
 lease_fails : (system_max : ℕ) (s : Intake) (ms : Members) (fault : InvFault) → lease_entered full system_max s ms ≡ Err fault → LeaseFails system_max s ms fault
 unfolding lease_entered
 lease_fails system_max s ms fault e =
     bind_err (lease_row full system_max s.forest ms) _ fault e
-    (λ fails. inl (sym (lease_fault system_max s.forest ms) ∙ ap (λ (r : Result Row InvFault). fault_of r) fails))
+    (λ fails. inl (sym (lease_fault system_max s.forest ms) ∙ ap (λ (r : Result TableRow InvFault). fault_of r) fails))
     (λ row read fails. inr (row, read, sym (lease_row_fault s row) ∙ ap (λ (r : Result Intake InvFault). fault_of r) fails))
 
 -- ---- the tables of one kind

@@ -8,8 +8,8 @@ use Rattle.plan_forest.specs.Forest.{entry_at}
 use Rattle.plan_forest.proofs.Entries.{entry_at_push_new, entry_at_push_old}
 use Rattle.vault_inventory.specs.declared.fault.InvFault.{InvFault}
 use Rattle.vault_inventory.specs.declared.key.Key.{Key}
-use Rattle.vault_inventory.specs.declared.note.Note.{Note}
-use Rattle.vault_inventory.specs.declared.row.Row.{Row}
+use Rattle.vault_inventory.specs.declared.note.EntryNote.{EntryNote}
+use Rattle.vault_inventory.specs.declared.row.TableRow.{TableRow}
 use Rattle.vault_inventory.specs.declared.terms.Terms.{Terms}
 use Rattle.vault_inventory.specs.Inventories.{credential_at, terms_at}
 use Rattle.vault_inventory.specs.Served.{Served, note_at}
@@ -48,7 +48,7 @@ grown_again s t u a b = record {
 }
 
 -- an inventory with the row of one table more
-pub record Pushed (s t : Served) (row : Row) : Type 0 where
+pub record Pushed (s t : Served) (row : TableRow) : Type 0 where
   pub entries : t.inventory.forest.entries ≡ s.inventory.forest.entries ++ row.entry ∷ []
   pub margin : t.inventory.forest.margin ≡ s.inventory.forest.margin
   pub credentials : t.inventory.credentials ≡ s.inventory.credentials ++ row.credential ∷ []
@@ -58,10 +58,10 @@ pub record Pushed (s t : Served) (row : Row) : Type 0 where
   pub termed : length s.inventory.terms ≡ length s.inventory.forest.entries
   pub noted : length s.notes ≡ length s.inventory.forest.entries
 
-pub pushed_count : (s t : Served) (row : Row) → Pushed s t row → length t.inventory.forest.entries ≡ length s.inventory.forest.entries + 1
+pub pushed_count : (s t : Served) (row : TableRow) → Pushed s t row → length t.inventory.forest.entries ≡ length s.inventory.forest.entries + 1
 pushed_count s t row p = ap length p.entries ∙ length_push s.inventory.forest.entries row.entry
 
-pub pushed_grown : (s t : Served) (row : Row) → Pushed s t row → Grown s t
+pub pushed_grown : (s t : Served) (row : TableRow) → Pushed s t row → Grown s t
 pushed_grown s t row p = record {
   count = let n = pushed_count s t row p in omega arith;
   entry = λ i h. ap (λ es. entry_at es i) p.entries ∙ entry_at_push_old s.inventory.forest.entries row.entry i h;
@@ -71,13 +71,13 @@ pushed_grown s t row p = record {
   margin = p.margin;
 }
 
-pub record IsNew (s t : Served) (row : Row) : Type 0 where
+pub record IsNew (s t : Served) (row : TableRow) : Type 0 where
   pub entry : entry_at t.inventory.forest.entries (length s.inventory.forest.entries) ≡ row.entry
   pub credential : credential_at t.inventory.credentials (length s.inventory.forest.entries) ≡ row.credential
   pub terms : terms_at t.inventory.terms (length s.inventory.forest.entries) ≡ row.terms
   pub note : note_at t.notes (length s.inventory.forest.entries) ≡ row.note
 
-pub pushed_new : (s t : Served) (row : Row) → Pushed s t row → IsNew s t row
+pub pushed_new : (s t : Served) (row : TableRow) → Pushed s t row → IsNew s t row
 pushed_new s t row p = record {
   entry = ap (λ es. entry_at es (length s.inventory.forest.entries)) p.entries ∙ entry_at_push_new s.inventory.forest.entries row.entry;
   credential = ap (λ cs. credential_at cs (length s.inventory.forest.entries)) p.credentials ∙ credential_new s.inventory.credentials row.credential _ p.credited;
@@ -98,7 +98,7 @@ parent_stays : (es fs : List Entry) (i : ℕ) (name : Option (List ℕ)) (parent
 parent_stays es fs i None parent same is = is
 parent_stays es fs i (Some name) parent same is = named_stays es fs i name parent same is
 
-pub token_over : (system_max : ℕ) (es fs : List Entry) (i : ℕ) (ms : Members) (e : Entry) (sent : List ℕ) (t : Terms) (note : Note) → SameNames es fs i → IsToken system_max es i ms e sent t note → IsToken system_max fs i ms e sent t note
+pub token_over : (system_max : ℕ) (es fs : List Entry) (i : ℕ) (ms : Members) (e : Entry) (sent : List ℕ) (t : Terms) (note : EntryNote) → SameNames es fs i → IsToken system_max es i ms e sent t note → IsToken system_max fs i ms e sent t note
 token_over system_max es fs i ms e sent t note same is = record {
   keys = is.keys;
   kind = is.kind;
@@ -116,7 +116,7 @@ token_over system_max es fs i ms e sent t note same is = record {
   secret = is.secret;
 }
 
-pub lease_over : (system_max : ℕ) (es fs : List Entry) (i : ℕ) (ms : Members) (e : Entry) (sent : List ℕ) (t : Terms) (note : Note) → SameNames es fs i → IsLease system_max es i ms e sent t note → IsLease system_max fs i ms e sent t note
+pub lease_over : (system_max : ℕ) (es fs : List Entry) (i : ℕ) (ms : Members) (e : Entry) (sent : List ℕ) (t : Terms) (note : EntryNote) → SameNames es fs i → IsLease system_max es i ms e sent t note → IsLease system_max fs i ms e sent t note
 lease_over system_max es fs i ms e sent t note same is = record {
   keys = is.keys;
   kind = is.kind;
@@ -136,13 +136,13 @@ lease_over system_max es fs i ms e sent t note same is = record {
 
 -- a relation between a table and the entry at an index, its credential, its terms and its note
 abbrev pub Relation : Type 1
-Relation = List Entry → ℕ → Members → Entry → List ℕ → Terms → Note → Type 0
+Relation = List Entry → ℕ → Members → Entry → List ℕ → Terms → EntryNote → Type 0
 
 abbrev pub At : Relation → Served → ℕ → Members → Type 0
 At R s i ms = R s.inventory.forest.entries i ms (entry_at s.inventory.forest.entries i) (credential_at s.inventory.credentials i) (terms_at s.inventory.terms i) (note_at s.notes i)
 
 abbrev pub IsLocal : Relation → Type 0
-IsLocal R = (es fs : List Entry) (i : ℕ) (ms : Members) (e : Entry) (sent : List ℕ) (t : Terms) (note : Note) → SameNames es fs i → R es i ms e sent t note → R fs i ms e sent t note
+IsLocal R = (es fs : List Entry) (i : ℕ) (ms : Members) (e : Entry) (sent : List ℕ) (t : Terms) (note : EntryNote) → SameNames es fs i → R es i ms e sent t note → R fs i ms e sent t note
 
 stays : (R : Relation) → IsLocal R → (s t : Served) (i : ℕ) (ms : Members) → Grown s t → i < length s.inventory.forest.entries → At R s i ms → At R t i ms
 stays R local s t i ms grown h is =
@@ -154,7 +154,7 @@ stays R local s t i ms grown h is =
     subst (λ x. R es i ms (entry_at es i) (credential_at t.inventory.credentials i) (terms_at t.inventory.terms i) x) (sym (grown.note i h)) d
 
 -- and of the entry of the table that is taken
-comes : (R : Relation) → IsLocal R → (s t : Served) (ms : Members) (row : Row) → Pushed s t row → R s.inventory.forest.entries (length s.inventory.forest.entries) ms row.entry row.credential row.terms row.note → At R t (length s.inventory.forest.entries) ms
+comes : (R : Relation) → IsLocal R → (s t : Served) (ms : Members) (row : TableRow) → Pushed s t row → R s.inventory.forest.entries (length s.inventory.forest.entries) ms row.entry row.credential row.terms row.note → At R t (length s.inventory.forest.entries) ms
 comes R local s t ms row pushed is =
     let n = length s.inventory.forest.entries in
     let es = t.inventory.forest.entries in
@@ -171,7 +171,7 @@ comes R local s t ms row pushed is =
 -- a step takes the row of a table, which is what the table writes
 abbrev pub Takes : Relation → (Intake → Type 0) → (Intake → Members → Result Intake InvFault) → Type 0
 Takes R P step = (s t : Intake) (ms : Members) → P s → step s ms ≡ Ok t →
-    (row : Row) × Pushed (read_so_far s) (read_so_far t) row × R s.forest.entries (length s.forest.entries) ms row.entry row.credential row.terms row.note
+    (row : TableRow) × Pushed (read_so_far s) (read_so_far t) row × R s.forest.entries (length s.forest.entries) ms row.entry row.credential row.terms row.note
 
 pub record Took (R : Relation) (s t : Served) (ds : Items) : Type 0 where
   pub grown : Grown s t
@@ -192,7 +192,7 @@ each_more R t n ms ds here later (suc i) ns there =
     let place : (n + 1) + i ≡ n + suc i = omega arith in
     subst (λ k. At R t k ns) place (later i ns there)
 
-took_more : (R : Relation) → IsLocal R → (s u t : Served) (ms : Members) (ds : Items) (row : Row) → Pushed s u row → R s.inventory.forest.entries (length s.inventory.forest.entries) ms row.entry row.credential row.terms row.note →
+took_more : (R : Relation) → IsLocal R → (s u t : Served) (ms : Members) (ds : Items) (row : TableRow) → Pushed s u row → R s.inventory.forest.entries (length s.inventory.forest.entries) ms row.entry row.credential row.terms row.note →
     Took R u t ds → Took R s t (item (table ms) ds)
 took_more R local s u t ms ds row pushed is took =
     let n = pushed_count s u row pushed in

@@ -17,7 +17,7 @@ use Rattle.plan_forest.proofs.Entries.{entry_at_push_old, entry_at_push_new}
 use Rattle.plan_forest.proofs.Placed.{empty_is_forest, pushed_is_forest}
 use Rattle.vault_inventory.specs.declared.fault.InvFault.{InvFault}
 use Rattle.vault_inventory.specs.declared.key.Key.TheVariants.{Margin}
-use Rattle.vault_inventory.specs.declared.row.Row.{Row}
+use Rattle.vault_inventory.specs.declared.row.TableRow.{TableRow}
 use Rattle.vault_inventory.specs.declared.terms.Terms.{Terms}
 use Rattle.vault_inventory.specs.Inventories.{CredentialsAreApart, IsSendableText, IsInventory, Inventory, terms_at}
 use Rattle.vault_inventory.specs.Intake.{Intake, empty_intake, inventory_of_intake}
@@ -55,7 +55,7 @@ abbrev TokensAlone : Intake → Type 0
 TokensAlone s = Sorted s × (length s.lease_ids ≡ 0)
 
 -- what a row has by itself
-record IsRowOf (k : Kind) (row : Row) : Type 0 where
+record IsRowOf (k : Kind) (row : TableRow) : Type 0 where
   kind : row.entry.kind ≡ k
   sendable : IsSendableText row.credential
   good : IsGood row.entry row.terms
@@ -78,7 +78,7 @@ good_more es ts e t count good new i h =
     subst (λ x. IsGood x (terms_at (ts ++ t ∷ []) i)) (sym (entry_at_push_old es e i old))
     (subst (λ x. IsGood (entry_at es i) x) (sym (terms_old ts t i (omega arith))) (good i old)))
 
-token_sorted : (s : Intake) (row : Row) → IsRowOf kind.Token row → Fits s.forest s.secrets row → TokensAlone s → TokensAlone (took_token s row)
+token_sorted : (s : Intake) (row : TableRow) → IsRowOf kind.Token row → Fits s.forest s.secrets row → TokensAlone s → TokensAlone (took_token s row)
 token_sorted s row is fits alone =
     let old = alone.0 in
     let l = length_push s.forest.entries row.entry in
@@ -107,7 +107,7 @@ token_sorted s row is fits alone =
       none,
     )
 
-lease_sorted : (s : Intake) (row : Row) → IsRowOf kind.Lease row → Fits s.forest s.lease_ids row → Sorted s → Sorted (took_lease s row)
+lease_sorted : (s : Intake) (row : TableRow) → IsRowOf kind.Lease row → Fits s.forest s.lease_ids row → Sorted s → Sorted (took_lease s row)
 lease_sorted s row is fits old =
     let l = length_push s.forest.entries row.entry in
     let k = length_push s.lease_ids row.credential in
@@ -132,16 +132,16 @@ lease_sorted s row is fits old =
       good = good_more s.forest.entries s.terms row.entry row.terms c old.good is.good;
     }
 
-token_is : (l : Language) (system_max : ℕ) (g : Forest) (texts : List (List ℕ)) (ms : Members) (row : Row) → TokenParts l system_max g ms row → Fits g texts row → IsRowOf kind.Token row
+token_is : (l : Language) (system_max : ℕ) (g : Forest) (texts : List (List ℕ)) (ms : Members) (row : TableRow) → TokenParts l system_max g ms row → Fits g texts row → IsRowOf kind.Token row
 token_is l system_max g texts ms row parts fits = record {
-  kind = ap (λ (r : Row). r.entry.kind) (sym parts.made);
+  kind = ap (λ (r : TableRow). r.entry.kind) (sym parts.made);
   sendable = token_sendable l system_max g ms row parts fits.entry;
   good = token_good l system_max g ms row parts;
 }
 
-lease_is : (l : Language) (system_max : ℕ) (g : Forest) (texts : List (List ℕ)) (ms : Members) (row : Row) → LeaseParts l system_max g ms row → Fits g texts row → IsRowOf kind.Lease row
+lease_is : (l : Language) (system_max : ℕ) (g : Forest) (texts : List (List ℕ)) (ms : Members) (row : TableRow) → LeaseParts l system_max g ms row → Fits g texts row → IsRowOf kind.Lease row
 lease_is l system_max g texts ms row parts fits = record {
-  kind = ap (λ (r : Row). r.entry.kind) (sym parts.made);
+  kind = ap (λ (r : TableRow). r.entry.kind) (sym parts.made);
   sendable = lease_sendable l system_max g ms row parts fits.entry;
   good = lease_good l system_max g ms row parts;
 }

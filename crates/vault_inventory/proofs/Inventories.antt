@@ -9,7 +9,7 @@ use Rattle.std.proofs.lemmas.Str.Ascii.{IsAscii-from_all}
 use Rattle.std.proofs.Math.ListN.{length-append}
 use Rattle.std.proofs.Math.Seq.{get_or-append_right}
 use Rattle.plan_forest.specs.Forest.{entry_at}
-use Rattle.vault_inventory.specs.declared.note.Note.{Note}
+use Rattle.vault_inventory.specs.declared.note.EntryNote.{EntryNote}
 use Rattle.vault_inventory.specs.declared.terms.Terms.{Terms}
 use Rattle.vault_inventory.specs.Inventories.{IsSendableText, IsInventory, Inventory, empty_terms, terms_at, credential_at}
 use Rattle.vault_inventory.specs.Served.{no_note, note_at}
@@ -40,11 +40,11 @@ pub terms_new : (ts : List Terms) (t : Terms) (n : ℕ) → length ts ≡ n → 
 unfolding terms_at
 terms_new ts t n h = get_or_push ts t empty_terms n h
 
-pub note_old : (ns : List Note) (n : Note) (i : ℕ) → i < length ns → note_at (ns ++ n ∷ []) i ≡ note_at ns i
+pub note_old : (ns : List EntryNote) (n : EntryNote) (i : ℕ) → i < length ns → note_at (ns ++ n ∷ []) i ≡ note_at ns i
 unfolding note_at
 note_old ns n i h = get_or_append_left ns (n ∷ []) no_note i h
 
-pub note_new : (ns : List Note) (note : Note) (n : ℕ) → length ns ≡ n → note_at (ns ++ note ∷ []) n ≡ note
+pub note_new : (ns : List EntryNote) (note : EntryNote) (n : ℕ) → length ns ≡ n → note_at (ns ++ note ∷ []) n ≡ note
 unfolding note_at
 note_new ns note n h = get_or_push ns note no_note n h
 

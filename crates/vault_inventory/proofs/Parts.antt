@@ -7,7 +7,7 @@ use Rattle.plan_forest.specs.Forest.{Forest}
 use Rattle.vault_inventory.specs.declared.key.Key.TheVariants.{Token, Name, Parent, Need, Secret, SecretFile, LeaseId, LeaseIdFile}
 use Rattle.vault_inventory.specs.declared.need.Need as needs
 use Rattle.vault_inventory.specs.declared.row.Life.{Life}
-use Rattle.vault_inventory.specs.declared.row.Row.{Row}
+use Rattle.vault_inventory.specs.declared.row.TableRow.{TableRow}
 use Rattle.vault_inventory.specs.declared.terms.Terms.{Terms}
 use Rattle.vault_inventory.specs.Languages.{Language}
 use Rattle.vault_inventory.specs.Keys.{token_keys, lease_keys}
@@ -17,7 +17,7 @@ use Rattle.vault_inventory.specs.Needs.{until_of}
 use Rattle.vault_inventory.specs.Rows.{file_at, index_or_none, note_of, life_of_table, lease_row, lease_terms, token_row, token_terms}
 use Rattle.vault_inventory.proofs.Chains.{bind_ok}
 
-abbrev pub made_token : Forest → List ℕ → Option (List ℕ) → Life → Terms → Option needs.Need → Option (List ℕ) → Option (List ℕ) → Row
+abbrev pub made_token : Forest → List ℕ → Option (List ℕ) → Life → Terms → Option needs.Need → Option (List ℕ) → Option (List ℕ) → TableRow
 made_token g name parent life terms need_if secret file = record {
   entry = record { name = name; kind = kind.Token; parent = option_map (index_or_none g) parent; end = life.end; renewable = life.renewable; step = step_of terms; ceiling = ceiling_of terms; need = until_of need_if };
   credential = unwrap_or secret name;
@@ -25,7 +25,7 @@ made_token g name parent life terms need_if secret file = record {
   note = note_of life need_if file;
 }
 
-abbrev pub made_lease : Forest → List ℕ → List ℕ → Life → Terms → Option needs.Need → Option (List ℕ) → Option (List ℕ) → Row
+abbrev pub made_lease : Forest → List ℕ → List ℕ → Life → Terms → Option needs.Need → Option (List ℕ) → Option (List ℕ) → TableRow
 made_lease g name token life terms need_if lease_id file = record {
   entry = record { name = name; kind = kind.Lease; parent = Some (index_or_none g token); end = life.end; renewable = life.renewable; step = step_of terms; ceiling = ceiling_of terms; need = until_of need_if };
   credential = unwrap_or lease_id name;
@@ -33,7 +33,7 @@ made_lease g name token life terms need_if lease_id file = record {
   note = note_of life need_if file;
 }
 
-pub record TokenParts (l : Language) (system_max : ℕ) (g : Forest) (ms : Members) (row : Row) : Type 0 where
+pub record TokenParts (l : Language) (system_max : ℕ) (g : Forest) (ms : Members) (row : TableRow) : Type 0 where
   pub known : Unit {0}
   pub known_read : only (token_keys l) (Some (length g.entries)) ms ≡ Ok known
   pub name_if : Option (List ℕ)
@@ -54,7 +54,7 @@ pub record TokenParts (l : Language) (system_max : ℕ) (g : Forest) (ms : Membe
   pub file_read : file_at (length g.entries) SecretFile (is_some secret) ms ≡ Ok file
   pub made : made_token g name parent life terms need_if secret file ≡ row
 
-pub record LeaseParts (l : Language) (system_max : ℕ) (g : Forest) (ms : Members) (row : Row) : Type 0 where
+pub record LeaseParts (l : Language) (system_max : ℕ) (g : Forest) (ms : Members) (row : TableRow) : Type 0 where
   pub known : Unit {0}
   pub known_read : only (lease_keys l) (Some (length g.entries)) ms ≡ Ok known
   pub name_if : Option (List ℕ)
@@ -77,7 +77,7 @@ pub record LeaseParts (l : Language) (system_max : ℕ) (g : Forest) (ms : Membe
   pub file_read : file_at (length g.entries) LeaseIdFile (is_some lease_id) ms ≡ Ok file
   pub made : made_lease g name token life terms need_if lease_id file ≡ row
 
-pub token_parts : (l : Language) (system_max : ℕ) (g : Forest) (ms : Members) (row : Row) → token_row l system_max g ms ≡ Ok row → TokenParts l system_max g ms row
+pub token_parts : (l : Language) (system_max : ℕ) (g : Forest) (ms : Members) (row : TableRow) → token_row l system_max g ms ≡ Ok row → TokenParts l system_max g ms row
 unfolding token_row
 token_parts l system_max g ms row e =
     bind_ok (only (token_keys l) (Some (length g.entries)) ms) _ row e (λ known a0 e0.
@@ -111,7 +111,7 @@ token_parts l system_max g ms row e =
       made = cc;
     })))))))))
 
-pub lease_parts : (l : Language) (system_max : ℕ) (g : Forest) (ms : Members) (row : Row) → lease_row l system_max g ms ≡ Ok row → LeaseParts l system_max g ms row
+pub lease_parts : (l : Language) (system_max : ℕ) (g : Forest) (ms : Members) (row : TableRow) → lease_row l system_max g ms ≡ Ok row → LeaseParts l system_max g ms row
 unfolding lease_row
 lease_parts l system_max g ms row e =
     bind_ok (only (lease_keys l) (Some (length g.entries)) ms) _ row e (λ known a0 e0.

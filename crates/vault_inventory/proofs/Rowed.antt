@@ -13,7 +13,7 @@ use Rattle.vault_inventory.specs.declared.key.Key.{Key}
 use Rattle.vault_inventory.specs.declared.key.Key.TheVariants.{Token, Name, Parent, Issued, End, Renewable, Increment, Period, MaxTtl, ExplicitMaxTtl, Reissued, Need, Secret, SecretFile, LeaseId, LeaseIdFile}
 use Rattle.vault_inventory.specs.declared.limits.TheConstants.{SPAN_MAX, STEP_ABSENT}
 use Rattle.vault_inventory.specs.declared.row.Life.{Life}
-use Rattle.vault_inventory.specs.declared.row.Row.{Row}
+use Rattle.vault_inventory.specs.declared.row.TableRow.{TableRow}
 use Rattle.vault_inventory.specs.declared.terms.Terms.{Terms}
 use Rattle.vault_inventory.specs.Languages.{full}
 use Rattle.vault_inventory.specs.Keys.{all_keys, is_one_of, key_text, lease_keys, token_keys}
@@ -195,28 +195,28 @@ parent_is g (Some name) there = named_is g name (parent_below g.entries (Some (i
 
 -- ---- a row
 
-token_keys_only : (system_max : ℕ) (g : Forest) (ms : Members) (row : Row) → token_row full system_max g ms ≡ Ok row → all_keys (is_one_of (token_keys full)) ms ≡ true
+token_keys_only : (system_max : ℕ) (g : Forest) (ms : Members) (row : TableRow) → token_row full system_max g ms ≡ Ok row → all_keys (is_one_of (token_keys full)) ms ≡ true
 unfolding token_row
 token_keys_only system_max g ms row e = bind_ok (only (token_keys full) (Some (length g.entries)) ms) _ row e (λ u known e1. only_is (token_keys full) (Some (length g.entries)) ms u known)
 
-lease_keys_only : (system_max : ℕ) (g : Forest) (ms : Members) (row : Row) → lease_row full system_max g ms ≡ Ok row → all_keys (is_one_of (lease_keys full)) ms ≡ true
+lease_keys_only : (system_max : ℕ) (g : Forest) (ms : Members) (row : TableRow) → lease_row full system_max g ms ≡ Ok row → all_keys (is_one_of (lease_keys full)) ms ≡ true
 unfolding lease_row
 lease_keys_only system_max g ms row e = bind_ok (only (lease_keys full) (Some (length g.entries)) ms) _ row e (λ u known e1. only_is (lease_keys full) (Some (length g.entries)) ms u known)
 
-abbrev IsTokenRow : ℕ → Forest → Members → Row → Type 0
+abbrev IsTokenRow : ℕ → Forest → Members → TableRow → Type 0
 IsTokenRow system_max g ms row = IsToken system_max g.entries (length g.entries) ms row.entry row.credential row.terms row.note
 
-abbrev IsLeaseRow : ℕ → Forest → Members → Row → Type 0
+abbrev IsLeaseRow : ℕ → Forest → Members → TableRow → Type 0
 IsLeaseRow system_max g ms row = IsLease system_max g.entries (length g.entries) ms row.entry row.credential row.terms row.note
 
-pub token_row_is : (system_max : ℕ) (g : Forest) (ms : Members) (row : Row) → token_row full system_max g ms ≡ Ok row → entry_refusal g row.entry ≡ None → IsTokenRow system_max g ms row
+pub token_row_is : (system_max : ℕ) (g : Forest) (ms : Members) (row : TableRow) → token_row full system_max g ms ≡ Ok row → entry_refusal g row.entry ≡ None → IsTokenRow system_max g ms row
 token_row_is system_max g ms row read fits =
     let parts = token_parts full system_max g ms row read in
     let place = Some (length g.entries) in
     let life = lived (length g.entries) ms parts.life (made_token g parts.name parts.parent parts.life parts.terms parts.need_if parts.secret parts.file).entry parts.terms parts.life_read in
     let terms = token_termed system_max (length g.entries) parts.life.issued ms parts.terms parts.terms_read in
     let there : lacks_parent g.entries row.entry.parent ≡ false = (taken_from_refusal g row.entry fits).parent_there in
-    subst (λ (r : Row). IsTokenRow system_max g ms r) parts.made (record {
+    subst (λ (r : TableRow). IsTokenRow system_max g ms r) parts.made (record {
       keys = token_keys_only system_max g ms row read;
       kind = refl;
       life = record {
@@ -232,7 +232,7 @@ token_row_is system_max g ms row read fits =
       };
       name = parts.parent;
       parent = writes_is text place Parent ms parts.parent parts.parent_read;
-      parent_is = parent_is g parts.parent (subst (λ (r : Row). lacks_parent g.entries r.entry.parent ≡ false) (sym parts.made) there);
+      parent_is = parent_is g parts.parent (subst (λ (r : TableRow). lacks_parent g.entries r.entry.parent ≡ false) (sym parts.made) there);
       increment = terms.increment;
       increment_written = terms.written;
       increment_is = terms.increment_is;
@@ -243,14 +243,14 @@ token_row_is system_max g ms row read fits =
       secret = secret_is (length g.entries) Secret SecretFile ms parts.name parts.secret parts.file parts.secret_read parts.file_read;
     })
 
-pub lease_row_is : (system_max : ℕ) (g : Forest) (ms : Members) (row : Row) → lease_row full system_max g ms ≡ Ok row → entry_refusal g row.entry ≡ None → IsLeaseRow system_max g ms row
+pub lease_row_is : (system_max : ℕ) (g : Forest) (ms : Members) (row : TableRow) → lease_row full system_max g ms ≡ Ok row → entry_refusal g row.entry ≡ None → IsLeaseRow system_max g ms row
 lease_row_is system_max g ms row read fits =
     let parts = lease_parts full system_max g ms row read in
     let place = Some (length g.entries) in
     let life = lived (length g.entries) ms parts.life (made_lease g parts.name parts.token parts.life parts.terms parts.need_if parts.lease_id parts.file).entry parts.terms parts.life_read in
     let terms = lease_termed system_max (length g.entries) parts.life.issued ms parts.terms parts.terms_read in
     let there : lacks_parent g.entries row.entry.parent ≡ false = (taken_from_refusal g row.entry fits).parent_there in
-    subst (λ (r : Row). IsLeaseRow system_max g ms r) parts.made (record {
+    subst (λ (r : TableRow). IsLeaseRow system_max g ms r) parts.made (record {
       keys = lease_keys_only system_max g ms row read;
       kind = refl;
       life = record {
@@ -266,7 +266,7 @@ lease_row_is system_max g ms row read fits =
       };
       token = parts.token;
       token_written = needed_writes text place (length g.entries) Token ms parts.token_if parts.token parts.token_read parts.token_there;
-      token_is = named_is g parts.token (parent_below g.entries (Some (index_or_none g parts.token)) (subst (λ (r : Row). lacks_parent g.entries r.entry.parent ≡ false) (sym parts.made) there) (index_or_none g parts.token) refl);
+      token_is = named_is g parts.token (parent_below g.entries (Some (index_or_none g parts.token)) (subst (λ (r : TableRow). lacks_parent g.entries r.entry.parent ≡ false) (sym parts.made) there) (index_or_none g parts.token) refl);
       increment = terms.increment;
       increment_written = terms.written;
       increment_is = terms.increment_is;

@@ -16,7 +16,7 @@ use Rattle.vault_inventory.specs.declared.fault.InvFault.{InvFault}
 use Rattle.vault_inventory.specs.declared.fault.InvFault.TheVariants.{BadValue}
 use Rattle.vault_inventory.specs.declared.key.Key.{Key}
 use Rattle.vault_inventory.specs.declared.key.Key.TheVariants.{Secret, LeaseId}
-use Rattle.vault_inventory.specs.declared.row.Row.{Row}
+use Rattle.vault_inventory.specs.declared.row.TableRow.{TableRow}
 use Rattle.vault_inventory.specs.Languages.{Language}
 use Rattle.vault_inventory.specs.Keys.{key_text}
 use Rattle.vault_inventory.specs.Values.{read_if, credential, is_credential}
@@ -106,16 +106,16 @@ either_sendable : (written : Option (List ℕ)) (name : List ℕ) → IfSome wri
 either_sendable None name h k = k
 either_sendable (Some x) name h k = h
 
-pub token_sendable : (l : Language) (system_max : ℕ) (g : Forest) (ms : Members) (row : Row) → TokenParts l system_max g ms row → entry_refusal g row.entry ≡ None → IsSendableText row.credential
+pub token_sendable : (l : Language) (system_max : ℕ) (g : Forest) (ms : Members) (row : TableRow) → TokenParts l system_max g ms row → entry_refusal g row.entry ≡ None → IsSendableText row.credential
 token_sendable l system_max g ms row parts fits =
     let name : is_name row.entry.name ≡ true = (taken_from_refusal g row.entry fits).named in
-    subst (λ (r : Row). IsSendableText r.credential) parts.made
+    subst (λ (r : TableRow). IsSendableText r.credential) parts.made
     (either_sendable parts.secret parts.name (read_sendable (get_member (key_text Secret) ms) (Some (length g.entries)) Secret parts.secret parts.secret_read)
-    (name_sendable parts.name (subst (λ (r : Row). is_name r.entry.name ≡ true) (sym parts.made) name)))
+    (name_sendable parts.name (subst (λ (r : TableRow). is_name r.entry.name ≡ true) (sym parts.made) name)))
 
-pub lease_sendable : (l : Language) (system_max : ℕ) (g : Forest) (ms : Members) (row : Row) → LeaseParts l system_max g ms row → entry_refusal g row.entry ≡ None → IsSendableText row.credential
+pub lease_sendable : (l : Language) (system_max : ℕ) (g : Forest) (ms : Members) (row : TableRow) → LeaseParts l system_max g ms row → entry_refusal g row.entry ≡ None → IsSendableText row.credential
 lease_sendable l system_max g ms row parts fits =
     let name : is_name row.entry.name ≡ true = (taken_from_refusal g row.entry fits).named in
-    subst (λ (r : Row). IsSendableText r.credential) parts.made
+    subst (λ (r : TableRow). IsSendableText r.credential) parts.made
     (either_sendable parts.lease_id parts.name (read_sendable (get_member (key_text LeaseId) ms) (Some (length g.entries)) LeaseId parts.lease_id parts.lease_id_read)
-    (name_sendable parts.name (subst (λ (r : Row). is_name r.entry.name ≡ true) (sym parts.made) name)))
+    (name_sendable parts.name (subst (λ (r : TableRow). is_name r.entry.name ≡ true) (sym parts.made) name)))

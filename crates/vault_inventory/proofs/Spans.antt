@@ -8,7 +8,7 @@ use Rattle.plan_forest.specs.Forest.{Forest}
 use Rattle.vault_inventory.specs.Languages.{Language, is_strict}
 use Rattle.vault_inventory.specs.declared.limits.TheConstants.{SPAN_MAX, STEP_ABSENT}
 use Rattle.vault_inventory.specs.declared.key.Key.TheVariants.{Increment, Period, MaxTtl, ExplicitMaxTtl, Reissued}
-use Rattle.vault_inventory.specs.declared.row.Row.{Row}
+use Rattle.vault_inventory.specs.declared.row.TableRow.{TableRow}
 use Rattle.vault_inventory.specs.declared.terms.Terms.{Terms}
 use Rattle.vault_inventory.specs.Values.{flag_value, has_if, span, value_at}
 use Rattle.vault_inventory.specs.Rows.{lease_terms, step_or, token_terms}
@@ -73,12 +73,12 @@ step_within t increment period =
       | inr some ↦ subst (λ n. n ≤ SPAN_MAX) (sym (cond-false (t.period == 0) (unwrap_or t.increment 0) t.period some)) period
     ]
 
-pub token_good : (l : Language) (system_max : ℕ) (g : Forest) (ms : Members) (row : Row) → TokenParts l system_max g ms row → IsGood row.entry row.terms
+pub token_good : (l : Language) (system_max : ℕ) (g : Forest) (ms : Members) (row : TableRow) → TokenParts l system_max g ms row → IsGood row.entry row.terms
 token_good l system_max g ms row parts =
     let spans = token_terms_are l system_max _ parts.life.issued ms parts.terms parts.terms_read in
-    subst (λ (r : Row). IsGood r.entry r.terms) parts.made (step_within parts.terms spans.increment spans.period, refl, refl)
+    subst (λ (r : TableRow). IsGood r.entry r.terms) parts.made (step_within parts.terms spans.increment spans.period, refl, refl)
 
-pub lease_good : (l : Language) (system_max : ℕ) (g : Forest) (ms : Members) (row : Row) → LeaseParts l system_max g ms row → IsGood row.entry row.terms
+pub lease_good : (l : Language) (system_max : ℕ) (g : Forest) (ms : Members) (row : TableRow) → LeaseParts l system_max g ms row → IsGood row.entry row.terms
 lease_good l system_max g ms row parts =
     let spans = lease_terms_are l system_max _ parts.life.issued ms parts.terms parts.terms_read in
-    subst (λ (r : Row). IsGood r.entry r.terms) parts.made (step_within parts.terms spans.increment spans.period, refl, refl)
+    subst (λ (r : TableRow). IsGood r.entry r.terms) parts.made (step_within parts.terms spans.increment spans.period, refl, refl)

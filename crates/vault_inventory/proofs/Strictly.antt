@@ -21,9 +21,9 @@ use Rattle.vault_inventory.specs.declared.key.Key.{Key}
 use Rattle.vault_inventory.specs.declared.key.Key.TheVariants.{SystemMax, Margin, Token, Lease, Issued, End, Renewable, Increment, Period, MaxTtl, ExplicitMaxTtl, Reissued, Need, SecretFile, LeaseIdFile}
 use Rattle.vault_inventory.specs.declared.need.Need as needs
 use Rattle.vault_inventory.specs.declared.need.Need.TheVariants.{Always}
-use Rattle.vault_inventory.specs.declared.note.Note.{Note}
+use Rattle.vault_inventory.specs.declared.note.EntryNote.{EntryNote}
 use Rattle.vault_inventory.specs.declared.row.Life.{Life}
-use Rattle.vault_inventory.specs.declared.row.Row.{Row}
+use Rattle.vault_inventory.specs.declared.row.TableRow.{TableRow}
 use Rattle.vault_inventory.specs.declared.terms.Terms.{Terms}
 use Rattle.vault_inventory.specs.Languages.{strict, full}
 use Rattle.vault_inventory.specs.Keys.{all_keys, is_one_of, key_text, lease_keys, token_keys, top_keys}
@@ -211,7 +211,7 @@ read_good place key (Some d) found e = taken_good place key (need strict d) foun
 
 -- ---- a row
 
-token_strict : (system_max : ℕ) (g : Forest) (ms : Members) (row : Row) → token_row strict system_max g ms ≡ Ok row → (token_row full system_max g ms ≡ Ok row) × IsClosed row.note
+token_strict : (system_max : ℕ) (g : Forest) (ms : Members) (row : TableRow) → token_row strict system_max g ms ≡ Ok row → (token_row full system_max g ms ≡ Ok row) × IsClosed row.note
 unfolding token_row
 token_strict system_max g ms row e =
     let p = token_parts strict system_max g ms row e in
@@ -226,15 +226,15 @@ token_strict system_max g ms row e =
           (follow _ p.terms _ _ (token_terms_strict system_max n p.life.issued ms p.terms p.terms_read)
           (follow _ p.need_if _ _ (value_lifts (need strict) (need full) need_lifts (Some n) Need ms p.need_if p.need_read)
           (follow _ p.secret _ _ p.secret_read
-          (follow _ p.file _ _ p.file_read (ap (λ (r : Row). Ok r) p.made))))))))),
-      subst (λ (r : Row). IsClosed r.note) p.made (record {
+          (follow _ p.file _ _ p.file_read (ap (λ (r : TableRow). Ok r) p.made))))))))),
+      subst (λ (r : TableRow). IsClosed r.note) p.made (record {
         told = life.1;
         until = read_good (Some n) Need (get_member (key_text Need) ms) p.need_if p.need_read;
         file = absent_file n SecretFile (is_some p.secret) ms p.file none p.file_read;
       }),
     )
 
-lease_strict : (system_max : ℕ) (g : Forest) (ms : Members) (row : Row) → lease_row strict system_max g ms ≡ Ok row → (lease_row full system_max g ms ≡ Ok row) × IsClosed row.note
+lease_strict : (system_max : ℕ) (g : Forest) (ms : Members) (row : TableRow) → lease_row strict system_max g ms ≡ Ok row → (lease_row full system_max g ms ≡ Ok row) × IsClosed row.note
 unfolding lease_row
 lease_strict system_max g ms row e =
     let p = lease_parts strict system_max g ms row e in
@@ -250,8 +250,8 @@ lease_strict system_max g ms row e =
           (follow _ p.terms _ _ (lease_terms_strict system_max n p.life.issued ms p.terms p.terms_read)
           (follow _ p.need_if _ _ (value_lifts (need strict) (need full) need_lifts (Some n) Need ms p.need_if p.need_read)
           (follow _ p.lease_id _ _ p.lease_id_read
-          (follow _ p.file _ _ p.file_read (ap (λ (r : Row). Ok r) p.made)))))))))),
-      subst (λ (r : Row). IsClosed r.note) p.made (record {
+          (follow _ p.file _ _ p.file_read (ap (λ (r : TableRow). Ok r) p.made)))))))))),
+      subst (λ (r : TableRow). IsClosed r.note) p.made (record {
         told = life.1;
         until = read_good (Some n) Need (get_member (key_text Need) ms) p.need_if p.need_read;
         file = absent_file n LeaseIdFile (is_some p.lease_id) ms p.file none p.file_read;
@@ -312,7 +312,7 @@ intake_closed ms t e = intake_keeps AreClosed AreClosed (λ margin within. All-n
 
 -- ---- a text
 
-never_open : (index : ℕ) (notes : List Note) → All IsClosed notes → first_open index notes ≡ None
+never_open : (index : ℕ) (notes : List EntryNote) → All IsClosed notes → first_open index notes ≡ None
 never_open index [] closed = refl
 never_open index (note ∷ notes) closed =
     let here = All-head IsClosed note notes closed in

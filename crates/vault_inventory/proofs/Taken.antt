@@ -9,7 +9,7 @@ use Rattle.vault_inventory.specs.declared.fault.InvFault.{InvFault}
 use Rattle.vault_inventory.specs.declared.fault.InvFault.TheVariants.{BadValue}
 use Rattle.vault_inventory.specs.declared.key.Key.{Key}
 use Rattle.vault_inventory.specs.declared.key.Key.TheVariants.{Secret, SecretFile, LeaseId, LeaseIdFile}
-use Rattle.vault_inventory.specs.declared.row.Row.{Row}
+use Rattle.vault_inventory.specs.declared.row.TableRow.{TableRow}
 use Rattle.vault_inventory.specs.Languages.{Language}
 use Rattle.vault_inventory.specs.Intake.{Intake, appended, pushed, has_text, distinct, key_written, with_token, with_lease}
 use Rattle.vault_inventory.specs.Rows.{token_row, lease_row}
@@ -21,15 +21,15 @@ abbrev pub grown : Forest → Entry → Forest
 grown g e = record { entries = g.entries ++ e ∷ []; margin = g.margin }
 
 -- with the row of one token more
-abbrev pub took_token : Intake → Row → Intake
+abbrev pub took_token : Intake → TableRow → Intake
 took_token s row = record { forest = grown s.forest row.entry; secrets = s.secrets ++ row.credential ∷ []; lease_ids = s.lease_ids; terms = s.terms ++ row.terms ∷ []; notes = s.notes ++ row.note ∷ [] }
 
 -- with the row of one lease more
-abbrev pub took_lease : Intake → Row → Intake
+abbrev pub took_lease : Intake → TableRow → Intake
 took_lease s row = record { forest = grown s.forest row.entry; secrets = s.secrets; lease_ids = s.lease_ids ++ row.credential ∷ []; terms = s.terms ++ row.terms ∷ []; notes = s.notes ++ row.note ∷ [] }
 
 -- the forest takes the entry of a row, and none of these texts is its credential
-pub record Fits (g : Forest) (texts : List (List ℕ)) (row : Row) : Type 0 where
+pub record Fits (g : Forest) (texts : List (List ℕ)) (row : TableRow) : Type 0 where
   pub entry : entry_refusal g row.entry ≡ None
   pub fresh : has_text texts row.credential ≡ false
 
@@ -49,7 +49,7 @@ distinct_ok : (key : Key) (index : ℕ) (texts news : List (List ℕ)) (text : L
 unfolding distinct
 distinct_ok key index texts news text e = cond_ok (has_text texts text) (BadValue (Some index) key) (texts ++ text ∷ []) news e
 
-pub token_taken : (s t : Intake) (row : Row) → with_token s row ≡ Ok t → Fits s.forest s.secrets row × (took_token s row ≡ t)
+pub token_taken : (s t : Intake) (row : TableRow) → with_token s row ≡ Ok t → Fits s.forest s.secrets row × (took_token s row ≡ t)
 unfolding with_token
 token_taken s t row e =
     bind_ok (pushed s.forest row.entry) _ t e (λ g p e1.
@@ -63,7 +63,7 @@ token_taken s t row e =
     ap (λ (xs : List (List ℕ)). record { forest = g; secrets = xs; lease_ids = s.lease_ids; terms = s.terms ++ row.terms ∷ []; notes = s.notes ++ row.note ∷ [] }) adds.1 in
     (record { entry = grows.0; fresh = adds.0 }, one ∙ two ∙ made)))
 
-pub lease_taken : (s t : Intake) (row : Row) → with_lease s row ≡ Ok t → Fits s.forest s.lease_ids row × (took_lease s row ≡ t)
+pub lease_taken : (s t : Intake) (row : TableRow) → with_lease s row ≡ Ok t → Fits s.forest s.lease_ids row × (took_lease s row ≡ t)
 unfolding with_lease
 lease_taken s t row e =
     bind_ok (pushed s.forest row.entry) _ t e (λ g p e1.
@@ -90,11 +90,11 @@ all_keep P step keeps key s t (item (table ms) ds) m e =
 all_keep P step keeps key s t (item _ ds) m e = absurd (cc)
 
 -- an entered token is that of its row
-pub token_entered_ok : (l : Language) (system_max : ℕ) (s t : Intake) (ms : Members) → token_entered l system_max s ms ≡ Ok t → (row : Row) × (token_row l system_max s.forest ms ≡ Ok row) × Fits s.forest s.secrets row × (took_token s row ≡ t)
+pub token_entered_ok : (l : Language) (system_max : ℕ) (s t : Intake) (ms : Members) → token_entered l system_max s ms ≡ Ok t → (row : TableRow) × (token_row l system_max s.forest ms ≡ Ok row) × Fits s.forest s.secrets row × (took_token s row ≡ t)
 unfolding token_entered
 token_entered_ok l system_max s t ms e = bind_ok (token_row l system_max s.forest ms) _ t e (λ row r e1. let taken = token_taken s t row e1 in (row, r, taken.0, taken.1))
 
 -- and an entered lease
-pub lease_entered_ok : (l : Language) (system_max : ℕ) (s t : Intake) (ms : Members) → lease_entered l system_max s ms ≡ Ok t → (row : Row) × (lease_row l system_max s.forest ms ≡ Ok row) × Fits s.forest s.lease_ids row × (took_lease s row ≡ t)
+pub lease_entered_ok : (l : Language) (system_max : ℕ) (s t : Intake) (ms : Members) → lease_entered l system_max s ms ≡ Ok t → (row : TableRow) × (lease_row l system_max s.forest ms ≡ Ok row) × Fits s.forest s.lease_ids row × (took_lease s row ≡ t)
 unfolding lease_entered
 lease_entered_ok l system_max s t ms e = bind_ok (lease_row l system_max s.forest ms) _ t e (λ row r e1. let taken = lease_taken s t row e1 in (row, r, taken.0, taken.1))

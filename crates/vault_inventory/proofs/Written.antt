@@ -7,7 +7,7 @@ use Rattle.plan_forest.specs.declared.forest.TheConstants.{MARGIN_MAX}
 use Rattle.vault_inventory.specs.declared.fault.InvFault.{InvFault}
 use Rattle.vault_inventory.specs.declared.key.Key.TheVariants.{SystemMax, Margin, Token, Lease}
 use Rattle.vault_inventory.specs.declared.limits.TheConstants.{SPAN_MAX, SYSTEM_MAX}
-use Rattle.vault_inventory.specs.declared.row.Row.{Row}
+use Rattle.vault_inventory.specs.declared.row.TableRow.{TableRow}
 use Rattle.vault_inventory.specs.Intake.{Intake, empty_intake}
 use Rattle.vault_inventory.specs.Inventory.{document_tree, entered_by, if_read, intake_of, lease_entered, read_served, served_of, system_max_in, token_entered}
 use Rattle.vault_inventory.specs.Languages.{full}
@@ -30,7 +30,7 @@ record Matched (s : Intake) : Type 0 where
 abbrev TokensAlone : Intake → Type 0
 TokensAlone s = Matched s × (s.lease_ids ≡ [])
 
-token_matched : (s : Intake) (row : Row) → TokensAlone s → TokensAlone (took_token s row)
+token_matched : (s : Intake) (row : TableRow) → TokensAlone s → TokensAlone (took_token s row)
 token_matched s row alone =
     let a = length_push s.forest.entries row.entry in
     let b = length_push s.secrets row.credential in
@@ -41,7 +41,7 @@ token_matched s row alone =
     let o = alone.0.noted in
     (record { credited = omega (arith, a, b, m); termed = omega (arith, a, c, n); noted = omega (arith, a, d, o) }, alone.1)
 
-lease_matched : (s : Intake) (row : Row) → Matched s → Matched (took_lease s row)
+lease_matched : (s : Intake) (row : TableRow) → Matched s → Matched (took_lease s row)
 lease_matched s row matched =
     let a = length_push s.forest.entries row.entry in
     let b = length_push s.lease_ids row.credential in
@@ -63,7 +63,7 @@ lease_step system_max s t ms matched e = let taken = lease_entered_ok full syste
 no_lease : (secrets lease_ids : List (List ℕ)) (c : List ℕ) → lease_ids ≡ [] → (secrets ++ c ∷ []) ++ lease_ids ≡ (secrets ++ lease_ids) ++ c ∷ []
 no_lease secrets lease_ids c none = ap (λ ls. (secrets ++ c ∷ []) ++ ls) none ∙ append-nil (secrets ++ c ∷ []) ∙ ap (λ xs. xs ++ c ∷ []) (sym (ap (λ ls. secrets ++ ls) none ∙ append-nil secrets))
 
-token_pushed : (s : Intake) (row : Row) → TokensAlone s → Pushed (read_so_far s) (read_so_far (took_token s row)) row
+token_pushed : (s : Intake) (row : TableRow) → TokensAlone s → Pushed (read_so_far s) (read_so_far (took_token s row)) row
 token_pushed s row alone = record {
   entries = refl;
   margin = refl;
@@ -75,7 +75,7 @@ token_pushed s row alone = record {
   noted = alone.0.noted;
 }
 
-lease_pushed : (s : Intake) (row : Row) → Matched s → Pushed (read_so_far s) (read_so_far (took_lease s row)) row
+lease_pushed : (s : Intake) (row : TableRow) → Matched s → Pushed (read_so_far s) (read_so_far (took_lease s row)) row
 lease_pushed s row matched = record {
   entries = refl;
   margin = refl;

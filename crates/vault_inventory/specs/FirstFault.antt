@@ -10,7 +10,7 @@ use Rattle.vault_inventory.specs.declared.fault.InvFault.TheVariants.{NotToml, M
 use Rattle.vault_inventory.specs.declared.key.Key.{Key}
 use Rattle.vault_inventory.specs.declared.key.Key.TheVariants.{SystemMax, Margin, Token, Lease, Name, Parent, Issued, End, Renewable, Increment, Period, MaxTtl, ExplicitMaxTtl, Reissued, Need, Secret, SecretFile, LeaseId, LeaseIdFile}
 use Rattle.vault_inventory.specs.declared.limits.TheConstants.{SPAN_MAX, SYSTEM_MAX}
-use Rattle.vault_inventory.specs.declared.row.Row.{Row}
+use Rattle.vault_inventory.specs.declared.row.TableRow.{TableRow}
 use Rattle.vault_inventory.specs.Intake.{Intake, empty_intake, has_text, key_written}
 use Rattle.vault_inventory.specs.Inventory.{document_tree, entered_by, lease_entered, read_served, token_entered}
 use Rattle.vault_inventory.specs.Keys.{all_keys, is_one_of, key_text, lease_keys, token_keys, top_keys}
@@ -108,7 +108,7 @@ lease_faults i ms =
     ∷ []
 
 -- of the row of a table that has none of these: why the forest refuses the entry, and that an earlier one has its credential
-abbrev pub row_faults : Key → Forest → List (List ℕ) → Row → List (Option InvFault)
+abbrev pub row_faults : Key → Forest → List (List ℕ) → TableRow → List (Option InvFault)
 row_faults key g texts row =
     option_map (Tree (length g.entries)) (entry_refusal g row.entry)
     ∷ fault_if (has_text texts row.credential) (BadValue (Some (length g.entries)) key)
@@ -120,12 +120,12 @@ row_faults key g texts row =
 abbrev pub TokenFails : ℕ → Intake → Members → InvFault → Type 0
 TokenFails system_max s ms fault =
     (first_fault_of (token_faults (length s.forest.entries) ms) ≡ Some fault)
-    ⊎ ((row : Row) × (token_row full system_max s.forest ms ≡ Ok row) × (first_fault_of (row_faults (key_written Secret SecretFile row.note.file) s.forest s.secrets row) ≡ Some fault))
+    ⊎ ((row : TableRow) × (token_row full system_max s.forest ms ≡ Ok row) × (first_fault_of (row_faults (key_written Secret SecretFile row.note.file) s.forest s.secrets row) ≡ Some fault))
 
 abbrev pub LeaseFails : ℕ → Intake → Members → InvFault → Type 0
 LeaseFails system_max s ms fault =
     (first_fault_of (lease_faults (length s.forest.entries) ms) ≡ Some fault)
-    ⊎ ((row : Row) × (lease_row full system_max s.forest ms ≡ Ok row) × (first_fault_of (row_faults (key_written LeaseId LeaseIdFile row.note.file) s.forest s.lease_ids row) ≡ Some fault))
+    ⊎ ((row : TableRow) × (lease_row full system_max s.forest ms ≡ Ok row) × (first_fault_of (row_faults (key_written LeaseId LeaseIdFile row.note.file) s.forest s.lease_ids row) ≡ Some fault))
 
 -- the first n tables
 abbrev pub front : ℕ → Items → Items

@@ -10,8 +10,8 @@ use Rattle.vault_inventory.specs.declared.fault.InvFault.{InvFault}
 use Rattle.vault_inventory.specs.declared.fault.InvFault.TheVariants.{Tree, BadValue, OutOfMemory}
 use Rattle.vault_inventory.specs.declared.key.Key.{Key}
 use Rattle.vault_inventory.specs.declared.key.Key.TheVariants.{Secret, SecretFile, LeaseId, LeaseIdFile}
-use Rattle.vault_inventory.specs.declared.note.Note.{Note}
-use Rattle.vault_inventory.specs.declared.row.Row.{Row}
+use Rattle.vault_inventory.specs.declared.note.EntryNote.{EntryNote}
+use Rattle.vault_inventory.specs.declared.row.TableRow.{TableRow}
 use Rattle.vault_inventory.specs.declared.terms.Terms.{Terms}
 use Rattle.vault_inventory.specs.Answers.{◌>>=◌, FailsWithInvFault}
 use Rattle.vault_inventory.specs.Inventories.{Inventory}
@@ -22,7 +22,7 @@ pub record Intake : Type 0 where
   pub secrets : List (List ℕ)
   pub lease_ids : List (List ℕ)
   pub terms : List Terms
-  pub notes : List Note
+  pub notes : List EntryNote
 
 abbrev pub empty_intake : ℕ → Intake
 empty_intake margin = record { forest = record { entries = []; margin = margin }; secrets = []; lease_ids = []; terms = []; notes = [] }
@@ -58,14 +58,14 @@ key_written key file_key None = key
 key_written key file_key (Some file) = file_key
 
 -- one token more
-unfoldable pub with_token : Intake → Row → Result Intake InvFault
+unfoldable pub with_token : Intake → TableRow → Result Intake InvFault
 with_token s row = do
   forest ← pushed s.forest row.entry
   secrets ← distinct (key_written Secret SecretFile row.note.file) (length s.forest.entries) s.secrets row.credential
   Ok (record { forest = forest; secrets = secrets; lease_ids = s.lease_ids; terms = s.terms ++ row.terms ∷ []; notes = s.notes ++ row.note ∷ [] })
 
 -- one lease more
-unfoldable pub with_lease : Intake → Row → Result Intake InvFault
+unfoldable pub with_lease : Intake → TableRow → Result Intake InvFault
 with_lease s row = do
   forest ← pushed s.forest row.entry
   lease_ids ← distinct (key_written LeaseId LeaseIdFile row.note.file) (length s.forest.entries) s.lease_ids row.credential

@@ -2,7 +2,7 @@
 use Rattle.std.specs.Prelude.{◌≡◌, ℕ, true, false, List, Ok, None, IsUtf8}
 use Rattle.std.specs.List.{All}
 use Rattle.toml.specs.Data.{Members}
-use Rattle.vault_inventory.specs.declared.note.Note.{Note}
+use Rattle.vault_inventory.specs.declared.note.EntryNote.{EntryNote}
 use Rattle.vault_inventory.specs.Bare.{DocumentsAreAlike}
 use Rattle.vault_inventory.specs.Inventories.{IsSendableText, IsInventory, Inventory}
 use Rattle.vault_inventory.specs.Inventory.{document_tree, read_inventory, read_served, read_strict}
@@ -46,7 +46,7 @@ abbrev pub WrittenLaw : Type 0
 WrittenLaw = (bytes : List ℕ) (v : Served) → read_served bytes ≡ Ok v → (ms : Members) × (document_tree bytes ≡ Ok ms) × DocumentWrites ms v
 
 -- a table that leaves nothing open
-pub record IsClosed (note : Note) : Type 0 where
+pub record IsClosed (note : EntryNote) : Type 0 where
   pub told : note.is_told ≡ true
   pub until : note.is_always ≡ false
   pub file : note.file ≡ None

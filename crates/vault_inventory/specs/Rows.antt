@@ -9,9 +9,9 @@ use Rattle.vault_inventory.specs.declared.key.Key.{Key}
 use Rattle.vault_inventory.specs.declared.key.Key.TheVariants.{Token, Name, Parent, Issued, End, Renewable, Increment, Period, MaxTtl, ExplicitMaxTtl, Reissued, Need, Secret, SecretFile, LeaseId, LeaseIdFile}
 use Rattle.vault_inventory.specs.declared.limits.TheConstants.{SPAN_MAX, STEP_ABSENT}
 use Rattle.vault_inventory.specs.declared.need.Need as needs
-use Rattle.vault_inventory.specs.declared.note.Note.{Note}
+use Rattle.vault_inventory.specs.declared.note.EntryNote.{EntryNote}
 use Rattle.vault_inventory.specs.declared.row.Life.{Life}
-use Rattle.vault_inventory.specs.declared.row.Row.{Row}
+use Rattle.vault_inventory.specs.declared.row.TableRow.{TableRow}
 use Rattle.vault_inventory.specs.declared.terms.Terms.{Terms}
 use Rattle.vault_inventory.specs.Languages.{Language, is_strict}
 use Rattle.vault_inventory.specs.Needs.{is_for_good, until_of}
@@ -65,11 +65,11 @@ file_at index key has_credential ms = do
   Ok file
 
 -- what a table leaves open
-abbrev pub note_of : Life → Option needs.Need → Option (List ℕ) → Note
+abbrev pub note_of : Life → Option needs.Need → Option (List ℕ) → EntryNote
 note_of life need_if file = record { is_told = life.is_told; is_always = is_for_good need_if; file = file }
 
 -- the entry, the credential, the terms and the note that the table of the next token writes, or its first fault
-unfoldable pub token_row : Language → ℕ → Forest → Members → Result Row InvFault
+unfoldable pub token_row : Language → ℕ → Forest → Members → Result TableRow InvFault
 token_row l system_max g ms = do
   known ← only (token_keys l) (Some (length g.entries)) ms
   name_if ← value_at text (Some (length g.entries)) Name ms
@@ -83,7 +83,7 @@ token_row l system_max g ms = do
   Ok (record { entry = record { name = name; kind = kind.Token; parent = option_map (index_or_none g) parent; end = life.end; renewable = life.renewable; step = step_of terms; ceiling = ceiling_of terms; need = until_of need_if }; credential = unwrap_or secret name; terms = terms; note = note_of life need_if file })
 
 -- the same of the next lease
-unfoldable pub lease_row : Language → ℕ → Forest → Members → Result Row InvFault
+unfoldable pub lease_row : Language → ℕ → Forest → Members → Result TableRow InvFault
 lease_row l system_max g ms = do
   known ← only (lease_keys l) (Some (length g.entries)) ms
   name_if ← value_at text (Some (length g.entries)) Name ms

@@ -5,23 +5,23 @@ use Rattle.std.specs.Prelude.{◌≡◌, ℕ, ◌+◌, Bool, false, List, [], �
 use Rattle.vault_inventory.specs.declared.fault.InvFault.{InvFault}
 use Rattle.vault_inventory.specs.declared.fault.InvFault.TheVariants.{BadValue, MissingKey}
 use Rattle.vault_inventory.specs.declared.key.Key.TheVariants.{Issued, Need}
-use Rattle.vault_inventory.specs.declared.note.Note.{Note}
+use Rattle.vault_inventory.specs.declared.note.EntryNote.{EntryNote}
 use Rattle.vault_inventory.specs.Inventories.{Inventory, IsInventory}
 
 -- the inventory, in which an end that is left open is 0, as is its issue, a need that is `always` is none, and the name stands
 -- for a credential in a file; a note for each entry; whether the margin is written; and the maximum TTL of the system, where that is
 pub record Served : Type 0 where
   pub inventory : Inventory
-  pub notes : List Note
+  pub notes : List EntryNote
   pub has_margin : Bool
   pub system_max : Option ℕ
 
 -- what is read past the last entry
-abbrev pub no_note : Note
+abbrev pub no_note : EntryNote
 no_note = record { is_told = false; is_always = false; file = None }
 
 -- the note of an entry
-unfoldable pub note_at : List Note → ℕ → Note
+unfoldable pub note_at : List EntryNote → ℕ → EntryNote
 note_at notes i = slice_index_or notes i no_note
 
 -- what it always keeps
@@ -30,7 +30,7 @@ pub record IsServedInventory (v : Served) : Type 0 where
   pub notes : length v.notes ≡ length v.inventory.forest.entries
 
 -- the first of these tables, which are those from this index on, that leaves its end to a lookup
-abbrev pub first_untold : ℕ → List Note → Option ℕ
+abbrev pub first_untold : ℕ → List EntryNote → Option ℕ
 first_untold index [] = None
 first_untold index (note ∷ notes) = if note.is_told then first_untold (index + 1) notes else Some index
 
@@ -43,11 +43,11 @@ unfoldable pub served_if_told : Served → Result Served InvFault
 served_if_told v = told_unless v (first_untold 0 v.notes)
 
 -- why a table cannot be planned: neither its issue nor its end is written
-abbrev pub open_fault : ℕ → Note → Option InvFault
+abbrev pub open_fault : ℕ → EntryNote → Option InvFault
 open_fault index note = if note.is_told then (if note.is_always then Some (BadValue (Some index) Need) else None) else Some (MissingKey index Issued)
 
 -- the first fault of these, which are those from this index on
-abbrev pub first_open : ℕ → List Note → Option InvFault
+abbrev pub first_open : ℕ → List EntryNote → Option InvFault
 first_open index [] = None
 first_open index (note ∷ notes) = elim (open_fault index note) [ Some fault ↦ Some fault | None ↦ first_open (index + 1) notes ]
 

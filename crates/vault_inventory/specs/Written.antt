@@ -10,7 +10,7 @@ use Rattle.vault_inventory.specs.declared.key.Key.{Key}
 use Rattle.vault_inventory.specs.declared.key.Key.TheVariants.{SystemMax, Margin, Token, Lease, Name, Parent, Issued, End, Renewable, Increment, Period, MaxTtl, ExplicitMaxTtl, Reissued, Need, Secret, SecretFile, LeaseId, LeaseIdFile}
 use Rattle.vault_inventory.specs.declared.limits.TheConstants.{SPAN_MAX, STEP_ABSENT, SYSTEM_MAX}
 use Rattle.vault_inventory.specs.declared.need.Need as needs
-use Rattle.vault_inventory.specs.declared.note.Note.{Note}
+use Rattle.vault_inventory.specs.declared.note.EntryNote.{EntryNote}
 use Rattle.vault_inventory.specs.declared.terms.Terms.{Terms}
 use Rattle.vault_inventory.specs.Inventories.{credential_at, terms_at}
 use Rattle.vault_inventory.specs.Languages.{full}
@@ -50,7 +50,7 @@ EndIsTold ms e t true = WritesKey moment_value Issued ms (Some t.issued) × Writ
 EndIsTold ms e t false = WritesKey moment_value Issued ms None × WritesKey end_value End ms None × (t.issued ≡ 0) × (e.end ≡ 0)
 
 -- a table of either kind: when its entry was issued, its end, whether it can be renewed, and until when it is needed
-pub record IsLife (ms : Members) (e : Entry) (t : Terms) (note : Note) : Type 0 where
+pub record IsLife (ms : Members) (e : Entry) (t : Terms) (note : EntryNote) : Type 0 where
   pub name : WritesKey text Name ms (Some e.name)
   pub told : EndIsTold ms e t note.is_told
   pub renewable : WritesOr flag_value Renewable ms true e.renewable
@@ -70,7 +70,7 @@ pub record IsSecret (key file_key : Key) (ms : Members) (name sent : List ℕ) (
   pub alone : is_some secret && is_some file ≡ false
 
 -- the entry at an index, its credential, its terms and its note are those of a table `[[token]]`
-pub record IsToken (system_max : ℕ) (es : List Entry) (i : ℕ) (ms : Members) (e : Entry) (sent : List ℕ) (t : Terms) (note : Note) : Type 0 where
+pub record IsToken (system_max : ℕ) (es : List Entry) (i : ℕ) (ms : Members) (e : Entry) (sent : List ℕ) (t : Terms) (note : EntryNote) : Type 0 where
   pub keys : all_keys (is_one_of (token_keys full)) ms ≡ true
   pub kind : e.kind ≡ kind.Token
   pub life : IsLife ms e t note
@@ -87,7 +87,7 @@ pub record IsToken (system_max : ℕ) (es : List Entry) (i : ℕ) (ms : Members)
   pub secret : IsSecret Secret SecretFile ms e.name sent note.file
 
 -- and those of a table `[[lease]]`
-pub record IsLease (system_max : ℕ) (es : List Entry) (i : ℕ) (ms : Members) (e : Entry) (sent : List ℕ) (t : Terms) (note : Note) : Type 0 where
+pub record IsLease (system_max : ℕ) (es : List Entry) (i : ℕ) (ms : Members) (e : Entry) (sent : List ℕ) (t : Terms) (note : EntryNote) : Type 0 where
   pub keys : all_keys (is_one_of (lease_keys full)) ms ≡ true
   pub kind : e.kind ≡ kind.Lease
   pub life : IsLife ms e t note

@@ -12,7 +12,7 @@ use crate::inventory::Inventory;
 use crate::key::Key;
 use crate::known::only_top_keys;
 use crate::limits::{SPAN_MAX, SYSTEM_MAX};
-use crate::served::Served;
+use crate::served::ServedInventory;
 use crate::value::{is_there, span_at, tables_at};
 use base_moment::Span;
 use plan_forest::MARGIN_MAX;
@@ -25,7 +25,7 @@ use toml::Table;
 ///
 /// The first fault in the order of [`InvFault`], or out of memory.
 #[tactic(auto, unfolding(crate::specs::Inventory::read_served))]
-pub fn read_served(alloc: Global, bytes: &[u8]) -> Result<Served, InvFault>
+pub fn read_served(alloc: Global, bytes: &[u8]) -> Result<ServedInventory, InvFault>
     ensures { GivesOrInvFault (λ served. served) result (read_served bytes.now) }
 {
     let table = read_document(alloc, bytes)?;
@@ -38,7 +38,7 @@ pub fn read_served(alloc: Global, bytes: &[u8]) -> Result<Served, InvFault>
 ///
 /// Those of [`read_served`]; then `MissingKey` with `issued`, of the first table that leaves its end to a lookup.
 #[tactic(auto, unfolding(crate::specs::Inventory::read_known))]
-pub fn read_known(alloc: Global, bytes: &[u8]) -> Result<Served, InvFault>
+pub fn read_known(alloc: Global, bytes: &[u8]) -> Result<ServedInventory, InvFault>
     ensures { GivesOrInvFault (λ served. served) result (read_known bytes.now) }
 {
     read_served(alloc, bytes)?.into_known()
@@ -86,12 +86,12 @@ fn judged(read: Result<Table, toml::de::Error>) -> Result<Table, InvFault>
 
 // What a document's tree writes: the first fault is never `NotToml`.
 #[tactic(auto, unfolding(crate::specs::Inventory::served_of))]
-fn served_in(alloc: Global, table: &Table) -> Result<Served, InvFault>
+fn served_in(alloc: Global, table: &Table) -> Result<ServedInventory, InvFault>
     ensures { GivesOrInvFault (λ served. served) result (served_of full (table_view table.now)) }
 {
     let draft = read_draft(alloc, table)?;
     let has_margin = is_there(table, Key::Margin);
-    Ok(Served::of(draft, has_margin, system_max_in(table)))
+    Ok(ServedInventory::of(draft, has_margin, system_max_in(table)))
 }
 
 // The maximum TTL of the system that a document's tree writes.

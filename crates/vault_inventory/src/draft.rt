@@ -8,9 +8,9 @@ ghost use Rattle.vault_inventory.specs.Inventory.{token_entered, lease_entered, 
 
 use crate::fault::InvFault;
 use crate::key::Key;
-use crate::note::Note;
+use crate::note::EntryNote;
 use crate::register::Register;
-use crate::row::{Row, lease_row, token_row};
+use crate::row::{TableRow, lease_row, token_row};
 use crate::terms::Terms;
 use base_moment::{Span, Text};
 use plan_forest::{Entry, Forest, TreeFault};
@@ -25,7 +25,7 @@ pub struct Draft {
     pub secrets: Register,
     pub lease_ids: Register,
     pub terms: Vec<Terms>,
-    pub notes: Vec<Note>,
+    pub notes: Vec<EntryNote>,
 }
 
 impl Model for Draft {
@@ -118,7 +118,7 @@ impl Draft {
 
     // Adds the row of a token.
     #[tactic(auto, unfolding(crate::specs::Intake::with_token))]
-    fn add_token(&mut self, alloc: Global, row: Row) -> Result<(), InvFault>
+    fn add_token(&mut self, alloc: Global, row: TableRow) -> Result<(), InvFault>
         ensures { Changes (with_token self.old row) self.new result }
     {
         let index = self.forest.len();
@@ -132,7 +132,7 @@ impl Draft {
 
     // Adds the row of a lease.
     #[tactic(auto, unfolding(crate::specs::Intake::with_lease))]
-    fn add_lease(&mut self, alloc: Global, row: Row) -> Result<(), InvFault>
+    fn add_lease(&mut self, alloc: Global, row: TableRow) -> Result<(), InvFault>
         ensures { Changes (with_lease self.old row) self.new result }
     {
         let index = self.forest.len();
@@ -169,7 +169,7 @@ fn told(index: u32, fault: TreeFault) -> InvFault
 }
 
 // The key that writes the credential of an entry, or the name of its file.
-fn key_written(key: Key, file_key: Key, note: &Note) -> Key
+fn key_written(key: Key, file_key: Key, note: &EntryNote) -> Key
     ensures { result ≡ key_written key file_key note.now.file }
 {
     match &note.file {

@@ -5,7 +5,7 @@ ghost use Rattle.vault_inventory.specs.Lookup.{lookup_fault, told};
 
 use crate::draft::Draft;
 use crate::lookup::{LookupFault, set_need, tell, told_terms, write_terms};
-use crate::note::Note;
+use crate::note::EntryNote;
 use crate::register::Register;
 use crate::terms::Terms;
 use base_moment::Moment;
@@ -179,7 +179,7 @@ impl Inventory {
     }
 
     /// The inventory of a draft whose tables are all read, and what they leave open.
-    pub(crate) fn of(draft: Draft) -> (Inventory, Vec<Note>)
+    pub(crate) fn of(draft: Draft) -> (Inventory, Vec<EntryNote>)
         requires { IsInventory (inventory_of_intake draft) }
         ensures inventory { result.0 ≡ inventory_of_intake draft }
         ensures notes { result.1.items ≡ draft.notes }

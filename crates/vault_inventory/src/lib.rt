@@ -36,6 +36,6 @@ pub use laws::{
 pub use limits::{CREDENTIAL_MAX, MOST_INVENTORY, PATH_MAX, SPAN_MAX, STEP_ABSENT, SYSTEM_MAX};
 pub use lookup::{LookupFault, told_terms};
 pub use need::Need;
-pub use note::Note;
-pub use served::Served;
+pub use note::EntryNote;
+pub use served::ServedInventory;
 pub use terms::Terms;

@@ -11,7 +11,7 @@ use crate::key::Key;
 use crate::known::{only_lease_keys, only_token_keys};
 use crate::limits::{SPAN_MAX, STEP_ABSENT};
 use crate::need::Need;
-use crate::note::Note;
+use crate::note::EntryNote;
 use crate::terms::{Terms, max_ttl};
 use crate::value::{
     credential_at, end_at, flag_at, is_there, moment_at, need_at, path_at, span_at, text_at,
@@ -24,14 +24,14 @@ use toml::Table;
 
 /// What one table of an inventory writes: an entry, the credential that is sent for it, its terms, and what it leaves open.
 #[derive(Drop)]
-pub struct Row {
+pub struct TableRow {
     pub entry: Entry,
     pub credential: Text,
     pub terms: Terms,
-    pub note: Note,
+    pub note: EntryNote,
 }
 
-impl fmt::Debug for Row {
+impl fmt::Debug for TableRow {
     /// Shows all but the credential, which is secret.
     fn fmt<W: fmt::Write>(&self, f: &mut fmt::Formatter<W>) -> fmt::Result {
         f.debug_struct("Row")
@@ -58,7 +58,7 @@ pub fn token_row(
     system_max: Span,
     forest: &Forest,
     table: &Table,
-) -> Result<Row, InvFault>
+) -> Result<TableRow, InvFault>
     ensures { GivesOrInvFault (λ row. row) result (token_row full system_max forest.now (table_view table.now)) }
 {
     let index = forest.len();
@@ -73,7 +73,7 @@ pub fn token_row(
     let need = need_at(table, Some(index), Key::Need)?;
     let secret = credential_at(table, Some(index), Key::Secret)?;
     let file = file_at(table, index, Key::SecretFile, secret.is_some())?;
-    Ok(Row {
+    Ok(TableRow {
         entry: Entry {
             name: Name::of(alloc, name.as_bytes())?,
             kind: Kind::Token,
@@ -86,7 +86,7 @@ pub fn token_row(
         },
         credential: Text::of(alloc, text_or(secret, name).as_bytes())?,
         terms,
-        note: Note {
+        note: EntryNote {
             is_told: life.is_told,
             is_always: is_for_good(need),
             file: owned(alloc, file)?,
@@ -101,7 +101,7 @@ pub fn lease_row(
     system_max: Span,
     forest: &Forest,
     table: &Table,
-) -> Result<Row, InvFault>
+) -> Result<TableRow, InvFault>
     ensures { GivesOrInvFault (λ row. row) result (lease_row full system_max forest.now (table_view table.now)) }
 {
     let index = forest.len();
@@ -119,7 +119,7 @@ pub fn lease_row(
     let need = need_at(table, Some(index), Key::Need)?;
     let lease_id = credential_at(table, Some(index), Key::LeaseId)?;
     let file = file_at(table, index, Key::LeaseIdFile, lease_id.is_some())?;
-    Ok(Row {
+    Ok(TableRow {
         entry: Entry {
             name: Name::of(alloc, name.as_bytes())?,
             kind: Kind::Lease,
@@ -132,7 +132,7 @@ pub fn lease_row(
         },
         credential: Text::of(alloc, text_or(lease_id, name).as_bytes())?,
         terms,
-        note: Note {
+        note: EntryNote {
             is_told: life.is_told,
             is_always: is_for_good(need),
             file: owned(alloc, file)?,

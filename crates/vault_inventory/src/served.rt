@@ -1,36 +1,36 @@
 ghost use Rattle.std.specs.Prelude.{◌≡◌, ◌<◌, length};
 ghost use Rattle.vault_inventory.specs.Intake.{inventory_of_intake};
-ghost use Rattle.vault_inventory.specs.Served.{IsServedInventory, first_open, first_untold, inventory_if_whole, open_fault, served_if_told};
+ghost use Rattle.vault_inventory.specs.ServedInventory.{IsServedInventory, first_open, first_untold, inventory_if_whole, open_fault, served_if_told};
 
 use crate::draft::Draft;
 use crate::fault::InvFault;
 use crate::inventory::Inventory;
 use crate::key::Key;
-use crate::note::Note;
+use crate::note::EntryNote;
 use base_moment::Span;
 use std::marker::Model;
 
 /// An inventory as it is written, with what its tables leave open: ends that a lookup tells, needs that are `always`, and
 /// credentials that stand in files.
 #[derive(Debug, Drop)]
-pub struct Served {
+pub struct ServedInventory {
     inventory: Inventory,
-    notes: Vec<Note>,
+    notes: Vec<EntryNote>,
     has_margin: bool,
     system_max: Option<Span>,
 }
 
-impl Model for Served {
-    ghost use Rattle.vault_inventory.specs.Served.{IsServedInventory, Served};
+impl Model for ServedInventory {
+    ghost use Rattle.vault_inventory.specs.ServedInventory.{IsServedInventory, ServedInventory};
 
-    ghost Value = { Served };
+    ghost Value = { ServedInventory };
 
     ghost view = { λ v. record { inventory = v.inventory; notes = v.notes.items; has_margin = v.has_margin; system_max = v.system_max } };
 
     ghost invariant = { λ v. IsServedInventory (record { inventory = v.inventory; notes = v.notes.items; has_margin = v.has_margin; system_max = v.system_max }) };
 }
 
-impl Served {
+impl ServedInventory {
     /// The inventory. An end that is left open is 0, as is its issue; a need that is `always` is none; and the name stands for a
     /// credential in a file.
     pub fn inventory(&self) -> &Inventory
@@ -41,7 +41,7 @@ impl Served {
     }
 
     /// What each table leaves open, in the order of the entries.
-    pub fn notes(&self) -> &[Note]
+    pub fn notes(&self) -> &[EntryNote]
         ensures value { result.now ≡ self.now.notes }
         ensures sound { IsServedInventory self.now }
     {
@@ -77,7 +77,7 @@ impl Served {
     /// What is served, where each table writes its end; else `MissingKey` with `issued` of the first that leaves it to a lookup. It
     /// takes no memory.
     #[tactic(auto, unfolding(crate::specs::Served::served_if_told))]
-    pub fn into_known(self) -> Result<Served, InvFault>
+    pub fn into_known(self) -> Result<ServedInventory, InvFault>
         ensures { result ≡ served_if_told self }
     {
         match first_untold(&self.notes) {
@@ -87,7 +87,7 @@ impl Served {
     }
 
     /// The inventory and the notes, one for each of its entries. It takes no memory.
-    pub fn into_parts(self) -> (Inventory, Vec<Note>)
+    pub fn into_parts(self) -> (Inventory, Vec<EntryNote>)
         ensures inventory { result.0 ≡ self.inventory }
         ensures notes { result.1.items ≡ self.notes }
         ensures sound { IsServedInventory self }
@@ -96,12 +96,12 @@ impl Served {
     }
 
     /// What is served by a draft whose tables are all read.
-    pub(crate) fn of(draft: Draft, has_margin: bool, system_max: Option<Span>) -> Served
+    pub(crate) fn of(draft: Draft, has_margin: bool, system_max: Option<Span>) -> ServedInventory
         requires { IsServedInventory (record { inventory = inventory_of_intake draft; notes = draft.notes; has_margin = has_margin; system_max = system_max }) }
         ensures { result ≡ record { inventory = inventory_of_intake draft; notes = draft.notes; has_margin = has_margin; system_max = system_max } }
     {
         let (inventory, notes) = Inventory::of(draft);
-        Served {
+        ServedInventory {
             inventory,
             notes,
             has_margin,
@@ -111,7 +111,7 @@ impl Served {
 }
 
 // The first table that leaves its end to a lookup.
-fn first_untold(notes: &[Note]) -> Option<u32>
+fn first_untold(notes: &[EntryNote]) -> Option<u32>
     requires { length notes.now < 4097 }
     ensures { result ≡ first_untold 0 notes.now }
 {
@@ -124,7 +124,7 @@ fn first_untold(notes: &[Note]) -> Option<u32>
 }
 
 // Why the first table that leaves something open cannot be planned.
-fn first_open(notes: &[Note]) -> Option<InvFault>
+fn first_open(notes: &[EntryNote]) -> Option<InvFault>
     requires { length notes.now < 4097 }
     ensures { result ≡ first_open 0 notes.now }
 {
@@ -137,7 +137,7 @@ fn first_open(notes: &[Note]) -> Option<InvFault>
 }
 
 // Why the table of an entry cannot be planned.
-fn open_fault(index: u32, note: &Note) -> Option<InvFault>
+fn open_fault(index: u32, note: &EntryNote) -> Option<InvFault>
     ensures { result ≡ open_fault index note.now }
 {
     if !note.is_told {

@@ -12,8 +12,8 @@ use Rattle.vault_lanes.specs.declared.allowance.Allowance.{Allowance}
 use Rattle.vault_lanes.specs.declared.loss.Loss.{Loss}
 use Rattle.vault_lanes.specs.declared.loss.Loss.TheVariants as losses
 use Rattle.vault_lanes.specs.declared.reason.ConnectReason.{ConnectReason}
-use Rattle.vault_lanes.specs.declared.stage.Stage.{Stage}
-use Rattle.vault_lanes.specs.declared.stage.Stage.TheVariants.{Connecting, Sending, Silent, Coming}
+use Rattle.vault_lanes.specs.declared.stage.RequestStage.{RequestStage}
+use Rattle.vault_lanes.specs.declared.stage.RequestStage.TheVariants.{Connecting, Sending, Silent, Coming}
 use Rattle.vault_http.specs.Dates.{IsDatedReply}
 use Rattle.vault_http.specs.declared.http_fault.HttpFault.{HttpFault}
 use Rattle.vault_http.specs.declared.known.TheConstants.{MOST_MESSAGE}
@@ -85,7 +85,7 @@ heard_lost loss old new before now never h = record { came = h.came; consumed = 
     by_loss losses.Reply never = absurd (never refl)
     by_loss (losses.Status status) never = tt
 
-pub heard_late : (loss : Loss) (a : Allowance) (moment : ℕ) (stage : Stage) (old new : List ℕ) (before now : Option (List ℕ)) → Err loss ≡ waits a moment stage → Came old new before now
+pub heard_late : (loss : Loss) (a : Allowance) (moment : ℕ) (stage : RequestStage) (old new : List ℕ) (before now : Option (List ℕ)) → Err loss ≡ waits a moment stage → Came old new before now
     → ReplyIsHeard old (Some (Err loss)) new before now
 heard_late loss a moment stage old new before now is h = heard_lost loss old new before now (by_test (nat_lt moment (deadline a stage)) is) h
   where
@@ -93,11 +93,11 @@ heard_late loss a moment stage old new before now is h = heard_lost loss old new
     by_test true e same = cc
     by_test false e same = cc
 
-pub heard_failed : (loss : Loss) (why : ConnectReason) (stage : Stage) (old new : List ℕ) (before now : Option (List ℕ)) → loss ≡ failed why stage → Came old new before now
+pub heard_failed : (loss : Loss) (why : ConnectReason) (stage : RequestStage) (old new : List ℕ) (before now : Option (List ℕ)) → loss ≡ failed why stage → Came old new before now
     → ReplyIsHeard old (Some (Err loss)) new before now
 heard_failed loss why stage old new before now is h = heard_lost loss old new before now (by_stage stage is) h
   where
-    by_stage : (stage : Stage) → loss ≡ failed why stage → loss ≡ losses.Reply → ⊥
+    by_stage : (stage : RequestStage) → loss ≡ failed why stage → loss ≡ losses.Reply → ⊥
     by_stage Connecting e same = cc
     by_stage Sending e same = cc
     by_stage Silent e same = cc

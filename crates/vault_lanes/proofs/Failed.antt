@@ -12,8 +12,8 @@ use Rattle.vault_lanes.specs.declared.allowance.Allowance.{Allowance}
 use Rattle.vault_lanes.specs.declared.loss.Loss.{Loss}
 use Rattle.vault_lanes.specs.declared.loss.Loss.TheVariants as losses
 use Rattle.vault_lanes.specs.declared.reason.ConnectReason.{ConnectReason}
-use Rattle.vault_lanes.specs.declared.stage.Stage.{Stage}
-use Rattle.vault_lanes.specs.declared.stage.Stage.TheVariants.{Connecting, Sending, Silent, Coming}
+use Rattle.vault_lanes.specs.declared.stage.RequestStage.{RequestStage}
+use Rattle.vault_lanes.specs.declared.stage.RequestStage.TheVariants.{Connecting, Sending, Silent, Coming}
 
 pub fails_none : (x : Option ℕ) → FailsMore 0 x x
 fails_none None = tt
@@ -45,12 +45,12 @@ kept_as (Some (Err losses.Reply)) old mid r s why x y z same keeps kept h = kept
 kept_as (Some (Err (losses.Status status))) old mid r s why x y z same keeps kept h = kept_then 0 x y z kept h
 
 -- a try that failed
-pub failed_as : (stage : Stage) (old : List ℕ) (r : Option (List ℕ)) (why : ConnectReason) (x y : Option ℕ) → FailsMore 1 x y → FailsAs old r why (Some (Err (failed why stage))) x y
+pub failed_as : (stage : RequestStage) (old : List ℕ) (r : Option (List ℕ)) (why : ConnectReason) (x y : Option ℕ) → FailsMore 1 x y → FailsAs old r why (Some (Err (failed why stage))) x y
 failed_as Connecting old r why x y h = (h, refl)
 failed_as _ old r why x y h = inl h
 
 -- one that would have had to wait
-pub waits_as : (result : Result Unit Loss) (a : Allowance) (now : ℕ) (stage : Stage) (old : List ℕ) (r : Option (List ℕ)) (why : ConnectReason) (x y : Option ℕ) → result ≡ waits a now stage → FailsMore 0 x y
+pub waits_as : (result : Result Unit Loss) (a : Allowance) (now : ℕ) (stage : RequestStage) (old : List ℕ) (r : Option (List ℕ)) (why : ConnectReason) (x y : Option ℕ) → result ≡ waits a now stage → FailsMore 0 x y
     → FailsAs old r why (answer_of_sending result) x y
 waits_as result a now stage old r why x y is h = subst (λ s. FailsAs old r why (answer_of_sending s) x y) (sym is) (by_test (nat_lt now (deadline a stage)))
   where
@@ -58,10 +58,10 @@ waits_as result a now stage old r why x y is h = subst (λ s. FailsAs old r why 
     by_test true = h
     by_test false = h
 
-pub waits_lost : (loss : Loss) (a : Allowance) (now : ℕ) (stage : Stage) (old : List ℕ) (r : Option (List ℕ)) (why : ConnectReason) (x y : Option ℕ) → Err loss ≡ waits a now stage → FailsMore 0 x y → FailsAs old r why (Some (Err loss)) x y
+pub waits_lost : (loss : Loss) (a : Allowance) (now : ℕ) (stage : RequestStage) (old : List ℕ) (r : Option (List ℕ)) (why : ConnectReason) (x y : Option ℕ) → Err loss ≡ waits a now stage → FailsMore 0 x y → FailsAs old r why (Some (Err loss)) x y
 waits_lost loss a now stage old r why x y is h = waits_as (Err loss) a now stage old r why x y is h
 
-pub failed_lost : (loss : Loss) (stage : Stage) (old : List ℕ) (r : Option (List ℕ)) (why : ConnectReason) (x y : Option ℕ) → loss ≡ failed why stage → FailsMore 1 x y → FailsAs old r why (Some (Err loss)) x y
+pub failed_lost : (loss : Loss) (stage : RequestStage) (old : List ℕ) (r : Option (List ℕ)) (why : ConnectReason) (x y : Option ℕ) → loss ≡ failed why stage → FailsMore 1 x y → FailsAs old r why (Some (Err loss)) x y
 failed_lost loss stage old r why x y is h = subst (λ l. FailsAs old r why (Some (Err l)) x y) (sym is) (failed_as stage old r why x y h)
 
 pub kept_all : {E : Type 0} (result : Result (Option Answer) E) (old mid : List ℕ) (r s : Option (List ℕ)) (why : ConnectReason) (x y z : Option ℕ) → mid ≡ old → Keeps r s → FailsMore 0 x y → IfOk result (λ a. FailsAs mid s why a y z)
@@ -70,7 +70,7 @@ kept_all (Ok a) old mid r s why x y z same keeps kept h = kept_as a old mid r s 
 kept_all (Err e) old mid r s why x y z same keeps kept h = tt
 
 -- bytes that came are no failure of the connection
-pub counted_as : (a : Allowance) (now : ℕ) (stage new : Stage) (said : Answer) (old : List ℕ) (r : Option (List ℕ)) (why : ConnectReason) (x y : Option ℕ) → IsCounted a now stage (Some said) new → FailsMore 0 x y
+pub counted_as : (a : Allowance) (now : ℕ) (stage new : RequestStage) (said : Answer) (old : List ℕ) (r : Option (List ℕ)) (why : ConnectReason) (x y : Option ℕ) → IsCounted a now stage (Some said) new → FailsMore 0 x y
     → (said ≡ Err losses.Closed → AreCut old r) → FailsAs old r why (Some said) x y
 counted_as a now stage new (Ok dated) old r why x y counted h cut = h
 counted_as a now stage new (Err (losses.Connect reason)) old r why x y counted h cut = absurd counted
@@ -87,7 +87,7 @@ sent_whole true taken text left x y h short is none =
     let long : length left ≡ length text - taken = ap length is ∙ length-drop taken text in
     absurd (omega arith)
 
-pub failed_if : (b : Bool) (stage : Stage) (old : List ℕ) (r : Option (List ℕ)) (why : ConnectReason) (x y : Option ℕ) → b ≡ true → FailsMore (if b then 1 else 0) x y → FailsAs old r why (Some (Err (failed why stage))) x y
+pub failed_if : (b : Bool) (stage : RequestStage) (old : List ℕ) (r : Option (List ℕ)) (why : ConnectReason) (x y : Option ℕ) → b ≡ true → FailsMore (if b then 1 else 0) x y → FailsAs old r why (Some (Err (failed why stage))) x y
 failed_if true stage old r why x y is h = failed_as stage old r why x y h
 failed_if false stage old r why x y is h = absurd (false≢true is)
 

@@ -6,8 +6,8 @@ use Rattle.vault_lanes.specs.Losses.{Answer}
 use Rattle.vault_lanes.specs.Stages.{reads_with}
 use Rattle.vault_lanes.specs.declared.allowance.Allowance.{Allowance}
 use Rattle.vault_lanes.specs.declared.loss.Loss.TheVariants as losses
-use Rattle.vault_lanes.specs.declared.stage.Stage.{Stage}
-use Rattle.vault_lanes.specs.declared.stage.Stage.TheVariants.{Coming, Connecting}
+use Rattle.vault_lanes.specs.declared.stage.RequestStage.{RequestStage}
+use Rattle.vault_lanes.specs.declared.stage.RequestStage.TheVariants.{Coming, Connecting}
 use Rattle.vault_http.specs.Dates.{IsDatedReply}
 use Rattle.vault_http.specs.Messages.{UnlessMemory}
 use Rattle.vault_http.specs.declared.dated_reply.DatedReply.{DatedReply}
@@ -30,13 +30,13 @@ module _ (came : List ℕ) (ended : Bool) where
   told_as (Err https.OutOfMemory) said is h = absurd is
 
 -- it is at the stage at which it was
-pub read_counted : (a : Allowance) (now : ℕ) (stage : Stage) (read : Result DatedReply HttpFault) (said : Answer) → ReplyIsRead read said → IsCounted a now stage (Some said) stage
+pub read_counted : (a : Allowance) (now : ℕ) (stage : RequestStage) (read : Result DatedReply HttpFault) (said : Answer) → ReplyIsRead read said → IsCounted a now stage (Some said) stage
 read_counted a now stage (Ok dated) said is = subst (λ s. IsCounted a now stage (Some s) stage) (sym is) refl
 read_counted a now stage (Err https.OutOfMemory) said is = absurd is
 read_counted a now stage (Err _) said is = subst (λ s. IsCounted a now stage (Some s) stage) (sym is) refl
 
 -- an answer settles a request of which all was sent
-pub settled_by : (a : Allowance) (now : ℕ) (old new : Stage) (said : Answer) → (old ≡ Connecting → ⊥) → IsCounted a now old (Some said) new → RequestIsSettled a now new [] (Some said)
+pub settled_by : (a : Allowance) (now : ℕ) (old new : RequestStage) (said : Answer) → (old ≡ Connecting → ⊥) → IsCounted a now old (Some said) new → RequestIsSettled a now new [] (Some said)
 settled_by a now old new (Ok dated) sent h = refl
 settled_by a now old new (Err losses.Reply) sent h = refl
 settled_by a now old new (Err losses.Closed) sent h = λ e. sent (sym h ∙ e)
@@ -44,7 +44,7 @@ settled_by a now old new (Err losses.Timeout) sent h = inr (subst (λ s. most_re
 settled_by a now old new (Err _) sent h = absurd h
 
 -- one that goes on is read once more
-pub counted_more : (a : Allowance) (now counter : ℕ) (last old new : Stage) → old ≡ last → counter < reads_with last → IsCounted a now old None new → most_reads a < 2 ^ 64 → counter + 1 < reads_with new
+pub counted_more : (a : Allowance) (now counter : ℕ) (last old new : RequestStage) → old ≡ last → counter < reads_with last → IsCounted a now old None new → most_reads a < 2 ^ 64 → counter + 1 < reads_with new
 counted_more a now counter last old new same many h fits =
     let more : counter < reads_with old = subst (λ s. counter < reads_with s) (sym same) many in
     let few : reads_with old < most_reads a = h.0 in

@@ -2,8 +2,8 @@
 -- Source: this project's own.
 use Rattle.std.specs.Prelude.{ℕ, ◌+◌, ◌*◌, ◌-◌, ◌^◌, min, nat_lt, if◌then◌else◌}
 use Rattle.vault_lanes.specs.declared.allowance.Allowance.{Allowance}
-use Rattle.vault_lanes.specs.declared.stage.Stage.{Stage}
-use Rattle.vault_lanes.specs.declared.stage.Stage.TheVariants.{Connecting, Sending, Silent, Coming}
+use Rattle.vault_lanes.specs.declared.stage.RequestStage.{RequestStage}
+use Rattle.vault_lanes.specs.declared.stage.RequestStage.TheVariants.{Connecting, Sending, Silent, Coming}
 
 -- so many milliseconds after a moment; no moment is later than the greatest u64
 abbrev pub millis_after : ℕ → ℕ → ℕ
@@ -19,7 +19,7 @@ whole_by a = millis_after a.asked (if nat_lt a.patience (1000 * a.seconds) then 
 
 -- the moment by which a request that has come so far has to come further: after the first bytes of the reply, a quarter of a
 -- second after the last
-abbrev pub deadline : Allowance → Stage → ℕ
+abbrev pub deadline : Allowance → RequestStage → ℕ
 deadline a Connecting = first_by a
 deadline a Sending = first_by a
 deadline a Silent = first_by a

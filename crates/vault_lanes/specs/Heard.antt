@@ -4,26 +4,26 @@ use Rattle.std.specs.Prelude.{ℕ, List, Ok, Err}
 use Rattle.vault_exchange.specs.Heard as exchanged
 use Rattle.vault_exchange.specs.declared.heard.Heard as exchange
 use Rattle.vault_exchange.specs.declared.heard.Heard.TheVariants as heard
-use Rattle.vault_exchange.specs.declared.heard.Terms.{Terms}
+use Rattle.vault_exchange.specs.declared.heard.ToldTerms.{ToldTerms}
 use Rattle.vault_lanes.specs.Losses.{Answer, lost_by}
-use Rattle.vault_lanes.specs.declared.heard.Heard.{Heard}
-use Rattle.vault_lanes.specs.declared.heard.Heard.TheVariants.{Told, Refused, Busy, Lost}
+use Rattle.vault_lanes.specs.declared.heard.HeardAnswer.{HeardAnswer}
+use Rattle.vault_lanes.specs.declared.heard.HeardAnswer.TheVariants.{Told, Refused, Busy, Lost}
 use Rattle.vault_lanes.specs.declared.loss.Loss.{Loss}
 use Rattle.plan_forest.specs.declared.entry.Kind.{Kind}
 use Rattle.vault_json.specs.declared.renewed.Renewed.{Renewed}
 
 -- a reply that counts as none is lost for that reason
-abbrev pub heard_with : {T : Type 0} → Loss → exchange.Heard T → Heard T
+abbrev pub heard_with : {T : Type 0} → Loss → exchange.Heard T → HeardAnswer T
 heard_with why (heard.Told told date) = Told told date
 heard_with why (heard.Refused status date) = Refused status date
 heard_with why heard.Busy = Busy
 heard_with why heard.Lost = Lost why
 
 -- of a renewal, and of a lookup
-abbrev pub renewed_by_answer : Kind → List ℕ → Answer → Heard Renewed
+abbrev pub renewed_by_answer : Kind → List ℕ → Answer → HeardAnswer Renewed
 renewed_by_answer kind id (Err loss) = Lost loss
 renewed_by_answer kind id (Ok dated) = heard_with (lost_by dated.reply.status) (exchanged.renewed_by_reply kind id dated)
 
-abbrev pub looked_up_by_answer : Kind → Answer → Heard Terms
+abbrev pub looked_up_by_answer : Kind → Answer → HeardAnswer ToldTerms
 looked_up_by_answer kind (Err loss) = Lost loss
 looked_up_by_answer kind (Ok dated) = heard_with (lost_by dated.reply.status) (exchanged.looked_up_by_reply kind dated)

@@ -9,8 +9,8 @@ use Rattle.vault_lanes.specs.Stages.{reads_with}
 use Rattle.vault_lanes.specs.declared.allowance.Allowance.{Allowance}
 use Rattle.vault_lanes.specs.declared.loss.Loss.{Loss}
 use Rattle.vault_lanes.specs.declared.loss.Loss.TheVariants as losses
-use Rattle.vault_lanes.specs.declared.stage.Stage.{Stage}
-use Rattle.vault_lanes.specs.declared.stage.Stage.TheVariants.{Connecting, Coming}
+use Rattle.vault_lanes.specs.declared.stage.RequestStage.{RequestStage}
+use Rattle.vault_lanes.specs.declared.stage.RequestStage.TheVariants.{Connecting, Coming}
 use Rattle.vault_http.specs.Dates.{IsDatedReply}
 use Rattle.vault_http.specs.Holding.{IsWaitedFor}
 use Rattle.vault_http.specs.declared.dated_reply.DatedReply.{DatedReply}
@@ -55,7 +55,7 @@ pub record ReplyIsHeard (old : List ℕ) (answer : Option Answer) (new : List �
 
 -- why it is lost, at this stage and with this left to be sent: its time is over, or it comes in too many reads; or no byte of it
 -- was taken
-abbrev pub RequestIsLost : Allowance → ℕ → Stage → List ℕ → Loss → Type 0
+abbrev pub RequestIsLost : Allowance → ℕ → RequestStage → List ℕ → Loss → Type 0
 RequestIsLost a now stage unsent (losses.Connect reason) = stage ≡ Connecting
 RequestIsLost a now stage unsent losses.Timeout = (deadline a stage ≤ now) ⊎ (most_reads a ≤ reads_with stage)
 RequestIsLost a now stage unsent losses.Closed = stage ≡ Connecting → ⊥
@@ -63,13 +63,13 @@ RequestIsLost a now stage unsent losses.Reply = unsent ≡ []
 RequestIsLost a now stage unsent (losses.Status status) = ⊥
 
 -- without an answer its deadline is ahead; with a reply all of it was sent
-abbrev pub RequestIsSettled : Allowance → ℕ → Stage → List ℕ → Option Answer → Type 0
+abbrev pub RequestIsSettled : Allowance → ℕ → RequestStage → List ℕ → Option Answer → Type 0
 RequestIsSettled a now stage unsent None = now < deadline a stage
 RequestIsSettled a now stage unsent (Some (Ok dated)) = unsent ≡ []
 RequestIsSettled a now stage unsent (Some (Err loss)) = RequestIsLost a now stage unsent loss
 
 -- where the sending does not fail, all of it was sent, or its deadline is ahead
-abbrev pub IsPatient : Allowance → ℕ → Stage → List ℕ → Result Unit Loss → Type 0
+abbrev pub IsPatient : Allowance → ℕ → RequestStage → List ℕ → Result Unit Loss → Type 0
 IsPatient a now stage unsent (Ok sent) = (unsent ≡ []) ⊎ (now < deadline a stage)
 IsPatient a now stage unsent (Err loss) = RequestIsLost a now stage unsent loss × (unsent ≡ [] → ⊥)
 
@@ -82,7 +82,7 @@ ReplyIsRead (Err https.OutOfMemory) answer = ⊥
 ReplyIsRead (Err fault) answer = answer ≡ Err (loss_of fault)
 
 -- where there is no answer yet, its read is counted
-abbrev pub IsCounted : Allowance → ℕ → Stage → Option Answer → Stage → Type 0
+abbrev pub IsCounted : Allowance → ℕ → RequestStage → Option Answer → RequestStage → Type 0
 IsCounted a now old None new = (reads_with old < most_reads a) × (new ≡ Coming (reads_with old) now)
 IsCounted a now old (Some (Err losses.Timeout)) new = (most_reads a ≤ reads_with old) × (new ≡ old)
 IsCounted a now old (Some (Err (losses.Connect reason))) new = ⊥

@@ -12,7 +12,7 @@ use Rattle.vault_lanes.specs.declared.coming.Coming.{Coming}
 use Rattle.vault_lanes.specs.declared.allowance.Allowance.{Allowance}
 use Rattle.vault_lanes.specs.declared.fault.LaneFault.{LaneFault}
 use Rattle.vault_lanes.specs.declared.fault.LaneFault.TheVariants.{Refuse, Lose, Hang, Late, Garble, Status}
-use Rattle.vault_lanes.specs.declared.fault.NumberedFault.{NumberedFault}
+use Rattle.vault_lanes.specs.declared.fault.NumberedLaneFault.{NumberedLaneFault}
 use Rattle.vault_lanes.specs.declared.lanes.Ask.{Ask}
 use Rattle.vault_lanes.specs.declared.loss.Loss.TheVariants as losses
 use Rattle.vault_lanes.specs.declared.reason.ConnectReason.TheVariants as reasons
@@ -25,7 +25,7 @@ use Rattle.vault_http.specs.declared.request.Request.{Request}
 -- what stands behind lanes in memory: the table, the faults of the requests by number, and how many were sent
 pub record BehindLanes : Type 0 where
   pub table : BrokerTable
-  pub faults : List NumberedFault
+  pub faults : List NumberedLaneFault
   pub count : ℕ
 
 -- the number of the next request, counted from 1, up to the greatest u64
@@ -33,7 +33,7 @@ abbrev pub next_lane_number : ℕ → ℕ
 next_lane_number count = min (count + 1) (2 ^ 64 - 1)
 
 -- the fault of a request: the first with its number
-unfoldable pub lane_fault_at : List NumberedFault → ℕ → Option LaneFault
+unfoldable pub lane_fault_at : List NumberedLaneFault → ℕ → Option LaneFault
 lane_fault_at faults n = option_map (λ f. f.fault) (find (λ f. f.number == n) faults)
 
 -- what is received, as an answer: no date is told

@@ -2,7 +2,7 @@
 ghost use Rattle.std.specs.Prelude.{◌≡◌, ◌+◌, ◌*◌, ◌≤◌, min};
 ghost use Rattle.vault_lanes.specs.Allowed.{deadline, first_by, most_reads, whole_by};
 
-use crate::stage::Stage;
+use crate::stage::RequestStage;
 
 /// The longest time between the bytes of a reply, in milliseconds.
 pub(crate) const QUARTER: u64 = 250;
@@ -55,12 +55,12 @@ impl Allowance {
     }
 
     /// The moment by which a request that has come so far has to come further.
-    pub fn deadline(&self, stage: Stage) -> u64
+    pub fn deadline(&self, stage: RequestStage) -> u64
         ensures { result ≡ deadline self.now stage }
     {
         match stage {
-            Stage::Connecting | Stage::Sending | Stage::Silent => self.first_by(),
-            Stage::Coming { reads: _, since } => {
+            RequestStage::Connecting | RequestStage::Sending | RequestStage::Silent => self.first_by(),
+            RequestStage::Coming { reads: _, since } => {
                 since.saturating_add(QUARTER).min(self.whole_by())
             }
         }

@@ -17,7 +17,7 @@ pub enum LaneFault {
 
 /// A fault of the request with that number, counted from 1 over all that are sent.
 #[derive(Clone, Copy, Debug, PartialEq, Eq)]
-pub struct NumberedFault {
+pub struct NumberedLaneFault {
     pub number: u64,
     pub fault: LaneFault,
 }

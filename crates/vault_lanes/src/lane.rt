@@ -8,13 +8,13 @@ ghost use Rattle.vault_lanes.specs.Failing.{FailsAs, FailsMore, answer_of_sendin
 ghost use Rattle.vault_lanes.specs.Lanes.{AnswerIsTold, AreWaitedFor, Came, FrontIsWritten, IsCounted, IsJudgedFirst, IsPatient, ReplyIsHeard, ReplyIsRead, RequestIsSettled, to_come};
 ghost use Rattle.vault_lanes.specs.code.Courses.{came_by, is_unjudged};
 ghost use Rattle.vault_lanes.specs.code.Ways.{HasUnjudged, left_of};
-ghost use Rattle.vault_lanes.specs.declared.stage.Stage.TheVariants.{Connecting};
+ghost use Rattle.vault_lanes.specs.declared.stage.RequestStage.TheVariants.{Connecting};
 ghost use Rattle.vault_http.specs.declared.http_fault.HttpFault.TheVariants.{OutOfMemory};
 
 use crate::allowance::Allowance;
 use crate::line::Line;
 use crate::loss::Loss;
-use crate::stage::Stage;
+use crate::stage::RequestStage;
 use base_device::Tried;
 use std::alloc::{AllocError, Global};
 use vault_http::{Arriving, DatedReply, HttpFault};
@@ -32,7 +32,7 @@ pub(crate) struct Lane<L> {
 #[derive(Drop)]
 pub(crate) struct Course {
     pub(crate) allowance: Allowance,
-    pub(crate) stage: Stage,
+    pub(crate) stage: RequestStage,
     /// What has come of the reply, and was judged.
     pub(crate) arriving: Arriving,
     /// What was read of it last, as long as it is not judged: memory may be wanting for that.
@@ -64,7 +64,7 @@ impl<L: Line> Lane<L> {
             unsent: text,
             course: Course {
                 allowance,
-                stage: Stage::Connecting,
+                stage: RequestStage::Connecting,
                 arriving: Arriving::new(alloc),
                 piece,
                 has_ended: false,

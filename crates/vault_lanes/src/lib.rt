@@ -26,8 +26,8 @@ mod way;
 
 pub use allowance::Allowance;
 pub use coming::Coming;
-pub use fault::{LaneFault, NumberedFault};
-pub use heard::{Heard, hear_lookup, hear_renewal};
+pub use fault::{LaneFault, NumberedLaneFault};
+pub use heard::{HeardAnswer, hear_lookup, hear_renewal};
 pub use lanes::{Answered, Ask, Lanes, MOST_WIDTH, free_of};
 pub use line::{Line, Wires};
 pub use loss::{Loss, loss_of};
@@ -35,4 +35,4 @@ pub use reason::ConnectReason;
 pub use running::LanesOver;
 pub use seats::{Seat, Standing, put, rename, take_out};
 pub use sockets::{SocketLanes, SocketLine, SocketWires};
-pub use stage::Stage;
+pub use stage::RequestStage;

@@ -1,7 +1,7 @@
 //! How far a request has come, as a value: what each try at its connection makes of it.
 ghost use Rattle.std.specs.Prelude.{◌≡◌};
 ghost use Rattle.vault_lanes.specs.Stages.{came, failed, stage_once_sent, waits, wrote};
-ghost use Rattle.vault_lanes.specs.declared.stage.Stage.TheVariants.{Connecting};
+ghost use Rattle.vault_lanes.specs.declared.stage.RequestStage.TheVariants.{Connecting};
 
 use crate::allowance::Allowance;
 use crate::loss::Loss;
@@ -9,7 +9,7 @@ use crate::reason::ConnectReason;
 
 /// How far a request has come.
 #[derive(Clone, Copy, Debug, PartialEq, Eq)]
-pub enum Stage {
+pub enum RequestStage {
     /// No byte of it was taken: there may be no connection yet.
     Connecting,
     /// Bytes of it were taken, and not all.
@@ -25,41 +25,41 @@ pub enum Stage {
     },
 }
 
-impl Stage {
+impl RequestStage {
     /// So many bytes of the request were taken, and so many are left.
-    pub fn wrote(self, taken: usize, left: usize) -> Stage
+    pub fn wrote(self, taken: usize, left: usize) -> RequestStage
         ensures { result ≡ wrote taken left self }
     {
         if left == 0 {
-            Stage::Silent
+            RequestStage::Silent
         } else if taken > 0 {
-            Stage::Sending
+            RequestStage::Sending
         } else {
             self
         }
     }
 
     /// All of the request was taken.
-    pub(crate) fn sent(self) -> Stage
+    pub(crate) fn sent(self) -> RequestStage
         ensures stage { result ≡ stage_once_sent self }
         ensures further { result ≡ Connecting → ⊥ }
     {
         match self {
-            Stage::Connecting | Stage::Sending | Stage::Silent => Stage::Silent,
-            Stage::Coming { reads, since } => Stage::Coming { reads, since },
+            RequestStage::Connecting | RequestStage::Sending | RequestStage::Silent => RequestStage::Silent,
+            RequestStage::Coming { reads, since } => RequestStage::Coming { reads, since },
         }
     }
 
     /// A read handed out bytes now, and the reply is not whole. In as many reads as it may come in, it took too long.
-    pub fn came(self, allowance: &Allowance, now: u64) -> Result<Stage, Loss>
+    pub fn came(self, allowance: &Allowance, now: u64) -> Result<RequestStage, Loss>
         ensures { result ≡ came allowance.now now self }
     {
         let reads = match self {
-            Stage::Connecting | Stage::Sending | Stage::Silent => 1,
-            Stage::Coming { reads, since: _ } => reads.saturating_add(1),
+            RequestStage::Connecting | RequestStage::Sending | RequestStage::Silent => 1,
+            RequestStage::Coming { reads, since: _ } => reads.saturating_add(1),
         };
         if reads < allowance.most_reads() {
-            Ok(Stage::Coming { reads, since: now })
+            Ok(RequestStage::Coming { reads, since: now })
         } else {
             Err(Loss::Timeout)
         }
@@ -81,8 +81,8 @@ impl Stage {
         ensures { result ≡ failed reason self }
     {
         match self {
-            Stage::Connecting => Loss::Connect(reason),
-            Stage::Sending | Stage::Silent | Stage::Coming { .. } => Loss::Closed,
+            RequestStage::Connecting => Loss::Connect(reason),
+            RequestStage::Sending | RequestStage::Silent | RequestStage::Coming { .. } => Loss::Closed,
         }
     }
 }

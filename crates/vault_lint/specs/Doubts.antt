@@ -8,7 +8,7 @@ use Rattle.vault_lint.specs.EntryDoubts.{entry_list}
 use Rattle.vault_lint.specs.declared.subject.Subject.{Subject}
 use Rattle.vault_lint.specs.declared.what.Doubt.{Doubt}
 use Rattle.vault_lint.specs.declared.what.Doubt.TheVariants as variants
-use Rattle.vault_lint.specs.declared.what.What.{What}
+use Rattle.vault_lint.specs.declared.what.EntryDoubt.{EntryDoubt}
 use Rattle.vault_lint.specs.declared.what.Whole.{Whole}
 use Rattle.vault_lint.specs.declared.what.Whole.TheVariants.{NoEntries, NoNeeds, AllPast}
 
@@ -58,12 +58,12 @@ round_doubt s = long_round s (fullest_of_first s (length s.inventory.forest.entr
 
 -- ---- of each entry
 
-abbrev pub told_of : ℕ → Option What → List Doubt
+abbrev pub told_of : ℕ → Option EntryDoubt → List Doubt
 told_of i None = []
 told_of i (Some what) = variants.Of i what ∷ []
 
 -- those of these that there are
-abbrev pub told : ℕ → List (Option What) → List Doubt
+abbrev pub told : ℕ → List (Option EntryDoubt) → List Doubt
 told i [] = []
 told i (what ∷ whats) = told_of i what ++ told i whats
 

@@ -4,7 +4,7 @@ ghost use Rattle.vault_lint.specs.Doubts.{doubt_list, doubts, doubts_of_first, e
 
 use crate::entry_doubts::entry_list;
 use crate::subject::Subject;
-use crate::what::{Doubt, What, Whole};
+use crate::what::{Doubt, EntryDoubt, Whole};
 use std::alloc::{AllocError, Global};
 
 /// How many requests go out side by side, unless the command line says otherwise.
@@ -147,7 +147,7 @@ fn push_entry(
 }
 
 // Appends those of these that there are.
-fn push_told(index: u32, whats: &[Option<What>], found: &mut Vec<Doubt>) -> Result<(), AllocError>
+fn push_told(index: u32, whats: &[Option<EntryDoubt>], found: &mut Vec<Doubt>) -> Result<(), AllocError>
     ensures { OnOk result (found.new.items ≡ found.old.items ++ told index whats.now) }
 {
     for at in 0..whats.len() {
@@ -156,7 +156,7 @@ fn push_told(index: u32, whats: &[Option<What>], found: &mut Vec<Doubt>) -> Resu
     Ok(())
 }
 
-fn push_what(index: u32, what: Option<What>, found: &mut Vec<Doubt>) -> Result<(), AllocError>
+fn push_what(index: u32, what: Option<EntryDoubt>, found: &mut Vec<Doubt>) -> Result<(), AllocError>
     ensures { OnOk result (found.new.items ≡ found.old.items ++ told_of index what) }
 {
     match what {

@@ -6,7 +6,7 @@ use crate::naming::{shown_name, whose};
 use crate::place::line_of;
 use crate::subject::Subject;
 use crate::units::{date_or_number, duration_text, long_text};
-use crate::what::{Doubt, What, Whole};
+use crate::what::{Doubt, EntryDoubt, Whole};
 use plan_forest::Kind;
 use std::alloc::{AllocError, Global};
 use vault_inventory::Key;
@@ -64,7 +64,7 @@ fn of_entry(
     alloc: Global,
     subject: &Subject,
     index: u32,
-    what: What,
+    what: EntryDoubt,
 ) -> Result<Finding, AllocError> {
     let key = key_of(subject, index, what);
     Ok(Finding {
@@ -78,15 +78,15 @@ fn of_entry(
 }
 
 // The key of an entry that a doubt is about.
-fn key_of(subject: &Subject, index: u32, what: What) -> Key {
+fn key_of(subject: &Subject, index: u32, what: EntryDoubt) -> Key {
     match what {
-        What::TokenLike => Key::Name,
-        What::OpenFile => file_key(subject, index),
-        What::Swapped => Key::Issued,
-        What::Late(key) | What::Milliseconds(key, _) => key,
-        What::Ended(_) => Key::End,
-        What::OverMax(_, _) | What::BesidePeriod | What::NoStep => Key::Increment,
-        What::NearMargin(_) => step_key(subject, index),
+        EntryDoubt::TokenLike => Key::Name,
+        EntryDoubt::OpenFile => file_key(subject, index),
+        EntryDoubt::Swapped => Key::Issued,
+        EntryDoubt::Late(key) | EntryDoubt::Milliseconds(key, _) => key,
+        EntryDoubt::Ended(_) => Key::End,
+        EntryDoubt::OverMax(_, _) | EntryDoubt::BesidePeriod | EntryDoubt::NoStep => Key::Increment,
+        EntryDoubt::NearMargin(_) => step_key(subject, index),
         _ => Key::Need,
     }
 }
@@ -114,46 +114,46 @@ fn problem_of(
     alloc: Global,
     subject: &Subject,
     index: u32,
-    what: What,
+    what: EntryDoubt,
 ) -> Result<String, AllocError> {
     match what {
-        What::Milliseconds(_, seconds) => {
+        EntryDoubt::Milliseconds(_, seconds) => {
             let days = seconds / 86_400;
             format!(in alloc; "is {seconds} s, over {days} days")
         }
-        What::OverMax(asked, most) => over_max(alloc, asked, most),
-        What::NearMargin(step) => {
+        EntryDoubt::OverMax(asked, most) => over_max(alloc, asked, most),
+        EntryDoubt::NearMargin(step) => {
             let margin = subject.inventory.forest().margin();
             format!(in alloc; "is {step} s, under four thirds of the margin of {margin} s")
         }
-        What::Ended(moment) | What::NeedPast(moment) => past(alloc, moment),
-        What::PastCeiling(over, seconds) => {
+        EntryDoubt::Ended(moment) | EntryDoubt::NeedPast(moment) => past(alloc, moment),
+        EntryDoubt::PastCeiling(over, seconds) => {
             let long = long_text(alloc, seconds)?;
             let owner = whose(alloc, subject, index, over)?;
             format!(in alloc; "is {long} past {owner} maximum TTL")
         }
-        What::PastLife(over, seconds) => {
+        EntryDoubt::PastLife(over, seconds) => {
             let long = long_text(alloc, seconds)?;
             let owner = whose(alloc, subject, index, over)?;
             format!(in alloc; "is {long} or more past {owner} maximum TTL")
         }
-        What::PastEnd(over) => {
+        EntryDoubt::PastEnd(over) => {
             let owner = whose(alloc, subject, index, over)?;
             format!(in alloc; "is past {owner} end, which cannot be renewed")
         }
-        What::ShortLife(over, life) => short_life(alloc, subject, index, over, life),
+        EntryDoubt::ShortLife(over, life) => short_life(alloc, subject, index, over, life),
         _ => String::from_str(alloc, plain_problem(what)),
     }
 }
 
-fn plain_problem(what: What) -> &'static str {
+fn plain_problem(what: EntryDoubt) -> &'static str {
     match what {
-        What::TokenLike => "looks like a token's value",
-        What::OpenFile => "may be read or written by others",
-        What::Swapped => "is after its end",
-        What::Late(_) => "is past the year 3000",
-        What::BesidePeriod => "has no effect next to a period",
-        What::NoStep => "is not written: 3600 s are asked for",
+        EntryDoubt::TokenLike => "looks like a token's value",
+        EntryDoubt::OpenFile => "may be read or written by others",
+        EntryDoubt::Swapped => "is after its end",
+        EntryDoubt::Late(_) => "is past the year 3000",
+        EntryDoubt::BesidePeriod => "has no effect next to a period",
+        EntryDoubt::NoStep => "is not written: 3600 s are asked for",
         _ => "is not set, here or under it",
     }
 }

@@ -6,7 +6,7 @@ use crate::judging::{is_open, is_token_like, is_told, written_margin};
 use crate::limits::limit;
 use crate::place::has_key;
 use crate::subject::Subject;
-use crate::what::{What, Whole};
+use crate::what::{EntryDoubt, Whole};
 use base_moment::LAST;
 use vault_inventory::{Key, Terms};
 
@@ -18,7 +18,7 @@ pub(crate) const LONG_STEP: u32 = 7_776_000;
 
 /// All of them, in the order in which they are said: those of its name and file, of its moments, of its terms and of its need.
 #[tactic(auto, unfolding(crate::specs::EntryDoubts::entry_list))]
-pub(crate) fn entry_list(subject: &Subject, whole: Option<Whole>, index: u32) -> [Option<What>; 16]
+pub(crate) fn entry_list(subject: &Subject, whole: Option<Whole>, index: u32) -> [Option<EntryDoubt>; 16]
     requires { index < length subject.now.inventory.forest.entries }
     ensures { result ≡ entry_list subject.now whole index }
 {
@@ -27,9 +27,9 @@ pub(crate) fn entry_list(subject: &Subject, whole: Option<Whole>, index: u32) ->
     let at = subject.at.get();
     let lacks_step = terms.period == 0 && !has_key(&subject.places, index, Key::Increment, true);
     [
-        only_if(is_token_like(entry.name.list()), What::TokenLike),
-        only_if(is_open(&subject.open_files, index as usize), What::OpenFile),
-        only_if(terms.issued.get() > entry.end, What::Swapped),
+        only_if(is_token_like(entry.name.list()), EntryDoubt::TokenLike),
+        only_if(is_open(&subject.open_files, index as usize), EntryDoubt::OpenFile),
+        only_if(terms.issued.get() > entry.end, EntryDoubt::Swapped),
         late(Key::Issued, terms.issued.get()),
         late(Key::End, entry.end),
         late_need(entry.need),
@@ -38,7 +38,7 @@ pub(crate) fn entry_list(subject: &Subject, whole: Option<Whole>, index: u32) ->
         milliseconds(Key::Period, terms.period),
         over_max(&terms),
         beside_period(&terms),
-        only_if(lacks_step, What::NoStep),
+        only_if(lacks_step, EntryDoubt::NoStep),
         near_margin(entry.step, written_margin(subject)),
         need_past(entry.need, at, whole),
         not_needed(subject.carried.need(index), whole),
@@ -46,21 +46,21 @@ pub(crate) fn entry_list(subject: &Subject, whole: Option<Whole>, index: u32) ->
     ]
 }
 
-fn only_if(holds: bool, what: What) -> Option<What>
+fn only_if(holds: bool, what: EntryDoubt) -> Option<EntryDoubt>
     ensures { result ≡ only_if holds what }
 {
     if holds { Some(what) } else { None }
 }
 
 // A moment past the year 3000: milliseconds, perhaps.
-fn late(key: Key, moment: u64) -> Option<What>
+fn late(key: Key, moment: u64) -> Option<EntryDoubt>
     ensures { result ≡ late key moment }
 {
-    only_if(moment > YEAR_3000, What::Late(key))
+    only_if(moment > YEAR_3000, EntryDoubt::Late(key))
 }
 
 // The same of a need, where the last moment stands for `always`.
-fn late_need(need: u64) -> Option<What>
+fn late_need(need: u64) -> Option<EntryDoubt>
     ensures { result ≡ late_need need }
 {
     if need == LAST {
@@ -70,70 +70,70 @@ fn late_need(need: u64) -> Option<What>
 }
 
 // An end that is past, of an entry whose issue and end are written.
-fn ended(is_told: bool, terms: &Terms, end: u64, at: u64) -> Option<What>
+fn ended(is_told: bool, terms: &Terms, end: u64, at: u64) -> Option<EntryDoubt>
     ensures { result ≡ ended is_told terms.now end at }
 {
     let is_sound = is_told && terms.issued.get() <= end;
-    only_if(is_sound && end <= at, What::Ended(end))
+    only_if(is_sound && end <= at, EntryDoubt::Ended(end))
 }
 
 // A duration that is long and a whole number of thousands: milliseconds, perhaps.
-fn milliseconds(key: Key, seconds: u32) -> Option<What>
+fn milliseconds(key: Key, seconds: u32) -> Option<EntryDoubt>
     ensures { result ≡ milliseconds key seconds }
 {
     only_if(
         seconds > LONG_STEP && seconds % 1000 == 0,
-        What::Milliseconds(key, seconds),
+        EntryDoubt::Milliseconds(key, seconds),
     )
 }
 
 // An increment that is longer than the maximum TTL.
-fn over_max(terms: &Terms) -> Option<What>
+fn over_max(terms: &Terms) -> Option<EntryDoubt>
     ensures { result ≡ over_max terms.now }
 {
     let asked = terms.increment.unwrap_or(0);
     only_if(
         terms.period == 0 && asked > terms.max_ttl,
-        What::OverMax(asked, terms.max_ttl),
+        EntryDoubt::OverMax(asked, terms.max_ttl),
     )
 }
 
 // An increment beside another period.
-fn beside_period(terms: &Terms) -> Option<What>
+fn beside_period(terms: &Terms) -> Option<EntryDoubt>
     ensures { result ≡ beside_period terms.now }
 {
     let asked = terms.increment.unwrap_or(0);
     only_if(
         terms.period != 0 && asked != 0 && asked != terms.period,
-        What::BesidePeriod,
+        EntryDoubt::BesidePeriod,
     )
 }
 
 // A step for which the agent uses a margin of its own.
-fn near_margin(step: u32, margin: Option<u32>) -> Option<What>
+fn near_margin(step: u32, margin: Option<u32>) -> Option<EntryDoubt>
     ensures { result ≡ near_margin step margin }
 {
     match margin {
         None => None,
         Some(margin) => only_if(
             u64::from(step) * 3 < u64::from(margin) * 4,
-            What::NearMargin(step),
+            EntryDoubt::NearMargin(step),
         ),
     }
 }
 
 // A need that is past, where not all are.
-fn need_past(need: u64, at: u64, whole: Option<Whole>) -> Option<What>
+fn need_past(need: u64, at: u64, whole: Option<Whole>) -> Option<EntryDoubt>
     ensures { result ≡ need_past need at whole }
 {
     let all_are = matches!(whole, Some(Whole::AllPast));
-    only_if(need > 0 && need <= at && !all_are, What::NeedPast(need))
+    only_if(need > 0 && need <= at && !all_are, EntryDoubt::NeedPast(need))
 }
 
 // No need, here or under it, where some entry has one.
-fn not_needed(carried: u64, whole: Option<Whole>) -> Option<What>
+fn not_needed(carried: u64, whole: Option<Whole>) -> Option<EntryDoubt>
     ensures { result ≡ not_needed carried whole }
 {
     let none_is = matches!(whole, Some(Whole::NoNeeds));
-    only_if(carried == 0 && !none_is, What::NotNeeded)
+    only_if(carried == 0 && !none_is, EntryDoubt::NotNeeded)
 }

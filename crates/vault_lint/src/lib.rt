@@ -34,4 +34,4 @@ pub use place::{kind_of, line_of};
 pub use printing::{push_json, push_line};
 pub use reading::{places_of, subject_of};
 pub use subject::{Places, Subject};
-pub use what::{Doubt, What, Whole};
+pub use what::{Doubt, EntryDoubt, Whole};

@@ -5,7 +5,7 @@ ghost use Rattle.vault_lint.specs.Limits.{days_limit, is_written_max, limit, lim
 
 use crate::judging::is_told;
 use crate::subject::Subject;
-use crate::what::What;
+use crate::what::EntryDoubt;
 use base_moment::LAST;
 use plan_forest::Entry;
 use vault_inventory::{SYSTEM_MAX, Terms};
@@ -15,7 +15,7 @@ const SHORT_LIFE: u64 = 86_400;
 
 /// Why no renewal leads to the need of the entry at an index, unless it is reissued: the first such reason of it and of those over it.
 #[tactic(auto, unfolding(crate::specs::Limits::limit))]
-pub(crate) fn limit(subject: &Subject, index: u32) -> Option<What>
+pub(crate) fn limit(subject: &Subject, index: u32) -> Option<EntryDoubt>
     requires { index < length subject.now.inventory.forest.entries }
     ensures { result ≡ limit subject.now index }
 {
@@ -27,7 +27,7 @@ pub(crate) fn limit(subject: &Subject, index: u32) -> Option<What>
 }
 
 // The first reason of an entry and of those over it.
-fn limit_in(subject: &Subject, need: u64, index: u32) -> Option<What>
+fn limit_in(subject: &Subject, need: u64, index: u32) -> Option<EntryDoubt>
     requires { index < length subject.now.inventory.forest.entries }
     ensures { result ≡ limit_in subject.now need index }
 {
@@ -42,7 +42,7 @@ fn limit_in(subject: &Subject, need: u64, index: u32) -> Option<What>
 
 // The reason of one entry alone.
 #[tactic(auto, unfolding(crate::specs::Limits::limit_at))]
-fn limit_at(subject: &Subject, need: u64, over: u32) -> Option<What>
+fn limit_at(subject: &Subject, need: u64, over: u32) -> Option<EntryDoubt>
     requires { over < length subject.now.inventory.forest.entries }
     ensures { result ≡ limit_at subject.now need over }
 {
@@ -58,17 +58,17 @@ fn limit_at(subject: &Subject, need: u64, over: u32) -> Option<What>
 }
 
 // Of an entry that is needed always: it lives a day or less.
-fn days_limit(over: u32, terms: &Terms) -> Option<What>
+fn days_limit(over: u32, terms: &Terms) -> Option<EntryDoubt>
     ensures { result ≡ days_limit over terms.now }
 {
     match life_of(terms) {
-        Some(life) if life <= SHORT_LIFE => Some(What::ShortLife(over, life)),
+        Some(life) if life <= SHORT_LIFE => Some(EntryDoubt::ShortLife(over, life)),
         _ => None,
     }
 }
 
 // By an issue and an end that are written: the ceiling, and the end where it cannot be renewed.
-fn told_limit(need: u64, over: u32, entry: &Entry, terms: &Terms) -> Option<What>
+fn told_limit(need: u64, over: u32, entry: &Entry, terms: &Terms) -> Option<EntryDoubt>
     ensures { result ≡ told_limit need over entry.now terms.now }
 {
     match terms.ceiling() {
@@ -77,29 +77,29 @@ fn told_limit(need: u64, over: u32, entry: &Entry, terms: &Terms) -> Option<What
     }
 }
 
-fn past_ceiling(need: u64, over: u32, entry: &Entry, ceiling: u64) -> Option<What>
+fn past_ceiling(need: u64, over: u32, entry: &Entry, ceiling: u64) -> Option<EntryDoubt>
     ensures { result ≡ past_ceiling need over entry.now ceiling }
 {
     let last = ceiling.max(entry.end);
     if last < need {
-        Some(What::PastCeiling(over, need - last))
+        Some(EntryDoubt::PastCeiling(over, need - last))
     } else {
         past_end(need, over, entry)
     }
 }
 
-fn past_end(need: u64, over: u32, entry: &Entry) -> Option<What>
+fn past_end(need: u64, over: u32, entry: &Entry) -> Option<EntryDoubt>
     ensures { result ≡ past_end need over entry.now }
 {
     if !entry.renewable && entry.end < need {
-        Some(What::PastEnd(over))
+        Some(EntryDoubt::PastEnd(over))
     } else {
         None
     }
 }
 
 // Where a lookup is to tell the issue, which is past: the maximum TTL, where one is written.
-fn untold_limit(subject: &Subject, need: u64, over: u32, terms: &Terms) -> Option<What>
+fn untold_limit(subject: &Subject, need: u64, over: u32, terms: &Terms) -> Option<EntryDoubt>
     ensures { result ≡ untold_limit subject.now need over terms.now }
 {
     if !is_written_max(subject, terms) {
@@ -111,12 +111,12 @@ fn untold_limit(subject: &Subject, need: u64, over: u32, terms: &Terms) -> Optio
     }
 }
 
-fn past_life(now: u64, need: u64, over: u32, life: u64) -> Option<What>
+fn past_life(now: u64, need: u64, over: u32, life: u64) -> Option<EntryDoubt>
     requires { now + life < 2 ^ 64 }
     ensures { result ≡ past_life now need over life }
 {
     if now + life < need {
-        Some(What::PastLife(over, need - (now + life)))
+        Some(EntryDoubt::PastLife(over, need - (now + life)))
     } else {
         None
     }

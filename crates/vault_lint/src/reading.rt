@@ -13,7 +13,7 @@ use base_moment::{Moment, Span};
 use plan_forest::Forest;
 use plan_needs::{Carried, carry};
 use std::alloc::{AllocError, Global};
-use vault_inventory::{Inventory, Served};
+use vault_inventory::{Inventory, ServedInventory};
 use vault_served::read_for_good;
 
 /// What these bytes write, to be judged at a moment by a time-out; `open_files` says whose files others may read or write. The only error is
@@ -21,7 +21,7 @@ use vault_served::read_for_good;
 pub fn subject_of(
     alloc: Global,
     bytes: &[u8],
-    served: Served,
+    served: ServedInventory,
     open_files: Vec<bool>,
     now: Moment,
     timeout: Span,

@@ -3,13 +3,13 @@ ghost use Rattle.std.specs.Prelude.{◌≡◌, length};
 use crate::mark::Mark;
 use base_moment::{Moment, Span};
 use plan_needs::Carried;
-use vault_inventory::{Inventory, Served};
+use vault_inventory::{Inventory, ServedInventory};
 
 /// What an inventory is judged by.
 #[derive(Debug, Drop)]
 pub struct Subject {
     /// What is written.
-    pub served: Served,
+    pub served: ServedInventory,
     /// The same, where a need that is `always` lasts to the last moment.
     pub inventory: Inventory,
     /// What each entry carries of all needs.

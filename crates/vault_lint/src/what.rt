@@ -8,7 +8,7 @@ pub enum Doubt {
     /// So many entries may fall due in one round, which may take longer than the margin.
     LongRound(u64),
     /// Of the entry at an index.
-    Of(u32, What),
+    Of(u32, EntryDoubt),
 }
 
 /// A doubt of the inventory as a whole.
@@ -24,7 +24,7 @@ pub enum Whole {
 
 /// A doubt of one entry. An index is that of the entry itself or of one over it.
 #[derive(Clone, Copy, Debug, PartialEq, Eq)]
-pub enum What {
+pub enum EntryDoubt {
     /// Its name looks like a token's value.
     TokenLike,
     /// The file of its credential may be read or written by others.

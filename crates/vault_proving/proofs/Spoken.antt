@@ -5,14 +5,14 @@ use Rattle.vault_asking.specs.Told.{end_told, is_of_another, loss_in, lookup_rep
 use Rattle.vault_exchange.specs.Heard as exchanged
 use Rattle.vault_exchange.specs.declared.heard.Heard as exchange
 use Rattle.vault_exchange.specs.declared.heard.Heard.TheVariants as replied
-use Rattle.vault_exchange.specs.declared.heard.Terms.{Terms}
+use Rattle.vault_exchange.specs.declared.heard.ToldTerms.{ToldTerms}
 use Rattle.vault_exchange.specs.Lookups.{lookup_in}
 use Rattle.vault_inventory.specs.Inventories.{Inventory}
 use Rattle.vault_inventory.specs.Lookup.{lookup_fault}
 use Rattle.vault_lanes.specs.Heard.{heard_with}
 use Rattle.vault_lanes.specs.Losses.{lost_by}
-use Rattle.vault_lanes.specs.declared.heard.Heard.{Heard}
-use Rattle.vault_lanes.specs.declared.heard.Heard.TheVariants as heard
+use Rattle.vault_lanes.specs.declared.heard.HeardAnswer.{HeardAnswer}
+use Rattle.vault_lanes.specs.declared.heard.HeardAnswer.TheVariants as heard
 use Rattle.vault_lanes.specs.declared.loss.Loss.{Loss}
 use Rattle.vault_lanes.specs.declared.loss.Loss.TheVariants as losses
 use Rattle.plan_forest.specs.Forest.{entry_at}
@@ -22,14 +22,14 @@ use Rattle.vault_http.specs.declared.dated_reply.DatedReply.{DatedReply}
 use Rattle.vault_json.specs.declared.fault.ReplyFault.{ReplyFault}
 use Rattle.vault_json.specs.declared.lookup.Lookup.{Lookup}
 use Rattle.vault_json.specs.declared.lookup.Lookup.TheVariants as lookups
-use Rattle.watch_machine.specs.declared.event.Reply.TheVariants as replies
+use Rattle.watch_machine.specs.declared.event.WatchReply.TheVariants as replies
 use Rattle.vault_proving.specs.Laws.{IsToldVerdict, LostLaw, OtherStatusLaw, ToldVerdictLaw, is_refusal}
 use Rattle.vault_proving.specs.Verdicts.{verdict_by}
 use Rattle.vault_proving.specs.declared.verdict.Verdict.{Verdict}
 use Rattle.vault_proving.specs.declared.verdict.Verdict.TheVariants.{Refused, Missing}
 
 -- by what was heard
-abbrev verdict_heard : Inventory → ℕ → Heard Terms → Verdict
+abbrev verdict_heard : Inventory → ℕ → HeardAnswer ToldTerms → Verdict
 verdict_heard s i h = verdict_by (lookup_reply s i h) (lookup_terms s i h).endless (loss_in h)
 
 refused_is : (s : Inventory) (i status : ℕ) (date : Option ℕ) → verdict_heard s i (heard.Refused status date) ≡ Refused status
@@ -47,7 +47,7 @@ lost_is s i why = refl
 -- ---- another status than 200
 
 -- what such a reply comes to
-abbrev Other : Inventory → ℕ → ℕ → exchange.Heard Terms → Type 0
+abbrev Other : Inventory → ℕ → ℕ → exchange.Heard ToldTerms → Type 0
 Other s i status h = verdict_heard s i (heard_with (lost_by status) h) ≡ cond (is_refusal status) (Refused status) (Missing (losses.Status status))
 
 other : (s : Inventory) (i status : ℕ) (date : Option ℕ) → (status == 200) ≡ false → Other s i status (exchanged.refused_by_status status date)
@@ -89,12 +89,12 @@ end_is kind (lookups.Lease id issued renewable ttl) date true loss h = h refl
 end_is kind (lookups.Lease id issued renewable ttl) date false loss h = tt
 
 -- one that is said of another, or of the entry
-said_of : (kind : Kind) (s : Inventory) (i : ℕ) (said : Terms) (date : Option ℕ) (other : Bool) → (said.never_ends ≡ true → kind ≡ Token) →
+said_of : (kind : Kind) (s : Inventory) (i : ℕ) (said : ToldTerms) (date : Option ℕ) (other : Bool) → (said.never_ends ≡ true → kind ≡ Token) →
     IsToldVerdict kind (verdict_by (cond other replies.Lost (end_told said.lookup date)) (cond other no_terms (terms_told s i said)).endless losses.Reply)
 said_of kind s i said date true h = refl
 said_of kind s i said date false h = end_is kind said.lookup date said.never_ends losses.Reply h
 
-told_is : (kind : Kind) (s : Inventory) (i : ℕ) (said : Terms) (date : Option ℕ) → (said.never_ends ≡ true → kind ≡ Token) → IsToldVerdict kind (verdict_heard s i (heard.Told said date))
+told_is : (kind : Kind) (s : Inventory) (i : ℕ) (said : ToldTerms) (date : Option ℕ) → (said.never_ends ≡ true → kind ≡ Token) → IsToldVerdict kind (verdict_heard s i (heard.Told said date))
 unfolding lookup_reply lookup_terms
 told_is kind s i said date h = said_of kind s i said date (is_of_another (lookup_fault s i said.lookup)) h
 

@@ -7,8 +7,8 @@ use Rattle.vault_asking.specs.declared.told.Said.{Said}
 use Rattle.vault_lanes.specs.Losses.{Answer}
 use Rattle.vault_lanes.specs.declared.loss.Loss.{Loss}
 use Rattle.watch_machine.specs.declared.event.Operation.TheVariants.{Look}
-use Rattle.watch_machine.specs.declared.event.Reply.{Reply}
-use Rattle.watch_machine.specs.declared.event.Reply.TheVariants as replies
+use Rattle.watch_machine.specs.declared.event.WatchReply.{WatchReply}
+use Rattle.watch_machine.specs.declared.event.WatchReply.TheVariants as replies
 use Rattle.vault_proving.specs.declared.candidate.Candidate.{Candidate}
 use Rattle.vault_proving.specs.declared.verdict.Verdict.{Verdict}
 use Rattle.vault_proving.specs.declared.verdict.Verdict.TheVariants.{Good, Refused, Endless, Missing}
@@ -18,7 +18,7 @@ abbrev pub told_verdict : Bool → Verdict
 told_verdict endless = if endless then Endless else Good
 
 -- by what is told, whether that never ends, and why the answer counts as lost, where it does
-abbrev pub verdict_by : Reply → Bool → Loss → Verdict
+abbrev pub verdict_by : WatchReply → Bool → Loss → Verdict
 verdict_by (replies.Told seconds renewable date) endless loss = told_verdict endless
 verdict_by (replies.Refused status date) endless loss = Refused status
 verdict_by replies.Busy endless loss = Missing loss

@@ -7,7 +7,7 @@ use std::alloc::{AllocError, Global};
 use vault_asking::{Said, said_of_entry};
 use vault_http::DatedReply;
 use vault_lanes::Loss;
-use watch_machine::{Operation, Reply};
+use watch_machine::{Operation, WatchReply};
 
 /// What the broker says of a credential.
 #[derive(Clone, Copy, Debug, PartialEq, Eq)]
@@ -27,9 +27,9 @@ pub fn verdict_of(said: Said) -> Verdict
     ensures { result ≡ verdict_of said }
 {
     match said.reply {
-        Reply::Told { .. } => told(said.terms.endless),
-        Reply::Refused { status, .. } => Verdict::Refused(status),
-        Reply::Busy | Reply::Lost => Verdict::Missing(said.loss),
+        WatchReply::Told { .. } => told(said.terms.endless),
+        WatchReply::Refused { status, .. } => Verdict::Refused(status),
+        WatchReply::Busy | WatchReply::Lost => Verdict::Missing(said.loss),
     }
 }
 

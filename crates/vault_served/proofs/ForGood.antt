@@ -6,32 +6,32 @@ use Rattle.std.proofs.lemmas.List.FromFn.{get_or-map-range_with_len, length-map-
 use Rattle.std.specs.List.{range_with_len}
 use Rattle.plan_forest.specs.declared.entry.Entry.{Entry}
 use Rattle.plan_forest.specs.Forest.{Forest, entry_at, no_entry}
-use Rattle.vault_inventory.specs.declared.note.Note.{Note}
+use Rattle.vault_inventory.specs.declared.note.EntryNote.{EntryNote}
 use Rattle.vault_inventory.specs.Inventories.{Inventory}
 use Rattle.vault_inventory.specs.Served.{IsServedInventory, Served}
 use Rattle.vault_served.specs.ForGood.{marks, need_for_good, needs_for_good}
 
 -- ---- marks
 
-pub marks_count : (notes : List Note) → length (marks notes) ≡ length notes
+pub marks_count : (notes : List EntryNote) → length (marks notes) ≡ length notes
 unfolding marks
 marks_count notes = length-map notes (λ note. note.is_always)
 
-pub marks_none : (notes : List Note) → marks (take 0 notes) ≡ []
+pub marks_none : (notes : List EntryNote) → marks (take 0 notes) ≡ []
 unfolding marks
 marks_none notes = refl
 
-pub marks_more : (notes : List Note) (i : ℕ) (note : Note) → i < length notes → note ≡ get_or notes i note → marks (take (i + 1) notes) ≡ marks (take i notes) ++ note.is_always ∷ []
+pub marks_more : (notes : List EntryNote) (i : ℕ) (note : EntryNote) → i < length notes → note ≡ get_or notes i note → marks (take (i + 1) notes) ≡ marks (take i notes) ++ note.is_always ∷ []
 unfolding marks
-marks_more notes i note within is = map_more (λ (n : Note). n.is_always) notes i note within ∙ ap (λ (n : Note). map (λ (m : Note). m.is_always) (take i notes) ++ n.is_always ∷ []) (sym is)
+marks_more notes i note within is = map_more (λ (n : EntryNote). n.is_always) notes i note within ∙ ap (λ (n : EntryNote). map (λ (m : EntryNote). m.is_always) (take i notes) ++ n.is_always ∷ []) (sym is)
 
-pub marks_all : (notes : List Note) (i : ℕ) → length notes ≤ i → marks (take i notes) ≡ marks notes
+pub marks_all : (notes : List EntryNote) (i : ℕ) → length notes ≤ i → marks (take i notes) ≡ marks notes
 marks_all notes i past = ap marks (take_all i notes past)
 
 -- there is one for each entry
-pub places : (v : Served) → IsServedInventory v → (always : List Bool) (notes : List Note) (inventory : Inventory) → always ≡ marks notes → notes ≡ v.notes → inventory ≡ v.inventory → length always ≡ length inventory.forest.entries
+pub places : (v : Served) → IsServedInventory v → (always : List Bool) (notes : List EntryNote) (inventory : Inventory) → always ≡ marks notes → notes ≡ v.notes → inventory ≡ v.inventory → length always ≡ length inventory.forest.entries
 places v served always notes inventory are from is =
-    ap (λ bs. length bs) are ∙ marks_count notes ∙ ap (λ (ns : List Note). length ns) from ∙ served.notes ∙ ap (λ (x : Inventory). length x.forest.entries) (sym is)
+    ap (λ bs. length bs) are ∙ marks_count notes ∙ ap (λ (ns : List EntryNote). length ns) from ∙ served.notes ∙ ap (λ (x : Inventory). length x.forest.entries) (sym is)
 
 -- ---- needs
 

@@ -5,14 +5,14 @@ use Rattle.std.specs.List.{range_with_len}
 use Rattle.plan_forest.specs.Forest.{Forest, entry_at}
 use Rattle.base_moment.specs.declared.moment.TheConstants.{LAST}
 use Rattle.vault_inventory.specs.declared.fault.InvFault.{InvFault}
-use Rattle.vault_inventory.specs.declared.note.Note.{Note}
+use Rattle.vault_inventory.specs.declared.note.EntryNote.{EntryNote}
 use Rattle.vault_inventory.specs.Answers.{◌>>=◌}
 use Rattle.vault_inventory.specs.Inventories.{Inventory}
 use Rattle.vault_inventory.specs.Inventory.{read_served}
 use Rattle.vault_inventory.specs.Served.{Served}
 
 -- which entries are needed as long as they can be kept
-unfoldable pub marks : List Note → List Bool
+unfoldable pub marks : List EntryNote → List Bool
 marks notes = map (λ note. note.is_always) notes
 
 -- an inventory with these needs

@@ -7,7 +7,7 @@ ghost use Rattle.vault_served.specs.ForGood.{inventory_for_good, inventory_with_
 use base_moment::{LAST, Moment};
 use plan_forest::Forest;
 use std::alloc::{AllocError, Global};
-use vault_inventory::{InvFault, Inventory, Note, Served, read_served};
+use vault_inventory::{InvFault, Inventory, EntryNote, ServedInventory, read_served};
 
 /// The inventory that these bytes write, for a watch: an entry whose need is `always` is needed until the last moment, since a watch
 /// shortens each need to what can be kept as it goes. Ends that are not written are 0, as a lookup is to tell them, and files of
@@ -26,7 +26,7 @@ pub fn read_for_good(alloc: Global, bytes: &[u8]) -> Result<Inventory, InvFault>
 
 /// What was read of an inventory, for a watch, as [`read_for_good`] gives it of the bytes. The only error is out of memory.
 #[tactic(auto, using(crate::proofs::ForGood::places, crate::proofs::ForGood::good_for_each), unfolding(crate::specs::ForGood::served_for_good))]
-pub fn served_for_good(alloc: Global, served: Served) -> Result<Inventory, AllocError>
+pub fn served_for_good(alloc: Global, served: ServedInventory) -> Result<Inventory, AllocError>
     ensures { IfOk result (λ inventory. inventory ≡ served_for_good served) }
 {
     let (mut inventory, notes) = served.into_parts();
@@ -38,7 +38,7 @@ pub fn served_for_good(alloc: Global, served: Served) -> Result<Inventory, Alloc
 
 /// Which entries are needed as long as they can be kept, by what their tables leave open. The only error is out of memory.
 #[tactic(auto, using(crate::proofs::ForGood::marks_none, crate::proofs::ForGood::marks_more, crate::proofs::ForGood::marks_all))]
-pub fn marks(alloc: Global, notes: &[Note]) -> Result<Vec<bool>, AllocError>
+pub fn marks(alloc: Global, notes: &[EntryNote]) -> Result<Vec<bool>, AllocError>
     ensures { IfOk result (λ always. always.items ≡ marks notes.now) }
 {
     let mut always = Vec::new(alloc);

@@ -15,7 +15,7 @@ use Rattle.vault_inventory.specs.declared.fault.InvFault.{InvFault}
 use Rattle.vault_inventory.specs.declared.fault.InvFault.TheVariants.{BadValue, MissingKey}
 use Rattle.vault_inventory.specs.declared.key.Key.TheVariants.{Issued, Need}
 use Rattle.vault_inventory.specs.declared.limits.TheConstants.{SPAN_MAX}
-use Rattle.vault_inventory.specs.declared.note.Note.{Note}
+use Rattle.vault_inventory.specs.declared.note.EntryNote.{EntryNote}
 use Rattle.vault_inventory.specs.Inventories.{IsInventory, Inventory}
 use Rattle.vault_inventory.specs.Inventory.{read_inventory, read_known, read_served}
 use Rattle.vault_inventory.specs.Served.{Served, first_open, first_untold, inventory_if_whole, served_if_told, told_unless, unless}
@@ -122,7 +122,7 @@ open_parts index true true later e = absurd cc
 open_parts index true false later e = (refl, refl, e)
 open_parts index false always later e = absurd cc
 
-closed : (index : ℕ) (notes : List Note) → first_open index notes ≡ None → (first_untold index notes ≡ None) × ((j : ℕ) → is_always_needed (marks notes) j ≡ false)
+closed : (index : ℕ) (notes : List EntryNote) → first_open index notes ≡ None → (first_untold index notes ≡ None) × ((j : ℕ) → is_always_needed (marks notes) j ≡ false)
 unfolding marks
 closed index [] e = (refl, λ j. refl)
 closed index (note ∷ notes) e =

@@ -6,7 +6,7 @@ use base_moment::Text;
 use broker_memory::MemoryExchange;
 use broker_table::Table;
 use http::Method;
-use state_changes::{Record, Rows, What, read_record};
+use state_changes::{Record, Rows, ChangeKind, read_record};
 use std::alloc::{AllocError, Global};
 use std::fmt::Debug;
 use std::test::Fail;
@@ -183,7 +183,7 @@ fn record_hides(alloc: Global, line: &[u8]) -> Result<bool, AllocError> {
 fn rows_with(alloc: Global, record: &Record) -> Result<Rows, AllocError> {
     let mut items = Vec::new(alloc);
     if let Record::Made(change) = record {
-        if let What::Add(row) = &change.what {
+        if let ChangeKind::Add(row) = &change.what {
             items.push(row.copy()?)?;
         }
     }

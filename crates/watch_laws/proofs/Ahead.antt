@@ -4,11 +4,11 @@ use Rattle.std.proofs.lemmas.Bool.Decides.{nat_tests}
 use Rattle.std.proofs.lemmas.List.{get_or-set_same}
 use Rattle.plan_forest.specs.declared.entry.Entry.{Entry}
 use Rattle.plan_forest.specs.Forest.{Forest, entry_at}
-use Rattle.watch_machine.specs.declared.command.Output.{Output}
-use Rattle.watch_machine.specs.declared.event.Event.{Event}
-use Rattle.watch_machine.specs.declared.event.Event.TheVariants.{Renewed}
+use Rattle.watch_machine.specs.declared.command.WatchOutput.{WatchOutput}
+use Rattle.watch_machine.specs.declared.event.WatchEvent.{WatchEvent}
+use Rattle.watch_machine.specs.declared.event.WatchEvent.TheVariants.{Renewed}
 use Rattle.watch_machine.specs.declared.event.Operation.TheVariants.{Renew}
-use Rattle.watch_machine.specs.declared.event.Reply.TheVariants.{Told}
+use Rattle.watch_machine.specs.declared.event.WatchReply.TheVariants.{Told}
 use Rattle.watch_machine.specs.declared.fault.WatchFault.{WatchFault}
 use Rattle.watch_machine.specs.declared.lanes.Out.{Out}
 use Rattle.watch_machine.specs.declared.track.End.TheVariants.{At}
@@ -95,7 +95,7 @@ renewed_far s new q seconds renewable date i is own within before far =
     omega (arith, late, t, same, own0, least)
 
 turn_far :
-    (width n : ℕ) (old new : WatchState) (event : Event) (result : Result Output WatchFault) (i seconds : ℕ) (renewable : Bool) (date : Option ℕ) → Turn old event result new → is_event_taken result ≡ true →
+    (width n : ℕ) (old new : WatchState) (event : WatchEvent) (result : Result WatchOutput WatchFault) (i seconds : ℕ) (renewable : Bool) (date : Option ℕ) → Turn old event result new → is_event_taken result ≡ true →
     event ≡ Renewed i (Told seconds renewable date) → i < length old.tracks → All (λ (q : Out). q.since ≤ old.clocks.at) old.out →
     own_margin new.forest.margin (entry_of new i) (track_at new i) + 2 ≤ seconds → IfSome (request_out old.out i Renew) (λ (q : Out). sec q.since + 2 ≤ time_of new i)
 turn_far width n old new event (Err fault) i seconds renewable date turn taken' told within now far = absurd (true≢false (sym taken'))

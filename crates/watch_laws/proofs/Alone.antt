@@ -5,15 +5,15 @@ use Rattle.std.proofs.lemmas.Bool.Decides.{nat_tests}
 use Rattle.std.proofs.lemmas.List.{get_or-set_other, length-append}
 use Rattle.std.proofs.lemmas.List.Elements.{filter-append}
 use Rattle.std.specs.List.{list_any}
-use Rattle.watch_machine.specs.declared.command.Command.{Command}
-use Rattle.watch_machine.specs.declared.command.Command.TheVariants.{Go, Taken}
-use Rattle.watch_machine.specs.declared.command.Output.{Output}
-use Rattle.watch_machine.specs.declared.command.Request.{Request}
-use Rattle.watch_machine.specs.declared.event.Event.{Event}
-use Rattle.watch_machine.specs.declared.event.Event.TheVariants.{Clock, Looked, Renewed, Need, Begin, Known}
+use Rattle.watch_machine.specs.declared.command.WatchCommand.{WatchCommand}
+use Rattle.watch_machine.specs.declared.command.WatchCommand.TheVariants.{Go, Taken}
+use Rattle.watch_machine.specs.declared.command.WatchOutput.{WatchOutput}
+use Rattle.watch_machine.specs.declared.command.WatchRequest.{WatchRequest}
+use Rattle.watch_machine.specs.declared.event.WatchEvent.{WatchEvent}
+use Rattle.watch_machine.specs.declared.event.WatchEvent.TheVariants.{Clock, Looked, Renewed, Need, Begin, Known}
 use Rattle.watch_machine.specs.declared.event.Operation.TheVariants.{Look, Renew}
-use Rattle.watch_machine.specs.declared.event.Reply.{Reply}
-use Rattle.watch_machine.specs.declared.event.Terms.{Terms}
+use Rattle.watch_machine.specs.declared.event.WatchReply.{WatchReply}
+use Rattle.watch_machine.specs.declared.event.WatchTerms.{WatchTerms}
 use Rattle.watch_machine.specs.declared.fault.WatchFault.{WatchFault}
 use Rattle.watch_machine.specs.declared.lanes.Out.{Out}
 use Rattle.watch_machine.specs.declared.lanes.Presence.{Presence}
@@ -90,7 +90,7 @@ heard_same i (q ∷ out) = by (q.entry == i) (heard_same i out) where
   by true h = ap (λ n. suc n) h
   by false h = h
 
-pub replied_lanes : (s : WatchState) (q : Out) (reply : Reply) (i : ℕ) → lanes_of i (replied s q reply).out ≤ lanes_of i (without_request q.entry s.out)
+pub replied_lanes : (s : WatchState) (q : Out) (reply : WatchReply) (i : ℕ) → lanes_of i (replied s q reply).out ≤ lanes_of i (without_request q.entry s.out)
 replied_lanes s q reply i =
     let free = lane_freed s q in
     let same = heard_same i (without_request q.entry s.out) in
@@ -114,7 +114,7 @@ sent_lanes p now at xs i (j ∷ js) =
     ]
 
 module _ (n : ℕ) where
-  sent_alone : (s : WatchState) (requests : List Request) (lanes : ℕ) → length s.tracks ≤ n → Goes s.forest s.presence s.clocks.at s.tracks lanes requests → IsAloneTo n s → IsAloneTo n (sent s requests)
+  sent_alone : (s : WatchState) (requests : List WatchRequest) (lanes : ℕ) → length s.tracks ≤ n → Goes s.forest s.presence s.clocks.at s.tracks lanes requests → IsAloneTo n s → IsAloneTo n (sent s requests)
   sent_alone s requests lanes count h alone = record {
     once = λ i low. (by_case i).0 low;
     single = λ i. (by_case i).1;
@@ -136,7 +136,7 @@ module _ (n : ℕ) where
         let there = ap (λ rs. lanes_of i (map (out_at at) rs)) h.requests_are ∙ sent_lanes p (sec at) at s.tracks i h.entries in
         elim (one_sent p (sec at) at s.tracks i h.entries (h.once i)) as (λ _. Ends i) [
           | inl none ↦
-              let same = ap (λ (x : Track). flag x.out) (passed_over s requests i (ap (list_any (λ (r : Request). r.entry == i)) h.requests_are ∙ none.1)) in
+              let same = ap (λ (x : Track). flag x.out) (passed_over s requests i (ap (list_any (λ (r : WatchRequest). r.entry == i)) h.requests_are ∙ none.1)) in
               let few = h.once i in
               elim (cases_one (times i h.entries) few) as (λ _. Ends i) [
                 | inl zero' ↦ (λ low. (let before = alone.once i low in omega (arith, all, there, before, same, zero')), (let before = alone.single i in omega (arith, all, there, before, zero')))
@@ -145,7 +145,7 @@ module _ (n : ℕ) where
           | inr one ↦
               let due = named_of (λ j. (j < length s.tracks) × (is_due p at (track_in s.tracks j) ≡ true)) i h.entries h.due one.1.1 in
               let free = ap flag (free_of p at (track_at s i) due.1).0 in
-              let marked = ap (λ (x : Track). flag x.out) (went s requests i (ap (list_any (λ (r : Request). r.entry == i)) h.requests_are ∙ one.1.0) due.0) in
+              let marked = ap (λ (x : Track). flag x.out) (went s requests i (ap (list_any (λ (r : WatchRequest). r.entry == i)) h.requests_are ∙ one.1.0) due.0) in
               let times' = one.1.1 in
               let below = due.0 in
               let before = alone.once i (omega (arith, below, count)) in
@@ -166,13 +166,13 @@ module _ (n : ℕ) where
   mid_count : (old : WatchState) (wall elapsed : ℕ) (round : List ℕ) → length (pressed (readied old wall elapsed) round).tracks ≡ length old.tracks
   mid_count old wall elapsed round = each_length _ (pressed_alone (readied old wall elapsed).forest (readied old wall elapsed).clocks (readied old wall elapsed).tracks) ∙ each_length _ (readied old wall elapsed).tracks ∙ readied_count old wall elapsed
 
-  commanded : (s new : WatchState) (command : Command) → length s.tracks ≤ n → IsAloneTo n s → StepCommand s command new → IsAloneTo n new
+  commanded : (s new : WatchState) (command : WatchCommand) → length s.tracks ≤ n → IsAloneTo n s → StepCommand s command new → IsAloneTo n new
   commanded s new (Go requests until) count alone h =
       subst (IsAloneTo n) (sym h.0.1) (sent_alone s requests (s.width - length s.out) count (goes s.forest s.presence s.clocks.at s.tracks (s.width - length s.out) requests h.0.0) alone)
   commanded s new Taken count alone h = absurd h
 
   -- an answer
-  answered : (old mid new : WatchState) (q : Out) (reply : Reply) → new ≡ replied mid q reply → mid.out ≡ old.out → ((i : ℕ) → q.entry ≢ i → track_at mid i ≡ track_at old i) → IsAloneTo n old → IsAloneTo n new
+  answered : (old mid new : WatchState) (q : Out) (reply : WatchReply) → new ≡ replied mid q reply → mid.out ≡ old.out → ((i : ℕ) → q.entry ≢ i → track_at mid i ≡ track_at old i) → IsAloneTo n old → IsAloneTo n new
   answered old mid new q reply is out other alone = record {
     once = λ i low.
         let less = replied_lanes mid q reply i in
@@ -201,13 +201,13 @@ module _ (n : ℕ) where
     same_index' : (n : ℕ) → (n == n) ≡ true
     same_index' n = grind (arith, nat_tests)
 
-  looked_alone : (old new : WatchState) (found : Option Out) (reply : Reply) (terms : Terms) (output : Output) → StepLooked old found reply terms output new → IsAloneTo n old → IsAloneTo n new
+  looked_alone : (old new : WatchState) (found : Option Out) (reply : WatchReply) (terms : WatchTerms) (output : WatchOutput) → StepLooked old found reply terms output new → IsAloneTo n old → IsAloneTo n new
   looked_alone old new None reply terms output step alone = absurd step
   looked_alone old new (Some q) reply terms output step alone =
       let s = noted old q reply in
       answered old (looked s q reply terms) new q reply step.1 (looked_out s q reply terms) (λ i. looked_other s q reply terms i) alone
 
-  renewed_alone : (old new : WatchState) (found : Option Out) (reply : Reply) (output : Output) → StepRenewed old found reply output new → IsAloneTo n old → IsAloneTo n new
+  renewed_alone : (old new : WatchState) (found : Option Out) (reply : WatchReply) (output : WatchOutput) → StepRenewed old found reply output new → IsAloneTo n old → IsAloneTo n new
   renewed_alone old new None reply output step alone = absurd step
   renewed_alone old new (Some q) reply output step alone =
       let s = noted old q reply in
@@ -216,7 +216,7 @@ module _ (n : ℕ) where
   known_flag : (s : WatchState) (j end : ℕ) (renewable : Bool) (i : ℕ) → (track_at (known s j end renewable) i).out ≡ (track_at s i).out
   known_flag s j end renewable i = set_kept (λ (y x : Track). y.out ≡ x.out) (λ x. refl) s.tracks j _ (known_out s.clocks.at end renewable (track_at s j)) i
 
-  step_alone : (old new : WatchState) (event : Event) (output : Output) → length old.tracks ≤ n → Step old event output new → IsAloneTo n old → IsAloneTo n new
+  step_alone : (old new : WatchState) (event : WatchEvent) (output : WatchOutput) → length old.tracks ≤ n → Step old event output new → IsAloneTo n old → IsAloneTo n new
   step_alone old new (Clock wall elapsed) output count step alone =
       commanded (pressed (readied old wall elapsed) (round_of step.round)) new output.command (let same = mid_count old wall elapsed (round_of step.round) in omega (arith, same, count)) (mid_alone old wall elapsed (round_of step.round) alone) step.command
   step_alone old new (Looked j reply terms) output count step alone = looked_alone old new (request_out old.out j Look) reply terms output step alone
@@ -231,7 +231,7 @@ module _ (n : ℕ) where
       })
   step_alone old new _ output count step alone = subst (IsAloneTo n) (sym step.1) (record { once = alone.once; single = alone.single })
 
-pub turn_alone : (old new : WatchState) (event : Event) (result : Result Output WatchFault) → Turn old event result new → IsAlone old → IsAlone new
+pub turn_alone : (old new : WatchState) (event : WatchEvent) (result : Result WatchOutput WatchFault) → Turn old event result new → IsAlone old → IsAlone new
 turn_alone old new event (Ok output) turn alone =
     let count = turn_count old new event (Ok output) turn in
     let to = step_alone (length old.tracks) old new event output (omega arith) turn.1 (record { once = alone.once; single = alone.single }) in

@@ -4,12 +4,12 @@ use Rattle.std.proofs.lemmas.Bool.{cases_Bool, eqb-true}
 use Rattle.std.proofs.lemmas.List.{get_or-set_other, get_or-set_same}
 use Rattle.std.specs.List.{list_any}
 use Rattle.std.specs.Prelude.{slice_set}
-use Rattle.watch_machine.specs.declared.command.Output.{Output}
+use Rattle.watch_machine.specs.declared.command.WatchOutput.{WatchOutput}
 use Rattle.watch_machine.specs.declared.event.Operation.{Operation}
 use Rattle.watch_machine.specs.declared.event.Operation.TheVariants.{Look, Renew}
-use Rattle.watch_machine.specs.declared.event.Reply.{Reply}
-use Rattle.watch_machine.specs.declared.event.Reply.TheVariants.{Told, Refused, Busy, Lost}
-use Rattle.watch_machine.specs.declared.event.Terms.{Terms}
+use Rattle.watch_machine.specs.declared.event.WatchReply.{WatchReply}
+use Rattle.watch_machine.specs.declared.event.WatchReply.TheVariants.{Told, Refused, Busy, Lost}
+use Rattle.watch_machine.specs.declared.event.WatchTerms.{WatchTerms}
 use Rattle.watch_machine.specs.declared.lanes.Out.{Out}
 use Rattle.watch_machine.specs.declared.track.Track.{Track}
 use Rattle.watch_machine.specs.Answers.{heard, noted}
@@ -36,7 +36,7 @@ use Rattle.watch_laws.proofs.Grounds.{IsBase, fewer_wait, tracked}
 use Rattle.watch_laws.proofs.Stages.{Facts, IsGoing, IsThrough, free_from}
 
 -- an answer that was lived
-pub record IsReplied (f : Facts) (due : ℕ) (old mid new : WatchState) (q : Out) (reply : Reply) : Type 0 where
+pub record IsReplied (f : Facts) (due : ℕ) (old mid new : WatchState) (q : Out) (reply : WatchReply) : Type 0 where
   pub answered : IsAnswered old mid new q reply
   pub j : ℕ
   pub operation : Operation
@@ -49,7 +49,7 @@ pub record IsReplied (f : Facts) (due : ℕ) (old mid new : WatchState) (q : Out
   pub base : IsBase f.width f.n new
   pub same : Same f.i old new
 
-module _ (f : Facts) (due : ℕ) (old mid new : WatchState) (q : Out) (reply : Reply) (t : IsReplied f due old mid new q reply) where
+module _ (f : Facts) (due : ℕ) (old mid new : WatchState) (q : Out) (reply : WatchReply) (t : IsReplied f due old mid new q reply) where
   of_this : (P : Out → Type 0) → All P old.out → P q
   of_this P all = of_value P (request_out old.out t.j t.operation) q (out_all P old.out t.j t.operation all) t.found
 
@@ -72,7 +72,7 @@ module _ (f : Facts) (due : ℕ) (old mid new : WatchState) (q : Out) (reply : R
             real_endures f.o f.i f.end bound due miss old mid new q reply t.answered (t.other apart) real t.going.base.past.hold h
       ]
 
-  by_reply : (bound : ℕ) (miss : Type 0) → (w : Reply) → reply ≡ w → Endures f.o f.i f.end bound due miss old → Endures f.o f.i f.end bound due miss new
+  by_reply : (bound : ℕ) (miss : Type 0) → (w : WatchReply) → reply ≡ w → Endures f.o f.i f.end bound due miss old → Endures f.o f.i f.end bound due miss new
   by_reply bound miss Lost is h =
       let broke = lost_broke is in
       let a : IsAnswered old mid new q Lost = subst (IsAnswered old mid new q) is t.answered in
@@ -227,27 +227,27 @@ module _ (f : Facts) (due : ℕ) (old mid new : WatchState) (q : Out) (reply : R
 set_failed : (xs : List Track) (k : ℕ) (y : Track) → k < length xs → IsFailed y (track_in xs k) → IsFailed (track_in (slice_set xs k y) k) (track_in xs k)
 set_failed xs k y below' h = subst (λ x. IsFailed x (track_in xs k)) (sym (get_or-set_same xs k y no_track below')) h
 
-looked_at : (t : WatchState) (r : Out) (w : Reply) (terms : Terms) → is_told w ≡ false → r.entry < length t.tracks → IsFailed (track_at (looked (noted t r w) r w terms) r.entry) (track_at t r.entry)
+looked_at : (t : WatchState) (r : Out) (w : WatchReply) (terms : WatchTerms) → is_told w ≡ false → r.entry < length t.tracks → IsFailed (track_at (looked (noted t r w) r w terms) r.entry) (track_at t r.entry)
 looked_at t r (Told seconds renewable date) terms untold' below' = absurd (true≢false untold')
 looked_at t r (Refused status date) terms untold' below' = set_failed t.tracks r.entry _ below' (untold_failed t.clocks.at r.heard (Refused status date) (track_at t r.entry) refl)
 looked_at t r Busy terms untold' below' = set_failed t.tracks r.entry _ below' (untold_failed t.clocks.at r.heard Busy (track_at t r.entry) refl)
 looked_at t r Lost terms untold' below' = set_failed t.tracks r.entry _ below' (untold_failed t.clocks.at r.heard Lost (track_at t r.entry) refl)
 
-looked_made : (t : WatchState) (r : Out) (w : Reply) (terms : Terms) (i : ℕ) → r.entry ≡ i → is_told w ≡ false → i < length t.tracks → IsFailed (track_at (looked (noted t r w) r w terms) i) (track_at t i)
+looked_made : (t : WatchState) (r : Out) (w : WatchReply) (terms : WatchTerms) (i : ℕ) → r.entry ≡ i → is_told w ≡ false → i < length t.tracks → IsFailed (track_at (looked (noted t r w) r w terms) i) (track_at t i)
 looked_made t r w terms i is untold' below' = subst (λ k. IsFailed (track_at (looked (noted t r w) r w terms) k) (track_at t k)) is (looked_at t r w terms untold' (omega (arith, is, below')))
 
-renewed_at : (t : WatchState) (r : Out) (w : Reply) → is_told w ≡ false → r.entry < length t.tracks → IsFailed (track_at (state_renewed (noted t r w) r w) r.entry) (track_at t r.entry)
+renewed_at : (t : WatchState) (r : Out) (w : WatchReply) → is_told w ≡ false → r.entry < length t.tracks → IsFailed (track_at (state_renewed (noted t r w) r w) r.entry) (track_at t r.entry)
 unfolding renewed_track
 renewed_at t r (Told seconds renewable date) untold' below' = absurd (true≢false untold')
 renewed_at t r (Refused status date) untold' below' = set_failed t.tracks r.entry _ below' (ungranted_failed t.clocks.at r.heard (Refused status date) (track_at t r.entry) refl)
 renewed_at t r Busy untold' below' = set_failed t.tracks r.entry _ below' (ungranted_failed t.clocks.at r.heard Busy (track_at t r.entry) refl)
 renewed_at t r Lost untold' below' = set_failed t.tracks r.entry _ below' (ungranted_failed t.clocks.at r.heard Lost (track_at t r.entry) refl)
 
-renewed_made : (t : WatchState) (r : Out) (w : Reply) (i : ℕ) → r.entry ≡ i → is_told w ≡ false → i < length t.tracks → IsFailed (track_at (state_renewed (noted t r w) r w) i) (track_at t i)
+renewed_made : (t : WatchState) (r : Out) (w : WatchReply) (i : ℕ) → r.entry ≡ i → is_told w ≡ false → i < length t.tracks → IsFailed (track_at (state_renewed (noted t r w) r w) i) (track_at t i)
 renewed_made t r w i is untold' below' = subst (λ k. IsFailed (track_at (state_renewed (noted t r w) r w) k) (track_at t k)) is (renewed_at t r w untold' (omega (arith, is, below')))
 
 pub looked_replied :
-    (f : Facts) (due : ℕ) (old new : WatchState) (j : ℕ) (q : Out) (reply : Reply) (terms : Terms) (output : Output) → f.i < f.n → request_out old.out j Look ≡ Some q → StepLooked old (Some q) reply terms output new →
+    (f : Facts) (due : ℕ) (old new : WatchState) (j : ℕ) (q : Out) (reply : WatchReply) (terms : WatchTerms) (output : WatchOutput) → f.i < f.n → request_out old.out j Look ≡ Some q → StepLooked old (Some q) reply terms output new →
     IsReplyInOutage f.o reply q → (j ≡ f.i → TellsNothing f.o reply q) → IsGoing f due old → IsBase f.width f.n new → Same f.i old new → IsReplied f due old (looked (noted old q reply) q reply terms) new q reply
 looked_replied f due old new j q reply terms output low found step reply_is untold' going base same =
     let s = noted old q reply in
@@ -277,7 +277,7 @@ looked_replied f due old new j q reply terms output low found step reply_is unto
     }
 
 pub renewed_replied :
-    (f : Facts) (due : ℕ) (old new : WatchState) (j : ℕ) (q : Out) (reply : Reply) (output : Output) → f.i < f.n → request_out old.out j Renew ≡ Some q → StepRenewed old (Some q) reply output new →
+    (f : Facts) (due : ℕ) (old new : WatchState) (j : ℕ) (q : Out) (reply : WatchReply) (output : WatchOutput) → f.i < f.n → request_out old.out j Renew ≡ Some q → StepRenewed old (Some q) reply output new →
     IsReplyInOutage f.o reply q → (j ≡ f.i → TellsNothing f.o reply q) → IsGoing f due old → IsBase f.width f.n new → Same f.i old new → IsReplied f due old (state_renewed (noted old q reply) q reply) new q reply
 renewed_replied f due old new j q reply output low found step reply_is untold' going base same =
     let s = noted old q reply in

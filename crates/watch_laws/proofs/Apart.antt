@@ -2,8 +2,8 @@
 use Rattle.std.proofs.Common.{◌≡◌, ◌⊎◌, ◌∙◌, ℕ, ◌<◌, true, List, [], ◌∷◌, ◌++◌, Option, Some, None, IfSome, Result, All, is_none, length, refl, sym, ap, subst, arith, inl, inr}
 use Rattle.std.proofs.lemmas.Bool.{cases_lt}
 use Rattle.std.proofs.lemmas.List.Elements.{All-nil}
-use Rattle.watch_machine.specs.declared.command.Output.{Output}
-use Rattle.watch_machine.specs.declared.event.Event.{Event}
+use Rattle.watch_machine.specs.declared.command.WatchOutput.{WatchOutput}
+use Rattle.watch_machine.specs.declared.event.WatchEvent.{WatchEvent}
 use Rattle.watch_machine.specs.declared.event.Operation.{Operation}
 use Rattle.watch_machine.specs.declared.fault.WatchFault.{WatchFault}
 use Rattle.watch_machine.specs.declared.lanes.Out.{Out}
@@ -28,7 +28,7 @@ abbrev OutcomeAt : WatchState → Option ℕ → Option Sent → List Sent → T
 OutcomeAt new e o xs = ((xs ≡ []) × KeepsAt new e o) ⊎ ((x : Sent) × ((xs ≡ x ∷ []) × (IfSome o (λ r. IsApart r x) × KeepsAt new e (Some x))))
 
 turned_at :
-    (old new : WatchState) (event : Event) (result : Result Output WatchFault) (e : Option ℕ) (o : Option Sent) → Turn old event result new → KeepsAt old e o →
+    (old new : WatchState) (event : WatchEvent) (result : Result WatchOutput WatchFault) (e : Option ℕ) (o : Option Sent) → Turn old event result new → KeepsAt old e o →
     OutcomeAt new e o (sent_of_some e new.clocks.at (requests_at_turn result))
 unfolding Outcome
 turned_at old new event result None o turn kept = inl (refl, kept)

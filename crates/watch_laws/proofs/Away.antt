@@ -5,18 +5,18 @@ use Rattle.std.proofs.lemmas.Bool.Decides.{nat_tests}
 use Rattle.std.proofs.lemmas.List.Elements.{All-append, All-cons, All-filter, All-head, All-map, All-nil, All-tail, All-weaker}
 use Rattle.std.specs.List.{list_any}
 use Rattle.watch_machine.specs.declared.change.Was.{Was}
-use Rattle.watch_machine.specs.declared.command.Command.{Command}
-use Rattle.watch_machine.specs.declared.command.Command.TheVariants.{Go, Taken}
-use Rattle.watch_machine.specs.declared.command.Output.{Output}
-use Rattle.watch_machine.specs.declared.command.Request.{Request}
-use Rattle.watch_machine.specs.declared.event.Event.{Event}
-use Rattle.watch_machine.specs.declared.event.Event.TheVariants.{Clock, Looked, Renewed, Need, Begin, Known}
+use Rattle.watch_machine.specs.declared.command.WatchCommand.{WatchCommand}
+use Rattle.watch_machine.specs.declared.command.WatchCommand.TheVariants.{Go, Taken}
+use Rattle.watch_machine.specs.declared.command.WatchOutput.{WatchOutput}
+use Rattle.watch_machine.specs.declared.command.WatchRequest.{WatchRequest}
+use Rattle.watch_machine.specs.declared.event.WatchEvent.{WatchEvent}
+use Rattle.watch_machine.specs.declared.event.WatchEvent.TheVariants.{Clock, Looked, Renewed, Need, Begin, Known}
 use Rattle.watch_machine.specs.declared.event.Operation.TheVariants.{Look, Renew}
-use Rattle.watch_machine.specs.declared.event.Reply.{Reply}
-use Rattle.watch_machine.specs.declared.event.Reply.TheVariants.{Told, Refused, Busy, Lost}
-use Rattle.watch_machine.specs.declared.event.Terms.{Terms}
+use Rattle.watch_machine.specs.declared.event.WatchReply.{WatchReply}
+use Rattle.watch_machine.specs.declared.event.WatchReply.TheVariants.{Told, Refused, Busy, Lost}
+use Rattle.watch_machine.specs.declared.event.WatchTerms.{WatchTerms}
 use Rattle.watch_machine.specs.declared.fault.WatchFault.{WatchFault}
-use Rattle.watch_machine.specs.declared.lanes.Answer.{Answer}
+use Rattle.watch_machine.specs.declared.lanes.LaneAnswer.{LaneAnswer}
 use Rattle.watch_machine.specs.declared.lanes.Out.{Out}
 use Rattle.watch_machine.specs.declared.lanes.Presence.{Presence}
 use Rattle.watch_machine.specs.declared.track.Track.{Track}
@@ -55,31 +55,31 @@ none_hears : (s : WatchState) → (silent s).out ≡ s.out
 none_hears s = if_both (λ (t : WatchState). t.out ≡ s.out) s.presence.away s _ refl refl
 
 module _ (mid : WatchState) (q : Out) where
-  answered_away : (reply : Reply) → is_answered reply ≡ true → (replied mid q reply).presence.away ≡ false
+  answered_away : (reply : WatchReply) → is_answered reply ≡ true → (replied mid q reply).presence.away ≡ false
   answered_away Lost yes' = absurd cc
   answered_away _ yes' = away_back (lane_freed mid q)
 
-  answered_out : (reply : Reply) → is_answered reply ≡ true → (replied mid q reply).out ≡ map heard (without_request q.entry mid.out)
+  answered_out : (reply : WatchReply) → is_answered reply ≡ true → (replied mid q reply).out ≡ map heard (without_request q.entry mid.out)
   answered_out Lost yes' = absurd cc
   answered_out _ yes' = all_hear (lane_freed mid q)
 
-  lost_unheard : (reply : Reply) → is_answered reply ≡ false → q.heard ≡ false → (replied mid q reply).presence.away ≡ true
+  lost_unheard : (reply : WatchReply) → is_answered reply ≡ false → q.heard ≡ false → (replied mid q reply).presence.away ≡ true
   lost_unheard Lost no' unheard =
       if_cases (λ (t : WatchState). t.presence.away ≡ true) q.heard (lane_freed mid q) (silent (lane_freed mid q)) (λ e. absurd (not_both e unheard)) (λ e. away_gone (lane_freed mid q))
   lost_unheard _ no' unheard = absurd cc
 
-  lost_heard : (reply : Reply) → is_answered reply ≡ false → q.heard ≡ true → (replied mid q reply).presence.away ≡ mid.presence.away
+  lost_heard : (reply : WatchReply) → is_answered reply ≡ false → q.heard ≡ true → (replied mid q reply).presence.away ≡ mid.presence.away
   lost_heard Lost no' hears =
       if_cases (λ (t : WatchState). t.presence.away ≡ mid.presence.away) q.heard (lane_freed mid q) (silent (lane_freed mid q)) (λ e. refl) (λ e. absurd (not_both hears e))
   lost_heard _ no' hears = absurd cc
 
-  lost_out : (reply : Reply) → is_answered reply ≡ false → (replied mid q reply).out ≡ without_request q.entry mid.out
+  lost_out : (reply : WatchReply) → is_answered reply ≡ false → (replied mid q reply).out ≡ without_request q.entry mid.out
   lost_out Lost no' =
       if_both (λ (t : WatchState). t.out ≡ without_request q.entry mid.out) q.heard (lane_freed mid q) (silent (lane_freed mid q)) refl (none_hears (lane_freed mid q))
   lost_out _ no' = absurd cc
 
 -- a turn that is a reply to a request of i, and one that is none
-record Replies (old : WatchState) (i : ℕ) (reply : Reply) (new : WatchState) : Type 1 where
+record Replies (old : WatchState) (i : ℕ) (reply : WatchReply) (new : WatchState) : Type 1 where
   mid : WatchState
   q : Out
   is : new ≡ replied mid q reply
@@ -88,16 +88,16 @@ record Replies (old : WatchState) (i : ℕ) (reply : Reply) (new : WatchState) :
   entry : q.entry ≡ i
   found : (P : Out → Type 0) → All P old.out → P q
 
-pub record Leaves (old : WatchState) (requests : List Request) (new : WatchState) : Type 1 where
+pub record Leaves (old : WatchState) (requests : List WatchRequest) (new : WatchState) : Type 1 where
   pub away : new.presence.away ≡ old.presence.away
   pub kept : (P : Out → Type 0) → All P old.out → All P (map (out_at new.clocks.at) requests) → All P new.out
 
-abbrev Acts : WatchState → Event → List Request → WatchState → Type 1
+abbrev Acts : WatchState → WatchEvent → List WatchRequest → WatchState → Type 1
 Acts old (Looked i reply terms) requests new = Replies old i reply new
 Acts old (Renewed i reply) requests new = Replies old i reply new
 Acts old _ requests new = Leaves old requests new
 
-looked_replies : (old new : WatchState) (i : ℕ) (reply : Reply) (terms : Terms) (output : Output) (found : Option Out) → request_out old.out i Look ≡ found → StepLooked old found reply terms output new → Replies old i reply new
+looked_replies : (old new : WatchState) (i : ℕ) (reply : WatchReply) (terms : WatchTerms) (output : WatchOutput) (found : Option Out) → request_out old.out i Look ≡ found → StepLooked old found reply terms output new → Replies old i reply new
 looked_replies old new i reply terms output None is step = absurd step
 looked_replies old new i reply terms output (Some q) is step =
     let s = noted old q reply in record {
@@ -110,7 +110,7 @@ looked_replies old new i reply terms output (Some q) is step =
       found = λ P all. of_value P (request_out old.out i Look) q (out_all P old.out i Look all) is;
     }
 
-renewed_replies : (old new : WatchState) (i : ℕ) (reply : Reply) (output : Output) (found : Option Out) → request_out old.out i Renew ≡ found → StepRenewed old found reply output new → Replies old i reply new
+renewed_replies : (old new : WatchState) (i : ℕ) (reply : WatchReply) (output : WatchOutput) (found : Option Out) → request_out old.out i Renew ≡ found → StepRenewed old found reply output new → Replies old i reply new
 renewed_replies old new i reply output None is step = absurd step
 renewed_replies old new i reply output (Some q) is step = record {
   mid = state_renewed (noted old q reply) q reply;
@@ -122,15 +122,15 @@ renewed_replies old new i reply output (Some q) is step = record {
   found = λ P all. of_value P (request_out old.out i Renew) q (out_all P old.out i Renew all) is;
 }
 
-settled_away : (margin at : ℕ) (xs : List Track) (answers : List Answer) (p : Presence) → (presence_after margin at xs answers p).away ≡ p.away
+settled_away : (margin at : ℕ) (xs : List Track) (answers : List LaneAnswer) (p : Presence) → (presence_after margin at xs answers p).away ≡ p.away
 unfolding presence_after held_back
 settled_away margin at xs answers p = if_both (λ (q : Presence). q.away ≡ p.away) (p.away && list_any is_silent answers) _ p refl refl
 
-pub sent_requests : (mid new : WatchState) (command : Command) → StepCommand mid command new → new ≡ sent mid (requests_asked_by command)
+pub sent_requests : (mid new : WatchState) (command : WatchCommand) → StepCommand mid command new → new ≡ sent mid (requests_asked_by command)
 sent_requests mid new (Go requests until) h = h.0.1
 sent_requests mid new Taken h = absurd h
 
-pub clock_leaves : (old new : WatchState) (wall elapsed : ℕ) (output : Output) → StepClock old wall elapsed output new → Leaves old (requests_asked_by output.command) new
+pub clock_leaves : (old new : WatchState) (wall elapsed : ℕ) (output : WatchOutput) → StepClock old wall elapsed output new → Leaves old (requests_asked_by output.command) new
 clock_leaves old new wall elapsed output step =
     let mid = pressed (readied old wall elapsed) (asked_by_round step.round) in
     let requests = requests_asked_by output.command in
@@ -143,13 +143,13 @@ clock_leaves old new wall elapsed output step =
       kept = λ P all more. subst (All P) (sym out) (All-append P old.out (map (out_at new.clocks.at) requests) all more);
     }
 
-same_leaves : (old new mid : WatchState) (requests : List Request) → new ≡ mid → mid.presence ≡ old.presence → mid.out ≡ old.out → Leaves old requests new
+same_leaves : (old new mid : WatchState) (requests : List WatchRequest) → new ≡ mid → mid.presence ≡ old.presence → mid.out ≡ old.out → Leaves old requests new
 same_leaves old new mid requests is presence out = record {
   away = ap (λ (x : WatchState). x.presence.away) is ∙ ap (λ (p : Presence). p.away) presence;
   kept = λ P all more. subst (All P) (sym (ap (λ (x : WatchState). x.out) is ∙ out)) all;
 }
 
-acts : (old new : WatchState) (event : Event) (output : Output) → Step old event output new → Acts old event (requests_asked_by output.command) new
+acts : (old new : WatchState) (event : WatchEvent) (output : WatchOutput) → Step old event output new → Acts old event (requests_asked_by output.command) new
 acts old new (Clock wall elapsed) output step = clock_leaves old new wall elapsed output step
 acts old new (Looked i reply terms) output step = looked_replies old new i reply terms output (request_out old.out i Look) refl step
 acts old new (Renewed i reply) output step = renewed_replies old new i reply output (request_out old.out i Renew) refl step
@@ -164,34 +164,34 @@ unfolding without_request
 left P i out all = All-filter (λ q. not (q.entry == i)) P out all
 
 -- a reply
-replied_back : (old new : WatchState) (i : ℕ) (reply : Reply) → Replies old i reply new → is_answered reply ≡ true → new.presence.away ≡ false
+replied_back : (old new : WatchState) (i : ℕ) (reply : WatchReply) → Replies old i reply new → is_answered reply ≡ true → new.presence.away ≡ false
 replied_back old new i reply h yes' = ap (λ (x : WatchState). x.presence.away) h.is ∙ answered_away h.mid h.q reply yes'
 
-replied_hears : (old new : WatchState) (i j : ℕ) (reply : Reply) → Replies old i reply new → is_answered reply ≡ true → AreHeard true j new.out
+replied_hears : (old new : WatchState) (i j : ℕ) (reply : WatchReply) → Replies old i reply new → is_answered reply ≡ true → AreHeard true j new.out
 replied_hears old new i j reply h yes' =
     let out = without_request h.q.entry h.mid.out in
     subst (AreHeard true j) (sym (ap (λ (x : WatchState). x.out) h.is ∙ answered_out h.mid h.q reply yes'))
     (All-map (λ (q : Out). q.entry ≡ j → q.heard ≡ true) heard out (λ k d below of. refl))
 
-replied_kept : (old new : WatchState) (i : ℕ) (reply : Reply) → Replies old i reply new → is_answered reply ≡ false → (P : Out → Type 0) → All P old.out → All P new.out
+replied_kept : (old new : WatchState) (i : ℕ) (reply : WatchReply) → Replies old i reply new → is_answered reply ≡ false → (P : Out → Type 0) → All P old.out → All P new.out
 replied_kept old new i reply h no' P all =
     subst (All P) (sym (ap (λ (x : WatchState). x.out) h.is ∙ lost_out h.mid h.q reply no')) (left P h.q.entry h.mid.out (subst (All P) (sym h.out) all))
 
-replied_lost : (old new : WatchState) (i : ℕ) (reply : Reply) → Replies old i reply new → is_answered reply ≡ false → AreHeard false i old.out → new.presence.away ≡ true
+replied_lost : (old new : WatchState) (i : ℕ) (reply : WatchReply) → Replies old i reply new → is_answered reply ≡ false → AreHeard false i old.out → new.presence.away ≡ true
 replied_lost old new i reply h no' unheard =
     ap (λ (x : WatchState). x.presence.away) h.is ∙ lost_unheard h.mid h.q reply no' (h.found (λ (q : Out). q.entry ≡ i → q.heard ≡ false) unheard h.entry)
 
-replied_same : (old new : WatchState) (i : ℕ) (reply : Reply) → Replies old i reply new → is_answered reply ≡ false → AreHeard true i old.out → new.presence.away ≡ old.presence.away
+replied_same : (old new : WatchState) (i : ℕ) (reply : WatchReply) → Replies old i reply new → is_answered reply ≡ false → AreHeard true i old.out → new.presence.away ≡ old.presence.away
 replied_same old new i reply h no' hears =
     ap (λ (x : WatchState). x.presence.away) h.is ∙ lost_heard h.mid h.q reply no' (h.found (λ (q : Out). q.entry ≡ i → q.heard ≡ true) hears h.entry) ∙ h.away
 
 -- an event that is taken
-answer_back : (old new : WatchState) (event : Event) (requests : List Request) → Acts old event requests new → answers event ≡ true → new.presence.away ≡ false
+answer_back : (old new : WatchState) (event : WatchEvent) (requests : List WatchRequest) → Acts old event requests new → answers event ≡ true → new.presence.away ≡ false
 answer_back old new (Looked i reply terms) requests h yes' = replied_back old new i reply h yes'
 answer_back old new (Renewed i reply) requests h yes' = replied_back old new i reply h yes'
 answer_back old new _ requests h yes' = absurd cc
 
-answer_hears : (j : ℕ) (old new : WatchState) (event : Event) (requests : List Request) → Acts old event requests new → answers event ≡ true → AreHeard true j new.out
+answer_hears : (j : ℕ) (old new : WatchState) (event : WatchEvent) (requests : List WatchRequest) → Acts old event requests new → answers event ≡ true → AreHeard true j new.out
 answer_hears j old new (Looked i reply terms) requests h yes' = replied_hears old new i j reply h yes'
 answer_hears j old new (Renewed i reply) requests h yes' = replied_hears old new i j reply h yes'
 answer_hears j old new _ requests h yes' = absurd cc
@@ -201,30 +201,30 @@ neither true b no' = absurd cc
 neither false b no' = (refl, no')
 
 -- a request that goes out has heard of none
-unheard_out : (j at : ℕ) (requests : List Request) → AreHeard false j (map (out_at at) requests)
+unheard_out : (j at : ℕ) (requests : List WatchRequest) → AreHeard false j (map (out_at at) requests)
 unheard_out j at requests = All-map (λ (q : Out). q.entry ≡ j → q.heard ≡ false) (out_at at) requests (λ k d below of. refl)
 
-other_out : (j at : ℕ) (requests : List Request) → list_any (λ (r : Request). r.entry == j) requests ≡ false → AreHeard true j (map (out_at at) requests)
+other_out : (j at : ℕ) (requests : List WatchRequest) → list_any (λ (r : WatchRequest). r.entry == j) requests ≡ false → AreHeard true j (map (out_at at) requests)
 other_out j at [] none = All-nil (λ (q : Out). q.entry ≡ j → q.heard ≡ true)
 other_out j at (r ∷ requests) none =
-    let parts = neither (r.entry == j) (list_any (λ (x : Request). x.entry == j) requests) none in
+    let parts = neither (r.entry == j) (list_any (λ (x : WatchRequest). x.entry == j) requests) none in
     All-cons (λ (q : Out). q.entry ≡ j → q.heard ≡ true) (out_at at r) (map (out_at at) requests) (λ is. absurd (not_both (eqb-is r.entry j is) parts.0)) (other_out j at requests parts.1) where
       eqb-is : (m n : ℕ) → m ≡ n → (m == n) ≡ true
       eqb-is m n is = grind (arith, nat_tests)
 
-stays_unheard : (j : ℕ) (old new : WatchState) (event : Event) (requests : List Request) → Acts old event requests new → answers event ≡ false → AreHeard false j old.out → AreHeard false j new.out
+stays_unheard : (j : ℕ) (old new : WatchState) (event : WatchEvent) (requests : List WatchRequest) → Acts old event requests new → answers event ≡ false → AreHeard false j old.out → AreHeard false j new.out
 stays_unheard j old new (Looked i reply terms) requests h no' all = replied_kept old new i reply h no' (λ (q : Out). q.entry ≡ j → q.heard ≡ false) all
 stays_unheard j old new (Renewed i reply) requests h no' all = replied_kept old new i reply h no' (λ (q : Out). q.entry ≡ j → q.heard ≡ false) all
 stays_unheard j old new _ requests h no' all = h.kept (λ (q : Out). q.entry ≡ j → q.heard ≡ false) all (unheard_out j new.clocks.at requests)
 
-replied_heard : (old new : WatchState) (i j : ℕ) (reply : Reply) → Replies old i reply new → AreHeard true j old.out → AreHeard true j new.out
+replied_heard : (old new : WatchState) (i j : ℕ) (reply : WatchReply) → Replies old i reply new → AreHeard true j old.out → AreHeard true j new.out
 replied_heard old new i j (Told seconds renewable date) h all = replied_hears old new i j (Told seconds renewable date) h refl
 replied_heard old new i j (Refused status date) h all = replied_hears old new i j (Refused status date) h refl
 replied_heard old new i j Busy h all = replied_hears old new i j Busy h refl
 replied_heard old new i j Lost h all = replied_kept old new i Lost h refl (λ (q : Out). q.entry ≡ j → q.heard ≡ true) all
 
 stays_heard :
-    (j : ℕ) (old new : WatchState) (event : Event) (requests : List Request) → Acts old event requests new → list_any (λ (r : Request). r.entry == j) requests ≡ false → AreHeard true j old.out →
+    (j : ℕ) (old new : WatchState) (event : WatchEvent) (requests : List WatchRequest) → Acts old event requests new → list_any (λ (r : WatchRequest). r.entry == j) requests ≡ false → AreHeard true j old.out →
     AreHeard true j new.out
 stays_heard j old new (Looked i reply terms) requests h none all = replied_heard old new i j reply h all
 stays_heard j old new (Renewed i reply) requests h none all = replied_heard old new i j reply h all
@@ -234,7 +234,7 @@ not_true : (b : Bool) → not b ≡ true → b ≡ false
 not_true true no' = absurd cc
 not_true false no' = refl
 
-loss_lost : (i : ℕ) (old new : WatchState) (event : Event) (requests : List Request) → Acts old event requests new → loses i event ≡ true → AreHeard false i old.out → new.presence.away ≡ true
+loss_lost : (i : ℕ) (old new : WatchState) (event : WatchEvent) (requests : List WatchRequest) → Acts old event requests new → loses i event ≡ true → AreHeard false i old.out → new.presence.away ≡ true
 loss_lost i old new (Looked j reply terms) requests h yes' all =
     let both = and_parts (j == i) (not (is_answered reply)) yes' in
     replied_lost old new j reply h (not_true (is_answered reply) both.1) (subst (λ k. AreHeard false k old.out) (sym (eqb-true j i both.0)) all)
@@ -243,7 +243,7 @@ loss_lost i old new (Renewed j reply) requests h yes' all =
     replied_lost old new j reply h (not_true (is_answered reply) both.1) (subst (λ k. AreHeard false k old.out) (sym (eqb-true j i both.0)) all)
 loss_lost i old new _ requests h yes' all = absurd cc
 
-loss_same : (i : ℕ) (old new : WatchState) (event : Event) (requests : List Request) → Acts old event requests new → loses i event ≡ true → AreHeard true i old.out → new.presence.away ≡ old.presence.away
+loss_same : (i : ℕ) (old new : WatchState) (event : WatchEvent) (requests : List WatchRequest) → Acts old event requests new → loses i event ≡ true → AreHeard true i old.out → new.presence.away ≡ old.presence.away
 loss_same i old new (Looked j reply terms) requests h yes' all =
     let both = and_parts (j == i) (not (is_answered reply)) yes' in
     replied_same old new j reply h (not_true (is_answered reply) both.1) (subst (λ k. AreHeard true k old.out) (sym (eqb-true j i both.0)) all)
@@ -253,52 +253,52 @@ loss_same i old new (Renewed j reply) requests h yes' all =
 loss_same i old new _ requests h yes' all = absurd cc
 
 -- a reply is an answer or a loss
-neither_reply : {X : Type 0} (i : ℕ) (reply : Reply) → is_answered reply ≡ false → (i == i && not (is_answered reply)) ≡ false → X
+neither_reply : {X : Type 0} (i : ℕ) (reply : WatchReply) → is_answered reply ≡ false → (i == i && not (is_answered reply)) ≡ false → X
 neither_reply i reply no' none =
     let same : (i == i) ≡ true = grind (arith, nat_tests) in
     absurd (let bad : true ≡ false = sym (ap (λ b. b && true) same) ∙ sym (ap (λ b. i == i && not b) no') ∙ none in cc)
 
-else_same : (old new : WatchState) (event : Event) (requests : List Request) → Acts old event requests new → answers event ≡ false → ((i : ℕ) → loses i event ≡ false) → new.presence.away ≡ old.presence.away
+else_same : (old new : WatchState) (event : WatchEvent) (requests : List WatchRequest) → Acts old event requests new → answers event ≡ false → ((i : ℕ) → loses i event ≡ false) → new.presence.away ≡ old.presence.away
 else_same old new (Looked i reply terms) requests h no' none = neither_reply i reply no' (none i)
 else_same old new (Renewed i reply) requests h no' none = neither_reply i reply no' (none i)
 else_same old new _ requests h no' none = h.away
 
 -- a turn
 turn_unheard :
-    (j : ℕ) (old new : WatchState) (event : Event) (result : Result Output WatchFault) → Turn old event result new → is_answer_taken (record { event = event; result = result; state = new }) ≡ false →
+    (j : ℕ) (old new : WatchState) (event : WatchEvent) (result : Result WatchOutput WatchFault) → Turn old event result new → is_answer_taken (record { event = event; result = result; state = new }) ≡ false →
     AreHeard false j old.out → AreHeard false j new.out
 turn_unheard j old new event (Ok output) turn no' all = stays_unheard j old new event (requests_asked_by output.command) (acts old new event output turn.1) no' all
 turn_unheard j old new event (Err fault) turn no' all = subst (λ (x : WatchState). AreHeard false j x.out) (sym (refused_stays old new event fault turn)) all
 
 turn_heard :
-    (j : ℕ) (old new : WatchState) (event : Event) (result : Result Output WatchFault) → Turn old event result new → list_any (λ (r : Request). r.entry == j) (requests_at_turn result) ≡ false →
+    (j : ℕ) (old new : WatchState) (event : WatchEvent) (result : Result WatchOutput WatchFault) → Turn old event result new → list_any (λ (r : WatchRequest). r.entry == j) (requests_at_turn result) ≡ false →
     AreHeard true j old.out → AreHeard true j new.out
 turn_heard j old new event (Ok output) turn none all = stays_heard j old new event (requests_asked_by output.command) (acts old new event output turn.1) none all
 turn_heard j old new event (Err fault) turn none all = subst (λ (x : WatchState). AreHeard true j x.out) (sym (refused_stays old new event fault turn)) all
 
-abbrev turned : Event → Result Output WatchFault → WatchState → Turned
+abbrev turned : WatchEvent → Result WatchOutput WatchFault → WatchState → Turned
 turned event result new = record { event = event; result = result; state = new }
 
-turn_back : (old new : WatchState) (event : Event) (result : Result Output WatchFault) → Turn old event result new → is_answer_taken (turned event result new) ≡ true → new.presence.away ≡ false
+turn_back : (old new : WatchState) (event : WatchEvent) (result : Result WatchOutput WatchFault) → Turn old event result new → is_answer_taken (turned event result new) ≡ true → new.presence.away ≡ false
 turn_back old new event (Ok output) turn yes' = answer_back old new event (requests_asked_by output.command) (acts old new event output turn.1) yes'
 turn_back old new event (Err fault) turn yes' = absurd cc
 
-turn_hears : (j : ℕ) (old new : WatchState) (event : Event) (result : Result Output WatchFault) → Turn old event result new → is_answer_taken (turned event result new) ≡ true → AreHeard true j new.out
+turn_hears : (j : ℕ) (old new : WatchState) (event : WatchEvent) (result : Result WatchOutput WatchFault) → Turn old event result new → is_answer_taken (turned event result new) ≡ true → AreHeard true j new.out
 turn_hears j old new event (Ok output) turn yes' = answer_hears j old new event (requests_asked_by output.command) (acts old new event output turn.1) yes'
 turn_hears j old new event (Err fault) turn yes' = absurd cc
 
-turn_lost : (i : ℕ) (old new : WatchState) (event : Event) (result : Result Output WatchFault) → Turn old event result new → is_loss i (turned event result new) ≡ true → AreHeard false i old.out → new.presence.away ≡ true
+turn_lost : (i : ℕ) (old new : WatchState) (event : WatchEvent) (result : Result WatchOutput WatchFault) → Turn old event result new → is_loss i (turned event result new) ≡ true → AreHeard false i old.out → new.presence.away ≡ true
 turn_lost i old new event (Ok output) turn yes' all = loss_lost i old new event (requests_asked_by output.command) (acts old new event output turn.1) yes' all
 turn_lost i old new event (Err fault) turn yes' all = absurd cc
 
 turn_same :
-    (i : ℕ) (old new : WatchState) (event : Event) (result : Result Output WatchFault) → Turn old event result new → is_loss i (turned event result new) ≡ true → AreHeard true i old.out →
+    (i : ℕ) (old new : WatchState) (event : WatchEvent) (result : Result WatchOutput WatchFault) → Turn old event result new → is_loss i (turned event result new) ≡ true → AreHeard true i old.out →
     new.presence.away ≡ old.presence.away
 turn_same i old new event (Ok output) turn yes' all = loss_same i old new event (requests_asked_by output.command) (acts old new event output turn.1) yes' all
 turn_same i old new event (Err fault) turn yes' all = absurd cc
 
 turn_else :
-    (old new : WatchState) (event : Event) (result : Result Output WatchFault) → Turn old event result new → is_answer_taken (turned event result new) ≡ false →
+    (old new : WatchState) (event : WatchEvent) (result : Result WatchOutput WatchFault) → Turn old event result new → is_answer_taken (turned event result new) ≡ false →
     ((i : ℕ) → is_loss i (turned event result new) ≡ false) → new.presence.away ≡ old.presence.away
 turn_else old new event (Ok output) turn no' none = else_same old new event (requests_asked_by output.command) (acts old new event output turn.1) no' none
 turn_else old new event (Err fault) turn no' none = ap (λ (x : WatchState). x.presence.away) (refused_stays old new event fault turn)

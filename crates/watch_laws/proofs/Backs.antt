@@ -2,13 +2,13 @@
 use Rattle.std.proofs.Common.{◌≡◌, ◌≢◌, ◌∙◌, ℕ, Bool, true, false, ◌&&◌, if◌then◌else◌, Option, Some, None, Result, Ok, Err, refl, sym, ap, subst, true≢false}
 use Rattle.std.proofs.lemmas.Bool.{cond-false, cond-true, eqb-true}
 use Rattle.std.proofs.lemmas.List.{get_or-set_other}
-use Rattle.watch_machine.specs.declared.command.Output.{Output}
-use Rattle.watch_machine.specs.declared.event.Event.{Event}
-use Rattle.watch_machine.specs.declared.event.Event.TheVariants.{Clock, Looked, Renewed, Need, Begin, Known}
+use Rattle.watch_machine.specs.declared.command.WatchOutput.{WatchOutput}
+use Rattle.watch_machine.specs.declared.event.WatchEvent.{WatchEvent}
+use Rattle.watch_machine.specs.declared.event.WatchEvent.TheVariants.{Clock, Looked, Renewed, Need, Begin, Known}
 use Rattle.watch_machine.specs.declared.event.Operation.TheVariants.{Look, Renew}
-use Rattle.watch_machine.specs.declared.event.Reply.{Reply}
-use Rattle.watch_machine.specs.declared.event.Reply.TheVariants.{Told, Refused, Busy, Lost}
-use Rattle.watch_machine.specs.declared.event.Terms.{Terms}
+use Rattle.watch_machine.specs.declared.event.WatchReply.{WatchReply}
+use Rattle.watch_machine.specs.declared.event.WatchReply.TheVariants.{Told, Refused, Busy, Lost}
+use Rattle.watch_machine.specs.declared.event.WatchTerms.{WatchTerms}
 use Rattle.watch_machine.specs.declared.fault.WatchFault.{WatchFault}
 use Rattle.watch_machine.specs.declared.lanes.Out.{Out}
 use Rattle.watch_machine.specs.declared.lanes.Presence.{Presence}
@@ -33,12 +33,12 @@ use Rattle.watch_laws.proofs.Minding.{some_within}
 use Rattle.watch_laws.proofs.Presses.{again_is}
 
 -- a reply leaves the tracks of others, but for the broker's return
-looked_others : (s : WatchState) (q : Out) (reply : Reply) (terms : Terms) (j : ℕ) → j ≢ q.entry → track_at (looked s q reply terms) j ≡ track_at s j
+looked_others : (s : WatchState) (q : Out) (reply : WatchReply) (terms : WatchTerms) (j : ℕ) → j ≢ q.entry → track_at (looked s q reply terms) j ≡ track_at s j
 looked_others s q (Told seconds renewable date) terms j apart =
     get_or-set_other (told_state s q.entry q.since seconds renewable terms).tracks q.entry j _ no_track apart ∙ get_or-set_other s.tracks q.entry j _ no_track apart
 looked_others s q _ terms j apart = get_or-set_other s.tracks q.entry j _ no_track apart
 
-renewed_others : (s : WatchState) (q : Out) (reply : Reply) (j : ℕ) → j ≢ q.entry → track_at (state_renewed s q reply) j ≡ track_at s j
+renewed_others : (s : WatchState) (q : Out) (reply : WatchReply) (j : ℕ) → j ≢ q.entry → track_at (state_renewed s q reply) j ≡ track_at s j
 renewed_others s q reply j apart = get_or-set_other s.tracks q.entry j _ no_track apart
 
 module _ (mid : WatchState) (q : Out) where
@@ -48,25 +48,25 @@ module _ (mid : WatchState) (q : Out) where
   none_back : mid.presence.away ≡ false → (answers_all (lane_freed mid q)).tracks ≡ mid.tracks
   none_back there = if_cases (λ (t : WatchState). t.tracks ≡ mid.tracks) mid.presence.away _ _ (λ e. absurd (true≢false (sym e ∙ there))) (λ e. refl)
 
-  back_tracks : (reply : Reply) → is_answered reply ≡ true → mid.presence.away ≡ true → (replied mid q reply).tracks ≡ each (λ i. back_track) mid.tracks
+  back_tracks : (reply : WatchReply) → is_answered reply ≡ true → mid.presence.away ≡ true → (replied mid q reply).tracks ≡ each (λ i. back_track) mid.tracks
   back_tracks Lost yes' away = absurd cc
   back_tracks _ yes' away = all_back away
 
-  same_tracks : (reply : Reply) → is_answered reply && mid.presence.away ≡ false → (replied mid q reply).tracks ≡ mid.tracks
+  same_tracks : (reply : WatchReply) → is_answered reply && mid.presence.away ≡ false → (replied mid q reply).tracks ≡ mid.tracks
   same_tracks Lost none =
       let P : WatchState → Type 0 = λ t. t.tracks ≡ mid.tracks in
       if_both P q.heard (lane_freed mid q) (silent (lane_freed mid q)) refl (if_both P mid.presence.away _ _ refl refl)
   same_tracks _ none = none_back none
 
 -- a turn that is a reply to i
-record Replies (old : WatchState) (i : ℕ) (reply : Reply) (new : WatchState) : Type 0 where
+record Replies (old : WatchState) (i : ℕ) (reply : WatchReply) (new : WatchState) : Type 0 where
   mid : WatchState
   q : Out
   is : new ≡ replied mid q reply
   away : mid.presence.away ≡ old.presence.away
   others : (j : ℕ) → j ≢ i → track_at mid j ≡ track_at old j
 
-looked_replies : (old new : WatchState) (i : ℕ) (reply : Reply) (terms : Terms) (output : Output) (found : Option Out) → request_out old.out i Look ≡ found → StepLooked old found reply terms output new → Replies old i reply new
+looked_replies : (old new : WatchState) (i : ℕ) (reply : WatchReply) (terms : WatchTerms) (output : WatchOutput) (found : Option Out) → request_out old.out i Look ≡ found → StepLooked old found reply terms output new → Replies old i reply new
 looked_replies old new i reply terms output None is step = absurd step
 looked_replies old new i reply terms output (Some q) is step =
     let s = noted old q reply in
@@ -78,18 +78,18 @@ looked_replies old new i reply terms output (Some q) is step =
       others = λ j apart. looked_others s q reply terms j (λ e. apart (e ∙ out_entry old.out i Look q is));
     }
 
-renewed_replies : (old new : WatchState) (i : ℕ) (reply : Reply) (output : Output) (found : Option Out) → request_out old.out i Renew ≡ found → StepRenewed old found reply output new → Replies old i reply new
+renewed_replies : (old new : WatchState) (i : ℕ) (reply : WatchReply) (output : WatchOutput) (found : Option Out) → request_out old.out i Renew ≡ found → StepRenewed old found reply output new → Replies old i reply new
 renewed_replies old new i reply output None is step = absurd step
 renewed_replies old new i reply output (Some q) is step =
     let s = noted old q reply in
     record { mid = state_renewed s q reply; q = q; is = step.1; away = refl; others = λ j apart. renewed_others s q reply j (λ e. apart (e ∙ out_entry old.out i Renew q is)) }
 
 record Taken (old new : WatchState) (i : ℕ) (answered : Bool) : Type 0 where
-  reply : Reply
+  reply : WatchReply
   answered_is : answered ≡ is_answered reply
   replies : Replies old i reply new
 
-turn_replies : (old new : WatchState) (event : Event) (result : Result Output WatchFault) (i : ℕ) → Turn old event result new → is_event_taken result && replies_to i event ≡ true → Taken old new i (is_event_taken result && answers event)
+turn_replies : (old new : WatchState) (event : WatchEvent) (result : Result WatchOutput WatchFault) (i : ℕ) → Turn old event result new → is_event_taken result && replies_to i event ≡ true → Taken old new i (is_event_taken result && answers event)
 turn_replies old new (Clock wall elapsed) (Ok output) i turn of = absurd cc
 turn_replies old new (Looked k reply terms) (Ok output) i turn of =
     record { reply = reply; answered_is = refl; replies = subst (λ n. Replies old n reply new) (eqb-true k i of) (looked_replies old new k reply terms output (request_out old.out k Look) refl turn.1) }

@@ -5,8 +5,8 @@ use Rattle.std.proofs.lemmas.List.Elements.{All-cons, All-nil}
 use Rattle.std.proofs.lemmas.List.Sums.{length-filter}
 use Rattle.std.specs.List.{All, list_any}
 use Rattle.watch_machine.specs.declared.change.Was.{Was}
-use Rattle.watch_machine.specs.declared.command.Output.{Output}
-use Rattle.watch_machine.specs.declared.event.Event.{Event}
+use Rattle.watch_machine.specs.declared.command.WatchOutput.{WatchOutput}
+use Rattle.watch_machine.specs.declared.event.WatchEvent.{WatchEvent}
 use Rattle.watch_machine.specs.declared.fault.WatchFault.{WatchFault}
 use Rattle.watch_machine.specs.declared.lanes.Out.{Out}
 use Rattle.watch_machine.specs.declared.track.Track.{Track}
@@ -156,7 +156,7 @@ module _ (old : WatchState) (c : Changed) (h : IsChanged old c) where
 abbrev pub Based : WatchState → Type 0
 Based s = IsBase s.width (length s.forest.entries) s
 
-pub turn_based : (old new : WatchState) (event : Event) (result : Result Output WatchFault) → Turn old event result new → Based old → Based new
+pub turn_based : (old new : WatchState) (event : WatchEvent) (result : Result WatchOutput WatchFault) → Turn old event result new → Based old → Based new
 turn_based old new event result turn base =
     let next = turn_base old.width (length old.forest.entries) old new event result turn base in
     subst (λ n. IsBase new.width n new) (sym (turn_shape old new event result turn).0) (subst (λ w. IsBase w (length old.forest.entries) new) (sym next.fits.0) next)

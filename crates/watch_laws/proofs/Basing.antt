@@ -6,9 +6,9 @@ use Rattle.std.specs.List.{list_any}
 use Rattle.plan_forest.specs.declared.entry.Entry.{Entry}
 use Rattle.plan_forest.specs.Forest.{entry_at}
 use Rattle.watch_machine.specs.declared.event.Operation.TheVariants.{Look, Renew}
-use Rattle.watch_machine.specs.declared.event.Reply.{Reply}
-use Rattle.watch_machine.specs.declared.event.Reply.TheVariants.{Told, Refused, Busy, Lost}
-use Rattle.watch_machine.specs.declared.notes.Why.{Why}
+use Rattle.watch_machine.specs.declared.event.WatchReply.{WatchReply}
+use Rattle.watch_machine.specs.declared.event.WatchReply.TheVariants.{Told, Refused, Busy, Lost}
+use Rattle.watch_machine.specs.declared.notes.BeginReason.{BeginReason}
 use Rattle.watch_machine.specs.declared.track.Track.{Track}
 use Rattle.watch_machine.specs.declared.track.Try.{Try}
 use Rattle.watch_machine.specs.Answers.{back_track, back_try, failing}
@@ -136,7 +136,7 @@ asked_passes now asked at round i x le =
     (λ free. (refl, λ h. record { base = le; out = λ o. absurd (not_both o free) })))
     (same_passes now asked x)
 
-begun_passes : (now asked : ℕ) (s : WatchState) (w : Option Why) (i : ℕ) → Passes now asked (track_at (begun s w) i) (track_at s i)
+begun_passes : (now asked : ℕ) (s : WatchState) (w : Option BeginReason) (i : ℕ) → Passes now asked (track_at (begun s w) i) (track_at s i)
 begun_passes now asked s None i = same_passes now asked (track_at s i)
 begun_passes now asked s (Some w) i =
     let R : Track → Track → Type 0 = Passes now asked in
@@ -184,7 +184,7 @@ told_base n at due x (Some t) le h = if_both (BaseBy n) due (Some (at_once at t)
 refused_base : (n at : ℕ) (x : Track) (t : Try) → SetBy n (refused_try at x t).base
 refused_base n at x t = if_both (λ (u : Try). SetBy n u.base) (is_open (sec at) x) _ (failing t Look false false) (if_both (λ (u : Try). SetBy n u.base) t.pressed (failing t Renew false false) _ tt tt) tt
 
-pub untold_base : (n at : ℕ) (heard : Bool) (reply : Reply) (x : Track) (o : Option Try) → BaseBy n o → BaseBy n (untold at heard reply x o)
+pub untold_base : (n at : ℕ) (heard : Bool) (reply : WatchReply) (x : Track) (o : Option Try) → BaseBy n o → BaseBy n (untold at heard reply x o)
 untold_base n at heard reply x None h = tt
 untold_base n at heard (Told seconds renewable date) x (Some t) h = h
 untold_base n at heard (Refused status date) x (Some t) h = refused_base n at x t
@@ -195,7 +195,7 @@ granted_base n at owes end None = tt
 granted_base n at owes end (Some t) =
     if_both (BaseBy n) (nat_lt (sec at) end) (if owes then Some (owed (at + 30000)) else None) (Some (failing t Look false false)) (if_both (BaseBy n) owes (Some (owed (at + 30000))) None tt tt) tt
 
-pub ungranted_base : (n at : ℕ) (heard : Bool) (reply : Reply) (x : Track) (o : Option Try) → BaseBy n o → BaseBy n (ungranted at heard reply x o)
+pub ungranted_base : (n at : ℕ) (heard : Bool) (reply : WatchReply) (x : Track) (o : Option Try) → BaseBy n o → BaseBy n (ungranted at heard reply x o)
 ungranted_base n at heard reply x None h = tt
 ungranted_base n at heard (Told seconds renewable date) x (Some t) h = h
 ungranted_base n at heard _ x (Some t) h = tt

@@ -5,18 +5,18 @@ use Rattle.std.proofs.lemmas.Bool.Decides.{nat_tests}
 use Rattle.std.specs.List.{list_any}
 use Rattle.plan_forest.proofs.Carrying.{or_parts}
 use Rattle.watch_machine.specs.declared.clocks.Clocks.{Clocks}
-use Rattle.watch_machine.specs.declared.command.Output.{Output}
-use Rattle.watch_machine.specs.declared.command.Request.{Request}
-use Rattle.watch_machine.specs.declared.event.Event.{Event}
-use Rattle.watch_machine.specs.declared.event.Event.TheVariants.{Clock, Looked, Renewed, Need, Begin, Known}
+use Rattle.watch_machine.specs.declared.command.WatchOutput.{WatchOutput}
+use Rattle.watch_machine.specs.declared.command.WatchRequest.{WatchRequest}
+use Rattle.watch_machine.specs.declared.event.WatchEvent.{WatchEvent}
+use Rattle.watch_machine.specs.declared.event.WatchEvent.TheVariants.{Clock, Looked, Renewed, Need, Begin, Known}
 use Rattle.watch_machine.specs.declared.event.Operation.TheVariants.{Look, Renew}
-use Rattle.watch_machine.specs.declared.event.Reply.{Reply}
-use Rattle.watch_machine.specs.declared.event.Terms.{Terms}
+use Rattle.watch_machine.specs.declared.event.WatchReply.{WatchReply}
+use Rattle.watch_machine.specs.declared.event.WatchTerms.{WatchTerms}
 use Rattle.watch_machine.specs.declared.fault.WatchFault.{WatchFault}
 use Rattle.watch_machine.specs.declared.lanes.Out.{Out}
 use Rattle.watch_machine.specs.declared.notes.Notes.{Notes}
-use Rattle.watch_machine.specs.declared.notes.Why.{Why}
-use Rattle.watch_machine.specs.declared.notes.Why.TheVariants.{Asked, Jump, Day}
+use Rattle.watch_machine.specs.declared.notes.BeginReason.{BeginReason}
+use Rattle.watch_machine.specs.declared.notes.BeginReason.TheVariants.{Asked, Jump, Day}
 use Rattle.watch_machine.specs.declared.reading.TheConstants.{READING_MAX}
 use Rattle.watch_machine.specs.declared.track.Track.{Track}
 use Rattle.watch_machine.specs.Answers.{noted}
@@ -54,7 +54,7 @@ left_since at came old new same h = record {
 }
 
 -- a clock
-begun_since : (at : ℕ) (came : Bool) (s : WatchState) (w : Option Why) → at ≤ s.clocks.at → Since at came s → Since at came (begun s w)
+begun_since : (at : ℕ) (came : Bool) (s : WatchState) (w : Option BeginReason) → at ≤ s.clocks.at → Since at came s → Since at came (begun s w)
 begun_since at came s None later h = record { begun = h.begun; begun_is = h.begun_is; from = h.from; past = later; asked = h.asked }
 begun_since at came s (Some w) later h = record { begun = s.clocks.at; begun_is = refl; from = later; past = later; asked = λ yes'. absurd cc }
 
@@ -70,7 +70,7 @@ readied_since at came s wall elapsed h =
     begun_since at came (settled (timed s wall elapsed)) (why s wall elapsed) later
     (record { begun = h.begun; begun_is = h.begun_is; from = h.from; past = later; asked = h.asked })
 
-clock_since : (at : ℕ) (came : Bool) (old new : WatchState) (wall elapsed : ℕ) (output : Output) → StepClock old wall elapsed output new → Since at came old → Since at came new
+clock_since : (at : ℕ) (came : Bool) (old new : WatchState) (wall elapsed : ℕ) (output : WatchOutput) → StepClock old wall elapsed output new → Since at came old → Since at came new
 clock_since at came old new wall elapsed output step h =
     let mid = pressed (readied old wall elapsed) (asked_by_round step.round) in
     let is = sent_by mid new output.command step.command in
@@ -78,11 +78,11 @@ clock_since at came old new wall elapsed output step h =
     left_since at came (readied old wall elapsed) new (ap rest_of is.1) ready
 
 -- an answer
-looked_since : (at : ℕ) (came : Bool) (old new : WatchState) (o : Option Out) (reply : Reply) (terms : Terms) (output : Output) → StepLooked old o reply terms output new → Since at came old → Since at came new
+looked_since : (at : ℕ) (came : Bool) (old new : WatchState) (o : Option Out) (reply : WatchReply) (terms : WatchTerms) (output : WatchOutput) → StepLooked old o reply terms output new → Since at came old → Since at came new
 looked_since at came old new None reply terms output step h = absurd step
 looked_since at came old new (Some r) reply terms output step h = left_since at came old new (ap rest_of step.1 ∙ looked_leaves old r reply terms) h
 
-renewed_since : (at : ℕ) (came : Bool) (old new : WatchState) (o : Option Out) (reply : Reply) (output : Output) → StepRenewed old o reply output new → Since at came old → Since at came new
+renewed_since : (at : ℕ) (came : Bool) (old new : WatchState) (o : Option Out) (reply : WatchReply) (output : WatchOutput) → StepRenewed old o reply output new → Since at came old → Since at came new
 renewed_since at came old new None reply output step h = absurd step
 renewed_since at came old new (Some r) reply output step h = left_since at came old new (ap rest_of step.1 ∙ renewed_leaves old r reply) h
 
@@ -91,7 +91,7 @@ or_false true = refl
 or_false false = refl
 
 -- a step, and a turn
-step_since : (at : ℕ) (came : Bool) (old new : WatchState) (event : Event) (output : Output) → Step old event output new → Since at came old → Since at (came || is_begin event) new
+step_since : (at : ℕ) (came : Bool) (old new : WatchState) (event : WatchEvent) (output : WatchOutput) → Step old event output new → Since at came old → Since at (came || is_begin event) new
 step_since at came old new (Clock wall elapsed) output step h = subst (λ b. Since at b new) (sym (or_false came)) (clock_since at came old new wall elapsed output step h)
 step_since at came old new (Looked i reply terms) output step h = subst (λ b. Since at b new) (sym (or_false came)) (looked_since at came old new (request_out old.out i Look) reply terms output step h)
 step_since at came old new (Renewed i reply) output step h = subst (λ b. Since at b new) (sym (or_false came)) (renewed_since at came old new (request_out old.out i Renew) reply output step h)
@@ -102,7 +102,7 @@ step_since at came old new _ output step h = subst (λ b. Since at b new) (sym (
 stays : (at : ℕ) (came more : Bool) (s : WatchState) → Since at came s → Since at (came || more) s
 stays at came more s h = record { begun = h.begun; begun_is = h.begun_is; from = h.from; past = h.past; asked = λ yes'. or_left came more (h.asked yes') }
 
-turn_since : (at : ℕ) (came : Bool) (old new : WatchState) (event : Event) (result : Result Output WatchFault) → Turn old event result new → Since at came old → Since at (came || is_begin event) new
+turn_since : (at : ℕ) (came : Bool) (old new : WatchState) (event : WatchEvent) (result : Result WatchOutput WatchFault) → Turn old event result new → Since at came old → Since at (came || is_begin event) new
 turn_since at came old new event (Ok output) turn h = step_since at came old new event output turn.1 h
 turn_since at came old new event (Err fault) turn h = subst (Since at (came || is_begin event)) (sym (refused_stays old new event fault turn)) (stays at came (is_begin event) old h)
 
@@ -145,7 +145,7 @@ jumps s wall elapsed at is jumped = subst (λ n. HasParted s.clocks.wall n (min 
 
 -- a beginning after that
 clock_begins :
-    (at : ℕ) (came : Bool) (old new : WatchState) (wall elapsed : ℕ) (output : Output) → StepClock old wall elapsed output new → is_some output.notes.began ≡ true → Since at came old →
+    (at : ℕ) (came : Bool) (old new : WatchState) (wall elapsed : ℕ) (output : WatchOutput) → StepClock old wall elapsed output new → is_some output.notes.began ≡ true → Since at came old →
     Jumps old (Clock wall elapsed) new ⊎ ((came ≡ true) ⊎ (at + 600000 ≤ new.clocks.at))
 unfolding why
 clock_begins at came old new wall elapsed output step begins h =
@@ -161,43 +161,43 @@ clock_begins at came old new wall elapsed output step begins h =
       | inr rest ↦ elim rest [ inl begs ↦ inr (inl (h.asked begs)) | inr long ↦ inr (inr (omega (arith, clock, late, long))) ]
     ]
 
-no_beginning : {X : Type 0} (output o : Output) → output ≡ o → o.notes.began ≡ None → is_some output.notes.began ≡ true → X
-no_beginning output o is none begins = absurd (let bad : true ≡ false = sym begins ∙ ap (λ (x : Output). is_some x.notes.began) is ∙ ap is_some none in cc)
+no_beginning : {X : Type 0} (output o : WatchOutput) → output ≡ o → o.notes.began ≡ None → is_some output.notes.began ≡ true → X
+no_beginning output o is none begins = absurd (let bad : true ≡ false = sym begins ∙ ap (λ (x : WatchOutput). is_some x.notes.began) is ∙ ap is_some none in cc)
 
-looked_none : {X : Type 0} (old new : WatchState) (o : Option Out) (reply : Reply) (terms : Terms) (output : Output) → StepLooked old o reply terms output new → is_some output.notes.began ≡ true → X
+looked_none : {X : Type 0} (old new : WatchState) (o : Option Out) (reply : WatchReply) (terms : WatchTerms) (output : WatchOutput) → StepLooked old o reply terms output new → is_some output.notes.began ≡ true → X
 looked_none old new None reply terms output step begins = absurd step
 looked_none old new (Some r) reply terms output step begins = no_beginning output _ step.0 (looked_begins (noted old r reply) r reply terms) begins
 
-renewed_none : {X : Type 0} (old new : WatchState) (o : Option Out) (reply : Reply) (output : Output) → StepRenewed old o reply output new → is_some output.notes.began ≡ true → X
+renewed_none : {X : Type 0} (old new : WatchState) (o : Option Out) (reply : WatchReply) (output : WatchOutput) → StepRenewed old o reply output new → is_some output.notes.began ≡ true → X
 renewed_none old new None reply output step begins = absurd step
 renewed_none old new (Some r) reply output step begins = no_beginning output _ step.0 (renewed_begins (noted old r reply) r reply) begins
 
-abbrev Few : ℕ → Bool → WatchState → Event → WatchState → Type 0
+abbrev Few : ℕ → Bool → WatchState → WatchEvent → WatchState → Type 0
 Few at came old event new = Jumps old event new ⊎ ((came ≡ true) ⊎ (at + 600000 ≤ new.clocks.at))
 
-step_begins : (at : ℕ) (came : Bool) (old new : WatchState) (event : Event) (output : Output) → Step old event output new → is_some output.notes.began ≡ true → Since at came old → Few at came old event new
+step_begins : (at : ℕ) (came : Bool) (old new : WatchState) (event : WatchEvent) (output : WatchOutput) → Step old event output new → is_some output.notes.began ≡ true → Since at came old → Few at came old event new
 step_begins at came old new (Clock wall elapsed) output step begins h = clock_begins at came old new wall elapsed output step begins h
 step_begins at came old new (Looked i reply terms) output step begins h = looked_none old new (request_out old.out i Look) reply terms output step begins
 step_begins at came old new (Renewed i reply) output step begins h = renewed_none old new (request_out old.out i Renew) reply output step begins
 step_begins at came old new _ output step begins h = no_beginning output _ step.0 refl begins
 
 turn_begins :
-    (at : ℕ) (came : Bool) (old new : WatchState) (event : Event) (result : Result Output WatchFault) → Turn old event result new → is_some (why_begun result) ≡ true → Since at came old →
+    (at : ℕ) (came : Bool) (old new : WatchState) (event : WatchEvent) (result : Result WatchOutput WatchFault) → Turn old event result new → is_some (why_begun result) ≡ true → Since at came old →
     Few at came old event new
 turn_begins at came old new event (Ok output) turn begins h = step_begins at came old new event output turn.1 begins h
 turn_begins at came old new event (Err fault) turn begins h = absurd cc
 
 -- the first beginning
-begun_starts : (s : WatchState) (w : Option Why) → is_some w ≡ true → (begun s w).begun ≡ Some (begun s w).clocks.at
+begun_starts : (s : WatchState) (w : Option BeginReason) → is_some w ≡ true → (begun s w).begun ≡ Some (begun s w).clocks.at
 begun_starts s None some = absurd cc
 begun_starts s (Some w) some = refl
 
-begun_asked : (s : WatchState) (w : Option Why) → is_some w ≡ true → (begun s w).asked ≡ true → false ≡ true
+begun_asked : (s : WatchState) (w : Option BeginReason) → is_some w ≡ true → (begun s w).asked ≡ true → false ≡ true
 begun_asked s None some yes' = absurd cc
 begun_asked s (Some w) some yes' = yes'
 
 readied_starts :
-    (old : WatchState) (wall elapsed : ℕ) (round : List ℕ) (requests : List Request) → is_some (why old wall elapsed) ≡ true →
+    (old : WatchState) (wall elapsed : ℕ) (round : List ℕ) (requests : List WatchRequest) → is_some (why old wall elapsed) ≡ true →
     Since (readied old wall elapsed).clocks.at false (sent (pressed (readied old wall elapsed) round) requests)
 unfolding readied
 readied_starts old wall elapsed round requests some = record {
@@ -208,20 +208,20 @@ readied_starts old wall elapsed round requests some = record {
   asked = begun_asked (settled (timed old wall elapsed)) (why old wall elapsed) some;
 }
 
-clock_starts : (old new : WatchState) (wall elapsed : ℕ) (output : Output) → StepClock old wall elapsed output new → is_some output.notes.began ≡ true → Since new.clocks.at false new
+clock_starts : (old new : WatchState) (wall elapsed : ℕ) (output : WatchOutput) → StepClock old wall elapsed output new → is_some output.notes.began ≡ true → Since new.clocks.at false new
 clock_starts old new wall elapsed output step begins =
     let mid = pressed (readied old wall elapsed) (asked_by_round step.round) in
     let is = sent_by mid new output.command step.command in
     let noted' : is_some (why old wall elapsed) ≡ true = sym (ap (λ (x : Notes). is_some x.began) step.notes) ∙ begins in
     subst (λ (x : WatchState). Since x.clocks.at false x) (sym is.1) (readied_starts old wall elapsed (asked_by_round step.round) is.0 noted')
 
-step_starts : (old new : WatchState) (event : Event) (output : Output) → Step old event output new → is_some output.notes.began ≡ true → Since new.clocks.at false new
+step_starts : (old new : WatchState) (event : WatchEvent) (output : WatchOutput) → Step old event output new → is_some output.notes.began ≡ true → Since new.clocks.at false new
 step_starts old new (Clock wall elapsed) output step begins = clock_starts old new wall elapsed output step begins
 step_starts old new (Looked i reply terms) output step begins = looked_none old new (request_out old.out i Look) reply terms output step begins
 step_starts old new (Renewed i reply) output step begins = renewed_none old new (request_out old.out i Renew) reply output step begins
 step_starts old new _ output step begins = no_beginning output _ step.0 refl begins
 
-turn_starts : (old new : WatchState) (event : Event) (result : Result Output WatchFault) → Turn old event result new → is_some (why_begun result) ≡ true → Since new.clocks.at false new
+turn_starts : (old new : WatchState) (event : WatchEvent) (result : Result WatchOutput WatchFault) → Turn old event result new → is_some (why_begun result) ≡ true → Since new.clocks.at false new
 turn_starts old new event (Ok output) turn begins = step_starts old new event output turn.1 begins
 turn_starts old new event (Err fault) turn begins = absurd cc
 

@@ -5,14 +5,14 @@ use Rattle.std.proofs.lemmas.Bool.Decides.{nat_tests}
 use Rattle.std.proofs.lemmas.List.{get_or_past}
 use Rattle.std.specs.List.{list_any}
 use Rattle.watch_machine.specs.declared.clocks.Clocks.{Clocks}
-use Rattle.watch_machine.specs.declared.command.Output.{Output}
-use Rattle.watch_machine.specs.declared.command.Request.{Request}
-use Rattle.watch_machine.specs.declared.event.Event.{Event}
-use Rattle.watch_machine.specs.declared.event.Event.TheVariants.{Clock, Begin}
+use Rattle.watch_machine.specs.declared.command.WatchOutput.{WatchOutput}
+use Rattle.watch_machine.specs.declared.command.WatchRequest.{WatchRequest}
+use Rattle.watch_machine.specs.declared.event.WatchEvent.{WatchEvent}
+use Rattle.watch_machine.specs.declared.event.WatchEvent.TheVariants.{Clock, Begin}
 use Rattle.watch_machine.specs.declared.fault.WatchFault.{WatchFault}
 use Rattle.watch_machine.specs.declared.notes.Notes.{Notes}
-use Rattle.watch_machine.specs.declared.notes.Why.{Why}
-use Rattle.watch_machine.specs.declared.notes.Why.TheVariants.{Asked, Jump, Day}
+use Rattle.watch_machine.specs.declared.notes.BeginReason.{BeginReason}
+use Rattle.watch_machine.specs.declared.notes.BeginReason.TheVariants.{Asked, Jump, Day}
 use Rattle.watch_machine.specs.declared.reading.TheConstants.{READING_MAX}
 use Rattle.watch_machine.specs.declared.track.Track.{Track}
 use Rattle.watch_machine.specs.Beginning.{beginning, begun, is_called, is_past, is_pressed, is_start, is_urgent, owing, owing_lookup, soon, sooner_try, untopped, untopped_track}
@@ -167,11 +167,11 @@ some_urgent s wall elapsed now some =
     (and_from (is_pressed (track_at t i)) (is_alive now (track_at t i)) (ap is_pressed same ∙ keeps.pressed ∙ some.1.0) (ap (is_alive now) same ∙ ap (λ e. nat_lt now (believed e)) keeps.end ∙ test))
 
 -- what a clock leaves of its beginning
-pub begun_stepped : (s : WatchState) (w : Option Why) → w ≡ None → (begun s w).stepped ≡ s.stepped
+pub begun_stepped : (s : WatchState) (w : Option BeginReason) → w ≡ None → (begun s w).stepped ≡ s.stepped
 begun_stepped s None is = refl
 begun_stepped s (Some w) is = absurd cc
 
-begun_anew : (s : WatchState) (w : Option Why) → is_some w ≡ true → ((begun s w).begun ≡ Some (begun s w).clocks.at) × (((begun s w).asked ≡ false) × ((begun s w).stepped ≡ false))
+begun_anew : (s : WatchState) (w : Option BeginReason) → is_some w ≡ true → ((begun s w).begun ≡ Some (begun s w).clocks.at) × (((begun s w).asked ≡ false) × ((begun s w).stepped ≡ false))
 begun_anew s None is = absurd cc
 begun_anew s (Some w) is = (refl, (refl, refl))
 
@@ -181,14 +181,14 @@ owing_top at first called x =
     if_both (λ (y : Track). y.top ≡ x.top) (called && (first || is_open (sec at) x)) (owing_lookup at x) x
     (if_both (λ (y : Track). y.top ≡ x.top) x.out (record x { owes = true }) (record x { owes = true; attempt = Some (sooner_try (soon at x) x.attempt) }) refl refl) refl
 
-pub begun_top : (s : WatchState) (w : Option Why) (i : ℕ) → is_some w ≡ true → i < length s.tracks → (track_at (begun s w) i).top ≡ false
+pub begun_top : (s : WatchState) (w : Option BeginReason) (i : ℕ) → is_some w ≡ true → i < length s.tracks → (track_at (begun s w) i).top ≡ false
 begun_top s None i is within = absurd cc
 begun_top s (Some w) i is within =
     let xs = untopped s.tracks in
     each_kept (λ y x. y.top ≡ x.top) refl (λ j. owing s.clocks.at (is_start w) (is_called s.forest xs s.clocks j)) xs (λ j x. owing_top s.clocks.at (is_start w) (is_called s.forest xs s.clocks j) x) i
     ∙ ap (λ (x : Track). x.top) (each_read (λ j. untopped_track) s.tracks i within)
 
-module _ (old new : WatchState) (wall elapsed : ℕ) (output : Output) (step : StepClock old wall elapsed output new) where
+module _ (old new : WatchState) (wall elapsed : ℕ) (output : WatchOutput) (step : StepClock old wall elapsed output new) where
   abbrev t : WatchState
   t = settled (timed old wall elapsed)
 
@@ -198,7 +198,7 @@ module _ (old new : WatchState) (wall elapsed : ℕ) (output : Output) (step : S
   abbrev round : List ℕ
   round = asked_by_round step.round
 
-  go : (requests : List Request) × (new ≡ sent (pressed r round) requests)
+  go : (requests : List WatchRequest) × (new ≡ sent (pressed r round) requests)
   go = sent_by (pressed r round) new output.command step.command
 
   clock_is : new.clocks.at ≡ t.clocks.at
@@ -270,12 +270,12 @@ module _ (old new : WatchState) (wall elapsed : ℕ) (output : Output) (step : S
 
 -- a turn
 pub turn_of :
-    (P : Option Why → Type 0) (old new : WatchState) (event : Event) (result : Result Output WatchFault) (wall elapsed : ℕ) → Turn old event result new → event ≡ Clock wall elapsed → is_event_taken result ≡ true →
-    ((output : Output) → StepClock old wall elapsed output new → P output.notes.began) → P (why_begun result)
+    (P : Option BeginReason → Type 0) (old new : WatchState) (event : WatchEvent) (result : Result WatchOutput WatchFault) (wall elapsed : ℕ) → Turn old event result new → event ≡ Clock wall elapsed → is_event_taken result ≡ true →
+    ((output : WatchOutput) → StepClock old wall elapsed output new → P output.notes.began) → P (why_begun result)
 turn_of P old new event (Ok output) wall elapsed turn is taken' h = h output (subst (λ e. Step old e output new) is turn.1)
 turn_of P old new event (Err fault) wall elapsed turn is taken' h = absurd (true≢false (sym taken'))
 
-turn_asks : (old new : WatchState) (event : Event) (result : Result Output WatchFault) → Turn old event result new → event ≡ Begin → is_event_taken result ≡ true → new.asked ≡ true
+turn_asks : (old new : WatchState) (event : WatchEvent) (result : Result WatchOutput WatchFault) → Turn old event result new → event ≡ Begin → is_event_taken result ≡ true → new.asked ≡ true
 turn_asks old new event (Ok output) turn is taken' = ap (λ (x : WatchState). x.asked) (subst (λ e. Step old e output new) is turn.1).1
 turn_asks old new event (Err fault) turn is taken' = absurd (true≢false (sym taken'))
 

@@ -24,7 +24,7 @@ use Rattle.plan_rule.proofs.Keeping.{one_least}
 use Rattle.plan_rule.proofs.LaterStart.{later_start, same_asks}
 use Rattle.plan_rule.proofs.Next.{renewable_within}
 use Rattle.plan_rule.proofs.Tail.{tail}
-use Rattle.watch_machine.specs.declared.command.Request.{Request}
+use Rattle.watch_machine.specs.declared.command.WatchRequest.{WatchRequest}
 use Rattle.watch_machine.specs.declared.event.Operation.TheVariants.{Look, Renew}
 use Rattle.watch_machine.specs.declared.lanes.Out.{Out}
 use Rattle.watch_machine.specs.declared.track.Track.{Track}
@@ -54,30 +54,30 @@ abbrev pub fresh_at : WatchState → ℕ → Bool
 fresh_at s i = is_fresh s.forest.margin (entry_of s i) (track_at s i) (wanted_need s i) (second s)
 
 -- a state, the one that its clock has readied, and what goes out then
-pub record IsStep (s r : WatchState) (round : List ℕ) (requests : List Request) : Type 0 where
+pub record IsStep (s r : WatchState) (round : List ℕ) (requests : List WatchRequest) : Type 0 where
   pub timed : IsTimed r s
   pub begun : is_none r.begun ≡ false
   pub going : IsSending (pressed r round) requests (sent (pressed r round) requests)
 
 -- the state after such a clock
-abbrev pub after_clock : WatchState → List ℕ → List Request → WatchState
+abbrev pub after_clock : WatchState → List ℕ → List WatchRequest → WatchState
 after_clock r round requests = sent (pressed r round) requests
 
-pressed_alike : (r : WatchState) (round : List ℕ) (requests : List Request) → AreAlike (after_clock r round requests) r
+pressed_alike : (r : WatchState) (round : List ℕ) (requests : List WatchRequest) → AreAlike (after_clock r round requests) r
 pressed_alike r round requests = bears_alike (after_clock r round requests) r refl refl refl (mid_bears r round requests)
 
 timed_bears : (r s : WatchState) → IsTimed r s → (i : ℕ) → bearing (track_at r i) ≡ bearing (track_at s i)
 timed_bears r s h i = ap bearing (h.tracks i)
 
 -- what is kept of a track whose try stays
-kept_on : (s r : WatchState) (round : List ℕ) (requests : List Request) → IsTimed r s → (i : ℕ) → attempt_at (pressed r round) i ≡ attempt_at r i → IsKept (track_at (after_clock r round requests) i) (track_at s i)
+kept_on : (s r : WatchState) (round : List ℕ) (requests : List WatchRequest) → IsTimed r s → (i : ℕ) → attempt_at (pressed r round) i ≡ attempt_at r i → IsKept (track_at (after_clock r round requests) i) (track_at s i)
 kept_on s r round requests timed i kept = record {
   bears = mid_bears r round requests i ∙ timed_bears r s timed i;
   attempt = attempt_sent r round requests i ∙ kept ∙ ap (λ (x : Track). x.attempt) (timed.tracks i);
   owes = owes_kept r round requests i ∙ ap (λ (x : Track). x.owes) (timed.tracks i);
 }
 
-all_alike : (s r : WatchState) (round : List ℕ) (requests : List Request) → IsTimed r s → AreAlike (after_clock r round requests) s
+all_alike : (s r : WatchState) (round : List ℕ) (requests : List WatchRequest) → IsTimed r s → AreAlike (after_clock r round requests) s
 all_alike s r round requests timed = bears_alike (after_clock r round requests) s timed.forest timed.broker timed.wall (λ i. mid_bears r round requests i ∙ timed_bears r s timed i)
 
 pub forest_of : (s : WatchState) (g : Forest) (e : ℕ → ℕ) (last : Wake) (ts : List ℕ) → Goes s g e last ts → IsForest g
@@ -87,7 +87,7 @@ pub keepable_of : (s : WatchState) (g : Forest) (e : ℕ → ℕ) (last : Wake) 
 keepable_of s g e last ts goes = subst (λ h. AllKeepable h (second s) e) (sym goes.same) (plan_keepable g (second s) e ts goes.plan)
 
 quiet_on :
-    (s r : WatchState) (g : Forest) (e : ℕ → ℕ) (last : Wake) (wakes : List Wake) (ts : List ℕ) (s0 : ℕ) (requests : List Request) →
+    (s r : WatchState) (g : Forest) (e : ℕ → ℕ) (last : Wake) (wakes : List Wake) (ts : List ℕ) (s0 : ℕ) (requests : List WatchRequest) →
     Goes s g e last ts → IsStep s r [] requests → wakes ≡ with_asks g.entries g.margin s0 e ts → s0 ≤ second s →
     ((i : ℕ) → i < length r.forest.entries → fresh_at r i ≡ false) → IsLeastAndLatest g.entries g.margin (second r) e ts → ((i : ℕ) → IsTried s e last ts i → second r < ends s i) →
     IsOn (after_clock r [] requests) g s0 e last wakes None requests
@@ -226,7 +226,7 @@ unfolding opens
 opens_fresh s i h = and_left (fresh_at s i) (in_plan_at s i && is_alive (second s) (track_at s i)) h
 
 pub going_on :
-    (s r : WatchState) (g : Forest) (e : ℕ → ℕ) (last : Wake) (wakes : List Wake) (ts : List ℕ) (s0 : ℕ) (requests : List Request) (round : Option (List ℕ)) →
+    (s r : WatchState) (g : Forest) (e : ℕ → ℕ) (last : Wake) (wakes : List Wake) (ts : List ℕ) (s0 : ℕ) (requests : List WatchRequest) (round : Option (List ℕ)) →
     Goes s g e last ts → IsStep s r (asked_by_round round) requests → wakes ≡ with_asks g.entries g.margin s0 e ts → s0 ≤ second s → IsRound r.forest r.tracks r.clocks round →
     IsCalmSecond s last.at (second r) → IsOn (after_clock r (asked_by_round round) requests) g s0 e last wakes round requests
 going_on s r g e last wakes ts s0 requests (Some asked) goes step to_come from round between =
@@ -258,7 +258,7 @@ asked_short es margin s e t next i asked =
     grind (arith, nat_tests)
 
 -- an entry that is named, and not out, has the try of a round
-named_try : (r : WatchState) (round : List ℕ) (requests : List Request) (i : ℕ) → i < length r.tracks → list_any (λ j. j == i) round ≡ true → (track_at r i).out ≡ false → (x : Track) × ((attempt_at (pressed r round) i ≡ Some (press r.clocks.at x)) × (x.end ≡ (track_at r i).end))
+named_try : (r : WatchState) (round : List ℕ) (requests : List WatchRequest) (i : ℕ) → i < length r.tracks → list_any (λ j. j == i) round ≡ true → (track_at r i).out ≡ false → (x : Track) × ((attempt_at (pressed r round) i ≡ Some (press r.clocks.at x)) × (x.end ≡ (track_at r i).end))
 unfolding asked_track
 named_try r round requests i within named free =
     let e = entry_of r i in
@@ -282,7 +282,7 @@ press_pressed at x = (refl, (refl, refl))
 
 -- an entry that a round asks
 opened_tried :
-    (r : WatchState) (asked : List ℕ) (requests : List Request) (now : Wake) (e : ℕ → ℕ) (us : List ℕ) (i : ℕ) → IsForest r.forest → IsCalm r → length r.tracks ≡ length r.forest.entries →
+    (r : WatchState) (asked : List ℕ) (requests : List WatchRequest) (now : Wake) (e : ℕ → ℕ) (us : List ℕ) (i : ℕ) → IsForest r.forest → IsCalm r → length r.tracks ≡ length r.forest.entries →
     is_wanted r i ≡ true → list_any (λ j. j == i) asked ≡ true → is_asked now i ≡ true → second r ≡ now.at →
     e i ≡ renewal (terms r i) (second r) → ends r i < e i → (track_at r i).owes ≡ false → IsTried (after_clock r asked requests) e now us i
 unfolding ends
@@ -331,7 +331,7 @@ with_end s e d i same idle = record { none = idle.none; end = idle.end ∙ same;
 
 -- a round opens
 opening_on :
-    (s r : WatchState) (last : Wake) (wakes : List Wake) (ts us : List ℕ) (s0 : ℕ) (requests : List Request) (asked : List ℕ) →
+    (s r : WatchState) (last : Wake) (wakes : List Wake) (ts us : List ℕ) (s0 : ℕ) (requests : List WatchRequest) (asked : List ℕ) →
     Goes s (believed_forest r) (ends r) last ts → IsStep s r asked requests → wakes ≡ with_asks (believed_forest r).entries (believed_forest r).margin s0 (ends r) ts → s0 ≤ second s →
     IsForest r.forest → IsCalm r → ((i : ℕ) → IsIdle s (ends r) i) → IsLeastAndLatest (believed_forest r).entries (believed_forest r).margin (second r) (ends r) ts →
     IsPlanNow r (second r ∷ us) → asked ≡ asks_now r (first_of us) → IsOn (after_clock r asked requests) (believed_forest r) s0 (ends r) last wakes (Some asked) requests
@@ -423,7 +423,7 @@ opening_on s r last wakes ts us s0 requests asked goes step to_come from forest_
 
 -- a clock that finds a watch at rest
 pub resting_on :
-    (s r : WatchState) (g : Forest) (e : ℕ → ℕ) (last : Wake) (wakes : List Wake) (ts : List ℕ) (s0 : ℕ) (requests : List Request) (round : Option (List ℕ)) →
+    (s r : WatchState) (g : Forest) (e : ℕ → ℕ) (last : Wake) (wakes : List Wake) (ts : List ℕ) (s0 : ℕ) (requests : List WatchRequest) (round : Option (List ℕ)) →
     Goes s g e last ts → IsStep s r (asked_by_round round) requests → wakes ≡ with_asks g.entries g.margin s0 e ts → s0 ≤ second s → IsRound r.forest r.tracks r.clocks round →
     ((i : ℕ) → IsIdle s e i) → ((i : ℕ) → i < length s.forest.entries → is_wanted s i ≡ true → second r ≤ time_of s i) → IsOn (after_clock r (asked_by_round round) requests) g s0 e last wakes round requests
 resting_on s r g e last wakes ts s0 requests round goes step to_come from is_round idle in_time =

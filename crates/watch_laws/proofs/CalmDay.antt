@@ -7,13 +7,13 @@ use Rattle.plan_rule.specs.declared.wake.Wake.{Wake}
 use Rattle.plan_rule.specs.Asks.{with_asks}
 use Rattle.plan_forest.specs.Forest.{Forest}
 use Rattle.watch_machine.specs.declared.clocks.Clocks.{Clocks}
-use Rattle.watch_machine.specs.declared.command.Command.{Command}
-use Rattle.watch_machine.specs.declared.command.Command.TheVariants.{Go, Taken}
-use Rattle.watch_machine.specs.declared.command.Output.{Output}
-use Rattle.watch_machine.specs.declared.event.Event.{Event}
-use Rattle.watch_machine.specs.declared.event.Event.TheVariants.{Clock, Looked, Renewed, Need, Begin, Known}
+use Rattle.watch_machine.specs.declared.command.WatchCommand.{WatchCommand}
+use Rattle.watch_machine.specs.declared.command.WatchCommand.TheVariants.{Go, Taken}
+use Rattle.watch_machine.specs.declared.command.WatchOutput.{WatchOutput}
+use Rattle.watch_machine.specs.declared.event.WatchEvent.{WatchEvent}
+use Rattle.watch_machine.specs.declared.event.WatchEvent.TheVariants.{Clock, Looked, Renewed, Need, Begin, Known}
 use Rattle.watch_machine.specs.declared.event.Operation.TheVariants.{Renew}
-use Rattle.watch_machine.specs.declared.event.Reply.TheVariants.{Told, Refused, Busy, Lost}
+use Rattle.watch_machine.specs.declared.event.WatchReply.TheVariants.{Told, Refused, Busy, Lost}
 use Rattle.watch_machine.specs.declared.fault.WatchFault.{WatchFault}
 use Rattle.watch_machine.specs.declared.lanes.Out.{Out}
 use Rattle.watch_machine.specs.declared.notes.Notes.{Notes}
@@ -79,7 +79,7 @@ stays_on s new g e last wakes ts s0 goes to_come from now = record {
 
 -- a clock
 clock_to :
-    (s new : WatchState) (wall elapsed : ℕ) (output : Output) (command : Command) (g : Forest) (e : ℕ → ℕ) (last : Wake) (wakes : List Wake) (ts : List ℕ) (s0 : ℕ) → Goes s g e last ts → wakes ≡ with_asks g.entries g.margin s0 e ts → s0 ≤ second s →
+    (s new : WatchState) (wall elapsed : ℕ) (output : WatchOutput) (command : WatchCommand) (g : Forest) (e : ℕ → ℕ) (last : Wake) (wakes : List Wake) (ts : List ℕ) (s0 : ℕ) → Goes s g e last ts → wakes ≡ with_asks g.entries g.margin s0 e ts → s0 ≤ second s →
     (step : StepClock s wall elapsed output new) → StepCommand (pressed (readied s wall elapsed) (asked_by_round step.round)) command new → IsCalmClock s last.at wall elapsed → IsOn new g s0 e last wakes step.round (asked_for command)
 clock_to s new wall elapsed output Taken g e last wakes ts s0 goes to_come from step h clock = absurd h
 clock_to s new wall elapsed output (Go requests until) g e last wakes ts s0 goes to_come from step h clock =
@@ -114,7 +114,7 @@ clock_to s new wall elapsed output (Go requests until) g e last wakes ts s0 goes
     ])
 
 clock_on :
-    (s new : WatchState) (wall elapsed : ℕ) (output : Output) (g : Forest) (e : ℕ → ℕ) (last : Wake) (wakes : List Wake) (ts : List ℕ) (s0 : ℕ) → Goes s g e last ts → wakes ≡ with_asks g.entries g.margin s0 e ts → s0 ≤ second s →
+    (s new : WatchState) (wall elapsed : ℕ) (output : WatchOutput) (g : Forest) (e : ℕ → ℕ) (last : Wake) (wakes : List Wake) (ts : List ℕ) (s0 : ℕ) → Goes s g e last ts → wakes ≡ with_asks g.entries g.margin s0 e ts → s0 ≤ second s →
     StepClock s wall elapsed output new → IsCalmClock s last.at wall elapsed → IsOn new g s0 e last wakes output.notes.round (asked_for output.command)
 clock_on s new wall elapsed output g e last wakes ts s0 goes to_come from step clock =
     subst (λ o. IsOn new g s0 e last wakes o (asked_for output.command)) (sym (ap (λ (x : Notes). x.round) step.notes))
@@ -124,7 +124,7 @@ second_replied : (s : WatchState) (q : Out) (seconds : ℕ) (date : Option ℕ) 
 second_replied s q seconds date = if_both (λ (t : WatchState). second t ≡ second s) s.presence.away _ _ refl refl
 
 renewed_on :
-    (s new : WatchState) (i seconds : ℕ) (date : Option ℕ) (found : Option Out) (output : Output) (g : Forest) (e : ℕ → ℕ) (last : Wake) (wakes : List Wake) (ts : List ℕ) (s0 : ℕ) → Goes s g e last ts → wakes ≡ with_asks g.entries g.margin s0 e ts → s0 ≤ second s →
+    (s new : WatchState) (i seconds : ℕ) (date : Option ℕ) (found : Option Out) (output : WatchOutput) (g : Forest) (e : ℕ → ℕ) (last : Wake) (wakes : List Wake) (ts : List ℕ) (s0 : ℕ) → Goes s g e last ts → wakes ≡ with_asks g.entries g.margin s0 e ts → s0 ≤ second s →
     request_out s.out i Renew ≡ found → StepRenewed s found (Told seconds true date) output new → IfSome found (GrantIsByRule s last.at i seconds) →
     IsOn new g s0 e last wakes output.notes.round (asked_for output.command)
 renewed_on s new i seconds date None output g e last wakes ts s0 goes to_come from is step rule = absurd step
@@ -132,10 +132,10 @@ renewed_on s new i seconds date (Some q) output g e last wakes ts s0 goes to_com
     let reply = Told seconds true date in
     let there = answer_goes s g e last ts goes q i seconds date is rule in
     let on = stays_on s (replied (state_renewed (noted s q reply) q reply) q reply) g e last wakes ts s0 there to_come from (second_replied s q seconds date) in
-    subst (λ (x : Output). IsOn new g s0 e last wakes x.notes.round (asked_for x.command)) (sym step.0) (subst (λ x. IsOn x g s0 e last wakes None []) (sym step.1) on)
+    subst (λ (x : WatchOutput). IsOn new g s0 e last wakes x.notes.round (asked_for x.command)) (sym step.0) (subst (λ x. IsOn x g s0 e last wakes None []) (sym step.1) on)
 
 step_on :
-    (s new : WatchState) (event : Event) (output : Output) (g : Forest) (e : ℕ → ℕ) (last : Wake) (wakes : List Wake) (ts : List ℕ) (s0 : ℕ) → Goes s g e last ts → wakes ≡ with_asks g.entries g.margin s0 e ts → s0 ≤ second s →
+    (s new : WatchState) (event : WatchEvent) (output : WatchOutput) (g : Forest) (e : ℕ → ℕ) (last : Wake) (wakes : List Wake) (ts : List ℕ) (s0 : ℕ) → Goes s g e last ts → wakes ≡ with_asks g.entries g.margin s0 e ts → s0 ≤ second s →
     Step s event output new → IsCalmEvent s last.at event → IsOn new g s0 e last wakes output.notes.round (asked_for output.command)
 step_on s new (Clock wall elapsed) output g e last wakes ts s0 goes to_come from step calm = clock_on s new wall elapsed output g e last wakes ts s0 goes to_come from step calm
 step_on s new (Renewed i (Told seconds renewable date)) output g e last wakes ts s0 goes to_come from step calm =
@@ -150,7 +150,7 @@ step_on s new Begin output g e last wakes ts s0 goes to_come from step calm = ab
 step_on s new (Known i end renewable) output g e last wakes ts s0 goes to_come from step calm = absurd calm
 
 turn_on :
-    (s new : WatchState) (event : Event) (result : Result Output WatchFault) (g : Forest) (e : ℕ → ℕ) (last : Wake) (wakes : List Wake) (ts : List ℕ) (s0 : ℕ) → Goes s g e last ts → wakes ≡ with_asks g.entries g.margin s0 e ts → s0 ≤ second s →
+    (s new : WatchState) (event : WatchEvent) (result : Result WatchOutput WatchFault) (g : Forest) (e : ℕ → ℕ) (last : Wake) (wakes : List Wake) (ts : List ℕ) (s0 : ℕ) → Goes s g e last ts → wakes ≡ with_asks g.entries g.margin s0 e ts → s0 ≤ second s →
     Turn s event result new → IsCalmTurn s last.at event result → IsOn new g s0 e last wakes (round_of result) (requests_at_turn result)
 turn_on s new event (Ok output) g e last wakes ts s0 goes to_come from turn calm = step_on s new event output g e last wakes ts s0 goes to_come from turn.1 calm
 turn_on s new event (Err fault) g e last wakes ts s0 goes to_come from turn calm =

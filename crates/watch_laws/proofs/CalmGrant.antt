@@ -9,8 +9,8 @@ use Rattle.plan_forest.specs.Renewal.{capped, renewal}
 use Rattle.plan_forest.proofs.Carrying.{or_parts}
 use Rattle.plan_rule.specs.declared.wake.Wake.{Wake}
 use Rattle.watch_machine.specs.declared.event.Operation.TheVariants.{Look, Renew}
-use Rattle.watch_machine.specs.declared.event.Reply.TheVariants.{Told}
-use Rattle.watch_machine.specs.declared.lanes.Answer.{Answer}
+use Rattle.watch_machine.specs.declared.event.WatchReply.TheVariants.{Told}
+use Rattle.watch_machine.specs.declared.lanes.LaneAnswer.{LaneAnswer}
 use Rattle.watch_machine.specs.declared.lanes.Out.{Out}
 use Rattle.watch_machine.specs.declared.track.End.{End}
 use Rattle.watch_machine.specs.declared.track.End.TheVariants.{Unknown, At, Never}
@@ -155,7 +155,7 @@ left_out (x ∷ xs) i j h =
       later true b h = refl
       later false b h = h
 
-module _ (s : WatchState) (g : Forest) (e : ℕ → ℕ) (last : Wake) (ts : List ℕ) (goes : Goes s g e last ts) (q : Out) (seconds : ℕ) (tried : IsTried s e last ts q.entry) (rule : GrantIsByRule s last.at q.entry seconds q) (answers : List Answer) where
+module _ (s : WatchState) (g : Forest) (e : ℕ → ℕ) (last : Wake) (ts : List ℕ) (goes : Goes s g e last ts) (q : Out) (seconds : ℕ) (tried : IsTried s e last ts q.entry) (rule : GrantIsByRule s last.at q.entry seconds q) (answers : List LaneAnswer) where
   abbrev j : ℕ
   j = q.entry
 

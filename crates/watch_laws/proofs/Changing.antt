@@ -8,12 +8,12 @@ use Rattle.plan_forest.specs.Forest.{entry_at}
 use Rattle.plan_forest.specs.Push.{IsForest, is_lease}
 use Rattle.plan_forest.proofs.Placed.{range_parts}
 use Rattle.watch_machine.specs.declared.change.Was.TheVariants.{New, Same, Retold}
-use Rattle.watch_machine.specs.declared.command.Output.{Output}
-use Rattle.watch_machine.specs.declared.event.Event.{Event}
-use Rattle.watch_machine.specs.declared.event.Event.TheVariants.{Clock, Looked, Renewed, Need, Begin, Known}
+use Rattle.watch_machine.specs.declared.command.WatchOutput.{WatchOutput}
+use Rattle.watch_machine.specs.declared.event.WatchEvent.{WatchEvent}
+use Rattle.watch_machine.specs.declared.event.WatchEvent.TheVariants.{Clock, Looked, Renewed, Need, Begin, Known}
 use Rattle.watch_machine.specs.declared.event.Operation.TheVariants.{Look, Renew}
-use Rattle.watch_machine.specs.declared.event.Reply.{Reply}
-use Rattle.watch_machine.specs.declared.event.Terms.{Terms}
+use Rattle.watch_machine.specs.declared.event.WatchReply.{WatchReply}
+use Rattle.watch_machine.specs.declared.event.WatchTerms.{WatchTerms}
 use Rattle.watch_machine.specs.declared.fault.WatchFault.{WatchFault}
 use Rattle.watch_machine.specs.declared.lanes.Out.{Out}
 use Rattle.watch_machine.specs.declared.notes.Link.{Link}
@@ -178,7 +178,7 @@ module _ (old : WatchState) (c : Changed) (h : IsChanged old c) where
 
 -- ---- an answer to a request whose entry is no more
 
-replied_tracks : (s : WatchState) (r : Out) (reply : Reply) → s.presence.away ≡ false → (replied s r reply).tracks ≡ s.tracks
+replied_tracks : (s : WatchState) (r : Out) (reply : WatchReply) → s.presence.away ≡ false → (replied s r reply).tracks ≡ s.tracks
 replied_tracks s r reply there =
     let free = lane_freed s r in
     let P : WatchState → Type 0 = λ (t : WatchState). t.tracks ≡ s.tracks in
@@ -190,7 +190,7 @@ notes_of_nobody : (notes : Notes) (l : Option Link) → notes ≡ record nothing
 notes_of_nobody notes l is = is ∙ ap (λ (m : Option Link). record nothing_noted { link = m }) (sym (ap (λ (x : Notes). x.link) is))
 
 looked_nobody :
-    (old new : WatchState) (j : ℕ) (found : Option Out) (reply : Reply) (terms : Terms) (output : Output) → request_out old.out j Look ≡ found → StepLooked old found reply terms output new →
+    (old new : WatchState) (j : ℕ) (found : Option Out) (reply : WatchReply) (terms : WatchTerms) (output : WatchOutput) → request_out old.out j Look ≡ found → StepLooked old found reply terms output new →
     length old.tracks ≡ length old.forest.entries → length old.forest.entries ≤ j → IsOfNobody old (record { event = Looked j reply terms; result = Ok output; state = new })
 looked_nobody old new j None reply terms output found step count past = absurd step
 looked_nobody old new j (Some r) reply terms output found step count past =
@@ -203,11 +203,11 @@ looked_nobody old new j (Some r) reply terms output found step count past =
     record {
       forest = ap (λ (t : WatchState). t.forest) is ∙ replied_forest s r reply;
       tracks = λ there. ap (λ (t : WatchState). t.tracks) is ∙ replied_tracks s r reply there;
-      notes = notes_of_nobody output.notes l (ap (λ (o : Output). o.notes) step.0 ∙ ap (λ (x : Notes). with_link x l) (notes_past s r reply terms past'));
+      notes = notes_of_nobody output.notes l (ap (λ (o : WatchOutput). o.notes) step.0 ∙ ap (λ (x : Notes). with_link x l) (notes_past s r reply terms past'));
     }
 
 renewed_nobody :
-    (old new : WatchState) (j : ℕ) (found : Option Out) (reply : Reply) (output : Output) → request_out old.out j Renew ≡ found → StepRenewed old found reply output new →
+    (old new : WatchState) (j : ℕ) (found : Option Out) (reply : WatchReply) (output : WatchOutput) → request_out old.out j Renew ≡ found → StepRenewed old found reply output new →
     length old.tracks ≡ length old.forest.entries → length old.forest.entries ≤ j → IsOfNobody old (record { event = Renewed j reply; result = Ok output; state = new })
 renewed_nobody old new j None reply output found step count past = absurd step
 renewed_nobody old new j (Some r) reply output found step count past =
@@ -219,11 +219,11 @@ renewed_nobody old new j (Some r) reply output found step count past =
     record {
       forest = ap (λ (t : WatchState). t.forest) is ∙ replied_forest s r reply;
       tracks = λ there. ap (λ (t : WatchState). t.tracks) is ∙ replied_tracks s r reply there;
-      notes = notes_of_nobody output.notes l (ap (λ (o : Output). o.notes) step.0 ∙ ap (λ (e : Option ℕ). with_link (notes_top e) l) (top_past s r reply past'));
+      notes = notes_of_nobody output.notes l (ap (λ (o : WatchOutput). o.notes) step.0 ∙ ap (λ (e : Option ℕ). with_link (notes_top e) l) (top_past s r reply past'));
     }
 
 pub nobody :
-    (old new : WatchState) (event : Event) (result : Result Output WatchFault) (i : ℕ) → Turn old event result new → length old.tracks ≡ length old.forest.entries →
+    (old new : WatchState) (event : WatchEvent) (result : Result WatchOutput WatchFault) (i : ℕ) → Turn old event result new → length old.tracks ≡ length old.forest.entries →
     length old.forest.entries ≤ i → is_event_taken result && replies_to i event ≡ true → IsOfNobody old (record { event = event; result = result; state = new })
 nobody old new (Looked j reply terms) (Ok output) i turn count past is =
     let same = eqb-true j i is in

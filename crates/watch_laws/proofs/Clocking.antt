@@ -4,15 +4,15 @@ use Rattle.std.proofs.Math.Nat.{le-max_left}
 use Rattle.std.proofs.lemmas.Bool.{cases_Bool, cond-false, cond-true}
 use Rattle.base_moment.specs.declared.moment.TheConstants.{LAST}
 use Rattle.watch_machine.specs.declared.clocks.Clocks.{Clocks}
-use Rattle.watch_machine.specs.declared.command.Command.{Command}
-use Rattle.watch_machine.specs.declared.command.Command.TheVariants.{Go, Taken}
-use Rattle.watch_machine.specs.declared.command.Request.{Request}
-use Rattle.watch_machine.specs.declared.event.Event.{Event}
+use Rattle.watch_machine.specs.declared.command.WatchCommand.{WatchCommand}
+use Rattle.watch_machine.specs.declared.command.WatchCommand.TheVariants.{Go, Taken}
+use Rattle.watch_machine.specs.declared.command.WatchRequest.{WatchRequest}
+use Rattle.watch_machine.specs.declared.event.WatchEvent.{WatchEvent}
 use Rattle.watch_machine.specs.declared.fault.WatchFault.{WatchFault}
 use Rattle.watch_machine.specs.declared.fault.WatchFault.TheVariants.{NotAsked, BadIndex, OutOfMemory}
-use Rattle.watch_machine.specs.declared.lanes.Answer.{Answer}
-use Rattle.watch_machine.specs.declared.notes.Why.{Why}
-use Rattle.watch_machine.specs.declared.notes.Why.TheVariants.{Start}
+use Rattle.watch_machine.specs.declared.lanes.LaneAnswer.{LaneAnswer}
+use Rattle.watch_machine.specs.declared.notes.BeginReason.{BeginReason}
+use Rattle.watch_machine.specs.declared.notes.BeginReason.TheVariants.{Start}
 use Rattle.watch_machine.specs.Beginning.{beginning, begun}
 use Rattle.watch_machine.specs.Clocks.{dated_by, first_clocks, is_ahead, is_behind, is_stepped, moment_at_reading, reading, walled}
 use Rattle.watch_machine.specs.History.{Turn}
@@ -23,12 +23,12 @@ use Rattle.watch_machine.specs.Step.{StepCommand, readied, why}
 use Rattle.watch_machine.proofs.Cases.{if_both}
 
 -- what is refused leaves the watch as it was
-pub refused_stays : (old new : WatchState) (event : Event) (fault : WatchFault) → Turn old event (Err fault) new → new ≡ old
+pub refused_stays : (old new : WatchState) (event : WatchEvent) (fault : WatchFault) → Turn old event (Err fault) new → new ≡ old
 refused_stays old new event OutOfMemory h = h.1.1
 refused_stays old new event _ h = h.1
 
 -- what goes out at a clock
-pub sent_by : (mid new : WatchState) (command : Command) → StepCommand mid command new → (requests : List Request) × (new ≡ sent mid requests)
+pub sent_by : (mid new : WatchState) (command : WatchCommand) → StepCommand mid command new → (requests : List WatchRequest) × (new ≡ sent mid requests)
 sent_by mid new (Go requests until) h = (requests, h.0.1)
 sent_by mid new Taken h = absurd h
 
@@ -42,7 +42,7 @@ dated_on_at : (since : ℕ) (c : Clocks) (date : Option ℕ) → (dated_on since
 dated_on_at since c None = refl
 dated_on_at since c (Some date) = dated_at since c (min LAST date)
 
-all_dated_at : (c : Clocks) (answers : List Answer) → (dated_by_all c answers).at ≡ c.at
+all_dated_at : (c : Clocks) (answers : List LaneAnswer) → (dated_by_all c answers).at ≡ c.at
 all_dated_at c [] = refl
 all_dated_at c (a ∷ answers) = all_dated_at (dated c a) answers ∙ dated_on_at a.since c (date_of a.reply)
 
@@ -65,7 +65,7 @@ clock_rises s wall elapsed begun' =
     omega (arith, is, m)
 
 -- nothing after the first step moves the clocks
-begun_clocks : (s : WatchState) (w : Option Why) → (begun s w).clocks ≡ s.clocks
+begun_clocks : (s : WatchState) (w : Option BeginReason) → (begun s w).clocks ≡ s.clocks
 begun_clocks s None = refl
 begun_clocks s (Some w) = refl
 
@@ -73,7 +73,7 @@ pub readied_clocks : (s : WatchState) (wall elapsed : ℕ) → (readied s wall e
 unfolding readied
 readied_clocks s wall elapsed = begun_clocks (settled (timed s wall elapsed)) (why s wall elapsed)
 
-begun_width : (s : WatchState) (w : Option Why) → (begun s w).width ≡ s.width
+begun_width : (s : WatchState) (w : Option BeginReason) → (begun s w).width ≡ s.width
 begun_width s None = refl
 begun_width s (Some w) = refl
 
@@ -85,7 +85,7 @@ readied_width s wall elapsed = begun_width (settled (timed s wall elapsed)) (why
 pub begun_some : (s : WatchState) (wall elapsed : ℕ) → is_none (readied s wall elapsed).begun ≡ false
 unfolding readied why beginning
 begun_some s wall elapsed = by (settled (timed s wall elapsed)) (why s wall elapsed) (λ none. cond-true (is_none s.begun) (Some Start) _ none) where
-  by : (t : WatchState) (w : Option Why) → (is_none t.begun ≡ true → w ≡ Some Start) → is_none (begun t w).begun ≡ false
+  by : (t : WatchState) (w : Option BeginReason) → (is_none t.begun ≡ true → w ≡ Some Start) → is_none (begun t w).begun ≡ false
   by t (Some w) first = refl
   by t None first =
       elim (cases_Bool (is_none t.begun)) [

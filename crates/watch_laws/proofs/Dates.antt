@@ -5,10 +5,10 @@ use Rattle.std.proofs.lemmas.Bool.Decides.{nat_tests}
 use Rattle.base_moment.specs.declared.moment.TheConstants.{LAST}
 use Rattle.watch_machine.specs.declared.clocks.BrokerOffset.{BrokerOffset}
 use Rattle.watch_machine.specs.declared.clocks.Clocks.{Clocks}
-use Rattle.watch_machine.specs.declared.command.Output.{Output}
-use Rattle.watch_machine.specs.declared.event.Reply.{Reply}
-use Rattle.watch_machine.specs.declared.event.Reply.TheVariants.{Told, Refused, Busy, Lost}
-use Rattle.watch_machine.specs.declared.lanes.Answer.{Answer}
+use Rattle.watch_machine.specs.declared.command.WatchOutput.{WatchOutput}
+use Rattle.watch_machine.specs.declared.event.WatchReply.{WatchReply}
+use Rattle.watch_machine.specs.declared.event.WatchReply.TheVariants.{Told, Refused, Busy, Lost}
+use Rattle.watch_machine.specs.declared.lanes.LaneAnswer.{LaneAnswer}
 use Rattle.watch_machine.specs.declared.notes.Notes.{Notes}
 use Rattle.watch_machine.specs.Clocks.{dated_by, first_clocks, is_ahead, is_behind, is_stepped, reading, sec, to_broker, walled}
 use Rattle.watch_machine.specs.Press.{pressed}
@@ -33,7 +33,7 @@ read_kept c wall elapsed is =
     (record now { wall = record { here = now.at; there = reading wall }; broker = if now.dated then now.broker else record { here = now.at; there = sec (reading wall) } }) now
     (cond-true c.dated c.broker (record { here = now.at; there = sec (reading wall) }) is, is) (refl, is)
 
-told_is : (reply : Reply) → date_of reply ≡ date_told reply
+told_is : (reply : WatchReply) → date_of reply ≡ date_told reply
 told_is (Told seconds renewable date) = refl
 told_is _ = refl
 
@@ -77,7 +77,7 @@ kept_by c since date ahead behind =
     (cond-false (is_ahead c date || is_behind c since date) (record c { broker = record { here = c.at; there = date }; dated = true }) (record c { dated = true }) (ap (λ b. b || is_behind c since date) ahead ∙ behind))
 
 -- a clock after one answer
-module _ (old : WatchState) (wall elapsed : ℕ) (a : Answer) (date : ℕ) (some : is_none old.begun ≡ false) (dated' : old.clocks.dated ≡ true) (one : old.answers ≡ a ∷ []) (told : date_told a.reply ≡ Some date) where
+module _ (old : WatchState) (wall elapsed : ℕ) (a : LaneAnswer) (date : ℕ) (some : is_none old.begun ≡ false) (dated' : old.clocks.dated ≡ true) (one : old.answers ≡ a ∷ []) (told : date_told a.reply ≡ Some date) where
   abbrev c : Clocks
   c = read old.clocks wall elapsed
 
@@ -93,7 +93,7 @@ module _ (old : WatchState) (wall elapsed : ℕ) (a : Answer) (date : ℕ) (some
   steps_is : has_stepped old wall elapsed ≡ old.stepped || (is_ahead c d || false)
   unfolding has_stepped
   steps_is =
-      ap (λ (xs : List Answer). old.stepped || steps c xs) one ∙ ap (λ (o : Option ℕ). old.stepped || (is_step c o || false)) (told_is a.reply ∙ told)
+      ap (λ (xs : List LaneAnswer). old.stepped || steps c xs) one ∙ ap (λ (o : Option ℕ). old.stepped || (is_step c o || false)) (told_is a.reply ∙ told)
       ∙ ap (λ b. old.stepped || ((b && is_ahead c d) || false)) (read_kept old.clocks wall elapsed dated').1
 
   module _ (new : WatchState) (is : new.clocks ≡ clocks_after old wall elapsed) (set : old.clocks.broker.here ≤ old.clocks.at) where
@@ -146,7 +146,7 @@ module _ (old : WatchState) (wall elapsed : ℕ) (a : Answer) (date : ℕ) (some
       no_more true = refl
       no_more false = refl
 
-clock_stepped : (old new : WatchState) (wall elapsed : ℕ) (output : Output) → StepClock old wall elapsed output new → output.notes.began ≡ None → new.stepped ≡ has_stepped old wall elapsed
+clock_stepped : (old new : WatchState) (wall elapsed : ℕ) (output : WatchOutput) → StepClock old wall elapsed output new → output.notes.began ≡ None → new.stepped ≡ has_stepped old wall elapsed
 unfolding readied
 clock_stepped old new wall elapsed output step none =
     let go = sent_by (pressed (readied old wall elapsed) (asked_by_round step.round)) new output.command step.command in

@@ -8,18 +8,18 @@ use Rattle.base_moment.specs.declared.moment.TheConstants.{LAST}
 use Rattle.plan_forest.specs.Forest.{Forest}
 use Rattle.watch_machine.specs.declared.clocks.BrokerOffset.{BrokerOffset}
 use Rattle.watch_machine.specs.declared.clocks.Clocks.{Clocks}
-use Rattle.watch_machine.specs.declared.command.Output.{Output}
-use Rattle.watch_machine.specs.declared.command.Request.{Request}
-use Rattle.watch_machine.specs.declared.event.Event.{Event}
-use Rattle.watch_machine.specs.declared.event.Event.TheVariants.{Clock, Looked, Renewed, Need, Begin, Known}
+use Rattle.watch_machine.specs.declared.command.WatchOutput.{WatchOutput}
+use Rattle.watch_machine.specs.declared.command.WatchRequest.{WatchRequest}
+use Rattle.watch_machine.specs.declared.event.WatchEvent.{WatchEvent}
+use Rattle.watch_machine.specs.declared.event.WatchEvent.TheVariants.{Clock, Looked, Renewed, Need, Begin, Known}
 use Rattle.watch_machine.specs.declared.event.Operation.TheVariants.{Look, Renew}
-use Rattle.watch_machine.specs.declared.event.Reply.{Reply}
-use Rattle.watch_machine.specs.declared.event.Reply.TheVariants.{Told, Refused, Busy, Lost}
-use Rattle.watch_machine.specs.declared.event.Terms.{Terms}
+use Rattle.watch_machine.specs.declared.event.WatchReply.{WatchReply}
+use Rattle.watch_machine.specs.declared.event.WatchReply.TheVariants.{Told, Refused, Busy, Lost}
+use Rattle.watch_machine.specs.declared.event.WatchTerms.{WatchTerms}
 use Rattle.watch_machine.specs.declared.fault.WatchFault.{WatchFault}
-use Rattle.watch_machine.specs.declared.lanes.Answer.{Answer}
+use Rattle.watch_machine.specs.declared.lanes.LaneAnswer.{LaneAnswer}
 use Rattle.watch_machine.specs.declared.lanes.Out.{Out}
-use Rattle.watch_machine.specs.declared.notes.Why.{Why}
+use Rattle.watch_machine.specs.declared.notes.BeginReason.{BeginReason}
 use Rattle.watch_machine.specs.Answers.{answers_all, heard, lane_freed, noted, replied, silent, without_request}
 use Rattle.watch_machine.specs.Beginning.{begun}
 use Rattle.watch_machine.specs.Change.{out_after}
@@ -61,7 +61,7 @@ dated_on_frame : (since : ℕ) (c : Clocks) (date : Option ℕ) → frame (dated
 dated_on_frame since c None = refl
 dated_on_frame since c (Some date) = dated_frame since c (min LAST date)
 
-all_frame : (c : Clocks) (answers : List Answer) → frame (dated_by_all c answers) ≡ frame c
+all_frame : (c : Clocks) (answers : List LaneAnswer) → frame (dated_by_all c answers) ≡ frame c
 all_frame c [] = refl
 all_frame c (a ∷ answers) = all_frame (dated c a) answers ∙ dated_on_frame a.since c (date_of a.reply)
 
@@ -103,7 +103,7 @@ set_on : (since : ℕ) (c : Clocks) (date : Option ℕ) → IsSet c → IsSet (d
 set_on since c None h = h
 set_on since c (Some date) h = set_dated since c (min LAST date) h
 
-set_all : (c : Clocks) (answers : List Answer) → IsSet c → IsSet (dated_by_all c answers)
+set_all : (c : Clocks) (answers : List LaneAnswer) → IsSet c → IsSet (dated_by_all c answers)
 set_all c [] h = h
 set_all c (a ∷ answers) h = set_all (dated c a) answers (set_on a.since c (date_of a.reply) h)
 
@@ -171,20 +171,20 @@ shown_by since c date past here =
     let more : to_broker c.broker (sec since) ≤ date + 3 = grind (arith, nat_tests) in
     record { no_less = omega (arith, less, here); no_more = omega (arith, more); told = refl })
 
-all_then : (c : Clocks) (first rest : List Answer) → dated_by_all c (first ++ rest) ≡ dated_by_all (dated_by_all c first) rest
+all_then : (c : Clocks) (first rest : List LaneAnswer) → dated_by_all c (first ++ rest) ≡ dated_by_all (dated_by_all c first) rest
 all_then c [] rest = refl
 all_then c (a ∷ first) rest = all_then (dated c a) first rest
 
-abbrev HaveNone : List Answer → Type 0
-HaveNone answers = All (λ (b : Answer). date_of b.reply ≡ None) answers
+abbrev HaveNone : List LaneAnswer → Type 0
+HaveNone answers = All (λ (b : LaneAnswer). date_of b.reply ≡ None) answers
 
-none_sets : (c : Clocks) (answers : List Answer) → HaveNone answers → dated_by_all c answers ≡ c
+none_sets : (c : Clocks) (answers : List LaneAnswer) → HaveNone answers → dated_by_all c answers ≡ c
 none_sets c [] none = refl
 none_sets c (a ∷ answers) none =
-    ap (λ (d : Clocks). dated_by_all d answers) (ap (dated_on a.since c) (All-head (λ (b : Answer). date_of b.reply ≡ None) a answers none))
-    ∙ none_sets c answers (All-tail (λ (b : Answer). date_of b.reply ≡ None) a answers none)
+    ap (λ (d : Clocks). dated_by_all d answers) (ap (dated_on a.since c) (All-head (λ (b : LaneAnswer). date_of b.reply ≡ None) a answers none))
+    ∙ none_sets c answers (All-tail (λ (b : LaneAnswer). date_of b.reply ≡ None) a answers none)
 
-shown_last : (c : Clocks) (first rest : List Answer) (a : Answer) (date : ℕ) → IsSet c → a.since ≤ c.at → date_of a.reply ≡ Some date → HaveNone rest → ShowsDate (dated_by_all c (first ++ a ∷ rest)) a.since (min LAST date)
+shown_last : (c : Clocks) (first rest : List LaneAnswer) (a : LaneAnswer) (date : ℕ) → IsSet c → a.since ≤ c.at → date_of a.reply ≡ Some date → HaveNone rest → ShowsDate (dated_by_all c (first ++ a ∷ rest)) a.since (min LAST date)
 shown_last c first rest a date h past is none =
     let mid = dated_by_all c first in
     let at = ap (λ (d : Clocks). d.at) (all_frame c first) in
@@ -193,14 +193,14 @@ shown_last c first rest a date h past is none =
     subst (λ (d : Clocks). ShowsDate d a.since (min LAST date)) (sym whole) (shown_by a.since mid (min LAST date) (omega (arith, at, past)) (set_all c first h).broker)
 
 -- a reply: it is kept with the moment of its request
-replied_answers : (mid : WatchState) (q : Out) (reply : Reply) → (replied mid q reply).answers ≡ mid.answers
+replied_answers : (mid : WatchState) (q : Out) (reply : WatchReply) → (replied mid q reply).answers ≡ mid.answers
 replied_answers mid q reply =
     let free = lane_freed mid q in
     let P : WatchState → Type 0 = λ t. t.answers ≡ mid.answers in
     if_both P (is_real reply) (answers_all free) (if q.heard then free else silent free) (if_both P mid.presence.away _ _ refl refl)
     (if_both P q.heard free (silent free) refl (if_both P mid.presence.away _ _ refl refl))
 
-replied_all : (P : Out → Type 0) → ((q : Out) → P q → P (heard q)) → (mid : WatchState) (q : Out) (reply : Reply) → All P mid.out → All P (replied mid q reply).out
+replied_all : (P : Out → Type 0) → ((q : Out) → P q → P (heard q)) → (mid : WatchState) (q : Out) (reply : WatchReply) → All P mid.out → All P (replied mid q reply).out
 replied_all P stable mid q reply all =
     let free = lane_freed mid q in
     let W : WatchState → Type 0 = λ t. All P t.out in
@@ -209,14 +209,14 @@ replied_all P stable mid q reply all =
     if_both W (is_real reply) (answers_all free) (if q.heard then free else silent free) (if_both W mid.presence.away _ _ hears hears)
     (if_both W q.heard free (silent free) rest (if_both W mid.presence.away _ _ rest rest))
 
-looked_answers : (s : WatchState) (q : Out) (reply : Reply) (terms : Terms) → (looked s q reply terms).answers ≡ s.answers
+looked_answers : (s : WatchState) (q : Out) (reply : WatchReply) (terms : WatchTerms) → (looked s q reply terms).answers ≡ s.answers
 looked_answers s q (Told seconds renewable date) terms = refl
 looked_answers s q _ terms = refl
 
-abbrev pub kept_as : Out → Reply → Answer
+abbrev pub kept_as : Out → WatchReply → LaneAnswer
 kept_as q reply = record { since = q.since; heard = q.heard; reply = reply }
 
-pub record Adds (old : WatchState) (i : ℕ) (reply : Reply) (new : WatchState) : Type 1 where
+pub record Adds (old : WatchState) (i : ℕ) (reply : WatchReply) (new : WatchState) : Type 1 where
   pub q : Out
   pub entry : q.entry ≡ i
   pub found : (P : Out → Type 0) → All P old.out → P q
@@ -224,7 +224,7 @@ pub record Adds (old : WatchState) (i : ℕ) (reply : Reply) (new : WatchState) 
   pub out : (P : Out → Type 0) → ((q : Out) → P q → P (heard q)) → All P old.out → All P new.out
   pub rest : rest_of new ≡ rest_of old
 
-looked_adds : (old new : WatchState) (i : ℕ) (reply : Reply) (terms : Terms) (output : Output) (found : Option Out) → request_out old.out i Look ≡ found → StepLooked old found reply terms output new → Adds old i reply new
+looked_adds : (old new : WatchState) (i : ℕ) (reply : WatchReply) (terms : WatchTerms) (output : WatchOutput) (found : Option Out) → request_out old.out i Look ≡ found → StepLooked old found reply terms output new → Adds old i reply new
 looked_adds old new i reply terms output None is step = absurd step
 looked_adds old new i reply terms output (Some q) is step =
     let s = noted old q reply in
@@ -237,7 +237,7 @@ looked_adds old new i reply terms output (Some q) is step =
       rest = ap rest_of step.1 ∙ looked_leaves old q reply terms;
     }
 
-renewed_adds : (old new : WatchState) (i : ℕ) (reply : Reply) (output : Output) (found : Option Out) → request_out old.out i Renew ≡ found → StepRenewed old found reply output new → Adds old i reply new
+renewed_adds : (old new : WatchState) (i : ℕ) (reply : WatchReply) (output : WatchOutput) (found : Option Out) → request_out old.out i Renew ≡ found → StepRenewed old found reply output new → Adds old i reply new
 renewed_adds old new i reply output None is step = absurd step
 renewed_adds old new i reply output (Some q) is step =
     let mid = state_renewed (noted old q reply) q reply in record {
@@ -250,13 +250,13 @@ renewed_adds old new i reply output (Some q) is step =
     }
 
 -- a clock: the answers so far have set the clocks
-pub record Goes (old : WatchState) (wall elapsed : ℕ) (requests : List Request) (new : WatchState) : Type 1 where
+pub record Goes (old : WatchState) (wall elapsed : ℕ) (requests : List WatchRequest) (new : WatchState) : Type 1 where
   pub clocks : new.clocks ≡ clocks_after old wall elapsed
   pub answers : new.answers ≡ []
   pub begun : is_none new.begun ≡ false
   pub out : (P : Out → Type 0) → All P old.out → All P (map (out_at new.clocks.at) requests) → All P new.out
 
-begun_answers : (s : WatchState) (w : Option Why) → (begun s w).answers ≡ s.answers
+begun_answers : (s : WatchState) (w : Option BeginReason) → (begun s w).answers ≡ s.answers
 begun_answers s None = refl
 begun_answers s (Some w) = refl
 
@@ -264,7 +264,7 @@ readied_answers : (s : WatchState) (wall elapsed : ℕ) → (readied s wall elap
 unfolding readied
 readied_answers s wall elapsed = begun_answers (settled (timed s wall elapsed)) (why s wall elapsed)
 
-clock_goes : (old new : WatchState) (wall elapsed : ℕ) (output : Output) → StepClock old wall elapsed output new → Goes old wall elapsed (requests_asked_by output.command) new
+clock_goes : (old new : WatchState) (wall elapsed : ℕ) (output : WatchOutput) → StepClock old wall elapsed output new → Goes old wall elapsed (requests_asked_by output.command) new
 clock_goes old new wall elapsed output step =
     let mid = pressed (readied old wall elapsed) (asked_by_round step.round) in
     let is = sent_requests mid new output.command step.command in record {
@@ -280,7 +280,7 @@ pub record Keeps (old new : WatchState) : Type 1 where
   pub answers : new.answers ≡ old.answers
   pub out : new.out ≡ old.out
 
-abbrev pub Does : WatchState → Event → List Request → WatchState → Type 1
+abbrev pub Does : WatchState → WatchEvent → List WatchRequest → WatchState → Type 1
 Does old (Clock wall elapsed) requests new = Goes old wall elapsed requests new
 Does old (Looked i reply terms) requests new = Adds old i reply new
 Does old (Renewed i reply) requests new = Adds old i reply new
@@ -289,7 +289,7 @@ Does old _ requests new = Keeps old new
 keeps_by : (old new mid : WatchState) → new ≡ mid → rest_of mid ≡ rest_of (record old { asked = mid.asked }) → mid.answers ≡ old.answers → mid.out ≡ old.out → Keeps old new
 keeps_by old new mid is rest answers out = subst (Keeps old) (sym is) (record { rest = rest; answers = answers; out = out })
 
-pub does : (old new : WatchState) (event : Event) (output : Output) → Step old event output new → Does old event (requests_asked_by output.command) new
+pub does : (old new : WatchState) (event : WatchEvent) (output : WatchOutput) → Step old event output new → Does old event (requests_asked_by output.command) new
 does old new (Clock wall elapsed) output step = clock_goes old new wall elapsed output step
 does old new (Looked i reply terms) output step = looked_adds old new i reply terms output (request_out old.out i Look) refl step
 does old new (Renewed i reply) output step = renewed_adds old new i reply output (request_out old.out i Renew) refl step
@@ -308,7 +308,7 @@ goes_up s wall elapsed h =
       | inr some ↦ clock_rises s wall elapsed some
     ]
 
-goes_clocked : (old new : WatchState) (wall elapsed : ℕ) (requests : List Request) → Goes old wall elapsed requests new → Clocked old → Clocked new
+goes_clocked : (old new : WatchState) (wall elapsed : ℕ) (requests : List WatchRequest) → Goes old wall elapsed requests new → Clocked old → Clocked new
 goes_clocked old new wall elapsed requests h o =
     let up = goes_up old wall elapsed o in
     let at = ap (λ (c : Clocks). c.at) h.clocks in record {
@@ -319,7 +319,7 @@ goes_clocked old new wall elapsed requests h o =
       set = subst IsSet (sym h.clocks) (set_after old wall elapsed o.set);
     }
 
-adds_clocked : (old new : WatchState) (i : ℕ) (reply : Reply) → Adds old i reply new → Clocked old → Clocked new
+adds_clocked : (old new : WatchState) (i : ℕ) (reply : WatchReply) → Adds old i reply new → Clocked old → Clocked new
 adds_clocked old new i reply h o =
     let clocks : new.clocks ≡ old.clocks = ap (λ (x : WatchState). x.clocks) h.rest in
     let at = ap (λ (c : Clocks). c.at) clocks in record {
@@ -339,13 +339,13 @@ keeps_clocked old new h o =
       set = subst IsSet (sym clocks) o.set;
     }
 
-does_clocked : (old new : WatchState) (event : Event) (requests : List Request) → Does old event requests new → Clocked old → Clocked new
+does_clocked : (old new : WatchState) (event : WatchEvent) (requests : List WatchRequest) → Does old event requests new → Clocked old → Clocked new
 does_clocked old new (Clock wall elapsed) requests h o = goes_clocked old new wall elapsed requests h o
 does_clocked old new (Looked i reply terms) requests h o = adds_clocked old new i reply h o
 does_clocked old new (Renewed i reply) requests h o = adds_clocked old new i reply h o
 does_clocked old new _ requests h o = keeps_clocked old new h o
 
-turn_clocked : (old new : WatchState) (event : Event) (result : Result Output WatchFault) → Turn old event result new → Clocked old → Clocked new
+turn_clocked : (old new : WatchState) (event : WatchEvent) (result : Result WatchOutput WatchFault) → Turn old event result new → Clocked old → Clocked new
 turn_clocked old new event (Ok output) turn o = does_clocked old new event (requests_asked_by output.command) (does old new event output turn.1) o
 turn_clocked old new event (Err fault) turn o = subst Clocked (sym (refused_stays old new event fault turn)) o
 
@@ -381,7 +381,7 @@ parts (turn ∷ before) rest old h = let p = parts before rest turn.state h.1 in
 
 -- a clock that is taken
 pub clock_of :
-    (old new : WatchState) (event : Event) (result : Result Output WatchFault) (wall elapsed : ℕ) → Turn old event result new → event ≡ Clock wall elapsed → is_event_taken result ≡ true →
+    (old new : WatchState) (event : WatchEvent) (result : Result WatchOutput WatchFault) (wall elapsed : ℕ) → Turn old event result new → event ≡ Clock wall elapsed → is_event_taken result ≡ true →
     Goes old wall elapsed (requests_at_turn result) new
 clock_of old new event (Ok output) wall elapsed turn is taken' = clock_goes old new wall elapsed output (subst (λ e. Step old e output new) is turn.1)
 clock_of old new event (Err fault) wall elapsed turn is taken' = absurd cc
@@ -401,11 +401,11 @@ undated_shown s reached none =
 record Quiet (old new : WatchState) : Type 0 where
   clocks : new.clocks ≡ old.clocks
   begun : is_none new.begun ≡ is_none old.begun
-  more : List Answer
+  more : List LaneAnswer
   answers : new.answers ≡ old.answers ++ more
   none : HaveNone more
 
-no_date : (reply : Reply) → is_some (date_told reply) ≡ false → date_of reply ≡ None
+no_date : (reply : WatchReply) → is_some (date_told reply) ≡ false → date_of reply ≡ None
 no_date (Told seconds renewable None) none = refl
 no_date (Told seconds renewable (Some date)) none = absurd cc
 no_date (Refused status None) none = refl
@@ -413,13 +413,13 @@ no_date (Refused status (Some date)) none = absurd cc
 no_date Busy none = refl
 no_date Lost none = refl
 
-adds_quiet : (old new : WatchState) (i : ℕ) (reply : Reply) → Adds old i reply new → is_some (date_told reply) ≡ false → Quiet old new
+adds_quiet : (old new : WatchState) (i : ℕ) (reply : WatchReply) → Adds old i reply new → is_some (date_told reply) ≡ false → Quiet old new
 adds_quiet old new i reply h none = record {
   clocks = ap (λ (x : WatchState). x.clocks) h.rest;
   begun = ap (λ (x : WatchState). is_none x.begun) h.rest;
   more = kept_as h.q reply ∷ [];
   answers = h.answers;
-  none = All-cons (λ (b : Answer). date_of b.reply ≡ None) (kept_as h.q reply) [] (no_date reply none) (All-nil (λ (b : Answer). date_of b.reply ≡ None));
+  none = All-cons (λ (b : LaneAnswer). date_of b.reply ≡ None) (kept_as h.q reply) [] (no_date reply none) (All-nil (λ (b : LaneAnswer). date_of b.reply ≡ None));
 }
 
 keeps_quiet : (old new : WatchState) → Keeps old new → Quiet old new
@@ -428,16 +428,16 @@ keeps_quiet old new h = record {
   begun = ap (λ (x : WatchState). is_none x.begun) h.rest;
   more = [];
   answers = h.answers ∙ sym (append-nil old.answers);
-  none = All-nil (λ (b : Answer). date_of b.reply ≡ None);
+  none = All-nil (λ (b : LaneAnswer). date_of b.reply ≡ None);
 }
 
-does_quiet : (old new : WatchState) (event : Event) (requests : List Request) → Does old event requests new → sets event ≡ false → Quiet old new
+does_quiet : (old new : WatchState) (event : WatchEvent) (requests : List WatchRequest) → Does old event requests new → sets event ≡ false → Quiet old new
 does_quiet old new (Clock wall elapsed) requests h none = absurd cc
 does_quiet old new (Looked i reply terms) requests h none = adds_quiet old new i reply h none
 does_quiet old new (Renewed i reply) requests h none = adds_quiet old new i reply h none
 does_quiet old new _ requests h none = keeps_quiet old new h
 
-turn_quiet : (old new : WatchState) (event : Event) (result : Result Output WatchFault) → Turn old event result new → is_set (record { event = event; result = result; state = new }) ≡ false → Quiet old new
+turn_quiet : (old new : WatchState) (event : WatchEvent) (result : Result WatchOutput WatchFault) → Turn old event result new → is_set (record { event = event; result = result; state = new }) ≡ false → Quiet old new
 turn_quiet old new event (Ok output) turn none = does_quiet old new event (requests_asked_by output.command) (does old new event output turn.1) none
 turn_quiet old new event (Err fault) turn none =
     let same = refused_stays old new event fault turn in record {
@@ -445,12 +445,12 @@ turn_quiet old new event (Err fault) turn none =
       begun = ap (λ (x : WatchState). is_none x.begun) same;
       more = [];
       answers = ap (λ (x : WatchState). x.answers) same ∙ sym (append-nil old.answers);
-      none = All-nil (λ (b : Answer). date_of b.reply ≡ None);
+      none = All-nil (λ (b : LaneAnswer). date_of b.reply ≡ None);
     }
 
 -- several such turns
 ran_quiet : (turns : List Turned) (old : WatchState) → History old turns → list_any is_set turns ≡ false → Quiet old (after_all old turns)
-ran_quiet [] old h none = record { clocks = refl; begun = refl; more = []; answers = sym (append-nil old.answers); none = All-nil (λ (b : Answer). date_of b.reply ≡ None) }
+ran_quiet [] old h none = record { clocks = refl; begun = refl; more = []; answers = sym (append-nil old.answers); none = All-nil (λ (b : LaneAnswer). date_of b.reply ≡ None) }
 ran_quiet (turn ∷ turns) old h none =
     let both = neither (is_set turn) (list_any is_set turns) none in
     let first = turn_quiet old turn.state turn.event turn.result h.0 both.0 in
@@ -459,23 +459,23 @@ ran_quiet (turn ∷ turns) old h none =
       begun = rest.begun ∙ first.begun;
       more = first.more ++ rest.more;
       answers = rest.answers ∙ ap (λ xs. xs ++ rest.more) first.answers ∙ append_assoc old.answers first.more rest.more;
-      none = All-append (λ (b : Answer). date_of b.reply ≡ None) first.more rest.more first.none rest.none;
+      none = All-append (λ (b : LaneAnswer). date_of b.reply ≡ None) first.more rest.more first.none rest.none;
     }
 
 -- the request goes out, and stays out as it is
 abbrev pub WentOut : ℕ → ℕ → Out → Type 0
 WentOut i since q = q.entry ≡ i → q.since ≡ since
 
-other_out : (i since at : ℕ) (requests : List Request) → list_any (λ (r : Request). r.entry == i) requests ≡ false → All (WentOut i since) (map (out_at at) requests)
+other_out : (i since at : ℕ) (requests : List WatchRequest) → list_any (λ (r : WatchRequest). r.entry == i) requests ≡ false → All (WentOut i since) (map (out_at at) requests)
 other_out i since at [] none = All-nil (WentOut i since)
 other_out i since at (r ∷ requests) none =
-    let both = neither (r.entry == i) (list_any (λ (x : Request). x.entry == i) requests) none in
+    let both = neither (r.entry == i) (list_any (λ (x : WatchRequest). x.entry == i) requests) none in
     All-cons (WentOut i since) (out_at at r) (map (out_at at) requests) (λ is. absurd (not_both (eqb-is r.entry i is) both.0)) (other_out i since at requests both.1) where
       eqb-is : (m n : ℕ) → m ≡ n → (m == n) ≡ true
       eqb-is m n is = grind (arith, nat_tests)
 
 does_out :
-    (i since : ℕ) (old new : WatchState) (event : Event) (requests : List Request) → Does old event requests new → list_any (λ (r : Request). r.entry == i) requests ≡ false → All (WentOut i since) old.out →
+    (i since : ℕ) (old new : WatchState) (event : WatchEvent) (requests : List WatchRequest) → Does old event requests new → list_any (λ (r : WatchRequest). r.entry == i) requests ≡ false → All (WentOut i since) old.out →
     All (WentOut i since) new.out
 does_out i since old new (Clock wall elapsed) requests h none all = h.out (WentOut i since) all (other_out i since new.clocks.at requests none)
 does_out i since old new (Looked j reply terms) requests h none all = h.out (WentOut i since) (λ q w. w) all
@@ -483,7 +483,7 @@ does_out i since old new (Renewed j reply) requests h none all = h.out (WentOut 
 does_out i since old new _ requests h none all = subst (All (WentOut i since)) (sym h.out) all
 
 turn_out :
-    (i since : ℕ) (old new : WatchState) (event : Event) (result : Result Output WatchFault) → Turn old event result new → list_any (λ (r : Request). r.entry == i) (requests_at_turn result) ≡ false →
+    (i since : ℕ) (old new : WatchState) (event : WatchEvent) (result : Result WatchOutput WatchFault) → Turn old event result new → list_any (λ (r : WatchRequest). r.entry == i) (requests_at_turn result) ≡ false →
     All (WentOut i since) old.out → All (WentOut i since) new.out
 turn_out i since old new event (Ok output) turn none all = does_out i since old new event (requests_asked_by output.command) (does old new event output turn.1) none all
 turn_out i since old new event (Err fault) turn none all = subst (λ (x : WatchState). All (WentOut i since) x.out) (sym (refused_stays old new event fault turn)) all
@@ -499,34 +499,34 @@ none_out : (i since : ℕ) (out : List Out) → All (λ (q : Out). q.entry ≢ i
 none_out i since out none = All-weaker (λ (q : Out). q.entry ≢ i) (WentOut i since) (λ q other is. absurd (other is)) out none
 
 -- at that turn
-does_ask : (i : ℕ) (old new : WatchState) (event : Event) (requests : List Request) → Does old event requests new → All (λ (q : Out). q.entry ≢ i) old.out → All (WentOut i new.clocks.at) new.out
+does_ask : (i : ℕ) (old new : WatchState) (event : WatchEvent) (requests : List WatchRequest) → Does old event requests new → All (λ (q : Out). q.entry ≢ i) old.out → All (WentOut i new.clocks.at) new.out
 does_ask i old new (Clock wall elapsed) requests h none =
     h.out (WentOut i new.clocks.at) (none_out i new.clocks.at old.out none) (All-map (WentOut i new.clocks.at) (out_at new.clocks.at) requests (λ k d below is. refl))
 does_ask i old new (Looked j reply terms) requests h none = h.out (WentOut i new.clocks.at) (λ q w. w) (none_out i new.clocks.at old.out none)
 does_ask i old new (Renewed j reply) requests h none = h.out (WentOut i new.clocks.at) (λ q w. w) (none_out i new.clocks.at old.out none)
 does_ask i old new _ requests h none = subst (All (WentOut i new.clocks.at)) (sym h.out) (none_out i new.clocks.at old.out none)
 
-pub turn_asks : (i : ℕ) (old new : WatchState) (event : Event) (result : Result Output WatchFault) → Turn old event result new → All (λ (q : Out). q.entry ≢ i) old.out → All (WentOut i new.clocks.at) new.out
+pub turn_asks : (i : ℕ) (old new : WatchState) (event : WatchEvent) (result : Result WatchOutput WatchFault) → Turn old event result new → All (λ (q : Out). q.entry ≢ i) old.out → All (WentOut i new.clocks.at) new.out
 turn_asks i old new event (Ok output) turn none = does_ask i old new event (requests_asked_by output.command) (does old new event output turn.1) none
 turn_asks i old new event (Err fault) turn none =
     subst (λ (x : WatchState). All (WentOut i new.clocks.at) x.out) (sym (refused_stays old new event fault turn)) (none_out i new.clocks.at old.out none)
 
 -- the date is kept
 record HasDate (since date : ℕ) (s : WatchState) : Type 0 where
-  first : List Answer
-  a : Answer
-  rest : List Answer
+  first : List LaneAnswer
+  a : LaneAnswer
+  rest : List LaneAnswer
   is : s.answers ≡ first ++ a ∷ rest
   at : a.since ≡ since
   told : date_of a.reply ≡ Some date
   none : HaveNone rest
   past : since ≤ s.clocks.at
 
-date_is : (reply : Reply) (date : ℕ) → date_told reply ≡ Some date → date_of reply ≡ Some date
+date_is : (reply : WatchReply) (date : ℕ) → date_told reply ≡ Some date → date_of reply ≡ Some date
 date_is (Told seconds renewable d) date is = is
 date_is _ date is = is
 
-adds_date : (i since date : ℕ) (old new : WatchState) (j : ℕ) (reply : Reply) → Adds old j reply new → j ≡ i → date_told reply ≡ Some date → All (WentOut i since) old.out → Clocked old → HasDate since date new
+adds_date : (i since date : ℕ) (old new : WatchState) (j : ℕ) (reply : WatchReply) → Adds old j reply new → j ≡ i → date_told reply ≡ Some date → All (WentOut i since) old.out → Clocked old → HasDate since date new
 adds_date i since date old new j reply h of told all o =
     let went = h.found (WentOut i since) all (h.entry ∙ of) in
     let now = h.found (λ (q : Out). q.since ≤ old.clocks.at) o.since in
@@ -537,17 +537,17 @@ adds_date i since date old new j reply h of told all o =
       is = h.answers;
       at = went;
       told = date_is reply date told;
-      none = All-nil (λ (b : Answer). date_of b.reply ≡ None);
+      none = All-nil (λ (b : LaneAnswer). date_of b.reply ≡ None);
       past = omega (arith, went, now, at);
     }
 
-does_date : (i since date : ℕ) (old new : WatchState) (event : Event) (requests : List Request) → Does old event requests new → IsDateOf i date event → All (WentOut i since) old.out → Clocked old → HasDate since date new
+does_date : (i since date : ℕ) (old new : WatchState) (event : WatchEvent) (requests : List WatchRequest) → Does old event requests new → IsDateOf i date event → All (WentOut i since) old.out → Clocked old → HasDate since date new
 does_date i since date old new (Looked j reply terms) requests h is all o = adds_date i since date old new j reply h is.0 is.1 all o
 does_date i since date old new (Renewed j reply) requests h is all o = adds_date i since date old new j reply h is.0 is.1 all o
 does_date i since date old new _ requests h is all o = absurd is
 
 turn_date :
-    (i since date : ℕ) (old new : WatchState) (event : Event) (result : Result Output WatchFault) → Turn old event result new → IsDateOf i date event → is_event_taken result ≡ true →
+    (i since date : ℕ) (old new : WatchState) (event : WatchEvent) (result : Result WatchOutput WatchFault) → Turn old event result new → IsDateOf i date event → is_event_taken result ≡ true →
     All (WentOut i since) old.out → Clocked old → HasDate since date new
 turn_date i since date old new event (Ok output) turn is taken' all o = does_date i since date old new event (requests_asked_by output.command) (does old new event output turn.1) is all o
 turn_date i since date old new event (Err fault) turn is taken' all o = absurd cc
@@ -562,11 +562,11 @@ quiet_date since date old new h d =
       is = h.answers ∙ ap (λ xs. xs ++ h.more) d.is ∙ append_assoc d.first (d.a ∷ d.rest) h.more;
       at = d.at;
       told = d.told;
-      none = All-append (λ (b : Answer). date_of b.reply ≡ None) d.rest h.more d.none h.none;
+      none = All-append (λ (b : LaneAnswer). date_of b.reply ≡ None) d.rest h.more d.none h.none;
       past = omega (arith, clocks, before);
     }
 
-no_list : (first rest : List Answer) (a : Answer) → first ++ a ∷ rest ≡ [] → ⊥
+no_list : (first rest : List LaneAnswer) (a : LaneAnswer) → first ++ a ∷ rest ≡ [] → ⊥
 no_list [] rest a is = cc
 no_list (x ∷ first) rest a is = cc
 

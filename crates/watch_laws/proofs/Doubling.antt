@@ -2,9 +2,9 @@
 use Rattle.std.proofs.Common.{◌≡◌, ◌∙◌, ℕ, ◌+◌, ◌<◌, ◌≤◌, Bool, true, false, ◌&&◌, Option, Some, None, Result, Ok, Err, nat_le, refl, sym, ap, subst, arith}
 use Rattle.std.proofs.lemmas.Bool.{cond-false, cond-true}
 use Rattle.std.proofs.lemmas.Bool.Decides.{nat_tests}
-use Rattle.watch_machine.specs.declared.command.Output.{Output}
-use Rattle.watch_machine.specs.declared.event.Event.{Event}
-use Rattle.watch_machine.specs.declared.event.Event.TheVariants.{Clock, Looked, Renewed, Need, Begin, Known}
+use Rattle.watch_machine.specs.declared.command.WatchOutput.{WatchOutput}
+use Rattle.watch_machine.specs.declared.event.WatchEvent.{WatchEvent}
+use Rattle.watch_machine.specs.declared.event.WatchEvent.TheVariants.{Clock, Looked, Renewed, Need, Begin, Known}
 use Rattle.watch_machine.specs.declared.fault.WatchFault.{WatchFault}
 use Rattle.watch_machine.specs.declared.notes.Notes.{Notes}
 use Rattle.watch_machine.specs.declared.track.Track.{Track}
@@ -44,7 +44,7 @@ settled_is :
 unfolding settled_track
 settled_is P margin at x t v is there h u some pressed' fails = subst P (value_is v u (sym (ap (settled_try margin at x) is ∙ there) ∙ some)) h
 
-module _ (old new : WatchState) (wall elapsed : ℕ) (output : Output) (step : StepClock old wall elapsed output new) (i : ℕ) (t : Try) (is : attempt_at old i ≡ Some t) where
+module _ (old new : WatchState) (wall elapsed : ℕ) (output : WatchOutput) (step : StepClock old wall elapsed output new) (i : ℕ) (t : Try) (is : attempt_at old i ≡ Some t) where
   abbrev at : ℕ
   at = (timed old wall elapsed).clocks.at
 
@@ -105,14 +105,14 @@ module _ (old new : WatchState) (wall elapsed : ℕ) (output : Output) (step : S
       }
 
 turn_paused :
-    (old new : WatchState) (event : Event) (result : Result Output WatchFault) (i : ℕ) (t u : Try) → Turn old event result new →
+    (old new : WatchState) (event : WatchEvent) (result : Result WatchOutput WatchFault) (i : ℕ) (t u : Try) → Turn old event result new →
     TryFails old (record { event = event; result = result; state = new }) i t u → 0 < u.fails → IsPaused old (record { event = event; result = result; state = new }) i t u
 turn_paused old new (Clock wall elapsed) (Ok output) i t u turn h fails = clock_paused old new wall elapsed output turn.1 i t h.before h.failed u h.after h.pressed fails
 turn_paused old new event (Err fault) i t u turn h fails = absurd (let e = h.taken in cc)
 turn_paused old new _ (Ok output) i t u turn h fails = absurd (let e = h.clock in cc)
 
 turn_unpaused :
-    (old new : WatchState) (event : Event) (result : Result Output WatchFault) (i : ℕ) (t u : Try) → Turn old event result new →
+    (old new : WatchState) (event : WatchEvent) (result : Result WatchOutput WatchFault) (i : ℕ) (t u : Try) → Turn old event result new →
     TryWaits old (record { event = event; result = result; state = new }) i t u → 0 < u.fails → IsUnpaused (record { event = event; result = result; state = new }) t u
 turn_unpaused old new (Clock wall elapsed) (Ok output) i t u turn h fails = clock_unpaused old new wall elapsed output turn.1 i t h.before h.waits u h.after h.pressed fails
 turn_unpaused old new event (Err fault) i t u turn h fails = absurd (let e = h.taken in cc)

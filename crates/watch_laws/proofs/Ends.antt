@@ -10,19 +10,19 @@ use Rattle.plan_forest.specs.declared.entry.Entry.{Entry}
 use Rattle.plan_forest.specs.declared.forest.TheConstants.{END_MAX}
 use Rattle.plan_forest.specs.Forest.{Forest}
 use Rattle.watch_machine.specs.declared.clocks.Clocks.{Clocks}
-use Rattle.watch_machine.specs.declared.command.Command.{Command}
-use Rattle.watch_machine.specs.declared.command.Command.TheVariants.{Go, Taken}
-use Rattle.watch_machine.specs.declared.command.Output.{Output}
-use Rattle.watch_machine.specs.declared.command.Request.{Request}
-use Rattle.watch_machine.specs.declared.event.Event.{Event}
-use Rattle.watch_machine.specs.declared.event.Event.TheVariants.{Clock, Looked, Renewed, Need, Begin, Known}
+use Rattle.watch_machine.specs.declared.command.WatchCommand.{WatchCommand}
+use Rattle.watch_machine.specs.declared.command.WatchCommand.TheVariants.{Go, Taken}
+use Rattle.watch_machine.specs.declared.command.WatchOutput.{WatchOutput}
+use Rattle.watch_machine.specs.declared.command.WatchRequest.{WatchRequest}
+use Rattle.watch_machine.specs.declared.event.WatchEvent.{WatchEvent}
+use Rattle.watch_machine.specs.declared.event.WatchEvent.TheVariants.{Clock, Looked, Renewed, Need, Begin, Known}
 use Rattle.watch_machine.specs.declared.event.Operation.{Operation}
 use Rattle.watch_machine.specs.declared.event.Operation.TheVariants.{Look, Renew}
-use Rattle.watch_machine.specs.declared.event.Reply.{Reply}
-use Rattle.watch_machine.specs.declared.event.Reply.TheVariants.{Told, Refused, Busy, Lost}
-use Rattle.watch_machine.specs.declared.event.Terms.{Terms}
+use Rattle.watch_machine.specs.declared.event.WatchReply.{WatchReply}
+use Rattle.watch_machine.specs.declared.event.WatchReply.TheVariants.{Told, Refused, Busy, Lost}
+use Rattle.watch_machine.specs.declared.event.WatchTerms.{WatchTerms}
 use Rattle.watch_machine.specs.declared.fault.WatchFault.{WatchFault}
-use Rattle.watch_machine.specs.declared.lanes.Answer.{Answer}
+use Rattle.watch_machine.specs.declared.lanes.LaneAnswer.{LaneAnswer}
 use Rattle.watch_machine.specs.declared.lanes.Out.{Out}
 use Rattle.watch_machine.specs.declared.track.End.{End}
 use Rattle.watch_machine.specs.declared.track.End.TheVariants.{Unknown, At, Never}
@@ -124,7 +124,7 @@ dated_on_moment : (since : ℕ) (c : Clocks) (date : Option ℕ) → SameMoment 
 dated_on_moment since c None = (refl, refl)
 dated_on_moment since c (Some date) = dated_moment since c (min LAST date)
 
-all_moment : (c : Clocks) (answers : List Answer) → SameMoment (dated_by_all c answers) c
+all_moment : (c : Clocks) (answers : List LaneAnswer) → SameMoment (dated_by_all c answers) c
 all_moment c [] = (refl, refl)
 all_moment c (a ∷ answers) =
     let rest = all_moment (dated c a) answers in
@@ -141,7 +141,7 @@ record IsOn (r : ℕ) (c d : Clocks) : Type 0 where
   since : c.at ≤ d.at
   phase : c.phase ≤ d.phase
 
-moved : (c : Clocks) (wall elapsed r : ℕ) (answers : List Answer) → c.at ≤ r + c.phase → elapsed ≤ r → IsOn r c (dated_by_all (read c wall elapsed) answers)
+moved : (c : Clocks) (wall elapsed r : ℕ) (answers : List LaneAnswer) → c.at ≤ r + c.phase → elapsed ≤ r → IsOn r c (dated_by_all (read c wall elapsed) answers)
 unfolding moment_at_reading
 moved c wall elapsed r answers at read' =
     let all = all_moment (read c wall elapsed) answers in
@@ -168,17 +168,17 @@ clocks_on w now s wall elapsed h read' =
 since_later : (i n m : ℕ) (out : List Out) → n ≤ m → All (SinceBy i n) out → All (SinceBy i m) out
 since_later i n m out le all = All-weaker (SinceBy i n) (SinceBy i m) (λ q by is. let b = by is in omega (arith, b, le)) out all
 
-all_since : (i n at : ℕ) (rs : List Request) → at ≤ n → All (SinceBy i n) (map (out_at at) rs)
+all_since : (i n at : ℕ) (rs : List WatchRequest) → at ≤ n → All (SinceBy i n) (map (out_at at) rs)
 all_since i n at [] le = All-nil (SinceBy i n)
 all_since i n at (r ∷ rs) le = All-cons (SinceBy i n) (out_at at r) (map (out_at at) rs) (λ is. le) (all_since i n at rs le)
 
-named_timely : (now asked at i : ℕ) (requests : List Request) (x : Track) → list_any (λ (r : Request). r.entry == i) requests ≡ true → now ≤ asked → BaseBy now x.attempt → Timely now asked (sent_in at requests i x)
+named_timely : (now asked at i : ℕ) (requests : List WatchRequest) (x : Track) → list_any (λ (r : WatchRequest). r.entry == i) requests ≡ true → now ≤ asked → BaseBy now x.attempt → Timely now asked (sent_in at requests i x)
 named_timely now asked at i requests x named le base =
-    subst (Timely now asked) (sym (cond-true (list_any (λ (r : Request). r.entry == i) requests) (sent_track at x) x named))
+    subst (Timely now asked) (sym (cond-true (list_any (λ (r : WatchRequest). r.entry == i) requests) (sent_track at x) x named))
     (record { base = base; out = λ o. base_later now asked x.attempt le base })
 
-sent_end : (at i : ℕ) (requests : List Request) (x : Track) → (sent_in at requests i x).end ≡ x.end
-sent_end at i requests x = if_both (λ (y : Track). y.end ≡ x.end) (list_any (λ (r : Request). r.entry == i) requests) (sent_track at x) x refl refl
+sent_end : (at i : ℕ) (requests : List WatchRequest) (x : Track) → (sent_in at requests i x).end ≡ x.end
+sent_end at i requests x = if_both (λ (y : Track). y.end ≡ x.end) (list_any (λ (r : WatchRequest). r.entry == i) requests) (sent_track at x) x refl refl
 
 -- before it does
 record Ready (w : TimedWorld) (i now asked : ℕ) (told : Origin) (real : ℕ) (c : Clocks) (s : WatchState) : Type 0 where
@@ -191,10 +191,10 @@ record Ready (w : TimedWorld) (i now asked : ℕ) (told : Origin) (real : ℕ) (
   timely : Timely c.at (w.reading asked + c.phase) (track_at s i)
 
 goes_stands :
-    (w : TimedWorld) → IsHonest w → (i now asked : ℕ) (told : Origin) (real : ℕ) (c : Clocks) (s : WatchState) (requests : List Request) → Ready w i now asked told real c s → IsAlone (sent s requests) →
-    StandsBy w i now (if list_any (λ (r : Request). r.entry == i) requests then now else asked) told real c (sent s requests)
+    (w : TimedWorld) → IsHonest w → (i now asked : ℕ) (told : Origin) (real : ℕ) (c : Clocks) (s : WatchState) (requests : List WatchRequest) → Ready w i now asked told real c s → IsAlone (sent s requests) →
+    StandsBy w i now (if list_any (λ (r : WatchRequest). r.entry == i) requests then now else asked) told real c (sent s requests)
 goes_stands w honest i now asked told real c s requests h alone =
-    let named = list_any (λ (r : Request). r.entry == i) requests in
+    let named = list_any (λ (r : WatchRequest). r.entry == i) requests in
     let new = sent s requests in
     let at = s.clocks.at in
     let is_at = ap (λ (x : Clocks). x.at) h.clocks in
@@ -233,15 +233,15 @@ goes_stands w honest i now asked told real c s requests h alone =
     ]
 
 commanded :
-    (w : TimedWorld) → IsHonest w → (i now asked : ℕ) (told : Origin) (real : ℕ) (c : Clocks) (mid new : WatchState) (command : Command) → Ready w i now asked told real c mid → IsAlone new →
-    StepCommand mid command new → StandsBy w i now (if list_any (λ (r : Request). r.entry == i) (requests_asked_by command) then now else asked) told real c new
+    (w : TimedWorld) → IsHonest w → (i now asked : ℕ) (told : Origin) (real : ℕ) (c : Clocks) (mid new : WatchState) (command : WatchCommand) → Ready w i now asked told real c mid → IsAlone new →
+    StepCommand mid command new → StandsBy w i now (if list_any (λ (r : WatchRequest). r.entry == i) (requests_asked_by command) then now else asked) told real c new
 commanded w honest i now asked told real c mid new (Go requests until) h alone step =
-    subst (StandsBy w i now (if list_any (λ (r : Request). r.entry == i) requests then now else asked) told real c) (sym step.0.1)
+    subst (StandsBy w i now (if list_any (λ (r : WatchRequest). r.entry == i) requests then now else asked) told real c) (sym step.0.1)
     (goes_stands w honest i now asked told real c mid requests h (subst IsAlone step.0.1 alone))
 commanded w honest i now asked told real c mid new Taken h alone step = absurd step
 
 -- a clock
-same_clocks : (mid new : WatchState) (command : Command) → StepCommand mid command new → new.clocks ≡ mid.clocks
+same_clocks : (mid new : WatchState) (command : WatchCommand) → StepCommand mid command new → new.clocks ≡ mid.clocks
 same_clocks mid new (Go requests until) step = ap (λ (x : WatchState). x.clocks) step.0.1
 same_clocks mid new Taken step = absurd step
 
@@ -270,12 +270,12 @@ mid_is_ready w honest i now asked told real s wall elapsed round h read' =
     }
 
 clock_stands :
-    (w : TimedWorld) → IsHonest w → (i now asked : ℕ) (told : Origin) (real : ℕ) (old new : WatchState) (wall elapsed : ℕ) (output : Output) → Stands w i now asked told real old → elapsed ≤ w.reading now →
-    StepClock old wall elapsed output new → IsAlone new → Stands w i now (if list_any (λ (r : Request). r.entry == i) (requests_asked_by output.command) then now else asked) told real new
+    (w : TimedWorld) → IsHonest w → (i now asked : ℕ) (told : Origin) (real : ℕ) (old new : WatchState) (wall elapsed : ℕ) (output : WatchOutput) → Stands w i now asked told real old → elapsed ≤ w.reading now →
+    StepClock old wall elapsed output new → IsAlone new → Stands w i now (if list_any (λ (r : WatchRequest). r.entry == i) (requests_asked_by output.command) then now else asked) told real new
 clock_stands w honest i now asked told real old new wall elapsed output h read' step alone =
     let mid = pressed (readied old wall elapsed) (round_of step.round) in
     let ready = mid_is_ready w honest i now asked told real old wall elapsed (round_of step.round) h read' in
-    let after = if list_any (λ (r : Request). r.entry == i) (requests_asked_by output.command) then now else asked in
+    let after = if list_any (λ (r : WatchRequest). r.entry == i) (requests_asked_by output.command) then now else asked in
     subst (λ c. StandsBy w i now after told real c new) (sym (same_clocks mid new output.command step.command ∙ ready.clocks))
     (commanded w honest i now asked told real (clocks_after old wall elapsed) mid new output.command ready alone step.command)
 
@@ -285,7 +285,7 @@ unfolding without_request
 without_of P i out all = All-filter (λ q. not (q.entry == i)) P out all
 
 answered :
-    (w : TimedWorld) (i now asked : ℕ) (told after : Origin) (real : ℕ) (old mid new : WatchState) (q : Out) (reply : Reply) → new ≡ replied mid q reply → mid.out ≡ old.out → rest_of new ≡ rest_of old →
+    (w : TimedWorld) (i now asked : ℕ) (told after : Origin) (real : ℕ) (old mid new : WatchState) (q : Out) (reply : WatchReply) → new ≡ replied mid q reply → mid.out ≡ old.out → rest_of new ≡ rest_of old →
     IsAlone new → Stands w i now asked told real old → EndBy w old.clocks.phase real after (track_at mid i).end → Timely old.clocks.at (w.reading asked + old.clocks.phase) (track_at mid i) →
     Stands w i now asked after real new
 answered w i now asked told after real old mid new q reply is out rest alone h end timely =
@@ -338,13 +338,13 @@ module _ (w : TimedWorld) (honest : IsHonest w) (asked real : ℕ) (told o : Ori
     free = refl;
   }
 
-  untold_freed : (reply : Reply) → Freed w s.clocks.phase real told s.clocks.at (track_at (with_track s q.entry (untold_track s.clocks.at q.heard reply (track_at s q.entry))) q.entry)
+  untold_freed : (reply : WatchReply) → Freed w s.clocks.phase real told s.clocks.at (track_at (with_track s q.entry (untold_track s.clocks.at q.heard reply (track_at s q.entry))) q.entry)
   unfolding untold_track
   untold_freed reply =
       set_holds (Freed w s.clocks.phase real told s.clocks.at) (none_freed w s.clocks.phase real told s.clocks.at) s.tracks q.entry (untold_track s.clocks.at q.heard reply (track_at s q.entry))
       (record { end = end; base = untold_base s.clocks.at s.clocks.at q.heard reply (track_at s q.entry) (track_at s q.entry).attempt base; free = refl })
 
-  looked_freed : (reply : Reply) (terms : Terms) → IsTrueReply asked real o reply → Freed w s.clocks.phase real (if is_told reply then o else told) s.clocks.at (track_at (looked s q reply terms) q.entry)
+  looked_freed : (reply : WatchReply) (terms : WatchTerms) → IsTrueReply asked real o reply → Freed w s.clocks.phase real (if is_told reply then o else told) s.clocks.at (track_at (looked s q reply terms) q.entry)
   looked_freed (Told seconds renewable date) terms so =
       let i = q.entry in
       let P : Track → Type 0 = Freed w s.clocks.phase real o s.clocks.at in
@@ -372,18 +372,18 @@ module _ (w : TimedWorld) (honest : IsHonest w) (asked real : ℕ) (told o : Ori
         free = refl;
       }
 
-  ungranted_freed : (reply : Reply) → Freed w s.clocks.phase real told s.clocks.at (ungranted_track s.clocks.at q.heard reply (track_at s q.entry))
+  ungranted_freed : (reply : WatchReply) → Freed w s.clocks.phase real told s.clocks.at (ungranted_track s.clocks.at q.heard reply (track_at s q.entry))
   unfolding ungranted_track
   ungranted_freed reply = record { end = end; base = ungranted_base s.clocks.at s.clocks.at q.heard reply (track_at s q.entry) (track_at s q.entry).attempt base; free = refl }
 
-  renewed_made : (reply : Reply) → IsTrueReply asked real o reply → BaseBy (w.reading asked + s.clocks.phase) (track_at s q.entry).attempt → Freed w s.clocks.phase real (if is_told reply then o else told) s.clocks.at (track_renewed s q reply)
+  renewed_made : (reply : WatchReply) → IsTrueReply asked real o reply → BaseBy (w.reading asked + s.clocks.phase) (track_at s q.entry).attempt → Freed w s.clocks.phase real (if is_told reply then o else told) s.clocks.at (track_renewed s q reply)
   unfolding renewed_track
   renewed_made (Told seconds renewable date) so early = granted_freed s.forest.margin (entry_of s q.entry).step seconds renewable date so early
   renewed_made (Refused status date) so early = ungranted_freed (Refused status date)
   renewed_made Busy so early = ungranted_freed Busy
   renewed_made Lost so early = ungranted_freed Lost
 
-  renewed_freed : (reply : Reply) → IsTrueReply asked real o reply → BaseBy (w.reading asked + s.clocks.phase) (track_at s q.entry).attempt → Freed w s.clocks.phase real (if is_told reply then o else told) s.clocks.at (track_at (state_renewed s q reply) q.entry)
+  renewed_freed : (reply : WatchReply) → IsTrueReply asked real o reply → BaseBy (w.reading asked + s.clocks.phase) (track_at s q.entry).attempt → Freed w s.clocks.phase real (if is_told reply then o else told) s.clocks.at (track_at (state_renewed s q reply) q.entry)
   renewed_freed reply so early =
       let after = if is_told reply then o else told in
       set_holds (Freed w s.clocks.phase real after s.clocks.at) (none_freed w s.clocks.phase real after s.clocks.at) s.tracks q.entry (track_renewed s q reply) (renewed_made reply so early)
@@ -422,7 +422,7 @@ both_false false b h = refl
 
 -- the state before what an answer says of the broker, where it is of the entry itself, or of another
 own_answer :
-    (w : TimedWorld) (i now asked j : ℕ) (told o : Origin) (real : ℕ) (old mid new : WatchState) (q : Out) (reply : Reply) → new ≡ replied mid q reply → mid.out ≡ old.out → rest_of new ≡ rest_of old →
+    (w : TimedWorld) (i now asked j : ℕ) (told o : Origin) (real : ℕ) (old mid new : WatchState) (q : Out) (reply : WatchReply) → new ≡ replied mid q reply → mid.out ≡ old.out → rest_of new ≡ rest_of old →
     IsAlone new → q.entry ≡ j → Stands w i now asked told real old → (q.entry ≢ i → track_at mid i ≡ track_at old i) →
     (j ≡ i → q.entry ≡ i → Freed w old.clocks.phase real (if is_told reply then o else told) old.clocks.at (track_at mid q.entry)) →
     Stands w i now asked (if is_told reply && j == i then o else told) real new
@@ -448,7 +448,7 @@ own_answer w i now asked j told o real old mid new q reply is out rest alone ent
     ]
 
 looked_stands :
-    (w : TimedWorld) → IsHonest w → (i now asked j : ℕ) (told o : Origin) (real : ℕ) (old new : WatchState) (found : Option Out) (reply : Reply) (terms : Terms) (output : Output) → request_out old.out j Look ≡ found →
+    (w : TimedWorld) → IsHonest w → (i now asked j : ℕ) (told o : Origin) (real : ℕ) (old new : WatchState) (found : Option Out) (reply : WatchReply) (terms : WatchTerms) (output : WatchOutput) → request_out old.out j Look ≡ found →
     StepLooked old found reply terms output new → IsAlone new → (j ≡ i → IsTrueReply asked real o reply) → Stands w i now asked told real old →
     Stands w i now asked (if is_told reply && j == i then o else told) real new
 looked_stands w honest i now asked j told o real old new None reply terms output is step alone so h = absurd step
@@ -461,7 +461,7 @@ looked_stands w honest i now asked j told o real old new (Some q) reply terms ou
     (subst (λ k. EndBy w old.clocks.phase real told (track_at old k).end) (sym mine) h.end) reply terms (so same))
 
 renewed_stands :
-    (w : TimedWorld) → IsHonest w → (i now asked j : ℕ) (told o : Origin) (real : ℕ) (old new : WatchState) (found : Option Out) (reply : Reply) (output : Output) → request_out old.out j Renew ≡ found →
+    (w : TimedWorld) → IsHonest w → (i now asked j : ℕ) (told o : Origin) (real : ℕ) (old new : WatchState) (found : Option Out) (reply : WatchReply) (output : WatchOutput) → request_out old.out j Renew ≡ found →
     StepRenewed old found reply output new → IsAlone new → (j ≡ i → IsTrueReply asked real o reply) → Stands w i now asked told real old →
     Stands w i now asked (if is_told reply && j == i then o else told) real new
 renewed_stands w honest i now asked j told o real old new None reply output is step alone so h = absurd step
@@ -478,16 +478,16 @@ renewed_stands w honest i now asked j told o real old new (Some q) reply output 
     (out_base old.clocks.at n old j Renew q is h.alone (subst (λ k. Timely old.clocks.at n (track_at old k)) (sym same) h.timely)))))
 
 -- a step, and a turn
-quiet : (i now asked : ℕ) (output out : Output) → output ≡ out → requests_asked_by out.command ≡ [] → (if list_any (λ (r : Request). r.entry == i) (requests_asked_by output.command) then now else asked) ≡ asked
+quiet : (i now asked : ℕ) (output out : WatchOutput) → output ≡ out → requests_asked_by out.command ≡ [] → (if list_any (λ (r : WatchRequest). r.entry == i) (requests_asked_by output.command) then now else asked) ≡ asked
 quiet i now asked output out is none =
-    cond-false (list_any (λ (r : Request). r.entry == i) (requests_asked_by output.command)) now asked
-    (ap (λ (x : Output). list_any (λ (r : Request). r.entry == i) (requests_asked_by x.command)) is ∙ ap (list_any (λ (r : Request). r.entry == i)) none)
+    cond-false (list_any (λ (r : WatchRequest). r.entry == i) (requests_asked_by output.command)) now asked
+    (ap (λ (x : WatchOutput). list_any (λ (r : WatchRequest). r.entry == i) (requests_asked_by x.command)) is ∙ ap (list_any (λ (r : WatchRequest). r.entry == i)) none)
 
-looked_quiet : (i now asked : ℕ) (old new : WatchState) (found : Option Out) (reply : Reply) (terms : Terms) (output : Output) → StepLooked old found reply terms output new → (if list_any (λ (r : Request). r.entry == i) (requests_asked_by output.command) then now else asked) ≡ asked
+looked_quiet : (i now asked : ℕ) (old new : WatchState) (found : Option Out) (reply : WatchReply) (terms : WatchTerms) (output : WatchOutput) → StepLooked old found reply terms output new → (if list_any (λ (r : WatchRequest). r.entry == i) (requests_asked_by output.command) then now else asked) ≡ asked
 looked_quiet i now asked old new None reply terms output step = absurd step
 looked_quiet i now asked old new (Some q) reply terms output step = quiet i now asked output _ step.0 refl
 
-renewed_quiet : (i now asked : ℕ) (old new : WatchState) (found : Option Out) (reply : Reply) (output : Output) → StepRenewed old found reply output new → (if list_any (λ (r : Request). r.entry == i) (requests_asked_by output.command) then now else asked) ≡ asked
+renewed_quiet : (i now asked : ℕ) (old new : WatchState) (found : Option Out) (reply : WatchReply) (output : WatchOutput) → StepRenewed old found reply output new → (if list_any (λ (r : WatchRequest). r.entry == i) (requests_asked_by output.command) then now else asked) ≡ asked
 renewed_quiet i now asked old new None reply output step = absurd step
 renewed_quiet i now asked old new (Some q) reply output step = quiet i now asked output _ step.0 refl
 
@@ -536,11 +536,11 @@ known_stands w i now asked j told o real old new end renewable is alone so h =
           (stands told (subst (λ (x : Track). EndBy w c.phase real told x.end) (sym (get_or-set_other old.tracks j i y no_track apart)) h.end))
     ]
 
-abbrev Asked : ℕ → ℕ → ℕ → Result Output WatchFault → ℕ
-Asked i now asked result = if list_any (λ (r : Request). r.entry == i) (requests_at_turn result) then now else asked
+abbrev Asked : ℕ → ℕ → ℕ → Result WatchOutput WatchFault → ℕ
+Asked i now asked result = if list_any (λ (r : WatchRequest). r.entry == i) (requests_at_turn result) then now else asked
 
 step_stands :
-    (w : TimedWorld) → IsHonest w → (i asked : ℕ) (told : Origin) (l : Lived) (old : WatchState) (event : Event) (output : Output) (new : WatchState) → Stands w i l.at asked told l.real old →
+    (w : TimedWorld) → IsHonest w → (i asked : ℕ) (told : Origin) (l : Lived) (old : WatchState) (event : WatchEvent) (output : WatchOutput) (new : WatchState) → Stands w i l.at asked told l.real old →
     IsTrueEvent w i asked old l event → Step old event output new → IsAlone new → Stands w i l.at (Asked i l.at asked (Ok output)) (if tells i event then l.origin else told) l.real new
 step_stands w honest i asked told l old (Clock wall elapsed) output new h so step alone = clock_stands w honest i l.at asked told l.real old new wall elapsed output h so step alone
 step_stands w honest i asked told l old (Looked j reply terms) output new h so step alone =
@@ -560,7 +560,7 @@ step_stands w honest i asked told l old (Known j end renewable) output new h so 
     (known_stands w i l.at asked j told l.origin l.real old new end renewable step.1 alone so h)
 
 turn_stands :
-    (w : TimedWorld) → IsHonest w → (i asked : ℕ) (told : Origin) (l : Lived) (old : WatchState) (event : Event) (result : Result Output WatchFault) (new : WatchState) → Stands w i l.at asked told l.real old →
+    (w : TimedWorld) → IsHonest w → (i asked : ℕ) (told : Origin) (l : Lived) (old : WatchState) (event : WatchEvent) (result : Result WatchOutput WatchFault) (new : WatchState) → Stands w i l.at asked told l.real old →
     IsTrueEvent w i asked old l event → Turn old event result new → Stands w i l.at (Asked i l.at asked result) (if is_event_taken result && tells i event then l.origin else told) l.real new
 turn_stands w honest i asked told l old event (Ok output) new h so turn = step_stands w honest i asked told l old event output new h so turn.1 (turn_alone old new event (Ok output) turn h.alone)
 turn_stands w honest i asked told l old event (Err fault) new h so turn = subst (Stands w i l.at asked told l.real) (sym (refused_stays old new event fault turn)) h
@@ -574,23 +574,23 @@ same_clock w now old new clocks begun' h = record {
   unbegun = λ none. let first = h.unbegun (ap is_none (sym begun') ∙ none) in (ap (λ (c : Clocks). c.at) clocks ∙ first.0, ap (λ (c : Clocks). c.phase) clocks ∙ first.1);
 }
 
-same_begun : (mid new : WatchState) (command : Command) → StepCommand mid command new → new.begun ≡ mid.begun
+same_begun : (mid new : WatchState) (command : WatchCommand) → StepCommand mid command new → new.begun ≡ mid.begun
 same_begun mid new (Go requests until) step = ap (λ (x : WatchState). x.begun) step.0.1
 same_begun mid new Taken step = absurd step
 
-looked_clock : (w : TimedWorld) (now : ℕ) (old new : WatchState) (found : Option Out) (reply : Reply) (terms : Terms) (output : Output) → StepLooked old found reply terms output new → HasClock w now old → HasClock w now new
+looked_clock : (w : TimedWorld) (now : ℕ) (old new : WatchState) (found : Option Out) (reply : WatchReply) (terms : WatchTerms) (output : WatchOutput) → StepLooked old found reply terms output new → HasClock w now old → HasClock w now new
 looked_clock w now old new None reply terms output step h = absurd step
 looked_clock w now old new (Some q) reply terms output step h =
     let rest = ap rest_of step.1 ∙ looked_leaves old q reply terms in
     same_clock w now old new (ap (λ (x : WatchState). x.clocks) rest) (ap (λ (x : WatchState). x.begun) rest) h
 
-renewed_clock : (w : TimedWorld) (now : ℕ) (old new : WatchState) (found : Option Out) (reply : Reply) (output : Output) → StepRenewed old found reply output new → HasClock w now old → HasClock w now new
+renewed_clock : (w : TimedWorld) (now : ℕ) (old new : WatchState) (found : Option Out) (reply : WatchReply) (output : WatchOutput) → StepRenewed old found reply output new → HasClock w now old → HasClock w now new
 renewed_clock w now old new None reply output step h = absurd step
 renewed_clock w now old new (Some q) reply output step h =
     let rest = ap rest_of step.1 ∙ renewed_leaves old q reply in
     same_clock w now old new (ap (λ (x : WatchState). x.clocks) rest) (ap (λ (x : WatchState). x.begun) rest) h
 
-step_clock : (w : TimedWorld) (now : ℕ) (old new : WatchState) (event : Event) (output : Output) → Step old event output new → IsTrueReading w now event → HasClock w now old → HasClock w now new
+step_clock : (w : TimedWorld) (now : ℕ) (old new : WatchState) (event : WatchEvent) (output : WatchOutput) → Step old event output new → IsTrueReading w now event → HasClock w now old → HasClock w now new
 step_clock w now old new (Clock wall elapsed) output step read' h =
     let mid = pressed (readied old wall elapsed) (round_of step.round) in
     let on = clocks_on w now old wall elapsed h read' in
@@ -606,11 +606,11 @@ step_clock w now old new (Looked j reply terms) output step read' h = looked_clo
 step_clock w now old new (Renewed j reply) output step read' h = renewed_clock w now old new (request_out old.out j Renew) reply output step h
 step_clock w now old new _ output step read' h = same_clock w now old new (ap (λ (x : WatchState). x.clocks) step.1) (ap (λ (x : WatchState). x.begun) step.1) h
 
-turn_clock : (w : TimedWorld) (now : ℕ) (old new : WatchState) (event : Event) (result : Result Output WatchFault) → Turn old event result new → IsTrueReading w now event → HasClock w now old → HasClock w now new
+turn_clock : (w : TimedWorld) (now : ℕ) (old new : WatchState) (event : WatchEvent) (result : Result WatchOutput WatchFault) → Turn old event result new → IsTrueReading w now event → HasClock w now old → HasClock w now new
 turn_clock w now old new event (Ok output) turn read' h = step_clock w now old new event output turn.1 read' h
 turn_clock w now old new event (Err fault) turn read' h = subst (HasClock w now) (sym (refused_stays old new event fault turn)) h
 
-true_reading : (w : TimedWorld) (i asked : ℕ) (s : WatchState) (l : Lived) (event : Event) → IsTrueEvent w i asked s l event → IsTrueReading w l.at event
+true_reading : (w : TimedWorld) (i asked : ℕ) (s : WatchState) (l : Lived) (event : WatchEvent) → IsTrueEvent w i asked s l event → IsTrueReading w l.at event
 true_reading w i asked s l (Clock wall elapsed) so = so
 true_reading w i asked s l _ so = tt
 
@@ -642,7 +642,7 @@ turn_of w honest (Some i) last asked told real l old turn le far h so of = λ wi
 
 asked_past : (e : Option ℕ) (asked : ℕ) (l : Lived) (h : Happening) → asked ≤ l.at → asked_at e asked l h ≤ l.at
 asked_past None asked l h le = le
-asked_past (Some i) asked l (Hands turn) le = if_both (λ n. n ≤ l.at) (list_any (λ (r : Request). r.entry == i) (requests_at_turn turn.result)) l.at asked (omega arith) le
+asked_past (Some i) asked l (Hands turn) le = if_both (λ n. n ≤ l.at) (list_any (λ (r : WatchRequest). r.entry == i) (requests_at_turn turn.result)) l.at asked (omega arith) le
 asked_past (Some i) asked l (Changes c) le = le
 
 reads : (w : TimedWorld) (e : Option ℕ) (asked : ℕ) (s : WatchState) (l : Lived) (turn : Turned) → IsTrueAt w e asked s l (Hands turn) → IsTrueReading w l.at turn.event

@@ -7,12 +7,12 @@ use Rattle.std.specs.List.{list_any}
 use Rattle.plan_forest.specs.declared.entry.Entry.{Entry}
 use Rattle.plan_forest.specs.Forest.{entry_at}
 use Rattle.watch_machine.specs.declared.event.Operation.TheVariants.{Look, Renew}
-use Rattle.watch_machine.specs.declared.event.Reply.{Reply}
-use Rattle.watch_machine.specs.declared.event.Reply.TheVariants.{Told, Refused, Busy, Lost}
-use Rattle.watch_machine.specs.declared.lanes.Answer.{Answer}
+use Rattle.watch_machine.specs.declared.event.WatchReply.{WatchReply}
+use Rattle.watch_machine.specs.declared.event.WatchReply.TheVariants.{Told, Refused, Busy, Lost}
+use Rattle.watch_machine.specs.declared.lanes.LaneAnswer.{LaneAnswer}
 use Rattle.watch_machine.specs.declared.lanes.Out.{Out}
 use Rattle.watch_machine.specs.declared.lanes.Presence.{Presence}
-use Rattle.watch_machine.specs.declared.notes.Why.{Why}
+use Rattle.watch_machine.specs.declared.notes.BeginReason.{BeginReason}
 use Rattle.watch_machine.specs.declared.track.End.TheVariants.{At}
 use Rattle.watch_machine.specs.declared.track.Track.{Track}
 use Rattle.watch_machine.specs.declared.track.Try.{Try}
@@ -129,7 +129,7 @@ mid_steady s round i bound S h =
     (pressed_stands c.at bound S g.margin (entry_at g.entries i) (need_of g.entries s.tracks c i) (track_at s i) h)))
 
 -- with or without a beginning
-pub begun_steady : (s : WatchState) (w : Option Why) (round : List ℕ) (i bound : ℕ) (S : Type 0) → Steady s.clocks.at bound S (track_at s i) → Steady s.clocks.at bound S (track_at (pressed (begun s w) round) i)
+pub begun_steady : (s : WatchState) (w : Option BeginReason) (round : List ℕ) (i bound : ℕ) (S : Type 0) → Steady s.clocks.at bound S (track_at s i) → Steady s.clocks.at bound S (track_at (pressed (begun s w) round) i)
 begun_steady s None round i bound S h = mid_steady (begun s None) round i bound S h
 begun_steady s (Some w) round i bound S h =
     let at = s.clocks.at in
@@ -338,19 +338,19 @@ back_backs x = record { end = refl; last = refl; out = refl; pressed = back_pres
   by (Some t) same u is = (t, (same, back_from x t u is))
 
 -- what an answer says of the broker
-real_hold : (s : WatchState) (q : Out) (reply : Reply) → is_real reply ≡ true → (s.presence.away ≡ false → s.presence.hold ≡ 0) → (replied s q reply).presence.hold ≡ 0
+real_hold : (s : WatchState) (q : Out) (reply : WatchReply) → is_real reply ≡ true → (s.presence.away ≡ false → s.presence.hold ≡ 0) → (replied s q reply).presence.hold ≡ 0
 real_hold s q reply real none =
     let free = lane_freed s q in
     ap (λ (t : WatchState). t.presence.hold) (cond-true (is_real reply) (answers_all free) (if q.heard then free else silent free) real)
     ∙ if_cases (λ (t : WatchState). t.presence.hold ≡ 0) s.presence.away (record free { out = _; tracks = each (λ i. back_track) s.tracks; presence = is_back s.presence }) _ (λ e. refl) none
 
-pub real_away : (s : WatchState) (q : Out) (reply : Reply) → is_real reply ≡ true → (replied s q reply).presence.away ≡ false
+pub real_away : (s : WatchState) (q : Out) (reply : WatchReply) → is_real reply ≡ true → (replied s q reply).presence.away ≡ false
 real_away s q reply real =
     let free = lane_freed s q in
     ap (λ (t : WatchState). t.presence.away) (cond-true (is_real reply) (answers_all free) (if q.heard then free else silent free) real)
     ∙ if_cases (λ (t : WatchState). t.presence.away ≡ false) s.presence.away (record free { out = _; tracks = each (λ i. back_track) s.tracks; presence = is_back s.presence }) _ (λ e. refl) (λ there. there)
 
-replied_answers : (s : WatchState) (q : Out) (reply : Reply) → (replied s q reply).answers ≡ s.answers
+replied_answers : (s : WatchState) (q : Out) (reply : WatchReply) → (replied s q reply).answers ≡ s.answers
 replied_answers s q reply =
     let free = lane_freed s q in
     let P : WatchState → Type 0 = λ t. t.answers ≡ s.answers in
@@ -381,7 +381,7 @@ lost_tracks s q i =
     if_both P q.heard free (silent free) refl (if_both P s.presence.away free (record free { presence = presence_gone s.presence }) refl refl)
 
 -- the answers since the last clock, after one more
-any_kept : (test : Answer → Bool) (xs ys : List Answer) → list_any test xs ≡ true → list_any test (xs ++ ys) ≡ true
+any_kept : (test : LaneAnswer → Bool) (xs ys : List LaneAnswer) → list_any test xs ≡ true → list_any test (xs ++ ys) ≡ true
 any_kept test [] ys h = absurd cc
 any_kept test (x ∷ xs) ys h =
     elim (cases_Bool (test x)) as (λ _. test x || list_any test (xs ++ ys) ≡ true) [
@@ -389,20 +389,20 @@ any_kept test (x ∷ xs) ys h =
       | inr there ↦ ap (λ b. b || list_any test (xs ++ ys)) there ∙ any_kept test xs ys (sym (ap (λ b. b || list_any test xs) there) ∙ h)
     ]
 
-any_added : (test : Answer → Bool) (xs : List Answer) (a : Answer) → test a ≡ true → list_any test (xs ++ a ∷ []) ≡ true
+any_added : (test : LaneAnswer → Bool) (xs : List LaneAnswer) (a : LaneAnswer) → test a ≡ true → list_any test (xs ++ a ∷ []) ≡ true
 any_added test [] a h = ap (λ b. b || false) h
 any_added test (x ∷ xs) a h = or_right (test x) (list_any test (xs ++ a ∷ [])) (any_added test xs a h)
 
 -- an answer: mid is the state before what it says of the broker
-pub record IsAnswered (old mid new : WatchState) (q : Out) (reply : Reply) : Type 0 where
+pub record IsAnswered (old mid new : WatchState) (q : Out) (reply : WatchReply) : Type 0 where
   pub is : new ≡ replied mid q reply
   pub presence : mid.presence ≡ old.presence
   pub clocks : new.clocks ≡ old.clocks
   pub outs : mid.out ≡ old.out
   pub answers : mid.answers ≡ old.answers ++ record { since = q.since; heard = q.heard; reply = reply } ∷ []
 
-module _ (old mid new : WatchState) (q : Out) (reply : Reply) (a : IsAnswered old mid new q reply) where
-  abbrev answer : Answer
+module _ (old mid new : WatchState) (q : Out) (reply : WatchReply) (a : IsAnswered old mid new q reply) where
+  abbrev answer : LaneAnswer
   answer = record { since = q.since; heard = q.heard; reply = reply }
 
   pub after : new.answers ≡ old.answers ++ answer ∷ []
@@ -410,12 +410,12 @@ module _ (old mid new : WatchState) (q : Out) (reply : Reply) (a : IsAnswered ol
 
   pub new_backs : (i : ℕ) → Backs (track_at new i) (track_at mid i)
   new_backs i = subst (λ (x : WatchState). Backs (track_at x i) (track_at mid i)) (sym a.is) (back_kept_all mid q reply i) where
-    back_kept_all : (t : WatchState) (r : Out) (w : Reply) (k : ℕ) → Backs (track_at (replied t r w) k) (track_at t k)
+    back_kept_all : (t : WatchState) (r : Out) (w : WatchReply) (k : ℕ) → Backs (track_at (replied t r w) k) (track_at t k)
     back_kept_all t r w k = back_kept Backs same_backs back_backs t r w k
 
 -- a real one to another: nothing is held back
 pub real_endures :
-    (o : Outage) (i end bound due : ℕ) (miss : Type 0) (old mid new : WatchState) (q : Out) (reply : Reply) → IsAnswered old mid new q reply → track_at mid i ≡ track_at old i →
+    (o : Outage) (i end bound due : ℕ) (miss : Type 0) (old mid new : WatchState) (q : Out) (reply : WatchReply) → IsAnswered old mid new q reply → track_at mid i ≡ track_at old i →
     is_real reply ≡ true → (old.presence.away ≡ false → old.presence.hold ≡ 0) → Endures o i end bound due miss old → Endures o i end bound due miss new
 unfolding Kept Missed
 real_endures o i end bound due miss old mid new q reply a same real none h =
@@ -480,7 +480,7 @@ pub record IsFailed (y x : Track) : Type 0 where
 
 -- a real one to the entry itself, to a request that the outage cut: it fails, and nothing is held back
 pub refused_endures :
-    (o : Outage) (i end bound due : ℕ) (miss : Type 0) (old mid new : WatchState) (q : Out) (reply : Reply) → IsAnswered old mid new q reply → is_real reply ≡ true → (old.presence.away ≡ false → old.presence.hold ≡ 0) →
+    (o : Outage) (i end bound due : ℕ) (miss : Type 0) (old mid new : WatchState) (q : Out) (reply : WatchReply) → IsAnswered old mid new q reply → is_real reply ≡ true → (old.presence.away ≡ false → old.presence.hold ≡ 0) →
     is_request_whole o q.since ≡ false → due ≤ outage_settled_by o q.since + o.late → Cutting o i bound miss old q → q.entry ≡ i → IsFailed (track_at mid i) (track_at old i) → Endures o i end bound due miss old →
     Endures o i end bound due miss new
 unfolding Kept Missed
@@ -621,11 +621,11 @@ module _ (o : Outage) (i end bound due : ℕ) (miss : Type 0) (old mid new : Wat
 abbrev Failing : Try → Try → Type 0
 Failing t v = (v.pressed ≡ t.pressed) × (v.pressed ≡ true → v.failed ≡ true)
 
-ungranted_fails : (at : ℕ) (heard : Bool) (reply : Reply) (x : Track) (t : Try) → is_told reply ≡ false → Failing t (ungranted_try at heard reply x t)
+ungranted_fails : (at : ℕ) (heard : Bool) (reply : WatchReply) (x : Track) (t : Try) → is_told reply ≡ false → Failing t (ungranted_try at heard reply x t)
 ungranted_fails at heard (Told seconds renewable date) x t untold' = absurd (true≢false untold')
 ungranted_fails at heard _ x t untold' = (refl, λ p. refl)
 
-untold_fails : (at : ℕ) (heard : Bool) (reply : Reply) (x : Track) (t : Try) → is_told reply ≡ false → Failing t (untold_try at heard reply x t)
+untold_fails : (at : ℕ) (heard : Bool) (reply : WatchReply) (x : Track) (t : Try) → is_told reply ≡ false → Failing t (untold_try at heard reply x t)
 untold_fails at heard (Told seconds renewable date) x t untold' = absurd (true≢false untold')
 untold_fails at heard (Refused status date) x t untold' =
     if_both (Failing t) (is_open (sec at) x) (if t.pressed then failing t Renew false false else record (failing t Renew false false) { at = at; failed = false }) (failing t Look false false)
@@ -636,7 +636,7 @@ untold_fails at heard _ x t untold' = (refl, λ p. refl)
 fails_so : (t v u : Try) → Failing t v → Some v ≡ Some u → u.pressed ≡ true → u.failed ≡ true
 fails_so t v u h is = subst (λ (w : Try). w.pressed ≡ true → w.failed ≡ true) (value_is v u is) h.1
 
-pub ungranted_failed : (at : ℕ) (heard : Bool) (reply : Reply) (x : Track) → is_told reply ≡ false → IsFailed (ungranted_track at heard reply x) x
+pub ungranted_failed : (at : ℕ) (heard : Bool) (reply : WatchReply) (x : Track) → is_told reply ≡ false → IsFailed (ungranted_track at heard reply x) x
 unfolding ungranted_track
 ungranted_failed at heard reply x untold' = record { end = refl; last = refl; out = refl; pressed = pressed' x.attempt; failed = failed' x.attempt } where
   pressed' : (o : Option Try) → is_pressed_try (ungranted at heard reply x o) ≡ is_pressed_try o
@@ -647,7 +647,7 @@ ungranted_failed at heard reply x untold' = record { end = refl; last = refl; ou
   failed' None u is = absurd cc
   failed' (Some t) u is = fails_so t (ungranted_try at heard reply x t) u (ungranted_fails at heard reply x t untold') is
 
-pub untold_failed : (at : ℕ) (heard : Bool) (reply : Reply) (x : Track) → is_told reply ≡ false → IsFailed (untold_track at heard reply x) x
+pub untold_failed : (at : ℕ) (heard : Bool) (reply : WatchReply) (x : Track) → is_told reply ≡ false → IsFailed (untold_track at heard reply x) x
 unfolding untold_track
 untold_failed at heard reply x untold' = record { end = refl; last = refl; out = refl; pressed = pressed' x.attempt; failed = failed' x.attempt } where
   pressed' : (o : Option Try) → is_pressed_try (untold at heard reply x o) ≡ is_pressed_try o

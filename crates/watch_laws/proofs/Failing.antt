@@ -1,13 +1,13 @@
 -- Failing: what an answer that tells nothing leaves of a try. For the law of failures.
 use Rattle.std.proofs.Common.{◌≡◌, ◌∙◌, ◌⊎◌, ℕ, Bool, true, false, if◌then◌else◌, [], ◌∷◌, Option, Some, None, Result, Ok, Err, IfSome, min, refl, sym, ap, subst, arith, inl, inr, true≢false}
 use Rattle.std.proofs.lemmas.Bool.{cond-true}
-use Rattle.watch_machine.specs.declared.command.Output.{Output}
-use Rattle.watch_machine.specs.declared.event.Event.{Event}
-use Rattle.watch_machine.specs.declared.event.Event.TheVariants.{Clock, Looked, Renewed, Need, Begin, Known}
+use Rattle.watch_machine.specs.declared.command.WatchOutput.{WatchOutput}
+use Rattle.watch_machine.specs.declared.event.WatchEvent.{WatchEvent}
+use Rattle.watch_machine.specs.declared.event.WatchEvent.TheVariants.{Clock, Looked, Renewed, Need, Begin, Known}
 use Rattle.watch_machine.specs.declared.event.Operation.TheVariants.{Look, Renew}
-use Rattle.watch_machine.specs.declared.event.Reply.{Reply}
-use Rattle.watch_machine.specs.declared.event.Reply.TheVariants.{Told, Refused, Busy, Lost}
-use Rattle.watch_machine.specs.declared.event.Terms.{Terms}
+use Rattle.watch_machine.specs.declared.event.WatchReply.{WatchReply}
+use Rattle.watch_machine.specs.declared.event.WatchReply.TheVariants.{Told, Refused, Busy, Lost}
+use Rattle.watch_machine.specs.declared.event.WatchTerms.{WatchTerms}
 use Rattle.watch_machine.specs.declared.fault.WatchFault.{WatchFault}
 use Rattle.watch_machine.specs.declared.lanes.Out.{Out}
 use Rattle.watch_machine.specs.declared.track.Track.{Track}
@@ -120,7 +120,7 @@ busy_made : (margin step at : ℕ) (q : Out) (x : Track) → IsLostNow (renewed_
 unfolding renewed_track ungranted_track
 busy_made margin step at q x = record { out = refl; attempt = busy_renewal at q.heard x x.attempt }
 
-renewed_fails : (s : WatchState) (q : Out) (reply : Reply) → RenewalFails s.presence.away reply (track_at (replied (state_renewed s q reply) q reply) q.entry)
+renewed_fails : (s : WatchState) (q : Out) (reply : WatchReply) → RenewalFails s.presence.away reply (track_at (replied (state_renewed s q reply) q reply) q.entry)
 renewed_fails s q (Told seconds renewable date) = tt
 renewed_fails s q (Refused status date) =
     back_kept (λ y x. IsRefused x → IsRefused y) (λ x h. h) (λ x. back_renewal x) (state_renewed s q (Refused status date)) q (Refused status date) q.entry
@@ -161,7 +161,7 @@ busy_look : (at : ℕ) (heard : Bool) (x : Track) → IsLostNow (untold_track at
 unfolding untold_track
 busy_look at heard x = record { out = refl; attempt = busy_lookup at heard x x.attempt }
 
-looked_fails : (s : WatchState) (q : Out) (reply : Reply) (terms : Terms) → LookupFails s.presence.away s.clocks.at reply (track_at (replied (looked s q reply terms) q reply) q.entry)
+looked_fails : (s : WatchState) (q : Out) (reply : WatchReply) (terms : WatchTerms) → LookupFails s.presence.away s.clocks.at reply (track_at (replied (looked s q reply terms) q reply) q.entry)
 looked_fails s q (Told seconds renewable date) terms = tt
 looked_fails s q (Refused status date) terms =
     let y = untold_track s.clocks.at q.heard (Refused status date) (track_at s q.entry) in
@@ -176,7 +176,7 @@ looked_fails s q Lost terms =
 
 -- a turn
 looked_step :
-    (old new : WatchState) (found : Option Out) (i : ℕ) (reply : Reply) (terms : Terms) (output : Output) → request_out old.out i Look ≡ found → StepLooked old found reply terms output new →
+    (old new : WatchState) (found : Option Out) (i : ℕ) (reply : WatchReply) (terms : WatchTerms) (output : WatchOutput) → request_out old.out i Look ≡ found → StepLooked old found reply terms output new →
     LookupFails old.presence.away new.clocks.at reply (track_at new i)
 looked_step old new None i reply terms output is step = absurd step
 looked_step old new (Some q) i reply terms output is step =
@@ -187,19 +187,19 @@ looked_step old new (Some q) i reply terms output is step =
     (subst (λ (x : WatchState). LookupFails old.presence.away s.clocks.at reply (track_at x q.entry)) (sym step.1) (looked_fails s q reply terms)))
 
 renewed_step :
-    (old new : WatchState) (found : Option Out) (i : ℕ) (reply : Reply) (output : Output) → request_out old.out i Renew ≡ found → StepRenewed old found reply output new →
+    (old new : WatchState) (found : Option Out) (i : ℕ) (reply : WatchReply) (output : WatchOutput) → request_out old.out i Renew ≡ found → StepRenewed old found reply output new →
     RenewalFails old.presence.away reply (track_at new i)
 renewed_step old new None i reply output is step = absurd step
 renewed_step old new (Some q) i reply output is step =
     subst (λ k. RenewalFails old.presence.away reply (track_at new k)) (out_entry old.out i Renew q is)
     (subst (λ (x : WatchState). RenewalFails old.presence.away reply (track_at x q.entry)) (sym step.1) (renewed_fails (noted old q reply) q reply))
 
-step_fails : (old new : WatchState) (event : Event) (output : Output) → Step old event output new → FailsTaken old event new
+step_fails : (old new : WatchState) (event : WatchEvent) (output : WatchOutput) → Step old event output new → FailsTaken old event new
 step_fails old new (Looked i reply terms) output step = looked_step old new (request_out old.out i Look) i reply terms output refl step
 step_fails old new (Renewed i reply) output step = renewed_step old new (request_out old.out i Renew) i reply output refl step
 step_fails old new _ output step = tt
 
-turn_fails : (old new : WatchState) (event : Event) (result : Result Output WatchFault) → Turn old event result new → FailsRight old event result new
+turn_fails : (old new : WatchState) (event : WatchEvent) (result : Result WatchOutput WatchFault) → Turn old event result new → FailsRight old event result new
 turn_fails old new event (Ok output) turn = step_fails old new event output turn.1
 turn_fails old new event (Err fault) turn = tt
 

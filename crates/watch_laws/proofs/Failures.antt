@@ -1,14 +1,14 @@
 -- Failures: what a reply that tells nothing makes of a try. For the law of what is asked after a failure.
 use Rattle.std.proofs.Common.{◌≡◌, ◌∙◌, ℕ, ◌<◌, Bool, true, false, not, ◌&&◌, if◌then◌else◌, Option, Some, None, Result, Ok, Err, length, refl, sym, ap, subst, true≢false}
 use Rattle.std.proofs.lemmas.List.{get_or-set_same}
-use Rattle.watch_machine.specs.declared.command.Output.{Output}
-use Rattle.watch_machine.specs.declared.event.Event.{Event}
-use Rattle.watch_machine.specs.declared.event.Event.TheVariants.{Looked, Renewed}
+use Rattle.watch_machine.specs.declared.command.WatchOutput.{WatchOutput}
+use Rattle.watch_machine.specs.declared.event.WatchEvent.{WatchEvent}
+use Rattle.watch_machine.specs.declared.event.WatchEvent.TheVariants.{Looked, Renewed}
 use Rattle.watch_machine.specs.declared.event.Operation.{Operation}
 use Rattle.watch_machine.specs.declared.event.Operation.TheVariants.{Look, Renew}
-use Rattle.watch_machine.specs.declared.event.Reply.{Reply}
-use Rattle.watch_machine.specs.declared.event.Reply.TheVariants.{Told, Refused, Busy, Lost}
-use Rattle.watch_machine.specs.declared.event.Terms.{Terms}
+use Rattle.watch_machine.specs.declared.event.WatchReply.{WatchReply}
+use Rattle.watch_machine.specs.declared.event.WatchReply.TheVariants.{Told, Refused, Busy, Lost}
+use Rattle.watch_machine.specs.declared.event.WatchTerms.{WatchTerms}
 use Rattle.watch_machine.specs.declared.fault.WatchFault.{WatchFault}
 use Rattle.watch_machine.specs.declared.lanes.Out.{Out}
 use Rattle.watch_machine.specs.declared.track.Track.{Track}
@@ -50,28 +50,28 @@ module _ (Q : Try → Type 0) (again : (t : Try) (from : ℕ) → t.lost ≡ tru
   unfolding back_track
   back_free x h = (h.0, back_some x x.attempt h.0 h.1)
 
-  pub set_free : (s : WatchState) (q : Out) (reply : Reply) (y : Track) → Free y → Free (track_at (replied (with_track s q.entry y) q reply) q.entry)
+  pub set_free : (s : WatchState) (q : Out) (reply : WatchReply) (y : Track) → Free y → Free (track_at (replied (with_track s q.entry y) q reply) q.entry)
   set_free s q reply y h = back_kept (λ z x. Free x → Free z) (λ x k. k) (λ x. back_free x) (with_track s q.entry y) q reply q.entry (set_holds Free none_free s.tracks q.entry y h)
 
 -- a failure, by what is asked next
-again_failure : (t : Try) (reply : Reply) (heard : Bool) (next : Operation) (u : Try) (from : ℕ) → u.lost ≡ true → IsFailure t u reply heard next → IsFailure t (due_again u from) reply heard next
+again_failure : (t : Try) (reply : WatchReply) (heard : Bool) (next : Operation) (u : Try) (from : ℕ) → u.lost ≡ true → IsFailure t u reply heard next → IsFailure t (due_again u from) reply heard next
 again_failure t reply heard next u from lost h = record { fails = h.fails; base = h.base; alone = h.alone; pressed = h.pressed; operation = h.operation }
 
 -- a renewal
 ungranted_fails :
-    (at : ℕ) (heard : Bool) (reply : Reply) (x : Track) (t : Try) → is_told reply ≡ false → IsFailure t (ungranted_try at heard reply x t) reply heard (asked_after_renewal reply (is_alive (sec at) x))
+    (at : ℕ) (heard : Bool) (reply : WatchReply) (x : Track) (t : Try) → is_told reply ≡ false → IsFailure t (ungranted_try at heard reply x t) reply heard (asked_after_renewal reply (is_alive (sec at) x))
 ungranted_fails at heard (Told seconds renewable date) x t none = absurd cc
 ungranted_fails at heard _ x t none = record { fails = refl; base = refl; alone = refl; pressed = refl; operation = refl }
 
 ungranted_some :
-    (at : ℕ) (heard : Bool) (reply : Reply) (x : Track) (t u : Try) → is_told reply ≡ false → x.attempt ≡ Some t → ungranted at heard reply x x.attempt ≡ Some u →
+    (at : ℕ) (heard : Bool) (reply : WatchReply) (x : Track) (t u : Try) → is_told reply ≡ false → x.attempt ≡ Some t → ungranted at heard reply x x.attempt ≡ Some u →
     IsFailure t u reply heard (asked_after_renewal reply (is_alive (sec at) x))
 ungranted_some at heard reply x t u none is there =
     subst (λ v. IsFailure t v reply heard (asked_after_renewal reply (is_alive (sec at) x)))
     (value_is (ungranted_try at heard reply x t) u (sym (ap (ungranted at heard reply x) is) ∙ there)) (ungranted_fails at heard reply x t none)
 
 renewed_fails :
-    (margin step at : ℕ) (q : Out) (reply : Reply) (x : Track) (t : Try) → is_told reply ≡ false → x.attempt ≡ Some t →
+    (margin step at : ℕ) (q : Out) (reply : WatchReply) (x : Track) (t : Try) → is_told reply ≡ false → x.attempt ≡ Some t →
     Free (λ u. IsFailure t u reply q.heard (asked_after_renewal reply (is_alive (sec at) x))) (again_failure t reply q.heard (asked_after_renewal reply (is_alive (sec at) x))) (renewed_track margin step at q reply x)
 unfolding renewed_track ungranted_track
 renewed_fails margin step at q (Told seconds renewable date) x t none is = absurd cc
@@ -79,7 +79,7 @@ renewed_fails margin step at q (Refused status date) x t none is = (refl, λ u t
 renewed_fails margin step at q Busy x t none is = (refl, λ u there. ungranted_some at q.heard Busy x t u none is there)
 renewed_fails margin step at q Lost x t none is = (refl, λ u there. ungranted_some at q.heard Lost x t u none is there)
 
-renewed_owes : (margin step at : ℕ) (q : Out) (reply : Reply) (x : Track) → is_told reply ≡ false → (renewed_track margin step at q reply x).owes ≡ x.owes
+renewed_owes : (margin step at : ℕ) (q : Out) (reply : WatchReply) (x : Track) → is_told reply ≡ false → (renewed_track margin step at q reply x).owes ≡ x.owes
 unfolding renewed_track ungranted_track
 renewed_owes margin step at q (Told seconds renewable date) x none = absurd cc
 renewed_owes margin step at q _ x none = refl
@@ -89,17 +89,17 @@ unfolding back_track
 back_owes owes x h = h
 
 -- what is owed of an entry after the answer, by what is owed of the track that it makes
-replied_owes : (s : WatchState) (q : Out) (reply : Reply) (y : Track) (owes : Bool) → q.entry < length s.tracks → y.owes ≡ owes → (track_at (replied (with_track s q.entry y) q reply) q.entry).owes ≡ owes
+replied_owes : (s : WatchState) (q : Out) (reply : WatchReply) (y : Track) (owes : Bool) → q.entry < length s.tracks → y.owes ≡ owes → (track_at (replied (with_track s q.entry y) q reply) q.entry).owes ≡ owes
 replied_owes s q reply y owes within is =
     back_kept (λ z w. w.owes ≡ owes → z.owes ≡ owes) (λ w k. k) (λ w. back_owes owes w) (with_track s q.entry y) q reply q.entry
     (ap (λ (w : Track). w.owes) (get_or-set_same s.tracks q.entry y no_track within) ∙ is)
 
-abbrev LeftByRenewal : WatchState → ℕ → Try → Try → Reply → Bool → WatchState → Type 0
+abbrev LeftByRenewal : WatchState → ℕ → Try → Try → WatchReply → Bool → WatchState → Type 0
 LeftByRenewal old i t u reply heard new =
     IsFailure t u reply heard (asked_after_renewal reply (is_alive (second old) (track_at old i))) × ((track_at new i).owes ≡ (track_at old i).owes)
 
 renewal_step :
-    (old new : WatchState) (found : Option Out) (i : ℕ) (reply : Reply) (output : Output) (t u : Try) (q : Out) → request_out old.out i Renew ≡ found → found ≡ Some q → StepRenewed old found reply output new → is_told reply ≡ false →
+    (old new : WatchState) (found : Option Out) (i : ℕ) (reply : WatchReply) (output : WatchOutput) (t u : Try) (q : Out) → request_out old.out i Renew ≡ found → found ≡ Some q → StepRenewed old found reply output new → is_told reply ≡ false →
     attempt_at old i ≡ Some t → attempt_at new i ≡ Some u → LeftByRenewal old i t u reply q.heard new
 renewal_step old new None i reply output t u q is some step none before after = absurd step
 renewal_step old new (Some r) i reply output t u q is some step none before after =
@@ -116,7 +116,7 @@ renewal_step old new (Some r) i reply output t u q is some step none before afte
     (subst (λ k. LeftByRenewal old k t u reply r.heard new) own (h.1 u there, ap (λ (x : WatchState). (track_at x r.entry).owes) step.1 ∙ owes))
 
 renewal_turn :
-    (old new : WatchState) (event : Event) (result : Result Output WatchFault) (i : ℕ) (reply : Reply) (t u : Try) (q : Out) → Turn old event result new → event ≡ Renewed i reply → is_event_taken result ≡ true → is_told reply ≡ false →
+    (old new : WatchState) (event : WatchEvent) (result : Result WatchOutput WatchFault) (i : ℕ) (reply : WatchReply) (t u : Try) (q : Out) → Turn old event result new → event ≡ Renewed i reply → is_event_taken result ≡ true → is_told reply ≡ false →
     request_out old.out i Renew ≡ Some q → attempt_at old i ≡ Some t → attempt_at new i ≡ Some u → LeftByRenewal old i t u reply q.heard new
 renewal_turn old new event (Err fault) i reply t u q turn is taken' none asked before after = absurd (true≢false (sym taken'))
 renewal_turn old new event (Ok output) i reply t u q turn is taken' none asked before after =
@@ -131,39 +131,39 @@ by_refusal true false at t is status date heard = record { fails = refl; base = 
 by_refusal false pressed at t is status date heard = record { fails = refl; base = refl; alone = refl; pressed = refl; operation = refl }
 
 untold_fails :
-    (at : ℕ) (heard : Bool) (reply : Reply) (x : Track) (t : Try) → is_told reply ≡ false → IsFailure t (untold_try at heard reply x t) reply heard (asked_after_lookup reply t.pressed (is_open (sec at) x))
+    (at : ℕ) (heard : Bool) (reply : WatchReply) (x : Track) (t : Try) → is_told reply ≡ false → IsFailure t (untold_try at heard reply x t) reply heard (asked_after_lookup reply t.pressed (is_open (sec at) x))
 untold_fails at heard (Told seconds renewable date) x t none = absurd cc
 untold_fails at heard (Refused status date) x t none = by_refusal (is_open (sec at) x) t.pressed at t refl status date heard
 untold_fails at heard _ x t none = record { fails = refl; base = refl; alone = refl; pressed = refl; operation = refl }
 
 untold_some :
-    (at : ℕ) (heard : Bool) (reply : Reply) (x : Track) (t u : Try) → is_told reply ≡ false → x.attempt ≡ Some t → untold at heard reply x x.attempt ≡ Some u →
+    (at : ℕ) (heard : Bool) (reply : WatchReply) (x : Track) (t u : Try) → is_told reply ≡ false → x.attempt ≡ Some t → untold at heard reply x x.attempt ≡ Some u →
     IsFailure t u reply heard (asked_after_lookup reply t.pressed (is_open (sec at) x))
 untold_some at heard reply x t u none is there =
     subst (λ v. IsFailure t v reply heard (asked_after_lookup reply t.pressed (is_open (sec at) x)))
     (value_is (untold_try at heard reply x t) u (sym (ap (untold at heard reply x) is) ∙ there)) (untold_fails at heard reply x t none)
 
 untold_free :
-    (at : ℕ) (heard : Bool) (reply : Reply) (x : Track) (t : Try) → is_told reply ≡ false → x.attempt ≡ Some t →
+    (at : ℕ) (heard : Bool) (reply : WatchReply) (x : Track) (t : Try) → is_told reply ≡ false → x.attempt ≡ Some t →
     Free (λ u. IsFailure t u reply heard (asked_after_lookup reply t.pressed (is_open (sec at) x))) (again_failure t reply heard (asked_after_lookup reply t.pressed (is_open (sec at) x))) (untold_track at heard reply x)
 unfolding untold_track
 untold_free at heard reply x t none is = (refl, λ u there. untold_some at heard reply x t u none is there)
 
-untold_owes : (at : ℕ) (heard : Bool) (reply : Reply) (x : Track) → is_told reply ≡ false → (untold_track at heard reply x).owes ≡ x.owes && not (is_refused reply)
+untold_owes : (at : ℕ) (heard : Bool) (reply : WatchReply) (x : Track) → is_told reply ≡ false → (untold_track at heard reply x).owes ≡ x.owes && not (is_refused reply)
 unfolding untold_track
 untold_owes at heard (Told seconds renewable date) x none = absurd cc
 untold_owes at heard _ x none = refl
 
-untold_is : (s : WatchState) (r : Out) (reply : Reply) (terms : Terms) → is_told reply ≡ false → looked s r reply terms ≡ with_track s r.entry (untold_track s.clocks.at r.heard reply (track_at s r.entry))
+untold_is : (s : WatchState) (r : Out) (reply : WatchReply) (terms : WatchTerms) → is_told reply ≡ false → looked s r reply terms ≡ with_track s r.entry (untold_track s.clocks.at r.heard reply (track_at s r.entry))
 untold_is s r (Told seconds renewable date) terms none = absurd cc
 untold_is s r _ terms none = refl
 
-abbrev Left : WatchState → ℕ → Try → Try → Reply → Bool → WatchState → Type 0
+abbrev Left : WatchState → ℕ → Try → Try → WatchReply → Bool → WatchState → Type 0
 Left old i t u reply heard new =
     IsFailure t u reply heard (asked_after_lookup reply t.pressed (is_open (second old) (track_at old i))) × ((track_at new i).owes ≡ (track_at old i).owes && not (is_refused reply))
 
 lookup_made :
-    (old : WatchState) (r : Out) (reply : Reply) (t u : Try) → is_told reply ≡ false → attempt_at old r.entry ≡ Some t →
+    (old : WatchState) (r : Out) (reply : WatchReply) (t u : Try) → is_told reply ≡ false → attempt_at old r.entry ≡ Some t →
     attempt_at (replied (with_track (noted old r reply) r.entry (untold_track old.clocks.at r.heard reply (track_at old r.entry))) r reply) r.entry ≡ Some u →
     Left old r.entry t u reply r.heard (replied (with_track (noted old r reply) r.entry (untold_track old.clocks.at r.heard reply (track_at old r.entry))) r reply)
 lookup_made old r reply t u none before after =
@@ -178,7 +178,7 @@ lookup_made old r reply t u none before after =
     )
 
 lookup_step :
-    (old new : WatchState) (found : Option Out) (i : ℕ) (reply : Reply) (terms : Terms) (output : Output) (t u : Try) (q : Out) → request_out old.out i Look ≡ found → found ≡ Some q →
+    (old new : WatchState) (found : Option Out) (i : ℕ) (reply : WatchReply) (terms : WatchTerms) (output : WatchOutput) (t u : Try) (q : Out) → request_out old.out i Look ≡ found → found ≡ Some q →
     StepLooked old found reply terms output new → is_told reply ≡ false → attempt_at old i ≡ Some t → attempt_at new i ≡ Some u → Left old i t u reply q.heard new
 lookup_step old new None i reply terms output t u q is some step none before after = absurd step
 lookup_step old new (Some r) i reply terms output t u q is some step none before after =
@@ -192,7 +192,7 @@ lookup_step old new (Some r) i reply terms output t u q is some step none before
     (subst (λ (x : WatchState). Left old r.entry t u reply r.heard x) (sym made) (lookup_made old r reply t u none (subst (λ k. attempt_at old k ≡ Some t) (sym own) before) there)))
 
 lookup_turn :
-    (old new : WatchState) (event : Event) (result : Result Output WatchFault) (i : ℕ) (reply : Reply) (terms : Terms) (t u : Try) (q : Out) → Turn old event result new → event ≡ Looked i reply terms → is_event_taken result ≡ true →
+    (old new : WatchState) (event : WatchEvent) (result : Result WatchOutput WatchFault) (i : ℕ) (reply : WatchReply) (terms : WatchTerms) (t u : Try) (q : Out) → Turn old event result new → event ≡ Looked i reply terms → is_event_taken result ≡ true →
     is_told reply ≡ false → request_out old.out i Look ≡ Some q → attempt_at old i ≡ Some t → attempt_at new i ≡ Some u → Left old i t u reply q.heard new
 lookup_turn old new event (Err fault) i reply terms t u q turn is taken' none asked before after = absurd (true≢false (sym taken'))
 lookup_turn old new event (Ok output) i reply terms t u q turn is taken' none asked before after =

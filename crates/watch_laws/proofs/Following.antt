@@ -12,8 +12,8 @@ use Rattle.watch_machine.specs.declared.change.Was.{Was}
 use Rattle.watch_machine.specs.declared.change.Was.TheVariants.{New, Same, Retold}
 use Rattle.watch_machine.specs.declared.lanes.Out.{Out}
 use Rattle.watch_machine.specs.declared.track.Track.{Track}
-use Rattle.watch_machine.specs.declared.command.Output.{Output}
-use Rattle.watch_machine.specs.declared.event.Event.{Event}
+use Rattle.watch_machine.specs.declared.command.WatchOutput.{WatchOutput}
+use Rattle.watch_machine.specs.declared.event.WatchEvent.{WatchEvent}
 use Rattle.watch_machine.specs.declared.fault.WatchFault.{WatchFault}
 use Rattle.watch_machine.specs.Beginning.{owing_lookup, soon, sooner_try, untopped_track}
 use Rattle.watch_machine.specs.Change.{entry_by, forest_after, former, former_at, index_or, moved_out, out_after, place_now, track_by, tracks_after, was_at}
@@ -153,7 +153,7 @@ stays_there turn (Some i) = refl
 abbrev pub IsCounted : WatchState → Type 0
 IsCounted s = length s.tracks ≡ length s.forest.entries
 
-pub turn_counted : (old new : WatchState) (event : Event) (result : Result Output WatchFault) → Turn old event result new → IsCounted old → IsCounted new
+pub turn_counted : (old new : WatchState) (event : WatchEvent) (result : Result WatchOutput WatchFault) → Turn old event result new → IsCounted old → IsCounted new
 turn_counted old new event result turn count = turn_count old new event result turn ∙ count ∙ sym (turn_shape old new event result turn).0
 
 pub changed_counted : (old : WatchState) (c : Changed) → IsChanged old c → IsCounted c.state

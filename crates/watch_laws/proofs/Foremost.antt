@@ -6,14 +6,14 @@ use Rattle.std.proofs.lemmas.Bool.Decides.{nat_tests}
 use Rattle.std.proofs.lemmas.List.Elements.{All-cons, All-map, All-nil}
 use Rattle.std.specs.List.{list_any}
 use Rattle.plan_forest.specs.declared.entry.Entry.{Entry}
-use Rattle.watch_machine.specs.declared.command.Command.TheVariants.{Taken}
-use Rattle.watch_machine.specs.declared.command.Output.{Output}
-use Rattle.watch_machine.specs.declared.command.Request.{Request}
-use Rattle.watch_machine.specs.declared.event.Event.{Event}
-use Rattle.watch_machine.specs.declared.event.Event.TheVariants.{Clock, Looked, Renewed, Need, Begin, Known}
+use Rattle.watch_machine.specs.declared.command.WatchCommand.TheVariants.{Taken}
+use Rattle.watch_machine.specs.declared.command.WatchOutput.{WatchOutput}
+use Rattle.watch_machine.specs.declared.command.WatchRequest.{WatchRequest}
+use Rattle.watch_machine.specs.declared.event.WatchEvent.{WatchEvent}
+use Rattle.watch_machine.specs.declared.event.WatchEvent.TheVariants.{Clock, Looked, Renewed, Need, Begin, Known}
 use Rattle.watch_machine.specs.declared.event.Operation.TheVariants.{Look, Renew}
-use Rattle.watch_machine.specs.declared.event.Reply.{Reply}
-use Rattle.watch_machine.specs.declared.event.Terms.{Terms}
+use Rattle.watch_machine.specs.declared.event.WatchReply.{WatchReply}
+use Rattle.watch_machine.specs.declared.event.WatchTerms.{WatchTerms}
 use Rattle.watch_machine.specs.declared.fault.WatchFault.{WatchFault}
 use Rattle.watch_machine.specs.declared.lanes.Out.{Out}
 use Rattle.watch_machine.specs.declared.track.Track.{Track}
@@ -68,7 +68,7 @@ absent i (j ∷ js) none =
       same_is : (a b : ℕ) → a ≡ b → (a == b) ≡ true
       same_is a b e = grind (arith, nat_tests)
 
-module _ (old new : WatchState) (wall elapsed : ℕ) (output : Output) (h : Ticks old new wall elapsed output) (i : ℕ) where
+module _ (old new : WatchState) (wall elapsed : ℕ) (output : WatchOutput) (h : Ticks old new wall elapsed output) (i : ℕ) where
   abbrev ready : WatchState
   ready = readied old wall elapsed
 
@@ -95,7 +95,7 @@ module _ (old new : WatchState) (wall elapsed : ℕ) (output : Output) (h : Tick
       let other = not_named mid h.requests i (within_mid may) may.free in
       elim (cases_lt (times i gone) 1) as (λ _. times i gone ≡ 0) [
         | inl none ↦ omega (arith, none)
-        | inr some ↦ absurd (not_both (ap (list_any (λ (r : Request). r.entry == i)) h.going.requests_are ∙ some_named mid.presence (sec at) at mid.tracks i gone some) other)
+        | inr some ↦ absurd (not_both (ap (list_any (λ (r : WatchRequest). r.entry == i)) h.going.requests_are ∙ some_named mid.presence (sec at) at mid.tracks i gone some) other)
       ]
 
   -- whoever goes out is another, and stands no further behind
@@ -143,49 +143,49 @@ module _ (old new : WatchState) (wall elapsed : ℕ) (output : Output) (h : Tick
       ∙ and_from (is_first t) (not (is_same t.operation Renew && not (is_come left i))) (and_from t.pressed (t.fails == 0) pressed' never) (come_alone (is_same t.operation Renew) (is_come left i) r.come))
       r.alive
 
-  clock_first : left.presence.away ≡ false → IsToRenew left i → All (λ (r : Request). stands_before i left r.entry ≡ true) h.requests
+  clock_first : left.presence.away ≡ false → IsToRenew left i → All (λ (r : WatchRequest). stands_before i left r.entry ≡ true) h.requests
   clock_first there r =
       let rq = request_at mid.presence (sec at) mid.tracks in
       let front = all_front r.may there (renews_own r) in
-      let P : Request → Type 0 = λ q. stands_before i left q.entry ≡ true in
+      let P : WatchRequest → Type 0 = λ q. stands_before i left q.entry ≡ true in
       subst (All P) (sym h.going.requests_are)
       (All-map P rq gone (λ k d below. ap (stands_before i left) (entry_by mid.presence (sec at) mid.tracks (get_or gone k d)) ∙ sent_front mid h.requests (sec at) i (get_or gone k d) ∙ front k d below))
 
-  pub new_first : new.presence.away ≡ false → IsToRenew new i → All (λ (r : Request). stands_before i new r.entry ≡ true) h.requests
+  pub new_first : new.presence.away ≡ false → IsToRenew new i → All (λ (r : WatchRequest). stands_before i new r.entry ≡ true) h.requests
   new_first there r =
-      subst (λ (x : WatchState). All (λ (q : Request). stands_before i x q.entry ≡ true) h.requests) (sym h.new_is)
+      subst (λ (x : WatchState). All (λ (q : WatchRequest). stands_before i x q.entry ≡ true) h.requests) (sym h.new_is)
       (clock_first (subst (λ (x : WatchState). x.presence.away ≡ false) h.new_is there) (subst (λ (x : WatchState). IsToRenew x i) h.new_is r))
 
 -- ---- a step, a turn
 
-abbrev First : WatchState → ℕ → Output → Type 0
-First new i output = All (λ (r : Request). stands_before i new r.entry ≡ true) (requests_asked_by output.command)
+abbrev First : WatchState → ℕ → WatchOutput → Type 0
+First new i output = All (λ (r : WatchRequest). stands_before i new r.entry ≡ true) (requests_asked_by output.command)
 
-none_goes : (new : WatchState) (i : ℕ) (output out : Output) → output ≡ out → out.command ≡ Taken → First new i output
+none_goes : (new : WatchState) (i : ℕ) (output out : WatchOutput) → output ≡ out → out.command ≡ Taken → First new i output
 none_goes new i output out is taken' =
-    subst (λ c. All (λ (r : Request). stands_before i new r.entry ≡ true) (requests_asked_by c)) (sym (ap (λ (x : Output). x.command) is ∙ taken')) (All-nil (λ (r : Request). stands_before i new r.entry ≡ true))
+    subst (λ c. All (λ (r : WatchRequest). stands_before i new r.entry ≡ true) (requests_asked_by c)) (sym (ap (λ (x : WatchOutput). x.command) is ∙ taken')) (All-nil (λ (r : WatchRequest). stands_before i new r.entry ≡ true))
 
-looked_first : (old new : WatchState) (i : ℕ) (found : Option Out) (reply : Reply) (terms : Terms) (output : Output) → StepLooked old found reply terms output new → First new i output
+looked_first : (old new : WatchState) (i : ℕ) (found : Option Out) (reply : WatchReply) (terms : WatchTerms) (output : WatchOutput) → StepLooked old found reply terms output new → First new i output
 looked_first old new i None reply terms output step = absurd step
 looked_first old new i (Some q) reply terms output step = none_goes new i output _ step.0 refl
 
-renewed_first : (old new : WatchState) (i : ℕ) (found : Option Out) (reply : Reply) (output : Output) → StepRenewed old found reply output new → First new i output
+renewed_first : (old new : WatchState) (i : ℕ) (found : Option Out) (reply : WatchReply) (output : WatchOutput) → StepRenewed old found reply output new → First new i output
 renewed_first old new i None reply output step = absurd step
 renewed_first old new i (Some q) reply output step = none_goes new i output _ step.0 refl
 
-step_first : (old new : WatchState) (event : Event) (output : Output) (i : ℕ) → Step old event output new → new.presence.away ≡ false → IsToRenew new i → First new i output
+step_first : (old new : WatchState) (event : WatchEvent) (output : WatchOutput) (i : ℕ) → Step old event output new → new.presence.away ≡ false → IsToRenew new i → First new i output
 step_first old new (Clock wall elapsed) output i step there r =
     let h = ticks old new wall elapsed output step in
-    subst (λ c. All (λ (q : Request). stands_before i new q.entry ≡ true) (requests_asked_by c)) (sym h.command) (new_first old new wall elapsed output h i there r)
+    subst (λ c. All (λ (q : WatchRequest). stands_before i new q.entry ≡ true) (requests_asked_by c)) (sym h.command) (new_first old new wall elapsed output h i there r)
 step_first old new (Looked j reply terms) output i step there r = looked_first old new i (request_out old.out j Look) reply terms output step
 step_first old new (Renewed j reply) output i step there r = renewed_first old new i (request_out old.out j Renew) reply output step
 step_first old new _ output i step there r = none_goes new i output _ step.0 refl
 
 turn_first :
-    (old new : WatchState) (event : Event) (result : Result Output WatchFault) (i : ℕ) → Turn old event result new → new.presence.away ≡ false → IsToRenew new i →
-    All (λ (r : Request). stands_before i new r.entry ≡ true) (requests_at_turn result)
+    (old new : WatchState) (event : WatchEvent) (result : Result WatchOutput WatchFault) (i : ℕ) → Turn old event result new → new.presence.away ≡ false → IsToRenew new i →
+    All (λ (r : WatchRequest). stands_before i new r.entry ≡ true) (requests_at_turn result)
 turn_first old new event (Ok output) i turn there r = step_first old new event output i turn.1 there r
-turn_first old new event (Err fault) i turn there r = All-nil (λ (q : Request). stands_before i new q.entry ≡ true)
+turn_first old new event (Err fault) i turn there r = All-nil (λ (q : WatchRequest). stands_before i new q.entry ≡ true)
 
 pub known_first : KnownFirstLaw
 known_first old [] h = tt

@@ -7,16 +7,16 @@ use Rattle.plan_forest.specs.declared.entry.Entry.{Entry}
 use Rattle.plan_forest.specs.Forest.{entry_at}
 use Rattle.plan_forest.specs.Push.{IsForest}
 use Rattle.plan_forest.proofs.Placed.{Replaces, range_from_parts, range_parts, replaced_is_forest}
-use Rattle.watch_machine.specs.declared.command.Output.{Output}
-use Rattle.watch_machine.specs.declared.event.Event.{Event}
-use Rattle.watch_machine.specs.declared.event.Event.TheVariants.{Clock, Looked, Renewed, Need, Begin, Known}
+use Rattle.watch_machine.specs.declared.command.WatchOutput.{WatchOutput}
+use Rattle.watch_machine.specs.declared.event.WatchEvent.{WatchEvent}
+use Rattle.watch_machine.specs.declared.event.WatchEvent.TheVariants.{Clock, Looked, Renewed, Need, Begin, Known}
 use Rattle.watch_machine.specs.declared.event.Operation.TheVariants.{Look, Renew}
-use Rattle.watch_machine.specs.declared.event.Reply.{Reply}
-use Rattle.watch_machine.specs.declared.event.Reply.TheVariants.{Told, Refused, Busy, Lost}
-use Rattle.watch_machine.specs.declared.event.Terms.{Terms}
+use Rattle.watch_machine.specs.declared.event.WatchReply.{WatchReply}
+use Rattle.watch_machine.specs.declared.event.WatchReply.TheVariants.{Told, Refused, Busy, Lost}
+use Rattle.watch_machine.specs.declared.event.WatchTerms.{WatchTerms}
 use Rattle.watch_machine.specs.declared.fault.WatchFault.{WatchFault}
 use Rattle.watch_machine.specs.declared.lanes.Out.{Out}
-use Rattle.watch_machine.specs.declared.notes.Why.{Why}
+use Rattle.watch_machine.specs.declared.notes.BeginReason.{BeginReason}
 use Rattle.watch_machine.specs.Answers.{noted}
 use Rattle.watch_machine.specs.Beginning.{begun}
 use Rattle.watch_machine.specs.History.{Changed, IsChanged, IsReached, Turn}
@@ -35,7 +35,7 @@ use Rattle.watch_laws.proofs.Reached.{all_keep}
 use Rattle.watch_laws.proofs.Tracking.{replied_forest}
 
 -- terms that are told of an entry that is no more are written of none
-any_forest : (s : WatchState) (i : ℕ) (terms : Terms) → IsForest s.forest → IsForest (with_terms s i terms).forest
+any_forest : (s : WatchState) (i : ℕ) (terms : WatchTerms) → IsForest s.forest → IsForest (with_terms s i terms).forest
 any_forest s i terms forest =
     let g = s.forest in
     elim (cases_lt i (length g.entries)) as (λ _. IsForest (with_terms s i terms).forest) [
@@ -43,22 +43,22 @@ any_forest s i terms forest =
       | inr past ↦ subst (λ es. IsForest (record { entries = es; margin = g.margin })) (sym (set_past g.entries i (by_terms g.margin terms (entry_at g.entries i)) past)) forest
     ]
 
-looked_forest : (s : WatchState) (r : Out) (reply : Reply) (terms : Terms) → IsForest s.forest → IsForest (looked s r reply terms).forest
+looked_forest : (s : WatchState) (r : Out) (reply : WatchReply) (terms : WatchTerms) → IsForest s.forest → IsForest (looked s r reply terms).forest
 looked_forest s r (Told seconds renewable date) terms forest = any_forest s r.entry terms forest
 looked_forest s r _ terms forest = forest
 
-looked_on : (old new : WatchState) (found : Option Out) (reply : Reply) (terms : Terms) (output : Output) → StepLooked old found reply terms output new → IsForest old.forest → IsForest new.forest
+looked_on : (old new : WatchState) (found : Option Out) (reply : WatchReply) (terms : WatchTerms) (output : WatchOutput) → StepLooked old found reply terms output new → IsForest old.forest → IsForest new.forest
 looked_on old new None reply terms output step forest = absurd step
 looked_on old new (Some q) reply terms output step forest =
     let s = noted old q reply in
     subst (λ (x : WatchState). IsForest x.forest) (sym step.1) (subst IsForest (sym (replied_forest (looked s q reply terms) q reply)) (looked_forest s q reply terms forest))
 
-renewed_on : (old new : WatchState) (found : Option Out) (reply : Reply) (output : Output) → StepRenewed old found reply output new → IsForest old.forest → IsForest new.forest
+renewed_on : (old new : WatchState) (found : Option Out) (reply : WatchReply) (output : WatchOutput) → StepRenewed old found reply output new → IsForest old.forest → IsForest new.forest
 renewed_on old new None reply output step forest = absurd step
 renewed_on old new (Some q) reply output step forest =
     subst (λ (x : WatchState). IsForest x.forest) (sym step.1) (subst IsForest (sym (replied_forest (state_renewed (noted old q reply) q reply) q reply)) forest)
 
-begun_forest : (s : WatchState) (w : Option Why) → (begun s w).forest ≡ s.forest
+begun_forest : (s : WatchState) (w : Option BeginReason) → (begun s w).forest ≡ s.forest
 begun_forest s None = refl
 begun_forest s (Some w) = refl
 
@@ -66,7 +66,7 @@ pub readied_forest : (s : WatchState) (wall elapsed : ℕ) → (readied s wall e
 unfolding readied
 readied_forest s wall elapsed = begun_forest (settled (timed s wall elapsed)) (why s wall elapsed)
 
-stepped : (old new : WatchState) (event : Event) (output : Output) → refusal old event ≡ None → Step old event output new → IsForest old.forest → IsForest new.forest
+stepped : (old new : WatchState) (event : WatchEvent) (output : WatchOutput) → refusal old event ≡ None → Step old event output new → IsForest old.forest → IsForest new.forest
 unfolding refusal
 stepped old new (Clock wall elapsed) output taken step forest =
     let mid = pressed (readied old wall elapsed) (asked_by_round step.round) in
@@ -92,7 +92,7 @@ stepped old new (Need i until) output taken step forest =
 stepped old new _ output taken step forest = subst (λ (x : WatchState). IsForest x.forest) (sym step.1) forest
 
 -- whatever an event gives, the forest stays one
-pub turned_forest : (old new : WatchState) (event : Event) (result : Result Output WatchFault) → Turn old event result new → IsForest old.forest → IsForest new.forest
+pub turned_forest : (old new : WatchState) (event : WatchEvent) (result : Result WatchOutput WatchFault) → Turn old event result new → IsForest old.forest → IsForest new.forest
 turned_forest old new event (Ok output) turn forest = stepped old new event output turn.0 turn.1 forest
 turned_forest old new event (Err fault) turn forest = subst (λ (x : WatchState). IsForest x.forest) (sym (refused_stays old new event fault turn)) forest
 

@@ -7,7 +7,7 @@ use Rattle.std.specs.List.{list_any}
 use Rattle.plan_forest.specs.declared.entry.Entry.{Entry}
 use Rattle.plan_forest.specs.Forest.{Forest, entry_at}
 use Rattle.watch_machine.specs.declared.command.Patience.TheVariants.{Full, AtMost}
-use Rattle.watch_machine.specs.declared.command.Request.{Request}
+use Rattle.watch_machine.specs.declared.command.WatchRequest.{WatchRequest}
 use Rattle.watch_machine.specs.declared.event.Operation.TheVariants.{Renew}
 use Rattle.watch_machine.specs.declared.lanes.Presence.{Presence}
 use Rattle.watch_machine.specs.declared.track.End.{End}
@@ -82,29 +82,29 @@ fronts g p at xs i k there own due other h =
 abbrev Stays : Track → Track → Type 0
 Stays y x = (y.attempt ≡ x.attempt) × (y.end ≡ x.end)
 
-pub sent_stays : (s : WatchState) (rs : List Request) (j : ℕ) → Stays (track_at (sent s rs) j) (track_at s j)
+pub sent_stays : (s : WatchState) (rs : List WatchRequest) (j : ℕ) → Stays (track_at (sent s rs) j) (track_at s j)
 sent_stays s rs j =
     each_kept Stays (refl, refl) (sent_in s.clocks.at rs) s.tracks
-    (λ k x. if_both (λ y. Stays y x) (list_any (λ (r : Request). r.entry == k) rs) (sent_track s.clocks.at x) x (refl, refl) (refl, refl)) j
+    (λ k x. if_both (λ y. Stays y x) (list_any (λ (r : WatchRequest). r.entry == k) rs) (sent_track s.clocks.at x) x (refl, refl) (refl, refl)) j
 
 -- and whether a time has come
-pub sent_come : (s : WatchState) (rs : List Request) (margin : ℕ) (e : Entry) (now j : ℕ) → has_come margin e (track_at (sent s rs) j) now ≡ has_come margin e (track_at s j) now
+pub sent_come : (s : WatchState) (rs : List WatchRequest) (margin : ℕ) (e : Entry) (now j : ℕ) → has_come margin e (track_at (sent s rs) j) now ≡ has_come margin e (track_at s j) now
 unfolding has_come time asking_margin own_margin
 sent_come s rs margin e now j =
     let R : Track → Track → Type 0 = λ y x. has_come margin e y now ≡ has_come margin e x now in
-    each_kept R refl (sent_in s.clocks.at rs) s.tracks (λ k x. if_both (λ y. R y x) (list_any (λ (r : Request). r.entry == k) rs) (sent_track s.clocks.at x) x refl refl) j
+    each_kept R refl (sent_in s.clocks.at rs) s.tracks (λ k x. if_both (λ y. R y x) (list_any (λ (r : WatchRequest). r.entry == k) rs) (sent_track s.clocks.at x) x refl refl) j
 
 abbrev own_by : ℕ → Bool → Option Try → End → Bool
 own_by now come o e = is_own_try come o && nat_lt now (believed e)
 
-pub sent_own : (s : WatchState) (rs : List Request) (now j : ℕ) → own_at s.forest now (sent s rs).tracks j ≡ own_at s.forest now s.tracks j
+pub sent_own : (s : WatchState) (rs : List WatchRequest) (now j : ℕ) → own_at s.forest now (sent s rs).tracks j ≡ own_at s.forest now s.tracks j
 sent_own s rs now j =
     let h = sent_stays s rs j in
     let come = has_come s.forest.margin (entry_of s j) (track_at s j) now in
     ap (λ b. own_by now b (track_at (sent s rs) j).attempt (track_at (sent s rs) j).end) (sent_come s rs s.forest.margin (entry_of s j) now j)
     ∙ ap (λ o. own_by now come o (track_at (sent s rs) j).end) h.0 ∙ ap (own_by now come (track_at s j).attempt) h.1
 
-pub sent_front : (s : WatchState) (rs : List Request) (now i k : ℕ) → front_at s.forest now (sent s rs).tracks i k ≡ front_at s.forest now s.tracks i k
+pub sent_front : (s : WatchState) (rs : List WatchRequest) (now i k : ℕ) → front_at s.forest now (sent s rs).tracks i k ≡ front_at s.forest now s.tracks i k
 sent_front s rs now i k =
     let h = sent_stays s rs k in
     let e = sent_stays s rs i in
@@ -132,7 +132,7 @@ index_alone test (x ∷ xs) (suc j) within h = or_right (test x) (list_any test 
 abbrev alone_by : ℕ → Option Try → End → Bool
 alone_by now o e = is_alone_try o && (is_unknown e || nat_lt now (believed e))
 
-pub sent_partial : (s : WatchState) (rs : List Request) (now : ℕ) → is_partial now (sent s rs).tracks ≡ true → is_partial now s.tracks ≡ true
+pub sent_partial : (s : WatchState) (rs : List WatchRequest) (now : ℕ) → is_partial now (sent s rs).tracks ≡ true → is_partial now s.tracks ≡ true
 unfolding is_partial
 sent_partial s rs now h =
     let there = alone_index (is_alone now) (sent s rs).tracks h in

@@ -10,7 +10,7 @@ use Rattle.std.proofs.lemmas.List.Sums.{sum_by-cons, sum_by-take-le}
 use Rattle.std.specs.List.{list_any, range_with_len}
 use Rattle.plan_forest.specs.declared.entry.Entry.{Entry}
 use Rattle.plan_forest.specs.Forest.{Forest, entry_at}
-use Rattle.watch_machine.specs.declared.command.Request.{Request}
+use Rattle.watch_machine.specs.declared.command.WatchRequest.{WatchRequest}
 use Rattle.watch_machine.specs.declared.event.Operation.{Operation}
 use Rattle.watch_machine.specs.declared.event.Operation.TheVariants.{Look}
 use Rattle.watch_machine.specs.declared.lanes.Presence.{Presence}
@@ -107,7 +107,7 @@ placed_all g away now xs (i ∷ is) =
     ap (λ n. n ∷ map (λ (q : Place). q.entry) (map (place g away now xs) is)) (placed g away now xs i) ∙ ap (λ js. i ∷ js) (placed_all g away now xs is)
 
 -- the request of an entry, and those that go out, by index
-abbrev pub request_at : Presence → ℕ → List Track → ℕ → Request
+abbrev pub request_at : Presence → ℕ → List Track → ℕ → WatchRequest
 request_at p now xs i = request_of p.away (is_partial now xs) p.pace i (track_in xs i).attempt
 
 requests_at : (p : Presence) (now : ℕ) (xs : List Track) (qs : List Place) → map (request p now xs) qs ≡ map (request_at p now xs) (map (λ (q : Place). q.entry) qs)
@@ -116,7 +116,7 @@ requests_at p now xs [] = refl
 requests_at p now xs (q ∷ qs) = ap (λ rs. request_at p now xs q.entry ∷ rs) (requests_at p now xs qs)
 
 -- these entries' requests go out: each is due, and named once
-pub record Goes (g : Forest) (p : Presence) (at : ℕ) (xs : List Track) (lanes : ℕ) (requests : List Request) : Type 0 where
+pub record Goes (g : Forest) (p : Presence) (at : ℕ) (xs : List Track) (lanes : ℕ) (requests : List WatchRequest) : Type 0 where
   pub entries : List ℕ
   pub requests_are : requests ≡ map (request_at p (sec at) xs) entries
   pub due : AreOf (λ i. is_due p at (track_in xs i)) (length xs) entries
@@ -182,7 +182,7 @@ first_in_line g p at xs lanes line i h some none = λ k d below.
     sym (ap (λ q. is_before q (place g p.away (sec at) xs (get_or (take lanes line) k d).entry)) mine) ∙ sym (ap (λ q. is_before (get_or line b d) q) other)
     ∙ sorted_far is_before line_order line h.in_order k b d (omega (arith, many, below, far)) within
 
-pub goes : (g : Forest) (p : Presence) (at : ℕ) (xs : List Track) (lanes : ℕ) (requests : List Request) → IsGoing g p at xs lanes requests → Goes g p at xs lanes requests
+pub goes : (g : Forest) (p : Presence) (at : ℕ) (xs : List Track) (lanes : ℕ) (requests : List WatchRequest) → IsGoing g p at xs lanes requests → Goes g p at xs lanes requests
 goes g p at xs lanes requests h =
     let test : ℕ → Bool = λ i. is_due p at (track_in xs i) in
     let n = length xs in
@@ -250,15 +250,15 @@ abbrev pub sent_of : List Track → ℕ → ℕ → Sent
 sent_of xs at i = record { operation = operation_of (track_in xs i).attempt; at = at }
 
 -- what goes out of i, where r is before rs: by the test whether r is of i
-abbrev sent_by : ℕ → ℕ → Request → List Request → Bool → List Sent
-sent_by i at r rs b = map (λ (q : Request). record { operation = q.operation; at = at }) (cond b (r ∷ filter (λ q. q.entry == i) rs) (filter (λ q. q.entry == i) rs))
+abbrev sent_by : ℕ → ℕ → WatchRequest → List WatchRequest → Bool → List Sent
+sent_by i at r rs b = map (λ (q : WatchRequest). record { operation = q.operation; at = at }) (cond b (r ∷ filter (λ q. q.entry == i) rs) (filter (λ q. q.entry == i) rs))
 
 module _ (p : Presence) (now at : ℕ) (xs : List Track) (i : ℕ) where
-  abbrev rq : ℕ → Request
+  abbrev rq : ℕ → WatchRequest
   rq j = request_at p now xs j
 
   -- nothing goes out of i, and it is not named; or one request does
-  pub none_sent : (is : List ℕ) → times i is ≡ 0 → (sent_at i at (map rq is) ≡ []) × (list_any (λ (q : Request). q.entry == i) (map rq is) ≡ false)
+  pub none_sent : (is : List ℕ) → times i is ≡ 0 → (sent_at i at (map rq is) ≡ []) × (list_any (λ (q : WatchRequest). q.entry == i) (map rq is) ≡ false)
   none_sent [] none = (refl, refl)
   none_sent (j ∷ js) none =
       let e = entry_by p now xs j in
@@ -269,14 +269,14 @@ module _ (p : Presence) (now at : ℕ) (xs : List Track) (i : ℕ) where
             let rest = none_sent js (omega (arith, more, none)) in
             let test : (rq j).entry == i ≡ false = ap (λ n. n == i) e ∙ other in (
               ap (sent_by i at (rq j) (map rq js)) test ∙ rest.0,
-              ap (λ b. b || list_any (λ (q : Request). q.entry == i) (map rq js)) test ∙ rest.1,
+              ap (λ b. b || list_any (λ (q : WatchRequest). q.entry == i) (map rq js)) test ∙ rest.1,
             )
       ]
 
   pub one_sent :
       (is : List ℕ) → times i is ≤ 1 →
-      ((sent_at i at (map rq is) ≡ []) × (list_any (λ (q : Request). q.entry == i) (map rq is) ≡ false))
-      ⊎ ((sent_at i at (map rq is) ≡ sent_of xs at i ∷ []) × ((list_any (λ (q : Request). q.entry == i) (map rq is) ≡ true) × (times i is ≡ 1)))
+      ((sent_at i at (map rq is) ≡ []) × (list_any (λ (q : WatchRequest). q.entry == i) (map rq is) ≡ false))
+      ⊎ ((sent_at i at (map rq is) ≡ sent_of xs at i ∷ []) × ((list_any (λ (q : WatchRequest). q.entry == i) (map rq is) ≡ true) × (times i is ≡ 1)))
   one_sent [] once = inl (refl, refl)
   one_sent (j ∷ js) once =
       let e = entry_by p now xs j in
@@ -291,7 +291,7 @@ module _ (p : Presence) (now at : ℕ) (xs : List Track) (i : ℕ) where
               ap (sent_by i at (rq j) (map rq js)) test ∙ ap (λ ss. record { operation = (rq j).operation; at = at } ∷ ss) rest.0
                   ∙ ap (λ o. record { operation = o; at = at } ∷ []) (asks_by p now xs j) ∙ ap (λ k. sent_of xs at k ∷ []) is,
               (
-                ap (λ b. b || list_any (λ (q : Request). q.entry == i) (map rq js)) test,
+                ap (λ b. b || list_any (λ (q : WatchRequest). q.entry == i) (map rq js)) test,
                 omega (arith, more, none),
               ),
             )
@@ -299,7 +299,7 @@ module _ (p : Presence) (now at : ℕ) (xs : List Track) (i : ℕ) where
             let more = skips i j js other in
             let test : (rq j).entry == i ≡ false = ap (λ n. n == i) e ∙ other in
             let here = ap (sent_by i at (rq j) (map rq js)) test in
-            let named = ap (λ b. b || list_any (λ (q : Request). q.entry == i) (map rq js)) test in
+            let named = ap (λ b. b || list_any (λ (q : WatchRequest). q.entry == i) (map rq js)) test in
             elim (one_sent js (omega (arith, more, once))) [
               | inl rest ↦ inl (here ∙ rest.0, named ∙ rest.1)
               | inr rest ↦ inr (here ∙ rest.0, (named ∙ rest.1.0, more ∙ rest.1.1))
@@ -307,15 +307,15 @@ module _ (p : Presence) (now at : ℕ) (xs : List Track) (i : ℕ) where
       ]
 
   -- what is named goes out
-  pub some_named : (is : List ℕ) → 1 ≤ times i is → list_any (λ (q : Request). q.entry == i) (map rq is) ≡ true
+  pub some_named : (is : List ℕ) → 1 ≤ times i is → list_any (λ (q : WatchRequest). q.entry == i) (map rq is) ≡ true
   some_named [] some = absurd (omega (arith, some))
   some_named (j ∷ js) some =
       let e = entry_by p now xs j in
       elim (cases_Bool (j == i)) [
-        | inl same ↦ or_left ((rq j).entry == i) (list_any (λ (q : Request). q.entry == i) (map rq js)) (ap (λ n. n == i) e ∙ same)
+        | inl same ↦ or_left ((rq j).entry == i) (list_any (λ (q : WatchRequest). q.entry == i) (map rq js)) (ap (λ n. n == i) e ∙ same)
         | inr other ↦
             let more = skips i j js other in
-            or_right ((rq j).entry == i) (list_any (λ (q : Request). q.entry == i) (map rq js)) (some_named js (omega (arith, more, some)))
+            or_right ((rq j).entry == i) (list_any (λ (q : WatchRequest). q.entry == i) (map rq js)) (some_named js (omega (arith, more, some)))
       ]
 
 -- what is named once holds of what holds of all

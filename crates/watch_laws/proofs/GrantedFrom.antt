@@ -3,11 +3,11 @@ use Rattle.std.proofs.Common.{◌≡◌, ◌∙◌, ℕ, ◌+◌, ◌-◌, ◌<�
 use Rattle.std.proofs.lemmas.Bool.{and_from, and_parts, cond-false, cond-true}
 use Rattle.std.proofs.lemmas.Bool.Decides.{nat_tests}
 use Rattle.std.proofs.lemmas.List.{get_or-set_same}
-use Rattle.watch_machine.specs.declared.command.Output.{Output}
-use Rattle.watch_machine.specs.declared.event.Event.{Event}
-use Rattle.watch_machine.specs.declared.event.Event.TheVariants.{Renewed}
+use Rattle.watch_machine.specs.declared.command.WatchOutput.{WatchOutput}
+use Rattle.watch_machine.specs.declared.event.WatchEvent.{WatchEvent}
+use Rattle.watch_machine.specs.declared.event.WatchEvent.TheVariants.{Renewed}
 use Rattle.watch_machine.specs.declared.event.Operation.TheVariants.{Renew}
-use Rattle.watch_machine.specs.declared.event.Reply.TheVariants.{Told}
+use Rattle.watch_machine.specs.declared.event.WatchReply.TheVariants.{Told}
 use Rattle.watch_machine.specs.declared.fault.WatchFault.{WatchFault}
 use Rattle.watch_machine.specs.declared.lanes.Out.{Out}
 use Rattle.watch_machine.specs.declared.track.End.{End}
@@ -49,7 +49,7 @@ answer_holds P back s i seconds renewable date q own within h =
     (subst P (sym (get_or-set_same s.tracks q.entry (made s q.entry seconds renewable q) no_track (omega (arith, own, within)))) (subst (λ k. P (made s k seconds renewable q)) (sym own) h)))
 
 pub turn_holds :
-    (P : Out → Track → Type 0) → ((q : Out) (x : Track) → P q x → P q (back_track x)) → (old new : WatchState) (event : Event) (result : Result Output WatchFault) (i seconds : ℕ) (renewable : Bool) (date : Option ℕ) →
+    (P : Out → Track → Type 0) → ((q : Out) (x : Track) → P q x → P q (back_track x)) → (old new : WatchState) (event : WatchEvent) (result : Result WatchOutput WatchFault) (i seconds : ℕ) (renewable : Bool) (date : Option ℕ) →
     Turn old event result new → i < length old.tracks → event ≡ Renewed i (Told seconds renewable date) → is_event_taken result ≡ true → ((q : Out) → P q (made old i seconds renewable q)) →
     (q : Out) × ((request_out old.out i Renew ≡ Some q) × P q (track_at new i))
 turn_holds P back old new event (Err fault) i seconds renewable date turn within told taken' h = absurd (true≢false (sym taken'))

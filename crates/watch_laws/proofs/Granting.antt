@@ -1,11 +1,11 @@
 -- Granting: a grant is believed as it is told. For the law of grants that are told.
 use Rattle.std.proofs.Common.{◌≡◌, ℕ, ◌<◌, Bool, true, Option, Some, None, Result, Ok, Err, length, refl, sym, subst, arith, true≢false}
 use Rattle.std.proofs.lemmas.List.{get_or-set_same}
-use Rattle.watch_machine.specs.declared.command.Output.{Output}
-use Rattle.watch_machine.specs.declared.event.Event.{Event}
-use Rattle.watch_machine.specs.declared.event.Event.TheVariants.{Renewed}
+use Rattle.watch_machine.specs.declared.command.WatchOutput.{WatchOutput}
+use Rattle.watch_machine.specs.declared.event.WatchEvent.{WatchEvent}
+use Rattle.watch_machine.specs.declared.event.WatchEvent.TheVariants.{Renewed}
 use Rattle.watch_machine.specs.declared.event.Operation.TheVariants.{Renew}
-use Rattle.watch_machine.specs.declared.event.Reply.TheVariants.{Told}
+use Rattle.watch_machine.specs.declared.event.WatchReply.TheVariants.{Told}
 use Rattle.watch_machine.specs.declared.fault.WatchFault.{WatchFault}
 use Rattle.watch_machine.specs.declared.lanes.Out.{Out}
 use Rattle.watch_machine.specs.declared.track.Track.{Track}
@@ -43,7 +43,7 @@ renewed_granted s q seconds renewable date within =
     (made step s.clocks.at seconds renewable from' x))
 
 turn_granted :
-    (old new : WatchState) (event : Event) (result : Result Output WatchFault) (i seconds : ℕ) (renewable : Bool) (date : Option ℕ) → Turn old event result new → i < length old.tracks →
+    (old new : WatchState) (event : WatchEvent) (result : Result WatchOutput WatchFault) (i seconds : ℕ) (renewable : Bool) (date : Option ℕ) → Turn old event result new → i < length old.tracks →
     event ≡ Renewed i (Told seconds renewable date) → is_event_taken result ≡ true → IsGranted (track_at new i) seconds renewable
 turn_granted old new event (Err fault) i seconds renewable date turn within told taken' = absurd (true≢false (sym taken'))
 turn_granted old new event (Ok output) i seconds renewable date turn within told taken' = by (request_out old.out i Renew) refl (subst (λ e. Step old e output new) told turn.1) where

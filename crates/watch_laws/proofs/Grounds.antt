@@ -4,12 +4,12 @@ use Rattle.std.proofs.lemmas.Bool.{and_parts, eqb-true}
 use Rattle.std.proofs.lemmas.List.{length-map}
 use Rattle.std.proofs.lemmas.List.Elements.{All-nil, All-weaker}
 use Rattle.plan_forest.specs.Forest.{Forest}
-use Rattle.watch_machine.specs.declared.command.Output.{Output}
-use Rattle.watch_machine.specs.declared.event.Event.{Event}
-use Rattle.watch_machine.specs.declared.event.Event.TheVariants.{Clock, Looked, Renewed, Need, Begin, Known}
+use Rattle.watch_machine.specs.declared.command.WatchOutput.{WatchOutput}
+use Rattle.watch_machine.specs.declared.event.WatchEvent.{WatchEvent}
+use Rattle.watch_machine.specs.declared.event.WatchEvent.TheVariants.{Clock, Looked, Renewed, Need, Begin, Known}
 use Rattle.watch_machine.specs.declared.event.Operation.TheVariants.{Look, Renew}
-use Rattle.watch_machine.specs.declared.event.Reply.{Reply}
-use Rattle.watch_machine.specs.declared.event.Terms.{Terms}
+use Rattle.watch_machine.specs.declared.event.WatchReply.{WatchReply}
+use Rattle.watch_machine.specs.declared.event.WatchTerms.{WatchTerms}
 use Rattle.watch_machine.specs.declared.fault.WatchFault.{WatchFault}
 use Rattle.watch_machine.specs.declared.lanes.Out.{Out}
 use Rattle.watch_machine.specs.Answers.{noted, replied}
@@ -59,7 +59,7 @@ Bounds n s = All (λ (q : Out). q.entry < n) s.out × All (λ (q : Out). q.since
 since_later : (a b : ℕ) (out : List Out) → a ≤ b → All (λ (q : Out). q.since ≤ a) out → All (λ (q : Out). q.since ≤ b) out
 since_later a b out le all = All-weaker (λ (q : Out). q.since ≤ a) (λ (q : Out). q.since ≤ b) (λ q h. omega (arith, h, le)) out all
 
-clock_bounds : (n : ℕ) (old new : WatchState) (wall elapsed : ℕ) (output : Output) → Ticks old new wall elapsed output → length old.tracks ≤ n → IsPast old → Bounds n old → Bounds n new
+clock_bounds : (n : ℕ) (old new : WatchState) (wall elapsed : ℕ) (output : WatchOutput) → Ticks old new wall elapsed output → length old.tracks ≤ n → IsPast old → Bounds n old → Bounds n new
 clock_bounds n old new wall elapsed output h count past b =
     let mid = pressed (readied old wall elapsed) h.round in
     let many = pressed_count (readied old wall elapsed) h.round in
@@ -72,7 +72,7 @@ clock_bounds n old new wall elapsed output h count past b =
       all_sent (λ (q : Out). q.since ≤ new.clocks.at) old new wall elapsed output h (since_later old.clocks.at new.clocks.at old.out (omega (arith, up, clock, same)) b.1) (λ k low due named. omega (arith, clock)),
     )
 
-answer_bounds : (n : ℕ) (old mid new : WatchState) (q : Out) (reply : Reply) → new ≡ replied mid q reply → mid.out ≡ old.out → new.clocks ≡ old.clocks → Bounds n old → Bounds n new
+answer_bounds : (n : ℕ) (old mid new : WatchState) (q : Out) (reply : WatchReply) → new ≡ replied mid q reply → mid.out ≡ old.out → new.clocks ≡ old.clocks → Bounds n old → Bounds n new
 answer_bounds n old mid new q reply is out clocks b =
     let clock = ap (λ c. c.at) clocks in (
       subst (λ (x : WatchState). All (λ (r : Out). r.entry < n) x.out) (sym is) (all_left (λ (r : Out). r.entry < n) (λ r h. h) mid q reply (subst (All (λ (r : Out). r.entry < n)) (sym out) b.0)),
@@ -81,28 +81,28 @@ answer_bounds n old mid new q reply is out clocks b =
           (subst (All (λ (r : Out). r.since ≤ new.clocks.at)) (sym out) (since_later old.clocks.at new.clocks.at old.out (omega (arith, clock)) b.1))),
     )
 
-looked_bounds : (n : ℕ) (old new : WatchState) (found : Option Out) (reply : Reply) (terms : Terms) (output : Output) → StepLooked old found reply terms output new → Bounds n old → Bounds n new
+looked_bounds : (n : ℕ) (old new : WatchState) (found : Option Out) (reply : WatchReply) (terms : WatchTerms) (output : WatchOutput) → StepLooked old found reply terms output new → Bounds n old → Bounds n new
 looked_bounds n old new None reply terms output step b = absurd step
 looked_bounds n old new (Some q) reply terms output step b =
     let s = noted old q reply in
     answer_bounds n old (looked s q reply terms) new q reply step.1 (looked_out s q reply terms) (ap (λ (x : WatchState). x.clocks) (ap rest_of step.1 ∙ looked_leaves old q reply terms)) b
 
-renewed_bounds : (n : ℕ) (old new : WatchState) (found : Option Out) (reply : Reply) (output : Output) → StepRenewed old found reply output new → Bounds n old → Bounds n new
+renewed_bounds : (n : ℕ) (old new : WatchState) (found : Option Out) (reply : WatchReply) (output : WatchOutput) → StepRenewed old found reply output new → Bounds n old → Bounds n new
 renewed_bounds n old new None reply output step b = absurd step
 renewed_bounds n old new (Some q) reply output step b =
     answer_bounds n old (state_renewed (noted old q reply) q reply) new q reply step.1 refl (ap (λ (x : WatchState). x.clocks) (ap rest_of step.1 ∙ renewed_leaves old q reply)) b
 
-step_bounds : (n : ℕ) (old new : WatchState) (event : Event) (output : Output) → Step old event output new → length old.tracks ≤ n → IsPast old → Bounds n old → Bounds n new
+step_bounds : (n : ℕ) (old new : WatchState) (event : WatchEvent) (output : WatchOutput) → Step old event output new → length old.tracks ≤ n → IsPast old → Bounds n old → Bounds n new
 step_bounds n old new (Clock wall elapsed) output step count past b = clock_bounds n old new wall elapsed output (ticks old new wall elapsed output step) count past b
 step_bounds n old new (Looked j reply terms) output step count past b = looked_bounds n old new (request_out old.out j Look) reply terms output step b
 step_bounds n old new (Renewed j reply) output step count past b = renewed_bounds n old new (request_out old.out j Renew) reply output step b
 step_bounds n old new _ output step count past b = subst (Bounds n) (sym step.1) b
 
-pub turn_bounds : (n : ℕ) (old new : WatchState) (event : Event) (result : Result Output WatchFault) → Turn old event result new → length old.tracks ≤ n → IsPast old → Bounds n old → Bounds n new
+pub turn_bounds : (n : ℕ) (old new : WatchState) (event : WatchEvent) (result : Result WatchOutput WatchFault) → Turn old event result new → length old.tracks ≤ n → IsPast old → Bounds n old → Bounds n new
 turn_bounds n old new event (Ok output) turn count past b = step_bounds n old new event output turn.1 count past b
 turn_bounds n old new event (Err fault) turn count past b = subst (Bounds n) (sym (refused_stays old new event fault turn)) b
 
-pub turn_base : (width n : ℕ) (old new : WatchState) (event : Event) (result : Result Output WatchFault) → Turn old event result new → IsBase width n old → IsBase width n new
+pub turn_base : (width n : ℕ) (old new : WatchState) (event : WatchEvent) (result : Result WatchOutput WatchFault) → Turn old event result new → IsBase width n old → IsBase width n new
 turn_base width n old new event result turn h =
     let count = h.count in
     let bounds = turn_bounds (n + width) old new event result turn (omega (arith, count)) h.past (h.within, h.since) in
@@ -180,11 +180,11 @@ last_happen (x ∷ xs) ys old h = last_happen xs ys (state_after x) h.1
 pub record Starts (o : Outage) (old : WatchState) (last : Turned) : Type 0 where
   pub wall : ℕ
   pub elapsed : ℕ
-  pub output : Output
+  pub output : WatchOutput
   pub ticks' : Ticks old last.state wall elapsed output
   pub due : outage_next_after o last.result last.state 0 ≡ outage_next_by o (wait last.state) last.state.out
 
-pub starts : (o : Outage) (old : WatchState) (last : Turned) (event : Event) (result : Result Output WatchFault) → last.result ≡ result → Turn old event result last.state → is_clock event ≡ true → is_event_taken result ≡ true → Starts o old last
+pub starts : (o : Outage) (old : WatchState) (last : Turned) (event : WatchEvent) (result : Result WatchOutput WatchFault) → last.result ≡ result → Turn old event result last.state → is_clock event ≡ true → is_event_taken result ≡ true → Starts o old last
 starts o old last (Clock wall elapsed) (Ok output) same turn clock taken' =
     let go = ticks old last.state wall elapsed output turn.1 in
     record {

@@ -5,10 +5,10 @@ use Rattle.std.proofs.lemmas.Bool.{cases_Bool, cond-false}
 use Rattle.std.proofs.lemmas.List.Elements.{All-weaker}
 use Rattle.std.specs.List.{list_any}
 use Rattle.plan_forest.specs.declared.entry.Entry.{Entry}
-use Rattle.watch_machine.specs.declared.command.Output.{Output}
-use Rattle.watch_machine.specs.declared.command.Request.{Request}
-use Rattle.watch_machine.specs.declared.event.Event.{Event}
-use Rattle.watch_machine.specs.declared.event.Event.TheVariants.{Clock, Looked, Renewed, Need, Begin, Known}
+use Rattle.watch_machine.specs.declared.command.WatchOutput.{WatchOutput}
+use Rattle.watch_machine.specs.declared.command.WatchRequest.{WatchRequest}
+use Rattle.watch_machine.specs.declared.event.WatchEvent.{WatchEvent}
+use Rattle.watch_machine.specs.declared.event.WatchEvent.TheVariants.{Clock, Looked, Renewed, Need, Begin, Known}
 use Rattle.watch_machine.specs.declared.fault.WatchFault.{WatchFault}
 use Rattle.watch_machine.specs.declared.lanes.Out.{Out}
 use Rattle.watch_machine.specs.declared.track.Track.{Track}
@@ -40,7 +40,7 @@ unfolding settled_track
 loose_settles margin at bound x loose last =
     record { last = last; tries = λ u is pressed'. absurd (not_both (settled_pressed margin at x x.attempt (ap is_pressed_try is ∙ pressed')) loose) }
 
-module _ (width n : ℕ) (old new : WatchState) (wall elapsed : ℕ) (output : Output) (i : ℕ) (low : i < n) (h : Ticks old new wall elapsed output) (before : IsBase width n old) (after : IsBase width n new) (loose : is_pressed (track_at old i) ≡ false) (never : rested (track_at old i).last ≤ 0) where
+module _ (width n : ℕ) (old new : WatchState) (wall elapsed : ℕ) (output : WatchOutput) (i : ℕ) (low : i < n) (h : Ticks old new wall elapsed output) (before : IsBase width n old) (after : IsBase width n new) (loose : is_pressed (track_at old i) ≡ false) (never : rested (track_at old i).last ≤ 0) where
   abbrev mid : WatchState
   mid = pressed (readied old wall elapsed) h.round
 
@@ -61,7 +61,7 @@ module _ (width n : ℕ) (old new : WatchState) (wall elapsed : ℕ) (output : O
   attempt_kept =
       ap (λ (x : WatchState). attempt_at x i) h.new_is
       ∙ each_kept (λ (y x : Track). y.attempt ≡ x.attempt) refl (sent_in mid.clocks.at h.requests) mid.tracks
-      (λ j x. if_both (λ (y : Track). y.attempt ≡ x.attempt) (list_any (λ (r : Request). r.entry == j) h.requests) (sent_track mid.clocks.at x) x refl refl) i
+      (λ j x. if_both (λ (y : Track). y.attempt ≡ x.attempt) (list_any (λ (r : WatchRequest). r.entry == j) h.requests) (sent_track mid.clocks.at x) x refl refl) i
 
   first_try : (t : Try) → attempt_at new i ≡ Some t → t.pressed ≡ true → (is_first t ≡ true) × ((t.failed ≡ false) × (t.at ≤ new.clocks.at))
   first_try t is pressed' =
@@ -129,7 +129,7 @@ known_untouched at end renewable x h = known_is Untouched at end renewable x h (
   sooner_loose None loose = refl
   sooner_loose (Some t) loose = loose
 
-step_untouched : (i : ℕ) (old new : WatchState) (event : Event) (output : Output) → is_handed event ≡ true → Step old event output new → Untouched (track_at old i) → Untouched (track_at new i)
+step_untouched : (i : ℕ) (old new : WatchState) (event : WatchEvent) (output : WatchOutput) → is_handed event ≡ true → Step old event output new → Untouched (track_at old i) → Untouched (track_at new i)
 step_untouched i old new (Need j until) output handed step h = subst (λ (x : WatchState). Untouched (track_at x i)) (sym step.1) h
 step_untouched i old new Begin output handed step h = subst (λ (x : WatchState). Untouched (track_at x i)) (sym step.1) h
 step_untouched i old new (Known j end renewable) output handed step h =
@@ -137,7 +137,7 @@ step_untouched i old new (Known j end renewable) output handed step h =
     (set_kept (λ (y x : Track). Untouched x → Untouched y) (λ x k. k) old.tracks j _ (known_untouched old.clocks.at end renewable (track_at old j)) i h)
 step_untouched i old new _ output handed step h = absurd cc
 
-turn_untouched : (i : ℕ) (old new : WatchState) (event : Event) (result : Result Output WatchFault) → is_handed event ≡ true → Turn old event result new → Untouched (track_at old i) → Untouched (track_at new i)
+turn_untouched : (i : ℕ) (old new : WatchState) (event : WatchEvent) (result : Result WatchOutput WatchFault) → is_handed event ≡ true → Turn old event result new → Untouched (track_at old i) → Untouched (track_at new i)
 turn_untouched i old new event (Ok output) handed turn h = step_untouched i old new event output handed turn.1 h
 turn_untouched i old new event (Err fault) handed turn h = subst (λ (x : WatchState). Untouched (track_at x i)) (sym (refused_stays old new event fault turn)) h
 

@@ -5,14 +5,14 @@ use Rattle.std.proofs.Math.Nat.{mul-add, mul-le-mul_left, mul_comm}
 use Rattle.std.proofs.lemmas.Bool.{and_from, cases_lt}
 use Rattle.std.proofs.lemmas.List.Elements.{All-weaker}
 use Rattle.std.specs.List.{list_any}
-use Rattle.watch_machine.specs.declared.command.Command.TheVariants.{Go, Taken}
-use Rattle.watch_machine.specs.declared.command.Output.{Output}
-use Rattle.watch_machine.specs.declared.command.Request.{Request}
-use Rattle.watch_machine.specs.declared.event.Event.{Event}
-use Rattle.watch_machine.specs.declared.event.Event.TheVariants.{Clock, Looked, Renewed, Need, Begin, Known}
+use Rattle.watch_machine.specs.declared.command.WatchCommand.TheVariants.{Go, Taken}
+use Rattle.watch_machine.specs.declared.command.WatchOutput.{WatchOutput}
+use Rattle.watch_machine.specs.declared.command.WatchRequest.{WatchRequest}
+use Rattle.watch_machine.specs.declared.event.WatchEvent.{WatchEvent}
+use Rattle.watch_machine.specs.declared.event.WatchEvent.TheVariants.{Clock, Looked, Renewed, Need, Begin, Known}
 use Rattle.watch_machine.specs.declared.event.Operation.TheVariants.{Look, Renew}
-use Rattle.watch_machine.specs.declared.event.Reply.{Reply}
-use Rattle.watch_machine.specs.declared.event.Terms.{Terms}
+use Rattle.watch_machine.specs.declared.event.WatchReply.{WatchReply}
+use Rattle.watch_machine.specs.declared.event.WatchTerms.{WatchTerms}
 use Rattle.watch_machine.specs.declared.fault.WatchFault.{WatchFault}
 use Rattle.watch_machine.specs.declared.lanes.Out.{Out}
 use Rattle.watch_machine.specs.declared.track.Track.{Track}
@@ -69,7 +69,7 @@ fewer o n i old new =
     (λ j. one_each (stands_before i new j) (track_at new j).out (stands_before i old j) (track_at old j).out)
 
 -- a clock after which i is held up: whoever goes out stood before it, and keeps its lane as long as is said
-module _ (o : Partial) (width n i : ℕ) (old new : WatchState) (wall elapsed : ℕ) (output : Output) (h : Ticks old new wall elapsed output) (base : IsBase width n old) where
+module _ (o : Partial) (width n i : ℕ) (old new : WatchState) (wall elapsed : ℕ) (output : WatchOutput) (h : Ticks old new wall elapsed output) (base : IsBase width n old) where
   abbrev mid : WatchState
   mid = pressed (readied old wall elapsed) h.round
 
@@ -92,7 +92,7 @@ module _ (o : Partial) (width n i : ℕ) (old new : WatchState) (wall elapsed : 
   all_go held =
       let front = all_front held in
       let all = h.going.due in
-      let named = subst (λ rs. All (λ k. list_any (λ (r : Request). r.entry == k) rs ≡ true) gone) (sym h.going.requests_are) (each_named mid.presence (sec at) mid.tracks gone) in
+      let named = subst (λ rs. All (λ k. list_any (λ (r : WatchRequest). r.entry == k) rs ≡ true) gone) (sym h.going.requests_are) (each_named mid.presence (sec at) mid.tracks gone) in
       λ j d below.
       let k = get_or gone j d in
       let stands : stands_before i left k ≡ true = sent_front mid h.requests (sec at) i k ∙ front j d below in
@@ -156,7 +156,7 @@ full_on o width at bound k s full room due timely later =
     }
 
 clock_holds :
-    (o : Partial) (width n i due bound rest : ℕ) (old new : WatchState) (wall elapsed : ℕ) (output : Output) → Step old (Clock wall elapsed) output new → IsHolding o i due old (Clock wall elapsed) output new → IsBase width n new →
+    (o : Partial) (width n i due bound rest : ℕ) (old new : WatchState) (wall elapsed : ℕ) (output : WatchOutput) → Step old (Clock wall elapsed) output new → IsHolding o i due old (Clock wall elapsed) output new → IsBase width n new →
     Holds o width n due bound (waiting_before o n i old + (total n (keeps_lane o) (comes_before i old new) + rest)) old →
     Holds o width n (partial_next_after_command o output.command new due) bound (waiting_before o n i new + rest) new
 clock_holds o width n i due bound rest old new wall elapsed output step holding base p =
@@ -202,14 +202,14 @@ clock_holds o width n i due bound rest old new wall elapsed output step holding 
     }))
 
 -- any other event leaves the clock, and some of what is out
-abbrev Quiet : Partial → ℕ → WatchState → WatchState → Output → Type 0
+abbrev Quiet : Partial → ℕ → WatchState → WatchState → WatchOutput → Type 0
 Quiet o due old new output =
     (new.clocks.at ≡ old.clocks.at)
     × ((All (λ (q : Out). due ≤ partial_settled_by o q + o.late) old.out → All (λ (q : Out). due ≤ partial_settled_by o q + o.late) new.out)
     × ((span o due new.out ≤ span o due old.out) × (partial_next_after_command o output.command new due ≡ due)))
 
 answer_quiet :
-    (o : Partial) (due : ℕ) (old mid new : WatchState) (q : Out) (reply : Reply) (output out : Output) → new ≡ replied mid q reply → mid.out ≡ old.out → new.clocks ≡ old.clocks → output ≡ out → out.command ≡ Taken →
+    (o : Partial) (due : ℕ) (old mid new : WatchState) (q : Out) (reply : WatchReply) (output out : WatchOutput) → new ≡ replied mid q reply → mid.out ≡ old.out → new.clocks ≡ old.clocks → output ≡ out → out.command ≡ Taken →
     Quiet o due old new output
 answer_quiet o due old mid new q reply output out is outs clocks made taken' =
     let T : Out → Type 0 = λ r. due ≤ partial_settled_by o r + o.late in
@@ -219,22 +219,22 @@ answer_quiet o due old mid new q reply output out is outs clocks made taken' =
       ap (λ c. c.at) clocks,
       (
         (λ all. subst (λ (x : WatchState). All T x.out) (sym is) (all_left T (λ r h. h) mid q reply (subst (All T) (sym outs) all))),
-        (omega (arith, less, a, b), ap (λ c. partial_next_after_command o c new due) (ap (λ (x : Output). x.command) made ∙ taken')),
+        (omega (arith, less, a, b), ap (λ c. partial_next_after_command o c new due) (ap (λ (x : WatchOutput). x.command) made ∙ taken')),
       ),
     )
 
-looked_quiet : (o : Partial) (due : ℕ) (old new : WatchState) (found : Option Out) (reply : Reply) (terms : Terms) (output : Output) → StepLooked old found reply terms output new → Quiet o due old new output
+looked_quiet : (o : Partial) (due : ℕ) (old new : WatchState) (found : Option Out) (reply : WatchReply) (terms : WatchTerms) (output : WatchOutput) → StepLooked old found reply terms output new → Quiet o due old new output
 looked_quiet o due old new None reply terms output step = absurd step
 looked_quiet o due old new (Some q) reply terms output step =
     let s = noted old q reply in
     answer_quiet o due old (looked s q reply terms) new q reply output _ step.1 (looked_out s q reply terms) (ap (λ (x : WatchState). x.clocks) (ap rest_of step.1 ∙ looked_leaves old q reply terms)) step.0 refl
 
-renewed_quiet : (o : Partial) (due : ℕ) (old new : WatchState) (found : Option Out) (reply : Reply) (output : Output) → StepRenewed old found reply output new → Quiet o due old new output
+renewed_quiet : (o : Partial) (due : ℕ) (old new : WatchState) (found : Option Out) (reply : WatchReply) (output : WatchOutput) → StepRenewed old found reply output new → Quiet o due old new output
 renewed_quiet o due old new None reply output step = absurd step
 renewed_quiet o due old new (Some q) reply output step =
     answer_quiet o due old (state_renewed (noted old q reply) q reply) new q reply output _ step.1 refl (ap (λ (x : WatchState). x.clocks) (ap rest_of step.1 ∙ renewed_leaves old q reply)) step.0 refl
 
-same_quiet : (o : Partial) (due : ℕ) (old mid new : WatchState) (output out : Output) → new ≡ mid → mid.clocks ≡ old.clocks → mid.out ≡ old.out → output ≡ out → out.command ≡ Taken → Quiet o due old new output
+same_quiet : (o : Partial) (due : ℕ) (old mid new : WatchState) (output out : WatchOutput) → new ≡ mid → mid.clocks ≡ old.clocks → mid.out ≡ old.out → output ≡ out → out.command ≡ Taken → Quiet o due old new output
 same_quiet o due old mid new output out is clocks outs made taken' =
     let T : Out → Type 0 = λ r. due ≤ partial_settled_by o r + o.late in
     let a = ap (λ (x : WatchState). span o due x.out) is in
@@ -242,12 +242,12 @@ same_quiet o due old mid new output out is clocks outs made taken' =
       ap (λ (x : WatchState). x.clocks.at) is ∙ ap (λ c. c.at) clocks,
       (
         (λ all. subst (All T) (sym (ap (λ (x : WatchState). x.out) is ∙ outs)) all),
-        (omega (arith, a, b), ap (λ c. partial_next_after_command o c new due) (ap (λ (x : Output). x.command) made ∙ taken')),
+        (omega (arith, a, b), ap (λ c. partial_next_after_command o c new due) (ap (λ (x : WatchOutput). x.command) made ∙ taken')),
       ),
     )
 
 quiet_holds :
-    (o : Partial) (width n i due bound rest : ℕ) (old new : WatchState) (output : Output) → Quiet o due old new output → IsBase width n new →
+    (o : Partial) (width n i due bound rest : ℕ) (old new : WatchState) (output : WatchOutput) → Quiet o due old new output → IsBase width n new →
     Holds o width n due bound (waiting_before o n i old + (total n (keeps_lane o) (comes_before i old new) + rest)) old →
     Holds o width n (partial_next_after_command o output.command new due) bound (waiting_before o n i new + rest) new
 quiet_holds o width n i due bound rest old new output quiet base p =
@@ -264,7 +264,7 @@ quiet_holds o width n i due bound rest old new output quiet base p =
     })
 
 step_holds :
-    (o : Partial) (width n i due bound rest : ℕ) (old new : WatchState) (event : Event) (output : Output) → Step old event output new → IsHolding o i due old event output new → IsBase width n new →
+    (o : Partial) (width n i due bound rest : ℕ) (old new : WatchState) (event : WatchEvent) (output : WatchOutput) → Step old event output new → IsHolding o i due old event output new → IsBase width n new →
     Holds o width n due bound (waiting_before o n i old + (total n (keeps_lane o) (comes_before i old new) + rest)) old →
     Holds o width n (partial_next_after_command o output.command new due) bound (waiting_before o n i new + rest) new
 step_holds o width n i due bound rest old new (Clock wall elapsed) output step holding base p = clock_holds o width n i due bound rest old new wall elapsed output step holding base p
@@ -277,7 +277,7 @@ step_holds o width n i due bound rest old new (Known j end renewable) output ste
 step_holds o width n i due bound rest old new _ output step holding base p = quiet_holds o width n i due bound rest old new output (same_quiet o due old _ new output _ step.1 refl refl step.0 refl) base p
 
 turn_holds :
-    (o : Partial) (width n i due bound rest : ℕ) (old new : WatchState) (event : Event) (result : Result Output WatchFault) → Turn old event result new → IsHeld o i due old event result new → IsBase width n new →
+    (o : Partial) (width n i due bound rest : ℕ) (old new : WatchState) (event : WatchEvent) (result : Result WatchOutput WatchFault) → Turn old event result new → IsHeld o i due old event result new → IsBase width n new →
     Holds o width n due bound (waiting_before o n i old + (total n (keeps_lane o) (comes_before i old new) + rest)) old →
     Holds o width n (partial_next_after o result new due) bound (waiting_before o n i new + rest) new
 turn_holds o width n i due bound rest old new event (Ok output) turn held base p = step_holds o width n i due bound rest old new event output turn.1 held base p
@@ -348,11 +348,11 @@ along (Changes c ∷ hs) o width n i due bound old happens holding entries p =
 record Starts (o : Partial) (old : WatchState) (first : Turned) : Type 0 where
   wall : ℕ
   elapsed : ℕ
-  output : Output
+  output : WatchOutput
   ticks' : Ticks old first.state wall elapsed output
   due : partial_next_after o first.result first.state 0 ≡ partial_next_by o (wait first.state) first.state.out
 
-starts : (o : Partial) (old : WatchState) (first : Turned) (event : Event) (result : Result Output WatchFault) → first.result ≡ result → Turn old event result first.state → is_clock event ≡ true → is_event_taken result ≡ true → Starts o old first
+starts : (o : Partial) (old : WatchState) (first : Turned) (event : WatchEvent) (result : Result WatchOutput WatchFault) → first.result ≡ result → Turn old event result first.state → is_clock event ≡ true → is_event_taken result ≡ true → Starts o old first
 starts o old first (Clock wall elapsed) (Ok output) same turn clock taken' =
     let go = ticks old first.state wall elapsed output turn.1 in
     record {
@@ -367,7 +367,7 @@ starts o old first _ (Ok output) same turn clock taken' = absurd (true≢false (
 
 -- and the next one, at which it may go out
 comes_in_time :
-    (due : ℕ) (old new : WatchState) (event : Event) (result : Result Output WatchFault) → Turn old event result new → is_clock event ≡ true → is_event_taken result ≡ true → ClockIsInTime due old event → IsPast old →
+    (due : ℕ) (old new : WatchState) (event : WatchEvent) (result : Result WatchOutput WatchFault) → Turn old event result new → is_clock event ≡ true → is_event_taken result ≡ true → ClockIsInTime due old event → IsPast old →
     (old.clocks.at ≤ new.clocks.at) × (new.clocks.at ≤ due)
 comes_in_time due old new (Clock wall elapsed) (Ok output) turn clock taken' in_time past =
     let h = ticks old new wall elapsed output turn.1 in

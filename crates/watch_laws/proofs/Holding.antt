@@ -3,18 +3,18 @@ use Rattle.std.proofs.Common.{◌≡◌, ◌∙◌, ℕ, ◌+◌, ◌*◌, ◌�
 use Rattle.std.proofs.lemmas.Bool.{and_from, cond-true}
 use Rattle.std.proofs.lemmas.Bool.Decides.{nat_tests}
 use Rattle.std.specs.List.{list_any}
-use Rattle.watch_machine.specs.declared.command.Output.{Output}
-use Rattle.watch_machine.specs.declared.event.Event.{Event}
-use Rattle.watch_machine.specs.declared.event.Event.TheVariants.{Clock, Looked, Renewed, Need, Begin, Known}
+use Rattle.watch_machine.specs.declared.command.WatchOutput.{WatchOutput}
+use Rattle.watch_machine.specs.declared.event.WatchEvent.{WatchEvent}
+use Rattle.watch_machine.specs.declared.event.WatchEvent.TheVariants.{Clock, Looked, Renewed, Need, Begin, Known}
 use Rattle.watch_machine.specs.declared.event.Operation.TheVariants.{Look, Renew}
-use Rattle.watch_machine.specs.declared.event.Reply.{Reply}
-use Rattle.watch_machine.specs.declared.event.Reply.TheVariants.{Told, Refused, Busy, Lost}
-use Rattle.watch_machine.specs.declared.event.Terms.{Terms}
+use Rattle.watch_machine.specs.declared.event.WatchReply.{WatchReply}
+use Rattle.watch_machine.specs.declared.event.WatchReply.TheVariants.{Told, Refused, Busy, Lost}
+use Rattle.watch_machine.specs.declared.event.WatchTerms.{WatchTerms}
 use Rattle.watch_machine.specs.declared.fault.WatchFault.{WatchFault}
-use Rattle.watch_machine.specs.declared.lanes.Answer.{Answer}
+use Rattle.watch_machine.specs.declared.lanes.LaneAnswer.{LaneAnswer}
 use Rattle.watch_machine.specs.declared.lanes.Out.{Out}
 use Rattle.watch_machine.specs.declared.lanes.Presence.{Presence}
-use Rattle.watch_machine.specs.declared.notes.Why.{Why}
+use Rattle.watch_machine.specs.declared.notes.BeginReason.{BeginReason}
 use Rattle.watch_machine.specs.declared.track.Track.{Track}
 use Rattle.watch_machine.specs.declared.track.Try.{Try}
 use Rattle.watch_machine.specs.Answers.{answers_all, lane_freed, noted, replied, silent}
@@ -54,7 +54,7 @@ held_above margin at xs n = let d = doubled_above n in least_above margin at (mi
 
 -- a clock sets it, or leaves it no less than so far or a second ahead
 sets_hold :
-    (margin at : ℕ) (xs : List Track) (answers : List Answer) (p : Presence) → p.away ≡ true → list_any is_silent answers ≡ true → p.hold ≤ at →
+    (margin at : ℕ) (xs : List Track) (answers : List LaneAnswer) (p : Presence) → p.away ≡ true → list_any is_silent answers ≡ true → p.hold ≤ at →
     at + 1000 ≤ (presence_after margin at xs answers p).hold
 unfolding presence_after held_back hold_after
 sets_hold margin at xs answers p away silent' over =
@@ -67,7 +67,7 @@ sets_hold margin at xs answers p away silent' over =
     omega (arith, long, first, second)
 
 keeps_hold :
-    (margin at from : ℕ) (xs : List Track) (answers : List Answer) (p : Presence) → from ≤ at → from + 1000 ≤ p.hold → from + 1000 ≤ (presence_after margin at xs answers p).hold
+    (margin at from : ℕ) (xs : List Track) (answers : List LaneAnswer) (p : Presence) → from ≤ at → from + 1000 ≤ p.hold → from + 1000 ≤ (presence_after margin at xs answers p).hold
 unfolding presence_after held_back hold_after
 keeps_hold margin at from xs answers p later h =
     let long = held_above margin at xs (count_after at p) in
@@ -76,7 +76,7 @@ keeps_hold margin at from xs answers p later h =
     (record p { count = count_after at p; hold = hold_after margin at xs p }) p
     (if_both (λ n. from + 1000 ≤ n) (nat_le p.hold at) (at + held margin at xs (count_after at p)) (min p.hold (at + held margin at xs p.count)) (omega (arith, long, later)) (omega (arith, less, later, h))) h
 
-begun_presence : (s : WatchState) (w : Option Why) → (begun s w).presence ≡ s.presence
+begun_presence : (s : WatchState) (w : Option BeginReason) → (begun s w).presence ≡ s.presence
 begun_presence s None = refl
 begun_presence s (Some w) = refl
 
@@ -91,7 +91,7 @@ record Holds (from : ℕ) (s : WatchState) : Type 0 where
   hold : from + 1000 ≤ s.presence.hold
 
 -- the clock that sets it
-clock_sets : (old new : WatchState) (wall elapsed : ℕ) (output : Output) → StepClock old wall elapsed output new → old.presence.away ≡ true → list_any is_silent old.answers ≡ true → old.presence.hold ≤ new.clocks.at → Holds new.clocks.at new
+clock_sets : (old new : WatchState) (wall elapsed : ℕ) (output : WatchOutput) → StepClock old wall elapsed output new → old.presence.away ≡ true → list_any is_silent old.answers ≡ true → old.presence.hold ≤ new.clocks.at → Holds new.clocks.at new
 clock_sets old new wall elapsed output step away silent' over =
     let ready = readied old wall elapsed in
     let is = sent_by (pressed ready (round_of step.round)) new output.command step.command in
@@ -105,13 +105,13 @@ clock_sets old new wall elapsed output step away silent' over =
       hold = omega (arith, clock, hold, long);
     }
 
-first_sets : (old new : WatchState) (event : Event) (result : Result Output WatchFault) → Turn old event result new → Sets old (record { event = event; result = result; state = new }) → Holds new.clocks.at new
+first_sets : (old new : WatchState) (event : WatchEvent) (result : Result WatchOutput WatchFault) → Turn old event result new → Sets old (record { event = event; result = result; state = new }) → Holds new.clocks.at new
 first_sets old new (Clock wall elapsed) (Ok output) turn h = clock_sets old new wall elapsed output turn.1 h.away h.silent h.over
 first_sets old new event (Err fault) turn h = absurd (let e = h.taken in cc)
 first_sets old new _ (Ok output) turn h = absurd (let e = h.clock in cc)
 
 -- every turn after which the broker is still away keeps it
-clock_holds : (from : ℕ) (old new : WatchState) (wall elapsed : ℕ) (output : Output) → StepClock old wall elapsed output new → Holds from old → Holds from new
+clock_holds : (from : ℕ) (old new : WatchState) (wall elapsed : ℕ) (output : WatchOutput) → StepClock old wall elapsed output new → Holds from old → Holds from new
 clock_holds from old new wall elapsed output step h =
     let ready = readied old wall elapsed in
     let is = sent_by (pressed ready (round_of step.round)) new output.command step.command in
@@ -131,14 +131,14 @@ clock_holds from old new wall elapsed output step h =
 abbrev StillAway : WatchState → WatchState → Type 0
 StillAway old new = new.presence.away ≡ true → new.presence ≡ old.presence
 
-pub replied_presence : (s : WatchState) (q : Out) (reply : Reply) → s.presence.away ≡ true → StillAway s (replied s q reply)
+pub replied_presence : (s : WatchState) (q : Out) (reply : WatchReply) → s.presence.away ≡ true → StillAway s (replied s q reply)
 replied_presence s q reply away =
     let free = lane_freed s q in
     if_both (StillAway s) (is_real reply) (answers_all free) (if q.heard then free else silent free)
     (if_cases (StillAway s) s.presence.away _ _ (λ e still. absurd cc) (λ e. absurd (true≢false (sym away ∙ e))))
     (if_both (StillAway s) q.heard free (silent free) (λ still. refl) (if_cases (StillAway s) s.presence.away _ _ (λ e still. refl) (λ e. absurd (true≢false (sym away ∙ e)))))
 
-pub looked_presence : (s : WatchState) (q : Out) (reply : Reply) (terms : Terms) → (looked s q reply terms).presence ≡ s.presence
+pub looked_presence : (s : WatchState) (q : Out) (reply : WatchReply) (terms : WatchTerms) → (looked s q reply terms).presence ≡ s.presence
 looked_presence s q (Told seconds renewable date) terms = refl
 looked_presence s q _ terms = refl
 
@@ -149,7 +149,7 @@ left_holds from old new rest same h = record {
   hold = let e = ap (λ (p : Presence). p.hold) same in let l = h.hold in omega (arith, e, l);
 }
 
-pub looked_still : (old new : WatchState) (found : Option Out) (reply : Reply) (terms : Terms) (output : Output) → StepLooked old found reply terms output new → old.presence.away ≡ true → (rest_of new ≡ rest_of old) × StillAway old new
+pub looked_still : (old new : WatchState) (found : Option Out) (reply : WatchReply) (terms : WatchTerms) (output : WatchOutput) → StepLooked old found reply terms output new → old.presence.away ≡ true → (rest_of new ≡ rest_of old) × StillAway old new
 looked_still old new None reply terms output step away = absurd step
 looked_still old new (Some q) reply terms output step away =
     let mid = looked (noted old q reply) q reply terms in
@@ -158,14 +158,14 @@ looked_still old new (Some q) reply terms output step away =
       subst (StillAway old) (sym step.1) (λ still. replied_presence mid q reply (ap (λ (p : Presence). p.away) same ∙ away) still ∙ same),
     )
 
-pub renewed_still : (old new : WatchState) (found : Option Out) (reply : Reply) (output : Output) → StepRenewed old found reply output new → old.presence.away ≡ true → (rest_of new ≡ rest_of old) × StillAway old new
+pub renewed_still : (old new : WatchState) (found : Option Out) (reply : WatchReply) (output : WatchOutput) → StepRenewed old found reply output new → old.presence.away ≡ true → (rest_of new ≡ rest_of old) × StillAway old new
 renewed_still old new None reply output step away = absurd step
 renewed_still old new (Some q) reply output step away = (
   ap rest_of step.1 ∙ renewed_leaves old q reply,
   subst (StillAway old) (sym step.1) (λ still. replied_presence (state_renewed (noted old q reply) q reply) q reply away still),
 )
 
-step_holds : (from : ℕ) (old new : WatchState) (event : Event) (output : Output) → Step old event output new → old.presence.away ≡ true → new.presence.away ≡ true → Holds from old → Holds from new
+step_holds : (from : ℕ) (old new : WatchState) (event : WatchEvent) (output : WatchOutput) → Step old event output new → old.presence.away ≡ true → new.presence.away ≡ true → Holds from old → Holds from new
 step_holds from old new (Clock wall elapsed) output step away still h = clock_holds from old new wall elapsed output step h
 step_holds from old new (Looked i reply terms) output step away still h =
     let left = looked_still old new (request_out old.out i Look) reply terms output step away in
@@ -177,7 +177,7 @@ step_holds from old new Begin output step away still h = subst (Holds from) (sym
 step_holds from old new _ output step away still h = left_holds from old new (ap rest_of step.1) (ap (λ (x : WatchState). x.presence) step.1) h
 
 turn_holds :
-    (from : ℕ) (old new : WatchState) (event : Event) (result : Result Output WatchFault) → Turn old event result new → old.presence.away ≡ true → new.presence.away ≡ true → Holds from old →
+    (from : ℕ) (old new : WatchState) (event : WatchEvent) (result : Result WatchOutput WatchFault) → Turn old event result new → old.presence.away ≡ true → new.presence.away ≡ true → Holds from old →
     Holds from new
 turn_holds from old new event (Ok output) turn away still h = step_holds from old new event output turn.1 away still h
 turn_holds from old new event (Err fault) turn away still h = subst (Holds from) (sym (refused_stays old new event fault turn)) h

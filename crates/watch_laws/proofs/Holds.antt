@@ -3,14 +3,14 @@ use Rattle.std.proofs.Common.{◌≡◌, ◌⊎◌, ◌∙◌, ℕ, suc, ◌+◌
 use Rattle.std.proofs.lemmas.Bool.{and_from, cond-false, cond-true}
 use Rattle.std.proofs.lemmas.Bool.Decides.{nat_tests}
 use Rattle.std.specs.List.{list_any}
-use Rattle.watch_machine.specs.declared.command.Output.{Output}
-use Rattle.watch_machine.specs.declared.event.Event.{Event}
-use Rattle.watch_machine.specs.declared.event.Event.TheVariants.{Clock, Looked, Renewed, Need, Begin, Known}
+use Rattle.watch_machine.specs.declared.command.WatchOutput.{WatchOutput}
+use Rattle.watch_machine.specs.declared.event.WatchEvent.{WatchEvent}
+use Rattle.watch_machine.specs.declared.event.WatchEvent.TheVariants.{Clock, Looked, Renewed, Need, Begin, Known}
 use Rattle.watch_machine.specs.declared.event.Operation.TheVariants.{Look, Renew}
-use Rattle.watch_machine.specs.declared.event.Reply.{Reply}
-use Rattle.watch_machine.specs.declared.event.Terms.{Terms}
+use Rattle.watch_machine.specs.declared.event.WatchReply.{WatchReply}
+use Rattle.watch_machine.specs.declared.event.WatchTerms.{WatchTerms}
 use Rattle.watch_machine.specs.declared.fault.WatchFault.{WatchFault}
-use Rattle.watch_machine.specs.declared.lanes.Answer.{Answer}
+use Rattle.watch_machine.specs.declared.lanes.LaneAnswer.{LaneAnswer}
 use Rattle.watch_machine.specs.declared.lanes.Out.{Out}
 use Rattle.watch_machine.specs.declared.lanes.Presence.{Presence}
 use Rattle.watch_machine.specs.declared.track.Track.{Track}
@@ -65,7 +65,7 @@ held_hold s at n =
     }
 
 -- a clock
-module _ (margin at : ℕ) (xs : List Track) (answers : List Answer) (p : Presence) where
+module _ (margin at : ℕ) (xs : List Track) (answers : List LaneAnswer) (p : Presence) where
   abbrev q : Presence
   q = presence_after margin at xs answers p
 
@@ -103,13 +103,13 @@ module _ (margin at : ℕ) (xs : List Track) (answers : List Answer) (p : Presen
 record Clocked (old new : WatchState) : Type 0 where
   presence : new.presence ≡ presence_after old.forest.margin new.clocks.at old.tracks old.answers old.presence
 
-step_clocked : (old new : WatchState) (wall elapsed : ℕ) (output : Output) → StepClock old wall elapsed output new → Clocked old new
+step_clocked : (old new : WatchState) (wall elapsed : ℕ) (output : WatchOutput) → StepClock old wall elapsed output new → Clocked old new
 step_clocked old new wall elapsed output step =
     let go = sent_by (pressed (readied old wall elapsed) (asked_by_round step.round)) new output.command step.command in
     let at : new.clocks.at ≡ (timed old wall elapsed).clocks.at = ap (λ (x : WatchState). x.clocks.at) go.1 ∙ ap (λ c. c.at) (readied_clocks old wall elapsed) in
     record { presence = ap (λ (x : WatchState). x.presence) go.1 ∙ ready_presence old wall elapsed ∙ ap (λ n. presence_after old.forest.margin n old.tracks old.answers old.presence) (sym at) }
 
-turn_clocked : (old new : WatchState) (event : Event) (result : Result Output WatchFault) (wall elapsed : ℕ) → Turn old event result new → event ≡ Clock wall elapsed → is_event_taken result ≡ true → Clocked old new
+turn_clocked : (old new : WatchState) (event : WatchEvent) (result : Result WatchOutput WatchFault) (wall elapsed : ℕ) → Turn old event result new → event ≡ Clock wall elapsed → is_event_taken result ≡ true → Clocked old new
 turn_clocked old new event (Ok output) wall elapsed turn is taken' = step_clocked old new wall elapsed output (subst (λ e. Step old e output new) is turn.1)
 turn_clocked old new event (Err fault) wall elapsed turn is taken' = absurd (true≢false (sym taken'))
 
@@ -138,7 +138,7 @@ hold_stays old new h none =
 abbrev Leaves : Presence → Presence → Type 0
 Leaves old new = ((new.away ≡ old.away) × ((new.count ≡ old.count) × (new.hold ≡ old.hold))) ⊎ ((new.away ≡ old.away → ⊥) × ((new.count ≡ 0) × (new.hold ≡ 0)))
 
-replied_leaves : (s : WatchState) (q : Out) (reply : Reply) → Leaves s.presence (replied s q reply).presence
+replied_leaves : (s : WatchState) (q : Out) (reply : WatchReply) → Leaves s.presence (replied s q reply).presence
 replied_leaves s q reply =
     let free = lane_freed s q in
     let P : WatchState → Type 0 = λ t. Leaves s.presence t.presence in
@@ -147,7 +147,7 @@ replied_leaves s q reply =
     (if_both P q.heard free (silent free) (inl (refl, (refl, refl)))
     (if_cases P s.presence.away _ _ (λ e. inl (refl, (refl, refl))) (λ e. inr ((λ same. not_both (sym same) e), (refl, refl)))))
 
-looked_leaves : (old new : WatchState) (found : Option Out) (reply : Reply) (terms : Terms) (output : Output) → StepLooked old found reply terms output new → Leaves old.presence new.presence
+looked_leaves : (old new : WatchState) (found : Option Out) (reply : WatchReply) (terms : WatchTerms) (output : WatchOutput) → StepLooked old found reply terms output new → Leaves old.presence new.presence
 looked_leaves old new None reply terms output step = absurd step
 looked_leaves old new (Some q) reply terms output step =
     let s = noted old q reply in
@@ -155,7 +155,7 @@ looked_leaves old new (Some q) reply terms output step =
     subst (λ (x : WatchState). Leaves old.presence x.presence) (sym step.1)
     (subst (λ (p : Presence). Leaves p (replied mid q reply).presence) (looked_presence s q reply terms) (replied_leaves mid q reply))
 
-renewed_leaves : (old new : WatchState) (found : Option Out) (reply : Reply) (output : Output) → StepRenewed old found reply output new → Leaves old.presence new.presence
+renewed_leaves : (old new : WatchState) (found : Option Out) (reply : WatchReply) (output : WatchOutput) → StepRenewed old found reply output new → Leaves old.presence new.presence
 renewed_leaves old new None reply output step = absurd step
 renewed_leaves old new (Some q) reply output step =
     subst (λ (x : WatchState). Leaves old.presence x.presence) (sym step.1) (replied_leaves (state_renewed (noted old q reply) q reply) q reply)
@@ -163,13 +163,13 @@ renewed_leaves old new (Some q) reply output step =
 same_leaves : (old new : WatchState) → new.presence ≡ old.presence → Leaves old.presence new.presence
 same_leaves old new is = subst (Leaves old.presence) (sym is) (inl (refl, (refl, refl)))
 
-step_leaves : (old new : WatchState) (event : Event) (output : Output) → Step old event output new → is_clock event ≡ false → Leaves old.presence new.presence
+step_leaves : (old new : WatchState) (event : WatchEvent) (output : WatchOutput) → Step old event output new → is_clock event ≡ false → Leaves old.presence new.presence
 step_leaves old new (Clock wall elapsed) output step none = absurd cc
 step_leaves old new (Looked i reply terms) output step none = looked_leaves old new (request_out old.out i Look) reply terms output step
 step_leaves old new (Renewed i reply) output step none = renewed_leaves old new (request_out old.out i Renew) reply output step
 step_leaves old new _ output step none = same_leaves old new (ap (λ (x : WatchState). x.presence) step.1)
 
-turn_leaves : (old new : WatchState) (event : Event) (result : Result Output WatchFault) → Turn old event result new → is_event_taken result && is_clock event ≡ false → Leaves old.presence new.presence
+turn_leaves : (old new : WatchState) (event : WatchEvent) (result : Result WatchOutput WatchFault) → Turn old event result new → is_event_taken result && is_clock event ≡ false → Leaves old.presence new.presence
 turn_leaves old new event (Ok output) turn none = step_leaves old new event output turn.1 none
 turn_leaves old new event (Err fault) turn none = same_leaves old new (ap (λ (x : WatchState). x.presence) (refused_stays old new event fault turn))
 
@@ -187,7 +187,7 @@ ends_so old new away (inl same) is other = absurd (differ old.presence.away new.
 ends_so old new away (inr ends) is other = record { count = ends.1.0; hold = ends.1.1 }
 
 turn_ends :
-    (old new : WatchState) (event : Event) (result : Result Output WatchFault) (away : Bool) → Turn old event result new → old.presence.away ≡ away → new.presence.away ≡ (if away then false else true) → HoldEnds new
+    (old new : WatchState) (event : WatchEvent) (result : Result WatchOutput WatchFault) (away : Bool) → Turn old event result new → old.presence.away ≡ away → new.presence.away ≡ (if away then false else true) → HoldEnds new
 turn_ends old new (Clock wall elapsed) (Ok output) away turn is other =
     let h = step_clocked old new wall elapsed output turn.1 in
     absurd (differ old.presence.away new.presence.away away is other (ap (λ (p : Presence). p.away) h.presence ∙ away_is old.forest.margin new.clocks.at old.tracks old.answers old.presence))

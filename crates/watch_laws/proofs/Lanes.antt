@@ -3,15 +3,15 @@ use Rattle.std.proofs.Common.{◌≡◌, ◌≢◌, ◌⊎◌, ◌∙◌, ℕ, �
 use Rattle.std.proofs.lemmas.Bool.{and_from, and_parts, cases_Bool, cond-false, cond-true, eqb-true}
 use Rattle.std.proofs.lemmas.List.Elements.{All-append, All-cons, All-filter, All-head, All-map, All-nil, All-tail, All-weaker}
 use Rattle.std.specs.List.{list_any}
-use Rattle.watch_machine.specs.declared.command.Command.{Command}
-use Rattle.watch_machine.specs.declared.command.Command.TheVariants.{Go, Taken}
-use Rattle.watch_machine.specs.declared.command.Output.{Output}
-use Rattle.watch_machine.specs.declared.command.Request.{Request}
-use Rattle.watch_machine.specs.declared.event.Event.{Event}
-use Rattle.watch_machine.specs.declared.event.Event.TheVariants.{Clock, Looked, Renewed, Need, Begin, Known}
+use Rattle.watch_machine.specs.declared.command.WatchCommand.{WatchCommand}
+use Rattle.watch_machine.specs.declared.command.WatchCommand.TheVariants.{Go, Taken}
+use Rattle.watch_machine.specs.declared.command.WatchOutput.{WatchOutput}
+use Rattle.watch_machine.specs.declared.command.WatchRequest.{WatchRequest}
+use Rattle.watch_machine.specs.declared.event.WatchEvent.{WatchEvent}
+use Rattle.watch_machine.specs.declared.event.WatchEvent.TheVariants.{Clock, Looked, Renewed, Need, Begin, Known}
 use Rattle.watch_machine.specs.declared.event.Operation.TheVariants.{Look, Renew}
-use Rattle.watch_machine.specs.declared.event.Reply.{Reply}
-use Rattle.watch_machine.specs.declared.event.Terms.{Terms}
+use Rattle.watch_machine.specs.declared.event.WatchReply.{WatchReply}
+use Rattle.watch_machine.specs.declared.event.WatchTerms.{WatchTerms}
 use Rattle.watch_machine.specs.declared.fault.WatchFault.{WatchFault}
 use Rattle.watch_machine.specs.declared.lanes.Out.{Out}
 use Rattle.watch_machine.specs.declared.lanes.Presence.{Presence}
@@ -79,7 +79,7 @@ heard_any : (f : ℕ → ℕ → Bool) (out : List Out) → list_any (passes f) 
 heard_any f [] = refl
 heard_any f (q ∷ out) = ap (λ b. passes f q || b) (heard_any f out)
 
-pub replied_any : (f : ℕ → ℕ → Bool) (s : WatchState) (q : Out) (reply : Reply) → list_any (passes f) (replied s q reply).out ≡ true → list_any (passes f) s.out ≡ true
+pub replied_any : (f : ℕ → ℕ → Bool) (s : WatchState) (q : Out) (reply : WatchReply) → list_any (passes f) (replied s q reply).out ≡ true → list_any (passes f) s.out ≡ true
 replied_any f s q reply =
     let free = lane_freed s q in
     let P : WatchState → Type 0 = λ t. list_any (passes f) t.out ≡ true → list_any (passes f) s.out ≡ true in
@@ -109,7 +109,7 @@ kept_any i e test (q ∷ out) apart h =
       by true no' = absurd (no' refl)
       by false no' = refl
 
-pub replied_lane : (i : ℕ) (test : ℕ → Bool) (s : WatchState) (q : Out) (reply : Reply) → q.entry ≢ i → list_any (is_of i test) s.out ≡ true → list_any (is_of i test) (replied s q reply).out ≡ true
+pub replied_lane : (i : ℕ) (test : ℕ → Bool) (s : WatchState) (q : Out) (reply : WatchReply) → q.entry ≢ i → list_any (is_of i test) s.out ≡ true → list_any (is_of i test) (replied s q reply).out ≡ true
 replied_lane i test s q reply apart h =
     let free = lane_freed s q in
     let P : WatchState → Type 0 = λ t. list_any (is_of i test) t.out ≡ true in
@@ -130,14 +130,14 @@ last_any test (x ∷ xs) ys h = or_last' (test x) (list_any test (xs ++ ys)) (la
   or_last' true b e = refl
   or_last' false b e = e
 
-named_any : (i at : ℕ) (test : ℕ → Bool) (rs : List Request) → test at ≡ true → list_any (λ (r : Request). r.entry == i) rs ≡ true → list_any (is_of i test) (map (out_at at) rs) ≡ true
+named_any : (i at : ℕ) (test : ℕ → Bool) (rs : List WatchRequest) → test at ≡ true → list_any (λ (r : WatchRequest). r.entry == i) rs ≡ true → list_any (is_of i test) (map (out_at at) rs) ≡ true
 named_any i at test [] yes' h = absurd cc
 named_any i at test (r ∷ rs) yes' h =
     elim (cases_Bool (r.entry == i)) as (λ _. (r.entry == i && test at) || list_any (is_of i test) (map (out_at at) rs) ≡ true) [
       | inl here ↦ or_left (r.entry == i && test at) (list_any (is_of i test) (map (out_at at) rs)) (and_from (r.entry == i) (test at) here yes')
       | inr there ↦
           ap (λ b. (b && test at) || list_any (is_of i test) (map (out_at at) rs)) there
-          ∙ named_any i at test rs yes' (sym (ap (λ b. b || list_any (λ (q : Request). q.entry == i) rs) there) ∙ h)
+          ∙ named_any i at test rs yes' (sym (ap (λ b. b || list_any (λ (q : WatchRequest). q.entry == i) rs) there) ∙ h)
     ]
 
 -- what goes out at a clock
@@ -169,9 +169,9 @@ pub pressed_count : (s : WatchState) (round : List ℕ) → length (pressed s ro
 pressed_count s round = each_length _ (pressed_alone s.forest s.clocks s.tracks) ∙ each_length _ s.tracks
 
 -- a clock: the state in which all are pressed, and what goes out of it
-pub record Ticks (old new : WatchState) (wall elapsed : ℕ) (output : Output) : Type 0 where
+pub record Ticks (old new : WatchState) (wall elapsed : ℕ) (output : WatchOutput) : Type 0 where
   pub round : List ℕ
-  pub requests : List Request
+  pub requests : List WatchRequest
   pub command : output.command ≡ Go requests (wait new)
   pub going :
       Goes (pressed (readied old wall elapsed) round).forest (pressed (readied old wall elapsed) round).presence (pressed (readied old wall elapsed) round).clocks.at (pressed (readied old wall elapsed) round).tracks
@@ -179,17 +179,17 @@ pub record Ticks (old new : WatchState) (wall elapsed : ℕ) (output : Output) :
   pub new_is : new ≡ sent (pressed (readied old wall elapsed) round) requests
 
 commanded :
-    (s new : WatchState) (command : Command) → StepCommand s command new →
-    (requests : List Request) × ((command ≡ Go requests (wait new)) × (Goes s.forest s.presence s.clocks.at s.tracks (s.width - length s.out) requests × (new ≡ sent s requests)))
+    (s new : WatchState) (command : WatchCommand) → StepCommand s command new →
+    (requests : List WatchRequest) × ((command ≡ Go requests (wait new)) × (Goes s.forest s.presence s.clocks.at s.tracks (s.width - length s.out) requests × (new ≡ sent s requests)))
 commanded s new (Go requests until) h = (requests, (ap (λ n. Go requests n) h.1, (goes s.forest s.presence s.clocks.at s.tracks (s.width - length s.out) requests h.0.0, h.0.1)))
 commanded s new Taken h = absurd h
 
-pub ticks : (old new : WatchState) (wall elapsed : ℕ) (output : Output) → StepClock old wall elapsed output new → Ticks old new wall elapsed output
+pub ticks : (old new : WatchState) (wall elapsed : ℕ) (output : WatchOutput) → StepClock old wall elapsed output new → Ticks old new wall elapsed output
 ticks old new wall elapsed output step =
     let go = commanded (pressed (readied old wall elapsed) (round_of step.round)) new output.command step.command in
     record { round = round_of step.round; requests = go.0; command = go.1.0; going = go.1.1.0; new_is = go.1.1.1 }
 
-pub still_out : (old new : WatchState) (wall elapsed : ℕ) (output : Output) (test : Out → Bool) → Ticks old new wall elapsed output → list_any test old.out ≡ true → list_any test new.out ≡ true
+pub still_out : (old new : WatchState) (wall elapsed : ℕ) (output : WatchOutput) (test : Out → Bool) → Ticks old new wall elapsed output → list_any test old.out ≡ true → list_any test new.out ≡ true
 still_out old new wall elapsed output test h any =
     let mid = pressed (readied old wall elapsed) h.round in
     ap (λ (x : WatchState). list_any test x.out) h.new_is
@@ -197,31 +197,31 @@ still_out old new wall elapsed output test h any =
 
 -- who was not out and is out now went out now
 pub goes_out_now :
-    (old new : WatchState) (wall elapsed : ℕ) (output : Output) (i : ℕ) (test : ℕ → Bool) (h : Ticks old new wall elapsed output) → (track_at old i).out ≡ false → (track_at new i).out ≡ true →
+    (old new : WatchState) (wall elapsed : ℕ) (output : WatchOutput) (i : ℕ) (test : ℕ → Bool) (h : Ticks old new wall elapsed output) → (track_at old i).out ≡ false → (track_at new i).out ≡ true →
     test (pressed (readied old wall elapsed) h.round).clocks.at ≡ true → list_any (is_of i test) new.out ≡ true
 goes_out_now old new wall elapsed output i test h free out yes' =
     let mid = pressed (readied old wall elapsed) h.round in
     let before : (track_at mid i).out ≡ false = mid_flag old wall elapsed h.round i ∙ free in
     let after : (track_at (sent mid h.requests) i).out ≡ true = ap (λ (x : WatchState). (track_at x i).out) (sym h.new_is) ∙ out in
-    let named : list_any (λ (r : Request). r.entry == i) h.requests ≡ true =
-    elim (cases_Bool (list_any (λ (r : Request). r.entry == i) h.requests)) [
+    let named : list_any (λ (r : WatchRequest). r.entry == i) h.requests ≡ true =
+    elim (cases_Bool (list_any (λ (r : WatchRequest). r.entry == i) h.requests)) [
       | inl yes'' ↦ yes''
       | inr none ↦ absurd (not_both after (ap (λ (x : Track). x.out) (passed_over mid h.requests i none) ∙ before))
     ] in
     ap (λ (x : WatchState). list_any (is_of i test) x.out) h.new_is ∙ last_any (is_of i test) mid.out (map (out_at mid.clocks.at) h.requests) (named_any i mid.clocks.at test h.requests yes' named)
 
 -- who is not out after a clock has the track with which all were pressed
-pub stays_free : (old new : WatchState) (wall elapsed : ℕ) (output : Output) (i : ℕ) (h : Ticks old new wall elapsed output) → i < length old.tracks → (track_at new i).out ≡ false → track_at new i ≡ track_at (pressed (readied old wall elapsed) h.round) i
+pub stays_free : (old new : WatchState) (wall elapsed : ℕ) (output : WatchOutput) (i : ℕ) (h : Ticks old new wall elapsed output) → i < length old.tracks → (track_at new i).out ≡ false → track_at new i ≡ track_at (pressed (readied old wall elapsed) h.round) i
 stays_free old new wall elapsed output i h within free =
     let mid = pressed (readied old wall elapsed) h.round in
     let after : (track_at (sent mid h.requests) i).out ≡ false = ap (λ (x : WatchState). (track_at x i).out) (sym h.new_is) ∙ free in
-    let none : list_any (λ (r : Request). r.entry == i) h.requests ≡ false =
-    elim (cases_Bool (list_any (λ (r : Request). r.entry == i) h.requests)) [
+    let none : list_any (λ (r : WatchRequest). r.entry == i) h.requests ≡ false =
+    elim (cases_Bool (list_any (λ (r : WatchRequest). r.entry == i) h.requests)) [
       | inl named ↦ absurd (not_both (each_holds_out mid h.requests i named (mid_within old wall elapsed h.round i within)) after)
       | inr none' ↦ none'
     ] in
     ap (λ (x : WatchState). track_at x i) h.new_is ∙ passed_over mid h.requests i none where
-      each_holds_out : (s : WatchState) (rs : List Request) (k : ℕ) → list_any (λ (r : Request). r.entry == k) rs ≡ true → k < length s.tracks → (track_at (sent s rs) k).out ≡ true
+      each_holds_out : (s : WatchState) (rs : List WatchRequest) (k : ℕ) → list_any (λ (r : WatchRequest). r.entry == k) rs ≡ true → k < length s.tracks → (track_at (sent s rs) k).out ≡ true
       each_holds_out s rs k named low = ap (λ (x : Track). x.out) (went s rs k named low)
 
       mid_within : (s : WatchState) (w e : ℕ) (round : List ℕ) (k : ℕ) → k < length s.tracks → k < length (pressed (readied s w e) round).tracks
@@ -230,7 +230,7 @@ stays_free old new wall elapsed output i h within free =
           let b = readied_count s w e in
           omega (arith, low, a, b)
 
-clock_sends : (old new : WatchState) (wall elapsed : ℕ) (output : Output) (n : ℕ) → Ticks old new wall elapsed output → length new.tracks ≤ n → Sends old new n
+clock_sends : (old new : WatchState) (wall elapsed : ℕ) (output : WatchOutput) (n : ℕ) → Ticks old new wall elapsed output → length new.tracks ≤ n → Sends old new n
 clock_sends old new wall elapsed output n h many f any =
     let mid = pressed (readied old wall elapsed) h.round in
     let p = mid.presence in
@@ -251,28 +251,28 @@ clock_sends old new wall elapsed output n h many f any =
           let same = each_length' mid h.requests in
           inr (k, (subst (λ c. f k c ≡ true) (sym clock) one.1.0, (omega (arith, low, many, count, same), sym (mid_flag old wall elapsed h.round k) ∙ free)))
     ] where
-      each_length' : (s : WatchState) (rs : List Request) → length (sent s rs).tracks ≡ length s.tracks
+      each_length' : (s : WatchState) (rs : List WatchRequest) → length (sent s rs).tracks ≡ length s.tracks
       each_length' s rs = each_length (sent_in s.clocks.at rs) s.tracks
 
-looked_sends : (old new : WatchState) (found : Option Out) (reply : Reply) (terms : Terms) (output : Output) (n : ℕ) → StepLooked old found reply terms output new → Sends old new n
+looked_sends : (old new : WatchState) (found : Option Out) (reply : WatchReply) (terms : WatchTerms) (output : WatchOutput) (n : ℕ) → StepLooked old found reply terms output new → Sends old new n
 looked_sends old new None reply terms output n step f any = absurd step
 looked_sends old new (Some q) reply terms output n step f any =
     let s = noted old q reply in
     let mid = looked s q reply terms in
     inl (sym (ap (list_any (passes f)) (looked_out s q reply terms)) ∙ replied_any f mid q reply (sym (ap (λ (x : WatchState). list_any (passes f) x.out) step.1) ∙ any))
 
-renewed_sends : (old new : WatchState) (found : Option Out) (reply : Reply) (output : Output) (n : ℕ) → StepRenewed old found reply output new → Sends old new n
+renewed_sends : (old new : WatchState) (found : Option Out) (reply : WatchReply) (output : WatchOutput) (n : ℕ) → StepRenewed old found reply output new → Sends old new n
 renewed_sends old new None reply output n step f any = absurd step
 renewed_sends old new (Some q) reply output n step f any =
     inl (replied_any f (state_renewed (noted old q reply) q reply) q reply (sym (ap (λ (x : WatchState). list_any (passes f) x.out) step.1) ∙ any))
 
-step_sends : (old new : WatchState) (event : Event) (output : Output) (n : ℕ) → length new.tracks ≤ n → Step old event output new → Sends old new n
+step_sends : (old new : WatchState) (event : WatchEvent) (output : WatchOutput) (n : ℕ) → length new.tracks ≤ n → Step old event output new → Sends old new n
 step_sends old new (Clock wall elapsed) output n many step f any = clock_sends old new wall elapsed output n (ticks old new wall elapsed output step) many f any
 step_sends old new (Looked j reply terms) output n many step f any = looked_sends old new (request_out old.out j Look) reply terms output n step f any
 step_sends old new (Renewed j reply) output n many step f any = renewed_sends old new (request_out old.out j Renew) reply output n step f any
 step_sends old new _ output n many step f any = inl (sym (ap (λ (x : WatchState). list_any (passes f) x.out) step.1) ∙ any)
 
-pub turn_sends : (old new : WatchState) (event : Event) (result : Result Output WatchFault) (n : ℕ) → length new.tracks ≤ n → Turn old event result new → Sends old new n
+pub turn_sends : (old new : WatchState) (event : WatchEvent) (result : Result WatchOutput WatchFault) (n : ℕ) → length new.tracks ≤ n → Turn old event result new → Sends old new n
 turn_sends old new event (Ok output) n many turn f any = step_sends old new event output n many turn.1 f any
 turn_sends old new event (Err fault) n many turn f any = inl (subst (λ (x : WatchState). list_any (passes f) x.out ≡ true) (refused_stays old new event fault turn) any)
 
@@ -316,22 +316,22 @@ anew_served o from s j anew =
     and_from (r.entry == j) (is_request_whole o r.since) both.0 (and_parts (is_request_whole o r.since) (nat_le from r.since) both.1).0) anew
 
 -- what holds of the requests that are out, and of those that go out, holds of all after a clock
-pub each_named : (p : Presence) (now : ℕ) (xs : List Track) (is : List ℕ) → All (λ k. list_any (λ (r : Request). r.entry == k) (map (request_at p now xs) is) ≡ true) is
-each_named p now xs [] = All-nil (λ k. list_any (λ (r : Request). r.entry == k) [] ≡ true)
+pub each_named : (p : Presence) (now : ℕ) (xs : List Track) (is : List ℕ) → All (λ k. list_any (λ (r : WatchRequest). r.entry == k) (map (request_at p now xs) is) ≡ true) is
+each_named p now xs [] = All-nil (λ k. list_any (λ (r : WatchRequest). r.entry == k) [] ≡ true)
 each_named p now xs (j ∷ js) =
     let rs = map (request_at p now xs) js in
-    let P : ℕ → Type 0 = λ k. ((request_at p now xs j).entry == k) || list_any (λ (r : Request). r.entry == k) rs ≡ true in
-    All-cons P j js (or_left ((request_at p now xs j).entry == j) (list_any (λ (r : Request). r.entry == j) rs) (ap (λ k. k == j) (entry_by p now xs j) ∙ same_index j))
-    (All-weaker (λ k. list_any (λ (r : Request). r.entry == k) rs ≡ true) P (λ k h. or_last' ((request_at p now xs j).entry == k) (list_any (λ (r : Request). r.entry == k) rs) h) js (each_named p now xs js)) where
+    let P : ℕ → Type 0 = λ k. ((request_at p now xs j).entry == k) || list_any (λ (r : WatchRequest). r.entry == k) rs ≡ true in
+    All-cons P j js (or_left ((request_at p now xs j).entry == j) (list_any (λ (r : WatchRequest). r.entry == j) rs) (ap (λ k. k == j) (entry_by p now xs j) ∙ same_index j))
+    (All-weaker (λ k. list_any (λ (r : WatchRequest). r.entry == k) rs ≡ true) P (λ k h. or_last' ((request_at p now xs j).entry == k) (list_any (λ (r : WatchRequest). r.entry == k) rs) h) js (each_named p now xs js)) where
       or_last' : (a b : Bool) → b ≡ true → a || b ≡ true
       or_last' true b e = refl
       or_last' false b e = e
 
 pub all_sent :
-    (P : Out → Type 0) (old new : WatchState) (wall elapsed : ℕ) (output : Output) (h : Ticks old new wall elapsed output) → All P old.out →
+    (P : Out → Type 0) (old new : WatchState) (wall elapsed : ℕ) (output : WatchOutput) (h : Ticks old new wall elapsed output) → All P old.out →
     ((k : ℕ) → k < length (pressed (readied old wall elapsed) h.round).tracks →
     is_due (pressed (readied old wall elapsed) h.round).presence (pressed (readied old wall elapsed) h.round).clocks.at (track_at (pressed (readied old wall elapsed) h.round) k) ≡ true →
-    list_any (λ (r : Request). r.entry == k) h.requests ≡ true →
+    list_any (λ (r : WatchRequest). r.entry == k) h.requests ≡ true →
     P (out_at (pressed (readied old wall elapsed) h.round).clocks.at (request_at (pressed (readied old wall elapsed) h.round).presence (sec (pressed (readied old wall elapsed) h.round).clocks.at) (pressed (readied old wall elapsed) h.round).tracks k))) →
     All P new.out
 all_sent P old new wall elapsed output h all made =
@@ -339,17 +339,17 @@ all_sent P old new wall elapsed output h all made =
     let p = mid.presence in
     let at = mid.clocks.at in
     let is = h.going.entries in
-    let rq : ℕ → Request = request_at p (sec at) mid.tracks in
+    let rq : ℕ → WatchRequest = request_at p (sec at) mid.tracks in
     let out : new.out ≡ old.out ++ map (out_at at) (map rq is) =
     ap (λ (x : WatchState). x.out) h.new_is ∙ ap (λ os. os ++ map (out_at at) h.requests) (readied_out old wall elapsed) ∙ ap (λ rs. old.out ++ map (out_at at) rs) h.going.requests_are in
-    let named : All (λ k. list_any (λ (r : Request). r.entry == k) h.requests ≡ true) is =
-    subst (λ rs. All (λ k. list_any (λ (r : Request). r.entry == k) rs ≡ true) is) (sym h.going.requests_are) (each_named p (sec at) mid.tracks is) in
+    let named : All (λ k. list_any (λ (r : WatchRequest). r.entry == k) h.requests ≡ true) is =
+    subst (λ rs. All (λ k. list_any (λ (r : WatchRequest). r.entry == k) rs ≡ true) is) (sym h.going.requests_are) (each_named p (sec at) mid.tracks is) in
     let due = h.going.due in
     subst (All P) (sym out)
     (All-append P old.out (map (out_at at) (map rq is)) all
     (All-map P (out_at at) (map rq is) (All-map (λ r. P (out_at at r)) rq is (λ k d below. made (get_or is k d) (due k d below).0 (due k d below).1 (named k d below)))))
 
 -- and of those that an answer leaves
-pub all_left : (P : Out → Type 0) → ((q : Out) → P q → P (heard q)) → (s : WatchState) (q : Out) (reply : Reply) → All P s.out → All P (replied s q reply).out
+pub all_left : (P : Out → Type 0) → ((q : Out) → P q → P (heard q)) → (s : WatchState) (q : Out) (reply : WatchReply) → All P s.out → All P (replied s q reply).out
 unfolding without_request
 all_left P hears s q reply all = replied_out P hears s q reply (All-filter (λ r. not (r.entry == q.entry)) P s.out all)

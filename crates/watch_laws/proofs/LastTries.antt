@@ -8,9 +8,9 @@ use Rattle.plan_forest.specs.Forest.{Forest, end_of, entry_at}
 use Rattle.plan_forest.specs.Renewal.{capped}
 use Rattle.plan_forest.specs.declared.entry.Entry.{Entry}
 use Rattle.watch_machine.specs.declared.clocks.Clocks.{Clocks}
-use Rattle.watch_machine.specs.declared.event.Event.{Event}
-use Rattle.watch_machine.specs.declared.event.Event.TheVariants.{Clock, Looked, Renewed, Need, Begin, Known}
-use Rattle.watch_machine.specs.declared.event.Reply.TheVariants.{Told, Refused, Busy, Lost}
+use Rattle.watch_machine.specs.declared.event.WatchEvent.{WatchEvent}
+use Rattle.watch_machine.specs.declared.event.WatchEvent.TheVariants.{Clock, Looked, Renewed, Need, Begin, Known}
+use Rattle.watch_machine.specs.declared.event.WatchReply.TheVariants.{Told, Refused, Busy, Lost}
 use Rattle.watch_machine.specs.declared.lanes.Out.{Out}
 use Rattle.watch_machine.specs.declared.track.End.{End}
 use Rattle.watch_machine.specs.declared.track.Track.{Track}
@@ -89,13 +89,13 @@ unfolding back_track
 back_try x y h = h
 
 -- the words of a turn that grants
-record Grants (i : ℕ) (event : Event) : Type 0 where
+record Grants (i : ℕ) (event : WatchEvent) : Type 0 where
   seconds : ℕ
   renewable : Bool
   date : Option ℕ
   is : event ≡ Renewed i (Told seconds renewable date)
 
-grants : (i : ℕ) (event : Event) → is_grant_of i event ≡ true → Grants i event
+grants : (i : ℕ) (event : WatchEvent) → is_grant_of i event ≡ true → Grants i event
 grants i (Renewed j (Told seconds renewable date)) h =
     record { seconds = seconds; renewable = renewable; date = date; is = ap (λ k. Renewed k (Told seconds renewable date)) (eqb-true j i (and_parts (j == i) true h).0) }
 grants i (Renewed j (Refused status date)) h = absurd (let bad = (and_parts (j == i) false h).1 in cc)

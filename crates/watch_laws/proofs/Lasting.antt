@@ -7,17 +7,17 @@ use Rattle.std.specs.Prelude.{slice_set}
 use Rattle.base_moment.specs.declared.moment.TheConstants.{LAST}
 use Rattle.plan_forest.specs.declared.entry.Entry.{Entry}
 use Rattle.plan_forest.specs.Forest.{Forest, entry_at, no_entry}
-use Rattle.watch_machine.specs.declared.command.Output.{Output}
-use Rattle.watch_machine.specs.declared.command.Request.{Request}
-use Rattle.watch_machine.specs.declared.event.Event.{Event}
-use Rattle.watch_machine.specs.declared.event.Event.TheVariants.{Clock, Looked, Renewed, Need, Begin, Known}
+use Rattle.watch_machine.specs.declared.command.WatchOutput.{WatchOutput}
+use Rattle.watch_machine.specs.declared.command.WatchRequest.{WatchRequest}
+use Rattle.watch_machine.specs.declared.event.WatchEvent.{WatchEvent}
+use Rattle.watch_machine.specs.declared.event.WatchEvent.TheVariants.{Clock, Looked, Renewed, Need, Begin, Known}
 use Rattle.watch_machine.specs.declared.event.Operation.TheVariants.{Look, Renew}
-use Rattle.watch_machine.specs.declared.event.Reply.{Reply}
-use Rattle.watch_machine.specs.declared.event.Reply.TheVariants.{Told, Refused, Busy, Lost}
-use Rattle.watch_machine.specs.declared.event.Terms.{Terms}
+use Rattle.watch_machine.specs.declared.event.WatchReply.{WatchReply}
+use Rattle.watch_machine.specs.declared.event.WatchReply.TheVariants.{Told, Refused, Busy, Lost}
+use Rattle.watch_machine.specs.declared.event.WatchTerms.{WatchTerms}
 use Rattle.watch_machine.specs.declared.fault.WatchFault.{WatchFault}
 use Rattle.watch_machine.specs.declared.lanes.Out.{Out}
-use Rattle.watch_machine.specs.declared.notes.Why.{Why}
+use Rattle.watch_machine.specs.declared.notes.BeginReason.{BeginReason}
 use Rattle.watch_machine.specs.declared.track.Track.{Track}
 use Rattle.watch_machine.specs.Answers.{back_track, noted, replied}
 use Rattle.watch_machine.specs.Beginning.{begun, is_called, is_start, owing, owing_lookup, soon, sooner_try, untopped, untopped_track}
@@ -82,18 +82,18 @@ asked_bears at round i x =
     if_both (λ y. Bears y x) (list_any (λ j. j == i) round) (asked_track at x) x
     (if_both (λ y. Bears y x) x.out x (record x { attempt = Some (press at x) }) (refl, (refl, (refl, refl))) (refl, (refl, (refl, refl)))) (refl, (refl, (refl, refl)))
 
-pub sent_bears : (at : ℕ) (requests : List Request) (i : ℕ) (x : Track) → Bears (sent_in at requests i x) x
-sent_bears at requests i x = if_both (λ y. Bears y x) (list_any (λ (r : Request). r.entry == i) requests) (sent_track at x) x (refl, (refl, (refl, refl))) (refl, (refl, (refl, refl)))
+pub sent_bears : (at : ℕ) (requests : List WatchRequest) (i : ℕ) (x : Track) → Bears (sent_in at requests i x) x
+sent_bears at requests i x = if_both (λ y. Bears y x) (list_any (λ (r : WatchRequest). r.entry == i) requests) (sent_track at x) x (refl, (refl, (refl, refl))) (refl, (refl, (refl, refl)))
 
 pub back_bears : (x : Track) → Bears (back_track x) x
 unfolding back_track
 back_bears x = (refl, (refl, (refl, refl)))
 
-ungranted_ends : (at : ℕ) (heard : Bool) (reply : Reply) (x : Track) → Ends (ungranted_track at heard reply x) x
+ungranted_ends : (at : ℕ) (heard : Bool) (reply : WatchReply) (x : Track) → Ends (ungranted_track at heard reply x) x
 unfolding ungranted_track
 ungranted_ends at heard reply x = (refl, (refl, λ tries. tries))
 
-untold_ends : (at : ℕ) (heard : Bool) (reply : Reply) (x : Track) → Ends (untold_track at heard reply x) x
+untold_ends : (at : ℕ) (heard : Bool) (reply : WatchReply) (x : Track) → Ends (untold_track at heard reply x) x
 unfolding untold_track
 untold_ends at heard reply x = (refl, (refl, λ tries. tries))
 
@@ -104,7 +104,7 @@ owing_ends at first called x =
     if_both (λ y. Ends y x) (called && (first || is_open (sec at) x)) (owing_lookup at x) x
     (if_both (λ y. Ends y x) x.out (record x { owes = true }) (record x { owes = true; attempt = Some (sooner_try (soon at x) x.attempt) }) (same_ends x) (same_ends x)) (same_ends x)
 
-begun_ends : (s : WatchState) (w : Option Why) (i : ℕ) → Ends (track_at (begun s w) i) (track_at s i)
+begun_ends : (s : WatchState) (w : Option BeginReason) (i : ℕ) → Ends (track_at (begun s w) i) (track_at s i)
 begun_ends s None i = same_ends (track_at s i)
 begun_ends s (Some w) i =
     let xs = untopped s.tracks in
@@ -127,7 +127,7 @@ mid_bears s round i =
     (each_kept Bears (same_bears no_track) (λ j. pressed_track g.margin (entry_at g.entries j) (need_of g.entries s.tracks c j) c.at) s.tracks
     (λ j x. pressed_bears g.margin (entry_at g.entries j) (need_of g.entries s.tracks c j) c.at x) i)
 
-pub clock_bears : (old new : WatchState) (wall elapsed : ℕ) (output : Output) (i : ℕ) → Ticks old new wall elapsed output → why old wall elapsed ≡ None → Bears (track_at new i) (track_at old i)
+pub clock_bears : (old new : WatchState) (wall elapsed : ℕ) (output : WatchOutput) (i : ℕ) → Ticks old new wall elapsed output → why old wall elapsed ≡ None → Bears (track_at new i) (track_at old i)
 clock_bears old new wall elapsed output i h none =
     let t = timed old wall elapsed in
     let ready = readied old wall elapsed in
@@ -141,7 +141,7 @@ clock_bears old new wall elapsed output i h none =
     (each_kept Bears (same_bears no_track) (λ j. settled_track t.forest.margin t.clocks.at) t.tracks (λ j x. settled_bears t.forest.margin t.clocks.at x) i))))
 
 -- any clock
-clock_ends : (old new : WatchState) (wall elapsed : ℕ) (output : Output) (i : ℕ) → Ticks old new wall elapsed output → Ends (track_at new i) (track_at old i)
+clock_ends : (old new : WatchState) (wall elapsed : ℕ) (output : WatchOutput) (i : ℕ) → Ticks old new wall elapsed output → Ends (track_at new i) (track_at old i)
 unfolding readied
 clock_ends old new wall elapsed output i h =
     let t = timed old wall elapsed in
@@ -154,11 +154,11 @@ clock_ends old new wall elapsed output i h =
     (both_end (track_at ready i) (track_at (settled t) i) (track_at old i) (begun_ends (settled t) (why old wall elapsed) i)
     (each_kept Ends (same_ends no_track) (λ j. settled_track t.forest.margin t.clocks.at) t.tracks (λ j x. bears_end (settled_track t.forest.margin t.clocks.at x) x (settled_bears t.forest.margin t.clocks.at x)) i))))
 
-begun_forest : (s : WatchState) (w : Option Why) → (begun s w).forest ≡ s.forest
+begun_forest : (s : WatchState) (w : Option BeginReason) → (begun s w).forest ≡ s.forest
 begun_forest s None = refl
 begun_forest s (Some w) = refl
 
-pub clock_forest : (old new : WatchState) (wall elapsed : ℕ) (output : Output) → Ticks old new wall elapsed output → new.forest ≡ old.forest
+pub clock_forest : (old new : WatchState) (wall elapsed : ℕ) (output : WatchOutput) → Ticks old new wall elapsed output → new.forest ≡ old.forest
 unfolding readied
 clock_forest old new wall elapsed output h = ap (λ (x : WatchState). x.forest) h.new_is ∙ begun_forest (settled (timed old wall elapsed)) (why old wall elapsed)
 
@@ -190,14 +190,14 @@ entry_other es j e i apart = get_or-set_other es j i e no_entry apart
 
 -- the answer to a lookup: of another, or such as tells nothing
 looked_forest :
-    (s : WatchState) (q : Out) (reply : Reply) (terms : Terms) (i : ℕ) → (q.entry ≡ i → is_told reply ≡ false) →
+    (s : WatchState) (q : Out) (reply : WatchReply) (terms : WatchTerms) (i : ℕ) → (q.entry ≡ i → is_told reply ≡ false) →
     (length (looked s q reply terms).forest.entries ≡ length s.forest.entries) × (((looked s q reply terms).forest.margin ≡ s.forest.margin) × ((entry_of (looked s q reply terms) i).step ≡ (entry_of s i).step))
 looked_forest s q (Told seconds renewable date) terms i untold' =
     let e = by_terms s.forest.margin terms (entry_of s q.entry) in
     (length-set s.forest.entries q.entry e, (refl, ap (λ (x : Entry). x.step) (entry_other s.forest.entries q.entry e i (λ is. absurd (true≢false (untold' (sym is)))))))
 looked_forest s q _ terms i untold' = (refl, (refl, refl))
 
-replied_same : (i : ℕ) (old mid new : WatchState) (q : Out) (reply : Reply) → new ≡ replied mid q reply → Same i old mid → Same i old new
+replied_same : (i : ℕ) (old mid new : WatchState) (q : Out) (reply : WatchReply) → new ≡ replied mid q reply → Same i old mid → Same i old new
 replied_same i old mid new q reply is h =
     let forest = ap (λ (x : WatchState). x.forest) is ∙ replied_forest mid q reply in
     let bears = subst (λ (x : WatchState). Bears (track_at x i) (track_at mid i)) (sym is) (back_kept Bears same_bears back_bears mid q reply i) in
@@ -211,13 +211,13 @@ replied_same i old mid new q reply is h =
 apart_from : (j i : ℕ) → (j == i) ≡ false → j ≢ i
 apart_from j i different e = not_both (subst (λ n. (n == i) ≡ true) (sym e) (same_index i)) different
 
-untold_look_ends : (t : WatchState) (r : Out) (reply : Reply) (terms : Terms) (k : ℕ) → is_told reply ≡ false → Ends (track_at (looked t r reply terms) k) (track_at t k)
+untold_look_ends : (t : WatchState) (r : Out) (reply : WatchReply) (terms : WatchTerms) (k : ℕ) → is_told reply ≡ false → Ends (track_at (looked t r reply terms) k) (track_at t k)
 untold_look_ends t r (Told seconds renewable date) terms k untold' = absurd (true≢false untold')
 untold_look_ends t r (Refused status date) terms k untold' = set_kept Ends same_ends t.tracks r.entry _ (untold_ends t.clocks.at r.heard (Refused status date) (track_at t r.entry)) k
 untold_look_ends t r Busy terms k untold' = set_kept Ends same_ends t.tracks r.entry _ (untold_ends t.clocks.at r.heard Busy (track_at t r.entry)) k
 untold_look_ends t r Lost terms k untold' = set_kept Ends same_ends t.tracks r.entry _ (untold_ends t.clocks.at r.heard Lost (track_at t r.entry)) k
 
-looked_ends : (s : WatchState) (q : Out) (reply : Reply) (terms : Terms) (i : ℕ) → (q.entry ≡ i → is_told reply ≡ false) → Ends (track_at (looked s q reply terms) i) (track_at s i)
+looked_ends : (s : WatchState) (q : Out) (reply : WatchReply) (terms : WatchTerms) (i : ℕ) → (q.entry ≡ i → is_told reply ≡ false) → Ends (track_at (looked s q reply terms) i) (track_at s i)
 looked_ends s q reply terms i untold' =
     elim (cases_Bool (q.entry == i)) [
       | inl same ↦ untold_look_ends s q reply terms i (untold' (eqb-true q.entry i same))
@@ -225,7 +225,7 @@ looked_ends s q reply terms i untold' =
     ]
 
 looked_same :
-    (o : Outage) (i j : ℕ) (old new : WatchState) (found : Option Out) (reply : Reply) (terms : Terms) (output : Output) → request_out old.out j Look ≡ found → StepLooked old found reply terms output new →
+    (o : Outage) (i j : ℕ) (old new : WatchState) (found : Option Out) (reply : WatchReply) (terms : WatchTerms) (output : WatchOutput) → request_out old.out j Look ≡ found → StepLooked old found reply terms output new →
     (j ≡ i → IfSome found (TellsNothing o reply)) → Same i old new
 looked_same o i j old new None reply terms output is step untold' = absurd step
 looked_same o i j old new (Some q) reply terms output is step untold' =
@@ -236,14 +236,14 @@ looked_same o i j old new (Some q) reply terms output is step untold' =
     replied_same i old (looked s q reply terms) new q reply step.1
     (record { count = forest.0; margin = forest.1.0; step = forest.1.1; ends = looked_ends s q reply terms i own })
 
-untold_renewal_ends : (t : WatchState) (r : Out) (reply : Reply) (k : ℕ) → is_told reply ≡ false → Ends (track_at (state_renewed t r reply) k) (track_at t k)
+untold_renewal_ends : (t : WatchState) (r : Out) (reply : WatchReply) (k : ℕ) → is_told reply ≡ false → Ends (track_at (state_renewed t r reply) k) (track_at t k)
 unfolding renewed_track
 untold_renewal_ends t r (Told seconds renewable date) k untold' = absurd (true≢false untold')
 untold_renewal_ends t r (Refused status date) k untold' = set_kept Ends same_ends t.tracks r.entry _ (ungranted_ends t.clocks.at r.heard (Refused status date) (track_at t r.entry)) k
 untold_renewal_ends t r Busy k untold' = set_kept Ends same_ends t.tracks r.entry _ (ungranted_ends t.clocks.at r.heard Busy (track_at t r.entry)) k
 untold_renewal_ends t r Lost k untold' = set_kept Ends same_ends t.tracks r.entry _ (ungranted_ends t.clocks.at r.heard Lost (track_at t r.entry)) k
 
-renewed_ends : (s : WatchState) (q : Out) (reply : Reply) (i : ℕ) → (q.entry ≡ i → is_told reply ≡ false) → Ends (track_at (state_renewed s q reply) i) (track_at s i)
+renewed_ends : (s : WatchState) (q : Out) (reply : WatchReply) (i : ℕ) → (q.entry ≡ i → is_told reply ≡ false) → Ends (track_at (state_renewed s q reply) i) (track_at s i)
 renewed_ends s q reply i untold' =
     elim (cases_Bool (q.entry == i)) [
       | inl same ↦ untold_renewal_ends s q reply i (untold' (eqb-true q.entry i same))
@@ -253,7 +253,7 @@ renewed_ends s q reply i untold' =
     ]
 
 renewed_same :
-    (o : Outage) (i j : ℕ) (old new : WatchState) (found : Option Out) (reply : Reply) (output : Output) → request_out old.out j Renew ≡ found → StepRenewed old found reply output new →
+    (o : Outage) (i j : ℕ) (old new : WatchState) (found : Option Out) (reply : WatchReply) (output : WatchOutput) → request_out old.out j Renew ≡ found → StepRenewed old found reply output new →
     (j ≡ i → IfSome found (TellsNothing o reply)) → Same i old new
 renewed_same o i j old new None reply output is step untold' = absurd step
 renewed_same o i j old new (Some q) reply output is step untold' =
@@ -270,7 +270,7 @@ needed_step : (s : WatchState) (j until i : ℕ) → (entry_of (with_need_until 
 needed_step s j until i = entry_kept s.forest.entries j (record (entry_of s j) { need = min LAST until }) i refl
 
 -- a turn
-step_same : (o : Outage) (i due : ℕ) (old new : WatchState) (event : Event) (output : Output) → Step old event output new → IsLived o i due old event (Ok output) → Same i old new
+step_same : (o : Outage) (i due : ℕ) (old new : WatchState) (event : WatchEvent) (output : WatchOutput) → Step old event output new → IsLived o i due old event (Ok output) → Same i old new
 step_same o i due old new (Clock wall elapsed) output step lived =
     let h = ticks old new wall elapsed output step in
     let forest = clock_forest old new wall elapsed output h in
@@ -289,6 +289,6 @@ step_same o i due old new (Known j end renewable) output step lived =
     subst (Same i old) (sym step.1)
     (record { count = refl; margin = refl; step = refl; ends = subst (λ x. Ends x (track_at old i)) (sym (known_other old j end renewable i lived)) (same_ends (track_at old i)) })
 
-pub turn_same : (o : Outage) (i due : ℕ) (old new : WatchState) (event : Event) (result : Result Output WatchFault) → Turn old event result new → IsLived o i due old event result → Same i old new
+pub turn_same : (o : Outage) (i due : ℕ) (old new : WatchState) (event : WatchEvent) (result : Result WatchOutput WatchFault) → Turn old event result new → IsLived o i due old event result → Same i old new
 turn_same o i due old new event (Ok output) turn lived = step_same o i due old new event output turn.1 lived
 turn_same o i due old new event (Err fault) turn lived = subst (Same i old) (sym (refused_stays old new event fault turn)) (same_first i old)

@@ -6,14 +6,14 @@ use Rattle.std.proofs.lemmas.List.Elements.{All-map, All-nil}
 use Rattle.std.specs.List.{list_any}
 use Rattle.plan_forest.specs.declared.entry.Entry.{Entry}
 use Rattle.plan_forest.specs.Forest.{entry_at}
-use Rattle.watch_machine.specs.declared.command.Command.TheVariants.{Taken}
-use Rattle.watch_machine.specs.declared.command.Output.{Output}
-use Rattle.watch_machine.specs.declared.command.Request.{Request}
-use Rattle.watch_machine.specs.declared.event.Event.{Event}
-use Rattle.watch_machine.specs.declared.event.Event.TheVariants.{Clock, Looked, Renewed, Need, Begin, Known}
+use Rattle.watch_machine.specs.declared.command.WatchCommand.TheVariants.{Taken}
+use Rattle.watch_machine.specs.declared.command.WatchOutput.{WatchOutput}
+use Rattle.watch_machine.specs.declared.command.WatchRequest.{WatchRequest}
+use Rattle.watch_machine.specs.declared.event.WatchEvent.{WatchEvent}
+use Rattle.watch_machine.specs.declared.event.WatchEvent.TheVariants.{Clock, Looked, Renewed, Need, Begin, Known}
 use Rattle.watch_machine.specs.declared.event.Operation.TheVariants.{Look, Renew}
-use Rattle.watch_machine.specs.declared.event.Reply.{Reply}
-use Rattle.watch_machine.specs.declared.event.Terms.{Terms}
+use Rattle.watch_machine.specs.declared.event.WatchReply.{WatchReply}
+use Rattle.watch_machine.specs.declared.event.WatchTerms.{WatchTerms}
 use Rattle.watch_machine.specs.declared.fault.WatchFault.{WatchFault}
 use Rattle.watch_machine.specs.declared.lanes.Out.{Out}
 use Rattle.watch_machine.specs.declared.track.End.{End}
@@ -126,7 +126,7 @@ ordered margin e f away now i j x y t u last other apart asked asked' h =
           )
     ]
 
-module _ (old new : WatchState) (wall elapsed : ℕ) (output : Output) (h : Ticks old new wall elapsed output) (j : ℕ) where
+module _ (old new : WatchState) (wall elapsed : ℕ) (output : WatchOutput) (h : Ticks old new wall elapsed output) (j : ℕ) where
   abbrev mid : WatchState
   mid = pressed (readied old wall elapsed) h.round
 
@@ -167,7 +167,7 @@ module _ (old new : WatchState) (wall elapsed : ℕ) (output : Output) (h : Tick
             (ordered mid.forest.margin (entry_of mid k) (entry_of mid j) away now k j (track_at mid k) (track_at mid j) t u (track_at old k).last (track_at old j).last apart (asked_before k) (asked_before j) before))));
       }
 
-  clock_line : MayGo left j → All (λ (r : Request). StandsInFront old left r.entry j) h.requests
+  clock_line : MayGo left j → All (λ (r : WatchRequest). StandsInFront old left r.entry j) h.requests
   clock_line may =
       let gone = h.going.entries in
       let due = h.going.due in
@@ -175,43 +175,43 @@ module _ (old new : WatchState) (wall elapsed : ℕ) (output : Output) (h : Tick
       let same = (sent_stays mid h.requests j).0 in
       let some' : is_some (attempt_at mid j) ≡ true = ap is_some (sym same ∙ may.attempt_is) in
       let rq = request_at mid.presence (second mid) mid.tracks in
-      subst (All (λ (r : Request). StandsInFront old left r.entry j)) (sym h.going.requests_are)
-      (All-map (λ (r : Request). StandsInFront old left r.entry j) rq gone
+      subst (All (λ (r : WatchRequest). StandsInFront old left r.entry j)) (sym h.going.requests_are)
+      (All-map (λ (r : WatchRequest). StandsInFront old left r.entry j) rq gone
       (λ k d below.
       (let m = get_or gone k d in
       subst (λ n. StandsInFront old left n j) (sym (entry_by mid.presence (second mid) mid.tracks m))
       (by_tries m (attempt_at mid m) (attempt_at mid j) refl refl (due_some mid.presence mid.clocks.at (track_at mid m) (due k d below).1) some' (behind k d below).0 (behind k d below).1))))
 
-  pub new_line : MayGo new j → All (λ (r : Request). StandsInFront old new r.entry j) h.requests
-  new_line may = subst (λ (x : WatchState). All (λ (r : Request). StandsInFront old x r.entry j) h.requests) (sym h.new_is) (clock_line (subst (λ (x : WatchState). MayGo x j) h.new_is may))
+  pub new_line : MayGo new j → All (λ (r : WatchRequest). StandsInFront old new r.entry j) h.requests
+  new_line may = subst (λ (x : WatchState). All (λ (r : WatchRequest). StandsInFront old x r.entry j) h.requests) (sym h.new_is) (clock_line (subst (λ (x : WatchState). MayGo x j) h.new_is may))
 
 -- a step, a turn
-abbrev Ordered : WatchState → WatchState → ℕ → Output → Type 0
-Ordered old new j output = All (λ (r : Request). StandsInFront old new r.entry j) (requests_asked_by output.command)
+abbrev Ordered : WatchState → WatchState → ℕ → WatchOutput → Type 0
+Ordered old new j output = All (λ (r : WatchRequest). StandsInFront old new r.entry j) (requests_asked_by output.command)
 
-none_goes : (old new : WatchState) (j : ℕ) (output out : Output) → output ≡ out → out.command ≡ Taken → Ordered old new j output
+none_goes : (old new : WatchState) (j : ℕ) (output out : WatchOutput) → output ≡ out → out.command ≡ Taken → Ordered old new j output
 none_goes old new j output out is taken' =
-    subst (λ c. All (λ (r : Request). StandsInFront old new r.entry j) (requests_asked_by c)) (sym (ap (λ (x : Output). x.command) is ∙ taken')) (All-nil (λ (r : Request). StandsInFront old new r.entry j))
+    subst (λ c. All (λ (r : WatchRequest). StandsInFront old new r.entry j) (requests_asked_by c)) (sym (ap (λ (x : WatchOutput). x.command) is ∙ taken')) (All-nil (λ (r : WatchRequest). StandsInFront old new r.entry j))
 
-looked_line : (old new : WatchState) (j : ℕ) (found : Option Out) (reply : Reply) (terms : Terms) (output : Output) → StepLooked old found reply terms output new → Ordered old new j output
+looked_line : (old new : WatchState) (j : ℕ) (found : Option Out) (reply : WatchReply) (terms : WatchTerms) (output : WatchOutput) → StepLooked old found reply terms output new → Ordered old new j output
 looked_line old new j None reply terms output step = absurd step
 looked_line old new j (Some q) reply terms output step = none_goes old new j output _ step.0 refl
 
-renewed_line : (old new : WatchState) (j : ℕ) (found : Option Out) (reply : Reply) (output : Output) → StepRenewed old found reply output new → Ordered old new j output
+renewed_line : (old new : WatchState) (j : ℕ) (found : Option Out) (reply : WatchReply) (output : WatchOutput) → StepRenewed old found reply output new → Ordered old new j output
 renewed_line old new j None reply output step = absurd step
 renewed_line old new j (Some q) reply output step = none_goes old new j output _ step.0 refl
 
-step_line : (old new : WatchState) (event : Event) (output : Output) (j : ℕ) → Step old event output new → MayGo new j → Ordered old new j output
+step_line : (old new : WatchState) (event : WatchEvent) (output : WatchOutput) (j : ℕ) → Step old event output new → MayGo new j → Ordered old new j output
 step_line old new (Clock wall elapsed) output j step may =
     let h = ticks old new wall elapsed output step in
-    subst (λ c. All (λ (r : Request). StandsInFront old new r.entry j) (requests_asked_by c)) (sym h.command) (new_line old new wall elapsed output h j may)
+    subst (λ c. All (λ (r : WatchRequest). StandsInFront old new r.entry j) (requests_asked_by c)) (sym h.command) (new_line old new wall elapsed output h j may)
 step_line old new (Looked i reply terms) output j step may = looked_line old new j (request_out old.out i Look) reply terms output step
 step_line old new (Renewed i reply) output j step may = renewed_line old new j (request_out old.out i Renew) reply output step
 step_line old new _ output j step may = none_goes old new j output _ step.0 refl
 
-turn_line : (old new : WatchState) (event : Event) (result : Result Output WatchFault) (j : ℕ) → Turn old event result new → MayGo new j → All (λ (r : Request). StandsInFront old new r.entry j) (requests_at_turn result)
+turn_line : (old new : WatchState) (event : WatchEvent) (result : Result WatchOutput WatchFault) (j : ℕ) → Turn old event result new → MayGo new j → All (λ (r : WatchRequest). StandsInFront old new r.entry j) (requests_at_turn result)
 turn_line old new event (Ok output) j turn may = step_line old new event output j turn.1 may
-turn_line old new event (Err fault) j turn may = All-nil (λ (r : Request). StandsInFront old new r.entry j)
+turn_line old new event (Err fault) j turn may = All-nil (λ (r : WatchRequest). StandsInFront old new r.entry j)
 
 pub line_so : LineLaw
 line_so old turn j h may = turn_line old turn.state turn.event turn.result j h.0 may

@@ -9,19 +9,19 @@ use Rattle.plan_forest.specs.declared.forest.TheConstants.{END_MAX}
 use Rattle.plan_forest.specs.Carried.{carried}
 use Rattle.plan_forest.specs.Forest.{Forest}
 use Rattle.watch_machine.specs.declared.clocks.Clocks.{Clocks}
-use Rattle.watch_machine.specs.declared.command.Output.{Output}
-use Rattle.watch_machine.specs.declared.command.Request.{Request}
-use Rattle.watch_machine.specs.declared.event.Event.{Event}
-use Rattle.watch_machine.specs.declared.event.Event.TheVariants.{Clock, Looked, Renewed, Need, Begin, Known}
+use Rattle.watch_machine.specs.declared.command.WatchOutput.{WatchOutput}
+use Rattle.watch_machine.specs.declared.command.WatchRequest.{WatchRequest}
+use Rattle.watch_machine.specs.declared.event.WatchEvent.{WatchEvent}
+use Rattle.watch_machine.specs.declared.event.WatchEvent.TheVariants.{Clock, Looked, Renewed, Need, Begin, Known}
 use Rattle.watch_machine.specs.declared.event.Operation.TheVariants.{Look, Renew}
-use Rattle.watch_machine.specs.declared.event.Reply.{Reply}
-use Rattle.watch_machine.specs.declared.event.Reply.TheVariants.{Told, Refused, Busy, Lost}
-use Rattle.watch_machine.specs.declared.event.Terms.{Terms}
+use Rattle.watch_machine.specs.declared.event.WatchReply.{WatchReply}
+use Rattle.watch_machine.specs.declared.event.WatchReply.TheVariants.{Told, Refused, Busy, Lost}
+use Rattle.watch_machine.specs.declared.event.WatchTerms.{WatchTerms}
 use Rattle.watch_machine.specs.declared.fault.WatchFault.{WatchFault}
 use Rattle.watch_machine.specs.declared.lanes.Out.{Out}
 use Rattle.watch_machine.specs.declared.notes.Notes.{Notes}
-use Rattle.watch_machine.specs.declared.notes.Why.{Why}
-use Rattle.watch_machine.specs.declared.notes.Why.TheVariants.{Start}
+use Rattle.watch_machine.specs.declared.notes.BeginReason.{BeginReason}
+use Rattle.watch_machine.specs.declared.notes.BeginReason.TheVariants.{Start}
 use Rattle.watch_machine.specs.declared.track.End.{End}
 use Rattle.watch_machine.specs.declared.track.End.TheVariants.{Unknown, At, Never}
 use Rattle.watch_machine.specs.declared.track.Track.{Track}
@@ -127,7 +127,7 @@ neither true b h k e = cc
 neither false true h k e = cc
 neither false false h k e = cc
 
-module _ (old new : WatchState) (wall elapsed : ℕ) (output : Output) (i : ℕ) (h : Ticks old new wall elapsed output) where
+module _ (old new : WatchState) (wall elapsed : ℕ) (output : WatchOutput) (i : ℕ) (h : Ticks old new wall elapsed output) where
   abbrev ready : WatchState
   ready = readied old wall elapsed
 
@@ -200,7 +200,7 @@ module _ (old new : WatchState) (wall elapsed : ℕ) (output : Output) (i : ℕ)
   tried_same =
       ap (λ (x : WatchState). is_tried x i) h.new_is
       ∙ each_kept (λ (y x : Track). is_some y.attempt ≡ is_some x.attempt) refl (sent_in mid.clocks.at h.requests) mid.tracks
-      (λ j x. if_both (λ (y : Track). is_some y.attempt ≡ is_some x.attempt) (list_any (λ (r : Request). r.entry == j) h.requests) (sent_track mid.clocks.at x) x refl refl) i
+      (λ j x. if_both (λ (y : Track). is_some y.attempt ≡ is_some x.attempt) (list_any (λ (r : WatchRequest). r.entry == j) h.requests) (sent_track mid.clocks.at x) x refl refl) i
 
   none_idle : is_tried new i ≡ false → go ≡ 0
   none_idle idle =
@@ -326,11 +326,11 @@ owing_end at first called x =
     if_both (λ (y : Track). y.end ≡ x.end) (called && (first || is_open (sec at) x)) (owing_lookup at x) x
     (if_both (λ (y : Track). y.end ≡ x.end) x.out (record x { owes = true }) (record x { owes = true; attempt = Some (sooner_try (soon at x) x.attempt) }) refl refl) refl
 
-some_why : (o : Option Why) → is_some o ≡ true → (w : Why) × (o ≡ Some w)
+some_why : (o : Option BeginReason) → is_some o ≡ true → (w : BeginReason) × (o ≡ Some w)
 some_why None h = absurd cc
 some_why (Some w) h = (w, refl)
 
-module _ (old : WatchState) (wall elapsed i : ℕ) (w : Why) (is : why old wall elapsed ≡ Some w) where
+module _ (old : WatchState) (wall elapsed i : ℕ) (w : BeginReason) (is : why old wall elapsed ≡ Some w) where
   abbrev t : WatchState
   t = timed old wall elapsed
 
@@ -406,7 +406,7 @@ unfolding back_track
 back_end x = refl
 
 -- an answer, where mid is the state before what it says of the broker
-module _ (old mid new : WatchState) (q : Out) (reply : Reply) (is : new ≡ replied mid q reply) (out : mid.out ≡ old.out) where
+module _ (old mid new : WatchState) (q : Out) (reply : WatchReply) (is : new ≡ replied mid q reply) (out : mid.out ≡ old.out) where
   other_holds : (i n : ℕ) (due : Bool) → q.entry ≢ i → track_at mid i ≡ track_at old i → Holds old i due n → Holds new i due n
   other_holds i n due apart same holds =
       subst (λ (x : WatchState). Holds x i due n) (sym is)
@@ -432,10 +432,10 @@ module _ (old mid new : WatchState) (q : Out) (reply : Reply) (is : new ≡ repl
 
 -- of a lookup of the entry
 own_looked :
-    (old new : WatchState) (q : Out) (reply : Reply) (terms : Terms) (n : ℕ) (due : Bool) → new ≡ replied (looked (noted old q reply) q reply terms) q reply → request_out old.out q.entry Look ≡ Some q →
+    (old new : WatchState) (q : Out) (reply : WatchReply) (terms : WatchTerms) (n : ℕ) (due : Bool) → new ≡ replied (looked (noted old q reply) q reply terms) q reply → request_out old.out q.entry Look ≡ Some q →
     q.entry < length old.tracks → TellsAhead new q.entry reply → Holds old q.entry due n → Holds new q.entry due n
 own_looked old new q (Told seconds renewable date) terms n due is found within well holds =
-    let reply : Reply = Told seconds renewable date in
+    let reply : WatchReply = Told seconds renewable date in
     let s = noted old q reply in
     let i = q.entry in
     let told = told_state s i q.since seconds renewable terms in
@@ -458,11 +458,11 @@ own_looked old new q _ terms n due is found within well holds = absurd well
 
 -- and of a renewal
 own_renewed :
-    (old new : WatchState) (q : Out) (reply : Reply) (n : ℕ) (due : Bool) → new ≡ replied (state_renewed (noted old q reply) q reply) q reply → request_out old.out q.entry Renew ≡ Some q → IsAlone old →
+    (old new : WatchState) (q : Out) (reply : WatchReply) (n : ℕ) (due : Bool) → new ≡ replied (state_renewed (noted old q reply) q reply) q reply → request_out old.out q.entry Renew ≡ Some q → IsAlone old →
     q.entry < length old.tracks → TellsAhead new q.entry reply → Holds old q.entry due n → Holds new q.entry due n
 unfolding renewed_track
 own_renewed old new q (Told seconds renewable date) n due is found alone within well holds =
-    let reply : Reply = Told seconds renewable date in
+    let reply : WatchReply = Told seconds renewable date in
     let s = noted old q reply in
     let i = q.entry in
     let mid = state_renewed s q reply in
@@ -488,7 +488,7 @@ own_renewed old new q (Told seconds renewable date) n due is found alone within 
 own_renewed old new q _ n due is found alone within well holds = absurd well
 
 looked_holds :
-    (old new : WatchState) (found : Option Out) (j i n : ℕ) (reply : Reply) (terms : Terms) (output : Output) (due : Bool) → request_out old.out j Look ≡ found → StepLooked old found reply terms output new →
+    (old new : WatchState) (found : Option Out) (j i n : ℕ) (reply : WatchReply) (terms : WatchTerms) (output : WatchOutput) (due : Bool) → request_out old.out j Look ≡ found → StepLooked old found reply terms output new →
     i < length old.tracks → (j ≡ i → TellsAhead new i reply) → Holds old i due n → Holds new i due n
 looked_holds old new None j i n reply terms output due is step within well holds = absurd step
 looked_holds old new (Some q) j i n reply terms output due is step within well holds =
@@ -502,7 +502,7 @@ looked_holds old new (Some q) j i n reply terms output due is step within well h
     ]
 
 renewed_holds :
-    (old new : WatchState) (found : Option Out) (j i n : ℕ) (reply : Reply) (output : Output) (due : Bool) → request_out old.out j Renew ≡ found → StepRenewed old found reply output new → IsAlone old →
+    (old new : WatchState) (found : Option Out) (j i n : ℕ) (reply : WatchReply) (output : WatchOutput) (due : Bool) → request_out old.out j Renew ≡ found → StepRenewed old found reply output new → IsAlone old →
     i < length old.tracks → (j ≡ i → TellsAhead new i reply) → Holds old i due n → Holds new i due n
 renewed_holds old new None j i n reply output due is step alone within well holds = absurd step
 renewed_holds old new (Some q) j i n reply output due is step alone within well holds =
@@ -541,16 +541,16 @@ known_holds old j end i n renewable due ahead holds =
     (known_kept (λ y x. IsTold x → IsTold y) (λ x k. k) old j end i renewable ahead (λ x. known_told x end renewable)) holds
 
 -- nothing goes out at an event that is taken and no more
-quiet : (new : WatchState) (i n : ℕ) (due : Bool) (output out : Output) → output ≡ out → requests_asked_by out.command ≡ [] → Holds new i due n → Holds new i due (n + length (filter (is_lookup i) (requests_asked_by output.command)))
+quiet : (new : WatchState) (i n : ℕ) (due : Bool) (output out : WatchOutput) → output ≡ out → requests_asked_by out.command ≡ [] → Holds new i due n → Holds new i due (n + length (filter (is_lookup i) (requests_asked_by output.command)))
 quiet new i n due output out is none holds =
-    let e : length (filter (is_lookup i) (requests_asked_by output.command)) ≡ 0 = ap (λ (x : Output). length (filter (is_lookup i) (requests_asked_by x.command))) is ∙ ap (λ rs. length (filter (is_lookup i) rs)) none in
+    let e : length (filter (is_lookup i) (requests_asked_by output.command)) ≡ 0 = ap (λ (x : WatchOutput). length (filter (is_lookup i) (requests_asked_by x.command))) is ∙ ap (λ rs. length (filter (is_lookup i) rs)) none in
     subst (Holds new i due) (let k : n ≡ n + length (filter (is_lookup i) (requests_asked_by output.command)) = omega (arith, e) in k) holds
 
-goes_of : (old new : WatchState) (wall elapsed : ℕ) (output : Output) (i : ℕ) (h : Ticks old new wall elapsed output) → length (filter (is_lookup i) (requests_asked_by output.command)) ≡ length (filter (is_lookup i) h.requests)
+goes_of : (old new : WatchState) (wall elapsed : ℕ) (output : WatchOutput) (i : ℕ) (h : Ticks old new wall elapsed output) → length (filter (is_lookup i) (requests_asked_by output.command)) ≡ length (filter (is_lookup i) h.requests)
 goes_of old new wall elapsed output i h = ap (λ c. length (filter (is_lookup i) (requests_asked_by c))) h.command
 
 step_holds :
-    (old new : WatchState) (event : Event) (output : Output) (i n : ℕ) (due : Bool) → Step old event output new → GoesWell i new event output → IsAlone old → i < length old.tracks → Holds old i due n →
+    (old new : WatchState) (event : WatchEvent) (output : WatchOutput) (i n : ℕ) (due : Bool) → Step old event output new → GoesWell i new event output → IsAlone old → i < length old.tracks → Holds old i due n →
     Holds new i due (n + length (filter (is_lookup i) (requests_asked_by output.command)))
 step_holds old new (Clock wall elapsed) output i n due step well alone within holds =
     let h = ticks old new wall elapsed output step in
@@ -572,7 +572,7 @@ step_holds old new (Known j end renewable) output i n due step well alone within
 step_holds old new _ output i n due step well alone within holds = quiet new i n due output _ step.0 refl (subst (λ (x : WatchState). Holds x i due n) (sym step.1) holds)
 
 turn_holds :
-    (old new : WatchState) (event : Event) (result : Result Output WatchFault) (i n : ℕ) (due : Bool) → Turn old event result new → GoesWellAt i new event result → IsAlone old → i < length old.tracks →
+    (old new : WatchState) (event : WatchEvent) (result : Result WatchOutput WatchFault) (i n : ℕ) (due : Bool) → Turn old event result new → GoesWellAt i new event result → IsAlone old → i < length old.tracks →
     Holds old i due n → Holds new i due (n + length (filter (is_lookup i) (requests_at_turn result)))
 turn_holds old new event (Ok output) i n due turn well alone within holds = step_holds old new event output i n due turn.1 well alone within holds
 turn_holds old new event (Err fault) i n due turn well alone within holds =
@@ -590,14 +590,14 @@ ran (turn ∷ turns) old i n due history well alone within holds =
 -- ---- the law
 
 -- what holds after a beginning
-record Started (old new : WatchState) (result : Result Output WatchFault) (i : ℕ) : Type 0 where
+record Started (old new : WatchState) (result : Result WatchOutput WatchFault) (i : ℕ) : Type 0 where
   holds : Holds new i (track_at new i).owes (looks i old.out + length (filter (is_lookup i) (requests_at_turn result)))
   led : (track_at new i).top ≡ false
   owes : is_needed new i ≡ true → IsForLookup (why_begun result) new i → (track_at new i).owes ≡ true
   free : is_needed new i ≡ false → is_alive (second new) (track_at new i) ≡ true → (track_at old i).owes ≡ false → is_loose_look (attempt_at old i) ≡ false →
       Holds new i false 1 × (length (filter (is_lookup i) (requests_at_turn result)) ≡ 0)
 
-clock_started : (old new : WatchState) (wall elapsed : ℕ) (output : Output) (i : ℕ) → StepClock old wall elapsed output new → is_some output.notes.began ≡ true → IsAlone old → i < length old.tracks → Started old new (Ok output) i
+clock_started : (old new : WatchState) (wall elapsed : ℕ) (output : WatchOutput) (i : ℕ) → StepClock old wall elapsed output new → is_some output.notes.began ≡ true → IsAlone old → i < length old.tracks → Started old new (Ok output) i
 clock_started old new wall elapsed output i step begins alone within =
     let h = ticks old new wall elapsed output step in
     let go = goes_of old new wall elapsed output i h in
@@ -636,10 +636,10 @@ clock_started old new wall elapsed output i step begins alone within =
           );
     }
 
-none_begins : (output out : Output) → output ≡ out → out.notes.began ≡ None → is_some output.notes.began ≡ true → ⊥
-none_begins output out is none begins = not_both (sym (ap (λ (x : Output). is_some x.notes.began) is) ∙ begins) (ap is_some none)
+none_begins : (output out : WatchOutput) → output ≡ out → out.notes.began ≡ None → is_some output.notes.began ≡ true → ⊥
+none_begins output out is none begins = not_both (sym (ap (λ (x : WatchOutput). is_some x.notes.began) is) ∙ begins) (ap is_some none)
 
-started : (old new : WatchState) (event : Event) (result : Result Output WatchFault) (i : ℕ) → Turn old event result new → is_some (why_begun result) ≡ true → IsAlone old → i < length old.tracks → Started old new result i
+started : (old new : WatchState) (event : WatchEvent) (result : Result WatchOutput WatchFault) (i : ℕ) → Turn old event result new → is_some (why_begun result) ≡ true → IsAlone old → i < length old.tracks → Started old new result i
 started old new (Clock wall elapsed) (Ok output) i turn begins alone within = clock_started old new wall elapsed output i turn.1 begins alone within
 started old new (Looked j reply terms) (Ok output) i turn begins alone within = absurd (by (request_out old.out j Look) turn.1) where
   by : (found : Option Out) → StepLooked old found reply terms output new → ⊥

@@ -4,10 +4,10 @@ use Rattle.std.proofs.lemmas.Bool.{and_parts, cases_Bool, cond-false, eqb-true}
 use Rattle.std.specs.List.{find, list_any}
 use Rattle.plan_forest.specs.declared.entry.Entry.{Entry}
 use Rattle.plan_forest.specs.Forest.{entry_at}
-use Rattle.watch_machine.specs.declared.command.Request.{Request}
+use Rattle.watch_machine.specs.declared.command.WatchRequest.{WatchRequest}
 use Rattle.watch_machine.specs.declared.event.Operation.{Operation}
 use Rattle.watch_machine.specs.declared.event.Operation.TheVariants.{Look, Renew}
-use Rattle.watch_machine.specs.declared.event.Reply.{Reply}
+use Rattle.watch_machine.specs.declared.event.WatchReply.{WatchReply}
 use Rattle.watch_machine.specs.declared.lanes.Out.{Out}
 use Rattle.watch_machine.specs.declared.lanes.Presence.{Presence}
 use Rattle.watch_machine.specs.declared.track.End.TheVariants.{At, Never}
@@ -92,7 +92,7 @@ looks_heard : (i : ℕ) (out : List Out) → looks i (map heard out) ≡ looks i
 looks_heard i [] = refl
 looks_heard i (q ∷ out) = heard_by (is_look i q) q (filter (is_look i) (map heard out)) (filter (is_look i) out) (looks_heard i out)
 
-replied_looks : (s : WatchState) (q : Out) (reply : Reply) (i : ℕ) → looks i (replied s q reply).out ≡ looks i (without_request q.entry s.out)
+replied_looks : (s : WatchState) (q : Out) (reply : WatchReply) (i : ℕ) → looks i (replied s q reply).out ≡ looks i (without_request q.entry s.out)
 replied_looks s q reply i =
     let free = lane_freed s q in
     let P : WatchState → Type 0 = λ t. looks i t.out ≡ looks i (without_request q.entry s.out) in
@@ -100,10 +100,10 @@ replied_looks s q reply i =
     (if_both P s.presence.away _ _ (looks_heard i (without_request q.entry s.out)) (looks_heard i (without_request q.entry s.out)))
     (if_both P q.heard free (silent free) refl (if_both P s.presence.away _ _ refl refl))
 
-pub own_looks : (s : WatchState) (q : Out) (reply : Reply) → looks q.entry (replied s q reply).out ≡ 0
+pub own_looks : (s : WatchState) (q : Out) (reply : WatchReply) → looks q.entry (replied s q reply).out ≡ 0
 own_looks s q reply = replied_looks s q reply q.entry ∙ looks_none q.entry s.out
 
-pub other_looks : (s : WatchState) (q : Out) (reply : Reply) (i : ℕ) → q.entry ≢ i → looks i (replied s q reply).out ≡ looks i s.out
+pub other_looks : (s : WatchState) (q : Out) (reply : WatchReply) (i : ℕ) → q.entry ≢ i → looks i (replied s q reply).out ≡ looks i s.out
 other_looks s q reply i apart = replied_looks s q reply i ∙ looks_other i q.entry s.out apart
 
 -- the request that is answered is out
@@ -147,20 +147,20 @@ renewal_looks i (o ∷ out) q found =
     (λ other. renewal_looks i out q (sym (cond-false test (Some o) (find (λ (p : Out). p.entry == i && is_same p.operation Renew) out) other) ∙ found))
 
 -- those that go out
-sent_by : (b : Bool) (q : Out) (r : Request) (xs : List Out) (ys : List Request) → length xs ≡ length ys → length (cond b (q ∷ xs) xs) ≡ length (cond b (r ∷ ys) ys)
+sent_by : (b : Bool) (q : Out) (r : WatchRequest) (xs : List Out) (ys : List WatchRequest) → length xs ≡ length ys → length (cond b (q ∷ xs) xs) ≡ length (cond b (r ∷ ys) ys)
 sent_by true q r xs ys h = ap (λ n. suc n) h
 sent_by false q r xs ys h = h
 
-pub sent_looks : (i at : ℕ) (rs : List Request) → looks i (map (out_at at) rs) ≡ length (filter (is_lookup i) rs)
+pub sent_looks : (i at : ℕ) (rs : List WatchRequest) → looks i (map (out_at at) rs) ≡ length (filter (is_lookup i) rs)
 sent_looks i at [] = refl
 sent_looks i at (r ∷ rs) = sent_by (is_lookup i r) (out_at at r) r (filter (is_look i) (map (out_at at) rs)) (filter (is_lookup i) rs) (sent_looks i at rs)
 
-one_by : (b : Bool) (r : Request) (xs : List Request) → length (cond b (r ∷ xs) xs) ≤ 1 + length xs
+one_by : (b : Bool) (r : WatchRequest) (xs : List WatchRequest) → length (cond b (r ∷ xs) xs) ≤ 1 + length xs
 one_by true r xs = omega arith
 one_by false r xs = omega arith
 
 module _ (p : Presence) (now : ℕ) (xs : List Track) (i : ℕ) where
-  abbrev rq : ℕ → Request
+  abbrev rq : ℕ → WatchRequest
   rq j = request_at p now xs j
 
   pub few_go : (is : List ℕ) → length (filter (is_lookup i) (map rq is)) ≤ times i is
@@ -293,10 +293,10 @@ mid_told s round i within told =
     (asked_told c.at round i (track_in alone i)
     (each_in (Ahead (sec c.at)) (λ j. pressed_track g.margin (entry_at g.entries j) (need_of g.entries s.tracks c j) c.at) s.tracks i within told))
 
-pub sent_told : (s : WatchState) (requests : List Request) (i : ℕ) → Still (track_at (sent s requests) i) (track_at s i)
+pub sent_told : (s : WatchState) (requests : List WatchRequest) (i : ℕ) → Still (track_at (sent s requests) i) (track_at s i)
 sent_told s requests i h =
     each_kept Still (λ k. k) (sent_in s.clocks.at requests) s.tracks
-    (λ j x k. if_both IsTold (list_any (λ (r : Request). r.entry == j) requests) (sent_track s.clocks.at x) x (record { owes = k.owes; known = k.known; asks = λ free. absurd (true≢false free) }) k) i h
+    (λ j x k. if_both IsTold (list_any (λ (r : WatchRequest). r.entry == j) requests) (sent_track s.clocks.at x) x (record { owes = k.owes; known = k.known; asks = λ free. absurd (true≢false free) }) k) i h
 
 -- the broker's return
 back_asks : (x : Track) (o : Option Try) → AsksRenewal o → AsksRenewal (back_try x o)

@@ -5,13 +5,13 @@ use Rattle.std.proofs.lemmas.List.{get_or-set_other}
 use Rattle.std.proofs.lemmas.List.Elements.{All-cons, All-head, All-tail, All-weaker}
 use Rattle.std.specs.List.{list_any}
 use Rattle.plan_forest.specs.declared.entry.Entry.{Entry}
-use Rattle.watch_machine.specs.declared.command.Output.{Output}
-use Rattle.watch_machine.specs.declared.event.Event.{Event}
-use Rattle.watch_machine.specs.declared.event.Event.TheVariants.{Clock, Looked, Renewed, Need, Begin, Known}
+use Rattle.watch_machine.specs.declared.command.WatchOutput.{WatchOutput}
+use Rattle.watch_machine.specs.declared.event.WatchEvent.{WatchEvent}
+use Rattle.watch_machine.specs.declared.event.WatchEvent.TheVariants.{Clock, Looked, Renewed, Need, Begin, Known}
 use Rattle.watch_machine.specs.declared.event.Operation.TheVariants.{Look, Renew}
-use Rattle.watch_machine.specs.declared.event.Reply.{Reply}
-use Rattle.watch_machine.specs.declared.event.Reply.TheVariants.{Told, Refused, Busy, Lost}
-use Rattle.watch_machine.specs.declared.event.Terms.{Terms}
+use Rattle.watch_machine.specs.declared.event.WatchReply.{WatchReply}
+use Rattle.watch_machine.specs.declared.event.WatchReply.TheVariants.{Told, Refused, Busy, Lost}
+use Rattle.watch_machine.specs.declared.event.WatchTerms.{WatchTerms}
 use Rattle.watch_machine.specs.declared.fault.WatchFault.{WatchFault}
 use Rattle.watch_machine.specs.declared.lanes.Out.{Out}
 use Rattle.watch_machine.specs.declared.track.Track.{Track}
@@ -39,7 +39,7 @@ any_time since = true
 abbrev pub AllMarked : WatchState → Type 0
 AllMarked s = (i : ℕ) → (track_at s i).out ≡ true → list_any (is_of i any_time) s.out ≡ true
 
-clock_marked : (old new : WatchState) (wall elapsed : ℕ) (output : Output) → Ticks old new wall elapsed output → AllMarked old → AllMarked new
+clock_marked : (old new : WatchState) (wall elapsed : ℕ) (output : WatchOutput) → Ticks old new wall elapsed output → AllMarked old → AllMarked new
 clock_marked old new wall elapsed output h all i out =
     elim (cases_Bool (track_at old i).out) as (λ _. list_any (is_of i any_time) new.out ≡ true) [
       | inl before ↦ still_out old new wall elapsed output (is_of i any_time) h (all i before)
@@ -55,7 +55,7 @@ unfolding back_track
 back_out x = refl
 
 answer_marked :
-    (old mid new : WatchState) (q : Out) (reply : Reply) → new ≡ replied mid q reply → mid.out ≡ old.out → ((i : ℕ) → q.entry ≢ i → track_at mid i ≡ track_at old i) → Free (track_at mid q.entry) → AllMarked old → AllMarked new
+    (old mid new : WatchState) (q : Out) (reply : WatchReply) → new ≡ replied mid q reply → mid.out ≡ old.out → ((i : ℕ) → q.entry ≢ i → track_at mid i ≡ track_at old i) → Free (track_at mid q.entry) → AllMarked old → AllMarked new
 answer_marked old mid new q reply is outs other free all i out =
     elim (cases_Bool (q.entry == i)) as (λ _. list_any (is_of i any_time) new.out ≡ true) [
       | inl here ↦
@@ -72,11 +72,11 @@ told_free : (since seconds : ℕ) (renewable endless : Bool) (x : Track) → Fre
 unfolding told_track
 told_free since seconds renewable endless x = refl
 
-untold_free : (at : ℕ) (heard : Bool) (reply : Reply) (x : Track) → Free (untold_track at heard reply x)
+untold_free : (at : ℕ) (heard : Bool) (reply : WatchReply) (x : Track) → Free (untold_track at heard reply x)
 unfolding untold_track
 untold_free at heard reply x = refl
 
-looked_free : (s : WatchState) (q : Out) (reply : Reply) (terms : Terms) → Free (track_at (looked s q reply terms) q.entry)
+looked_free : (s : WatchState) (q : Out) (reply : WatchReply) (terms : WatchTerms) → Free (track_at (looked s q reply terms) q.entry)
 looked_free s q (Told seconds renewable date) terms =
     let mid = told_state s q.entry q.since seconds renewable terms in
     let here : Free (track_at mid q.entry) = set_holds Free refl s.tracks q.entry _ (told_free q.since seconds renewable terms.endless (track_at s q.entry)) in
@@ -85,24 +85,24 @@ looked_free s q (Refused status date) terms = set_holds Free refl s.tracks q.ent
 looked_free s q Busy terms = set_holds Free refl s.tracks q.entry _ (untold_free s.clocks.at q.heard Busy (track_at s q.entry))
 looked_free s q Lost terms = set_holds Free refl s.tracks q.entry _ (untold_free s.clocks.at q.heard Lost (track_at s q.entry))
 
-renewed_free : (s : WatchState) (q : Out) (reply : Reply) → Free (track_at (state_renewed s q reply) q.entry)
+renewed_free : (s : WatchState) (q : Out) (reply : WatchReply) → Free (track_at (state_renewed s q reply) q.entry)
 unfolding renewed_track granted_from ungranted_track
 renewed_free s q (Told seconds renewable date) = set_holds Free refl s.tracks q.entry _ refl
 renewed_free s q _ = set_holds Free refl s.tracks q.entry _ refl
 
-looked_marked : (old new : WatchState) (found : Option Out) (reply : Reply) (terms : Terms) (output : Output) → StepLooked old found reply terms output new → AllMarked old → AllMarked new
+looked_marked : (old new : WatchState) (found : Option Out) (reply : WatchReply) (terms : WatchTerms) (output : WatchOutput) → StepLooked old found reply terms output new → AllMarked old → AllMarked new
 looked_marked old new None reply terms output step all = absurd step
 looked_marked old new (Some q) reply terms output step all =
     let s = noted old q reply in
     answer_marked old (looked s q reply terms) new q reply step.1 (looked_out s q reply terms) (λ i. looked_other s q reply terms i) (looked_free s q reply terms) all
 
-renewed_marked : (old new : WatchState) (found : Option Out) (reply : Reply) (output : Output) → StepRenewed old found reply output new → AllMarked old → AllMarked new
+renewed_marked : (old new : WatchState) (found : Option Out) (reply : WatchReply) (output : WatchOutput) → StepRenewed old found reply output new → AllMarked old → AllMarked new
 renewed_marked old new None reply output step all = absurd step
 renewed_marked old new (Some q) reply output step all =
     let s = noted old q reply in
     answer_marked old (state_renewed s q reply) new q reply step.1 refl (λ i apart. get_or-set_other s.tracks q.entry i _ no_track (λ e. apart (sym e))) (renewed_free s q reply) all
 
-step_marked : (old new : WatchState) (event : Event) (output : Output) → Step old event output new → AllMarked old → AllMarked new
+step_marked : (old new : WatchState) (event : WatchEvent) (output : WatchOutput) → Step old event output new → AllMarked old → AllMarked new
 step_marked old new (Clock wall elapsed) output step all = clock_marked old new wall elapsed output (ticks old new wall elapsed output step) all
 step_marked old new (Looked j reply terms) output step all = looked_marked old new (request_out old.out j Look) reply terms output step all
 step_marked old new (Renewed j reply) output step all = renewed_marked old new (request_out old.out j Renew) reply output step all
@@ -111,7 +111,7 @@ step_marked old new (Known j end renewable) output step all =
     (λ i out. all i (sym (set_kept (λ (y x : Track). y.out ≡ x.out) (λ x. refl) old.tracks j _ (known_out old.clocks.at end renewable (track_at old j)) i) ∙ out))
 step_marked old new _ output step all = subst AllMarked (sym step.1) all
 
-pub turn_marked : (old new : WatchState) (event : Event) (result : Result Output WatchFault) → Turn old event result new → AllMarked old → AllMarked new
+pub turn_marked : (old new : WatchState) (event : WatchEvent) (result : Result WatchOutput WatchFault) → Turn old event result new → AllMarked old → AllMarked new
 turn_marked old new event (Ok output) turn all = step_marked old new event output turn.1 all
 turn_marked old new event (Err fault) turn all = subst AllMarked (sym (refused_stays old new event fault turn)) all
 

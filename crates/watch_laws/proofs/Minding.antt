@@ -8,15 +8,15 @@ use Rattle.std.proofs.lemmas.List.{get_or_past, length-append, length-map}
 use Rattle.std.specs.List.{list_any, range_with_len}
 use Rattle.plan_forest.specs.declared.entry.Entry.{Entry}
 use Rattle.plan_forest.specs.Forest.{entry_at}
-use Rattle.watch_machine.specs.declared.command.Command.{Command}
-use Rattle.watch_machine.specs.declared.command.Command.TheVariants.{Go, Taken}
-use Rattle.watch_machine.specs.declared.command.Output.{Output}
-use Rattle.watch_machine.specs.declared.command.Request.{Request}
-use Rattle.watch_machine.specs.declared.event.Event.{Event}
-use Rattle.watch_machine.specs.declared.event.Event.TheVariants.{Clock, Looked, Renewed, Need, Begin, Known}
+use Rattle.watch_machine.specs.declared.command.WatchCommand.{WatchCommand}
+use Rattle.watch_machine.specs.declared.command.WatchCommand.TheVariants.{Go, Taken}
+use Rattle.watch_machine.specs.declared.command.WatchOutput.{WatchOutput}
+use Rattle.watch_machine.specs.declared.command.WatchRequest.{WatchRequest}
+use Rattle.watch_machine.specs.declared.event.WatchEvent.{WatchEvent}
+use Rattle.watch_machine.specs.declared.event.WatchEvent.TheVariants.{Clock, Looked, Renewed, Need, Begin, Known}
 use Rattle.watch_machine.specs.declared.event.Operation.TheVariants.{Look, Renew}
-use Rattle.watch_machine.specs.declared.event.Reply.{Reply}
-use Rattle.watch_machine.specs.declared.event.Terms.{Terms}
+use Rattle.watch_machine.specs.declared.event.WatchReply.{WatchReply}
+use Rattle.watch_machine.specs.declared.event.WatchTerms.{WatchTerms}
 use Rattle.watch_machine.specs.declared.fault.WatchFault.{WatchFault}
 use Rattle.watch_machine.specs.declared.lanes.Out.{Out}
 use Rattle.watch_machine.specs.declared.lanes.Presence.{Presence}
@@ -130,10 +130,10 @@ mid_stands s round i =
     (fresh_stands g.margin e need c.at (track_at s i))))
 
 -- and after the requests have gone out
-sent_stands : (margin : ℕ) (e : Entry) (need now at : ℕ) (requests : List Request) (xs : List Track) (i : ℕ) → Stands margin e need now (track_in xs i) → Stands margin e need now (track_in (each (sent_in at requests) xs) i)
+sent_stands : (margin : ℕ) (e : Entry) (need now at : ℕ) (requests : List WatchRequest) (xs : List Track) (i : ℕ) → Stands margin e need now (track_in xs i) → Stands margin e need now (track_in (each (sent_in at requests) xs) i)
 sent_stands margin e need now at requests xs i h =
     each_holds (Stands margin e need now) (none_stands margin e need now) (sent_in at requests) xs i
-    (if_both (Stands margin e need now) (list_any (λ (r : Request). r.entry == i) requests) (sent_track at (track_in xs i)) (track_in xs i) (λ wanted bad. absurd (true≢false bad)) h)
+    (if_both (Stands margin e need now) (list_any (λ (r : WatchRequest). r.entry == i) requests) (sent_track at (track_in xs i)) (track_in xs i) (λ wanted bad. absurd (true≢false bad)) h)
 
 -- a try that may go out now is due
 pub due_so : (p : Presence) (at : ℕ) (x : Track) (t : Try) → x.out ≡ false → x.attempt ≡ Some t → ready p x t ≤ at → is_due p at x ≡ true
@@ -142,14 +142,14 @@ due_so p at x t free is now =
     and_from (not x.out) (is_due_try p at x x.attempt) (ap not free) (ap (is_due_try p at x) is ∙ (let test : nat_le (ready p x t) at ≡ true = grind (arith, nat_tests) in test))
 
 -- a due try whose request does not go out finds all lanes taken
-module _ (s : WatchState) (requests : List Request) (i : ℕ) where
+module _ (s : WatchState) (requests : List WatchRequest) (i : ℕ) where
   abbrev gone : WatchState
   gone = sent s requests
 
   -- an entry that is not out after it was not named
-  pub not_named : i < length s.tracks → (track_at gone i).out ≡ false → list_any (λ (r : Request). r.entry == i) requests ≡ false
+  pub not_named : i < length s.tracks → (track_at gone i).out ≡ false → list_any (λ (r : WatchRequest). r.entry == i) requests ≡ false
   not_named within free =
-      elim (cases_Bool (list_any (λ (r : Request). r.entry == i) requests)) [
+      elim (cases_Bool (list_any (λ (r : WatchRequest). r.entry == i) requests)) [
         | inl named ↦ absurd (not_both (ap (λ (x : Track). x.out) (went s requests i named within)) free)
         | inr other ↦ other
       ]
@@ -166,7 +166,7 @@ module _ (s : WatchState) (requests : List Request) (i : ℕ) where
         | inr due ↦
             let here : is_due p at (track_at s i) ≡ true = subst (λ x. is_due p at x ≡ true) same (due_so p at (track_at gone i) t free is due) in
             elim (going.full i within here) as (λ _. (at < ready p (track_at gone i) t) ⊎ (s.width ≤ length gone.out)) [
-              | inl named ↦ absurd (not_both (ap (list_any (λ (r : Request). r.entry == i)) going.requests_are ∙ some_named p (sec at) at s.tracks i going.entries named) other)
+              | inl named ↦ absurd (not_both (ap (list_any (λ (r : WatchRequest). r.entry == i)) going.requests_are ∙ some_named p (sec at) at s.tracks i going.entries named) other)
               | inr full ↦
                   let many = ap length going.requests_are ∙ length-map going.entries _ in
                   let sent' = length-map requests (out_at at) in
@@ -188,7 +188,7 @@ some_within xs i t is =
     ]
 
 -- a clock: the requests go out of a state in which all are pressed
-module _ (s : WatchState) (round : List ℕ) (requests : List Request) (i : ℕ) where
+module _ (s : WatchState) (round : List ℕ) (requests : List WatchRequest) (i : ℕ) where
   abbrev mid : WatchState
   mid = pressed s round
 
@@ -266,7 +266,7 @@ second_later : (at t : ℕ) → sec at < t → at < ms t
 unfolding sec
 second_later at t h = omega (arith, h)
 
-end_later : (s : WatchState) (round : List ℕ) (requests : List Request) → s.clocks.at < wait (sent (pressed s round) requests)
+end_later : (s : WatchState) (round : List ℕ) (requests : List WatchRequest) → s.clocks.at < wait (sent (pressed s round) requests)
 unfolding wait next_of
 end_later s round requests =
     let n = sent (pressed s round) requests in
@@ -297,31 +297,31 @@ end_later s round requests =
     omega (arith, first, second')))
 
 -- a clock, a step, a turn
-commanded : (s new : WatchState) (round : List ℕ) (command : Command) → StepCommand (pressed s round) command new → WaitsRight command new
+commanded : (s new : WatchState) (round : List ℕ) (command : WatchCommand) → StepCommand (pressed s round) command new → WaitsRight command new
 commanded s new round (Go requests until) h =
     let going = goes s.forest s.presence s.clocks.at (pressed s round).tracks (s.width - length s.out) requests h.0.0 in
     subst (λ n. WaitsRight (Go requests n) new) (sym h.1)
     (subst (λ (x : WatchState). WaitsRight (Go requests (wait x)) x) (sym h.0.1) (end_later s round requests, (λ i within wanted. end_minded s round requests i going within wanted)))
 commanded s new round Taken h = tt
 
-taken_right : (output out : Output) (s : WatchState) → output ≡ out → out.command ≡ Taken → WaitsRight output.command s
-taken_right output out s is taken' = subst (λ c. WaitsRight c s) (sym (ap (λ (x : Output). x.command) is ∙ taken')) tt
+taken_right : (output out : WatchOutput) (s : WatchState) → output ≡ out → out.command ≡ Taken → WaitsRight output.command s
+taken_right output out s is taken' = subst (λ c. WaitsRight c s) (sym (ap (λ (x : WatchOutput). x.command) is ∙ taken')) tt
 
-looked_right : (old new : WatchState) (found : Option Out) (reply : Reply) (terms : Terms) (output : Output) → StepLooked old found reply terms output new → WaitsRight output.command new
+looked_right : (old new : WatchState) (found : Option Out) (reply : WatchReply) (terms : WatchTerms) (output : WatchOutput) → StepLooked old found reply terms output new → WaitsRight output.command new
 looked_right old new None reply terms output step = absurd step
 looked_right old new (Some q) reply terms output step = taken_right output _ new step.0 refl
 
-renewed_right : (old new : WatchState) (found : Option Out) (reply : Reply) (output : Output) → StepRenewed old found reply output new → WaitsRight output.command new
+renewed_right : (old new : WatchState) (found : Option Out) (reply : WatchReply) (output : WatchOutput) → StepRenewed old found reply output new → WaitsRight output.command new
 renewed_right old new None reply output step = absurd step
 renewed_right old new (Some q) reply output step = taken_right output _ new step.0 refl
 
-step_right : (old new : WatchState) (event : Event) (output : Output) → Step old event output new → WaitsRight output.command new
+step_right : (old new : WatchState) (event : WatchEvent) (output : WatchOutput) → Step old event output new → WaitsRight output.command new
 step_right old new (Clock wall elapsed) output step = commanded (readied old wall elapsed) new (round_of step.round) output.command step.command
 step_right old new (Looked j reply terms) output step = looked_right old new (request_out old.out j Look) reply terms output step
 step_right old new (Renewed j reply) output step = renewed_right old new (request_out old.out j Renew) reply output step
 step_right old new _ output step = taken_right output _ new step.0 refl
 
-turn_right : (old new : WatchState) (event : Event) (result : Result Output WatchFault) → Turn old event result new → EndsRight result new
+turn_right : (old new : WatchState) (event : WatchEvent) (result : Result WatchOutput WatchFault) → Turn old event result new → EndsRight result new
 turn_right old new event (Ok output) turn = step_right old new event output turn.1
 turn_right old new event (Err fault) turn = tt
 

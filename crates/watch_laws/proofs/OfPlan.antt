@@ -21,9 +21,9 @@ use Rattle.plan_rule.specs.Forced.{bound, latest_end}
 use Rattle.plan_rule.specs.Schedule.{IsNextMoment, IsSchedule}
 use Rattle.plan_rule.proofs.Asking.{short_over}
 use Rattle.plan_rule.proofs.Keeping.{end_below_bound}
-use Rattle.watch_machine.specs.declared.command.Output.{Output}
-use Rattle.watch_machine.specs.declared.event.Event.{Event}
-use Rattle.watch_machine.specs.declared.event.Event.TheVariants.{Clock}
+use Rattle.watch_machine.specs.declared.command.WatchOutput.{WatchOutput}
+use Rattle.watch_machine.specs.declared.event.WatchEvent.{WatchEvent}
+use Rattle.watch_machine.specs.declared.event.WatchEvent.TheVariants.{Clock}
 use Rattle.watch_machine.specs.declared.notes.Notes.{Notes}
 use Rattle.watch_machine.specs.Beginning.{is_pressed}
 use Rattle.watch_machine.specs.History.{History, Turn, Turned}
@@ -477,14 +477,14 @@ module _ (s : WatchState) (forest : IsForest s.forest) (calm : IsCalm s) where
               | inr come ↦ absurd (none_opens s round e least.0.1.0 (opens_now e least.0.1.0 least.0.1.1.0 (omega arith)))
             ]
 
-clock_of_plan : (old new : WatchState) (wall elapsed : ℕ) (output : Output) → IsForest old.forest → StepClock old wall elapsed output new → IsCalm (readied old wall elapsed) → IsOfPlan (readied old wall elapsed) output.notes.round
+clock_of_plan : (old new : WatchState) (wall elapsed : ℕ) (output : WatchOutput) → IsForest old.forest → StepClock old wall elapsed output new → IsCalm (readied old wall elapsed) → IsOfPlan (readied old wall elapsed) output.notes.round
 clock_of_plan old new wall elapsed output forest step calm =
     let r = readied old wall elapsed in
     subst (IsOfPlan r) (sym (ap (λ (x : Notes). x.round) step.notes)) (of_plan r (subst IsForest (sym (readied_forest old wall elapsed)) forest) calm step.round step.is_round)
 
 turn_of_plan : (old : WatchState) (turn : Turned) → IsForest old.forest → Turn old turn.event turn.result turn.state → RoundsRight old turn
 turn_of_plan old turn forest h wall elapsed output event result calm =
-    let at_clock : Turn old (Clock wall elapsed) turn.result turn.state = subst (λ (e : Event). Turn old e turn.result turn.state) event h in
+    let at_clock : Turn old (Clock wall elapsed) turn.result turn.state = subst (λ (e : WatchEvent). Turn old e turn.result turn.state) event h in
     let taken : Turn old (Clock wall elapsed) (Ok output) turn.state = subst (λ x. Turn old (Clock wall elapsed) x turn.state) result at_clock in
     clock_of_plan old turn.state wall elapsed output forest taken.1 calm
 

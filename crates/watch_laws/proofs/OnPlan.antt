@@ -20,9 +20,9 @@ use Rattle.plan_rule.specs.Unkeepable.{AllKeepable}
 use Rattle.plan_rule.proofs.Existence.{there_is_one}
 use Rattle.plan_rule.proofs.Keeping.{one_least, unkeepable}
 use Rattle.plan_rule.proofs.Schedule.{schedule_is_best}
-use Rattle.watch_machine.specs.declared.command.Request.{Request}
+use Rattle.watch_machine.specs.declared.command.WatchRequest.{WatchRequest}
 use Rattle.watch_machine.specs.declared.event.Operation.TheVariants.{Renew}
-use Rattle.watch_machine.specs.declared.lanes.Answer.{Answer}
+use Rattle.watch_machine.specs.declared.lanes.LaneAnswer.{LaneAnswer}
 use Rattle.watch_machine.specs.declared.lanes.Out.{Out}
 use Rattle.watch_machine.specs.declared.lanes.Presence.{Presence}
 use Rattle.watch_machine.specs.declared.track.Track.{Track}
@@ -122,7 +122,7 @@ settled_is : (margin at : ℕ) (x : Track) → IfSome x.attempt (λ t. t.failed 
 unfolding settled_track
 settled_is margin at x whole = ap (λ o. record x { attempt = o }) (settled_same margin at x x.attempt whole)
 
-pub presence_away : (margin at : ℕ) (xs : List Track) (answers : List Answer) (p : Presence) → (presence_after margin at xs answers p).away ≡ p.away
+pub presence_away : (margin at : ℕ) (xs : List Track) (answers : List LaneAnswer) (p : Presence) → (presence_after margin at xs answers p).away ≡ p.away
 unfolding presence_after held_back
 presence_away margin at xs answers p = if_both (λ (q : Presence). q.away ≡ p.away) _ _ p refl refl
 
@@ -234,11 +234,11 @@ pub record Goes (s : WatchState) (g : Forest) (e : ℕ → ℕ) (last : Wake) (t
   pub waits : (i : ℕ) → list_any (λ (r : Out). r.entry == i) s.out ≡ true → attempt_at s i ≡ None → ⊥
 
 -- what goes out are renewals that a wake-up asks, from its second on
-abbrev pub IsSent : Wake → WatchState → Request → Type 0
+abbrev pub IsSent : Wake → WatchState → WatchRequest → Type 0
 IsSent now s r = (r.operation ≡ Renew) × ((is_asked now r.entry ≡ true) × (now.at ≤ second s))
 
 -- a turn goes by the wake-ups to come
-pub record IsOn (new : WatchState) (g : Forest) (s0 : ℕ) (was : ℕ → ℕ) (last : Wake) (wakes : List Wake) (round : Option (List ℕ)) (requests : List Request) : Type 0 where
+pub record IsOn (new : WatchState) (g : Forest) (s0 : ℕ) (was : ℕ → ℕ) (last : Wake) (wakes : List Wake) (round : Option (List ℕ)) (requests : List WatchRequest) : Type 0 where
   pub now : Wake
   pub next : List Wake
   pub e : ℕ → ℕ
@@ -290,7 +290,7 @@ out_asked at round i x =
     if_both (λ (y : Track). y.out ≡ x.out) (list_any (λ j. j == i) round) (asked_track at x) x
     (if_both (λ (y : Track). y.out ≡ x.out) x.out x (record x { attempt = Some (press at x) }) refl refl) refl
 
-module _ (r : WatchState) (round : List ℕ) (requests : List Request) where
+module _ (r : WatchState) (round : List ℕ) (requests : List WatchRequest) where
   abbrev pub mid : WatchState
   mid = pressed r round
 
@@ -305,7 +305,7 @@ module _ (r : WatchState) (round : List ℕ) (requests : List Request) where
       let c = r.clocks in
       let g = r.forest in
       let R : Track → Track → Type 0 = λ y x. y.owes ≡ x.owes in
-      each_kept R refl (sent_in c.at requests) mid.tracks (λ j x. if_both (λ y. R y x) (list_any (λ (q : Request). q.entry == j) requests) (sent_track c.at x) x refl refl) i
+      each_kept R refl (sent_in c.at requests) mid.tracks (λ j x. if_both (λ y. R y x) (list_any (λ (q : WatchRequest). q.entry == j) requests) (sent_track c.at x) x refl refl) i
       ∙ each_kept R refl (track_asked_in c.at round) alone (owes_asked c.at round) i
       ∙ each_kept R refl (λ j. pressed_track g.margin (entry_at g.entries j) (need_of g.entries r.tracks c j) c.at) r.tracks
       (λ j x. owes_pressed g.margin (entry_at g.entries j) (need_of g.entries r.tracks c j) c.at x) i
@@ -314,7 +314,7 @@ module _ (r : WatchState) (round : List ℕ) (requests : List Request) where
   pub attempt_sent : (i : ℕ) → attempt_at new i ≡ attempt_at mid i
   attempt_sent i =
       each_kept (λ y x. y.attempt ≡ x.attempt) refl (sent_in r.clocks.at requests) mid.tracks
-      (λ j x. if_both (λ (y : Track). y.attempt ≡ x.attempt) (list_any (λ (q : Request). q.entry == j) requests) (sent_track r.clocks.at x) x refl refl) i
+      (λ j x. if_both (λ (y : Track). y.attempt ≡ x.attempt) (list_any (λ (q : WatchRequest). q.entry == j) requests) (sent_track r.clocks.at x) x refl refl) i
 
   -- the track that is pressed and asked by a round
   pub mid_read : (i : ℕ) → i < length r.tracks → track_at mid i ≡ track_asked_in r.clocks.at round i (pressed_track r.forest.margin (entry_of r i) (wanted_need r i) r.clocks.at (track_at r i))
@@ -376,15 +376,15 @@ module _ (r : WatchState) (round : List ℕ) (requests : List Request) where
 
   module _ (h : IsSending mid requests new) where
     -- whoever goes out has a try
-    pub sent_tried : (i : ℕ) → list_any (λ (q : Request). q.entry == i) requests ≡ true → attempt_at mid i ≡ None → ⊥
+    pub sent_tried : (i : ℕ) → list_any (λ (q : WatchRequest). q.entry == i) requests ≡ true → attempt_at mid i ≡ None → ⊥
     sent_tried i named none =
         let out = going mid.forest mid.presence mid.clocks.at mid.tracks (mid.width - length mid.out) requests h.0 in
-        by out.entries out.due (sym (ap (list_any (λ (q : Request). q.entry == i)) out.requests_are) ∙ named) where
-          by : (is : List ℕ) → All (λ j. (j < length mid.tracks) × (is_due mid.presence mid.clocks.at (track_in mid.tracks j) ≡ true)) is → list_any (λ (q : Request). q.entry == i) (map (request_at mid.presence (sec mid.clocks.at) mid.tracks) is) ≡ true → ⊥
+        by out.entries out.due (sym (ap (list_any (λ (q : WatchRequest). q.entry == i)) out.requests_are) ∙ named) where
+          by : (is : List ℕ) → All (λ j. (j < length mid.tracks) × (is_due mid.presence mid.clocks.at (track_in mid.tracks j) ≡ true)) is → list_any (λ (q : WatchRequest). q.entry == i) (map (request_at mid.presence (sec mid.clocks.at) mid.tracks) is) ≡ true → ⊥
           by [] due some = absurd cc
           by (j ∷ js) due some =
               let e = entry_by mid.presence (sec mid.clocks.at) mid.tracks j in
-              or_parts ((request_at mid.presence (sec mid.clocks.at) mid.tracks j).entry == i) (list_any (λ (q : Request). q.entry == i) (map (request_at mid.presence (sec mid.clocks.at) mid.tracks) js)) ⊥ some
+              or_parts ((request_at mid.presence (sec mid.clocks.at) mid.tracks j).entry == i) (list_any (λ (q : WatchRequest). q.entry == i) (map (request_at mid.presence (sec mid.clocks.at) mid.tracks) js)) ⊥ some
               (λ here.
               let same : j ≡ i = sym e ∙ eqb-true _ i here in
               due_tried mid.presence mid.clocks.at (track_at mid i) (attempt_at mid i)
@@ -394,10 +394,10 @@ module _ (r : WatchState) (round : List ℕ) (requests : List Request) where
     -- so whoever has none is not marked
     pub out_idle : (i : ℕ) → attempt_at mid i ≡ None → (track_at new i).out ≡ (track_at r i).out
     out_idle i none =
-        elim (cases_Bool (list_any (λ (q : Request). q.entry == i) requests)) [
+        elim (cases_Bool (list_any (λ (q : WatchRequest). q.entry == i) requests)) [
           | inl named ↦ absurd (sent_tried i named none)
           | inr apart ↦
-              ap (λ (x : Track). x.out) (each_at (sent_in r.clocks.at requests) mid.tracks i (λ x. cond-false (list_any (λ (q : Request). q.entry == i) requests) (sent_track r.clocks.at x) x apart))
+              ap (λ (x : Track). x.out) (each_at (sent_in r.clocks.at requests) mid.tracks i (λ x. cond-false (list_any (λ (q : WatchRequest). q.entry == i) requests) (sent_track r.clocks.at x) x apart))
               ∙ out_mid i
         ]
 
@@ -405,7 +405,7 @@ module _ (r : WatchState) (round : List ℕ) (requests : List Request) where
     pub sends : (e : ℕ → ℕ) (now : Wake) (ts : List ℕ) → ((i : ℕ) → IsIdle new e i ⊎ IsTried new e now ts i) → All (IsSent now new) requests
     sends e now ts each =
         let out = going mid.forest mid.presence mid.clocks.at mid.tracks (mid.width - length mid.out) requests h.0 in
-        let rq : ℕ → Request = request_at mid.presence (sec mid.clocks.at) mid.tracks in
+        let rq : ℕ → WatchRequest = request_at mid.presence (sec mid.clocks.at) mid.tracks in
         subst (All (IsSent now new)) (sym out.requests_are) (All-map (IsSent now new) rq out.entries (λ k d within. one (get_or out.entries k d) (out.due k d within).1)) where
           one : (i : ℕ) → is_due mid.presence mid.clocks.at (track_in mid.tracks i) ≡ true → IsSent now new (request_at mid.presence (sec mid.clocks.at) mid.tracks i)
           one i due =
@@ -422,8 +422,8 @@ module _ (r : WatchState) (round : List ℕ) (requests : List Request) where
     waits_new before i waiting none =
         or_parts (list_any (λ (q : Out). q.entry == i) r.out) (list_any (λ (q : Out). q.entry == i) (map (out_at r.clocks.at) requests)) ⊥ (sym (list_any-append (λ (q : Out). q.entry == i) r.out (map (out_at r.clocks.at) requests)) ∙ waiting)
         (λ old. before i old none) (λ fresh. sent_tried i (mapped requests fresh) (sym (attempt_sent i) ∙ none)) where
-          mapped : (rs : List Request) → list_any (λ (q : Out). q.entry == i) (map (out_at r.clocks.at) rs) ≡ true → list_any (λ (q : Request). q.entry == i) rs ≡ true
+          mapped : (rs : List WatchRequest) → list_any (λ (q : Out). q.entry == i) (map (out_at r.clocks.at) rs) ≡ true → list_any (λ (q : WatchRequest). q.entry == i) rs ≡ true
           mapped [] some = some
           mapped (q ∷ rs) some =
-              or_parts (q.entry == i) (list_any (λ (o : Out). o.entry == i) (map (out_at r.clocks.at) rs)) (list_any (λ (o : Request). o.entry == i) (q ∷ rs) ≡ true) some
-              (λ here. or_left (q.entry == i) (list_any (λ (o : Request). o.entry == i) rs) here) (λ later. or_right (q.entry == i) (list_any (λ (o : Request). o.entry == i) rs) (mapped rs later))
+              or_parts (q.entry == i) (list_any (λ (o : Out). o.entry == i) (map (out_at r.clocks.at) rs)) (list_any (λ (o : WatchRequest). o.entry == i) (q ∷ rs) ≡ true) some
+              (λ here. or_left (q.entry == i) (list_any (λ (o : WatchRequest). o.entry == i) rs) here) (λ later. or_right (q.entry == i) (list_any (λ (o : WatchRequest). o.entry == i) rs) (mapped rs later))

@@ -13,20 +13,20 @@ use Rattle.plan_forest.proofs.Entries.{entry_at_set_other, entry_at_set_same}
 use Rattle.plan_rule.specs.Asks.{asks, is_to_be_asked as is_asked_for}
 use Rattle.watch_machine.specs.declared.change.Was.TheVariants.{New}
 use Rattle.watch_machine.specs.declared.clocks.Clocks.{Clocks}
-use Rattle.watch_machine.specs.declared.command.Command.{Command}
-use Rattle.watch_machine.specs.declared.command.Command.TheVariants.{Go, Taken}
-use Rattle.watch_machine.specs.declared.command.Output.{Output}
-use Rattle.watch_machine.specs.declared.command.Request.{Request}
-use Rattle.watch_machine.specs.declared.event.Event.{Event}
-use Rattle.watch_machine.specs.declared.event.Event.TheVariants.{Clock, Looked, Renewed, Need, Begin, Known}
+use Rattle.watch_machine.specs.declared.command.WatchCommand.{WatchCommand}
+use Rattle.watch_machine.specs.declared.command.WatchCommand.TheVariants.{Go, Taken}
+use Rattle.watch_machine.specs.declared.command.WatchOutput.{WatchOutput}
+use Rattle.watch_machine.specs.declared.command.WatchRequest.{WatchRequest}
+use Rattle.watch_machine.specs.declared.event.WatchEvent.{WatchEvent}
+use Rattle.watch_machine.specs.declared.event.WatchEvent.TheVariants.{Clock, Looked, Renewed, Need, Begin, Known}
 use Rattle.watch_machine.specs.declared.event.Operation.{Operation}
 use Rattle.watch_machine.specs.declared.event.Operation.TheVariants.{Look, Renew}
-use Rattle.watch_machine.specs.declared.event.Reply.{Reply}
-use Rattle.watch_machine.specs.declared.event.Reply.TheVariants.{Told, Refused, Busy, Lost}
-use Rattle.watch_machine.specs.declared.event.Terms.{Terms}
+use Rattle.watch_machine.specs.declared.event.WatchReply.{WatchReply}
+use Rattle.watch_machine.specs.declared.event.WatchReply.TheVariants.{Told, Refused, Busy, Lost}
+use Rattle.watch_machine.specs.declared.event.WatchTerms.{WatchTerms}
 use Rattle.watch_machine.specs.declared.fault.WatchFault.{WatchFault}
 use Rattle.watch_machine.specs.declared.lanes.Out.{Out}
-use Rattle.watch_machine.specs.declared.notes.Why.{Why}
+use Rattle.watch_machine.specs.declared.notes.BeginReason.{BeginReason}
 use Rattle.watch_machine.specs.declared.track.End.{End}
 use Rattle.watch_machine.specs.declared.track.Track.{Track}
 use Rattle.watch_machine.specs.declared.track.Try.{Try}
@@ -120,7 +120,7 @@ owing_alike at first called x = if_both (λ y. Alike y x) (called && (first || i
 untopped_alike : (x : Track) → Alike (untopped_track x) x
 untopped_alike x = record { own = λ come. refl; pressed' = refl; out = refl; end = refl; grant = refl; fewer = λ tries. absurd cc }
 
-begun_alike : (s : WatchState) (w : Option Why) (j : ℕ) → Alike (track_at (begun s w) j) (track_at s j)
+begun_alike : (s : WatchState) (w : Option BeginReason) (j : ℕ) → Alike (track_at (begun s w) j) (track_at s j)
 begun_alike s None j = same_alike (track_at s j)
 begun_alike s (Some w) j =
     let xs = untopped s.tracks in
@@ -203,7 +203,7 @@ names_none g xs c (Some asked) j h is wanted =
     ]
 
 -- a clock
-sent_made : (mid new : WatchState) (command : Command) → StepCommand mid command new → (requests : List Request) × (new ≡ sent mid requests)
+sent_made : (mid new : WatchState) (command : WatchCommand) → StepCommand mid command new → (requests : List WatchRequest) × (new ≡ sent mid requests)
 sent_made mid new (Go requests until) h = (requests, h.0.1)
 sent_made mid new Taken h = absurd h
 
@@ -235,10 +235,10 @@ record Sends (y x : Track) : Type 0 where
   fewer : has_last_try y ≡ true → has_last_try x ≡ true
   out : x.out ≡ true → y.out ≡ true
 
-sent_sends : (s : WatchState) (rs : List Request) (j : ℕ) → Sends (track_at (sent s rs) j) (track_at s j)
+sent_sends : (s : WatchState) (rs : List WatchRequest) (j : ℕ) → Sends (track_at (sent s rs) j) (track_at s j)
 sent_sends s rs j =
     each_kept Sends (record { attempt = refl; end = refl; grant = refl; fewer = λ tries. tries; out = λ h. h }) (sent_in s.clocks.at rs) s.tracks
-    (λ k x. if_both (λ y. Sends y x) (list_any (λ (r : Request). r.entry == k) rs) (sent_track s.clocks.at x) x (record { attempt = refl; end = refl; grant = refl; fewer = λ tries. tries; out = λ h. refl })
+    (λ k x. if_both (λ y. Sends y x) (list_any (λ (r : WatchRequest). r.entry == k) rs) (sent_track s.clocks.at x) x (record { attempt = refl; end = refl; grant = refl; fewer = λ tries. tries; out = λ h. refl })
     (record { attempt = refl; end = refl; grant = refl; fewer = λ tries. tries; out = λ h. h })) j
 
 -- a try that is the entry's own is so when its time has come, too
@@ -279,7 +279,7 @@ unfolding has_come
 later_come margin e x a b up h = grind (arith, nat_tests)
 
 clock_stays :
-    (old new : WatchState) (wall elapsed : ℕ) (output : Output) (j : ℕ) → StepClock old wall elapsed output new → IsPast old → is_pressed (track_at old j) ≡ true → is_wanted new j ≡ true → Stays old new j
+    (old new : WatchState) (wall elapsed : ℕ) (output : WatchOutput) (j : ℕ) → StepClock old wall elapsed output new → IsPast old → is_pressed (track_at old j) ≡ true → is_wanted new j ≡ true → Stays old new j
 unfolding wants
 clock_stays old new wall elapsed output j step past is wanted =
     let s = readied old wall elapsed in
@@ -379,14 +379,14 @@ refused_later at x t is =
     (if_cases P t.pressed (failing t Renew false false) (record (failing t Renew false false) { at = at; failed = false }) (λ e. failing_later t Renew false false is) (λ e. absurd (not_both is e)))
     (failing_later t Look false false is)
 
-untold_later : (at : ℕ) (heard' : Bool) (reply : Reply) (x : Track) (o : Option Try) → is_told reply ≡ false → is_pressed_try o ≡ true → IsLater (untold at heard' reply x o)
+untold_later : (at : ℕ) (heard' : Bool) (reply : WatchReply) (x : Track) (o : Option Try) → is_told reply ≡ false → is_pressed_try o ≡ true → IsLater (untold at heard' reply x o)
 untold_later at heard' reply x None none is = absurd cc
 untold_later at heard' (Told seconds renewable date) x (Some t) none is = absurd cc
 untold_later at heard' (Refused status date) x (Some t) none is = refused_later at x t is
 untold_later at heard' Busy x (Some t) none is = failing_later t (after_look (sec at) x t) true false is
 untold_later at heard' Lost x (Some t) none is = failing_later t (after_look (sec at) x t) true heard' is
 
-ungranted_later : (at : ℕ) (heard' : Bool) (reply : Reply) (x : Track) (o : Option Try) → is_told reply ≡ false → is_pressed_try o ≡ true → IsLater (ungranted at heard' reply x o)
+ungranted_later : (at : ℕ) (heard' : Bool) (reply : WatchReply) (x : Track) (o : Option Try) → is_told reply ≡ false → is_pressed_try o ≡ true → IsLater (ungranted at heard' reply x o)
 ungranted_later at heard' reply x None none is = absurd cc
 ungranted_later at heard' (Told seconds renewable date) x (Some t) none is = absurd cc
 ungranted_later at heard' (Refused status date) x (Some t) none is = failing_later t Look false false is
@@ -397,27 +397,27 @@ ungranted_later at heard' Lost x (Some t) none is = failing_later t (after_renew
 abbrev LeavesLater : WatchState → ℕ → Track → Type 0
 LeavesLater s i x = IsLater (track_at (with_track s i x) i).attempt
 
-untold_at : (s : WatchState) (q : Out) (reply : Reply) → is_told reply ≡ false → is_pressed (track_at s q.entry) ≡ true → LeavesLater s q.entry (untold_track s.clocks.at q.heard reply (track_at s q.entry))
+untold_at : (s : WatchState) (q : Out) (reply : WatchReply) → is_told reply ≡ false → is_pressed (track_at s q.entry) ≡ true → LeavesLater s q.entry (untold_track s.clocks.at q.heard reply (track_at s q.entry))
 unfolding untold_track
 untold_at s q reply none is =
     let x = track_at s q.entry in
     subst (λ (y : Track). IsLater y.attempt) (sym (get_or-set_same s.tracks q.entry (untold_track s.clocks.at q.heard reply x) no_track (pressed_within s.tracks q.entry is)))
     (untold_later s.clocks.at q.heard reply x x.attempt none is)
 
-ungranted_at : (s : WatchState) (q : Out) (reply : Reply) → is_told reply ≡ false → is_pressed (track_at s q.entry) ≡ true → LeavesLater s q.entry (ungranted_track s.clocks.at q.heard reply (track_at s q.entry))
+ungranted_at : (s : WatchState) (q : Out) (reply : WatchReply) → is_told reply ≡ false → is_pressed (track_at s q.entry) ≡ true → LeavesLater s q.entry (ungranted_track s.clocks.at q.heard reply (track_at s q.entry))
 unfolding ungranted_track
 ungranted_at s q reply none is =
     let x = track_at s q.entry in
     subst (λ (y : Track). IsLater y.attempt) (sym (get_or-set_same s.tracks q.entry (ungranted_track s.clocks.at q.heard reply x) no_track (pressed_within s.tracks q.entry is)))
     (ungranted_later s.clocks.at q.heard reply x x.attempt none is)
 
-looked_later : (s : WatchState) (q : Out) (reply : Reply) (terms : Terms) → is_told reply ≡ false → is_pressed (track_at s q.entry) ≡ true → IsLater (track_at (looked s q reply terms) q.entry).attempt
+looked_later : (s : WatchState) (q : Out) (reply : WatchReply) (terms : WatchTerms) → is_told reply ≡ false → is_pressed (track_at s q.entry) ≡ true → IsLater (track_at (looked s q reply terms) q.entry).attempt
 looked_later s q (Told seconds renewable date) terms none is = absurd cc
 looked_later s q (Refused status date) terms none is = untold_at s q (Refused status date) none is
 looked_later s q Busy terms none is = untold_at s q Busy none is
 looked_later s q Lost terms none is = untold_at s q Lost none is
 
-renewed_later : (s : WatchState) (q : Out) (reply : Reply) → is_told reply ≡ false → is_pressed (track_at s q.entry) ≡ true → IsLater (track_at (state_renewed s q reply) q.entry).attempt
+renewed_later : (s : WatchState) (q : Out) (reply : WatchReply) → is_told reply ≡ false → is_pressed (track_at s q.entry) ≡ true → IsLater (track_at (state_renewed s q reply) q.entry).attempt
 unfolding renewed_track
 renewed_later s q (Told seconds renewable date) none is = absurd cc
 renewed_later s q (Refused status date) none is = ungranted_at s q (Refused status date) none is
@@ -425,7 +425,7 @@ renewed_later s q Busy none is = ungranted_at s q Busy none is
 renewed_later s q Lost none is = ungranted_at s q Lost none is
 
 -- an answer leaves the tracks but for its own, while the broker is there
-tracks_left : (s : WatchState) (q : Out) (reply : Reply) → s.presence.away ≡ false → (replied s q reply).tracks ≡ s.tracks
+tracks_left : (s : WatchState) (q : Out) (reply : WatchReply) → s.presence.away ≡ false → (replied s q reply).tracks ≡ s.tracks
 tracks_left s q reply there =
     let free = lane_freed s q in
     let P : WatchState → Type 0 = λ t. t.tracks ≡ s.tracks in
@@ -433,7 +433,7 @@ tracks_left s q reply there =
     (if_both P q.heard free (silent free) refl (if_both P s.presence.away _ _ refl refl))
 
 answer_stays :
-    (old mid new : WatchState) (q : Out) (reply : Reply) (j : ℕ) → new ≡ replied mid q reply → mid.presence.away ≡ false → new.clocks ≡ old.clocks → is_pressed (track_at old j) ≡ true →
+    (old mid new : WatchState) (q : Out) (reply : WatchReply) (j : ℕ) → new ≡ replied mid q reply → mid.presence.away ≡ false → new.clocks ≡ old.clocks → is_pressed (track_at old j) ≡ true →
     IsLeft mid old j ⊎ IsLater (track_at mid j).attempt → Stays old new j
 answer_stays old mid new q reply j made there clocks is what =
     let left : track_at new j ≡ track_at mid j = ap (λ (x : WatchState). track_at x j) made ∙ ap (λ xs. track_in xs j) (tracks_left mid q reply there) in
@@ -455,16 +455,16 @@ answer_stays old mid new q reply j made there clocks is what =
     ]
 
 -- an answer to a lookup leaves what tells when the time of another entry comes
-looked_margin : (s : WatchState) (q : Out) (reply : Reply) (terms : Terms) → (looked s q reply terms).forest.margin ≡ s.forest.margin
+looked_margin : (s : WatchState) (q : Out) (reply : WatchReply) (terms : WatchTerms) → (looked s q reply terms).forest.margin ≡ s.forest.margin
 looked_margin s q (Told seconds renewable date) terms = refl
 looked_margin s q _ terms = refl
 
-looked_entry : (s : WatchState) (q : Out) (reply : Reply) (terms : Terms) (j : ℕ) → (j ≡ q.entry → ⊥) → entry_of (looked s q reply terms) j ≡ entry_of s j
+looked_entry : (s : WatchState) (q : Out) (reply : WatchReply) (terms : WatchTerms) (j : ℕ) → (j ≡ q.entry → ⊥) → entry_of (looked s q reply terms) j ≡ entry_of s j
 looked_entry s q (Told seconds renewable date) terms j apart = entry_at_set_other s.forest.entries q.entry j (by_terms s.forest.margin terms (entry_of s q.entry)) apart
 looked_entry s q _ terms j apart = refl
 
 looked_stays :
-    (old new : WatchState) (k j : ℕ) (found : Option Out) (reply : Reply) (terms : Terms) (output : Output) → request_out old.out k Look ≡ found → StepLooked old found reply terms output new → (k ≡ j → is_told reply ≡ false) →
+    (old new : WatchState) (k j : ℕ) (found : Option Out) (reply : WatchReply) (terms : WatchTerms) (output : WatchOutput) → request_out old.out k Look ≡ found → StepLooked old found reply terms output new → (k ≡ j → is_told reply ≡ false) →
     old.presence.away ≡ false → is_pressed (track_at old j) ≡ true → Stays old new j
 looked_stays old new k j None reply terms output is_found step untold' there is = absurd step
 looked_stays old new k j (Some q) reply terms output is_found step untold' there is =
@@ -488,7 +488,7 @@ looked_stays old new k j (Some q) reply terms output is_found step untold' there
       same_index a b e = grind (arith, nat_tests)
 
 renewed_stays :
-    (old new : WatchState) (k j : ℕ) (found : Option Out) (reply : Reply) (output : Output) → request_out old.out k Renew ≡ found → StepRenewed old found reply output new → (k ≡ j → is_told reply ≡ false) →
+    (old new : WatchState) (k j : ℕ) (found : Option Out) (reply : WatchReply) (output : WatchOutput) → request_out old.out k Renew ≡ found → StepRenewed old found reply output new → (k ≡ j → is_told reply ≡ false) →
     old.presence.away ≡ false → is_pressed (track_at old j) ≡ true → Stays old new j
 renewed_stays old new k j None reply output is_found step untold' there is = absurd step
 renewed_stays old new k j (Some q) reply output is_found step untold' there is =
@@ -521,7 +521,7 @@ need_step s k until j =
     ]
 
 step_stays :
-    (old new : WatchState) (event : Event) (output : Output) (j : ℕ) → Step old event output new → IsUntoldOf j event → IsPast old → old.presence.away ≡ false → is_pressed (track_at old j) ≡ true → is_wanted new j ≡ true →
+    (old new : WatchState) (event : WatchEvent) (output : WatchOutput) (j : ℕ) → Step old event output new → IsUntoldOf j event → IsPast old → old.presence.away ≡ false → is_pressed (track_at old j) ≡ true → is_wanted new j ≡ true →
     Stays old new j
 step_stays old new (Clock wall elapsed) output j step quiet past there is wanted = clock_stays old new wall elapsed output j step past is wanted
 step_stays old new (Looked k reply terms) output j step quiet past there is wanted = looked_stays old new k j (request_out old.out k Look) reply terms output refl step quiet there is
@@ -532,7 +532,7 @@ step_stays old new (Known k told renewable) output j step quiet past there is wa
     subst (λ (x : WatchState). Stays old x j) (sym step.1) (same_stays old (known old k told renewable) j (record { track = get_or-set_other old.tracks k j _ no_track (λ e. quiet (sym e)); margin = refl; step = refl }) refl is)
 
 turn_stays :
-    (old new : WatchState) (event : Event) (result : Result Output WatchFault) (j : ℕ) → Turn old event result new → (is_event_taken result ≡ true → IsUntoldOf j event) → IsPast old → old.presence.away ≡ false →
+    (old new : WatchState) (event : WatchEvent) (result : Result WatchOutput WatchFault) (j : ℕ) → Turn old event result new → (is_event_taken result ≡ true → IsUntoldOf j event) → IsPast old → old.presence.away ≡ false →
     is_pressed (track_at old j) ≡ true → is_wanted new j ≡ true → Stays old new j
 turn_stays old new event (Ok output) j turn quiet past there is wanted = step_stays old new event output j turn.1 (quiet refl) past there is wanted
 turn_stays old new event (Err fault) j turn quiet past there is wanted =

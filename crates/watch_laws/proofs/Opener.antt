@@ -4,14 +4,14 @@ use Rattle.std.proofs.Common.{◌≡◌, ◌∙◌, ℕ, true, ◌||◌, ◌==�
 use Rattle.std.specs.List.{list_any}
 use Rattle.plan_forest.specs.declared.entry.Entry.{Entry}
 use Rattle.plan_forest.specs.Forest.{entry_at}
-use Rattle.watch_machine.specs.declared.command.Output.{Output}
-use Rattle.watch_machine.specs.declared.command.Request.{Request}
-use Rattle.watch_machine.specs.declared.event.Event.{Event}
-use Rattle.watch_machine.specs.declared.event.Event.TheVariants.{Clock, Looked, Renewed, Need, Begin, Known}
+use Rattle.watch_machine.specs.declared.command.WatchOutput.{WatchOutput}
+use Rattle.watch_machine.specs.declared.command.WatchRequest.{WatchRequest}
+use Rattle.watch_machine.specs.declared.event.WatchEvent.{WatchEvent}
+use Rattle.watch_machine.specs.declared.event.WatchEvent.TheVariants.{Clock, Looked, Renewed, Need, Begin, Known}
 use Rattle.watch_machine.specs.declared.event.Operation.TheVariants.{Look, Renew}
-use Rattle.watch_machine.specs.declared.event.Reply.{Reply}
-use Rattle.watch_machine.specs.declared.event.Reply.TheVariants.{Told, Refused, Busy, Lost}
-use Rattle.watch_machine.specs.declared.event.Terms.{Terms}
+use Rattle.watch_machine.specs.declared.event.WatchReply.{WatchReply}
+use Rattle.watch_machine.specs.declared.event.WatchReply.TheVariants.{Told, Refused, Busy, Lost}
+use Rattle.watch_machine.specs.declared.event.WatchTerms.{WatchTerms}
 use Rattle.watch_machine.specs.declared.fault.WatchFault.{WatchFault}
 use Rattle.watch_machine.specs.declared.lanes.Out.{Out}
 use Rattle.watch_machine.specs.declared.track.Track.{Track}
@@ -50,13 +50,13 @@ asked_bears at round i x =
     (if_both (λ y. Bears y x) x.out x (record x { attempt = Some (press at x) }) refl refl) refl
 
 -- pressing and sending leave it
-pub mid_bears : (s : WatchState) (round : List ℕ) (requests : List Request) (i : ℕ) → bearing (track_at (sent (pressed s round) requests) i) ≡ bearing (track_at s i)
+pub mid_bears : (s : WatchState) (round : List ℕ) (requests : List WatchRequest) (i : ℕ) → bearing (track_at (sent (pressed s round) requests) i) ≡ bearing (track_at s i)
 mid_bears s round requests i =
     let c = s.clocks in
     let g = s.forest in
     let alone = pressed_alone g c s.tracks in
     let mid = pressed s round in
-    each_kept Bears refl (sent_in c.at requests) mid.tracks (λ j x. if_both (λ y. Bears y x) (list_any (λ (r : Request). r.entry == j) requests) (sent_track c.at x) x refl refl) i
+    each_kept Bears refl (sent_in c.at requests) mid.tracks (λ j x. if_both (λ y. Bears y x) (list_any (λ (r : WatchRequest). r.entry == j) requests) (sent_track c.at x) x refl refl) i
     ∙ each_kept Bears refl (track_asked_in c.at round) alone (asked_bears c.at round) i
     ∙ each_kept Bears refl (λ j. pressed_track g.margin (entry_at g.entries j) (need_of g.entries s.tracks c j) c.at) s.tracks
     (λ j x. pressed_bears g.margin (entry_at g.entries j) (need_of g.entries s.tracks c j) c.at x) i
@@ -77,30 +77,30 @@ pub wants_same : (y x : Track) (need : ℕ) → bearing y ≡ bearing x → want
 wants_same y x need same = sym (wants_bears y need) ∙ ap (λ z. wants z need) same ∙ wants_bears x need
 
 -- no other event than a clock opens a round
-no_round : {X : Type 0} (output o : Output) (asked : List ℕ) → output ≡ o → o.notes.round ≡ None → output.notes.round ≡ Some asked → X
-no_round output o asked is none some = absurd (let e : Some asked ≡ None = sym some ∙ ap (λ (x : Output). x.notes.round) is ∙ none in cc)
+no_round : {X : Type 0} (output o : WatchOutput) (asked : List ℕ) → output ≡ o → o.notes.round ≡ None → output.notes.round ≡ Some asked → X
+no_round output o asked is none some = absurd (let e : Some asked ≡ None = sym some ∙ ap (λ (x : WatchOutput). x.notes.round) is ∙ none in cc)
 
-looked_none : (s : WatchState) (q : Out) (reply : Reply) (terms : Terms) → (notes_looked s q reply terms).round ≡ None
+looked_none : (s : WatchState) (q : Out) (reply : WatchReply) (terms : WatchTerms) → (notes_looked s q reply terms).round ≡ None
 looked_none s q (Told seconds renewable date) terms = refl
 looked_none s q _ terms = refl
 
-looked_no : {X : Type 0} (old new : WatchState) (found : Option Out) (reply : Reply) (terms : Terms) (output : Output) (asked : List ℕ) → StepLooked old found reply terms output new → output.notes.round ≡ Some asked → X
+looked_no : {X : Type 0} (old new : WatchState) (found : Option Out) (reply : WatchReply) (terms : WatchTerms) (output : WatchOutput) (asked : List ℕ) → StepLooked old found reply terms output new → output.notes.round ≡ Some asked → X
 looked_no old new None reply terms output asked step is = absurd step
 looked_no old new (Some q) reply terms output asked step is = no_round output _ asked step.0 (looked_none (noted old q reply) q reply terms) is
 
-renewed_no : {X : Type 0} (old new : WatchState) (found : Option Out) (reply : Reply) (output : Output) (asked : List ℕ) → StepRenewed old found reply output new → output.notes.round ≡ Some asked → X
+renewed_no : {X : Type 0} (old new : WatchState) (found : Option Out) (reply : WatchReply) (output : WatchOutput) (asked : List ℕ) → StepRenewed old found reply output new → output.notes.round ≡ Some asked → X
 renewed_no old new None reply output asked step is = absurd step
 renewed_no old new (Some q) reply output asked step is = no_round output _ asked step.0 refl is
 
 stepped_clock :
-    {X : Type 0} (old new : WatchState) (event : Event) (output : Output) (asked : List ℕ) → Step old event output new → output.notes.round ≡ Some asked → ((wall elapsed : ℕ) → event ≡ Clock wall elapsed → X) → X
+    {X : Type 0} (old new : WatchState) (event : WatchEvent) (output : WatchOutput) (asked : List ℕ) → Step old event output new → output.notes.round ≡ Some asked → ((wall elapsed : ℕ) → event ≡ Clock wall elapsed → X) → X
 stepped_clock old new (Clock wall elapsed) output asked step is at = at wall elapsed refl
 stepped_clock old new (Looked j reply terms) output asked step is at = looked_no old new (request_out old.out j Look) reply terms output asked step is
 stepped_clock old new (Renewed j reply) output asked step is at = renewed_no old new (request_out old.out j Renew) reply output asked step is
 stepped_clock old new _ output asked step is at = no_round output _ asked step.0 refl is
 
 pub opened_at_clock :
-    {X : Type 0} (old new : WatchState) (event : Event) (result : Result Output WatchFault) (asked : List ℕ) → Turn old event result new → round_of result ≡ Some asked →
+    {X : Type 0} (old new : WatchState) (event : WatchEvent) (result : Result WatchOutput WatchFault) (asked : List ℕ) → Turn old event result new → round_of result ≡ Some asked →
     ((wall elapsed : ℕ) → event ≡ Clock wall elapsed → is_event_taken result ≡ true → X) → X
 opened_at_clock old new event (Ok output) asked turn is at = stepped_clock old new event output asked turn.1 is (λ wall elapsed clock. at wall elapsed clock refl)
 opened_at_clock old new event (Err fault) asked turn is at = absurd cc

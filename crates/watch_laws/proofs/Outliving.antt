@@ -4,14 +4,14 @@ use Rattle.std.proofs.lemmas.Bool.{and_parts, cases_Bool, cases_lt, cond-false, 
 use Rattle.std.proofs.lemmas.List.Elements.{All-weaker}
 use Rattle.std.specs.List.{list_any}
 use Rattle.plan_forest.specs.Forest.{Forest}
-use Rattle.watch_machine.specs.declared.command.Command.TheVariants.{Taken}
-use Rattle.watch_machine.specs.declared.command.Output.{Output}
-use Rattle.watch_machine.specs.declared.event.Event.{Event}
-use Rattle.watch_machine.specs.declared.event.Event.TheVariants.{Clock, Looked, Renewed, Need, Begin, Known}
+use Rattle.watch_machine.specs.declared.command.WatchCommand.TheVariants.{Taken}
+use Rattle.watch_machine.specs.declared.command.WatchOutput.{WatchOutput}
+use Rattle.watch_machine.specs.declared.event.WatchEvent.{WatchEvent}
+use Rattle.watch_machine.specs.declared.event.WatchEvent.TheVariants.{Clock, Looked, Renewed, Need, Begin, Known}
 use Rattle.watch_machine.specs.declared.event.Operation.TheVariants.{Look, Renew}
-use Rattle.watch_machine.specs.declared.event.Reply.{Reply}
-use Rattle.watch_machine.specs.declared.event.Reply.TheVariants.{Told, Refused, Busy, Lost}
-use Rattle.watch_machine.specs.declared.event.Terms.{Terms}
+use Rattle.watch_machine.specs.declared.event.WatchReply.{WatchReply}
+use Rattle.watch_machine.specs.declared.event.WatchReply.TheVariants.{Told, Refused, Busy, Lost}
+use Rattle.watch_machine.specs.declared.event.WatchTerms.{WatchTerms}
 use Rattle.watch_machine.specs.declared.fault.WatchFault.{WatchFault}
 use Rattle.watch_machine.specs.declared.lanes.Out.{Out}
 use Rattle.watch_machine.specs.declared.track.End.{End}
@@ -73,7 +73,7 @@ Until f old new rest = waiting f.o f.n old + (how_many f.n (comes f.o old new) +
 
 -- a clock
 clock_stays :
-    (f : Facts) (due rest : ℕ) (old new : WatchState) (wall elapsed : ℕ) (output : Output) → IsPlanned f → Step old (Clock wall elapsed) output new → IsIncident f.o f.i due old (Clock wall elapsed) →
+    (f : Facts) (due rest : ℕ) (old new : WatchState) (wall elapsed : ℕ) (output : WatchOutput) → IsPlanned f → Step old (Clock wall elapsed) output new → IsIncident f.o f.i due old (Clock wall elapsed) →
     is_wanted new f.i ≡ true → IsBase f.width f.n new → Sends old new f.n → Same f.i old new → Stays f due (Until f old new rest) old → Stays f (outage_next_after_command f.o output.command new due) (After f new rest) new
 clock_stays f due rest old new wall elapsed output planned step lived wanted base sends same h =
     let go = ticks old new wall elapsed output step in
@@ -94,15 +94,15 @@ clock_stays f due rest old new wall elapsed output planned step lived wanted bas
     (record { going = goes_on f due old new wall elapsed output t; through = ticks_through f due old new wall elapsed output t sends rest h.through })
 
 -- an answer
-taken_due : (o : Outage) (new : WatchState) (due : ℕ) (output out : Output) → output ≡ out → out.command ≡ Taken → outage_next_after_command o output.command new due ≡ due
-taken_due o new due output out is taken' = ap (λ c. outage_next_after_command o c new due) (ap (λ (x : Output). x.command) is ∙ taken')
+taken_due : (o : Outage) (new : WatchState) (due : ℕ) (output out : WatchOutput) → output ≡ out → out.command ≡ Taken → outage_next_after_command o output.command new due ≡ due
+taken_due o new due output out is taken' = ap (λ c. outage_next_after_command o c new due) (ap (λ (x : WatchOutput). x.command) is ∙ taken')
 
 replied_stays :
-    (f : Facts) (due rest : ℕ) (old mid new : WatchState) (q : Out) (reply : Reply) → IsReplied f due old mid new q reply → Sends old new f.n → Stays f due (Until f old new rest) old → Stays f due (After f new rest) new
+    (f : Facts) (due rest : ℕ) (old mid new : WatchState) (q : Out) (reply : WatchReply) → IsReplied f due old mid new q reply → Sends old new f.n → Stays f due (Until f old new rest) old → Stays f due (After f new rest) new
 replied_stays f due rest old mid new q reply t sends h = record { going = goes_on_after f due old mid new q reply t; through = replied_through f due old mid new q reply t rest sends h.through }
 
 looked_stays :
-    (f : Facts) (due rest : ℕ) (old new : WatchState) (j : ℕ) (found : Option Out) (reply : Reply) (terms : Terms) (output : Output) → f.i < f.n → request_out old.out j Look ≡ found → StepLooked old found reply terms output new →
+    (f : Facts) (due rest : ℕ) (old new : WatchState) (j : ℕ) (found : Option Out) (reply : WatchReply) (terms : WatchTerms) (output : WatchOutput) → f.i < f.n → request_out old.out j Look ≡ found → StepLooked old found reply terms output new →
     IfSome found (IsReplyInOutage f.o reply) → (j ≡ f.i → IfSome found (TellsNothing f.o reply)) → IsBase f.width f.n new → Sends old new f.n → Same f.i old new → Stays f due (Until f old new rest) old →
     Stays f (outage_next_after_command f.o output.command new due) (After f new rest) new
 looked_stays f due rest old new j None reply terms output low is step lived lost base sends same h = absurd step
@@ -111,7 +111,7 @@ looked_stays f due rest old new j (Some q) reply terms output low is step lived 
     (replied_stays f due rest old (looked (noted old q reply) q reply terms) new q reply (looked_replied f due old new j q reply terms output low is step lived lost h.going base same) sends h)
 
 renewed_stays :
-    (f : Facts) (due rest : ℕ) (old new : WatchState) (j : ℕ) (found : Option Out) (reply : Reply) (output : Output) → f.i < f.n → request_out old.out j Renew ≡ found → StepRenewed old found reply output new →
+    (f : Facts) (due rest : ℕ) (old new : WatchState) (j : ℕ) (found : Option Out) (reply : WatchReply) (output : WatchOutput) → f.i < f.n → request_out old.out j Renew ≡ found → StepRenewed old found reply output new →
     IfSome found (IsReplyInOutage f.o reply) → (j ≡ f.i → IfSome found (TellsNothing f.o reply)) → IsBase f.width f.n new → Sends old new f.n → Same f.i old new → Stays f due (Until f old new rest) old →
     Stays f (outage_next_after_command f.o output.command new due) (After f new rest) new
 renewed_stays f due rest old new j None reply output low is step lived lost base sends same h = absurd step
@@ -227,7 +227,7 @@ left_stays f due rest old new g ts b is e base sends same h =
 
 -- a turn
 step_stays :
-    (f : Facts) (due rest : ℕ) (old new : WatchState) (event : Event) (output : Output) → IsPlanned f → Step old event output new → IsIncident f.o f.i due old event → is_wanted new f.i ≡ true →
+    (f : Facts) (due rest : ℕ) (old new : WatchState) (event : WatchEvent) (output : WatchOutput) → IsPlanned f → Step old event output new → IsIncident f.o f.i due old event → is_wanted new f.i ≡ true →
     IsBase f.width f.n new → Sends old new f.n → Same f.i old new → Stays f due (Until f old new rest) old → Stays f (outage_next_after_command f.o output.command new due) (After f new rest) new
 step_stays f due rest old new (Clock wall elapsed) output planned step lived wanted base sends same h = clock_stays f due rest old new wall elapsed output planned step lived wanted base sends same h
 step_stays f due rest old new (Looked j reply terms) output planned step lived wanted base sends same h =
@@ -244,7 +244,7 @@ step_stays f due rest old new (Known j end renewable) output planned step lived 
     (left_stays f due rest old new old.forest (known old j end renewable).tracks old.asked step.1 (known_other old j end renewable f.i lived) base sends same h)
 
 pub turn_stays :
-    (f : Facts) (due rest : ℕ) (old new : WatchState) (event : Event) (result : Result Output WatchFault) → IsPlanned f → Turn old event result new → IsLived f.o f.i due old event result → is_wanted new f.i ≡ true →
+    (f : Facts) (due rest : ℕ) (old new : WatchState) (event : WatchEvent) (result : Result WatchOutput WatchFault) → IsPlanned f → Turn old event result new → IsLived f.o f.i due old event result → is_wanted new f.i ≡ true →
     IsBase f.width f.n new → Sends old new f.n → Same f.i old new → Stays f due (Until f old new rest) old → Stays f (outage_next_after f.o result new due) (After f new rest) new
 turn_stays f due rest old new event (Ok output) planned turn lived wanted base sends same h = step_stays f due rest old new event output planned turn.1 lived wanted base sends same h
 turn_stays f due rest old new event (Err fault) planned turn lived wanted base sends same h =
@@ -536,7 +536,7 @@ whole_or_broke o s due now timely =
 
 -- until then is waited at most, or some request is out
 waits_for :
-    (old s : WatchState) (wall elapsed : ℕ) (output : Output) (i from width n : ℕ) → Ticks old s wall elapsed output → 0 < width → IsBase width n s → MayBeAsked s i from → (track_at s i).out ≡ false →
+    (old s : WatchState) (wall elapsed : ℕ) (output : WatchOutput) (i from width n : ℕ) → Ticks old s wall elapsed output → 0 < width → IsBase width n s → MayBeAsked s i from → (track_at s i).out ≡ false →
     (wait s ≤ from) ⊎ (1 ≤ length s.out)
 waits_for old s wall elapsed output i from width n h wide base b free =
     let ready' = readied old wall elapsed in
@@ -659,20 +659,20 @@ left_from_clock o old last hs i from reached wide history clock taken' b lived f
     lived_there o old.width i from (outage_next_after o last.result last.state 0) last.state hs history.1 lived (outlives_from_clock o old last hs i from reached wide history clock taken' b few order short)
 
 -- what tells an end shows that the broker is there
-told_real : (reply : Reply) → is_told reply ≡ true → is_real reply ≡ true
+told_real : (reply : WatchReply) → is_told reply ≡ true → is_real reply ≡ true
 told_real (Told seconds renewable date) h = refl
 told_real _ h = absurd cc
 
-looked_there : (old new : WatchState) (found : Option Out) (reply : Reply) (terms : Terms) (output : Output) → StepLooked old found reply terms output new → is_told reply ≡ true → new.presence.away ≡ false
+looked_there : (old new : WatchState) (found : Option Out) (reply : WatchReply) (terms : WatchTerms) (output : WatchOutput) → StepLooked old found reply terms output new → is_told reply ≡ true → new.presence.away ≡ false
 looked_there old new None reply terms output step told = absurd step
 looked_there old new (Some q) reply terms output step told =
     ap (λ (x : WatchState). x.presence.away) step.1 ∙ real_away (looked (noted old q reply) q reply terms) q reply (told_real reply told)
 
-renewed_there : (old new : WatchState) (found : Option Out) (reply : Reply) (output : Output) → StepRenewed old found reply output new → is_told reply ≡ true → new.presence.away ≡ false
+renewed_there : (old new : WatchState) (found : Option Out) (reply : WatchReply) (output : WatchOutput) → StepRenewed old found reply output new → is_told reply ≡ true → new.presence.away ≡ false
 renewed_there old new None reply output step told = absurd step
 renewed_there old new (Some q) reply output step told = ap (λ (x : WatchState). x.presence.away) step.1 ∙ real_away (state_renewed (noted old q reply) q reply) q reply (told_real reply told)
 
-told_there : (old new : WatchState) (event : Event) (result : Result Output WatchFault) (i : ℕ) → Turn old event result new → is_event_taken result ≡ true → tells i event ≡ true → new.presence.away ≡ false
+told_there : (old new : WatchState) (event : WatchEvent) (result : Result WatchOutput WatchFault) (i : ℕ) → Turn old event result new → is_event_taken result ≡ true → tells i event ≡ true → new.presence.away ≡ false
 told_there old new (Looked j reply terms) (Ok output) i turn taken' told = looked_there old new (request_out old.out j Look) reply terms output turn.1 (and_parts (j == i) (is_told reply) told).1
 told_there old new (Renewed j reply) (Ok output) i turn taken' told = renewed_there old new (request_out old.out j Renew) reply output turn.1 (and_parts (j == i) (is_told reply) told).1
 told_there old new event (Err fault) i turn taken' told = absurd (true≢false (sym taken'))

@@ -4,20 +4,20 @@ use Rattle.std.proofs.lemmas.Bool.{and_parts, cases_Bool, cond-false, cond-true,
 use Rattle.std.specs.List.{list_any}
 use Rattle.plan_forest.specs.declared.entry.Entry.{Entry}
 use Rattle.plan_forest.specs.Forest.{entry_at}
-use Rattle.watch_machine.specs.declared.command.Command.{Command}
-use Rattle.watch_machine.specs.declared.command.Command.TheVariants.{Go, Taken}
-use Rattle.watch_machine.specs.declared.command.Output.{Output}
-use Rattle.watch_machine.specs.declared.command.Request.{Request}
-use Rattle.watch_machine.specs.declared.event.Event.{Event}
-use Rattle.watch_machine.specs.declared.event.Event.TheVariants.{Clock, Looked, Renewed, Need, Begin, Known}
+use Rattle.watch_machine.specs.declared.command.WatchCommand.{WatchCommand}
+use Rattle.watch_machine.specs.declared.command.WatchCommand.TheVariants.{Go, Taken}
+use Rattle.watch_machine.specs.declared.command.WatchOutput.{WatchOutput}
+use Rattle.watch_machine.specs.declared.command.WatchRequest.{WatchRequest}
+use Rattle.watch_machine.specs.declared.event.WatchEvent.{WatchEvent}
+use Rattle.watch_machine.specs.declared.event.WatchEvent.TheVariants.{Clock, Looked, Renewed, Need, Begin, Known}
 use Rattle.watch_machine.specs.declared.event.Operation.TheVariants.{Look, Renew}
-use Rattle.watch_machine.specs.declared.event.Reply.{Reply}
-use Rattle.watch_machine.specs.declared.event.Reply.TheVariants.{Told, Refused, Busy, Lost}
-use Rattle.watch_machine.specs.declared.event.Terms.{Terms}
+use Rattle.watch_machine.specs.declared.event.WatchReply.{WatchReply}
+use Rattle.watch_machine.specs.declared.event.WatchReply.TheVariants.{Told, Refused, Busy, Lost}
+use Rattle.watch_machine.specs.declared.event.WatchTerms.{WatchTerms}
 use Rattle.watch_machine.specs.declared.fault.WatchFault.{WatchFault}
 use Rattle.watch_machine.specs.declared.lanes.Out.{Out}
 use Rattle.watch_machine.specs.declared.lanes.Presence.{Presence}
-use Rattle.watch_machine.specs.declared.notes.Why.{Why}
+use Rattle.watch_machine.specs.declared.notes.BeginReason.{BeginReason}
 use Rattle.watch_machine.specs.declared.track.Track.{Track}
 use Rattle.watch_machine.specs.declared.track.Try.{Try}
 use Rattle.watch_machine.specs.Answers.{back_track, back_try, due_again, failing, noted}
@@ -90,7 +90,7 @@ asked_tries at round i x h =
     if_both Tries (list_any (λ j. j == i) round) (asked_track at x) x
     (if_both Tries x.out x (record x { attempt = Some (press at x) }) h (record { owed = λ o. refl; out = λ o. refl })) h
 
-begun_tries : (s : WatchState) (w : Option Why) (i : ℕ) → Still (track_at (begun s w) i) (track_at s i)
+begun_tries : (s : WatchState) (w : Option BeginReason) (i : ℕ) → Still (track_at (begun s w) i) (track_at s i)
 begun_tries s None i h = h
 begun_tries s (Some w) i h =
     let xs = untopped s.tracks in
@@ -124,18 +124,18 @@ due_some p at x due = by x.attempt (and_parts (not x.out) (is_due_try p at x x.a
 pub none_tries : Tries no_track
 none_tries = record { owed = λ o. absurd cc; out = λ o. absurd cc }
 
-sent_tries : (s : WatchState) (requests : List Request) (lanes i : ℕ) → Goes s.forest s.presence s.clocks.at s.tracks lanes requests → Still (track_at (sent s requests) i) (track_at s i)
+sent_tries : (s : WatchState) (requests : List WatchRequest) (lanes i : ℕ) → Goes s.forest s.presence s.clocks.at s.tracks lanes requests → Still (track_at (sent s requests) i) (track_at s i)
 sent_tries s requests lanes i h k =
     let p = s.presence in
     let at = s.clocks.at in
     each_holds Tries none_tries (sent_in at requests) s.tracks i
     (elim (one_sent p (sec at) at s.tracks i h.entries (h.once i)) as (λ _. Tries (sent_in at requests i (track_at s i))) [
       | inl none ↦
-          subst Tries (sym (cond-false (list_any (λ (r : Request). r.entry == i) requests) (sent_track at (track_at s i)) (track_at s i) (ap (list_any (λ (r : Request). r.entry == i)) h.requests_are ∙ none.1))) k
+          subst Tries (sym (cond-false (list_any (λ (r : WatchRequest). r.entry == i) requests) (sent_track at (track_at s i)) (track_at s i) (ap (list_any (λ (r : WatchRequest). r.entry == i)) h.requests_are ∙ none.1))) k
       | inr one ↦
           let due = named_of (λ j. (j < length s.tracks) × (is_due p at (track_in s.tracks j) ≡ true)) i h.entries h.due one.1.1 in
           let some = due_some p at (track_at s i) due.1 in
-          subst Tries (sym (cond-true (list_any (λ (r : Request). r.entry == i) requests) (sent_track at (track_at s i)) (track_at s i) (ap (list_any (λ (r : Request). r.entry == i)) h.requests_are ∙ one.1.0)))
+          subst Tries (sym (cond-true (list_any (λ (r : WatchRequest). r.entry == i) requests) (sent_track at (track_at s i)) (track_at s i) (ap (list_any (λ (r : WatchRequest). r.entry == i)) h.requests_are ∙ one.1.0)))
           (record { owed = λ o. some; out = λ o. some })
     ])
 
@@ -150,11 +150,11 @@ back_tries : (x : Track) → Still (back_track x) x
 unfolding back_track
 back_tries x h = record { owed = λ o. back_some x x.attempt (h.owed o); out = λ o. back_some x x.attempt (h.out o) }
 
-untold_some : (at : ℕ) (heard : Bool) (reply : Reply) (x : Track) (o : Option Try) → is_some o ≡ true → is_some (untold at heard reply x o) ≡ true
+untold_some : (at : ℕ) (heard : Bool) (reply : WatchReply) (x : Track) (o : Option Try) → is_some o ≡ true → is_some (untold at heard reply x o) ≡ true
 untold_some at heard reply x None h = h
 untold_some at heard reply x (Some t) h = refl
 
-untold_tries : (at : ℕ) (heard : Bool) (reply : Reply) (x : Track) → Still (untold_track at heard reply x) x
+untold_tries : (at : ℕ) (heard : Bool) (reply : WatchReply) (x : Track) → Still (untold_track at heard reply x) x
 unfolding untold_track
 untold_tries at heard reply x h = record { owed = λ o. untold_some at heard reply x x.attempt (h.owed (and_parts x.owes (is_none (status_of reply)) o).0); out = λ o. absurd (true≢false (sym o)) }
 
@@ -170,7 +170,7 @@ nothing_owed x owes free = record { owed = λ o. absurd (not_both o owes); out =
 abbrev Rid : Track → Type 0
 Rid x = (x.owes ≡ false) × (x.out ≡ false)
 
-looked_tries : (s : WatchState) (q : Out) (reply : Reply) (terms : Terms) (i : ℕ) → Still (track_at (looked s q reply terms) i) (track_at s i)
+looked_tries : (s : WatchState) (q : Out) (reply : WatchReply) (terms : WatchTerms) (i : ℕ) → Still (track_at (looked s q reply terms) i) (track_at s i)
 looked_tries s q (Told seconds renewable date) terms i h =
     let j = q.entry in
     let mid = told_state s j q.since seconds renewable terms in
@@ -194,15 +194,15 @@ unfolding granted_from
 granted_tries step at seconds renewable from x h =
     record { owed = λ o. granted_some at x.owes (sec from + seconds) x.attempt o (h.owed o); out = λ o. absurd (true≢false (sym o)) }
 
-ungranted_some : (at : ℕ) (heard : Bool) (reply : Reply) (x : Track) (o : Option Try) → is_some o ≡ true → is_some (ungranted at heard reply x o) ≡ true
+ungranted_some : (at : ℕ) (heard : Bool) (reply : WatchReply) (x : Track) (o : Option Try) → is_some o ≡ true → is_some (ungranted at heard reply x o) ≡ true
 ungranted_some at heard reply x None h = h
 ungranted_some at heard reply x (Some t) h = refl
 
-ungranted_tries : (at : ℕ) (heard : Bool) (reply : Reply) (x : Track) → Still (ungranted_track at heard reply x) x
+ungranted_tries : (at : ℕ) (heard : Bool) (reply : WatchReply) (x : Track) → Still (ungranted_track at heard reply x) x
 unfolding ungranted_track
 ungranted_tries at heard reply x h = record { owed = λ o. ungranted_some at heard reply x x.attempt (h.owed o); out = λ o. absurd (true≢false (sym o)) }
 
-renewed_tries : (s : WatchState) (q : Out) (reply : Reply) (i : ℕ) → Still (track_at (state_renewed s q reply) i) (track_at s i)
+renewed_tries : (s : WatchState) (q : Out) (reply : WatchReply) (i : ℕ) → Still (track_at (state_renewed s q reply) i) (track_at s i)
 unfolding renewed_track
 renewed_tries s q (Told seconds renewable date) i h =
     let j = q.entry in
@@ -217,14 +217,14 @@ renewed_tries s q Lost i h = set_kept Still (λ y k. k) s.tracks q.entry _ (ungr
 abbrev pub AllTry : WatchState → Type 0
 AllTry s = (i : ℕ) → Tries (track_at s i)
 
-abbrev pub Outcome : Command → WatchState → Type 0
+abbrev pub Outcome : WatchCommand → WatchState → Type 0
 Outcome command new = AllTry new × OwesRight command new
 
 some_try : (o : Option Try) → is_some o ≡ true → (t : Try) × (o ≡ Some t)
 some_try None h = absurd cc
 some_try (Some t) h = (t, refl)
 
-commanded : (s new : WatchState) (round : List ℕ) (command : Command) → AllTry (pressed s round) → StepCommand (pressed s round) command new → Outcome command new
+commanded : (s new : WatchState) (round : List ℕ) (command : WatchCommand) → AllTry (pressed s round) → StepCommand (pressed s round) command new → Outcome command new
 commanded s new round (Go requests until) all h =
     let mid = pressed s round in
     let going = goes s.forest s.presence s.clocks.at mid.tracks (s.width - length s.out) requests h.0.0 in
@@ -241,22 +241,22 @@ commanded s new round (Go requests until) all h =
     )))
 commanded s new round Taken all h = absurd h
 
-clock_outcome : (old new : WatchState) (wall elapsed : ℕ) (output : Output) → StepClock old wall elapsed output new → AllTry old → Outcome output.command new
+clock_outcome : (old new : WatchState) (wall elapsed : ℕ) (output : WatchOutput) → StepClock old wall elapsed output new → AllTry old → Outcome output.command new
 clock_outcome old new wall elapsed output step all =
     let ready = readied old wall elapsed in
     commanded ready new (round_of step.round) output.command (λ i. mid_tries ready (round_of step.round) i (readied_tries old wall elapsed i (all i))) step.command
 
-taken_right : (output out : Output) (new : WatchState) → output ≡ out → out.command ≡ Taken → AllTry new → Outcome output.command new
-taken_right output out new is taken' all = (all, subst (λ c. OwesRight c new) (sym (ap (λ (x : Output). x.command) is ∙ taken')) tt)
+taken_right : (output out : WatchOutput) (new : WatchState) → output ≡ out → out.command ≡ Taken → AllTry new → Outcome output.command new
+taken_right output out new is taken' all = (all, subst (λ c. OwesRight c new) (sym (ap (λ (x : WatchOutput). x.command) is ∙ taken')) tt)
 
-looked_outcome : (old new : WatchState) (found : Option Out) (reply : Reply) (terms : Terms) (output : Output) → StepLooked old found reply terms output new → AllTry old → Outcome output.command new
+looked_outcome : (old new : WatchState) (found : Option Out) (reply : WatchReply) (terms : WatchTerms) (output : WatchOutput) → StepLooked old found reply terms output new → AllTry old → Outcome output.command new
 looked_outcome old new None reply terms output step all = absurd step
 looked_outcome old new (Some q) reply terms output step all =
     let s = noted old q reply in
     taken_right output _ new step.0 refl
     (subst AllTry (sym step.1) (λ i. back_kept Still (λ x k. k) (λ x. back_tries x) (looked s q reply terms) q reply i (looked_tries s q reply terms i (all i))))
 
-renewed_outcome : (old new : WatchState) (found : Option Out) (reply : Reply) (output : Output) → StepRenewed old found reply output new → AllTry old → Outcome output.command new
+renewed_outcome : (old new : WatchState) (found : Option Out) (reply : WatchReply) (output : WatchOutput) → StepRenewed old found reply output new → AllTry old → Outcome output.command new
 renewed_outcome old new None reply output step all = absurd step
 renewed_outcome old new (Some q) reply output step all =
     let s = noted old q reply in
@@ -267,7 +267,7 @@ known_tries : (at end : ℕ) (renewable : Bool) (x : Track) → Still (owing_pas
 known_tries at end renewable x h =
     known_is Tries at end renewable x (record { owed = h.owed; out = h.out }) (λ out. record { owed = λ o. h.out out; out = h.out }) (λ free. record { owed = λ o. refl; out = λ o. refl })
 
-step_outcome : (old new : WatchState) (event : Event) (output : Output) → Step old event output new → AllTry old → Outcome output.command new
+step_outcome : (old new : WatchState) (event : WatchEvent) (output : WatchOutput) → Step old event output new → AllTry old → Outcome output.command new
 step_outcome old new (Clock wall elapsed) output step all = clock_outcome old new wall elapsed output step all
 step_outcome old new (Looked j reply terms) output step all = looked_outcome old new (request_out old.out j Look) reply terms output step all
 step_outcome old new (Renewed j reply) output step all = renewed_outcome old new (request_out old.out j Renew) reply output step all
@@ -275,7 +275,7 @@ step_outcome old new (Known j end renewable) output step all =
     taken_right output _ new step.0 refl (subst AllTry (sym step.1) (λ i. set_kept Still (λ x k. k) old.tracks j _ (known_tries old.clocks.at end renewable (track_at old j)) i (all i)))
 step_outcome old new _ output step all = taken_right output _ new step.0 refl (subst AllTry (sym step.1) all)
 
-pub turn_outcome : (old new : WatchState) (event : Event) (result : Result Output WatchFault) → Turn old event result new → AllTry old → AllTry new × OwedRight result new
+pub turn_outcome : (old new : WatchState) (event : WatchEvent) (result : Result WatchOutput WatchFault) → Turn old event result new → AllTry old → AllTry new × OwedRight result new
 turn_outcome old new event (Ok output) turn all = step_outcome old new event output turn.1 all
 turn_outcome old new event (Err fault) turn all = (subst AllTry (sym (refused_stays old new event fault turn)) all, tt)
 

@@ -1,15 +1,15 @@
 -- Pacing: what each turn makes of the pace, and of the answers since the last clock. For the law of the pace.
 use Rattle.std.proofs.Common.{◌≡◌, ◌∙◌, ℕ, ◌-◌, ◌/◌, true, false, ◌&&◌, if◌then◌else◌, List, [], ◌∷◌, Option, Some, None, All, Result, Ok, Err, max, refl, sym, ap, subst}
-use Rattle.watch_machine.specs.declared.command.Output.{Output}
-use Rattle.watch_machine.specs.declared.command.Request.{Request}
-use Rattle.watch_machine.specs.declared.event.Event.{Event}
-use Rattle.watch_machine.specs.declared.event.Event.TheVariants.{Clock, Looked, Renewed, Need, Begin, Known}
+use Rattle.watch_machine.specs.declared.command.WatchOutput.{WatchOutput}
+use Rattle.watch_machine.specs.declared.command.WatchRequest.{WatchRequest}
+use Rattle.watch_machine.specs.declared.event.WatchEvent.{WatchEvent}
+use Rattle.watch_machine.specs.declared.event.WatchEvent.TheVariants.{Clock, Looked, Renewed, Need, Begin, Known}
 use Rattle.watch_machine.specs.declared.event.Operation.TheVariants.{Look, Renew}
-use Rattle.watch_machine.specs.declared.event.Reply.{Reply}
-use Rattle.watch_machine.specs.declared.event.Reply.TheVariants.{Told, Refused, Busy, Lost}
-use Rattle.watch_machine.specs.declared.event.Terms.{Terms}
+use Rattle.watch_machine.specs.declared.event.WatchReply.{WatchReply}
+use Rattle.watch_machine.specs.declared.event.WatchReply.TheVariants.{Told, Refused, Busy, Lost}
+use Rattle.watch_machine.specs.declared.event.WatchTerms.{WatchTerms}
 use Rattle.watch_machine.specs.declared.fault.WatchFault.{WatchFault}
-use Rattle.watch_machine.specs.declared.lanes.Answer.{Answer}
+use Rattle.watch_machine.specs.declared.lanes.LaneAnswer.{LaneAnswer}
 use Rattle.watch_machine.specs.declared.lanes.Out.{Out}
 use Rattle.watch_machine.specs.declared.lanes.Presence.{Presence}
 use Rattle.watch_machine.specs.declared.track.Track.{Track}
@@ -34,21 +34,21 @@ use Rattle.watch_laws.proofs.Dating.{Adds, Does, WentOut, clock_of, does, kept_a
 use Rattle.watch_laws.proofs.Holding.{looked_presence, ready_presence}
 
 -- the pace at a clock
-real_is : (reply : Reply) → is_real reply ≡ is_answered reply
+real_is : (reply : WatchReply) → is_real reply ≡ is_answered reply
 real_is (Told seconds renewable date) = refl
 real_is _ = refl
 
-pace_is : (at pace : ℕ) (answers : List Answer) → pace_after at pace answers ≡ pace_by at pace answers
+pace_is : (at pace : ℕ) (answers : List LaneAnswer) → pace_after at pace answers ≡ pace_by at pace answers
 pace_is at pace [] = refl
 pace_is at pace (a ∷ answers) =
     ap (λ b. pace_after at (if b then max (time_taken at a) (pace - pace / 8) else pace) answers) (real_is a.reply)
     ∙ pace_is at (if is_answered a.reply then max (time_taken at a) (pace - pace / 8) else pace) answers
 
-set_pace : (margin at : ℕ) (xs : List Track) (answers : List Answer) (p : Presence) → (presence_after margin at xs answers p).pace ≡ pace_after at p.pace answers
+set_pace : (margin at : ℕ) (xs : List Track) (answers : List LaneAnswer) (p : Presence) → (presence_after margin at xs answers p).pace ≡ pace_after at p.pace answers
 unfolding presence_after
 set_pace margin at xs answers p = refl
 
-clock_pace : (old new : WatchState) (wall elapsed : ℕ) (output : Output) → StepClock old wall elapsed output new → new.presence.pace ≡ pace_by new.clocks.at old.presence.pace old.answers
+clock_pace : (old new : WatchState) (wall elapsed : ℕ) (output : WatchOutput) → StepClock old wall elapsed output new → new.presence.pace ≡ pace_by new.clocks.at old.presence.pace old.answers
 clock_pace old new wall elapsed output step =
     let mid = pressed (readied old wall elapsed) (asked_by_round step.round) in
     let is = sent_requests mid new output.command step.command in
@@ -58,36 +58,36 @@ clock_pace old new wall elapsed output step =
     ∙ ap (λ n. pace_by n old.presence.pace old.answers) (sym at)
 
 turn_clock :
-    (old new : WatchState) (event : Event) (result : Result Output WatchFault) (wall elapsed : ℕ) → Turn old event result new → event ≡ Clock wall elapsed → is_event_taken result ≡ true →
+    (old new : WatchState) (event : WatchEvent) (result : Result WatchOutput WatchFault) (wall elapsed : ℕ) → Turn old event result new → event ≡ Clock wall elapsed → is_event_taken result ≡ true →
     new.presence.pace ≡ pace_by new.clocks.at old.presence.pace old.answers
 turn_clock old new event (Ok output) wall elapsed turn is taken' = clock_pace old new wall elapsed output (subst (λ e. Step old e output new) is turn.1)
 turn_clock old new event (Err fault) wall elapsed turn is taken' = absurd cc
 
 -- and at any other event
-replied_pace : (mid : WatchState) (q : Out) (reply : Reply) → (replied mid q reply).presence.pace ≡ mid.presence.pace
+replied_pace : (mid : WatchState) (q : Out) (reply : WatchReply) → (replied mid q reply).presence.pace ≡ mid.presence.pace
 replied_pace mid q reply =
     let free = lane_freed mid q in
     let P : WatchState → Type 0 = λ t. t.presence.pace ≡ mid.presence.pace in
     if_both P (is_real reply) (answers_all free) (if q.heard then free else silent free) (if_both P mid.presence.away _ _ refl refl)
     (if_both P q.heard free (silent free) refl (if_both P mid.presence.away _ _ refl refl))
 
-looked_pace : (old new : WatchState) (found : Option Out) (reply : Reply) (terms : Terms) (output : Output) → StepLooked old found reply terms output new → new.presence.pace ≡ old.presence.pace
+looked_pace : (old new : WatchState) (found : Option Out) (reply : WatchReply) (terms : WatchTerms) (output : WatchOutput) → StepLooked old found reply terms output new → new.presence.pace ≡ old.presence.pace
 looked_pace old new None reply terms output step = absurd step
 looked_pace old new (Some q) reply terms output step =
     let s = noted old q reply in
     ap (λ (x : WatchState). x.presence.pace) step.1 ∙ replied_pace (looked s q reply terms) q reply ∙ ap (λ (p : Presence). p.pace) (looked_presence s q reply terms)
 
-renewed_pace : (old new : WatchState) (found : Option Out) (reply : Reply) (output : Output) → StepRenewed old found reply output new → new.presence.pace ≡ old.presence.pace
+renewed_pace : (old new : WatchState) (found : Option Out) (reply : WatchReply) (output : WatchOutput) → StepRenewed old found reply output new → new.presence.pace ≡ old.presence.pace
 renewed_pace old new None reply output step = absurd step
 renewed_pace old new (Some q) reply output step = ap (λ (x : WatchState). x.presence.pace) step.1 ∙ replied_pace (state_renewed (noted old q reply) q reply) q reply
 
-step_pace : (old new : WatchState) (event : Event) (output : Output) → Step old event output new → is_clock event ≡ false → new.presence.pace ≡ old.presence.pace
+step_pace : (old new : WatchState) (event : WatchEvent) (output : WatchOutput) → Step old event output new → is_clock event ≡ false → new.presence.pace ≡ old.presence.pace
 step_pace old new (Clock wall elapsed) output step none = absurd cc
 step_pace old new (Looked i reply terms) output step none = looked_pace old new (request_out old.out i Look) reply terms output step
 step_pace old new (Renewed i reply) output step none = renewed_pace old new (request_out old.out i Renew) reply output step
 step_pace old new _ output step none = ap (λ (x : WatchState). x.presence.pace) step.1
 
-turn_pace : (old new : WatchState) (event : Event) (result : Result Output WatchFault) → Turn old event result new → is_event_taken result && is_clock event ≡ false → new.presence.pace ≡ old.presence.pace
+turn_pace : (old new : WatchState) (event : WatchEvent) (result : Result WatchOutput WatchFault) → Turn old event result new → is_event_taken result && is_clock event ≡ false → new.presence.pace ≡ old.presence.pace
 turn_pace old new event (Ok output) turn none = step_pace old new event output turn.1 none
 turn_pace old new event (Err fault) turn none = ap (λ (x : WatchState). x.presence.pace) (refused_stays old new event fault turn)
 
@@ -98,29 +98,29 @@ pace_kept = record {
 }
 
 -- the answers
-adds_kept : (i since : ℕ) (reply : Reply) (old new : WatchState) (j : ℕ) (told : Reply) → Adds old j told new → j ≡ i → told ≡ reply → All (WentOut i since) old.out → IsKept old new since reply
+adds_kept : (i since : ℕ) (reply : WatchReply) (old new : WatchState) (j : ℕ) (told : WatchReply) → Adds old j told new → j ≡ i → told ≡ reply → All (WentOut i since) old.out → IsKept old new since reply
 adds_kept i since reply old new j told h of is all = record { answer = kept_as h.q told; last = h.answers; asked = h.found (WentOut i since) all (h.entry ∙ of); told = is }
 
 does_kept :
-    (i since : ℕ) (reply : Reply) (old new : WatchState) (event : Event) (requests : List Request) → Does old event requests new → IsReplyOf i reply event → All (WentOut i since) old.out →
+    (i since : ℕ) (reply : WatchReply) (old new : WatchState) (event : WatchEvent) (requests : List WatchRequest) → Does old event requests new → IsReplyOf i reply event → All (WentOut i since) old.out →
     IsKept old new since reply
 does_kept i since reply old new (Looked j told terms) requests h is all = adds_kept i since reply old new j told h is.0 is.1 all
 does_kept i since reply old new (Renewed j told) requests h is all = adds_kept i since reply old new j told h is.0 is.1 all
 does_kept i since reply old new _ requests h is all = absurd is
 
 turn_kept :
-    (i since : ℕ) (reply : Reply) (old new : WatchState) (event : Event) (result : Result Output WatchFault) → Turn old event result new → IsReplyOf i reply event → is_event_taken result ≡ true →
+    (i since : ℕ) (reply : WatchReply) (old new : WatchState) (event : WatchEvent) (result : Result WatchOutput WatchFault) → Turn old event result new → IsReplyOf i reply event → is_event_taken result ≡ true →
     All (WentOut i since) old.out → IsKept old new since reply
 turn_kept i since reply old new event (Ok output) turn is taken' all = does_kept i since reply old new event (requests_asked_by output.command) (does old new event output turn.1) is all
 turn_kept i since reply old new event (Err fault) turn is taken' all = absurd cc
 
-does_leave : (old new : WatchState) (event : Event) (requests : List Request) → Does old event requests new → counts event ≡ false → new.answers ≡ old.answers
+does_leave : (old new : WatchState) (event : WatchEvent) (requests : List WatchRequest) → Does old event requests new → counts event ≡ false → new.answers ≡ old.answers
 does_leave old new (Need i until) requests h none = h.answers
 does_leave old new Begin requests h none = h.answers
 does_leave old new (Known i end renewable) requests h none = h.answers
 does_leave old new _ requests h none = absurd cc
 
-turn_leaves : (old new : WatchState) (event : Event) (result : Result Output WatchFault) → Turn old event result new → is_event_taken result && counts event ≡ false → new.answers ≡ old.answers
+turn_leaves : (old new : WatchState) (event : WatchEvent) (result : Result WatchOutput WatchFault) → Turn old event result new → is_event_taken result && counts event ≡ false → new.answers ≡ old.answers
 turn_leaves old new event (Ok output) turn none = does_leave old new event (requests_asked_by output.command) (does old new event output turn.1) none
 turn_leaves old new event (Err fault) turn none = ap (λ (x : WatchState). x.answers) (refused_stays old new event fault turn)
 

@@ -3,15 +3,15 @@ use Rattle.std.proofs.Common.{◌≡◌, ◌⊎◌, ◌∙◌, ℕ, ◌-◌, ◌
 use Rattle.std.proofs.lemmas.Bool.{and_from, and_parts, cases_Bool, cond-false, cond-true}
 use Rattle.std.proofs.lemmas.Bool.Decides.{nat_tests}
 use Rattle.std.proofs.lemmas.List.Elements.{All-map, All-nil}
-use Rattle.watch_machine.specs.declared.command.Command.TheVariants.{Taken}
-use Rattle.watch_machine.specs.declared.command.Output.{Output}
+use Rattle.watch_machine.specs.declared.command.WatchCommand.TheVariants.{Taken}
+use Rattle.watch_machine.specs.declared.command.WatchOutput.{WatchOutput}
 use Rattle.watch_machine.specs.declared.command.Patience.TheVariants.{Full, AtMost}
-use Rattle.watch_machine.specs.declared.command.Request.{Request}
-use Rattle.watch_machine.specs.declared.event.Event.{Event}
-use Rattle.watch_machine.specs.declared.event.Event.TheVariants.{Clock, Looked, Renewed, Need, Begin, Known}
+use Rattle.watch_machine.specs.declared.command.WatchRequest.{WatchRequest}
+use Rattle.watch_machine.specs.declared.event.WatchEvent.{WatchEvent}
+use Rattle.watch_machine.specs.declared.event.WatchEvent.TheVariants.{Clock, Looked, Renewed, Need, Begin, Known}
 use Rattle.watch_machine.specs.declared.event.Operation.TheVariants.{Look, Renew}
-use Rattle.watch_machine.specs.declared.event.Reply.{Reply}
-use Rattle.watch_machine.specs.declared.event.Terms.{Terms}
+use Rattle.watch_machine.specs.declared.event.WatchReply.{WatchReply}
+use Rattle.watch_machine.specs.declared.event.WatchTerms.{WatchTerms}
 use Rattle.watch_machine.specs.declared.fault.WatchFault.{WatchFault}
 use Rattle.watch_machine.specs.declared.lanes.Out.{Out}
 use Rattle.watch_machine.specs.declared.track.End.{End}
@@ -66,7 +66,7 @@ alone_so s = (
 )
 
 -- whoever is alone before the requests go out is so after it
-alone_sent : (s : WatchState) (rs : List Request) → SomebodyIsAlone s → SomebodyIsAlone (sent s rs)
+alone_sent : (s : WatchState) (rs : List WatchRequest) → SomebodyIsAlone s → SomebodyIsAlone (sent s rs)
 alone_sent s rs some =
     let j = some.0 in
     let h = some.1 in
@@ -81,7 +81,7 @@ no_haste true true fails (inl is) = absurd cc
 no_haste true true fails (inr (inl is)) = absurd cc
 no_haste true true fails (inr (inr some)) = grind (arith, nat_tests, some)
 
-patience_so : (s : WatchState) (rs : List Request) (t : Try) → IsPatience (sent s rs) t (patience s.presence.away (is_partial (second s) s.tracks) s.presence.pace t)
+patience_so : (s : WatchState) (rs : List WatchRequest) (t : Try) → IsPatience (sent s rs) t (patience s.presence.away (is_partial (second s) s.tracks) s.presence.pace t)
 unfolding patience
 patience_so s rs t =
     let away = s.presence.away in
@@ -104,14 +104,14 @@ patience_so s rs t =
           ];
     }
 
-goes_for : (s : WatchState) (rs : List Request) (j : ℕ) → is_some (attempt_at s j) ≡ true → IsOfTry (sent s rs) (request_at s.presence (second s) s.tracks j)
+goes_for : (s : WatchState) (rs : List WatchRequest) (j : ℕ) → is_some (attempt_at s j) ≡ true → IsOfTry (sent s rs) (request_at s.presence (second s) s.tracks j)
 goes_for s rs j some = by (attempt_at s j) refl some where
   by : (o : Option Try) → attempt_at s j ≡ o → is_some o ≡ true → IsOfTry (sent s rs) (request_of s.presence.away (is_partial (second s) s.tracks) s.presence.pace j o)
   by None is some' = absurd cc
   by (Some t) is some' = record { attempt = t; attempt_is = (sent_stays s rs j).0 ∙ is; operation = refl; patience = patience_so s rs t }
 
 -- a clock, and a turn
-clock_asks : (old new : WatchState) (wall elapsed : ℕ) (output : Output) → Ticks old new wall elapsed output → All (IsOfTry new) (requests_asked_by output.command)
+clock_asks : (old new : WatchState) (wall elapsed : ℕ) (output : WatchOutput) → Ticks old new wall elapsed output → All (IsOfTry new) (requests_asked_by output.command)
 clock_asks old new wall elapsed output h =
     let mid = pressed (readied old wall elapsed) h.round in
     let due = h.going.due in
@@ -121,24 +121,24 @@ clock_asks old new wall elapsed output h =
     (λ k d below. goes_for mid h.requests (get_or h.going.entries k d) (due_some mid.presence mid.clocks.at (track_at mid (get_or h.going.entries k d)) (due k d below).1))) in
     subst (λ c. All (IsOfTry new) (requests_asked_by c)) (sym h.command) (subst (λ x. All (IsOfTry x) h.requests) (sym h.new_is) all)
 
-none_asks : (new : WatchState) (output out : Output) → output ≡ out → out.command ≡ Taken → All (IsOfTry new) (requests_asked_by output.command)
-none_asks new output out is taken' = subst (λ c. All (IsOfTry new) (requests_asked_by c)) (sym (ap (λ (x : Output). x.command) is ∙ taken')) (All-nil (IsOfTry new))
+none_asks : (new : WatchState) (output out : WatchOutput) → output ≡ out → out.command ≡ Taken → All (IsOfTry new) (requests_asked_by output.command)
+none_asks new output out is taken' = subst (λ c. All (IsOfTry new) (requests_asked_by c)) (sym (ap (λ (x : WatchOutput). x.command) is ∙ taken')) (All-nil (IsOfTry new))
 
-looked_asks : (old new : WatchState) (found : Option Out) (reply : Reply) (terms : Terms) (output : Output) → StepLooked old found reply terms output new → All (IsOfTry new) (requests_asked_by output.command)
+looked_asks : (old new : WatchState) (found : Option Out) (reply : WatchReply) (terms : WatchTerms) (output : WatchOutput) → StepLooked old found reply terms output new → All (IsOfTry new) (requests_asked_by output.command)
 looked_asks old new None reply terms output step = absurd step
 looked_asks old new (Some q) reply terms output step = none_asks new output _ step.0 refl
 
-renewed_asks : (old new : WatchState) (found : Option Out) (reply : Reply) (output : Output) → StepRenewed old found reply output new → All (IsOfTry new) (requests_asked_by output.command)
+renewed_asks : (old new : WatchState) (found : Option Out) (reply : WatchReply) (output : WatchOutput) → StepRenewed old found reply output new → All (IsOfTry new) (requests_asked_by output.command)
 renewed_asks old new None reply output step = absurd step
 renewed_asks old new (Some q) reply output step = none_asks new output _ step.0 refl
 
-step_asks : (old new : WatchState) (event : Event) (output : Output) → Step old event output new → All (IsOfTry new) (requests_asked_by output.command)
+step_asks : (old new : WatchState) (event : WatchEvent) (output : WatchOutput) → Step old event output new → All (IsOfTry new) (requests_asked_by output.command)
 step_asks old new (Clock wall elapsed) output step = clock_asks old new wall elapsed output (ticks old new wall elapsed output step)
 step_asks old new (Looked j reply terms) output step = looked_asks old new (request_out old.out j Look) reply terms output step
 step_asks old new (Renewed j reply) output step = renewed_asks old new (request_out old.out j Renew) reply output step
 step_asks old new _ output step = none_asks new output _ step.0 refl
 
-turn_asks : (old new : WatchState) (event : Event) (result : Result Output WatchFault) → Turn old event result new → All (IsOfTry new) (requests_at_turn result)
+turn_asks : (old new : WatchState) (event : WatchEvent) (result : Result WatchOutput WatchFault) → Turn old event result new → All (IsOfTry new) (requests_at_turn result)
 turn_asks old new event (Ok output) turn = step_asks old new event output turn.1
 turn_asks old new event (Err fault) turn = All-nil (IsOfTry new)
 

@@ -3,14 +3,14 @@ use Rattle.std.proofs.Common.{◌≡◌, ◌∙◌, ℕ, ◌+◌, ◌<◌, Bool,
 use Rattle.std.proofs.lemmas.Bool.{and_from, and_parts, cases_Bool, cases_lt, cond-false, cond-true, or_left, or_right}
 use Rattle.std.specs.List.{list_any}
 use Rattle.plan_forest.specs.declared.entry.Entry.{Entry}
-use Rattle.watch_machine.specs.declared.command.Output.{Output}
-use Rattle.watch_machine.specs.declared.command.Request.{Request}
-use Rattle.watch_machine.specs.declared.event.Event.{Event}
-use Rattle.watch_machine.specs.declared.event.Event.TheVariants.{Clock}
+use Rattle.watch_machine.specs.declared.command.WatchOutput.{WatchOutput}
+use Rattle.watch_machine.specs.declared.command.WatchRequest.{WatchRequest}
+use Rattle.watch_machine.specs.declared.event.WatchEvent.{WatchEvent}
+use Rattle.watch_machine.specs.declared.event.WatchEvent.TheVariants.{Clock}
 use Rattle.watch_machine.specs.declared.event.Operation.TheVariants.{Look, Renew}
 use Rattle.watch_machine.specs.declared.fault.WatchFault.{WatchFault}
 use Rattle.watch_machine.specs.declared.notes.Notes.{Notes}
-use Rattle.watch_machine.specs.declared.notes.Why.{Why}
+use Rattle.watch_machine.specs.declared.notes.BeginReason.{BeginReason}
 use Rattle.watch_machine.specs.declared.track.End.{End}
 use Rattle.watch_machine.specs.declared.track.Track.{Track}
 use Rattle.watch_machine.specs.declared.track.Try.{Try}
@@ -90,7 +90,7 @@ owing_keeps at first called x =
     (if_both (λ y. Keeps y x) x.out (record x { owes = true }) (record x { owes = true; attempt = Some (sooner_try (soon at x) x.attempt) }) (record { last = refl; end = refl; out = refl; pressed = refl; try = λ _. refl })
     (record { last = refl; end = refl; out = refl; pressed = sooner_is (soon at x) x.attempt; try = λ p. sooner_kept (soon at x) x.attempt p })) (keeps_same x)
 
-begun_keeps : (s : WatchState) (w : Option Why) (i : ℕ) → Keeps (track_at (begun s w) i) (track_at s i)
+begun_keeps : (s : WatchState) (w : Option BeginReason) (i : ℕ) → Keeps (track_at (begun s w) i) (track_at s i)
 begun_keeps s None i = keeps_same (track_at s i)
 begun_keeps s (Some w) i =
     let xs = untopped s.tracks in
@@ -236,7 +236,7 @@ named_is : (round : Option (List ℕ)) (i : ℕ) → list_any (λ j. j == i) (as
 named_is None i = refl
 named_is (Some asked) i = refl
 
-module _ (old : WatchState) (wall elapsed : ℕ) (round : List ℕ) (requests : List Request) (i : ℕ) where
+module _ (old : WatchState) (wall elapsed : ℕ) (round : List ℕ) (requests : List WatchRequest) (i : ℕ) where
   abbrev r : WatchState
   r = readied old wall elapsed
 
@@ -343,8 +343,8 @@ module _ (old : WatchState) (wall elapsed : ℕ) (round : List ℕ) (requests : 
 
 -- a turn
 pub clock_of :
-    (P : WatchState → Option (List ℕ) → Type 0) (old new : WatchState) (event : Event) (result : Result Output WatchFault) (wall elapsed : ℕ) → Turn old event result new → event ≡ Clock wall elapsed → is_event_taken result ≡ true →
-    ((round : Option (List ℕ)) (requests : List Request) → IsRound (readied old wall elapsed).forest (readied old wall elapsed).tracks (readied old wall elapsed).clocks round →
+    (P : WatchState → Option (List ℕ) → Type 0) (old new : WatchState) (event : WatchEvent) (result : Result WatchOutput WatchFault) (wall elapsed : ℕ) → Turn old event result new → event ≡ Clock wall elapsed → is_event_taken result ≡ true →
+    ((round : Option (List ℕ)) (requests : List WatchRequest) → IsRound (readied old wall elapsed).forest (readied old wall elapsed).tracks (readied old wall elapsed).clocks round →
     P (sent (pressed (readied old wall elapsed) (asked_by_round round)) requests) round) → P new (round_of result)
 clock_of P old new event (Err fault) wall elapsed turn is taken' all = absurd (true≢false (sym taken'))
 clock_of P old new event (Ok output) wall elapsed turn is taken' all =

@@ -6,21 +6,21 @@ use Rattle.std.specs.List.{list_any}
 use Rattle.plan_forest.specs.declared.entry.Entry.{Entry}
 use Rattle.plan_forest.specs.Forest.{Forest, entry_at}
 use Rattle.plan_forest.proofs.Carrying.{or_parts}
-use Rattle.watch_machine.specs.declared.command.Command.{Command}
-use Rattle.watch_machine.specs.declared.command.Command.TheVariants.{Go, Taken}
-use Rattle.watch_machine.specs.declared.command.Output.{Output}
-use Rattle.watch_machine.specs.declared.command.Request.{Request}
-use Rattle.watch_machine.specs.declared.event.Event.{Event}
-use Rattle.watch_machine.specs.declared.event.Event.TheVariants.{Clock, Looked, Renewed, Need, Begin, Known}
+use Rattle.watch_machine.specs.declared.command.WatchCommand.{WatchCommand}
+use Rattle.watch_machine.specs.declared.command.WatchCommand.TheVariants.{Go, Taken}
+use Rattle.watch_machine.specs.declared.command.WatchOutput.{WatchOutput}
+use Rattle.watch_machine.specs.declared.command.WatchRequest.{WatchRequest}
+use Rattle.watch_machine.specs.declared.event.WatchEvent.{WatchEvent}
+use Rattle.watch_machine.specs.declared.event.WatchEvent.TheVariants.{Clock, Looked, Renewed, Need, Begin, Known}
 use Rattle.watch_machine.specs.declared.event.Operation.TheVariants.{Look, Renew}
-use Rattle.watch_machine.specs.declared.event.Reply.{Reply}
-use Rattle.watch_machine.specs.declared.event.Reply.TheVariants.{Told, Refused, Busy, Lost}
-use Rattle.watch_machine.specs.declared.event.Terms.{Terms}
+use Rattle.watch_machine.specs.declared.event.WatchReply.{WatchReply}
+use Rattle.watch_machine.specs.declared.event.WatchReply.TheVariants.{Told, Refused, Busy, Lost}
+use Rattle.watch_machine.specs.declared.event.WatchTerms.{WatchTerms}
 use Rattle.watch_machine.specs.declared.fault.WatchFault.{WatchFault}
 use Rattle.watch_machine.specs.declared.lanes.Out.{Out}
 use Rattle.watch_machine.specs.declared.lanes.Presence.{Presence}
 use Rattle.watch_machine.specs.declared.notes.Notes.{Notes}
-use Rattle.watch_machine.specs.declared.notes.Why.{Why}
+use Rattle.watch_machine.specs.declared.notes.BeginReason.{BeginReason}
 use Rattle.watch_machine.specs.declared.track.Track.{Track}
 use Rattle.watch_machine.specs.declared.track.Try.{Try}
 use Rattle.watch_machine.specs.Answers.{back_track, back_try, due_again, failing, noted, replied}
@@ -116,7 +116,7 @@ asked_reasoned :
 asked_reasoned more margin e at round i x named h =
     if_cases (λ (y : Track). Reasoned more y.attempt) (list_any (λ j. j == i) round) (asked_track at x) x (λ yes' renew. named yes') (λ no'. h)
 
-begun_still : (b : Bool) (s : WatchState) (w : Option Why) (i : ℕ) → Still b (track_at (begun s w) i) (track_at s i)
+begun_still : (b : Bool) (s : WatchState) (w : Option BeginReason) (i : ℕ) → Still b (track_at (begun s w) i) (track_at s i)
 begun_still b s None i h = h
 begun_still b s (Some w) i h =
     let xs = untopped s.tracks in
@@ -142,10 +142,10 @@ mid_reasoned b more s round i before come named h =
     (each_holds (λ (y : Track). Reasoned more y.attempt) (none_reasoned more) (λ j. pressed_track g.margin (entry_at g.entries j) (need_of g.entries s.tracks c j) c.at) s.tracks i
     (pressed_reasoned b more g.margin (entry_at g.entries i) (need_of g.entries s.tracks c i) c.at (track_at s i) before come h)))
 
-sent_still : (b : Bool) (s : WatchState) (requests : List Request) (i : ℕ) → Still b (track_at (sent s requests) i) (track_at s i)
+sent_still : (b : Bool) (s : WatchState) (requests : List WatchRequest) (i : ℕ) → Still b (track_at (sent s requests) i) (track_at s i)
 sent_still b s requests i h =
     each_kept (Still b) (λ k. k) (sent_in s.clocks.at requests) s.tracks
-    (λ j x k. if_both (λ (y : Track). Reasoned b y.attempt) (list_any (λ (r : Request). r.entry == j) requests) (sent_track s.clocks.at x) x k k) i h
+    (λ j x k. if_both (λ (y : Track). Reasoned b y.attempt) (list_any (λ (r : WatchRequest). r.entry == j) requests) (sent_track s.clocks.at x) x k k) i h
 
 -- a renewal of i that goes out is asked by its try
 renews_by : (p : Presence) (now : ℕ) (xs : List Track) (i : ℕ) (is : List ℕ) → renewal_goes_out i (map (request_at p now xs) is) ≡ true → operation_of (track_in xs i).attempt ≡ Renew
@@ -159,21 +159,21 @@ renews_by p now xs i (j ∷ js) h =
     ap (λ k. operation_of (track_in xs k).attempt) (sym is) ∙ sym (asks_by p now xs j) ∙ same_is r.operation Renew both.1)
     (λ there. renews_by p now xs i js there)
 
-goes_reasoned : (b : Bool) (s new : WatchState) (command : Command) (i : ℕ) → StepCommand s command new → Reasoned b (track_at s i).attempt → renewal_goes_out i (requests_asked_by command) ≡ true → b ≡ true
+goes_reasoned : (b : Bool) (s new : WatchState) (command : WatchCommand) (i : ℕ) → StepCommand s command new → Reasoned b (track_at s i).attempt → renewal_goes_out i (requests_asked_by command) ≡ true → b ≡ true
 goes_reasoned b s new (Go requests until) i h reasoned renew =
     let going = goes s.forest s.presence s.clocks.at s.tracks (s.width - length s.out) requests h.0.0 in
     reasoned (renews_by s.presence (sec s.clocks.at) s.tracks i going.entries (sym (ap (renewal_goes_out i) going.requests_are) ∙ renew))
 goes_reasoned b s new Taken i h reasoned renew = absurd h
 
-new_still : (b : Bool) (s new : WatchState) (command : Command) (i : ℕ) → StepCommand s command new → Reasoned b (track_at s i).attempt → Reasoned b (track_at new i).attempt
+new_still : (b : Bool) (s new : WatchState) (command : WatchCommand) (i : ℕ) → StepCommand s command new → Reasoned b (track_at s i).attempt → Reasoned b (track_at new i).attempt
 new_still b s new (Go requests until) i h reasoned = subst (λ (x : WatchState). Reasoned b (track_at x i).attempt) (sym h.0.1) (sent_still b s requests i reasoned)
 new_still b s new Taken i h reasoned = absurd h
 
 -- what every turn keeps, and what goes out at it
-abbrev Outcome : ℕ → Bool → Command → WatchState → Type 0
+abbrev Outcome : ℕ → Bool → WatchCommand → WatchState → Type 0
 Outcome i b command new = (renewal_goes_out i (requests_asked_by command) ≡ true → b ≡ true) × Reasoned b (track_at new i).attempt
 
-come_at : (s new : WatchState) (round : List ℕ) (command : Command) (i : ℕ) → StepCommand (pressed s round) command new → is_come new i ≡ is_come s i
+come_at : (s new : WatchState) (round : List ℕ) (command : WatchCommand) (i : ℕ) → StepCommand (pressed s round) command new → is_come new i ≡ is_come s i
 come_at s new round (Go requests until) i h =
     ap (λ (x : WatchState). is_come x i) h.0.1 ∙ come_same s.forest.margin (entry_of s i) (track_at (sent (pressed s round) requests) i) (track_at s i) (second s) (mid_bears s round requests i)
 come_at s new round Taken i h = absurd h
@@ -183,7 +183,7 @@ named_by None i = refl
 named_by (Some asked) i = refl
 
 clock_outcome :
-    (old new : WatchState) (wall elapsed : ℕ) (output : Output) (i : ℕ) (b : Bool) → StepClock old wall elapsed output new → Reasoned b (track_at old i).attempt →
+    (old new : WatchState) (wall elapsed : ℕ) (output : WatchOutput) (i : ℕ) (b : Bool) → StepClock old wall elapsed output new → Reasoned b (track_at old i).attempt →
     Outcome i (b || (is_come new i || is_named_in_round output.notes.round i)) output.command new
 clock_outcome old new wall elapsed output i b step h =
     let ready = readied old wall elapsed in
@@ -207,7 +207,7 @@ back_still : (b : Bool) (x : Track) → Still b (back_track x) x
 unfolding back_track
 back_still b x h = back_reasoned b x x.attempt h
 
-after_still : (b : Bool) (mid : WatchState) (q : Out) (reply : Reply) (i : ℕ) → Still b (track_at (replied mid q reply) i) (track_at mid i)
+after_still : (b : Bool) (mid : WatchState) (q : Out) (reply : WatchReply) (i : ℕ) → Still b (track_at (replied mid q reply) i) (track_at mid i)
 after_still b mid q reply i = back_kept (Still b) (λ x h. h) (λ x. back_still b x) mid q reply i
 
 -- the answer to a lookup of the entry itself
@@ -221,7 +221,7 @@ back_bears : (x : Track) → bearing (back_track x) ≡ bearing x
 unfolding back_track
 back_bears x = refl
 
-pub told_come : (mid : WatchState) (q : Out) (reply : Reply) (i : ℕ) → is_come (replied (with_told_try mid i) q reply) i ≡ is_come mid i
+pub told_come : (mid : WatchState) (q : Out) (reply : WatchReply) (i : ℕ) → is_come (replied (with_told_try mid i) q reply) i ≡ is_come mid i
 told_come mid q reply i =
     let by = with_told_try mid i in
     let new = replied by q reply in
@@ -233,7 +233,7 @@ told_come mid q reply i =
     ∙ ap (λ c. has_come mid.forest.margin (entry_of mid i) (track_at new i) (sec c.at)) clocks
     ∙ come_same mid.forest.margin (entry_of mid i) (track_at new i) (track_at mid i) (second mid) bears
 
-looked_own : (s : WatchState) (q : Out) (reply : Reply) (terms : Terms) → Reasoned (reason_answered (replied (looked s q reply terms) q reply) q.entry reply) (track_at (looked s q reply terms) q.entry).attempt
+looked_own : (s : WatchState) (q : Out) (reply : WatchReply) (terms : WatchTerms) → Reasoned (reason_answered (replied (looked s q reply terms) q reply) q.entry reply) (track_at (looked s q reply terms) q.entry).attempt
 looked_own s q (Told seconds renewable date) terms =
     let i = q.entry in
     let mid = told_state s i q.since seconds renewable terms in
@@ -254,7 +254,7 @@ granted_own : (b : Bool) (step at seconds : ℕ) (renewable : Bool) (from : ℕ)
 unfolding granted_from
 granted_own b step at seconds renewable from x = granted_reasoned b at x.owes (sec from + seconds) x.attempt
 
-renewed_own : (s new : WatchState) (q : Out) (reply : Reply) → Reasoned (reason_answered new q.entry reply) (track_at (state_renewed s q reply) q.entry).attempt
+renewed_own : (s new : WatchState) (q : Out) (reply : WatchReply) → Reasoned (reason_answered new q.entry reply) (track_at (state_renewed s q reply) q.entry).attempt
 unfolding renewed_track
 renewed_own s new q (Told seconds renewable date) =
     let i = q.entry in
@@ -266,12 +266,12 @@ renewed_own s new q (Told seconds renewable date) =
 renewed_own s new q _ = λ renew. refl
 
 -- nothing goes out but at a clock
-quiet : (i : ℕ) (output out : Output) (b : Bool) → output ≡ out → requests_asked_by out.command ≡ [] → renewal_goes_out i (requests_asked_by output.command) ≡ true → b ≡ true
-quiet i output out b is none renew = absurd (let bad : true ≡ false = sym renew ∙ ap (λ (x : Output). renewal_goes_out i (requests_asked_by x.command)) is ∙ ap (renewal_goes_out i) none in cc)
+quiet : (i : ℕ) (output out : WatchOutput) (b : Bool) → output ≡ out → requests_asked_by out.command ≡ [] → renewal_goes_out i (requests_asked_by output.command) ≡ true → b ≡ true
+quiet i output out b is none renew = absurd (let bad : true ≡ false = sym renew ∙ ap (λ (x : WatchOutput). renewal_goes_out i (requests_asked_by x.command)) is ∙ ap (renewal_goes_out i) none in cc)
 
 -- an answer, of i or of another
 answered :
-    (old mid new : WatchState) (q : Out) (reply : Reply) (j i : ℕ) (b : Bool) → new ≡ replied mid q reply → q.entry ≡ j → (q.entry ≢ i → track_at mid i ≡ track_at old i) →
+    (old mid new : WatchState) (q : Out) (reply : WatchReply) (j i : ℕ) (b : Bool) → new ≡ replied mid q reply → q.entry ≡ j → (q.entry ≢ i → track_at mid i ≡ track_at old i) →
     Reasoned (reason_answered (replied mid q reply) q.entry reply) (track_at mid q.entry).attempt → Reasoned b (track_at old i).attempt →
     Reasoned (if j == i then reason_answered new i reply else b) (track_at new i).attempt
 answered old mid new q reply j i b is entry other own h =
@@ -289,7 +289,7 @@ answered old mid new q reply j i b is entry other own h =
     ]
 
 looked_outcome :
-    (old new : WatchState) (found : Option Out) (j i : ℕ) (reply : Reply) (terms : Terms) (output : Output) (b : Bool) → request_out old.out j Look ≡ found →
+    (old new : WatchState) (found : Option Out) (j i : ℕ) (reply : WatchReply) (terms : WatchTerms) (output : WatchOutput) (b : Bool) → request_out old.out j Look ≡ found →
     StepLooked old found reply terms output new → Reasoned b (track_at old i).attempt → Outcome i (if j == i then reason_answered new i reply else b) output.command new
 looked_outcome old new None j i reply terms output b is step h = absurd step
 looked_outcome old new (Some q) j i reply terms output b is step h =
@@ -299,7 +299,7 @@ looked_outcome old new (Some q) j i reply terms output b is step h =
     )
 
 renewed_outcome :
-    (old new : WatchState) (found : Option Out) (j i : ℕ) (reply : Reply) (output : Output) (b : Bool) → request_out old.out j Renew ≡ found → StepRenewed old found reply output new →
+    (old new : WatchState) (found : Option Out) (j i : ℕ) (reply : WatchReply) (output : WatchOutput) (b : Bool) → request_out old.out j Renew ≡ found → StepRenewed old found reply output new →
     Reasoned b (track_at old i).attempt → Outcome i (if j == i then reason_answered new i reply else b) output.command new
 renewed_outcome old new None j i reply output b is step h = absurd step
 renewed_outcome old new (Some q) j i reply output b is step h =
@@ -316,7 +316,7 @@ known_still b at end renewable x h = known_is (λ (y : Track). Reasoned b y.atte
 
 -- a step, and a turn
 step_outcome :
-    (old new : WatchState) (event : Event) (output : Output) (i : ℕ) (b : Bool) → Step old event output new → Reasoned b (track_at old i).attempt → Outcome i (reason_taken i b event output new) output.command new
+    (old new : WatchState) (event : WatchEvent) (output : WatchOutput) (i : ℕ) (b : Bool) → Step old event output new → Reasoned b (track_at old i).attempt → Outcome i (reason_taken i b event output new) output.command new
 step_outcome old new (Clock wall elapsed) output i b step h = clock_outcome old new wall elapsed output i b step h
 step_outcome old new (Looked j reply terms) output i b step h = looked_outcome old new (request_out old.out j Look) j i reply terms output b refl step h
 step_outcome old new (Renewed j reply) output i b step h = renewed_outcome old new (request_out old.out j Renew) j i reply output b refl step h
@@ -325,7 +325,7 @@ step_outcome old new (Known j end renewable) output i b step h =
 step_outcome old new _ output i b step h = (quiet i output _ b step.0 refl, subst (λ (x : WatchState). Reasoned b (track_at x i).attempt) (sym step.1) h)
 
 turn_outcome :
-    (old new : WatchState) (event : Event) (result : Result Output WatchFault) (i : ℕ) (b : Bool) → Turn old event result new → Reasoned b (track_at old i).attempt →
+    (old new : WatchState) (event : WatchEvent) (result : Result WatchOutput WatchFault) (i : ℕ) (b : Bool) → Turn old event result new → Reasoned b (track_at old i).attempt →
     (renewal_goes_out i (requests_at_turn result) ≡ true → reason i b event result new ≡ true) × Reasoned (reason i b event result new) (track_at new i).attempt
 turn_outcome old new event (Ok output) i b turn h = step_outcome old new event output i b turn.1 h
 turn_outcome old new event (Err fault) i b turn h = ((λ renew. absurd cc), subst (λ (x : WatchState). Reasoned b (track_at x i).attempt) (sym (refused_stays old new event fault turn)) h)

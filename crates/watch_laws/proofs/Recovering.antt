@@ -3,13 +3,13 @@ use Rattle.std.proofs.Common.{◌≡◌, ◌∙◌, ℕ, suc, ◌+◌, ◌*◌, 
 use Rattle.std.proofs.lemmas.Bool.{and_from, cases_Bool}
 use Rattle.std.proofs.lemmas.Bool.Decides.{nat_tests}
 use Rattle.std.specs.List.{list_any}
-use Rattle.watch_machine.specs.declared.command.Command.TheVariants.{Taken}
-use Rattle.watch_machine.specs.declared.command.Output.{Output}
-use Rattle.watch_machine.specs.declared.event.Event.{Event}
-use Rattle.watch_machine.specs.declared.event.Event.TheVariants.{Clock, Looked, Renewed, Need, Begin, Known}
+use Rattle.watch_machine.specs.declared.command.WatchCommand.TheVariants.{Taken}
+use Rattle.watch_machine.specs.declared.command.WatchOutput.{WatchOutput}
+use Rattle.watch_machine.specs.declared.event.WatchEvent.{WatchEvent}
+use Rattle.watch_machine.specs.declared.event.WatchEvent.TheVariants.{Clock, Looked, Renewed, Need, Begin, Known}
 use Rattle.watch_machine.specs.declared.event.Operation.TheVariants.{Look, Renew}
-use Rattle.watch_machine.specs.declared.event.Reply.{Reply}
-use Rattle.watch_machine.specs.declared.event.Terms.{Terms}
+use Rattle.watch_machine.specs.declared.event.WatchReply.{WatchReply}
+use Rattle.watch_machine.specs.declared.event.WatchTerms.{WatchTerms}
 use Rattle.watch_machine.specs.declared.fault.WatchFault.{WatchFault}
 use Rattle.watch_machine.specs.declared.lanes.Out.{Out}
 use Rattle.watch_machine.specs.Answers.{noted, replied}
@@ -62,7 +62,7 @@ pub record Passes (quick late width n i by due k : ℕ) (s : WatchState) : Type 
   pub now : s.clocks.at ≤ by
 
 -- who may go out and has not finds all lanes taken
-pub full_lanes : (old new : WatchState) (wall elapsed : ℕ) (output : Output) (i width : ℕ) → Ticks old new wall elapsed output → MayGo new i → new.width ≡ width → width ≤ length new.out
+pub full_lanes : (old new : WatchState) (wall elapsed : ℕ) (output : WatchOutput) (i width : ℕ) → Ticks old new wall elapsed output → MayGo new i → new.width ≡ width → width ≤ length new.out
 full_lanes old new wall elapsed output i width h m wide =
     let ready' = readied old wall elapsed in
     let end = sent (pressed ready' h.round) h.requests in
@@ -91,7 +91,7 @@ soon_next quick late width n i by due s wide base timely full =
 
 -- a clock
 pub clock_passes :
-    (quick late width n i by due rest : ℕ) (old new : WatchState) (wall elapsed : ℕ) (output : Output) → 0 < width → i < n → Step old (Clock wall elapsed) output new → (timed old wall elapsed).clocks.at ≤ due → MayGo new i →
+    (quick late width n i by due rest : ℕ) (old new : WatchState) (wall elapsed : ℕ) (output : WatchOutput) → 0 < width → i < n → Step old (Clock wall elapsed) output new → (timed old wall elapsed).clocks.at ≤ due → MayGo new i →
     IsBase width n new → Sends old new n → Passes quick late width n i by due (waiting (without_outage quick late) n old + (how_many n (comes (without_outage quick late) old new) + rest)) old →
     Passes quick late width n i by (outage_next_after_command (without_outage quick late) output.command new due) (waiting (without_outage quick late) n new + rest) new
 clock_passes quick late width n i by due rest old new wall elapsed output wide low step in_time m base sends p =
@@ -155,41 +155,41 @@ clock_passes quick late width n i by due rest old new wall elapsed output wide l
     ])
 
 -- any other event leaves the clock, and what is out
-abbrev pub Quiet : ℕ → ℕ → ℕ → WatchState → WatchState → Output → Type 0
+abbrev pub Quiet : ℕ → ℕ → ℕ → WatchState → WatchState → WatchOutput → Type 0
 Quiet quick late due old new output =
     (new.clocks.at ≡ old.clocks.at) × ((All (Timely quick late due) old.out → All (Timely quick late due) new.out) × (outage_next_after_command (without_outage quick late) output.command new due ≡ due))
 
-answer_quiet : (quick late due : ℕ) (old mid new : WatchState) (q : Out) (reply : Reply) (output out : Output) → new ≡ replied mid q reply → mid.out ≡ old.out → new.clocks ≡ old.clocks → output ≡ out → out.command ≡ Taken → Quiet quick late due old new output
+answer_quiet : (quick late due : ℕ) (old mid new : WatchState) (q : Out) (reply : WatchReply) (output out : WatchOutput) → new ≡ replied mid q reply → mid.out ≡ old.out → new.clocks ≡ old.clocks → output ≡ out → out.command ≡ Taken → Quiet quick late due old new output
 answer_quiet quick late due old mid new q reply output out is outs clocks made taken' = (
   ap (λ c. c.at) clocks,
   (
     (λ all. subst (λ (x : WatchState). All (Timely quick late due) x.out) (sym is) (all_left (Timely quick late due) (λ r h. h) mid q reply (subst (All (Timely quick late due)) (sym outs) all))),
-    ap (λ c. outage_next_after_command (without_outage quick late) c new due) (ap (λ (x : Output). x.command) made ∙ taken'),
+    ap (λ c. outage_next_after_command (without_outage quick late) c new due) (ap (λ (x : WatchOutput). x.command) made ∙ taken'),
   ),
 )
 
-pub looked_quiet : (quick late due : ℕ) (old new : WatchState) (found : Option Out) (reply : Reply) (terms : Terms) (output : Output) → StepLooked old found reply terms output new → Quiet quick late due old new output
+pub looked_quiet : (quick late due : ℕ) (old new : WatchState) (found : Option Out) (reply : WatchReply) (terms : WatchTerms) (output : WatchOutput) → StepLooked old found reply terms output new → Quiet quick late due old new output
 looked_quiet quick late due old new None reply terms output step = absurd step
 looked_quiet quick late due old new (Some q) reply terms output step =
     let s = noted old q reply in
     answer_quiet quick late due old (looked s q reply terms) new q reply output _ step.1 (looked_out s q reply terms) (ap (λ (x : WatchState). x.clocks) (ap rest_of step.1 ∙ looked_leaves old q reply terms)) step.0 refl
 
-pub renewed_quiet : (quick late due : ℕ) (old new : WatchState) (found : Option Out) (reply : Reply) (output : Output) → StepRenewed old found reply output new → Quiet quick late due old new output
+pub renewed_quiet : (quick late due : ℕ) (old new : WatchState) (found : Option Out) (reply : WatchReply) (output : WatchOutput) → StepRenewed old found reply output new → Quiet quick late due old new output
 renewed_quiet quick late due old new None reply output step = absurd step
 renewed_quiet quick late due old new (Some q) reply output step =
     answer_quiet quick late due old (state_renewed (noted old q reply) q reply) new q reply output _ step.1 refl (ap (λ (x : WatchState). x.clocks) (ap rest_of step.1 ∙ renewed_leaves old q reply)) step.0 refl
 
-pub same_quiet : (quick late due : ℕ) (old mid new : WatchState) (output out : Output) → new ≡ mid → mid.clocks ≡ old.clocks → mid.out ≡ old.out → output ≡ out → out.command ≡ Taken → Quiet quick late due old new output
+pub same_quiet : (quick late due : ℕ) (old mid new : WatchState) (output out : WatchOutput) → new ≡ mid → mid.clocks ≡ old.clocks → mid.out ≡ old.out → output ≡ out → out.command ≡ Taken → Quiet quick late due old new output
 same_quiet quick late due old mid new output out is clocks outs made taken' = (
   ap (λ (x : WatchState). x.clocks.at) is ∙ ap (λ c. c.at) clocks,
   (
     (λ all. subst (All (Timely quick late due)) (sym (ap (λ (x : WatchState). x.out) is ∙ outs)) all),
-    ap (λ c. outage_next_after_command (without_outage quick late) c new due) (ap (λ (x : Output). x.command) made ∙ taken'),
+    ap (λ c. outage_next_after_command (without_outage quick late) c new due) (ap (λ (x : WatchOutput). x.command) made ∙ taken'),
   ),
 )
 
 pub quiet_passes :
-    (quick late width n i by due rest : ℕ) (old new : WatchState) (output : Output) → Quiet quick late due old new output → IsBase width n new → Sends old new n →
+    (quick late width n i by due rest : ℕ) (old new : WatchState) (output : WatchOutput) → Quiet quick late due old new output → IsBase width n new → Sends old new n →
     Passes quick late width n i by due (waiting (without_outage quick late) n old + (how_many n (comes (without_outage quick late) old new) + rest)) old →
     Passes quick late width n i by (outage_next_after_command (without_outage quick late) output.command new due) (waiting (without_outage quick late) n new + rest) new
 quiet_passes quick late width n i by due rest old new output quiet base sends p =
@@ -202,7 +202,7 @@ quiet_passes quick late width n i by due rest old new output quiet base sends p 
     (record { base = base; timely = quiet.1.0 p.timely; r = p.r; from = p.from; count = omega (arith, less, count); start = p.start; next = p.next; now = omega (arith, c, now) })
 
 step_passes :
-    (quick late width n i by due rest : ℕ) (old new : WatchState) (event : Event) (output : Output) → 0 < width → i < n → Step old event output new → IsPassing i due old event new → IsBase width n new → Sends old new n →
+    (quick late width n i by due rest : ℕ) (old new : WatchState) (event : WatchEvent) (output : WatchOutput) → 0 < width → i < n → Step old event output new → IsPassing i due old event new → IsBase width n new → Sends old new n →
     Passes quick late width n i by due (waiting (without_outage quick late) n old + (how_many n (comes (without_outage quick late) old new) + rest)) old →
     Passes quick late width n i by (outage_next_after_command (without_outage quick late) output.command new due) (waiting (without_outage quick late) n new + rest) new
 step_passes quick late width n i by due rest old new (Clock wall elapsed) output wide low step passing base sends p =
@@ -219,7 +219,7 @@ step_passes quick late width n i by due rest old new (Known j end renewable) out
     quiet_passes quick late width n i by due rest old new output (same_quiet quick late due old _ new output _ step.1 refl refl step.0 refl) base sends p
 
 turn_passes :
-    (quick late width n i by due rest : ℕ) (old new : WatchState) (event : Event) (result : Result Output WatchFault) → 0 < width → i < n → Turn old event result new → IsPassedBy i due old event result new → IsBase width n new →
+    (quick late width n i by due rest : ℕ) (old new : WatchState) (event : WatchEvent) (result : Result WatchOutput WatchFault) → 0 < width → i < n → Turn old event result new → IsPassedBy i due old event result new → IsBase width n new →
     Sends old new n → Passes quick late width n i by due (waiting (without_outage quick late) n old + (how_many n (comes (without_outage quick late) old new) + rest)) old →
     Passes quick late width n i by (outage_next_after (without_outage quick late) result new due) (waiting (without_outage quick late) n new + rest) new
 turn_passes quick late width n i by due rest old new event (Ok output) wide low turn passing base sends p = step_passes quick late width n i by due rest old new event output wide low turn.1 passing base sends p

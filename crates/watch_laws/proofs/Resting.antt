@@ -7,8 +7,8 @@ use Rattle.std.proofs.lemmas.Nat.{pow_pos}
 use Rattle.std.specs.List.{list_any}
 use Rattle.plan_forest.specs.declared.entry.Entry.{Entry}
 use Rattle.watch_machine.specs.declared.event.Operation.TheVariants.{Look, Renew}
-use Rattle.watch_machine.specs.declared.event.Reply.{Reply}
-use Rattle.watch_machine.specs.declared.event.Reply.TheVariants.{Told, Refused, Busy, Lost}
+use Rattle.watch_machine.specs.declared.event.WatchReply.{WatchReply}
+use Rattle.watch_machine.specs.declared.event.WatchReply.TheVariants.{Told, Refused, Busy, Lost}
 use Rattle.watch_machine.specs.declared.track.Track.{Track}
 use Rattle.watch_machine.specs.declared.track.Try.{Try}
 use Rattle.watch_machine.specs.Answers.{back_track, back_try, due_again, failing}
@@ -73,7 +73,7 @@ renews at t =
     (record { at = at; operation = Renew; pressed = true; base = Some at; fails = 0; lost = false; alone = false; failed = false }) (λ e. refl) (λ e. refl)
 
 -- a reply that tells nothing
-abbrev pub IsUntold : Reply → Type 0
+abbrev pub IsUntold : WatchReply → Type 0
 IsUntold (Told seconds renewable date) = ⊥
 IsUntold _ = Unit {0}
 
@@ -198,16 +198,16 @@ module _ (r : Sent) where
       if_cases (MayFollow r) (is_open (sec at) x) (if t.pressed then failing t Renew false false else record (failing t Renew false false) { at = at; failed = false }) (failing t Look false false)
       (λ open'. if_cases (MayFollow r) t.pressed (failing t Renew false false) (record (failing t Renew false false) { at = at; failed = false }) (λ e. inl refl) (λ e. inr (inr (look, refl)))) (λ e. inl refl)
 
-  untold_follows : (at : ℕ) (heard : Bool) (reply : Reply) (x : Track) (t : Try) → r.operation ≡ Look → IsUntold reply → MayFollow r (untold_try at heard reply x t)
+  untold_follows : (at : ℕ) (heard : Bool) (reply : WatchReply) (x : Track) (t : Try) → r.operation ≡ Look → IsUntold reply → MayFollow r (untold_try at heard reply x t)
   untold_follows at heard (Told seconds renewable date) x t look none = absurd none
   untold_follows at heard (Refused status date) x t look none = refused_follows at x t look
   untold_follows at heard _ x t look none = inl refl
 
-  untold_all : (at : ℕ) (heard : Bool) (reply : Reply) (x : Track) (o : Option Try) → r.operation ≡ Look → IsUntold reply → IfSome (untold at heard reply x o) (MayFollow r)
+  untold_all : (at : ℕ) (heard : Bool) (reply : WatchReply) (x : Track) (o : Option Try) → r.operation ≡ Look → IsUntold reply → IfSome (untold at heard reply x o) (MayFollow r)
   untold_all at heard reply x None look none = tt
   untold_all at heard reply x (Some t) look none = untold_follows at heard reply x t look none
 
-  pub untold_rests : (at : ℕ) (heard : Bool) (reply : Reply) (x : Track) → r.operation ≡ Look → IsUntold reply → x.last ≡ Some r.at → Rests r (untold_track at heard reply x)
+  pub untold_rests : (at : ℕ) (heard : Bool) (reply : WatchReply) (x : Track) → r.operation ≡ Look → IsUntold reply → x.last ≡ Some r.at → Rests r (untold_track at heard reply x)
   unfolding untold_track
   untold_rests at heard reply x look none last = record { last = last; attempt = λ free. untold_all at heard reply x x.attempt look none }
 
@@ -222,11 +222,11 @@ module _ (r : Sent) where
   unfolding granted_from
   granted_rests step at seconds renewable from x past last = record { last = last; attempt = λ free. granted_follows at x.owes (sec from + seconds) x.attempt past }
 
-  ungranted_all : (at : ℕ) (heard : Bool) (reply : Reply) (x : Track) (o : Option Try) → IsUntold reply → IfSome (ungranted at heard reply x o) (MayFollow r)
+  ungranted_all : (at : ℕ) (heard : Bool) (reply : WatchReply) (x : Track) (o : Option Try) → IsUntold reply → IfSome (ungranted at heard reply x o) (MayFollow r)
   ungranted_all at heard reply x None none = tt
   ungranted_all at heard (Told seconds renewable date) x (Some t) none = absurd none
   ungranted_all at heard _ x (Some t) none = inl refl
 
-  pub ungranted_rests : (at : ℕ) (heard : Bool) (reply : Reply) (x : Track) → IsUntold reply → x.last ≡ Some r.at → Rests r (ungranted_track at heard reply x)
+  pub ungranted_rests : (at : ℕ) (heard : Bool) (reply : WatchReply) (x : Track) → IsUntold reply → x.last ≡ Some r.at → Rests r (ungranted_track at heard reply x)
   unfolding ungranted_track
   ungranted_rests at heard reply x none last = record { last = last; attempt = λ free. ungranted_all at heard reply x x.attempt none }

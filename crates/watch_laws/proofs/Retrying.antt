@@ -4,19 +4,19 @@ use Rattle.std.proofs.lemmas.Bool.{and_from, and_parts, cases_Bool, cases_lt, co
 use Rattle.std.specs.List.{list_any}
 use Rattle.plan_forest.specs.declared.entry.Entry.{Entry}
 use Rattle.plan_forest.specs.Forest.{Forest, entry_at}
-use Rattle.watch_machine.specs.declared.command.Output.{Output}
-use Rattle.watch_machine.specs.declared.command.Request.{Request}
-use Rattle.watch_machine.specs.declared.event.Event.{Event}
-use Rattle.watch_machine.specs.declared.event.Event.TheVariants.{Clock, Looked, Renewed, Need, Begin, Known}
+use Rattle.watch_machine.specs.declared.command.WatchOutput.{WatchOutput}
+use Rattle.watch_machine.specs.declared.command.WatchRequest.{WatchRequest}
+use Rattle.watch_machine.specs.declared.event.WatchEvent.{WatchEvent}
+use Rattle.watch_machine.specs.declared.event.WatchEvent.TheVariants.{Clock, Looked, Renewed, Need, Begin, Known}
 use Rattle.watch_machine.specs.declared.event.Operation.TheVariants.{Look, Renew}
-use Rattle.watch_machine.specs.declared.event.Reply.{Reply}
-use Rattle.watch_machine.specs.declared.event.Reply.TheVariants.{Told, Refused, Busy, Lost}
-use Rattle.watch_machine.specs.declared.event.Terms.{Terms}
+use Rattle.watch_machine.specs.declared.event.WatchReply.{WatchReply}
+use Rattle.watch_machine.specs.declared.event.WatchReply.TheVariants.{Told, Refused, Busy, Lost}
+use Rattle.watch_machine.specs.declared.event.WatchTerms.{WatchTerms}
 use Rattle.watch_machine.specs.declared.fault.WatchFault.{WatchFault}
-use Rattle.watch_machine.specs.declared.lanes.Answer.{Answer}
+use Rattle.watch_machine.specs.declared.lanes.LaneAnswer.{LaneAnswer}
 use Rattle.watch_machine.specs.declared.lanes.Out.{Out}
 use Rattle.watch_machine.specs.declared.lanes.Presence.{Presence}
-use Rattle.watch_machine.specs.declared.notes.Why.{Why}
+use Rattle.watch_machine.specs.declared.notes.BeginReason.{BeginReason}
 use Rattle.watch_machine.specs.declared.track.Track.{Track}
 use Rattle.watch_machine.specs.declared.track.Try.{Try}
 use Rattle.watch_machine.specs.Answers.{answers_all, back_track, lane_freed, noted, replied, silent}
@@ -60,7 +60,7 @@ rises s wall elapsed start =
     ]
 
 -- a clock's presence
-pub held_to : (margin at : ℕ) (xs : List Track) (answers : List Answer) (p : Presence) →
+pub held_to : (margin at : ℕ) (xs : List Track) (answers : List LaneAnswer) (p : Presence) →
     ((p.away && list_any is_silent answers ≡ true) × ((n : ℕ) × ((presence_after margin at xs answers p).hold ≤ at + held margin at xs n)))
     ⊎ ((p.away && list_any is_silent answers ≡ false) × ((presence_after margin at xs answers p).hold ≡ p.hold))
 unfolding presence_after held_back hold_after
@@ -81,7 +81,7 @@ held_to margin at xs answers p =
       | inr no' ↦ inr (no', ap (λ (q : Presence). q.hold) (cond-false test set p no'))
     ]
 
-away_same : (margin at : ℕ) (xs : List Track) (answers : List Answer) (p : Presence) → (presence_after margin at xs answers p).away ≡ p.away
+away_same : (margin at : ℕ) (xs : List Track) (answers : List LaneAnswer) (p : Presence) → (presence_after margin at xs answers p).away ≡ p.away
 unfolding presence_after held_back
 away_same margin at xs answers p = if_both (λ (q : Presence). q.away ≡ p.away) (p.away && list_any is_silent answers) (record p { count = count_after at p; hold = hold_after margin at xs p }) p refl refl
 
@@ -165,10 +165,10 @@ module _ (at pause' : ℕ) (t : Try) where
       if_both Retried (list_any (λ j. j == i) round) (asked_track at x) x
       (if_both Retried x.out x (record x { attempt = Some (press at x) }) h (pressed_now x h)) h
 
-  sent_retried : (requests : List Request) (i : ℕ) (x : Track) → Still (sent_in at requests i x) x
-  sent_retried requests i x h = if_both Retried (list_any (λ (r : Request). r.entry == i) requests) (sent_track at x) x (record { last = omega arith; comes = h.comes }) h
+  sent_retried : (requests : List WatchRequest) (i : ℕ) (x : Track) → Still (sent_in at requests i x) x
+  sent_retried requests i x h = if_both Retried (list_any (λ (r : WatchRequest). r.entry == i) requests) (sent_track at x) x (record { last = omega arith; comes = h.comes }) h
 
-  end_retried : (s : WatchState) (w : Option Why) (round : List ℕ) (requests : List Request) (i : ℕ) → s.clocks.at ≡ at → Retried (track_at s i) → Retried (track_at (sent (pressed (begun s w) round) requests) i)
+  end_retried : (s : WatchState) (w : Option BeginReason) (round : List ℕ) (requests : List WatchRequest) (i : ℕ) → s.clocks.at ≡ at → Retried (track_at s i) → Retried (track_at (sent (pressed (begun s w) round) requests) i)
   end_retried s w round requests i is h = all w where
     later : (b : WatchState) → b.clocks.at ≡ at → Retried (track_at b i) → Retried (track_at (sent (pressed b round) requests) i)
     later b same k =
@@ -184,7 +184,7 @@ module _ (at pause' : ℕ) (t : Try) where
         each_holds Retried none_retried (sent_in c.at requests) mid.tracks i
         (subst (λ n. Retried (sent_in n requests i (track_at mid i))) (sym same) (sent_retried requests i (track_at mid i) three))
 
-    all : (v : Option Why) → Retried (track_at (sent (pressed (begun s v) round) requests) i)
+    all : (v : Option BeginReason) → Retried (track_at (sent (pressed (begun s v) round) requests) i)
     all None = later (begun s None) is h
     all (Some v) =
         let xs = untopped s.tracks in
@@ -233,21 +233,21 @@ settled_ends : (margin at : ℕ) (x : Track) → Ends (settled_track margin at x
 unfolding settled_track
 settled_ends margin at x = refl
 
-begun_ends : (s : WatchState) (w : Option Why) (i : ℕ) → Ends (track_at (begun s w) i) (track_at s i)
+begun_ends : (s : WatchState) (w : Option BeginReason) (i : ℕ) → Ends (track_at (begun s w) i) (track_at s i)
 begun_ends s None i = refl
 begun_ends s (Some w) i =
     let xs = untopped s.tracks in
     each_kept Ends refl (λ j. owing s.clocks.at (is_start w) (is_called s.forest xs s.clocks j)) xs (λ j x. owing_ends s.clocks.at (is_start w) (is_called s.forest xs s.clocks j) x) i
     ∙ each_kept Ends refl (λ j. untopped_track) s.tracks (λ j x. refl) i
 
-end_ends : (s : WatchState) (w : Option Why) (round : List ℕ) (requests : List Request) (i : ℕ) → Ends (track_at (sent (pressed (begun s w) round) requests) i) (track_at s i)
+end_ends : (s : WatchState) (w : Option BeginReason) (round : List ℕ) (requests : List WatchRequest) (i : ℕ) → Ends (track_at (sent (pressed (begun s w) round) requests) i) (track_at s i)
 end_ends s w round requests i =
     let b = begun s w in
     let g = b.forest in
     let c = b.clocks in
     let alone = pressed_alone g c b.tracks in
     let mid = pressed b round in
-    each_kept Ends refl (sent_in c.at requests) mid.tracks (λ j x. if_both (λ y. Ends y x) (list_any (λ (r : Request). r.entry == j) requests) (sent_track c.at x) x refl refl) i
+    each_kept Ends refl (sent_in c.at requests) mid.tracks (λ j x. if_both (λ y. Ends y x) (list_any (λ (r : WatchRequest). r.entry == j) requests) (sent_track c.at x) x refl refl) i
     ∙ each_kept Ends refl (track_asked_in c.at round) alone (asked_ends c.at round) i
     ∙ each_kept Ends refl (λ j. pressed_track g.margin (entry_at g.entries j) (need_of g.entries b.tracks c j) c.at) b.tracks
     (λ j x. pressed_ends g.margin (entry_at g.entries j) (need_of g.entries b.tracks c j) c.at x) i ∙ begun_ends s w i
@@ -280,7 +280,7 @@ ready_later p x u most hold at =
 
 -- the try of an entry that failed, by what the clock found
 soon_or_held :
-    (margin at : ℕ) (xs : List Track) (answers : List Answer) (p : Presence) (i : ℕ) (y : Track) (t u : Try) → i < length xs → (track_in xs i).attempt ≡ Some t → y.end ≡ (track_in xs i).end →
+    (margin at : ℕ) (xs : List Track) (answers : List LaneAnswer) (p : Presence) (i : ℕ) (y : Track) (t u : Try) → i < length xs → (track_in xs i).attempt ≡ Some t → y.end ≡ (track_in xs i).end →
     u.pressed ≡ true → Comes at (pause margin at (track_in xs i) t) t u → (p.away ≡ false → p.hold ≡ 0) →
     (ready (presence_after margin at xs answers p) y u ≤ at + cap margin at y u)
     ⊎ ((list_any is_silent answers ≡ false) × (ready (presence_after margin at xs answers p) y u ≤ p.hold))
@@ -316,12 +316,12 @@ soon_or_held margin at xs answers p i y t u within is end pressed' comes hold =
           ]
     ]
 
-begun_forest : (s : WatchState) (w : Option Why) → (begun s w).forest ≡ s.forest
+begun_forest : (s : WatchState) (w : Option BeginReason) → (begun s w).forest ≡ s.forest
 begun_forest s None = refl
 begun_forest s (Some w) = refl
 
 readied_retried :
-    (old : WatchState) (wall elapsed : ℕ) (round : List ℕ) (requests : List Request) (i : ℕ) (t : Try) → attempt_at old i ≡ Some t → t.failed ≡ true → IsPast old →
+    (old : WatchState) (wall elapsed : ℕ) (round : List ℕ) (requests : List WatchRequest) (i : ℕ) (t : Try) → attempt_at old i ≡ Some t → t.failed ≡ true → IsPast old →
     Retried (timed old wall elapsed).clocks.at (pause old.forest.margin (timed old wall elapsed).clocks.at (track_at old i) t) t (track_at (sent (pressed (readied old wall elapsed) round) requests) i)
     × (Ends (track_at (sent (pressed (readied old wall elapsed) round) requests) i) (track_at old i) × ((readied old wall elapsed).forest ≡ old.forest))
 unfolding readied
@@ -341,7 +341,7 @@ readied_retried old wall elapsed round requests i t is failed past =
     )
 
 clock_retries :
-    (old new : WatchState) (wall elapsed : ℕ) (output : Output) (i : ℕ) (t u : Try) → StepClock old wall elapsed output new → IsPast old → attempt_at old i ≡ Some t → t.failed ≡ true →
+    (old new : WatchState) (wall elapsed : ℕ) (output : WatchOutput) (i : ℕ) (t u : Try) → StepClock old wall elapsed output new → IsPast old → attempt_at old i ≡ Some t → t.failed ≡ true →
     attempt_at new i ≡ Some u → u.pressed ≡ true → IsSoon new i u ⊎ IsHeldBack old new i u
 clock_retries old new wall elapsed output i t u step past is failed after pressed' =
     let ready' = readied old wall elapsed in
@@ -358,7 +358,7 @@ clock_retries old new wall elapsed output i t u step past is failed after presse
     (subst (λ p. (ready p (track_at n i) u ≤ at + cap old.forest.margin at (track_at n i) u) ⊎ ((list_any is_silent old.answers ≡ false) × (ready p (track_at n i) u ≤ old.presence.hold)))
     (sym (ready_presence old wall elapsed)) all)))
 
-turn_retries : (old new : WatchState) (event : Event) (result : Result Output WatchFault) (i : ℕ) (t u : Try) → Turn old event result new → IsPast old → TryFails old (record { event = event; result = result; state = new }) i t u → IsSoon new i u ⊎ IsHeldBack old new i u
+turn_retries : (old new : WatchState) (event : WatchEvent) (result : Result WatchOutput WatchFault) (i : ℕ) (t u : Try) → Turn old event result new → IsPast old → TryFails old (record { event = event; result = result; state = new }) i t u → IsSoon new i u ⊎ IsHeldBack old new i u
 turn_retries old new (Clock wall elapsed) (Ok output) i t u turn past h = clock_retries old new wall elapsed output i t u turn.1 past h.before h.failed h.after h.pressed
 turn_retries old new event (Err fault) i t u turn past h = absurd (let e = h.taken in cc)
 turn_retries old new _ (Ok output) i t u turn past h = absurd (let e = h.clock in cc)
@@ -390,7 +390,7 @@ module _ (most : ℕ) where
   unfolding settled_track
   settled_asked margin at x h = h
 
-  begun_asked : (s : WatchState) (w : Option Why) (i : ℕ) → Asked (track_at (begun s w) i) (track_at s i)
+  begun_asked : (s : WatchState) (w : Option BeginReason) (i : ℕ) → Asked (track_at (begun s w) i) (track_at s i)
   begun_asked s None i h = h
   begun_asked s (Some w) i h =
       let xs = untopped s.tracks in
@@ -403,20 +403,20 @@ module _ (most : ℕ) where
       let t = timed s wall elapsed in
       begun_asked (settled t) (why s wall elapsed) i (each_kept Asked (λ k. k) (λ j. settled_track t.forest.margin t.clocks.at) s.tracks (λ j x. settled_asked t.forest.margin t.clocks.at x) i h)
 
-  end_asked : (s : WatchState) (round : List ℕ) (requests : List Request) (i : ℕ) → s.clocks.at + 1000 ≤ most → Asked (track_at (sent (pressed s round) requests) i) (track_at s i)
+  end_asked : (s : WatchState) (round : List ℕ) (requests : List WatchRequest) (i : ℕ) → s.clocks.at + 1000 ≤ most → Asked (track_at (sent (pressed s round) requests) i) (track_at s i)
   end_asked s round requests i now h =
       let c = s.clocks in
       let g = s.forest in
       let alone = pressed_alone g c s.tracks in
       let mid = pressed s round in
       each_kept Asked (λ k. k) (sent_in c.at requests) mid.tracks
-      (λ j x k. if_both (λ (y : Track). rested y.last ≤ most) (list_any (λ (r : Request). r.entry == j) requests) (sent_track c.at x) x now k) i
+      (λ j x k. if_both (λ (y : Track). rested y.last ≤ most) (list_any (λ (r : WatchRequest). r.entry == j) requests) (sent_track c.at x) x now k) i
       (each_kept Asked (λ k. k) (track_asked_in c.at round) alone (asked_asked c.at round) i
       (each_kept Asked (λ k. k) (λ j. pressed_track g.margin (entry_at g.entries j) (need_of g.entries s.tracks c j) c.at) s.tracks
       (λ j x. pressed_asked g.margin (entry_at g.entries j) (need_of g.entries s.tracks c j) c.at x) i h))
 
 -- a clock keeps the bounds
-held_none : (margin at : ℕ) (xs : List Track) (answers : List Answer) (p : Presence) → (p.away ≡ false → p.hold ≡ 0) → (presence_after margin at xs answers p).away ≡ false → (presence_after margin at xs answers p).hold ≡ 0
+held_none : (margin at : ℕ) (xs : List Track) (answers : List LaneAnswer) (p : Presence) → (p.away ≡ false → p.hold ≡ 0) → (presence_after margin at xs answers p).away ≡ false → (presence_after margin at xs answers p).hold ≡ 0
 held_none margin at xs answers p h there =
     let away : p.away ≡ false = sym (away_same margin at xs answers p) ∙ there in
     elim (held_to margin at xs answers p) [
@@ -424,7 +424,7 @@ held_none margin at xs answers p h there =
       | inr stays ↦ stays.1 ∙ h away
     ]
 
-clock_past : (old new : WatchState) (wall elapsed : ℕ) (output : Output) → StepClock old wall elapsed output new → IsPast old → IsPast new
+clock_past : (old new : WatchState) (wall elapsed : ℕ) (output : WatchOutput) → StepClock old wall elapsed output new → IsPast old → IsPast new
 clock_past old new wall elapsed output step past =
     let ready' = readied old wall elapsed in
     let go = sent_by (pressed ready' (round_of step.round)) new output.command step.command in
@@ -451,7 +451,7 @@ back_last : (x : Track) → SameLast (back_track x) x
 unfolding back_track
 back_last x = refl
 
-replied_hold : (s : WatchState) (q : Out) (reply : Reply) → (s.presence.away ≡ false → s.presence.hold ≡ 0) → (replied s q reply).presence.away ≡ false → (replied s q reply).presence.hold ≡ 0
+replied_hold : (s : WatchState) (q : Out) (reply : WatchReply) → (s.presence.away ≡ false → s.presence.hold ≡ 0) → (replied s q reply).presence.away ≡ false → (replied s q reply).presence.hold ≡ 0
 replied_hold s q reply h =
     let free = lane_freed s q in
     if_both (λ (t : WatchState). t.presence.away ≡ false → t.presence.hold ≡ 0) (is_real reply) (answers_all free) (if q.heard then free else silent free)
@@ -471,42 +471,42 @@ told_last : (since seconds : ℕ) (renewable endless : Bool) (x : Track) → Sam
 unfolding told_track
 told_last since seconds renewable endless x = refl
 
-untold_last : (at : ℕ) (heard : Bool) (reply : Reply) (x : Track) → SameLast (untold_track at heard reply x) x
+untold_last : (at : ℕ) (heard : Bool) (reply : WatchReply) (x : Track) → SameLast (untold_track at heard reply x) x
 unfolding untold_track
 untold_last at heard reply x = refl
 
-state_last : (s : WatchState) (i since seconds : ℕ) (renewable : Bool) (terms : Terms) (j : ℕ) → SameLast (track_at (told_state s i since seconds renewable terms) j) (track_at s j)
+state_last : (s : WatchState) (i since seconds : ℕ) (renewable : Bool) (terms : WatchTerms) (j : ℕ) → SameLast (track_at (told_state s i since seconds renewable terms) j) (track_at s j)
 state_last s i since seconds renewable terms j = set_kept SameLast (λ x. refl) s.tracks i _ (told_last since seconds renewable terms.endless (track_at s i)) j
 
 by_last : (s : WatchState) (i j : ℕ) → SameLast (track_at (with_told_try s i) j) (track_at s j)
 by_last s i j = set_kept SameLast (λ x. refl) s.tracks i _ refl j
 
-looked_last : (s : WatchState) (q : Out) (reply : Reply) (terms : Terms) (i : ℕ) → SameLast (track_at (looked s q reply terms) i) (track_at s i)
+looked_last : (s : WatchState) (q : Out) (reply : WatchReply) (terms : WatchTerms) (i : ℕ) → SameLast (track_at (looked s q reply terms) i) (track_at s i)
 looked_last s q (Told seconds renewable date) terms i =
     by_last (told_state s q.entry q.since seconds renewable terms) q.entry i ∙ state_last s q.entry q.since seconds renewable terms i
 looked_last s q (Refused status date) terms i = set_kept SameLast (λ x. refl) s.tracks q.entry _ (untold_last s.clocks.at q.heard (Refused status date) (track_at s q.entry)) i
 looked_last s q Busy terms i = set_kept SameLast (λ x. refl) s.tracks q.entry _ (untold_last s.clocks.at q.heard Busy (track_at s q.entry)) i
 looked_last s q Lost terms i = set_kept SameLast (λ x. refl) s.tracks q.entry _ (untold_last s.clocks.at q.heard Lost (track_at s q.entry)) i
 
-renewed_last : (s : WatchState) (q : Out) (reply : Reply) (i : ℕ) → SameLast (track_at (state_renewed s q reply) i) (track_at s i)
+renewed_last : (s : WatchState) (q : Out) (reply : WatchReply) (i : ℕ) → SameLast (track_at (state_renewed s q reply) i) (track_at s i)
 unfolding renewed_track granted_from ungranted_track
 renewed_last s q (Told seconds renewable date) i = set_kept SameLast (λ x. refl) s.tracks q.entry _ refl i
 renewed_last s q _ i = set_kept SameLast (λ x. refl) s.tracks q.entry _ refl i
 
-answer_past : (old mid new : WatchState) (q : Out) (reply : Reply) → new ≡ replied mid q reply → rest_of new ≡ rest_of old → mid.presence ≡ old.presence → ((i : ℕ) → SameLast (track_at mid i) (track_at old i)) → IsPast old → IsPast new
+answer_past : (old mid new : WatchState) (q : Out) (reply : WatchReply) → new ≡ replied mid q reply → rest_of new ≡ rest_of old → mid.presence ≡ old.presence → ((i : ℕ) → SameLast (track_at mid i) (track_at old i)) → IsPast old → IsPast new
 answer_past old mid new q reply is rest presence last past =
     left_past old new rest
     (subst (λ (x : WatchState). x.presence.away ≡ false → x.presence.hold ≡ 0) (sym is)
     (replied_hold mid q reply (subst (λ (p : Presence). p.away ≡ false → p.hold ≡ 0) (sym presence) past.hold)))
     (λ i. subst (λ (x : WatchState). SameLast (track_at x i) (track_at mid i)) (sym is) (back_kept SameLast (λ x. refl) (λ x. back_last x) mid q reply i) ∙ last i) past
 
-looked_past : (old new : WatchState) (found : Option Out) (reply : Reply) (terms : Terms) (output : Output) → StepLooked old found reply terms output new → IsPast old → IsPast new
+looked_past : (old new : WatchState) (found : Option Out) (reply : WatchReply) (terms : WatchTerms) (output : WatchOutput) → StepLooked old found reply terms output new → IsPast old → IsPast new
 looked_past old new None reply terms output step past = absurd step
 looked_past old new (Some q) reply terms output step past =
     let s = noted old q reply in
     answer_past old (looked s q reply terms) new q reply step.1 (ap rest_of step.1 ∙ looked_leaves old q reply terms) (looked_presence s q reply terms) (λ i. looked_last s q reply terms i) past
 
-renewed_past : (old new : WatchState) (found : Option Out) (reply : Reply) (output : Output) → StepRenewed old found reply output new → IsPast old → IsPast new
+renewed_past : (old new : WatchState) (found : Option Out) (reply : WatchReply) (output : WatchOutput) → StepRenewed old found reply output new → IsPast old → IsPast new
 renewed_past old new None reply output step past = absurd step
 renewed_past old new (Some q) reply output step past =
     let s = noted old q reply in
@@ -517,7 +517,7 @@ known_last s j end renewable i =
     let x = track_at s j in
     set_kept SameLast (λ y. refl) s.tracks j _ (known_is (λ y. SameLast y x) s.clocks.at end renewable x refl (λ out. refl) (λ free. refl)) i
 
-step_past : (old new : WatchState) (event : Event) (output : Output) → Step old event output new → IsPast old → IsPast new
+step_past : (old new : WatchState) (event : WatchEvent) (output : WatchOutput) → Step old event output new → IsPast old → IsPast new
 step_past old new (Clock wall elapsed) output step past = clock_past old new wall elapsed output step past
 step_past old new (Looked j reply terms) output step past = looked_past old new (request_out old.out j Look) reply terms output step past
 step_past old new (Renewed j reply) output step past = renewed_past old new (request_out old.out j Renew) reply output step past
@@ -529,7 +529,7 @@ step_past old new (Known j end renewable) output step past =
     })
 step_past old new _ output step past = subst IsPast (sym step.1) (record { start = past.start; hold = past.hold; last = past.last })
 
-pub turn_past : (old new : WatchState) (event : Event) (result : Result Output WatchFault) → Turn old event result new → IsPast old → IsPast new
+pub turn_past : (old new : WatchState) (event : WatchEvent) (result : Result WatchOutput WatchFault) → Turn old event result new → IsPast old → IsPast new
 turn_past old new event (Ok output) turn past = step_past old new event output turn.1 past
 turn_past old new event (Err fault) turn past = subst IsPast (sym (refused_stays old new event fault turn)) past
 
@@ -547,7 +547,7 @@ first_past (e ∷ es) (suc i) = first_past es i
 
 -- and the clock leaves it as lost as it was, unless it is pressed anew. For the law of failures
 clock_keeps :
-    (old new : WatchState) (wall elapsed : ℕ) (output : Output) (i : ℕ) (t u : Try) → StepClock old wall elapsed output new → IsPast old → attempt_at old i ≡ Some t → t.failed ≡ true →
+    (old new : WatchState) (wall elapsed : ℕ) (output : WatchOutput) (i : ℕ) (t u : Try) → StepClock old wall elapsed output new → IsPast old → attempt_at old i ≡ Some t → t.failed ≡ true →
     attempt_at new i ≡ Some u → u.pressed ≡ true → (u.lost ≡ t.lost) ⊎ (u.at ≤ new.clocks.at + 1000)
 clock_keeps old new wall elapsed output i t u step past is failed after pressed' =
     let ready' = readied old wall elapsed in
@@ -562,7 +562,7 @@ clock_keeps old new wall elapsed output i t u step past is failed after pressed'
     ]
 
 turn_keeps :
-    (old new : WatchState) (event : Event) (result : Result Output WatchFault) (i : ℕ) (t u : Try) → Turn old event result new → IsPast old →
+    (old new : WatchState) (event : WatchEvent) (result : Result WatchOutput WatchFault) (i : ℕ) (t u : Try) → Turn old event result new → IsPast old →
     TryFails old (record { event = event; result = result; state = new }) i t u → (u.lost ≡ t.lost) ⊎ (u.at ≤ new.clocks.at + 1000)
 turn_keeps old new (Clock wall elapsed) (Ok output) i t u turn past h = clock_keeps old new wall elapsed output i t u turn.1 past h.before h.failed h.after h.pressed
 turn_keeps old new event (Err fault) i t u turn past h = absurd (let e = h.taken in cc)

@@ -12,9 +12,9 @@ use Rattle.plan_forest.specs.Over.{chain}
 use Rattle.plan_forest.specs.Push.{IsForest}
 use Rattle.plan_forest.specs.Renewal.{capped, renewal}
 use Rattle.plan_rule.specs.Asks.{asks}
-use Rattle.watch_machine.specs.declared.command.Output.{Output}
-use Rattle.watch_machine.specs.declared.command.Request.{Request}
-use Rattle.watch_machine.specs.declared.event.Event.{Event}
+use Rattle.watch_machine.specs.declared.command.WatchOutput.{WatchOutput}
+use Rattle.watch_machine.specs.declared.command.WatchRequest.{WatchRequest}
+use Rattle.watch_machine.specs.declared.event.WatchEvent.{WatchEvent}
 use Rattle.watch_machine.specs.declared.fault.WatchFault.{WatchFault}
 use Rattle.watch_machine.specs.declared.track.End.{End}
 use Rattle.watch_machine.specs.declared.track.End.TheVariants.{Unknown, At, Never}
@@ -73,7 +73,7 @@ opens_by s i h = all_six (is_wanted s i) (come_at s i) (is_pressed (track_at s i
 
 -- ---- what a clock leaves, said of the state that it has readied
 
-module _ (old : WatchState) (wall elapsed : ℕ) (round : List ℕ) (requests : List Request) where
+module _ (old : WatchState) (wall elapsed : ℕ) (round : List ℕ) (requests : List WatchRequest) where
   abbrev pub ready : WatchState
   ready = readied old wall elapsed
 
@@ -155,8 +155,8 @@ module _ (old : WatchState) (wall elapsed : ℕ) (round : List ℕ) (requests : 
 
 -- a turn at which a round opens
 turn_round :
-    (P : WatchState → Type 0) (old new : WatchState) (event : Event) (result : Result Output WatchFault) (asked : List ℕ) → Turn old event result new → round_of result ≡ Some asked →
-    ((wall elapsed : ℕ) (requests : List Request) → IsRound (readied old wall elapsed).forest (readied old wall elapsed).tracks (readied old wall elapsed).clocks (Some asked) → P (sent (pressed (readied old wall elapsed) asked) requests)) → P new
+    (P : WatchState → Type 0) (old new : WatchState) (event : WatchEvent) (result : Result WatchOutput WatchFault) (asked : List ℕ) → Turn old event result new → round_of result ≡ Some asked →
+    ((wall elapsed : ℕ) (requests : List WatchRequest) → IsRound (readied old wall elapsed).forest (readied old wall elapsed).tracks (readied old wall elapsed).clocks (Some asked) → P (sent (pressed (readied old wall elapsed) asked) requests)) → P new
 turn_round P old new event result asked turn is each =
     opened_at_clock old new event result asked turn is
     (λ wall elapsed at taken'.
@@ -164,7 +164,7 @@ turn_round P old new event result asked turn is each =
     clock_of (λ n w. w ≡ Some asked → P n) old new event result wall elapsed turn at taken'
     (λ round requests h same. subst (λ w. P (sent (pressed r (asked_by_round w)) requests)) (sym same) (each wall elapsed requests (subst (IsRound r.forest r.tracks r.clocks) same h))) is)
 
-turn_opener : (old new : WatchState) (event : Event) (result : Result Output WatchFault) (asked : List ℕ) → Turn old event result new → round_of result ≡ Some asked → (i : ℕ) × IsOpener old new i
+turn_opener : (old new : WatchState) (event : WatchEvent) (result : Result WatchOutput WatchFault) (asked : List ℕ) → Turn old event result new → round_of result ≡ Some asked → (i : ℕ) × IsOpener old new i
 turn_opener old new event result asked turn is =
     turn_round (λ n. (i : ℕ) × IsOpener old n i) old new event result asked turn is
     (λ wall elapsed requests h.
@@ -172,7 +172,7 @@ turn_opener old new event result asked turn is =
     let low = some.1.0 in
     (some.0, opener_is old wall elapsed asked requests some.0 (omega (arith, low)) some.1.1))
 
-clock_opens : (old : WatchState) (wall elapsed : ℕ) (requests : List Request) (i : ℕ) (round : Option (List ℕ)) → IsRound (readied old wall elapsed).forest (readied old wall elapsed).tracks (readied old wall elapsed).clocks round → IsOpener old (sent (pressed (readied old wall elapsed) (asked_by_round round)) requests) i → is_some round ≡ true
+clock_opens : (old : WatchState) (wall elapsed : ℕ) (requests : List WatchRequest) (i : ℕ) (round : Option (List ℕ)) → IsRound (readied old wall elapsed).forest (readied old wall elapsed).tracks (readied old wall elapsed).clocks round → IsOpener old (sent (pressed (readied old wall elapsed) (asked_by_round round)) requests) i → is_some round ≡ true
 clock_opens old wall elapsed requests i (Some asked) h opener = refl
 clock_opens old wall elapsed requests i None h opener = absurd (none_opens (readied old wall elapsed) h i opener.within (opens_is old wall elapsed [] requests i opener))
 
@@ -186,7 +186,7 @@ opened_rightly = record {
 
 -- ---- whom it names
 
-turn_asks : (old new : WatchState) (event : Event) (result : Result Output WatchFault) (asked : List ℕ) → Turn old event result new → IsForest old.forest → round_of result ≡ Some asked → AreAsks (granted_forest new) (second new) (hoped_ends old new) asked
+turn_asks : (old new : WatchState) (event : WatchEvent) (result : Result WatchOutput WatchFault) (asked : List ℕ) → Turn old event result new → IsForest old.forest → round_of result ≡ Some asked → AreAsks (granted_forest new) (second new) (hoped_ends old new) asked
 turn_asks old new event result asked turn forest is =
     turn_round (λ n. AreAsks (granted_forest n) (second n) (hoped_ends old n) asked) old new event result asked turn is
     (λ wall elapsed requests h.
@@ -443,7 +443,7 @@ rounds_same r q h forest (Some asked) None these those = absurd (none_opens_on r
 rounds_same r q h forest (Some asked) (Some asked') these those = ap (λ is. Some is) (names_same r q h asked asked' these.1 those.1)
 
 readied_same :
-    (old : WatchState) (wall elapsed : ℕ) (asked : List ℕ) (requests : List Request) (old' : WatchState) (wall' elapsed' : ℕ) (asked' : List ℕ) (requests' : List Request) →
+    (old : WatchState) (wall elapsed : ℕ) (asked : List ℕ) (requests : List WatchRequest) (old' : WatchState) (wall' elapsed' : ℕ) (asked' : List ℕ) (requests' : List WatchRequest) →
     FindAllSame old (after old wall elapsed asked requests) old' (after old' wall' elapsed' asked' requests') → AreReadiedSame (readied old wall elapsed) (readied old' wall' elapsed')
 readied_same old wall elapsed asked requests old' wall' elapsed' asked' requests' h =
     let r = readied old wall elapsed in

@@ -9,21 +9,21 @@ use Rattle.std.proofs.lemmas.List.Elements.{All-append, All-cons, All-filter, Al
 use Rattle.std.specs.List.{find, list_any}
 use Rattle.plan_forest.specs.declared.entry.Entry.{Entry}
 use Rattle.plan_forest.specs.Forest.{entry_at}
-use Rattle.watch_machine.specs.declared.command.Command.{Command}
-use Rattle.watch_machine.specs.declared.command.Command.TheVariants.{Go, Taken}
-use Rattle.watch_machine.specs.declared.command.Output.{Output}
-use Rattle.watch_machine.specs.declared.command.Request.{Request}
-use Rattle.watch_machine.specs.declared.event.Event.{Event}
-use Rattle.watch_machine.specs.declared.event.Event.TheVariants.{Clock, Looked, Renewed, Need, Begin, Known}
+use Rattle.watch_machine.specs.declared.command.WatchCommand.{WatchCommand}
+use Rattle.watch_machine.specs.declared.command.WatchCommand.TheVariants.{Go, Taken}
+use Rattle.watch_machine.specs.declared.command.WatchOutput.{WatchOutput}
+use Rattle.watch_machine.specs.declared.command.WatchRequest.{WatchRequest}
+use Rattle.watch_machine.specs.declared.event.WatchEvent.{WatchEvent}
+use Rattle.watch_machine.specs.declared.event.WatchEvent.TheVariants.{Clock, Looked, Renewed, Need, Begin, Known}
 use Rattle.watch_machine.specs.declared.event.Operation.{Operation}
 use Rattle.watch_machine.specs.declared.event.Operation.TheVariants.{Look, Renew}
-use Rattle.watch_machine.specs.declared.event.Reply.{Reply}
-use Rattle.watch_machine.specs.declared.event.Reply.TheVariants.{Told, Refused, Busy, Lost}
-use Rattle.watch_machine.specs.declared.event.Terms.{Terms}
+use Rattle.watch_machine.specs.declared.event.WatchReply.{WatchReply}
+use Rattle.watch_machine.specs.declared.event.WatchReply.TheVariants.{Told, Refused, Busy, Lost}
+use Rattle.watch_machine.specs.declared.event.WatchTerms.{WatchTerms}
 use Rattle.watch_machine.specs.declared.fault.WatchFault.{WatchFault}
 use Rattle.watch_machine.specs.declared.lanes.Out.{Out}
 use Rattle.watch_machine.specs.declared.lanes.Presence.{Presence}
-use Rattle.watch_machine.specs.declared.notes.Why.{Why}
+use Rattle.watch_machine.specs.declared.notes.BeginReason.{BeginReason}
 use Rattle.watch_machine.specs.declared.track.Track.{Track}
 use Rattle.watch_machine.specs.declared.track.Try.{Try}
 use Rattle.watch_machine.specs.Answers.{answers_all, back_track, heard, lane_freed, noted, replied, silent, without_request}
@@ -103,7 +103,7 @@ Keeps s i (Some r) = IsSpaced s i r
 
 -- the requests that are out after an answer
 module _ (P : Out → Type 0) (hears : (q : Out) → P q → P (heard q)) where
-  pub replied_out : (s : WatchState) (r : Out) (reply : Reply) → All P (without_request r.entry s.out) → All P (replied s r reply).out
+  pub replied_out : (s : WatchState) (r : Out) (reply : WatchReply) → All P (without_request r.entry s.out) → All P (replied s r reply).out
   replied_out s r reply all =
       let free = lane_freed s r in
       if_both (λ (t : WatchState). All P t.out) (is_real reply) (answers_all free) (if r.heard then free else silent free)
@@ -140,7 +140,7 @@ module _ (r : Sent) where
   none_rests : Rests r no_track → IsReady r no_track
   none_rests h = absurd (let e = h.last in cc)
 
-  begun_ready : (s : WatchState) (w : Option Why) (i : ℕ) → IsReady r (track_at s i) → IsReady r (track_at (begun s w) i)
+  begun_ready : (s : WatchState) (w : Option BeginReason) (i : ℕ) → IsReady r (track_at s i) → IsReady r (track_at (begun s w) i)
   begun_ready s None i h = h
   begun_ready s (Some w) i h =
       let xs = untopped s.tracks in
@@ -186,7 +186,7 @@ settled_flag : (margin at : ℕ) (x : Track) → Flag (settled_track margin at x
 unfolding settled_track
 settled_flag margin at x = refl
 
-begun_flag : (s : WatchState) (w : Option Why) (i : ℕ) → Flag (track_at (begun s w) i) (track_at s i)
+begun_flag : (s : WatchState) (w : Option BeginReason) (i : ℕ) → Flag (track_at (begun s w) i) (track_at s i)
 begun_flag s None i = refl
 begun_flag s (Some w) i =
     let xs = untopped s.tracks in
@@ -227,31 +227,31 @@ mid_any : (s : WatchState) (i : ℕ) (o : Option Sent) → IsMid s i o → All (
 mid_any s i None h = h
 mid_any s i (Some r) h = All-weaker (IsOf s i (λ o. r.operation ≡ o)) (IsOf s i Any) (λ q of is. ((of is).0, tt)) s.out h.1.0
 
-module _ (s : WatchState) (requests : List Request) (i : ℕ) where
+module _ (s : WatchState) (requests : List WatchRequest) (i : ℕ) where
   abbrev gone : WatchState
   gone = sent_state s requests
 
-  pub passed_over : list_any (λ (q : Request). q.entry == i) requests ≡ false → track_at gone i ≡ track_at s i
+  pub passed_over : list_any (λ (q : WatchRequest). q.entry == i) requests ≡ false → track_at gone i ≡ track_at s i
   passed_over none =
-      each_at (sent_in s.clocks.at requests) s.tracks i (λ x. cond-false (list_any (λ (q : Request). q.entry == i) requests) (sent_track s.clocks.at x) x none)
+      each_at (sent_in s.clocks.at requests) s.tracks i (λ x. cond-false (list_any (λ (q : WatchRequest). q.entry == i) requests) (sent_track s.clocks.at x) x none)
 
-  pub went : list_any (λ (q : Request). q.entry == i) requests ≡ true → i < length s.tracks → track_at gone i ≡ sent_track s.clocks.at (track_at s i)
+  pub went : list_any (λ (q : WatchRequest). q.entry == i) requests ≡ true → i < length s.tracks → track_at gone i ≡ sent_track s.clocks.at (track_at s i)
   went named within =
       each_read (sent_in s.clocks.at requests) s.tracks i within
-      ∙ cond-true (list_any (λ (q : Request). q.entry == i) requests) (sent_track s.clocks.at (track_at s i)) (track_at s i) named
+      ∙ cond-true (list_any (λ (q : WatchRequest). q.entry == i) requests) (sent_track s.clocks.at (track_at s i)) (track_at s i) named
 
 -- none of some requests is of i
-pub not_of : (X : Out → Type 0) (at i : ℕ) (rs : List Request) → list_any (λ (q : Request). q.entry == i) rs ≡ false → All (λ q. q.entry ≡ i → X q) (map (out_at at) rs)
+pub not_of : (X : Out → Type 0) (at i : ℕ) (rs : List WatchRequest) → list_any (λ (q : WatchRequest). q.entry == i) rs ≡ false → All (λ q. q.entry ≡ i → X q) (map (out_at at) rs)
 not_of X at i [] none = All-nil (λ q. q.entry ≡ i → X q)
 not_of X at i (r ∷ rs) none =
-    let both = neither (r.entry == i) (list_any (λ (q : Request). q.entry == i) rs) none in
+    let both = neither (r.entry == i) (list_any (λ (q : WatchRequest). q.entry == i) rs) none in
     All-cons (λ q. q.entry ≡ i → X q) (out_at at r) (map (out_at at) rs) (λ is. absurd (not_both (subst (λ n. (n == i) ≡ true) (sym is) (same_index i)) both.0)) (not_of X at i rs both.1) where
       neither : (a b : Bool) → a || b ≡ false → (a ≡ false) × (b ≡ false)
       neither true b h = absurd cc
       neither false b h = (refl, h)
 
 kept_over :
-    (s : WatchState) (requests : List Request) (i : ℕ) (o : Option Sent) → is_none s.begun ≡ false → IsMid s i o → list_any (λ (q : Request). q.entry == i) requests ≡ false →
+    (s : WatchState) (requests : List WatchRequest) (i : ℕ) (o : Option Sent) → is_none s.begun ≡ false → IsMid s i o → list_any (λ (q : WatchRequest). q.entry == i) requests ≡ false →
     Keeps (sent_state s requests) i o
 kept_over s requests i None begun' mid none =
     let new = sent_state s requests in
@@ -275,7 +275,7 @@ kept_over s requests i (Some r) begun' mid none =
       may (Some t) h = inr h
 
 goes_out :
-    (s : WatchState) (requests : List Request) (i : ℕ) (o : Option Sent) (lanes : ℕ) → is_none s.begun ≡ false → IsMid s i o → Goes s.forest s.presence s.clocks.at s.tracks lanes requests →
+    (s : WatchState) (requests : List WatchRequest) (i : ℕ) (o : Option Sent) (lanes : ℕ) → is_none s.begun ≡ false → IsMid s i o → Goes s.forest s.presence s.clocks.at s.tracks lanes requests →
     Outcome (sent_state s requests) i o (sent_at i s.clocks.at requests)
 unfolding Outcome
 goes_out s requests i o lanes begun' mid h =
@@ -283,14 +283,14 @@ goes_out s requests i o lanes begun' mid h =
     let at = s.clocks.at in
     let xs = s.tracks in
     let new = sent_state s requests in
-    let rq : ℕ → Request = request_at p (sec at) xs in
+    let rq : ℕ → WatchRequest = request_at p (sec at) xs in
     elim (one_sent p (sec at) at xs i h.entries (h.once i)) as (λ _. Outcome new i o (sent_at i at requests)) [
-      | inl none ↦ inl (ap (sent_at i at) h.requests_are ∙ none.0, kept_over s requests i o begun' mid (ap (list_any (λ (q : Request). q.entry == i)) h.requests_are ∙ none.1))
+      | inl none ↦ inl (ap (sent_at i at) h.requests_are ∙ none.0, kept_over s requests i o begun' mid (ap (list_any (λ (q : WatchRequest). q.entry == i)) h.requests_are ∙ none.1))
       | inr one ↦
           let due = named_of (λ j. (j < length xs) × (is_due p at (track_in xs j) ≡ true)) i h.entries h.due one.1.1 in
           let free = free_of p at (track_in xs i) due.1 in
           let x = sent_of xs at i in
-          let named = ap (list_any (λ (q : Request). q.entry == i)) h.requests_are ∙ one.1.0 in
+          let named = ap (list_any (λ (q : WatchRequest). q.entry == i)) h.requests_are ∙ one.1.0 in
           let there = went s requests i named due.0 in
           let is_out : (track_at new i).out ≡ true = ap (λ (y : Track). y.out) there in
           let P : Operation → Type 0 = λ y. x.operation ≡ y in
@@ -321,7 +321,7 @@ goes_out s requests i o lanes begun' mid h =
       apart (Some r) h' free due = due_is_apart s.presence s.clocks.at (track_at s i) r h'.0 h'.1.1 due
 
 -- a clock
-begun_out : (s : WatchState) (w : Option Why) → (begun s w).out ≡ s.out
+begun_out : (s : WatchState) (w : Option BeginReason) → (begun s w).out ≡ s.out
 begun_out s None = refl
 begun_out s (Some w) = refl
 
@@ -346,13 +346,13 @@ mid_of old wall elapsed round i (Some r) h =
       ),
     )
 
-commanded : (s new : WatchState) (command : Command) (i : ℕ) (o : Option Sent) → is_none s.begun ≡ false → IsMid s i o → StepCommand s command new → Outcome new i o (sent_at i new.clocks.at (requests_asked_by command))
+commanded : (s new : WatchState) (command : WatchCommand) (i : ℕ) (o : Option Sent) → is_none s.begun ≡ false → IsMid s i o → StepCommand s command new → Outcome new i o (sent_at i new.clocks.at (requests_asked_by command))
 commanded s new (Go requests until) i o begun' mid h =
     subst (λ (x : WatchState). Outcome x i o (sent_at i x.clocks.at requests)) (sym h.0.1)
     (goes_out s requests i o (s.width - length s.out) begun' mid (goes s.forest s.presence s.clocks.at s.tracks (s.width - length s.out) requests h.0.0))
 commanded s new Taken i o begun' mid h = absurd h
 
-clocked : (old new : WatchState) (wall elapsed : ℕ) (output : Output) (i : ℕ) (o : Option Sent) → StepClock old wall elapsed output new → Keeps old i o → Outcome new i o (sent_at i new.clocks.at (requests_asked_by output.command))
+clocked : (old new : WatchState) (wall elapsed : ℕ) (output : WatchOutput) (i : ℕ) (o : Option Sent) → StepClock old wall elapsed output new → Keeps old i o → Outcome new i o (sent_at i new.clocks.at (requests_asked_by output.command))
 clocked old new wall elapsed output i o step kept =
     commanded (pressed (readied old wall elapsed) (round_of step.round)) new output.command i o (begun_some old wall elapsed) (mid_of old wall elapsed (round_of step.round) i o kept) step.command
 
@@ -361,7 +361,7 @@ unfolding back_track
 back_flag x = refl
 
 -- an answer: mid is the state before what it says of the broker
-module _ (old mid new : WatchState) (q : Out) (reply : Reply) (i : ℕ) (is : new ≡ replied mid q reply) (out : mid.out ≡ old.out) (other : q.entry ≢ i → track_at mid i ≡ track_at old i) where
+module _ (old mid new : WatchState) (q : Out) (reply : WatchReply) (i : ℕ) (is : new ≡ replied mid q reply) (out : mid.out ≡ old.out) (other : q.entry ≢ i → track_at mid i ≡ track_at old i) where
   pub after_flag : q.entry ≢ i → Flag (track_at new i) (track_at old i)
   after_flag apart =
       subst (λ (x : WatchState). Flag (track_at x i) (track_at mid i)) (sym is) (back_kept Flag (λ x. refl) (λ x. back_flag x) mid q reply i) ∙ ap (λ (x : Track). x.out) (other apart)
@@ -433,13 +433,13 @@ spaced_within s i r h =
     ]
 
 -- the answer to a lookup
-pub looked_other : (s : WatchState) (q : Out) (reply : Reply) (terms : Terms) (i : ℕ) → q.entry ≢ i → track_at (looked s q reply terms) i ≡ track_at s i
+pub looked_other : (s : WatchState) (q : Out) (reply : WatchReply) (terms : WatchTerms) (i : ℕ) → q.entry ≢ i → track_at (looked s q reply terms) i ≡ track_at s i
 looked_other s q (Told seconds renewable date) terms i apart =
     get_or-set_other (told_state s q.entry q.since seconds renewable terms).tracks q.entry i _ no_track (λ e. apart (sym e))
     ∙ get_or-set_other s.tracks q.entry i _ no_track (λ e. apart (sym e))
 looked_other s q _ terms i apart = get_or-set_other s.tracks q.entry i _ no_track (λ e. apart (sym e))
 
-pub looked_out : (s : WatchState) (q : Out) (reply : Reply) (terms : Terms) → (looked s q reply terms).out ≡ s.out
+pub looked_out : (s : WatchState) (q : Out) (reply : WatchReply) (terms : WatchTerms) → (looked s q reply terms).out ≡ s.out
 looked_out s q (Told seconds renewable date) terms = refl
 looked_out s q _ terms = refl
 
@@ -447,7 +447,7 @@ told_last : (since seconds : ℕ) (renewable endless : Bool) (x : Track) → (to
 unfolding told_track
 told_last since seconds renewable endless x = refl
 
-looked_rests : (s : WatchState) (q : Out) (reply : Reply) (terms : Terms) (r : Sent) → q.entry < length s.tracks → r.operation ≡ Look → (track_at s q.entry).last ≡ Some r.at → Rests r (track_at (looked s q reply terms) q.entry)
+looked_rests : (s : WatchState) (q : Out) (reply : WatchReply) (terms : WatchTerms) (r : Sent) → q.entry < length s.tracks → r.operation ≡ Look → (track_at s q.entry).last ≡ Some r.at → Rests r (track_at (looked s q reply terms) q.entry)
 looked_rests s q (Told seconds renewable date) terms r within look last =
     let i = q.entry in
     let mid = told_state s i q.since seconds renewable terms in
@@ -464,7 +464,7 @@ looked_rests s q Busy terms r within look last = subst (Rests r) (sym (get_or-se
 looked_rests s q Lost terms r within look last = subst (Rests r) (sym (get_or-set_same s.tracks q.entry _ no_track within)) (untold_rests r s.clocks.at q.heard Lost (track_at s q.entry) look tt last)
 
 looked_keeps :
-    (old new : WatchState) (found : Option Out) (j i : ℕ) (reply : Reply) (terms : Terms) (output : Output) (o : Option Sent) → request_out old.out j Look ≡ found →
+    (old new : WatchState) (found : Option Out) (j i : ℕ) (reply : WatchReply) (terms : WatchTerms) (output : WatchOutput) (o : Option Sent) → request_out old.out j Look ≡ found →
     StepLooked old found reply terms output new → Keeps old i o → Keeps new i o
 looked_keeps old new None j i reply terms output o is step kept = absurd step
 looked_keeps old new (Some q) j i reply terms output o is step kept =
@@ -478,7 +478,7 @@ looked_keeps old new (Some q) j i reply terms output o is step kept =
 
 -- the answer to a renewal
 renewed_rests :
-    (s : WatchState) (q : Out) (reply : Reply) (r : Sent) → q.entry < length s.tracks → r.at ≤ s.clocks.at → (track_at s q.entry).last ≡ Some r.at → Rests r (track_at (state_renewed s q reply) q.entry)
+    (s : WatchState) (q : Out) (reply : WatchReply) (r : Sent) → q.entry < length s.tracks → r.at ≤ s.clocks.at → (track_at s q.entry).last ≡ Some r.at → Rests r (track_at (state_renewed s q reply) q.entry)
 unfolding renewed_track
 renewed_rests s q (Told seconds renewable date) r within past last =
     let i = q.entry in
@@ -493,7 +493,7 @@ renewed_rests s q Busy r within past last = subst (Rests r) (sym (get_or-set_sam
 renewed_rests s q Lost r within past last = subst (Rests r) (sym (get_or-set_same s.tracks q.entry _ no_track within)) (ungranted_rests r s.clocks.at q.heard Lost (track_at s q.entry) tt last)
 
 renewed_keeps :
-    (old new : WatchState) (found : Option Out) (j i : ℕ) (reply : Reply) (output : Output) (o : Option Sent) → StepRenewed old found reply output new → Keeps old i o → Keeps new i o
+    (old new : WatchState) (found : Option Out) (j i : ℕ) (reply : WatchReply) (output : WatchOutput) (o : Option Sent) → StepRenewed old found reply output new → Keeps old i o → Keeps new i o
 renewed_keeps old new None j i reply output o step kept = absurd step
 renewed_keeps old new (Some q) j i reply output o step kept =
     let s = noted old q reply in
@@ -528,19 +528,19 @@ moved : (old new mid : WatchState) (i : ℕ) (o : Option Sent) → new ≡ mid �
 moved old new mid i o is keeps kept = subst (λ (x : WatchState). Keeps x i o) (sym is) (keeps kept)
 
 -- nothing goes out but at a clock
-none_goes : (i at : ℕ) (output out : Output) → output ≡ out → requests_asked_by out.command ≡ [] → sent_at i at (requests_asked_by output.command) ≡ []
-none_goes i at output out is none = ap (λ (x : Output). sent_at i at (requests_asked_by x.command)) is ∙ ap (sent_at i at) none
+none_goes : (i at : ℕ) (output out : WatchOutput) → output ≡ out → requests_asked_by out.command ≡ [] → sent_at i at (requests_asked_by output.command) ≡ []
+none_goes i at output out is none = ap (λ (x : WatchOutput). sent_at i at (requests_asked_by x.command)) is ∙ ap (sent_at i at) none
 
-looked_quiet : (old new : WatchState) (found : Option Out) (i at : ℕ) (reply : Reply) (terms : Terms) (output : Output) → StepLooked old found reply terms output new → sent_at i at (requests_asked_by output.command) ≡ []
+looked_quiet : (old new : WatchState) (found : Option Out) (i at : ℕ) (reply : WatchReply) (terms : WatchTerms) (output : WatchOutput) → StepLooked old found reply terms output new → sent_at i at (requests_asked_by output.command) ≡ []
 looked_quiet old new None i at reply terms output step = absurd step
 looked_quiet old new (Some q) i at reply terms output step = none_goes i at output _ step.0 refl
 
-renewed_quiet : (old new : WatchState) (found : Option Out) (i at : ℕ) (reply : Reply) (output : Output) → StepRenewed old found reply output new → sent_at i at (requests_asked_by output.command) ≡ []
+renewed_quiet : (old new : WatchState) (found : Option Out) (i at : ℕ) (reply : WatchReply) (output : WatchOutput) → StepRenewed old found reply output new → sent_at i at (requests_asked_by output.command) ≡ []
 renewed_quiet old new None i at reply output step = absurd step
 renewed_quiet old new (Some q) i at reply output step = none_goes i at output _ step.0 refl
 
 -- a step, and a turn
-stepped : (old new : WatchState) (event : Event) (output : Output) (i : ℕ) (o : Option Sent) → Step old event output new → Keeps old i o → Outcome new i o (sent_at i new.clocks.at (requests_asked_by output.command))
+stepped : (old new : WatchState) (event : WatchEvent) (output : WatchOutput) (i : ℕ) (o : Option Sent) → Step old event output new → Keeps old i o → Outcome new i o (sent_at i new.clocks.at (requests_asked_by output.command))
 unfolding Outcome
 stepped old new (Clock wall elapsed) output i o step kept = clocked old new wall elapsed output i o step kept
 stepped old new (Looked j reply terms) output i o step kept =
@@ -560,7 +560,7 @@ stepped old new (Known j end renewable) output i o step kept =
           (λ r. set_kept (λ y x. Rests r x → Rests r y) (λ x k. k) old.tracks j _ (known_rests r old.clocks.at end renewable (track_at old j)) i)) kept,
     )
 
-pub turned : (old new : WatchState) (event : Event) (result : Result Output WatchFault) (i : ℕ) (o : Option Sent) → Turn old event result new → Keeps old i o → Outcome new i o (sent_at i new.clocks.at (requests_at_turn result))
+pub turned : (old new : WatchState) (event : WatchEvent) (result : Result WatchOutput WatchFault) (i : ℕ) (o : Option Sent) → Turn old event result new → Keeps old i o → Outcome new i o (sent_at i new.clocks.at (requests_at_turn result))
 unfolding Outcome
 turned old new event (Ok output) i o turn kept = stepped old new event output i o turn.1 kept
 turned old new event (Err fault) i o turn kept = inl (refl, subst (λ (x : WatchState). Keeps x i o) (sym (refused_stays old new event fault turn)) kept)
@@ -579,7 +579,7 @@ none_after None = tt
 none_after (Some r) = tt
 
 -- none goes out of an index at which there is no track
-none_past : (s : WatchState) (requests : List Request) (lanes i : ℕ) → Goes s.forest s.presence s.clocks.at s.tracks lanes requests → length s.tracks ≤ i → sent_at i s.clocks.at requests ≡ []
+none_past : (s : WatchState) (requests : List WatchRequest) (lanes i : ℕ) → Goes s.forest s.presence s.clocks.at s.tracks lanes requests → length s.tracks ≤ i → sent_at i s.clocks.at requests ≡ []
 none_past s requests lanes i h past =
     let p = s.presence in
     let at = s.clocks.at in
@@ -591,12 +591,12 @@ none_past s requests lanes i h past =
           absurd (omega (arith, low, past))
     ]
 
-commanded_past : (s new : WatchState) (command : Command) (i : ℕ) → StepCommand s command new → length s.tracks ≤ i → sent_at i new.clocks.at (requests_asked_by command) ≡ []
+commanded_past : (s new : WatchState) (command : WatchCommand) (i : ℕ) → StepCommand s command new → length s.tracks ≤ i → sent_at i new.clocks.at (requests_asked_by command) ≡ []
 commanded_past s new (Go requests until) i h past =
     subst (λ (x : WatchState). sent_at i x.clocks.at requests ≡ []) (sym h.0.1) (none_past s requests (s.width - length s.out) i (goes s.forest s.presence s.clocks.at s.tracks (s.width - length s.out) requests h.0.0) past)
 commanded_past s new Taken i h past = absurd h
 
-step_past : (old new : WatchState) (event : Event) (output : Output) (i : ℕ) → Step old event output new → length old.tracks ≤ i → sent_at i new.clocks.at (requests_asked_by output.command) ≡ []
+step_past : (old new : WatchState) (event : WatchEvent) (output : WatchOutput) (i : ℕ) → Step old event output new → length old.tracks ≤ i → sent_at i new.clocks.at (requests_asked_by output.command) ≡ []
 step_past old new (Clock wall elapsed) output i step past =
     let ready = readied old wall elapsed in
     let a = each_length (track_asked_in ready.clocks.at (round_of step.round)) (pressed_alone ready.forest ready.clocks ready.tracks) in
@@ -607,6 +607,6 @@ step_past old new (Looked j reply terms) output i step past = looked_quiet old n
 step_past old new (Renewed j reply) output i step past = renewed_quiet old new (request_out old.out j Renew) i new.clocks.at reply output step
 step_past old new _ output i step past = none_goes i new.clocks.at output _ step.0 refl
 
-pub turn_past : (old new : WatchState) (event : Event) (result : Result Output WatchFault) (i : ℕ) → Turn old event result new → length old.tracks ≤ i → sent_at i new.clocks.at (requests_at_turn result) ≡ []
+pub turn_past : (old new : WatchState) (event : WatchEvent) (result : Result WatchOutput WatchFault) (i : ℕ) → Turn old event result new → length old.tracks ≤ i → sent_at i new.clocks.at (requests_at_turn result) ≡ []
 turn_past old new event (Ok output) i turn past = step_past old new event output i turn.1 past
 turn_past old new event (Err fault) i turn past = refl

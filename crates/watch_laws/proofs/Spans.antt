@@ -5,8 +5,8 @@ use Rattle.std.proofs.lemmas.Bool.{cases_Bool, cases_eq, cond-false, cond-true, 
 use Rattle.std.proofs.lemmas.Bool.Decides.{nat_tests}
 use Rattle.std.proofs.lemmas.List.Elements.{All-cons, All-head, All-nil, All-tail}
 use Rattle.std.specs.List.{list_any}
-use Rattle.watch_machine.specs.declared.command.Request.{Request}
-use Rattle.watch_machine.specs.declared.event.Reply.{Reply}
+use Rattle.watch_machine.specs.declared.command.WatchRequest.{WatchRequest}
+use Rattle.watch_machine.specs.declared.event.WatchReply.{WatchReply}
 use Rattle.watch_machine.specs.declared.lanes.Out.{Out}
 use Rattle.watch_machine.specs.Answers.{answers_all, heard, lane_freed, replied, silent, without_request}
 use Rattle.watch_machine.specs.Sending.{out_at}
@@ -152,7 +152,7 @@ span_heard : (o : Partial) (at : ℕ) (out : List Out) → span o at (map heard 
 span_heard o at [] = refl
 span_heard o at (q ∷ out) = ap (λ n. ((partial_settled_by o q + o.late) - at) + n) (span_heard o at out)
 
-pub span_replied : (o : Partial) (at : ℕ) (s : WatchState) (q : Out) (reply : Reply) → span o at (replied s q reply).out ≤ span o at s.out
+pub span_replied : (o : Partial) (at : ℕ) (s : WatchState) (q : Out) (reply : WatchReply) → span o at (replied s q reply).out ≤ span o at s.out
 span_replied o at s q reply =
     let free = lane_freed s q in
     let P : WatchState → Type 0 = λ t. span o at t.out ≤ span o at s.out in
@@ -164,7 +164,7 @@ span_replied o at s q reply =
 
 -- what goes out adds what each takes
 pub span_sent :
-    (o : Partial) (at : ℕ) (f : ℕ → ℕ) (rq : ℕ → Request) (is : List ℕ) → ((k : ℕ) → (rq k).entry ≡ k) → All (λ k. o.takes k at + o.late ≤ f k) is → span o at (map (out_at at) (map rq is)) ≤ adds f is
+    (o : Partial) (at : ℕ) (f : ℕ → ℕ) (rq : ℕ → WatchRequest) (is : List ℕ) → ((k : ℕ) → (rq k).entry ≡ k) → All (λ k. o.takes k at + o.late ≤ f k) is → span o at (map (out_at at) (map rq is)) ≤ adds f is
 span_sent o at f rq [] entries all = omega arith
 span_sent o at f rq (k ∷ is) entries all =
     let rest = span_sent o at f rq is entries (All-tail (λ j. o.takes j at + o.late ≤ f j) k is all) in
@@ -173,7 +173,7 @@ span_sent o at f rq (k ∷ is) entries all =
     omega (arith, rest, here, e)
 
 -- what holds of what is made of each holds of each
-pub mapped : (P : Request → Type 0) (rq : ℕ → Request) (is : List ℕ) → All P (map rq is) → All (λ k. P (rq k)) is
+pub mapped : (P : WatchRequest → Type 0) (rq : ℕ → WatchRequest) (is : List ℕ) → All P (map rq is) → All (λ k. P (rq k)) is
 mapped P rq [] all = All-nil (λ k. P (rq k))
 mapped P rq (k ∷ is) all = All-cons (λ j. P (rq j)) k is (All-head P (rq k) (map rq is) all) (mapped P rq is (All-tail P (rq k) (map rq is) all))
 

@@ -7,22 +7,22 @@ use Rattle.std.proofs.lemmas.List.{length-append, length-map}
 use Rattle.std.proofs.lemmas.List.Elements.{All-head, All-tail, filter-append}
 use Rattle.std.proofs.lemmas.List.Sums.{count_by-le-length, length-filter}
 use Rattle.std.specs.List.{All, find, list_any}
-use Rattle.watch_machine.specs.declared.command.Command.{Command}
-use Rattle.watch_machine.specs.declared.command.Command.TheVariants.{Go, Taken}
-use Rattle.watch_machine.specs.declared.command.Output.{Output}
-use Rattle.watch_machine.specs.declared.command.Request.{Request}
-use Rattle.watch_machine.specs.declared.event.Event.{Event}
-use Rattle.watch_machine.specs.declared.event.Event.TheVariants.{Clock, Looked, Renewed, Need, Begin, Known}
+use Rattle.watch_machine.specs.declared.command.WatchCommand.{WatchCommand}
+use Rattle.watch_machine.specs.declared.command.WatchCommand.TheVariants.{Go, Taken}
+use Rattle.watch_machine.specs.declared.command.WatchOutput.{WatchOutput}
+use Rattle.watch_machine.specs.declared.command.WatchRequest.{WatchRequest}
+use Rattle.watch_machine.specs.declared.event.WatchEvent.{WatchEvent}
+use Rattle.watch_machine.specs.declared.event.WatchEvent.TheVariants.{Clock, Looked, Renewed, Need, Begin, Known}
 use Rattle.watch_machine.specs.declared.event.Operation.{Operation}
 use Rattle.watch_machine.specs.declared.event.Operation.TheVariants.{Look, Renew}
-use Rattle.watch_machine.specs.declared.event.Reply.{Reply}
-use Rattle.watch_machine.specs.declared.event.Reply.TheVariants.{Told, Refused, Busy, Lost}
-use Rattle.watch_machine.specs.declared.event.Terms.{Terms}
+use Rattle.watch_machine.specs.declared.event.WatchReply.{WatchReply}
+use Rattle.watch_machine.specs.declared.event.WatchReply.TheVariants.{Told, Refused, Busy, Lost}
+use Rattle.watch_machine.specs.declared.event.WatchTerms.{WatchTerms}
 use Rattle.watch_machine.specs.declared.fault.WatchFault.{WatchFault}
-use Rattle.watch_machine.specs.declared.lanes.Answer.{Answer}
+use Rattle.watch_machine.specs.declared.lanes.LaneAnswer.{LaneAnswer}
 use Rattle.watch_machine.specs.declared.lanes.Out.{Out}
 use Rattle.watch_machine.specs.declared.lanes.Presence.{Presence}
-use Rattle.watch_machine.specs.declared.notes.Why.{Why}
+use Rattle.watch_machine.specs.declared.notes.BeginReason.{BeginReason}
 use Rattle.watch_machine.specs.declared.track.Track.{Track}
 use Rattle.watch_machine.specs.declared.track.Try.{Try}
 use Rattle.watch_machine.specs.Answers.{answers_all, back_track, heard, is_back, lane_freed, noted, presence_gone, replied, silent, without_request}
@@ -122,7 +122,7 @@ rid_heard i operation (o ∷ out) q found hears once =
       by false p xs ys h = h
 
 -- what goes out has heard of none
-new_unheard : (at : ℕ) (rs : List Request) → unheard (map (out_at at) rs) ≡ length rs
+new_unheard : (at : ℕ) (rs : List WatchRequest) → unheard (map (out_at at) rs) ≡ length rs
 new_unheard at [] = refl
 new_unheard at (r ∷ rs) = ap (λ n. suc n) (new_unheard at rs)
 
@@ -173,7 +173,7 @@ some_later p at xs s (j ∷ js) same all =
 
 -- the requests that go out at a clock
 goes_spares :
-    (width n : ℕ) (s : WatchState) (requests : List Request) (lanes : ℕ) → is_none s.begun ≡ false → s.answers ≡ [] → s.width ≡ width → lanes ≡ s.width - length s.out → length s.out ≤ width →
+    (width n : ℕ) (s : WatchState) (requests : List WatchRequest) (lanes : ℕ) → is_none s.begun ≡ false → s.answers ≡ [] → s.width ≡ width → lanes ≡ s.width - length s.out → length s.out ≤ width →
     ((n ≡ 0) ⊎ ((s.presence.hold ≤ s.clocks.at) × (n ≤ unheard s.out))) → Goes s.forest s.presence s.clocks.at s.tracks lanes requests →
     Spares width (length (filter (is_later (sent s requests)) requests) + n) (sent s requests)
 goes_spares width n s requests lanes begun' answers wide free fits so h =
@@ -182,7 +182,7 @@ goes_spares width n s requests lanes begun' answers wide free fits so h =
     let at = s.clocks.at in
     let same : (j : ℕ) → attempt_at new j ≡ (track_in s.tracks j).attempt =
     λ j. each_kept (λ y x. y.attempt ≡ x.attempt) refl (sent_in at requests) s.tracks
-    (λ k x. if_both (λ (y : Track). y.attempt ≡ x.attempt) (list_any (λ (r : Request). r.entry == k) requests) (sent_track at x) x refl refl) j in
+    (λ k x. if_both (λ (y : Track). y.attempt ≡ x.attempt) (list_any (λ (r : WatchRequest). r.entry == k) requests) (sent_track at x) x refl refl) j in
     let these = some_later p at s.tracks new h.entries same h.due in
     let count = ap (λ rs. length (filter (is_later new) rs)) h.requests_are in
     let filtered = length-filter (is_later new) requests in
@@ -211,7 +211,7 @@ goes_spares width n s requests lanes begun' answers wide free fits so h =
 
 -- a clock that does not set the hold
 kept_hold :
-    (margin at : ℕ) (xs : List Track) (answers : List Answer) (p : Presence) → list_any is_silent answers ≡ false → (presence_after margin at xs answers p).hold ≡ p.hold
+    (margin at : ℕ) (xs : List Track) (answers : List LaneAnswer) (p : Presence) → list_any is_silent answers ≡ false → (presence_after margin at xs answers p).hold ≡ p.hold
 unfolding presence_after held_back
 kept_hold margin at xs answers p quiet =
     ap (λ (q : Presence). q.hold)
@@ -220,7 +220,7 @@ kept_hold margin at xs answers p quiet =
       right true b h = h
       right false b h = refl
 
-begun_answers : (s : WatchState) (w : Option Why) → (begun s w).answers ≡ s.answers
+begun_answers : (s : WatchState) (w : Option BeginReason) → (begun s w).answers ≡ s.answers
 begun_answers s None = refl
 begun_answers s (Some w) = refl
 
@@ -229,7 +229,7 @@ unfolding readied
 readied_answers s wall elapsed = begun_answers (settled (timed s wall elapsed)) (why s wall elapsed)
 
 commanded :
-    (width n : ℕ) (s new : WatchState) (command : Command) → is_none s.begun ≡ false → s.answers ≡ [] → Fits width s →
+    (width n : ℕ) (s new : WatchState) (command : WatchCommand) → is_none s.begun ≡ false → s.answers ≡ [] → Fits width s →
     ((n ≡ 0) ⊎ ((s.presence.hold ≤ s.clocks.at) × (n ≤ unheard s.out))) → StepCommand s command new →
     Spares width (length (filter (is_later new) (requests_asked_by command)) + n) new
 commanded width n s new (Go requests until) begun' answers fits so h =
@@ -239,12 +239,12 @@ commanded width n s new (Go requests until) begun' answers fits so h =
 commanded width n s new Taken begun' answers fits so h = absurd h
 
 -- the clock of a command is that of its state
-same_clock : (s new : WatchState) (command : Command) → StepCommand s command new → new.clocks ≡ s.clocks
+same_clock : (s new : WatchState) (command : WatchCommand) → StepCommand s command new → new.clocks ≡ s.clocks
 same_clock s new (Go requests until) h = ap (λ (x : WatchState). x.clocks) h.0.1
 same_clock s new Taken h = absurd h
 
 clock_spares :
-    (width n : ℕ) (old new : WatchState) (wall elapsed : ℕ) (output : Output) → StepClock old wall elapsed output new → Fits width old → old.presence.away ≡ true →
+    (width n : ℕ) (old new : WatchState) (wall elapsed : ℕ) (output : WatchOutput) → StepClock old wall elapsed output new → Fits width old → old.presence.away ≡ true →
     (Sets old (record { event = Clock wall elapsed; result = Ok output; state = new }) → ⊥) → Spares width n old →
     Spares width (length (filter (is_later new) (requests_asked_by output.command)) + n) new
 clock_spares width n old new wall elapsed output step fits away never h =
@@ -278,21 +278,21 @@ or_more : (a b c : Bool) → (b ≡ true → c ≡ true) → a || b ≡ true →
 or_more true b c more h = refl
 or_more false b c more h = more h
 
-any_left : (p : Answer → Bool) (xs ys : List Answer) → list_any p xs ≡ true → list_any p (xs ++ ys) ≡ true
+any_left : (p : LaneAnswer → Bool) (xs ys : List LaneAnswer) → list_any p xs ≡ true → list_any p (xs ++ ys) ≡ true
 any_left p [] ys h = absurd cc
 any_left p (x ∷ xs) ys h = or_more (p x) (list_any p xs) (list_any p (xs ++ ys)) (any_left p xs ys) h
 
-any_last : (p : Answer → Bool) (xs : List Answer) (a : Answer) → p a ≡ true → list_any p (xs ++ a ∷ []) ≡ true
+any_last : (p : LaneAnswer → Bool) (xs : List LaneAnswer) (a : LaneAnswer) → p a ≡ true → list_any p (xs ++ a ∷ []) ≡ true
 any_last p [] a h = ap (λ b. b || false) h
 any_last p (x ∷ xs) a h = or_right (p x) (list_any p (xs ++ a ∷ [])) (any_last p xs a h)
 
-real_back : (s : WatchState) (q : Out) (reply : Reply) → s.presence.away ≡ true → is_real reply ≡ true → (replied s q reply).presence.away ≡ false
+real_back : (s : WatchState) (q : Out) (reply : WatchReply) → s.presence.away ≡ true → is_real reply ≡ true → (replied s q reply).presence.away ≡ false
 real_back s q reply away real =
     let free = lane_freed s q in
     ap (λ (t : WatchState). t.presence.away) (cond-true (is_real reply) (answers_all free) (if q.heard then free else silent free) real)
     ∙ ap (λ (t : WatchState). t.presence.away) (cond-true s.presence.away (record free { out = map heard free.out; tracks = each (λ i. back_track) s.tracks; presence = is_back s.presence }) (record free { out = map heard free.out }) away)
 
-lost_frees : (s : WatchState) (q : Out) (reply : Reply) → s.presence.away ≡ true → is_real reply ≡ false → replied s q reply ≡ lane_freed s q
+lost_frees : (s : WatchState) (q : Out) (reply : WatchReply) → s.presence.away ≡ true → is_real reply ≡ false → replied s q reply ≡ lane_freed s q
 lost_frees s q reply away lost =
     let free = lane_freed s q in
     cond-false (is_real reply) (answers_all free) (if q.heard then free else silent free) lost
@@ -300,7 +300,7 @@ lost_frees s q reply away lost =
 
 -- it leaves all that have gone out, or it tells of none
 answer_spares :
-    (width n : ℕ) (old mid new : WatchState) (q : Out) (reply : Reply) (i : ℕ) (operation : Operation) → request_out old.out i operation ≡ Some q → q.entry ≡ i → new ≡ replied mid q reply →
+    (width n : ℕ) (old mid new : WatchState) (q : Out) (reply : WatchReply) (i : ℕ) (operation : Operation) → request_out old.out i operation ≡ Some q → q.entry ≡ i → new ≡ replied mid q reply →
     mid.out ≡ old.out → mid.answers ≡ (noted old q reply).answers → mid.presence ≡ old.presence → mid.clocks ≡ old.clocks → mid.begun ≡ old.begun → old.presence.away ≡ true →
     new.presence.away ≡ true → IsAlone old → Spares width n old → Spares width n new
 answer_spares width n old mid new q reply i operation found entry is out answers presence clocks begun' away still alone h =
@@ -308,7 +308,7 @@ answer_spares width n old mid new q reply i operation found entry is out answers
       | inl real ↦ absurd (not_both still (ap (λ (x : WatchState). x.presence.away) is ∙ real_back mid q reply (ap (λ (p : Presence). p.away) presence ∙ away) real))
       | inr lost ↦
           let freed : new ≡ lane_freed mid q = is ∙ lost_frees mid q reply (ap (λ (p : Presence). p.away) presence ∙ away) lost in
-          let a : Answer = record { since = q.since; heard = q.heard; reply = reply } in
+          let a : LaneAnswer = record { since = q.since; heard = q.heard; reply = reply } in
           let these : new.answers ≡ old.answers ++ a ∷ [] = ap (λ (x : WatchState). x.answers) freed ∙ answers in
           let left : new.out ≡ without_request i old.out = ap (λ (x : WatchState). x.out) freed ∙ ap (λ k. without_request k mid.out) entry ∙ ap (without_request i) out in
           record {
@@ -337,12 +337,12 @@ answer_spares width n old mid new q reply i operation found entry is out answers
           }
     ]
 
-pub looked_answers : (s : WatchState) (q : Out) (reply : Reply) (terms : Terms) → (looked s q reply terms).answers ≡ s.answers
+pub looked_answers : (s : WatchState) (q : Out) (reply : WatchReply) (terms : WatchTerms) → (looked s q reply terms).answers ≡ s.answers
 looked_answers s q (Told seconds renewable date) terms = refl
 looked_answers s q _ terms = refl
 
 looked_spares :
-    (width n : ℕ) (old new : WatchState) (found : Option Out) (j : ℕ) (reply : Reply) (terms : Terms) (output : Output) → request_out old.out j Look ≡ found → StepLooked old found reply terms output new →
+    (width n : ℕ) (old new : WatchState) (found : Option Out) (j : ℕ) (reply : WatchReply) (terms : WatchTerms) (output : WatchOutput) → request_out old.out j Look ≡ found → StepLooked old found reply terms output new →
     old.presence.away ≡ true → new.presence.away ≡ true → IsAlone old → Spares width n old → Spares width n new
 looked_spares width n old new None j reply terms output is step away still alone h = absurd step
 looked_spares width n old new (Some q) j reply terms output is step away still alone h =
@@ -352,23 +352,23 @@ looked_spares width n old new (Some q) j reply terms output is step away still a
     (looked_presence s q reply terms) (ap (λ (x : WatchState). x.clocks) rest) (ap (λ (x : WatchState). x.begun) rest) away still alone h
 
 renewed_spares :
-    (width n : ℕ) (old new : WatchState) (found : Option Out) (j : ℕ) (reply : Reply) (output : Output) → request_out old.out j Renew ≡ found → StepRenewed old found reply output new →
+    (width n : ℕ) (old new : WatchState) (found : Option Out) (j : ℕ) (reply : WatchReply) (output : WatchOutput) → request_out old.out j Renew ≡ found → StepRenewed old found reply output new →
     old.presence.away ≡ true → new.presence.away ≡ true → IsAlone old → Spares width n old → Spares width n new
 renewed_spares width n old new None j reply output is step away still alone h = absurd step
 renewed_spares width n old new (Some q) j reply output is step away still alone h =
     answer_spares width n old (state_renewed (noted old q reply) q reply) new q reply j Renew is (out_entry old.out j Renew q is) step.1 refl refl refl refl refl away still alone h
 
 -- nothing goes out but at a clock
-quiet : (width n : ℕ) (output out : Output) (new : WatchState) → output ≡ out → requests_asked_by out.command ≡ [] → Spares width n new → Spares width (length (filter (is_later new) (requests_asked_by output.command)) + n) new
+quiet : (width n : ℕ) (output out : WatchOutput) (new : WatchState) → output ≡ out → requests_asked_by out.command ≡ [] → Spares width n new → Spares width (length (filter (is_later new) (requests_asked_by output.command)) + n) new
 quiet width n output out new is none h =
-    let zero' : length (filter (is_later new) (requests_asked_by output.command)) ≡ 0 = ap (λ (x : Output). length (filter (is_later new) (requests_asked_by x.command))) is ∙ ap (λ rs. length (filter (is_later new) rs)) none in
+    let zero' : length (filter (is_later new) (requests_asked_by output.command)) ≡ 0 = ap (λ (x : WatchOutput). length (filter (is_later new) (requests_asked_by x.command))) is ∙ ap (λ rs. length (filter (is_later new) rs)) none in
     subst (λ m. Spares width m new) (let e : n ≡ length (filter (is_later new) (requests_asked_by output.command)) + n = omega (arith, zero') in e) h
 
-looked_quiet : (output : Output) (old new : WatchState) (found : Option Out) (reply : Reply) (terms : Terms) (width n : ℕ) → StepLooked old found reply terms output new → Spares width n new → Spares width (length (filter (is_later new) (requests_asked_by output.command)) + n) new
+looked_quiet : (output : WatchOutput) (old new : WatchState) (found : Option Out) (reply : WatchReply) (terms : WatchTerms) (width n : ℕ) → StepLooked old found reply terms output new → Spares width n new → Spares width (length (filter (is_later new) (requests_asked_by output.command)) + n) new
 looked_quiet output old new None reply terms width n step h = absurd step
 looked_quiet output old new (Some q) reply terms width n step h = quiet width n output _ new step.0 refl h
 
-renewed_quiet : (output : Output) (old new : WatchState) (found : Option Out) (reply : Reply) (width n : ℕ) → StepRenewed old found reply output new → Spares width n new → Spares width (length (filter (is_later new) (requests_asked_by output.command)) + n) new
+renewed_quiet : (output : WatchOutput) (old new : WatchState) (found : Option Out) (reply : WatchReply) (width n : ℕ) → StepRenewed old found reply output new → Spares width n new → Spares width (length (filter (is_later new) (requests_asked_by output.command)) + n) new
 renewed_quiet output old new None reply width n step h = absurd step
 renewed_quiet output old new (Some q) reply width n step h = quiet width n output _ new step.0 refl h
 
@@ -393,7 +393,7 @@ left_spares width n old new out answers presence clocks begun' h = record {
 }
 
 step_spares :
-    (width n : ℕ) (old new : WatchState) (event : Event) (output : Output) → Step old event output new → Fits width old → IsAlone old → old.presence.away ≡ true → new.presence.away ≡ true →
+    (width n : ℕ) (old new : WatchState) (event : WatchEvent) (output : WatchOutput) → Step old event output new → Fits width old → IsAlone old → old.presence.away ≡ true → new.presence.away ≡ true →
     (Sets old (record { event = event; result = Ok output; state = new }) → ⊥) → Spares width n old → Spares width (length (filter (is_later new) (requests_asked_by output.command)) + n) new
 step_spares width n old new (Clock wall elapsed) output step fits alone away still never h = clock_spares width n old new wall elapsed output step fits away never h
 step_spares width n old new (Looked j reply terms) output step fits alone away still never h =
@@ -408,7 +408,7 @@ step_spares width n old new (Known j end renewable) output step fits alone away 
     quiet width n output _ new step.0 refl (subst (Spares width n) (sym step.1) (left_spares width n old (known old j end renewable) refl refl refl refl refl h))
 
 turn_spares :
-    (width n : ℕ) (old new : WatchState) (event : Event) (result : Result Output WatchFault) → Turn old event result new → Fits width old → IsAlone old → old.presence.away ≡ true → new.presence.away ≡ true →
+    (width n : ℕ) (old new : WatchState) (event : WatchEvent) (result : Result WatchOutput WatchFault) → Turn old event result new → Fits width old → IsAlone old → old.presence.away ≡ true → new.presence.away ≡ true →
     (Sets old (record { event = event; result = result; state = new }) → ⊥) → Spares width n old → Spares width (length (filter (is_later new) (requests_at_turn result)) + n) new
 turn_spares width n old new event (Ok output) turn fits alone away still never h = step_spares width n old new event output turn.1 fits alone away still never h
 turn_spares width n old new event (Err fault) turn fits alone away still never h =

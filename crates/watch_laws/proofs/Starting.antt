@@ -5,8 +5,8 @@ use Rattle.std.proofs.lemmas.Bool.{cases_Bool}
 use Rattle.std.proofs.lemmas.Bool.Decides.{nat_tests}
 use Rattle.std.proofs.lemmas.List.Elements.{All-head, All-nil, All-tail}
 use Rattle.watch_machine.specs.declared.lanes.Out.{Out}
-use Rattle.watch_machine.specs.declared.command.Output.{Output}
-use Rattle.watch_machine.specs.declared.event.Event.{Event}
+use Rattle.watch_machine.specs.declared.command.WatchOutput.{WatchOutput}
+use Rattle.watch_machine.specs.declared.event.WatchEvent.{WatchEvent}
 use Rattle.watch_machine.specs.declared.fault.WatchFault.{WatchFault}
 use Rattle.watch_machine.specs.History.{Turn, after_all}
 use Rattle.watch_machine.specs.State.{WatchState, opened}
@@ -125,7 +125,7 @@ starts_soon quick late rounds old last hs i reached wide happens clock taken' lo
 abbrev OfEntries : ℕ → WatchState → Type 0
 OfEntries n s = (length s.tracks ≡ n) × (IsPast s × Bounds n s)
 
-turn_entries : (n : ℕ) (old new : WatchState) (event : Event) (result : Result Output WatchFault) → Turn old event result new → OfEntries n old → OfEntries n new
+turn_entries : (n : ℕ) (old new : WatchState) (event : WatchEvent) (result : Result WatchOutput WatchFault) → Turn old event result new → OfEntries n old → OfEntries n new
 turn_entries n old new event result turn h =
     let count = h.0 in
     (turn_count old new event result turn ∙ h.0, (turn_past old new event result turn h.1.0, turn_bounds n old new event result turn (omega (arith, count)) h.1.0 h.1.1))

@@ -4,9 +4,9 @@ use Rattle.std.proofs.lemmas.Bool.{or_parts}
 use Rattle.std.specs.List.{list_any}
 use Rattle.plan_forest.specs.declared.entry.Entry.{Entry}
 use Rattle.plan_forest.specs.Forest.{entry_at}
-use Rattle.watch_machine.specs.declared.command.Output.{Output}
-use Rattle.watch_machine.specs.declared.command.Request.{Request}
-use Rattle.watch_machine.specs.declared.notes.Why.{Why}
+use Rattle.watch_machine.specs.declared.command.WatchOutput.{WatchOutput}
+use Rattle.watch_machine.specs.declared.command.WatchRequest.{WatchRequest}
+use Rattle.watch_machine.specs.declared.notes.BeginReason.{BeginReason}
 use Rattle.watch_machine.specs.declared.track.Track.{Track}
 use Rattle.watch_machine.specs.declared.track.Try.{Try}
 use Rattle.watch_machine.specs.Beginning.{begun, is_called, is_pressed, is_pressed_try, is_start, owing, owing_lookup, soon, sooner_try, untopped, untopped_track}
@@ -45,7 +45,7 @@ owing_keeps at first called x was =
     if_both P (called && (first || is_open (sec at) x)) (owing_lookup at x) x
     (if_both P x.out (record x { owes = true }) (record x { owes = true; attempt = Some (sooner_try (soon at x) x.attempt) }) was (sooner_keeps (soon at x) x.attempt was)) was
 
-begun_keeps : (s : WatchState) (w : Option Why) (i : ℕ) → Keeps (track_at (begun s w) i) (track_at s i)
+begun_keeps : (s : WatchState) (w : Option BeginReason) (i : ℕ) → Keeps (track_at (begun s w) i) (track_at s i)
 begun_keeps s None i = λ was. was
 begun_keeps s (Some w) i = λ was.
     let xs = untopped s.tracks in
@@ -83,9 +83,9 @@ unfolding asked_track press
 asked_stays need at round i x h =
     if_both (Stays need) (list_any (λ j. j == i) round) (asked_track at x) x (if_both (Stays need) x.out x (record x { attempt = Some (press at x) }) h (λ wanted. refl)) h
 
-sent_stays : (need at : ℕ) (requests : List Request) (i : ℕ) (x : Track) → Stays need x → Stays need (sent_in at requests i x)
+sent_stays : (need at : ℕ) (requests : List WatchRequest) (i : ℕ) (x : Track) → Stays need x → Stays need (sent_in at requests i x)
 unfolding wants
-sent_stays need at requests i x h = if_both (Stays need) (list_any (λ (r : Request). r.entry == i) requests) (sent_track at x) x h h
+sent_stays need at requests i x h = if_both (Stays need) (list_any (λ (r : WatchRequest). r.entry == i) requests) (sent_track at x) x h h
 
 mid_stays : (s : WatchState) (round : List ℕ) (i : ℕ) → is_pressed (track_at s i) ≡ true → Stays (need_of s.forest.entries s.tracks s.clocks i) (track_at (pressed s round) i)
 mid_stays s round i was =
@@ -98,7 +98,7 @@ mid_stays s round i was =
     (each_holds (Stays need) (none_stays need) (λ j. pressed_track g.margin (entry_at g.entries j) (need_of g.entries s.tracks c j) c.at) s.tracks i
     (fresh_stays g.margin (entry_at g.entries i) need c.at (track_at s i) was)))
 
-pub still_pressed_at : (old new : WatchState) (wall elapsed : ℕ) (output : Output) (i : ℕ) → Ticks old new wall elapsed output → is_wanted new i ≡ true → is_pressed (track_at old i) ≡ true → is_pressed (track_at new i) ≡ true
+pub still_pressed_at : (old new : WatchState) (wall elapsed : ℕ) (output : WatchOutput) (i : ℕ) → Ticks old new wall elapsed output → is_wanted new i ≡ true → is_pressed (track_at old i) ≡ true → is_pressed (track_at new i) ≡ true
 still_pressed_at old new wall elapsed output i h wanted was =
     let s = readied old wall elapsed in
     let mid = pressed s h.round in

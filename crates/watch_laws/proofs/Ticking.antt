@@ -5,8 +5,8 @@ use Rattle.std.proofs.lemmas.Bool.{and_from, and_parts, cases_Bool, cases_lt, eq
 use Rattle.std.proofs.lemmas.Bool.Decides.{nat_tests}
 use Rattle.std.proofs.lemmas.List.Elements.{All-weaker}
 use Rattle.std.specs.List.{list_any}
-use Rattle.watch_machine.specs.declared.command.Output.{Output}
-use Rattle.watch_machine.specs.declared.command.Request.{Request}
+use Rattle.watch_machine.specs.declared.command.WatchOutput.{WatchOutput}
+use Rattle.watch_machine.specs.declared.command.WatchRequest.{WatchRequest}
 use Rattle.watch_machine.specs.declared.lanes.Out.{Out}
 use Rattle.watch_machine.specs.declared.lanes.Presence.{Presence}
 use Rattle.watch_machine.specs.declared.track.Track.{Track}
@@ -85,7 +85,7 @@ any_lane test [] h = absurd cc
 any_lane test (q ∷ out) h = refl
 
 -- a clock that was lived
-pub record IsTick (f : Facts) (due : ℕ) (old new : WatchState) (wall elapsed : ℕ) (output : Output) : Type 0 where
+pub record IsTick (f : Facts) (due : ℕ) (old new : WatchState) (wall elapsed : ℕ) (output : WatchOutput) : Type 0 where
   pub ticks : Ticks old new wall elapsed output
   pub soon : (timed old wall elapsed).clocks.at ≤ due
   pub rises : old.clocks.at ≤ (timed old wall elapsed).clocks.at
@@ -97,7 +97,7 @@ pub record IsTick (f : Facts) (due : ℕ) (old new : WatchState) (wall elapsed :
   pub ahead : due < ms f.end
   pub by : due ≤ granted_by f.o f.time f.end
 
-module _ (f : Facts) (due : ℕ) (old new : WatchState) (wall elapsed : ℕ) (output : Output) (t : IsTick f due old new wall elapsed output) where
+module _ (f : Facts) (due : ℕ) (old new : WatchState) (wall elapsed : ℕ) (output : WatchOutput) (t : IsTick f due old new wall elapsed output) where
   abbrev o : Outage
   o = f.o
 
@@ -165,24 +165,24 @@ module _ (f : Facts) (due : ℕ) (old new : WatchState) (wall elapsed : ℕ) (ou
             absurd (not_both (flag_kept ∙ out) (sym same ∙ free))
       ]
 
-  named_marked : list_any (λ (r : Request). r.entry == i) t.ticks.requests ≡ true → i < length mid.tracks → (track_at new i).out ≡ true
+  named_marked : list_any (λ (r : WatchRequest). r.entry == i) t.ticks.requests ≡ true → i < length mid.tracks → (track_at new i).out ≡ true
   named_marked named low = ap (λ (x : WatchState). (track_at x i).out) t.ticks.new_is ∙ ap (λ (x : Track). x.out) (went mid t.ticks.requests i named low)
 
   attempt_kept : attempt_at new i ≡ attempt_at mid i
   attempt_kept =
       ap (λ (x : WatchState). attempt_at x i) t.ticks.new_is
       ∙ each_kept (λ (y x : Track). y.attempt ≡ x.attempt) refl (sent_in mid.clocks.at t.ticks.requests) mid.tracks
-      (λ j x. if_both (λ (y : Track). y.attempt ≡ x.attempt) (list_any (λ (r : Request). r.entry == j) t.ticks.requests) (sent_track mid.clocks.at x) x refl refl) i
+      (λ j x. if_both (λ (y : Track). y.attempt ≡ x.attempt) (list_any (λ (r : WatchRequest). r.entry == j) t.ticks.requests) (sent_track mid.clocks.at x) x refl refl) i
 
   mid_count : length mid.tracks ≡ length old.tracks
   mid_count = pressed_count (readied old wall elapsed) t.ticks.round ∙ readied_count old wall elapsed
 
   -- who is named was not out
-  named_free : list_any (λ (r : Request). r.entry == i) t.ticks.requests ≡ true → (track_at old i).out ≡ false
+  named_free : list_any (λ (r : WatchRequest). r.entry == i) t.ticks.requests ≡ true → (track_at old i).out ≡ false
   named_free named =
       let going = t.ticks.going in
       elim (one_sent mid.presence (sec mid.clocks.at) mid.clocks.at mid.tracks i going.entries (going.once i)) as (λ _. (track_at old i).out ≡ false) [
-        | inl none' ↦ absurd (not_both (sym (ap (list_any (λ (r : Request). r.entry == i)) going.requests_are) ∙ named) none'.1)
+        | inl none' ↦ absurd (not_both (sym (ap (list_any (λ (r : WatchRequest). r.entry == i)) going.requests_are) ∙ named) none'.1)
         | inr one ↦
             let due'' = named_of (λ j. (j < length mid.tracks) × (is_due mid.presence mid.clocks.at (track_in mid.tracks j) ≡ true)) i going.entries going.due one.1.1 in
             sym flag_kept ∙ (free_of mid.presence mid.clocks.at (track_at mid i) due''.1).0
@@ -191,7 +191,7 @@ module _ (f : Facts) (due : ℕ) (old new : WatchState) (wall elapsed : ℕ) (ou
   -- what was last asked: before, or now
   last_kept : (bound : ℕ) → rested (track_at mid i).last ≤ bound → ((track_at old i).out ≡ false → (track_at new i).out ≡ true → at + 1000 ≤ bound) → rested (track_at new i).last ≤ bound
   last_kept bound low newly =
-      elim (cases_Bool (list_any (λ (r : Request). r.entry == i) t.ticks.requests)) as (λ _. rested (track_at new i).last ≤ bound) [
+      elim (cases_Bool (list_any (λ (r : WatchRequest). r.entry == i) t.ticks.requests)) as (λ _. rested (track_at new i).last ≤ bound) [
         | inl named ↦
             let few = mid_count in
             let low' = within in
@@ -284,7 +284,7 @@ module _ (f : Facts) (due : ℕ) (old new : WatchState) (wall elapsed : ℕ) (ou
             (still_cutting bound miss h far)
             (λ k low due'' named is.
             let same : k ≡ i = sym (entry_by mid.presence (sec mid.clocks.at) mid.tracks k) ∙ is in
-            let named' = subst (λ j. list_any (λ (r : Request). r.entry == j) t.ticks.requests ≡ true) same named in
+            let named' = subst (λ j. list_any (λ (r : WatchRequest). r.entry == j) t.ticks.requests ≡ true) same named in
             let below = subst (λ j. j < length mid.tracks) same low in
             let goes' = newly (named_free named') (named_marked named' below) in
             (subst (λ n. is_request_whole o n ≡ false) (sym mid_clock) goes'.1.0, λ pressed'. (goes'.0, λ heard'. absurd cc)));
@@ -423,7 +423,7 @@ module _ (f : Facts) (due : ℕ) (old new : WatchState) (wall elapsed : ℕ) (ou
   none_anew from late = anew_none o from (f.n + f.width) new all_now late
 
 -- those that wait, from before a clock to after it
-module _ (f : Facts) (due : ℕ) (old new : WatchState) (wall elapsed : ℕ) (output : Output) (t : IsTick f due old new wall elapsed output) (sends : Sends old new f.n) (rest : ℕ) where
+module _ (f : Facts) (due : ℕ) (old new : WatchState) (wall elapsed : ℕ) (output : WatchOutput) (t : IsTick f due old new wall elapsed output) (sends : Sends old new f.n) (rest : ℕ) where
   abbrev before : ℕ
   before = waiting f.o f.n old + (how_many f.n (comes f.o old new) + rest)
 
@@ -872,7 +872,7 @@ module _ (f : Facts) (due : ℕ) (old new : WatchState) (wall elapsed : ℕ) (ou
       all_sent P old new wall elapsed output t.ticks h.whole
       (λ k low due'' named is.
       let same : k ≡ f.i = sym (entry_by (mid f due old new wall elapsed output t).presence (sec (mid f due old new wall elapsed output t).clocks.at) (mid f due old new wall elapsed output t).tracks k) ∙ is in
-      absurd (not_both marked (named_free f due old new wall elapsed output t (subst (λ j. list_any (λ (r : Request). r.entry == j) t.ticks.requests ≡ true) same named)))) in
+      absurd (not_both marked (named_free f due old new wall elapsed output t (subst (λ j. list_any (λ (r : WatchRequest). r.entry == j) t.ticks.requests ≡ true) same named)))) in
       let served = still_out old new wall elapsed output (λ (q : Out). q.entry == f.i && is_request_whole o q.since) t.ticks h.served in
       inr (inr (inl (record {
         served = served;

@@ -9,16 +9,16 @@ use Rattle.plan_forest.specs.declared.forest.TheConstants.{END_MAX}
 use Rattle.plan_forest.specs.Forest.{Forest, entry_at}
 use Rattle.plan_forest.proofs.Entries.{entry_at_set_other, entry_at_set_same}
 use Rattle.watch_machine.specs.declared.clocks.Clocks.{Clocks}
-use Rattle.watch_machine.specs.declared.command.Output.{Output}
-use Rattle.watch_machine.specs.declared.event.Event.{Event}
-use Rattle.watch_machine.specs.declared.event.Event.TheVariants.{Clock, Looked, Renewed, Need, Begin, Known}
+use Rattle.watch_machine.specs.declared.command.WatchOutput.{WatchOutput}
+use Rattle.watch_machine.specs.declared.event.WatchEvent.{WatchEvent}
+use Rattle.watch_machine.specs.declared.event.WatchEvent.TheVariants.{Clock, Looked, Renewed, Need, Begin, Known}
 use Rattle.watch_machine.specs.declared.event.Operation.TheVariants.{Look, Renew}
-use Rattle.watch_machine.specs.declared.event.Reply.{Reply}
-use Rattle.watch_machine.specs.declared.event.Reply.TheVariants.{Told, Refused, Busy, Lost}
-use Rattle.watch_machine.specs.declared.event.Terms.{Terms}
+use Rattle.watch_machine.specs.declared.event.WatchReply.{WatchReply}
+use Rattle.watch_machine.specs.declared.event.WatchReply.TheVariants.{Told, Refused, Busy, Lost}
+use Rattle.watch_machine.specs.declared.event.WatchTerms.{WatchTerms}
 use Rattle.watch_machine.specs.declared.fault.WatchFault.{WatchFault}
 use Rattle.watch_machine.specs.declared.lanes.Out.{Out}
-use Rattle.watch_machine.specs.declared.notes.Why.{Why}
+use Rattle.watch_machine.specs.declared.notes.BeginReason.{BeginReason}
 use Rattle.watch_machine.specs.declared.track.Track.{Track}
 use Rattle.watch_machine.specs.declared.track.Try.{Try}
 use Rattle.watch_machine.specs.declared.track.End.TheVariants.{At, Never}
@@ -61,7 +61,7 @@ back_bears : (x : Track) → bearing (back_track x) ≡ bearing x
 unfolding back_track
 back_bears x = refl
 
-module _ (mid : WatchState) (q : Out) (reply : Reply) (i : ℕ) where
+module _ (mid : WatchState) (q : Out) (reply : WatchReply) (i : ℕ) where
   abbrev tried : WatchState
   tried = with_told_try mid i
 
@@ -155,11 +155,11 @@ back_says : (seconds since : ℕ) (renewable endless : Bool) (x : Track) → Say
 unfolding back_track
 back_says seconds since renewable endless x h = record { end = h.end; goes_on = h.goes_on; owes = h.owes; out = h.out }
 
-module _ (old : WatchState) (q : Out) (seconds : ℕ) (renewable : Bool) (date : Option ℕ) (terms : Terms) (within : q.entry < length old.tracks) where
+module _ (old : WatchState) (q : Out) (seconds : ℕ) (renewable : Bool) (date : Option ℕ) (terms : WatchTerms) (within : q.entry < length old.tracks) where
   abbrev i : ℕ
   i = q.entry
 
-  abbrev telling : Reply
+  abbrev telling : WatchReply
   telling = Told seconds renewable date
 
   abbrev s : WatchState
@@ -229,7 +229,7 @@ module _ (old : WatchState) (q : Out) (seconds : ℕ) (renewable : Bool) (date :
       }
 
 told_turn :
-    (old new : WatchState) (event : Event) (result : Result Output WatchFault) (i seconds : ℕ) (renewable : Bool) (date : Option ℕ) (terms : Terms) (q : Out) → Turn old event result new → i < length old.tracks →
+    (old new : WatchState) (event : WatchEvent) (result : Result WatchOutput WatchFault) (i seconds : ℕ) (renewable : Bool) (date : Option ℕ) (terms : WatchTerms) (q : Out) → Turn old event result new → i < length old.tracks →
     event ≡ Looked i (Told seconds renewable date) terms → is_event_taken result ≡ true → request_out old.out i Look ≡ Some q → IsToldByLookup old new i seconds renewable terms q
 told_turn old new event (Err fault) i seconds renewable date terms q turn within is taken' asked = absurd (true≢false (sym taken'))
 told_turn old new event (Ok output) i seconds renewable date terms q turn within is taken' asked =
@@ -307,7 +307,7 @@ step_is : (margin step : ℕ) (o : Option ℕ) → step_told margin step o ≡ s
 step_is margin step None = refl
 step_is margin step (Some told) = refl
 
-terms_is : (margin : ℕ) (terms : Terms) (e : Entry) → by_terms margin terms e ≡ entry_by margin terms e
+terms_is : (margin : ℕ) (terms : WatchTerms) (e : Entry) → by_terms margin terms e ≡ entry_by margin terms e
 unfolding by_terms
 terms_is margin terms e =
     ap (λ n. record (entry_by margin terms e) { step = n; ceiling = option_map (λ t. min END_MAX t) terms.ceiling }) (step_is margin e.step terms.step)
@@ -321,7 +321,7 @@ one_is old new i e within is = record {
 }
 
 terms_turn :
-    (old new : WatchState) (event : Event) (result : Result Output WatchFault) (i seconds : ℕ) (renewable : Bool) (date : Option ℕ) (terms : Terms) → Turn old event result new → i < length old.forest.entries →
+    (old new : WatchState) (event : WatchEvent) (result : Result WatchOutput WatchFault) (i seconds : ℕ) (renewable : Bool) (date : Option ℕ) (terms : WatchTerms) → Turn old event result new → i < length old.forest.entries →
     event ≡ Looked i (Told seconds renewable date) terms → is_event_taken result ≡ true → OneIs old new i (entry_by old.forest.margin terms (entry_of old i))
 terms_turn old new event (Err fault) i seconds renewable date terms turn within is taken' = absurd (true≢false (sym taken'))
 terms_turn old new event (Ok output) i seconds renewable date terms turn within is taken' = by (request_out old.out i Look) refl (subst (λ e. Step old e output new) is turn.1) where
@@ -339,49 +339,49 @@ terms_turn old new event (Ok output) i seconds renewable date terms turn within 
       ∙ ap (λ v. record old.forest { entries = slice_set old.forest.entries i v }) (terms_is old.forest.margin terms (entry_of old i)))
 
 need_turn :
-    (old new : WatchState) (event : Event) (result : Result Output WatchFault) (i until : ℕ) → Turn old event result new → i < length old.forest.entries → event ≡ Need i until → is_event_taken result ≡ true →
+    (old new : WatchState) (event : WatchEvent) (result : Result WatchOutput WatchFault) (i until : ℕ) → Turn old event result new → i < length old.forest.entries → event ≡ Need i until → is_event_taken result ≡ true →
     OneIs old new i (record (entry_of old i) { need = min LAST until })
 need_turn old new event (Err fault) i until turn within is taken' = absurd (true≢false (sym taken'))
 need_turn old new event (Ok output) i until turn within is taken' =
     let step = subst (λ e. Step old e output new) is turn.1 in
     one_is old new i (record (entry_of old i) { need = min LAST until }) within (ap (λ (x : WatchState). x.forest) step.1)
 
-begun_forest : (s : WatchState) (w : Option Why) → (begun s w).forest ≡ s.forest
+begun_forest : (s : WatchState) (w : Option BeginReason) → (begun s w).forest ≡ s.forest
 begun_forest s None = refl
 begun_forest s (Some w) = refl
 
-clock_forest : (old new : WatchState) (wall elapsed : ℕ) (output : Output) → StepClock old wall elapsed output new → new.forest ≡ old.forest
+clock_forest : (old new : WatchState) (wall elapsed : ℕ) (output : WatchOutput) → StepClock old wall elapsed output new → new.forest ≡ old.forest
 unfolding readied
 clock_forest old new wall elapsed output step =
     ap (λ (x : WatchState). x.forest) (sent_by (pressed (readied old wall elapsed) (asked_by_round step.round)) new output.command step.command).1
     ∙ begun_forest (settled (timed old wall elapsed)) (why old wall elapsed)
 
-untold_forest : (s : WatchState) (q : Out) (reply : Reply) (terms : Terms) → writes (Looked q.entry reply terms) ≡ false → (looked s q reply terms).forest ≡ s.forest
+untold_forest : (s : WatchState) (q : Out) (reply : WatchReply) (terms : WatchTerms) → writes (Looked q.entry reply terms) ≡ false → (looked s q reply terms).forest ≡ s.forest
 untold_forest s q (Told seconds renewable date) terms none = absurd cc
 untold_forest s q _ terms none = refl
 
-no_writing : (i j : ℕ) (reply : Reply) (terms : Terms) → writes (Looked i reply terms) ≡ false → writes (Looked j reply terms) ≡ false
+no_writing : (i j : ℕ) (reply : WatchReply) (terms : WatchTerms) → writes (Looked i reply terms) ≡ false → writes (Looked j reply terms) ≡ false
 no_writing i j (Told seconds renewable date) terms none = none
 no_writing i j _ terms none = refl
 
-looked_forest : (old new : WatchState) (i : ℕ) (found : Option Out) (reply : Reply) (terms : Terms) (output : Output) → StepLooked old found reply terms output new → writes (Looked i reply terms) ≡ false → new.forest ≡ old.forest
+looked_forest : (old new : WatchState) (i : ℕ) (found : Option Out) (reply : WatchReply) (terms : WatchTerms) (output : WatchOutput) → StepLooked old found reply terms output new → writes (Looked i reply terms) ≡ false → new.forest ≡ old.forest
 looked_forest old new i None reply terms output step none = absurd step
 looked_forest old new i (Some q) reply terms output step none =
     let s = noted old q reply in
     ap (λ (x : WatchState). x.forest) step.1 ∙ replied_forest (looked s q reply terms) q reply ∙ untold_forest s q reply terms (no_writing i q.entry reply terms none)
 
-renewed_forest : (old new : WatchState) (found : Option Out) (reply : Reply) (output : Output) → StepRenewed old found reply output new → new.forest ≡ old.forest
+renewed_forest : (old new : WatchState) (found : Option Out) (reply : WatchReply) (output : WatchOutput) → StepRenewed old found reply output new → new.forest ≡ old.forest
 renewed_forest old new None reply output step = absurd step
 renewed_forest old new (Some q) reply output step = ap (λ (x : WatchState). x.forest) step.1 ∙ replied_forest (state_renewed (noted old q reply) q reply) q reply
 
-step_forest : (old new : WatchState) (event : Event) (output : Output) → Step old event output new → writes event ≡ false → new.forest ≡ old.forest
+step_forest : (old new : WatchState) (event : WatchEvent) (output : WatchOutput) → Step old event output new → writes event ≡ false → new.forest ≡ old.forest
 step_forest old new (Clock wall elapsed) output step none = clock_forest old new wall elapsed output step
 step_forest old new (Looked i reply terms) output step none = looked_forest old new i (request_out old.out i Look) reply terms output step none
 step_forest old new (Renewed i reply) output step none = renewed_forest old new (request_out old.out i Renew) reply output step
 step_forest old new (Need i until) output step none = absurd cc
 step_forest old new _ output step none = ap (λ (x : WatchState). x.forest) step.1
 
-turn_forest : (old new : WatchState) (event : Event) (result : Result Output WatchFault) → Turn old event result new → is_event_taken result && writes event ≡ false → new.forest ≡ old.forest
+turn_forest : (old new : WatchState) (event : WatchEvent) (result : Result WatchOutput WatchFault) → Turn old event result new → is_event_taken result && writes event ≡ false → new.forest ≡ old.forest
 turn_forest old new event (Ok output) turn none = step_forest old new event output turn.1 none
 turn_forest old new event (Err fault) turn none = ap (λ (x : WatchState). x.forest) (refused_stays old new event fault turn)
 
@@ -391,7 +391,7 @@ sooner_at from None = omega arith
 sooner_at from (Some t) = omega arith
 
 known_turn :
-    (old new : WatchState) (event : Event) (result : Result Output WatchFault) (i end : ℕ) (renewable : Bool) → Turn old event result new → i < length old.tracks → event ≡ Known i end renewable → is_event_taken result ≡ true →
+    (old new : WatchState) (event : WatchEvent) (result : Result WatchOutput WatchFault) (i end : ℕ) (renewable : Bool) → Turn old event result new → i < length old.tracks → event ≡ Known i end renewable → is_event_taken result ≡ true →
     IsHandedIn old new i end renewable
 unfolding owing_past
 known_turn old new event (Err fault) i end renewable turn within is taken' = absurd (true≢false (sym taken'))

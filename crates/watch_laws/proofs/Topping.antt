@@ -6,17 +6,17 @@ use Rattle.std.proofs.lemmas.List.{append-nil, get_or-map, get_or-set_other, get
 use Rattle.std.specs.List.{list_any}
 use Rattle.plan_forest.specs.declared.entry.Entry.{Entry}
 use Rattle.plan_forest.specs.Forest.{entry_at, no_entry}
-use Rattle.watch_machine.specs.declared.command.Output.{Output}
-use Rattle.watch_machine.specs.declared.command.Request.{Request}
-use Rattle.watch_machine.specs.declared.event.Event.{Event}
-use Rattle.watch_machine.specs.declared.event.Event.TheVariants.{Clock, Looked, Renewed, Need, Begin, Known}
+use Rattle.watch_machine.specs.declared.command.WatchOutput.{WatchOutput}
+use Rattle.watch_machine.specs.declared.command.WatchRequest.{WatchRequest}
+use Rattle.watch_machine.specs.declared.event.WatchEvent.{WatchEvent}
+use Rattle.watch_machine.specs.declared.event.WatchEvent.TheVariants.{Clock, Looked, Renewed, Need, Begin, Known}
 use Rattle.watch_machine.specs.declared.event.Operation.TheVariants.{Look, Renew}
-use Rattle.watch_machine.specs.declared.event.Reply.{Reply}
-use Rattle.watch_machine.specs.declared.event.Reply.TheVariants.{Told, Refused, Busy, Lost}
-use Rattle.watch_machine.specs.declared.event.Terms.{Terms}
+use Rattle.watch_machine.specs.declared.event.WatchReply.{WatchReply}
+use Rattle.watch_machine.specs.declared.event.WatchReply.TheVariants.{Told, Refused, Busy, Lost}
+use Rattle.watch_machine.specs.declared.event.WatchTerms.{WatchTerms}
 use Rattle.watch_machine.specs.declared.fault.WatchFault.{WatchFault}
 use Rattle.watch_machine.specs.declared.lanes.Out.{Out}
-use Rattle.watch_machine.specs.declared.notes.Why.{Why}
+use Rattle.watch_machine.specs.declared.notes.BeginReason.{BeginReason}
 use Rattle.watch_machine.specs.declared.track.End.{End}
 use Rattle.watch_machine.specs.declared.track.End.TheVariants.{Unknown, At, Never}
 use Rattle.watch_machine.specs.declared.track.Grant.{Grant}
@@ -94,10 +94,10 @@ asked_lower at round i x =
     if_both (λ y. Lower y x) (list_any (λ j. j == i) round) (asked_track at x) x
     (if_both (λ y. Lower y x) x.out x (record x { attempt = Some (press at x) }) (lower_same x) (refl, inl (refl, refl))) (lower_same x)
 
-sent_lower : (at : ℕ) (requests : List Request) (i : ℕ) (x : Track) → Lower (sent_in at requests i x) x
-sent_lower at requests i x = if_both (λ y. Lower y x) (list_any (λ (r : Request). r.entry == i) requests) (sent_track at x) x (refl, inl (refl, refl)) (lower_same x)
+sent_lower : (at : ℕ) (requests : List WatchRequest) (i : ℕ) (x : Track) → Lower (sent_in at requests i x) x
+sent_lower at requests i x = if_both (λ y. Lower y x) (list_any (λ (r : WatchRequest). r.entry == i) requests) (sent_track at x) x (refl, inl (refl, refl)) (lower_same x)
 
-begun_lower : (s : WatchState) (w : Option Why) (i : ℕ) → Lower (track_at (begun s w) i) (track_at s i)
+begun_lower : (s : WatchState) (w : Option BeginReason) (i : ℕ) → Lower (track_at (begun s w) i) (track_at s i)
 begun_lower s None i = lower_same (track_at s i)
 begun_lower s (Some w) i =
     let xs = untopped s.tracks in
@@ -112,7 +112,7 @@ readied_lower s wall elapsed i =
     lower_both (track_at (begun (settled t) (why s wall elapsed)) i) (track_at (settled t) i) (track_at s i) (begun_lower (settled t) (why s wall elapsed) i)
     (each_kept Lower (lower_same no_track) (λ j. settled_track t.forest.margin t.clocks.at) s.tracks (λ j x. settled_lower t.forest.margin t.clocks.at x) i)
 
-mid_lower : (s : WatchState) (round : List ℕ) (requests : List Request) (i : ℕ) → Lower (track_at (sent (pressed s round) requests) i) (track_at s i)
+mid_lower : (s : WatchState) (round : List ℕ) (requests : List WatchRequest) (i : ℕ) → Lower (track_at (sent (pressed s round) requests) i) (track_at s i)
 mid_lower s round requests i =
     let c = s.clocks in
     let g = s.forest in
@@ -123,7 +123,7 @@ mid_lower s round requests i =
     (each_kept Lower (lower_same no_track) (track_asked_in c.at round) alone (asked_lower c.at round) i)
     (each_kept Lower (lower_same no_track) (λ j. pressed_track g.margin (entry_at g.entries j) (need_of g.entries s.tracks c j) c.at) s.tracks (λ j x. pressed_lower g.margin (entry_at g.entries j) (need_of g.entries s.tracks c j) c.at x) i))
 
-clock_lower : (old new : WatchState) (wall elapsed : ℕ) (output : Output) (i : ℕ) → StepClock old wall elapsed output new → Lower (track_at new i) (track_at old i)
+clock_lower : (old new : WatchState) (wall elapsed : ℕ) (output : WatchOutput) (i : ℕ) → StepClock old wall elapsed output new → Lower (track_at new i) (track_at old i)
 clock_lower old new wall elapsed output i step =
     let ready = readied old wall elapsed in
     let is = sent_by (pressed ready (asked_by_round step.round)) new output.command step.command in
@@ -131,7 +131,7 @@ clock_lower old new wall elapsed output i step =
     (lower_both (track_at (sent (pressed ready (asked_by_round step.round)) is.0) i) (track_at ready i) (track_at old i) (mid_lower ready (asked_by_round step.round) is.0 i) (readied_lower old wall elapsed i))
 
 -- as many tracks
-begun_count : (s : WatchState) (w : Option Why) → length (begun s w).tracks ≡ length s.tracks
+begun_count : (s : WatchState) (w : Option BeginReason) → length (begun s w).tracks ≡ length s.tracks
 begun_count s None = refl
 begun_count s (Some w) = each_length _ (untopped s.tracks) ∙ each_length (λ j. untopped_track) s.tracks
 
@@ -139,7 +139,7 @@ pub readied_count : (s : WatchState) (wall elapsed : ℕ) → length (readied s 
 unfolding readied
 readied_count s wall elapsed = begun_count (settled (timed s wall elapsed)) (why s wall elapsed) ∙ each_length _ s.tracks
 
-clock_count : (old new : WatchState) (wall elapsed : ℕ) (output : Output) → StepClock old wall elapsed output new → length new.tracks ≡ length old.tracks
+clock_count : (old new : WatchState) (wall elapsed : ℕ) (output : WatchOutput) → StepClock old wall elapsed output new → length new.tracks ≡ length old.tracks
 clock_count old new wall elapsed output step =
     let ready = readied old wall elapsed in
     let mid = pressed ready (asked_by_round step.round) in
@@ -152,11 +152,11 @@ told_lower : (since seconds : ℕ) (renewable endless : Bool) (x : Track) → Lo
 unfolding told_track
 told_lower since seconds renewable endless x = (refl, inl (refl, refl))
 
-untold_lower : (at : ℕ) (heard : Bool) (reply : Reply) (x : Track) → Lower (untold_track at heard reply x) x
+untold_lower : (at : ℕ) (heard : Bool) (reply : WatchReply) (x : Track) → Lower (untold_track at heard reply x) x
 unfolding untold_track
 untold_lower at heard reply x = (refl, inl (refl, refl))
 
-looked_lower : (s : WatchState) (r : Out) (reply : Reply) (terms : Terms) (i : ℕ) → Lower (track_at (looked s r reply terms) i) (track_at s i)
+looked_lower : (s : WatchState) (r : Out) (reply : WatchReply) (terms : WatchTerms) (i : ℕ) → Lower (track_at (looked s r reply terms) i) (track_at s i)
 looked_lower s r (Told seconds renewable date) terms i =
     let mid = told_state s r.entry r.since seconds renewable terms in
     lower_both (track_at (looked s r (Told seconds renewable date) terms) i) (track_at mid i) (track_at s i) (set_kept Lower lower_same mid.tracks r.entry _ (refl, inl (refl, refl)) i)
@@ -169,7 +169,7 @@ looked_lower s r Lost terms i = set_kept Lower lower_same s.tracks r.entry _ (un
 abbrev Alike : Track → Track → Type 0
 Alike y x = Lower y x × (y.end ≡ x.end)
 
-after_alike : (s : WatchState) (r : Out) (reply : Reply) (i : ℕ) → Alike (track_at (replied s r reply) i) (track_at s i)
+after_alike : (s : WatchState) (r : Out) (reply : WatchReply) (i : ℕ) → Alike (track_at (replied s r reply) i) (track_at s i)
 unfolding back_track
 after_alike s r reply i = back_kept Alike (λ x. (lower_same x, refl)) (λ x. ((refl, inl (refl, refl)), refl)) s r reply i
 
@@ -225,7 +225,7 @@ unfolding granted_from
 granted_end step at seconds renewable from' x = refl
 
 -- the answer to a renewal: of the entry itself
-ungranted_lower : (at : ℕ) (heard : Bool) (reply : Reply) (x : Track) → Lower (ungranted_track at heard reply x) x
+ungranted_lower : (at : ℕ) (heard : Bool) (reply : WatchReply) (x : Track) → Lower (ungranted_track at heard reply x) x
 unfolding ungranted_track
 ungranted_lower at heard reply x = (refl, inl (refl, refl))
 
@@ -233,7 +233,7 @@ pub none_more : (gs : List Granted) (x : Track) → Kept gs x → Kept (gs ++ []
 none_more gs x k = subst (λ ys. Kept ys x) (sym (append-nil gs)) k
 
 own_renewed :
-    (s new : WatchState) (r : Out) (reply : Reply) (i : ℕ) (gs : List Granted) → i < length s.tracks → r.entry ≡ i → Alike (track_at new i) (track_at (state_renewed s r reply) i) → Kept gs (track_at s i) →
+    (s new : WatchState) (r : Out) (reply : WatchReply) (i : ℕ) (gs : List Granted) → i < length s.tracks → r.entry ≡ i → Alike (track_at new i) (track_at (state_renewed s r reply) i) → Kept gs (track_at s i) →
     Kept (gs ++ grant_told i new reply) (track_at new i)
 unfolding renewed_track
 own_renewed s new r (Told seconds renewable date) i gs within own alike k =
@@ -265,7 +265,7 @@ same_index i = grind (arith, nat_tests)
 
 -- or of another
 renewed_kept :
-    (old new : WatchState) (o : Option Out) (j i : ℕ) (reply : Reply) (output : Output) (gs : List Granted) → request_out old.out j Renew ≡ o → StepRenewed old o reply output new →
+    (old new : WatchState) (o : Option Out) (j i : ℕ) (reply : WatchReply) (output : WatchOutput) (gs : List Granted) → request_out old.out j Renew ≡ o → StepRenewed old o reply output new →
     i < length old.tracks → Kept gs (track_at old i) → Kept (gs ++ grant_by i new (Renewed j reply)) (track_at new i)
 renewed_kept old new None j i reply output gs is step within k = absurd step
 renewed_kept old new (Some r) j i reply output gs is step within k =
@@ -285,7 +285,7 @@ renewed_kept old new (Some r) j i reply output gs is step within k =
     ]
 
 looked_kept :
-    (old new : WatchState) (o : Option Out) (i : ℕ) (reply : Reply) (terms : Terms) (output : Output) → StepLooked old o reply terms output new → Lower (track_at new i) (track_at old i)
+    (old new : WatchState) (o : Option Out) (i : ℕ) (reply : WatchReply) (terms : WatchTerms) (output : WatchOutput) → StepLooked old o reply terms output new → Lower (track_at new i) (track_at old i)
 looked_kept old new None i reply terms output step = absurd step
 looked_kept old new (Some r) i reply terms output step =
     let s = noted old r reply in
@@ -301,7 +301,7 @@ known_lower : (at end : ℕ) (renewable : Bool) (x : Track) → Lower (owing_pas
 known_lower at end renewable x = known_is (λ y. Lower y x) at end renewable x (refl, inl (refl, refl)) (λ out. (refl, inl (refl, refl))) (λ free. (refl, inl (refl, refl)))
 
 -- whatever is no grant of an entry leaves it so
-renewed_untold : (s : WatchState) (r : Out) (reply : Reply) (i : ℕ) → is_told reply ≡ false → Lower (track_at (state_renewed s r reply) i) (track_at s i)
+renewed_untold : (s : WatchState) (r : Out) (reply : WatchReply) (i : ℕ) → is_told reply ≡ false → Lower (track_at (state_renewed s r reply) i) (track_at s i)
 unfolding renewed_track
 renewed_untold s r (Told seconds renewable date) i none = absurd cc
 renewed_untold s r (Refused status date) i none = set_kept Lower lower_same s.tracks r.entry _ (ungranted_lower s.clocks.at r.heard (Refused status date) (track_at s r.entry)) i
@@ -309,7 +309,7 @@ renewed_untold s r Busy i none = set_kept Lower lower_same s.tracks r.entry _ (u
 renewed_untold s r Lost i none = set_kept Lower lower_same s.tracks r.entry _ (ungranted_lower s.clocks.at r.heard Lost (track_at s r.entry)) i
 
 renewed_lower :
-    (old new : WatchState) (o : Option Out) (j i : ℕ) (reply : Reply) (output : Output) → request_out old.out j Renew ≡ o → StepRenewed old o reply output new → j == i && is_told reply ≡ false →
+    (old new : WatchState) (o : Option Out) (j i : ℕ) (reply : WatchReply) (output : WatchOutput) → request_out old.out j Renew ≡ o → StepRenewed old o reply output new → j == i && is_told reply ≡ false →
     Lower (track_at new i) (track_at old i)
 renewed_lower old new None j i reply output is step none = absurd step
 renewed_lower old new (Some r) j i reply output is step none =
@@ -324,7 +324,7 @@ renewed_lower old new (Some r) j i reply output is step none =
           subst (λ y. Lower (track_at new i) y) (get_or-set_other s.tracks r.entry i (track_renewed s r reply) no_track apart) alike.0
     ]
 
-step_lower : (old new : WatchState) (event : Event) (output : Output) (i : ℕ) → Step old event output new → is_grant_of i event ≡ false → Lower (track_at new i) (track_at old i)
+step_lower : (old new : WatchState) (event : WatchEvent) (output : WatchOutput) (i : ℕ) → Step old event output new → is_grant_of i event ≡ false → Lower (track_at new i) (track_at old i)
 step_lower old new (Clock wall elapsed) output i step none = clock_lower old new wall elapsed output i step
 step_lower old new (Looked j reply terms) output i step none = looked_kept old new (request_out old.out j Look) i reply terms output step
 step_lower old new (Renewed j reply) output i step none = renewed_lower old new (request_out old.out j Renew) j i reply output refl step none
@@ -333,12 +333,12 @@ step_lower old new (Known j end renewable) output i step none =
 step_lower old new _ output i step none = subst (λ (x : WatchState). Lower (track_at x i) (track_at old i)) (sym step.1) (lower_same (track_at old i))
 
 pub turn_lower :
-    (old new : WatchState) (event : Event) (result : Result Output WatchFault) (i : ℕ) → Turn old event result new → is_event_taken result && is_grant_of i event ≡ false → Lower (track_at new i) (track_at old i)
+    (old new : WatchState) (event : WatchEvent) (result : Result WatchOutput WatchFault) (i : ℕ) → Turn old event result new → is_event_taken result && is_grant_of i event ≡ false → Lower (track_at new i) (track_at old i)
 turn_lower old new event (Ok output) i turn none = step_lower old new event output i turn.1 none
 turn_lower old new event (Err fault) i turn none = subst (λ (x : WatchState). Lower (track_at x i) (track_at old i)) (sym (refused_stays old new event fault turn)) (lower_same (track_at old i))
 
 step_kept :
-    (old new : WatchState) (event : Event) (output : Output) (i : ℕ) (gs : List Granted) → Step old event output new → i < length old.tracks → Kept gs (track_at old i) →
+    (old new : WatchState) (event : WatchEvent) (output : WatchOutput) (i : ℕ) (gs : List Granted) → Step old event output new → i < length old.tracks → Kept gs (track_at old i) →
     Kept (gs ++ grant_by i new event) (track_at new i)
 step_kept old new (Clock wall elapsed) output i gs step within k = quiet_kept old new i gs (clock_lower old new wall elapsed output i step) k
 step_kept old new (Looked j reply terms) output i gs step within k = quiet_kept old new i gs (looked_kept old new (request_out old.out j Look) i reply terms output step) k
@@ -349,27 +349,27 @@ step_kept old new Begin output i gs step within k = quiet_kept old new i gs (sub
 step_kept old new (Known j end renewable) output i gs step within k =
     quiet_kept old new i gs (subst (λ (x : WatchState). Lower (track_at x i) (track_at old i)) (sym step.1) (set_kept Lower lower_same old.tracks j _ (known_lower old.clocks.at end renewable (track_at old j)) i)) k
 
-looked_many : (old new : WatchState) (o : Option Out) (reply : Reply) (terms : Terms) (output : Output) → StepLooked old o reply terms output new → length new.tracks ≡ length old.tracks
+looked_many : (old new : WatchState) (o : Option Out) (reply : WatchReply) (terms : WatchTerms) (output : WatchOutput) → StepLooked old o reply terms output new → length new.tracks ≡ length old.tracks
 looked_many old new None reply terms output step = absurd step
 looked_many old new (Some r) reply terms output step = ap (λ (x : WatchState). length x.tracks) step.1 ∙ looked_count old r reply terms
 
-renewed_many : (old new : WatchState) (o : Option Out) (reply : Reply) (output : Output) → StepRenewed old o reply output new → length new.tracks ≡ length old.tracks
+renewed_many : (old new : WatchState) (o : Option Out) (reply : WatchReply) (output : WatchOutput) → StepRenewed old o reply output new → length new.tracks ≡ length old.tracks
 renewed_many old new None reply output step = absurd step
 renewed_many old new (Some r) reply output step = ap (λ (x : WatchState). length x.tracks) step.1 ∙ renewed_count old r reply
 
-step_count : (old new : WatchState) (event : Event) (output : Output) → Step old event output new → length new.tracks ≡ length old.tracks
+step_count : (old new : WatchState) (event : WatchEvent) (output : WatchOutput) → Step old event output new → length new.tracks ≡ length old.tracks
 step_count old new (Clock wall elapsed) output step = clock_count old new wall elapsed output step
 step_count old new (Looked j reply terms) output step = looked_many old new (request_out old.out j Look) reply terms output step
 step_count old new (Renewed j reply) output step = renewed_many old new (request_out old.out j Renew) reply output step
 step_count old new (Known j end renewable) output step = ap (λ (x : WatchState). length x.tracks) step.1 ∙ set_count old j _
 step_count old new _ output step = ap (λ (x : WatchState). length x.tracks) step.1
 
-pub turn_count : (old new : WatchState) (event : Event) (result : Result Output WatchFault) → Turn old event result new → length new.tracks ≡ length old.tracks
+pub turn_count : (old new : WatchState) (event : WatchEvent) (result : Result WatchOutput WatchFault) → Turn old event result new → length new.tracks ≡ length old.tracks
 turn_count old new event (Ok output) turn = step_count old new event output turn.1
 turn_count old new event (Err fault) turn = ap (λ (x : WatchState). length x.tracks) (refused_stays old new event fault turn)
 
 pub turn_kept :
-    (old new : WatchState) (event : Event) (result : Result Output WatchFault) (i : ℕ) (gs : List Granted) → Turn old event result new → i < length old.tracks → Kept gs (track_at old i) →
+    (old new : WatchState) (event : WatchEvent) (result : Result WatchOutput WatchFault) (i : ℕ) (gs : List Granted) → Turn old event result new → i < length old.tracks → Kept gs (track_at old i) →
     Kept (gs ++ grant_of i new event result) (track_at new i)
 turn_kept old new event (Ok output) i gs turn within k = step_kept old new event output i gs turn.1 within k
 turn_kept old new event (Err fault) i gs turn within k =

@@ -3,9 +3,9 @@ use Rattle.std.proofs.Common.{◌≡◌, ◌∙◌, ℕ, zero, suc, if◌then◌
 use Rattle.std.proofs.lemmas.Bool.{cases_lt}
 use Rattle.std.proofs.lemmas.List.{get_or_past, length-set}
 use Rattle.std.specs.Prelude.{slice_set}
-use Rattle.watch_machine.specs.declared.event.Reply.{Reply}
-use Rattle.watch_machine.specs.declared.event.Reply.TheVariants.{Told, Refused, Busy, Lost}
-use Rattle.watch_machine.specs.declared.event.Terms.{Terms}
+use Rattle.watch_machine.specs.declared.event.WatchReply.{WatchReply}
+use Rattle.watch_machine.specs.declared.event.WatchReply.TheVariants.{Told, Refused, Busy, Lost}
+use Rattle.watch_machine.specs.declared.event.WatchTerms.{WatchTerms}
 use Rattle.watch_machine.specs.declared.lanes.Out.{Out}
 use Rattle.watch_machine.specs.declared.track.Track.{Track}
 use Rattle.watch_machine.specs.Answers.{answers_all, back_track, lane_freed, noted, replied, silent, with_track}
@@ -75,7 +75,7 @@ set_kept R same (x ∷ xs) (suc j) y made zero = same x
 set_kept R same (x ∷ xs) (suc j) y made (suc i) = set_kept R same xs j y made i
 
 -- the broker's return
-pub back_kept : (R : Track → Track → Type 0) → ((x : Track) → R x x) → ((x : Track) → R (back_track x) x) → (s : WatchState) (r : Out) (reply : Reply) (i : ℕ) → R (track_at (replied s r reply) i) (track_at s i)
+pub back_kept : (R : Track → Track → Type 0) → ((x : Track) → R x x) → ((x : Track) → R (back_track x) x) → (s : WatchState) (r : Out) (reply : WatchReply) (i : ℕ) → R (track_at (replied s r reply) i) (track_at s i)
 back_kept R same made s r reply i =
     let free = lane_freed s r in
     if_both (λ (t : WatchState). R (track_at t i) (track_at s i)) (is_real reply) (answers_all free) (if r.heard then free else silent free)
@@ -87,7 +87,7 @@ back_kept R same made s r reply i =
 pub set_count : (s : WatchState) (i : ℕ) (x : Track) → length (with_track s i x).tracks ≡ length s.tracks
 set_count s i x = length-set s.tracks i x
 
-back_count : (s : WatchState) (r : Out) (reply : Reply) → length (replied s r reply).tracks ≡ length s.tracks
+back_count : (s : WatchState) (r : Out) (reply : WatchReply) → length (replied s r reply).tracks ≡ length s.tracks
 back_count s r reply =
     let free = lane_freed s r in
     if_both (λ (t : WatchState). length t.tracks ≡ length s.tracks) (is_real reply) (answers_all free) (if r.heard then free else silent free)
@@ -95,18 +95,18 @@ back_count s r reply =
     (if_both (λ (t : WatchState). length t.tracks ≡ length s.tracks) r.heard free (silent free) refl
     (if_both (λ (t : WatchState). length t.tracks ≡ length s.tracks) s.presence.away _ _ refl refl))
 
-looked_by : (s : WatchState) (r : Out) (reply : Reply) (terms : Terms) → length (looked s r reply terms).tracks ≡ length s.tracks
+looked_by : (s : WatchState) (r : Out) (reply : WatchReply) (terms : WatchTerms) → length (looked s r reply terms).tracks ≡ length s.tracks
 looked_by s r (Told seconds renewable date) terms = length-set _ r.entry _ ∙ length-set s.tracks r.entry _
 looked_by s r _ terms = length-set s.tracks r.entry _
 
-pub looked_count : (s : WatchState) (r : Out) (reply : Reply) (terms : Terms) → length (replied (looked (noted s r reply) r reply terms) r reply).tracks ≡ length s.tracks
+pub looked_count : (s : WatchState) (r : Out) (reply : WatchReply) (terms : WatchTerms) → length (replied (looked (noted s r reply) r reply terms) r reply).tracks ≡ length s.tracks
 looked_count s r reply terms = back_count (looked (noted s r reply) r reply terms) r reply ∙ looked_by (noted s r reply) r reply terms
 
-pub renewed_count : (s : WatchState) (r : Out) (reply : Reply) → length (replied (state_renewed (noted s r reply) r reply) r reply).tracks ≡ length s.tracks
+pub renewed_count : (s : WatchState) (r : Out) (reply : WatchReply) → length (replied (state_renewed (noted s r reply) r reply) r reply).tracks ≡ length s.tracks
 renewed_count s r reply = back_count (state_renewed (noted s r reply) r reply) r reply ∙ length-set s.tracks r.entry _
 
 -- no answer writes the forest but that of a lookup
-pub replied_forest : (s : WatchState) (r : Out) (reply : Reply) → (replied s r reply).forest ≡ s.forest
+pub replied_forest : (s : WatchState) (r : Out) (reply : WatchReply) → (replied s r reply).forest ≡ s.forest
 replied_forest s r reply =
     let free = lane_freed s r in
     if_both (λ (t : WatchState). t.forest ≡ s.forest) (is_real reply) (answers_all free) (if r.heard then free else silent free)

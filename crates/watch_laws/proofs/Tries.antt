@@ -4,9 +4,9 @@ use Rattle.std.proofs.Common.{◌≡◌, ◌∙◌, ℕ, ◌<◌, Bool, true, fa
 use Rattle.std.specs.List.{list_any}
 use Rattle.plan_forest.specs.declared.entry.Entry.{Entry}
 use Rattle.plan_forest.specs.Forest.{entry_at}
-use Rattle.watch_machine.specs.declared.command.Request.{Request}
+use Rattle.watch_machine.specs.declared.command.WatchRequest.{WatchRequest}
 use Rattle.watch_machine.specs.declared.event.Operation.TheVariants.{Look}
-use Rattle.watch_machine.specs.declared.notes.Why.{Why}
+use Rattle.watch_machine.specs.declared.notes.BeginReason.{BeginReason}
 use Rattle.watch_machine.specs.declared.track.Track.{Track}
 use Rattle.watch_machine.specs.declared.track.Try.{Try}
 use Rattle.watch_machine.specs.Beginning.{begun, hastened, is_called, is_start, owed, owing, owing_lookup, soon, sooner_try, untopped, untopped_track}
@@ -61,7 +61,7 @@ module _ (P : Try → Type 0) where
       (if_both Passes x.out x (record x { attempt = Some (press at x) }) h (press_passes at x)) h
 
   -- from the beginning on
-  pub sent_passes : (s : WatchState) (round : List ℕ) (requests : List Request) (i : ℕ) → Passes (track_at s i) → Passes (track_at (sent (pressed s round) requests) i)
+  pub sent_passes : (s : WatchState) (round : List ℕ) (requests : List WatchRequest) (i : ℕ) → Passes (track_at s i) → Passes (track_at (sent (pressed s round) requests) i)
   sent_passes s round requests i h =
       let g = s.forest in
       let c = s.clocks in
@@ -72,7 +72,7 @@ module _ (P : Try → Type 0) where
       let three = each_holds Passes none_passes (track_asked_in c.at round) alone i
       (asked_passes c.at round i (track_in alone i) two) in
       each_holds Passes none_passes (sent_in c.at requests) mid.tracks i
-      (if_both Passes (list_any (λ (r : Request). r.entry == i) requests) (sent_track c.at (track_at mid i)) (track_at mid i) three three)
+      (if_both Passes (list_any (λ (r : WatchRequest). r.entry == i) requests) (sent_track c.at (track_at mid i)) (track_at mid i) three three)
 
   -- and before it, where a try that is hastened passes
   module _ (hasten : (t : Try) (from : ℕ) → P t → P (hastened t from)) where
@@ -88,7 +88,7 @@ module _ (P : Try → Type 0) where
         if_both Passes (called && (first || is_open (sec at) x)) (owing_lookup at x) x
         (if_both Passes x.out (record x { owes = true }) (record x { owes = true; attempt = Some (sooner_try (soon at x) x.attempt) }) h (sooner_passes (soon at x) x.attempt h)) h
 
-    pub begun_passes : (s : WatchState) (w : Option Why) (i : ℕ) → Passes (track_at s i) → Passes (track_at (begun s w) i)
+    pub begun_passes : (s : WatchState) (w : Option BeginReason) (i : ℕ) → Passes (track_at s i) → Passes (track_at (begun s w) i)
     begun_passes s None i h = h
     begun_passes s (Some w) i h =
         let xs = untopped s.tracks in

@@ -6,18 +6,18 @@ use Rattle.std.proofs.lemmas.Bool.Decides.{nat_tests}
 use Rattle.std.proofs.lemmas.List.{get_or-set_other, get_or-set_same, length-set}
 use Rattle.std.specs.List.{list_any}
 use Rattle.plan_forest.specs.declared.entry.Entry.{Entry}
-use Rattle.watch_machine.specs.declared.command.Output.{Output}
-use Rattle.watch_machine.specs.declared.event.Event.{Event}
-use Rattle.watch_machine.specs.declared.event.Event.TheVariants.{Clock, Looked, Renewed, Need, Begin, Known}
+use Rattle.watch_machine.specs.declared.command.WatchOutput.{WatchOutput}
+use Rattle.watch_machine.specs.declared.event.WatchEvent.{WatchEvent}
+use Rattle.watch_machine.specs.declared.event.WatchEvent.TheVariants.{Clock, Looked, Renewed, Need, Begin, Known}
 use Rattle.watch_machine.specs.declared.event.Operation.{Operation}
 use Rattle.watch_machine.specs.declared.event.Operation.TheVariants.{Look, Renew}
-use Rattle.watch_machine.specs.declared.event.Reply.{Reply}
-use Rattle.watch_machine.specs.declared.event.Reply.TheVariants.{Told, Refused, Busy, Lost}
-use Rattle.watch_machine.specs.declared.event.Terms.{Terms}
+use Rattle.watch_machine.specs.declared.event.WatchReply.{WatchReply}
+use Rattle.watch_machine.specs.declared.event.WatchReply.TheVariants.{Told, Refused, Busy, Lost}
+use Rattle.watch_machine.specs.declared.event.WatchTerms.{WatchTerms}
 use Rattle.watch_machine.specs.declared.fault.WatchFault.{WatchFault}
 use Rattle.watch_machine.specs.declared.lanes.Out.{Out}
 use Rattle.watch_machine.specs.declared.lanes.Presence.{Presence}
-use Rattle.watch_machine.specs.declared.notes.Why.{Why}
+use Rattle.watch_machine.specs.declared.notes.BeginReason.{BeginReason}
 use Rattle.watch_machine.specs.declared.track.Track.{Track}
 use Rattle.watch_machine.specs.declared.track.Try.{Try}
 use Rattle.watch_machine.specs.Answers.{failing, heard, lane_freed, noted, replied, with_track, without_request}
@@ -104,14 +104,14 @@ granted_first at end owes (Some t) =
     let P : Option Try → Type 0 = λ o. is_first_try o ≡ false in
     if_both P (nat_lt (sec at) end) (if owes then Some (owed (at + 30000)) else None) (Some (failing t Look false false)) (if_both P owes (Some (owed (at + 30000))) None refl refl) (failed_first t Look false false)
 
-ungranted_first : (at : ℕ) (heard' : Bool) (reply : Reply) (x : Track) (o : Option Try) → IsUntold reply → is_first_try (ungranted at heard' reply x o) ≡ false
+ungranted_first : (at : ℕ) (heard' : Bool) (reply : WatchReply) (x : Track) (o : Option Try) → IsUntold reply → is_first_try (ungranted at heard' reply x o) ≡ false
 ungranted_first at heard' reply x None none = refl
 ungranted_first at heard' (Told seconds renewable date) x (Some t) none = absurd none
 ungranted_first at heard' (Refused status date) x (Some t) none = failed_first t Look false false
 ungranted_first at heard' Busy x (Some t) none = failed_first t (after_renewal (sec at) x) true false
 ungranted_first at heard' Lost x (Some t) none = failed_first t (after_renewal (sec at) x) true heard'
 
-untold_first : (at : ℕ) (heard' : Bool) (reply : Reply) (x : Track) (o : Option Try) → IsUntold reply → is_first_try (untold at heard' reply x o) ≡ false
+untold_first : (at : ℕ) (heard' : Bool) (reply : WatchReply) (x : Track) (o : Option Try) → IsUntold reply → is_first_try (untold at heard' reply x o) ≡ false
 untold_first at heard' reply x None none = refl
 untold_first at heard' (Told seconds renewable date) x (Some t) none = absurd none
 untold_first at heard' (Refused status date) x (Some t) none = refused_first at x t
@@ -172,16 +172,16 @@ same_way o i old new tried flag outs presence clocks way =
 
 -- ---- an answer
 
-there_replied : (s : WatchState) (q : Out) (reply : Reply) → is_real reply ≡ true → s.presence.away ≡ false → replied s q reply ≡ record s { out = map heard (without_request q.entry s.out) }
+there_replied : (s : WatchState) (q : Out) (reply : WatchReply) → is_real reply ≡ true → s.presence.away ≡ false → replied s q reply ≡ record s { out = map heard (without_request q.entry s.out) }
 there_replied s q Lost real there = absurd cc
 there_replied s q _ real there = let free = lane_freed s q in let all : WatchState = record free { out = map heard free.out } in cond-false s.presence.away _ all there
 
-real_of : (quick late : ℕ) (q : Out) (reply : Reply) → IsReplyInOutage (without_outage quick late) reply q → is_real reply ≡ true
+real_of : (quick late : ℕ) (q : Out) (reply : WatchReply) → IsReplyInOutage (without_outage quick late) reply q → is_real reply ≡ true
 real_of quick late q Lost h = absurd (not_both (all_whole quick late q.since) h)
 real_of quick late q _ h = refl
 
 -- what an answer leaves before what it says of the broker
-record Leaves (i : ℕ) (old mid : WatchState) (q : Out) (reply : Reply) : Type 0 where
+record Leaves (i : ℕ) (old mid : WatchState) (q : Out) (reply : WatchReply) : Type 0 where
   outs : mid.out ≡ old.out
   presence : mid.presence ≡ old.presence
   clocks : mid.clocks ≡ old.clocks
@@ -189,7 +189,7 @@ record Leaves (i : ℕ) (old mid : WatchState) (q : Out) (reply : Reply) : Type 
   other : q.entry ≢ i → track_at mid i ≡ track_at old i
 
 answer_way :
-    (quick late i : ℕ) (old mid new : WatchState) (q : Out) (reply : Reply) → new ≡ replied mid q reply → IsReplyInOutage (without_outage quick late) reply q → Leaves i old mid q reply → is_first_try (attempt_at new i) ≡ true →
+    (quick late i : ℕ) (old mid new : WatchState) (q : Out) (reply : WatchReply) → new ≡ replied mid q reply → IsReplyInOutage (without_outage quick late) reply q → Leaves i old mid q reply → is_first_try (attempt_at new i) ≡ true →
     FirstTryIsUnderWay (without_outage quick late) old i → FirstTryIsUnderWay (without_outage quick late) new i
 answer_way quick late i old mid new q reply made is_reply h first way =
     let o = without_outage quick late in
@@ -219,7 +219,7 @@ answer_way quick late i old mid new q reply made is_reply h first way =
 
 -- what tells nothing leaves none
 untold_left :
-    (s : WatchState) (q : Out) (reply : Reply) → q.entry < length s.tracks → IsUntold reply →
+    (s : WatchState) (q : Out) (reply : WatchReply) → q.entry < length s.tracks → IsUntold reply →
     is_first_try (attempt_at (with_track s q.entry (untold_track s.clocks.at q.heard reply (track_at s q.entry))) q.entry) ≡ false
 unfolding untold_track
 untold_left s q reply within none =
@@ -228,7 +228,7 @@ untold_left s q reply within none =
 
 -- the answer to a lookup of the entry, where it leaves a first try
 looked_runs :
-    (s : WatchState) (q : Out) (reply : Reply) (terms : Terms) (t : Try) → attempt_at s q.entry ≡ Some t → is_first t ≡ true → t.failed ≡ false →
+    (s : WatchState) (q : Out) (reply : WatchReply) (terms : WatchTerms) (t : Try) → attempt_at s q.entry ≡ Some t → is_first t ≡ true → t.failed ≡ false →
     is_first_try (attempt_at (looked s q reply terms) q.entry) ≡ true →
     Runs s.clocks.at (attempt_at (looked s q reply terms) q.entry) × ((track_at (looked s q reply terms) q.entry).out ≡ false)
 unfolding told_track
@@ -254,14 +254,14 @@ looked_runs s q Lost terms t is first settled'' given = absurd (not_both given (
 
 -- and that to a renewal leaves none
 ungranted_left :
-    (s : WatchState) (q : Out) (reply : Reply) → q.entry < length s.tracks → IsUntold reply →
+    (s : WatchState) (q : Out) (reply : WatchReply) → q.entry < length s.tracks → IsUntold reply →
     is_first_try (attempt_at (with_track s q.entry (ungranted_track s.clocks.at q.heard reply (track_at s q.entry))) q.entry) ≡ false
 unfolding ungranted_track
 ungranted_left s q reply within none =
     let x = track_at s q.entry in
     ap (λ (w : Track). is_first_try w.attempt) (get_or-set_same s.tracks q.entry (ungranted_track s.clocks.at q.heard reply x) no_track within) ∙ ungranted_first s.clocks.at q.heard reply x x.attempt none
 
-renewed_first : (s : WatchState) (q : Out) (reply : Reply) → q.entry < length s.tracks → is_first_try (attempt_at (state_renewed s q reply) q.entry) ≡ false
+renewed_first : (s : WatchState) (q : Out) (reply : WatchReply) → q.entry < length s.tracks → is_first_try (attempt_at (state_renewed s q reply) q.entry) ≡ false
 unfolding renewed_track granted_from
 renewed_first s q (Told seconds renewable date) within =
     let x = track_at s q.entry in
@@ -273,7 +273,7 @@ renewed_first s q Busy within = ungranted_left s q Busy within tt
 renewed_first s q Lost within = ungranted_left s q Lost within tt
 
 looked_way :
-    (quick late i j : ℕ) (old new : WatchState) (found : Option Out) (reply : Reply) (terms : Terms) (output : Output) → StepLooked old found reply terms output new → IfSome found (IsReplyInOutage (without_outage quick late) reply) →
+    (quick late i j : ℕ) (old new : WatchState) (found : Option Out) (reply : WatchReply) (terms : WatchTerms) (output : WatchOutput) → StepLooked old found reply terms output new → IfSome found (IsReplyInOutage (without_outage quick late) reply) →
     is_first_try (attempt_at new i) ≡ true → FirstTryIsUnderWay (without_outage quick late) old i → FirstTryIsUnderWay (without_outage quick late) new i
 looked_way quick late i j old new None reply terms output step is_reply first way = absurd step
 looked_way quick late i j old new (Some q) reply terms output step is_reply first way =
@@ -295,7 +295,7 @@ looked_way quick late i j old new (Some q) reply terms output step is_reply firs
     first way
 
 renewed_way :
-    (quick late i : ℕ) (old new : WatchState) (found : Option Out) (reply : Reply) (output : Output) → StepRenewed old found reply output new → IfSome found (IsReplyInOutage (without_outage quick late) reply) →
+    (quick late i : ℕ) (old new : WatchState) (found : Option Out) (reply : WatchReply) (output : WatchOutput) → StepRenewed old found reply output new → IfSome found (IsReplyInOutage (without_outage quick late) reply) →
     is_first_try (attempt_at new i) ≡ true → FirstTryIsUnderWay (without_outage quick late) old i → FirstTryIsUnderWay (without_outage quick late) new i
 renewed_way quick late i old new None reply output step is_reply first way = absurd step
 renewed_way quick late i old new (Some q) reply output step is_reply first way =
@@ -338,7 +338,7 @@ owing_runs at b first called x r =
     let P : Track → Type 0 = λ y. Runs b y.attempt in
     if_both P (called && (first || is_open (sec at) x)) (owing_lookup at x) x (lookup_runs at b x r) r
 
-begun_runs : (s : WatchState) (w : Option Why) (b i : ℕ) → Runs b (attempt_at s i) → Runs b (attempt_at (begun s w) i)
+begun_runs : (s : WatchState) (w : Option BeginReason) (b i : ℕ) → Runs b (attempt_at s i) → Runs b (attempt_at (begun s w) i)
 begun_runs s None b i r = r
 begun_runs s (Some w) b i r =
     let R : Track → Track → Type 0 = λ y x. Runs b x.attempt → Runs b y.attempt in
@@ -363,7 +363,7 @@ unfolding is_fresh
 not_fresh margin e x need now h = none_fresh (wants x need) (has_come margin e x now) (is_pressed x) x.out h
 
 clock_way :
-    (quick late width n i : ℕ) (old new : WatchState) (wall elapsed : ℕ) (output : Output) → StepClock old wall elapsed output new → IsBase width n old → is_wanted new i ≡ true → FirstTryIsUnderWay (without_outage quick late) old i →
+    (quick late width n i : ℕ) (old new : WatchState) (wall elapsed : ℕ) (output : WatchOutput) → StepClock old wall elapsed output new → IsBase width n old → is_wanted new i ≡ true → FirstTryIsUnderWay (without_outage quick late) old i →
     FirstTryIsUnderWay (without_outage quick late) new i
 unfolding wants
 clock_way quick late width n i old new wall elapsed output step base wanted way =
@@ -406,7 +406,7 @@ known_runs at b end renewable x r = known_is (λ (y : Track). Runs b y.attempt) 
 -- ---- a step, a turn
 
 step_way :
-    (quick late width n i due : ℕ) (old new : WatchState) (event : Event) (output : Output) → Step old event output new → BrokerIsThere (without_outage quick late) due old event → IsBase width n old → is_wanted new i ≡ true →
+    (quick late width n i due : ℕ) (old new : WatchState) (event : WatchEvent) (output : WatchOutput) → Step old event output new → BrokerIsThere (without_outage quick late) due old event → IsBase width n old → is_wanted new i ≡ true →
     is_first_try (attempt_at new i) ≡ true → FirstTryIsUnderWay (without_outage quick late) old i → FirstTryIsUnderWay (without_outage quick late) new i
 step_way quick late width n i due old new (Clock wall elapsed) output step there base wanted first way = clock_way quick late width n i old new wall elapsed output step base wanted way
 step_way quick late width n i due old new (Looked j reply terms) output step there base wanted first way = looked_way quick late i j old new (request_out old.out j Look) reply terms output step there first way
@@ -423,7 +423,7 @@ step_way quick late width n i due old new (Known j end renewable) output step th
     subst (λ (x : WatchState). FirstTryIsUnderWay o x i) (sym step.1) (to_way o (known old j end renewable) i runs (λ now. way.lane (sym out ∙ now)) way.there)
 
 turn_way :
-    (quick late width n i due : ℕ) (old new : WatchState) (event : Event) (result : Result Output WatchFault) → Turn old event result new → IsThereAt (without_outage quick late) due old event result → IsBase width n old →
+    (quick late width n i due : ℕ) (old new : WatchState) (event : WatchEvent) (result : Result WatchOutput WatchFault) → Turn old event result new → IsThereAt (without_outage quick late) due old event result → IsBase width n old →
     is_wanted new i ≡ true → is_first_try (attempt_at new i) ≡ true → FirstTryIsUnderWay (without_outage quick late) old i → FirstTryIsUnderWay (without_outage quick late) new i
 turn_way quick late width n i due old new event (Ok output) turn there base wanted first way = step_way quick late width n i due old new event output turn.1 there base wanted first way
 turn_way quick late width n i due old new event (Err fault) turn there base wanted first way = subst (λ (x : WatchState). FirstTryIsUnderWay (without_outage quick late) x i) (sym (refused_stays old new event fault turn)) way
@@ -440,11 +440,11 @@ changed_way o old c h i k said way =
 
 -- ---- so it is at work at each clock
 
-works : (o : Outage) (i due : ℕ) (old new : WatchState) (event : Event) → BrokerIsThere o due old event → IsAtWork o new i → IsWorking o i due old event new
+works : (o : Outage) (i due : ℕ) (old new : WatchState) (event : WatchEvent) → BrokerIsThere o due old event → IsAtWork o new i → IsWorking o i due old event new
 works o i due old new (Clock wall elapsed) there work = (there, work)
 works o i due old new _ there work = tt
 
-works_at : (o : Outage) (i due : ℕ) (old new : WatchState) (event : Event) (result : Result Output WatchFault) → IsThereAt o due old event result → IsAtWork o new i → IsWorked o i due old event result new
+works_at : (o : Outage) (i due : ℕ) (old new : WatchState) (event : WatchEvent) (result : Result WatchOutput WatchFault) → IsThereAt o due old event result → IsAtWork o new i → IsWorked o i due old event result new
 works_at o i due old new event (Ok output) there work = works o i due old new event there work
 works_at o i due old new event (Err fault) there work = tt
 

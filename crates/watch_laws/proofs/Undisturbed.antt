@@ -4,8 +4,8 @@ use Rattle.std.proofs.lemmas.Bool.{and_parts, or_parts}
 use Rattle.std.specs.List.{list_any}
 use Rattle.plan_forest.specs.declared.entry.Entry.{Entry}
 use Rattle.plan_forest.specs.Forest.{entry_at}
-use Rattle.watch_machine.specs.declared.command.Request.{Request}
-use Rattle.watch_machine.specs.declared.notes.Why.{Why}
+use Rattle.watch_machine.specs.declared.command.WatchRequest.{WatchRequest}
+use Rattle.watch_machine.specs.declared.notes.BeginReason.{BeginReason}
 use Rattle.watch_machine.specs.declared.track.Track.{Track}
 use Rattle.watch_machine.specs.declared.track.Try.{Try}
 use Rattle.watch_machine.specs.Beginning.{begun, is_called, is_pressed, is_pressed_try, is_start, owing, owing_lookup, soon, sooner_try, untopped, untopped_track}
@@ -78,11 +78,11 @@ asked_undisturbed at round i x =
     (if_cases P x.out x (record x { attempt = Some (press at x) }) (λ out. same_undisturbed x)
     (λ free. ((λ o. o), (λ out pressed'. absurd (not_both out free))))) (same_undisturbed x)
 
-sent_undisturbed : (at : ℕ) (requests : List Request) (i : ℕ) (x : Track) → Undisturbed (sent_in at requests i x) x
+sent_undisturbed : (at : ℕ) (requests : List WatchRequest) (i : ℕ) (x : Track) → Undisturbed (sent_in at requests i x) x
 sent_undisturbed at requests i x =
-    if_both (λ y. Undisturbed y x) (list_any (λ (r : Request). r.entry == i) requests) (sent_track at x) x ((λ out. refl), (λ out pressed'. pressed')) (same_undisturbed x)
+    if_both (λ y. Undisturbed y x) (list_any (λ (r : WatchRequest). r.entry == i) requests) (sent_track at x) x ((λ out. refl), (λ out pressed'. pressed')) (same_undisturbed x)
 
-begun_undisturbed : (s : WatchState) (w : Option Why) (i : ℕ) → Undisturbed (track_at (begun s w) i) (track_at s i)
+begun_undisturbed : (s : WatchState) (w : Option BeginReason) (i : ℕ) → Undisturbed (track_at (begun s w) i) (track_at s i)
 begun_undisturbed s None i = same_undisturbed (track_at s i)
 begun_undisturbed s (Some w) i =
     let xs = untopped s.tracks in
@@ -100,7 +100,7 @@ mid_undisturbed s round i =
     (each_kept Undisturbed none_undisturbed (λ j. pressed_track g.margin (entry_at g.entries j) (need_of g.entries s.tracks c j) c.at) s.tracks
     (λ j x. pressed_undisturbed g.margin (entry_at g.entries j) (need_of g.entries s.tracks c j) c.at x) i)
 
-pub clock_undisturbed : (old : WatchState) (wall elapsed : ℕ) (round : List ℕ) (requests : List Request) (i : ℕ) → Undisturbed (track_at (sent (pressed (readied old wall elapsed) round) requests) i) (track_at old i)
+pub clock_undisturbed : (old : WatchState) (wall elapsed : ℕ) (round : List ℕ) (requests : List WatchRequest) (i : ℕ) → Undisturbed (track_at (sent (pressed (readied old wall elapsed) round) requests) i) (track_at old i)
 unfolding readied
 clock_undisturbed old wall elapsed round requests i =
     let t = timed old wall elapsed in

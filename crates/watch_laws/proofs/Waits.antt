@@ -4,14 +4,14 @@ use Rattle.std.proofs.lemmas.Bool.{and_parts, cases_Bool, cases_lt, cond-false, 
 use Rattle.std.proofs.lemmas.Bool.Decides.{nat_tests}
 use Rattle.std.specs.List.{range_with_len}
 use Rattle.plan_forest.specs.declared.entry.Entry.{Entry}
-use Rattle.watch_machine.specs.declared.command.Command.{Command}
-use Rattle.watch_machine.specs.declared.command.Command.TheVariants.{Go, Taken}
-use Rattle.watch_machine.specs.declared.command.Output.{Output}
-use Rattle.watch_machine.specs.declared.event.Event.{Event}
-use Rattle.watch_machine.specs.declared.event.Event.TheVariants.{Clock, Looked, Renewed, Need, Begin, Known}
+use Rattle.watch_machine.specs.declared.command.WatchCommand.{WatchCommand}
+use Rattle.watch_machine.specs.declared.command.WatchCommand.TheVariants.{Go, Taken}
+use Rattle.watch_machine.specs.declared.command.WatchOutput.{WatchOutput}
+use Rattle.watch_machine.specs.declared.event.WatchEvent.{WatchEvent}
+use Rattle.watch_machine.specs.declared.event.WatchEvent.TheVariants.{Clock, Looked, Renewed, Need, Begin, Known}
 use Rattle.watch_machine.specs.declared.event.Operation.TheVariants.{Look, Renew}
-use Rattle.watch_machine.specs.declared.event.Reply.{Reply}
-use Rattle.watch_machine.specs.declared.event.Terms.{Terms}
+use Rattle.watch_machine.specs.declared.event.WatchReply.{WatchReply}
+use Rattle.watch_machine.specs.declared.event.WatchTerms.{WatchTerms}
 use Rattle.watch_machine.specs.declared.fault.WatchFault.{WatchFault}
 use Rattle.watch_machine.specs.declared.lanes.Out.{Out}
 use Rattle.watch_machine.specs.declared.lanes.Presence.{Presence}
@@ -152,28 +152,28 @@ wait_is s =
     }
 
 -- a turn
-clock_waits : (mid new : WatchState) (command : Command) → StepCommand mid command new → WaitsSo command new
+clock_waits : (mid new : WatchState) (command : WatchCommand) → StepCommand mid command new → WaitsSo command new
 clock_waits mid new (Go requests until) h = subst (IsWait new) (sym h.1) (wait_is new)
 clock_waits mid new Taken h = absurd h
 
-taken_waits : (new : WatchState) (output out : Output) → output ≡ out → out.command ≡ Taken → WaitsSo output.command new
-taken_waits new output out is taken' = subst (λ c. WaitsSo c new) (sym (ap (λ (x : Output). x.command) is ∙ taken')) tt
+taken_waits : (new : WatchState) (output out : WatchOutput) → output ≡ out → out.command ≡ Taken → WaitsSo output.command new
+taken_waits new output out is taken' = subst (λ c. WaitsSo c new) (sym (ap (λ (x : WatchOutput). x.command) is ∙ taken')) tt
 
-looked_waits : (old new : WatchState) (found : Option Out) (reply : Reply) (terms : Terms) (output : Output) → StepLooked old found reply terms output new → WaitsSo output.command new
+looked_waits : (old new : WatchState) (found : Option Out) (reply : WatchReply) (terms : WatchTerms) (output : WatchOutput) → StepLooked old found reply terms output new → WaitsSo output.command new
 looked_waits old new None reply terms output step = absurd step
 looked_waits old new (Some q) reply terms output step = taken_waits new output _ step.0 refl
 
-renewed_waits : (old new : WatchState) (found : Option Out) (reply : Reply) (output : Output) → StepRenewed old found reply output new → WaitsSo output.command new
+renewed_waits : (old new : WatchState) (found : Option Out) (reply : WatchReply) (output : WatchOutput) → StepRenewed old found reply output new → WaitsSo output.command new
 renewed_waits old new None reply output step = absurd step
 renewed_waits old new (Some q) reply output step = taken_waits new output _ step.0 refl
 
-step_waits : (old new : WatchState) (event : Event) (output : Output) → Step old event output new → WaitsSo output.command new
+step_waits : (old new : WatchState) (event : WatchEvent) (output : WatchOutput) → Step old event output new → WaitsSo output.command new
 step_waits old new (Clock wall elapsed) output step = clock_waits (pressed (readied old wall elapsed) (asked_by_round step.round)) new output.command step.command
 step_waits old new (Looked i reply terms) output step = looked_waits old new (request_out old.out i Look) reply terms output step
 step_waits old new (Renewed i reply) output step = renewed_waits old new (request_out old.out i Renew) reply output step
 step_waits old new _ output step = taken_waits new output _ step.0 refl
 
-turn_waits : (old new : WatchState) (event : Event) (result : Result Output WatchFault) → Turn old event result new → EndsSo result new
+turn_waits : (old new : WatchState) (event : WatchEvent) (result : Result WatchOutput WatchFault) → Turn old event result new → EndsSo result new
 turn_waits old new event (Ok output) turn = step_waits old new event output turn.1
 turn_waits old new event (Err fault) turn = tt
 

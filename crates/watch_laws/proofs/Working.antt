@@ -5,11 +5,11 @@ use Rattle.std.proofs.lemmas.Bool.{and_from, and_parts, cases_Bool, eqb-true}
 use Rattle.std.proofs.lemmas.Bool.Decides.{nat_tests}
 use Rattle.std.proofs.lemmas.List.Elements.{All-head, All-tail}
 use Rattle.std.specs.List.{list_any}
-use Rattle.watch_machine.specs.declared.command.Output.{Output}
-use Rattle.watch_machine.specs.declared.event.Event.{Event}
-use Rattle.watch_machine.specs.declared.event.Event.TheVariants.{Clock, Looked, Renewed, Need, Begin, Known}
+use Rattle.watch_machine.specs.declared.command.WatchOutput.{WatchOutput}
+use Rattle.watch_machine.specs.declared.event.WatchEvent.{WatchEvent}
+use Rattle.watch_machine.specs.declared.event.WatchEvent.TheVariants.{Clock, Looked, Renewed, Need, Begin, Known}
 use Rattle.watch_machine.specs.declared.event.Operation.TheVariants.{Look, Renew}
-use Rattle.watch_machine.specs.declared.event.Reply.{Reply}
+use Rattle.watch_machine.specs.declared.event.WatchReply.{WatchReply}
 use Rattle.watch_machine.specs.declared.fault.WatchFault.{WatchFault}
 use Rattle.watch_machine.specs.declared.lanes.Out.{Out}
 use Rattle.watch_machine.specs.Answers.{noted, replied, without_request}
@@ -209,7 +209,7 @@ one_waits o n i old new low unserved tried =
 
 -- ---- a clock
 
-module _ (quick late width n i by due rest : ℕ) (old new : WatchState) (wall elapsed : ℕ) (output : Output) (wide : 0 < width) (low : i < n) (step : Step old (Clock wall elapsed) output new) (in_time : (timed old wall elapsed).clocks.at ≤ due) (base : IsBase width n new) (sends : Sends old new n) where
+module _ (quick late width n i by due rest : ℕ) (old new : WatchState) (wall elapsed : ℕ) (output : WatchOutput) (wide : 0 < width) (low : i < n) (step : Step old (Clock wall elapsed) output new) (in_time : (timed old wall elapsed).clocks.at ≤ due) (base : IsBase width n new) (sends : Sends old new n) where
   abbrev o : Outage
   o = without_outage quick late
 
@@ -301,7 +301,7 @@ record Leaves (o : Outage) (i : ℕ) (old new : WatchState) : Type 0 where
   unserved : is_request_served o old i ≡ false → is_request_served o new i ≡ false
 
 quiet_stage :
-    (quick late width n i by due rest : ℕ) (old new : WatchState) (output : Output) → Quiet quick late due old new output → IsBase width n new → Sends old new n → Leaves (without_outage quick late) i old new →
+    (quick late width n i by due rest : ℕ) (old new : WatchState) (output : WatchOutput) → Quiet quick late due old new output → IsBase width n new → Sends old new n → Leaves (without_outage quick late) i old new →
     Stage quick late width n i by due (waiting (without_outage quick late) n old + (how_many n (comes (without_outage quick late) old new) + rest)) old →
     Stage quick late width n i by (outage_next_after_command (without_outage quick late) output.command new due) (waiting (without_outage quick late) n new + rest) new
 quiet_stage quick late width n i by due rest old new output quiet base sends leaves (inl w) =
@@ -338,7 +338,7 @@ same_leaves o i old new is = record {
 
 -- its own answer: it may wait anew, one round later
 own_stage :
-    (quick late width n i by due rest : ℕ) (old new : WatchState) (output : Output) → Quiet quick late due old new output → IsBase width n new → Sends old new n → is_request_served (without_outage quick late) new i ≡ false →
+    (quick late width n i by due rest : ℕ) (old new : WatchState) (output : WatchOutput) → Quiet quick late due old new output → IsBase width n new → Sends old new n → is_request_served (without_outage quick late) new i ≡ false →
     Stage quick late width n i by due (waiting (without_outage quick late) n old + (how_many n (comes (without_outage quick late) old new) + rest)) old →
     Stage quick late width n i (by + (quick + late)) (outage_next_after_command (without_outage quick late) output.command new due) (waiting (without_outage quick late) n new + rest) new
 own_stage quick late width n i by due rest old new output quiet base sends unserved (inl w) =
@@ -371,7 +371,7 @@ own_stage quick late width n i by due rest old new output quiet base sends unser
     })
 
 -- an answer, where mid is the state before what it says of the broker
-module _ (o : Outage) (i : ℕ) (old mid new : WatchState) (q : Out) (reply : Reply) (is : new ≡ replied mid q reply) (outs : mid.out ≡ old.out) where
+module _ (o : Outage) (i : ℕ) (old mid new : WatchState) (q : Out) (reply : WatchReply) (is : new ≡ replied mid q reply) (outs : mid.out ≡ old.out) where
   shrinks : is_request_served o old i ≡ false → is_request_served o new i ≡ false
   shrinks unserved =
       let p : ℕ → ℕ → Bool = λ k since. k == i && is_request_whole o since in
@@ -396,7 +396,7 @@ module _ (o : Outage) (i : ℕ) (old mid new : WatchState) (q : Out) (reply : Re
       ap (λ (x : WatchState). is_request_served o x i) is ∙ no_lane i (λ q'. is_request_whole o q'.since) (replied mid q reply).out here
 
 answer_stage :
-    (quick late width n i by more due rest j : ℕ) (old mid new : WatchState) (q : Out) (reply : Reply) (output : Output) → by ≤ more → (j == i ≡ true → by + (quick + late) ≤ more) → new ≡ replied mid q reply → mid.out ≡ old.out →
+    (quick late width n i by more due rest j : ℕ) (old mid new : WatchState) (q : Out) (reply : WatchReply) (output : WatchOutput) → by ≤ more → (j == i ≡ true → by + (quick + late) ≤ more) → new ≡ replied mid q reply → mid.out ≡ old.out →
     q.entry ≡ j → Quiet quick late due old new output → IsBase width n new → Sends old new n →
     Stage quick late width n i by due (waiting (without_outage quick late) n old + (how_many n (comes (without_outage quick late) old new) + rest)) old →
     Stage quick late width n i more (outage_next_after_command (without_outage quick late) output.command new due) (waiting (without_outage quick late) n new + rest) new
@@ -414,7 +414,7 @@ answer_stage quick late width n i by more due rest j old mid new q reply output 
     ]
 
 step_stage :
-    (quick late width n i by more due rest : ℕ) (old new : WatchState) (event : Event) (output : Output) → 0 < width → i < n → by ≤ more → (is_answer_to i event ≡ true → by + (quick + late) ≤ more) → Step old event output new →
+    (quick late width n i by more due rest : ℕ) (old new : WatchState) (event : WatchEvent) (output : WatchOutput) → 0 < width → i < n → by ≤ more → (is_answer_to i event ≡ true → by + (quick + late) ≤ more) → Step old event output new →
     IsWorking (without_outage quick late) i due old event new → IsBase width n new → Sends old new n →
     Stage quick late width n i by due (waiting (without_outage quick late) n old + (how_many n (comes (without_outage quick late) old new) + rest)) old →
     Stage quick late width n i more (outage_next_after_command (without_outage quick late) output.command new due) (waiting (without_outage quick late) n new + rest) new
@@ -459,7 +459,7 @@ turn_stage :
     Stage quick late width n i (by + later_by i (quick + late) turn) (outage_next_after (without_outage quick late) turn.result turn.state due) (waiting (without_outage quick late) n turn.state + rest) turn.state
 turn_stage quick late width n i by due rest old turn wide low step working base sends old_base stage = by_result turn.result refl step working where
   by_result :
-      (result : Result Output WatchFault) → turn.result ≡ result → Turn old turn.event result turn.state → IsWorked (without_outage quick late) i due old turn.event result turn.state →
+      (result : Result WatchOutput WatchFault) → turn.result ≡ result → Turn old turn.event result turn.state → IsWorked (without_outage quick late) i due old turn.event result turn.state →
       Stage quick late width n i (by + later_by i (quick + late) turn) (outage_next_after (without_outage quick late) turn.result turn.state due) (waiting (without_outage quick late) n turn.state + rest) turn.state
   by_result (Ok output) is step' working' =
       let taken' : is_event_taken turn.result ≡ true = ap is_event_taken is in

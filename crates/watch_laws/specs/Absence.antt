@@ -2,10 +2,10 @@
 -- Source: this project's own.
 use Rattle.std.specs.Prelude.{◌≡◌, ℕ, ◌+◌, ◌≤◌, Bool, true, false, not, List, [], ◌∷◌, ◌++◌, Option, Some, None, Result, Ok, Err, filter, length}
 use Rattle.std.specs.List.{list_any}
-use Rattle.watch_machine.specs.declared.command.Output.{Output}
-use Rattle.watch_machine.specs.declared.command.Request.{Request}
-use Rattle.watch_machine.specs.declared.event.Event.{Event}
-use Rattle.watch_machine.specs.declared.event.Event.TheVariants.{Clock, Looked, Renewed, Need, Begin, Known}
+use Rattle.watch_machine.specs.declared.command.WatchOutput.{WatchOutput}
+use Rattle.watch_machine.specs.declared.command.WatchRequest.{WatchRequest}
+use Rattle.watch_machine.specs.declared.event.WatchEvent.{WatchEvent}
+use Rattle.watch_machine.specs.declared.event.WatchEvent.TheVariants.{Clock, Looked, Renewed, Need, Begin, Known}
 use Rattle.watch_machine.specs.declared.fault.WatchFault.{WatchFault}
 use Rattle.watch_machine.specs.declared.track.Try.{Try}
 use Rattle.watch_machine.specs.History.{AllHappen, Changes, Happening, Hands, IsReached, Turned, state_after, state_after_all}
@@ -20,7 +20,7 @@ AllAway [] = Unit {0}
 AllAway (h ∷ hs) = ((state_after h).presence.away ≡ true) × AllAway hs
 
 -- a clock that was taken
-abbrev pub is_clock : Event → Bool
+abbrev pub is_clock : WatchEvent → Bool
 is_clock (Clock wall elapsed) = true
 is_clock (Looked i reply terms) = false
 is_clock (Renewed i reply) = false
@@ -28,7 +28,7 @@ is_clock (Need i until) = false
 is_clock Begin = false
 is_clock (Known i end renewable) = false
 
-abbrev pub is_event_taken : Result Output WatchFault → Bool
+abbrev pub is_event_taken : Result WatchOutput WatchFault → Bool
 is_event_taken (Ok output) = true
 is_event_taken (Err fault) = false
 
@@ -51,7 +51,7 @@ abbrev pub is_later_try : Option Try → Bool
 is_later_try None = false
 is_later_try (Some t) = not (is_first t)
 
-abbrev pub is_later : WatchState → Request → Bool
+abbrev pub is_later : WatchState → WatchRequest → Bool
 is_later s r = is_later_try (attempt_at s r.entry)
 
 -- how many later tries go out

@@ -1,8 +1,8 @@
 -- AtTop: by which grants an entry comes to be called topped. The law is the contract of a public function without a body.
 -- Source: this project's own, over Vault, "Lease, renew, and revoke" (a renewal counts from its own moment; maximum TTL).
 use Rattle.std.specs.Prelude.{◌≡◌, ◌↔◌, ℕ, ◌+◌, ◌-◌, ◌<◌, ◌≤◌, Bool, true, [], ◌∷◌, Option, Some, length}
-use Rattle.watch_machine.specs.declared.event.Event.TheVariants.{Renewed}
-use Rattle.watch_machine.specs.declared.event.Reply.TheVariants.{Told}
+use Rattle.watch_machine.specs.declared.event.WatchEvent.TheVariants.{Renewed}
+use Rattle.watch_machine.specs.declared.event.WatchReply.TheVariants.{Told}
 use Rattle.watch_machine.specs.declared.track.End.TheVariants.{At}
 use Rattle.watch_machine.specs.declared.track.Grant.{Grant}
 use Rattle.watch_machine.specs.Clocks.{sec}

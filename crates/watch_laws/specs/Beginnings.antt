@@ -5,17 +5,17 @@ use Rattle.std.specs.Prelude.{◌≡◌, ◌⊎◌, ◌==◌, ℕ, ◌+◌, ◌<
 use Rattle.std.specs.List.{list_any}
 use Rattle.plan_forest.specs.declared.forest.TheConstants.{END_MAX}
 use Rattle.watch_machine.specs.declared.clocks.WallOffset.{WallOffset}
-use Rattle.watch_machine.specs.declared.command.Output.{Output}
-use Rattle.watch_machine.specs.declared.command.Request.{Request}
-use Rattle.watch_machine.specs.declared.event.Event.{Event}
-use Rattle.watch_machine.specs.declared.event.Event.TheVariants.{Clock, Looked, Renewed, Need, Begin, Known}
+use Rattle.watch_machine.specs.declared.command.WatchOutput.{WatchOutput}
+use Rattle.watch_machine.specs.declared.command.WatchRequest.{WatchRequest}
+use Rattle.watch_machine.specs.declared.event.WatchEvent.{WatchEvent}
+use Rattle.watch_machine.specs.declared.event.WatchEvent.TheVariants.{Clock, Looked, Renewed, Need, Begin, Known}
 use Rattle.watch_machine.specs.declared.event.Operation.TheVariants.{Look}
-use Rattle.watch_machine.specs.declared.event.Reply.{Reply}
-use Rattle.watch_machine.specs.declared.event.Reply.TheVariants.{Told, Refused, Busy, Lost}
+use Rattle.watch_machine.specs.declared.event.WatchReply.{WatchReply}
+use Rattle.watch_machine.specs.declared.event.WatchReply.TheVariants.{Told, Refused, Busy, Lost}
 use Rattle.watch_machine.specs.declared.fault.WatchFault.{WatchFault}
 use Rattle.watch_machine.specs.declared.lanes.Out.{Out}
-use Rattle.watch_machine.specs.declared.notes.Why.{Why}
-use Rattle.watch_machine.specs.declared.notes.Why.TheVariants.{Start}
+use Rattle.watch_machine.specs.declared.notes.BeginReason.{BeginReason}
+use Rattle.watch_machine.specs.declared.notes.BeginReason.TheVariants.{Start}
 use Rattle.watch_machine.specs.declared.reading.TheConstants.{READING_MAX}
 use Rattle.watch_machine.specs.declared.track.Try.{Try}
 use Rattle.watch_machine.specs.Beginning.{is_called}
@@ -27,7 +27,7 @@ use Rattle.watch_laws.specs.Load.{requests_at_turn}
 use Rattle.watch_laws.specs.Outage.{is_tried}
 
 -- why everything is looked up anew at a turn, None where it is not
-abbrev pub why_begun : Result Output WatchFault → Option Why
+abbrev pub why_begun : Result WatchOutput WatchFault → Option BeginReason
 why_begun (Ok output) = output.notes.began
 why_begun (Err fault) = None
 
@@ -36,7 +36,7 @@ abbrev pub IsBeginning : Turned → Type 0
 IsBeginning turn = is_some (why_begun turn.result) ≡ true
 
 -- a turn asks for one
-abbrev pub is_begin : Event → Bool
+abbrev pub is_begin : WatchEvent → Bool
 is_begin (Clock wall elapsed) = false
 is_begin (Looked i reply terms) = false
 is_begin (Renewed i reply) = false
@@ -53,7 +53,7 @@ abbrev pub HasParted : WallOffset → ℕ → ℕ → Type 0
 HasParted set at wall = (set.there + at + 2000 < wall + set.here) ⊎ (wall + set.here + 2000 < set.there + at)
 
 -- so at a clock, by the reading that is handed in: there the wall has jumped
-abbrev pub Jumps : WatchState → Event → WatchState → Type 0
+abbrev pub Jumps : WatchState → WatchEvent → WatchState → Type 0
 Jumps old (Clock wall elapsed) new = HasParted old.clocks.wall new.clocks.at (min wall READING_MAX)
 Jumps old event new = ⊥
 
@@ -69,7 +69,7 @@ FewLaw =
     Jumps (state_after_all first.state between) second.event second.state ⊎ ((list_any asks_beginning_at between ≡ true) ⊎ (first.state.clocks.at + 600000 ≤ second.state.clocks.at))
 
 -- how many lookups of i go out
-abbrev pub is_lookup : ℕ → Request → Bool
+abbrev pub is_lookup : ℕ → WatchRequest → Bool
 is_lookup i r = r.entry == i && is_same r.operation Look
 
 abbrev pub lookups : ℕ → List Turned → ℕ
@@ -86,7 +86,7 @@ abbrev pub looks : ℕ → List Out → ℕ
 looks i out = length (filter (λ (q : Out). q.entry == i && is_same q.operation Look) out)
 
 -- an answer of i tells an end that is ahead: s is the state after it
-abbrev pub TellsAhead : WatchState → ℕ → Reply → Type 0
+abbrev pub TellsAhead : WatchState → ℕ → WatchReply → Type 0
 TellsAhead s i (Told seconds renewable date) = is_alive (second s) (track_at s i) ≡ true
 TellsAhead s i (Refused status date) = ⊥
 TellsAhead s i Busy = ⊥
@@ -94,7 +94,7 @@ TellsAhead s i Lost = ⊥
 
 -- all goes well with i: a clock does not begin anew, and finds i with an end that is ahead or unknown if it is to be asked; and an answer
 -- of i tells an end that is ahead, and so does one that is handed in. What others are answered is no matter
-abbrev pub GoesWell : ℕ → WatchState → Event → Output → Type 0
+abbrev pub GoesWell : ℕ → WatchState → WatchEvent → WatchOutput → Type 0
 GoesWell i s (Clock wall elapsed) output = (output.notes.began ≡ None) × (is_tried s i ≡ true → is_open (second s) (track_at s i) ≡ true)
 GoesWell i s (Looked j reply terms) output = j ≡ i → TellsAhead s i reply
 GoesWell i s (Renewed j reply) output = j ≡ i → TellsAhead s i reply
@@ -102,7 +102,7 @@ GoesWell i s (Need j until) output = Unit {0}
 GoesWell i s Begin output = Unit {0}
 GoesWell i s (Known j end renewable) output = j ≡ i → second s < min END_MAX end
 
-abbrev pub GoesWellAt : ℕ → WatchState → Event → Result Output WatchFault → Type 0
+abbrev pub GoesWellAt : ℕ → WatchState → WatchEvent → Result WatchOutput WatchFault → Type 0
 GoesWellAt i s event (Ok output) = GoesWell i s event output
 GoesWellAt i s event (Err fault) = Unit {0}
 
@@ -116,14 +116,14 @@ is_needed s i = is_called s.forest s.tracks s.clocks i
 
 -- a beginning is for the lookup of an entry that is needed: the first whatever its end, since that was handed in; any other where it is ahead or
 -- unknown
-abbrev pub IsForLookup : Option Why → WatchState → ℕ → Type 0
+abbrev pub IsForLookup : Option BeginReason → WatchState → ℕ → Type 0
 IsForLookup why s i = (why ≡ Some Start) ⊎ (is_open (second s) (track_at s i) ≡ true)
 
 -- how often i is looked up from a beginning on, and why that is one: before and begun are the states before and after its clock, last is that after
 -- all, and n is how many lookups go out. With one that was out before it is never two. Where i is needed, as whoever is wanted is, and the
 -- beginning is for its lookup, it owes one from then on, and it is one by the time that none is owed. None goes out where it is not needed, its
 -- end is ahead, it owed none before, and none that was refused is to be tried again
-pub record IsLookedUpOnce (before begun last : WatchState) (why : Option Why) (i n : ℕ) : Type 0 where
+pub record IsLookedUpOnce (before begun last : WatchState) (why : Option BeginReason) (i n : ℕ) : Type 0 where
   pub at_most : looks i before.out + n ≤ 1
   pub wanted : is_wanted begun i ≡ true → is_needed begun i ≡ true
   pub owes : is_needed begun i ≡ true → IsForLookup why begun i → (track_at begun i).owes ≡ true

@@ -1,8 +1,8 @@
 -- Begins: when a clock begins anew, and what is known from then on. The law is the contract of a public function without a body.
 -- Source: this project's own.
 use Rattle.std.specs.Prelude.{◌≡◌, ◌⊎◌, ℕ, ◌+◌, ◌<◌, ◌≤◌, true, false, [], ◌∷◌, Some, None, is_some, length, min}
-use Rattle.watch_machine.specs.declared.event.Event.TheVariants.{Begin}
-use Rattle.watch_machine.specs.declared.notes.Why.TheVariants.{Day}
+use Rattle.watch_machine.specs.declared.event.WatchEvent.TheVariants.{Begin}
+use Rattle.watch_machine.specs.declared.notes.BeginReason.TheVariants.{Day}
 use Rattle.watch_machine.specs.declared.reading.TheConstants.{READING_MAX}
 use Rattle.watch_machine.specs.Beginning.{is_pressed}
 use Rattle.watch_machine.specs.History.{History, IsReached, Turned}

@@ -11,11 +11,11 @@ use Rattle.plan_rule.specs.Asks.{asks, first_of, with_asks}
 use Rattle.plan_rule.specs.Ends.{ends_after_wake_up, is_asked}
 use Rattle.plan_rule.specs.Least.{IsLeastAndLatest}
 use Rattle.plan_rule.specs.Unkeepable.{AllKeepable}
-use Rattle.watch_machine.specs.declared.command.Output.{Output}
-use Rattle.watch_machine.specs.declared.event.Event.{Event}
-use Rattle.watch_machine.specs.declared.event.Event.TheVariants.{Clock, Renewed}
+use Rattle.watch_machine.specs.declared.command.WatchOutput.{WatchOutput}
+use Rattle.watch_machine.specs.declared.event.WatchEvent.{WatchEvent}
+use Rattle.watch_machine.specs.declared.event.WatchEvent.TheVariants.{Clock, Renewed}
 use Rattle.watch_machine.specs.declared.event.Operation.TheVariants.{Renew}
-use Rattle.watch_machine.specs.declared.event.Reply.TheVariants.{Told}
+use Rattle.watch_machine.specs.declared.event.WatchReply.TheVariants.{Told}
 use Rattle.watch_machine.specs.declared.fault.WatchFault.{WatchFault}
 use Rattle.watch_machine.specs.declared.lanes.Out.{Out}
 use Rattle.watch_machine.specs.Beginning.{is_pressed}
@@ -111,7 +111,7 @@ IsOfPlan s None = (ts : List ℕ) × (IsPlanNow s ts × ((t : ℕ) → first_of 
 -- a clock that was taken in calm
 abbrev pub RoundsRight : WatchState → Turned → Type 0
 RoundsRight old turn =
-    (wall elapsed : ℕ) (output : Output) → turn.event ≡ Clock wall elapsed → turn.result ≡ Ok output → IsCalm (readied old wall elapsed) →
+    (wall elapsed : ℕ) (output : WatchOutput) → turn.event ≡ Clock wall elapsed → turn.result ≡ Ok output → IsCalm (readied old wall elapsed) →
     IsOfPlan (readied old wall elapsed) output.notes.round
 
 abbrev pub AllRight : WatchState → List Turned → Type 0
@@ -163,13 +163,13 @@ pub record GrantIsByRule (s : WatchState) (began i seconds : ℕ) (q : Out) : Ty
   pub in_time : (sec q.since ≡ began) ⊎ (second s + 1 < time_left s.forest.margin (entry_of s i).step seconds began)
 
 -- such a clock, or the answer to a renewal by the rule
-abbrev pub IsCalmEvent : WatchState → ℕ → Event → Type 0
+abbrev pub IsCalmEvent : WatchState → ℕ → WatchEvent → Type 0
 IsCalmEvent s began (Clock wall elapsed) = IsCalmClock s began wall elapsed
 IsCalmEvent s began (Renewed i (Told seconds renewable date)) = (renewable ≡ true) × IfSome (request_out s.out i Renew) (GrantIsByRule s began i seconds)
 IsCalmEvent s began (Renewed i reply) = ⊥
 IsCalmEvent s began event = ⊥
 
-abbrev pub IsCalmTurn : WatchState → ℕ → Event → Result Output WatchFault → Type 0
+abbrev pub IsCalmTurn : WatchState → ℕ → WatchEvent → Result WatchOutput WatchFault → Type 0
 IsCalmTurn s began event (Ok output) = IsCalmEvent s began event
 IsCalmTurn s began event (Err fault) = Unit {0}
 

@@ -7,7 +7,7 @@ use Rattle.plan_forest.specs.declared.entry.Entry.{Entry}
 use Rattle.plan_forest.specs.Forest.{Forest, entry_at}
 use Rattle.plan_forest.specs.Push.{IsForest, is_lease}
 use Rattle.watch_machine.specs.declared.change.Was.TheVariants.{New, Same, Retold}
-use Rattle.watch_machine.specs.declared.command.Output.{Output}
+use Rattle.watch_machine.specs.declared.command.WatchOutput.{WatchOutput}
 use Rattle.watch_machine.specs.declared.event.Operation.{Operation}
 use Rattle.watch_machine.specs.declared.event.Operation.TheVariants.{Look}
 use Rattle.watch_machine.specs.declared.fault.WatchFault.{WatchFault}
@@ -123,7 +123,7 @@ pub record NothingElse (old new : WatchState) : Type 0 where
 
 -- an answer to a request whose entry is no more is of no entry: where the broker was there, no track is another. And nothing is noted but
 -- what it says of the broker
-abbrev pub notes_of_turn : Result Output WatchFault → Notes
+abbrev pub notes_of_turn : Result WatchOutput WatchFault → Notes
 notes_of_turn (Ok output) = output.notes
 notes_of_turn (Err fault) = nothing_noted
 

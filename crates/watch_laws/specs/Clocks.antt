@@ -5,10 +5,10 @@ use Rattle.std.specs.Prelude.{◌≡◌, ◌≢◌, ℕ, ◌+◌, ◌<◌, ◌�
 use Rattle.std.specs.List.{list_any}
 use Rattle.base_moment.specs.declared.moment.TheConstants.{LAST}
 use Rattle.watch_machine.specs.declared.clocks.Clocks.{Clocks}
-use Rattle.watch_machine.specs.declared.event.Event.{Event}
-use Rattle.watch_machine.specs.declared.event.Event.TheVariants.{Clock, Looked, Renewed, Need, Begin, Known}
-use Rattle.watch_machine.specs.declared.event.Reply.{Reply}
-use Rattle.watch_machine.specs.declared.event.Reply.TheVariants.{Told, Refused, Busy, Lost}
+use Rattle.watch_machine.specs.declared.event.WatchEvent.{WatchEvent}
+use Rattle.watch_machine.specs.declared.event.WatchEvent.TheVariants.{Clock, Looked, Renewed, Need, Begin, Known}
+use Rattle.watch_machine.specs.declared.event.WatchReply.{WatchReply}
+use Rattle.watch_machine.specs.declared.event.WatchReply.TheVariants.{Told, Refused, Busy, Lost}
 use Rattle.watch_machine.specs.declared.lanes.Out.{Out}
 use Rattle.watch_machine.specs.declared.reading.TheConstants.{READING_MAX}
 use Rattle.watch_machine.specs.Clocks.{sec}
@@ -19,7 +19,7 @@ use Rattle.watch_laws.specs.Beginnings.{HasParted}
 use Rattle.watch_laws.specs.Presence.{is_asked_at_turn}
 
 -- the date of a reply
-abbrev pub date_told : Reply → Option ℕ
+abbrev pub date_told : WatchReply → Option ℕ
 date_told (Told seconds renewable date) = date
 date_told (Refused status date) = date
 date_told Busy = None
@@ -30,7 +30,7 @@ abbrev pub IsClock : ℕ → ℕ → Turned → Type 0
 IsClock wall elapsed turn = (turn.event ≡ Clock wall elapsed) × (is_event_taken turn.result ≡ true)
 
 -- a turn at which the reply to a request of i is taken that has this date
-abbrev pub IsDateOf : ℕ → ℕ → Event → Type 0
+abbrev pub IsDateOf : ℕ → ℕ → WatchEvent → Type 0
 IsDateOf i date (Looked j reply terms) = (j ≡ i) × (date_told reply ≡ Some date)
 IsDateOf i date (Renewed j reply) = (j ≡ i) × (date_told reply ≡ Some date)
 IsDateOf i date event = ⊥
@@ -39,7 +39,7 @@ abbrev pub IsDate : ℕ → ℕ → Turned → Type 0
 IsDate i date turn = IsDateOf i date turn.event × (is_event_taken turn.result ≡ true)
 
 -- a turn at which readings or a date are taken
-abbrev pub sets : Event → Bool
+abbrev pub sets : WatchEvent → Bool
 sets (Clock wall elapsed) = true
 sets (Looked i reply terms) = is_some (date_told reply)
 sets (Renewed i reply) = is_some (date_told reply)

@@ -3,7 +3,7 @@
 use Rattle.std.specs.Prelude.{◌≡◌, ◌⊎◌, ℕ, ◌+◌, ◌<◌, true, false, [], ◌∷◌, Some, None, is_none, min}
 use Rattle.base_moment.specs.declared.moment.TheConstants.{LAST}
 use Rattle.watch_machine.specs.declared.clocks.BrokerOffset.{BrokerOffset}
-use Rattle.watch_machine.specs.declared.lanes.Answer.{Answer}
+use Rattle.watch_machine.specs.declared.lanes.LaneAnswer.{LaneAnswer}
 use Rattle.watch_machine.specs.Clocks.{sec}
 use Rattle.watch_machine.specs.History.{History, IsReached, Turned}
 use Rattle.watch_machine.specs.State.{WatchState, second}
@@ -32,6 +32,6 @@ pub record IsSteppedBy (old new : WatchState) (date : ℕ) : Type 0 where
 -- so at a clock after one reply with a date, where a date had set the broker's clock before
 abbrev pub WindowLaw : Type 0
 WindowLaw =
-    (old : WatchState) (turn : Turned) (wall elapsed : ℕ) (a : Answer) (date : ℕ) → IsReached old → History old (turn ∷ []) → IsClock wall elapsed turn →
+    (old : WatchState) (turn : Turned) (wall elapsed : ℕ) (a : LaneAnswer) (date : ℕ) → IsReached old → History old (turn ∷ []) → IsClock wall elapsed turn →
     is_none old.begun ≡ false → old.clocks.dated ≡ true → old.answers ≡ a ∷ [] → date_told a.reply ≡ Some date →
     IsDatedBy old turn.state a.since (min LAST date) × (why_begun turn.result ≡ None → IsSteppedBy old turn.state (min LAST date))

@@ -4,10 +4,10 @@
 use Rattle.std.specs.Prelude.{◌≡◌, ◌==◌, ℕ, ◌+◌, ◌≤◌, Bool, false, ◌&&◌, if◌then◌else◌, List, [], ◌∷◌, Option, Some, None, map}
 use Rattle.std.specs.List.{list_any}
 use Rattle.plan_forest.specs.Forest.{Forest}
-use Rattle.watch_machine.specs.declared.event.Event.{Event}
-use Rattle.watch_machine.specs.declared.event.Event.TheVariants.{Clock, Looked, Renewed, Need, Begin, Known}
-use Rattle.watch_machine.specs.declared.event.Reply.{Reply}
-use Rattle.watch_machine.specs.declared.event.Reply.TheVariants.{Told, Refused, Busy, Lost}
+use Rattle.watch_machine.specs.declared.event.WatchEvent.{WatchEvent}
+use Rattle.watch_machine.specs.declared.event.WatchEvent.TheVariants.{Clock, Looked, Renewed, Need, Begin, Known}
+use Rattle.watch_machine.specs.declared.event.WatchReply.{WatchReply}
+use Rattle.watch_machine.specs.declared.event.WatchReply.TheVariants.{Told, Refused, Busy, Lost}
 use Rattle.watch_machine.specs.declared.track.End.TheVariants.{At}
 use Rattle.watch_machine.specs.Clocks.{ms}
 use Rattle.watch_machine.specs.History.{Changes, Happening, Happens, Hands, Turned, state_after, stood}
@@ -49,7 +49,7 @@ pub record IsNoLater (w : TimedWorld) (phase end real : ℕ) (o : Origin) : Type
 
 -- a reply was true: the broker read the request after that had gone out, and before the real end; and an end that is told as so many
 -- seconds was as far away then, or further, but for what was told too much
-abbrev pub IsTrueReply : ℕ → ℕ → Origin → Reply → Type 0
+abbrev pub IsTrueReply : ℕ → ℕ → Origin → WatchReply → Type 0
 IsTrueReply asked real o (Told seconds renewable date) = (asked ≤ o.since) × ((o.since ≤ real) × (o.since + ms seconds ≤ real + o.over))
 IsTrueReply asked real o (Refused status date) = Unit {0}
 IsTrueReply asked real o Busy = Unit {0}
@@ -57,7 +57,7 @@ IsTrueReply asked real o Lost = Unit {0}
 
 -- an event was true of i, whose last request went out at asked: a reading was taken before it was handed in, a reply was true, and an
 -- end that is known was told by an earlier watch
-abbrev pub IsTrueEvent : TimedWorld → ℕ → ℕ → WatchState → Lived → Event → Type 0
+abbrev pub IsTrueEvent : TimedWorld → ℕ → ℕ → WatchState → Lived → WatchEvent → Type 0
 IsTrueEvent w i asked s l (Clock wall elapsed) = elapsed ≤ w.reading l.at
 IsTrueEvent w i asked s l (Looked j reply terms) = j ≡ i → IsTrueReply asked l.real l.origin reply
 IsTrueEvent w i asked s l (Renewed j reply) = j ≡ i → IsTrueReply asked l.real l.origin reply
@@ -66,7 +66,7 @@ IsTrueEvent w i asked s l Begin = Unit {0}
 IsTrueEvent w i asked s l (Known j end renewable) = j ≡ i → IsNoLater w s.clocks.phase end l.real l.origin
 
 -- of an entry that is not there yet a reading alone is told
-abbrev pub IsTrueReading : TimedWorld → ℕ → Event → Type 0
+abbrev pub IsTrueReading : TimedWorld → ℕ → WatchEvent → Type 0
 IsTrueReading w at (Clock wall elapsed) = elapsed ≤ w.reading at
 IsTrueReading w at event = Unit {0}
 
@@ -96,7 +96,7 @@ AreLivedFrom w k s last asked real (l ∷ ls) =
     × AreLivedFrom w k (state_after l.happening) l.at (asked_at (stood (happened ls) k) asked l l.happening) l.real ls)))
 
 -- an event tells the end of i
-abbrev pub tells : ℕ → Event → Bool
+abbrev pub tells : ℕ → WatchEvent → Bool
 tells i (Clock wall elapsed) = false
 tells i (Looked j reply terms) = is_told reply && j == i
 tells i (Renewed j reply) = is_told reply && j == i

@@ -1,14 +1,14 @@
 -- Failures: which answers count as failures of their entry. The laws are the contract of a public function without a body.
 -- Source: this project's own.
 use Rattle.std.specs.Prelude.{◌≡◌, ◌⊎◌, ℕ, ◌+◌, ◌≤◌, Bool, true, false, not, ◌&&◌, ◌||◌, if◌then◌else◌, List, [], ◌∷◌, Option, Some, None, Result, Ok, Err, IfSome, min}
-use Rattle.watch_machine.specs.declared.command.Output.{Output}
-use Rattle.watch_machine.specs.declared.event.Event.{Event}
-use Rattle.watch_machine.specs.declared.event.Event.TheVariants.{Clock, Looked, Renewed, Need, Begin, Known}
+use Rattle.watch_machine.specs.declared.command.WatchOutput.{WatchOutput}
+use Rattle.watch_machine.specs.declared.event.WatchEvent.{WatchEvent}
+use Rattle.watch_machine.specs.declared.event.WatchEvent.TheVariants.{Clock, Looked, Renewed, Need, Begin, Known}
 use Rattle.watch_machine.specs.declared.event.Operation.{Operation}
 use Rattle.watch_machine.specs.declared.event.Operation.TheVariants.{Look, Renew}
-use Rattle.watch_machine.specs.declared.event.Reply.{Reply}
-use Rattle.watch_machine.specs.declared.event.Reply.TheVariants.{Told, Refused, Busy, Lost}
-use Rattle.watch_machine.specs.declared.event.Terms.{Terms}
+use Rattle.watch_machine.specs.declared.event.WatchReply.{WatchReply}
+use Rattle.watch_machine.specs.declared.event.WatchReply.TheVariants.{Told, Refused, Busy, Lost}
+use Rattle.watch_machine.specs.declared.event.WatchTerms.{WatchTerms}
 use Rattle.watch_machine.specs.declared.fault.WatchFault.{WatchFault}
 use Rattle.watch_machine.specs.declared.lanes.Out.{Out}
 use Rattle.watch_machine.specs.declared.track.Track.{Track}
@@ -37,20 +37,20 @@ IsLostToBusy away x = IfSome x.attempt (λ t. (t.lost ≡ true) × ((t.failed �
 
 -- what the answer to a renewal leaves of its entry, by whether the broker was away before it: where it is refused, where the broker is busy, and
 -- where none came
-abbrev pub RenewalFails : Bool → Reply → Track → Type 0
+abbrev pub RenewalFails : Bool → WatchReply → Track → Type 0
 RenewalFails away (Told seconds renewable date) x = Unit {0}
 RenewalFails away (Refused status date) x = TryHasFailed false x.attempt
 RenewalFails away Busy x = IsLostToBusy away x
 RenewalFails away Lost x = TryHasFailed true x.attempt
 
 -- and that to a lookup, after whose refusal a renewal may go out at once
-abbrev pub LookupFails : Bool → ℕ → Reply → Track → Type 0
+abbrev pub LookupFails : Bool → ℕ → WatchReply → Track → Type 0
 LookupFails away at (Told seconds renewable date) x = Unit {0}
 LookupFails away at (Refused status date) x = TryHasFailed false x.attempt ⊎ MayGoNow at x.attempt
 LookupFails away at Busy x = IsLostToBusy away x
 LookupFails away at Lost x = TryHasFailed true x.attempt
 
-abbrev pub FailsTaken : WatchState → Event → WatchState → Type 0
+abbrev pub FailsTaken : WatchState → WatchEvent → WatchState → Type 0
 FailsTaken old (Clock wall elapsed) new = Unit {0}
 FailsTaken old (Looked i reply terms) new = LookupFails old.presence.away new.clocks.at reply (track_at new i)
 FailsTaken old (Renewed i reply) new = RenewalFails old.presence.away reply (track_at new i)
@@ -58,7 +58,7 @@ FailsTaken old (Need i until) new = Unit {0}
 FailsTaken old Begin new = Unit {0}
 FailsTaken old (Known i end renewable) new = Unit {0}
 
-abbrev pub FailsRight : WatchState → Event → Result Output WatchFault → WatchState → Type 0
+abbrev pub FailsRight : WatchState → WatchEvent → Result WatchOutput WatchFault → WatchState → Type 0
 FailsRight old event (Ok output) new = FailsTaken old event new
 FailsRight old event (Err fault) new = Unit {0}
 
@@ -85,13 +85,13 @@ abbrev pub StaysLostLaw : Type 0
 StaysLostLaw = (old : WatchState) (turns : List Turned) → IsReached old → History old turns → AllKeepLoss old turns
 
 -- what came of a request that told nothing
-abbrev pub is_refused : Reply → Bool
+abbrev pub is_refused : WatchReply → Bool
 is_refused (Told seconds renewable date) = false
 is_refused (Refused status date) = true
 is_refused Busy = false
 is_refused Lost = false
 
-abbrev pub is_lost : Reply → Bool
+abbrev pub is_lost : WatchReply → Bool
 is_lost (Told seconds renewable date) = false
 is_lost (Refused status date) = false
 is_lost Busy = false
@@ -100,7 +100,7 @@ is_lost Lost = true
 -- the try u that a reply which tells nothing leaves of t, to a request that had heard of an answer to another or not: it has failed once
 -- more, 20 times at most; nothing counts from when it began; and it is alone where no reply came though others were answered. It asks this
 -- next
-pub record IsFailure (t u : Try) (reply : Reply) (heard : Bool) (next : Operation) : Type 0 where
+pub record IsFailure (t u : Try) (reply : WatchReply) (heard : Bool) (next : Operation) : Type 0 where
   pub fails : u.fails ≡ min 20 (t.fails + 1)
   pub base : u.base ≡ None
   pub alone : u.alone ≡ is_lost reply && heard
@@ -108,20 +108,20 @@ pub record IsFailure (t u : Try) (reply : Reply) (heard : Bool) (next : Operatio
   pub operation : u.operation ≡ next
 
 -- after a renewal: the renewal again while the end is ahead, also where a lookup is owed; but a lookup where it was refused
-abbrev pub asked_after_renewal : Reply → Bool → Operation
+abbrev pub asked_after_renewal : WatchReply → Bool → Operation
 asked_after_renewal reply ahead = if not (is_refused reply) && ahead then Renew else Look
 
 -- after a lookup: a renewal where the end is ahead or unknown and the lookup was refused, or the entry is to be kept alive; else the lookup again
-abbrev pub asked_after_lookup : Reply → Bool → Bool → Operation
+abbrev pub asked_after_lookup : WatchReply → Bool → Bool → Operation
 asked_after_lookup reply pressed lives = if (is_refused reply || pressed) && lives then Renew else Look
 
 -- so after each reply that tells nothing. And a lookup that is owed stays so, until it is told or refused
 pub record FailureLaw : Type 0 where
   pub renewal :
-      (old : WatchState) (turn : Turned) (i : ℕ) (reply : Reply) (t u : Try) (q : Out) → History old (turn ∷ []) → turn.event ≡ Renewed i reply → is_event_taken turn.result ≡ true → is_told reply ≡ false →
+      (old : WatchState) (turn : Turned) (i : ℕ) (reply : WatchReply) (t u : Try) (q : Out) → History old (turn ∷ []) → turn.event ≡ Renewed i reply → is_event_taken turn.result ≡ true → is_told reply ≡ false →
       request_out old.out i Renew ≡ Some q → attempt_at old i ≡ Some t → attempt_at turn.state i ≡ Some u →
       IsFailure t u reply q.heard (asked_after_renewal reply (is_alive (second old) (track_at old i))) × ((track_at turn.state i).owes ≡ (track_at old i).owes)
   pub lookup :
-      (old : WatchState) (turn : Turned) (i : ℕ) (reply : Reply) (terms : Terms) (t u : Try) (q : Out) → History old (turn ∷ []) → turn.event ≡ Looked i reply terms → is_event_taken turn.result ≡ true →
+      (old : WatchState) (turn : Turned) (i : ℕ) (reply : WatchReply) (terms : WatchTerms) (t u : Try) (q : Out) → History old (turn ∷ []) → turn.event ≡ Looked i reply terms → is_event_taken turn.result ≡ true →
       is_told reply ≡ false → request_out old.out i Look ≡ Some q → attempt_at old i ≡ Some t → attempt_at turn.state i ≡ Some u →
       IsFailure t u reply q.heard (asked_after_lookup reply t.pressed (is_open (second old) (track_at old i))) × ((track_at turn.state i).owes ≡ (track_at old i).owes && not (is_refused reply))

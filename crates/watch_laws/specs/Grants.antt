@@ -1,9 +1,9 @@
 -- Grants: what is believed of an entry when it is granted. The laws are the contract of public functions without a body.
 -- Source: this project's own, over Vault, "Lease, renew, and revoke".
 use Rattle.std.specs.Prelude.{◌≡◌, ℕ, ◌+◌, ◌-◌, ◌*◌, ◌/◌, ◌<◌, ◌≤◌, Bool, true, [], ◌∷◌, Option, Some, None, IfSome, length, min}
-use Rattle.watch_machine.specs.declared.event.Event.TheVariants.{Renewed}
+use Rattle.watch_machine.specs.declared.event.WatchEvent.TheVariants.{Renewed}
 use Rattle.watch_machine.specs.declared.event.Operation.TheVariants.{Renew}
-use Rattle.watch_machine.specs.declared.event.Reply.TheVariants.{Told}
+use Rattle.watch_machine.specs.declared.event.WatchReply.TheVariants.{Told}
 use Rattle.watch_machine.specs.declared.lanes.Out.{Out}
 use Rattle.watch_machine.specs.declared.track.End.TheVariants.{At}
 use Rattle.watch_machine.specs.declared.track.Grant.{Grant}

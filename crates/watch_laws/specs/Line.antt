@@ -1,7 +1,7 @@
 -- Line: from when on a try may go out, and who goes out before whom. The laws are the contract of a public function without a body.
 -- Source: this project's own.
 use Rattle.std.specs.Prelude.{◌≡◌, ◌⊎◌, ◌==◌, ℕ, ◌+◌, ◌<◌, Bool, not, ◌&&◌, if◌then◌else◌, [], ◌∷◌, Option, Some, None, All, max, min}
-use Rattle.watch_machine.specs.declared.command.Request.{Request}
+use Rattle.watch_machine.specs.declared.command.WatchRequest.{WatchRequest}
 use Rattle.watch_machine.specs.declared.event.Operation.TheVariants.{Renew}
 use Rattle.watch_machine.specs.declared.track.End.{End}
 use Rattle.watch_machine.specs.declared.track.Try.{Try}
@@ -60,4 +60,4 @@ pub record StandsInFront (old new : WatchState) (i j : ℕ) : Type 0 where
 
 -- whatever goes out at a clock stands in front of each entry that may go out and does not
 abbrev pub LineLaw : Type 0
-LineLaw = (old : WatchState) (turn : Turned) (j : ℕ) → History old (turn ∷ []) → MayGo turn.state j → All (λ (r : Request). StandsInFront old turn.state r.entry j) (requests_at_turn turn.result)
+LineLaw = (old : WatchState) (turn : Turned) (j : ℕ) → History old (turn ∷ []) → MayGo turn.state j → All (λ (r : WatchRequest). StandsInFront old turn.state r.entry j) (requests_at_turn turn.result)

@@ -2,10 +2,10 @@
 -- without a body.
 use Rattle.std.specs.Prelude.{◌≡◌, ◌⊎◌, ◌==◌, ℕ, ◌+◌, ◌*◌, ◌≤◌, Bool, ◌&&◌, List, [], ◌∷◌, ◌++◌, Option, Some, None, Result, Ok, Err, filter, length, map, nat_le}
 use Rattle.plan_forest.specs.Forest.{Forest}
-use Rattle.watch_machine.specs.declared.command.Command.{Command}
-use Rattle.watch_machine.specs.declared.command.Command.TheVariants.{Go, Taken}
-use Rattle.watch_machine.specs.declared.command.Output.{Output}
-use Rattle.watch_machine.specs.declared.command.Request.{Request}
+use Rattle.watch_machine.specs.declared.command.WatchCommand.{WatchCommand}
+use Rattle.watch_machine.specs.declared.command.WatchCommand.TheVariants.{Go, Taken}
+use Rattle.watch_machine.specs.declared.command.WatchOutput.{WatchOutput}
+use Rattle.watch_machine.specs.declared.command.WatchRequest.{WatchRequest}
 use Rattle.watch_machine.specs.declared.event.Operation.{Operation}
 use Rattle.watch_machine.specs.declared.event.Operation.TheVariants.{Look, Renew}
 use Rattle.watch_machine.specs.declared.fault.WatchFault.{WatchFault}
@@ -17,21 +17,21 @@ pub record Sent : Type 0 where
   pub operation : Operation
   pub at : ℕ
 
-abbrev pub requests_asked_by : Command → List Request
+abbrev pub requests_asked_by : WatchCommand → List WatchRequest
 requests_asked_by (Go requests until) = requests
 requests_asked_by Taken = []
 
 -- the requests that go out at a turn
-abbrev pub requests_at_turn : Result Output WatchFault → List Request
+abbrev pub requests_at_turn : Result WatchOutput WatchFault → List WatchRequest
 requests_at_turn (Ok output) = requests_asked_by output.command
 requests_at_turn (Err fault) = []
 
 -- those of i
-abbrev pub sent_at : ℕ → ℕ → List Request → List Sent
+abbrev pub sent_at : ℕ → ℕ → List WatchRequest → List Sent
 sent_at i at requests = map (λ r. record { operation = r.operation; at = at }) (filter (λ r. r.entry == i) requests)
 
 -- and those of the entry that stands at k in the end, wherever it stood before; none while it was not there yet
-abbrev pub sent_of_some : Option ℕ → ℕ → List Request → List Sent
+abbrev pub sent_of_some : Option ℕ → ℕ → List WatchRequest → List Sent
 sent_of_some None at requests = []
 sent_of_some (Some i) at requests = sent_at i at requests
 

@@ -3,14 +3,14 @@
 use Rattle.std.specs.Prelude.{◌≡◌, ◌≢◌, ◌⊎◌, ◌==◌, ℕ, zero, suc, ◌+◌, ◌-◌, ◌*◌, ◌/◌, ◌<◌, ◌≤◌, Bool, true, false, not, ◌&&◌, ◌||◌, if◌then◌else◌, List, [], ◌∷◌, ◌++◌, Option, Some, None, Result, Ok, Err, IfSome, is_some, length, map, max, nat_le}
 use Rattle.std.specs.List.{All, list_any}
 use Rattle.plan_forest.specs.Forest.{Forest}
-use Rattle.watch_machine.specs.declared.command.Command.{Command}
-use Rattle.watch_machine.specs.declared.command.Command.TheVariants.{Go, Taken}
-use Rattle.watch_machine.specs.declared.command.Output.{Output}
-use Rattle.watch_machine.specs.declared.event.Event.{Event}
-use Rattle.watch_machine.specs.declared.event.Event.TheVariants.{Clock, Looked, Renewed, Need, Begin, Known}
+use Rattle.watch_machine.specs.declared.command.WatchCommand.{WatchCommand}
+use Rattle.watch_machine.specs.declared.command.WatchCommand.TheVariants.{Go, Taken}
+use Rattle.watch_machine.specs.declared.command.WatchOutput.{WatchOutput}
+use Rattle.watch_machine.specs.declared.event.WatchEvent.{WatchEvent}
+use Rattle.watch_machine.specs.declared.event.WatchEvent.TheVariants.{Clock, Looked, Renewed, Need, Begin, Known}
 use Rattle.watch_machine.specs.declared.event.Operation.TheVariants.{Look, Renew}
-use Rattle.watch_machine.specs.declared.event.Reply.{Reply}
-use Rattle.watch_machine.specs.declared.event.Reply.TheVariants.{Told, Refused, Busy, Lost}
+use Rattle.watch_machine.specs.declared.event.WatchReply.{WatchReply}
+use Rattle.watch_machine.specs.declared.event.WatchReply.TheVariants.{Told, Refused, Busy, Lost}
 use Rattle.watch_machine.specs.declared.fault.WatchFault.{WatchFault}
 use Rattle.watch_machine.specs.declared.lanes.Out.{Out}
 use Rattle.watch_machine.specs.declared.track.Try.{Try}
@@ -51,11 +51,11 @@ outage_settled_by o since = since + (if is_request_whole o since then o.quick el
 abbrev pub outage_next_by : Outage → ℕ → List Out → ℕ
 outage_next_by o until out = least (until + o.late) (map (λ (q : Out). outage_settled_by o q.since + o.late) out)
 
-abbrev pub outage_next_after_command : Outage → Command → WatchState → ℕ → ℕ
+abbrev pub outage_next_after_command : Outage → WatchCommand → WatchState → ℕ → ℕ
 outage_next_after_command o (Go requests until) s due = outage_next_by o until s.out
 outage_next_after_command o Taken s due = due
 
-abbrev pub outage_next_after : Outage → Result Output WatchFault → WatchState → ℕ → ℕ
+abbrev pub outage_next_after : Outage → Result WatchOutput WatchFault → WatchState → ℕ → ℕ
 outage_next_after o (Ok output) s due = outage_next_after_command o output.command s due
 outage_next_after o (Err fault) s due = due
 
@@ -76,19 +76,19 @@ abbrev pub IsShortOutage : Outage → ℕ → Type 0
 IsShortOutage o margin = IsShortFor o (ms margin)
 
 -- the broker: no request that is whole is lost
-abbrev pub IsReplyInOutage : Outage → Reply → Out → Type 0
+abbrev pub IsReplyInOutage : Outage → WatchReply → Out → Type 0
 IsReplyInOutage o (Told seconds renewable date) q = Unit {0}
 IsReplyInOutage o (Refused status date) q = Unit {0}
 IsReplyInOutage o Busy q = Unit {0}
 IsReplyInOutage o Lost q = is_request_whole o q.since ≡ false
 
 -- a reply that tells nothing, and not to a request that is whole
-abbrev pub TellsNothing : Outage → Reply → Out → Type 0
+abbrev pub TellsNothing : Outage → WatchReply → Out → Type 0
 TellsNothing o reply q = (is_told reply ≡ false) × (is_request_whole o q.since ≡ false)
 
 -- what happens until i is told, or a request of it that is whole is answered: a clock in time, with or without a beginning; replies; needs;
 -- beginnings that are asked for; and ends of others, as an earlier watch told them
-abbrev pub IsIncident : Outage → ℕ → ℕ → WatchState → Event → Type 0
+abbrev pub IsIncident : Outage → ℕ → ℕ → WatchState → WatchEvent → Type 0
 IsIncident o i due s (Clock wall elapsed) = (timed s wall elapsed).clocks.at ≤ due
 IsIncident o i due s (Looked j reply terms) = IfSome (request_out s.out j Look) (IsReplyInOutage o reply) × (j ≡ i → IfSome (request_out s.out j Look) (TellsNothing o reply))
 IsIncident o i due s (Renewed j reply) = IfSome (request_out s.out j Renew) (IsReplyInOutage o reply) × (j ≡ i → IfSome (request_out s.out j Renew) (TellsNothing o reply))
@@ -96,7 +96,7 @@ IsIncident o i due s (Need j until) = Unit {0}
 IsIncident o i due s Begin = Unit {0}
 IsIncident o i due s (Known j end renewable) = j ≢ i
 
-abbrev pub IsLived : Outage → ℕ → ℕ → WatchState → Event → Result Output WatchFault → Type 0
+abbrev pub IsLived : Outage → ℕ → ℕ → WatchState → WatchEvent → Result WatchOutput WatchFault → Type 0
 IsLived o i due s event (Ok output) = IsIncident o i due s event
 IsLived o i due s event (Err fault) = Unit {0}
 
@@ -200,7 +200,7 @@ abbrev pub granted_at : WatchState → ℕ → ℕ
 granted_at s i = clock_asked_at (track_at s i).last
 
 -- a reply tells the end of i: to a renewal that is granted, or to a lookup
-abbrev pub tells : ℕ → Event → Bool
+abbrev pub tells : ℕ → WatchEvent → Bool
 tells i (Clock wall elapsed) = false
 tells i (Looked j reply terms) = j == i && is_told reply
 tells i (Renewed j reply) = j == i && is_told reply
@@ -264,7 +264,7 @@ LeftLaw =
     IsShortFor o (ms (believed (track_at last.state i).end) - from) → AllInTime o i from hs
 
 -- what a new watch may be told before its first clock: ends of an earlier one, needs, and that all is to begin anew
-abbrev pub is_handed : Event → Bool
+abbrev pub is_handed : WatchEvent → Bool
 is_handed (Clock wall elapsed) = false
 is_handed (Looked j reply terms) = false
 is_handed (Renewed j reply) = false

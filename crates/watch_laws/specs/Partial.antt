@@ -2,14 +2,14 @@
 -- Source: this project's own.
 use Rattle.std.specs.Prelude.{◌≡◌, ◌≢◌, ◌==◌, ℕ, zero, suc, ◌+◌, ◌*◌, ◌≤◌, ◌<◌, Bool, true, false, not, ◌&&◌, ◌||◌, if◌then◌else◌, List, [], ◌∷◌, ◌++◌, Option, Some, None, Result, Ok, Err, length, map, max, min, nat_lt}
 use Rattle.std.specs.List.{All}
-use Rattle.watch_machine.specs.declared.command.Command.{Command}
-use Rattle.watch_machine.specs.declared.command.Command.TheVariants.{Go, Taken}
-use Rattle.watch_machine.specs.declared.command.Output.{Output}
+use Rattle.watch_machine.specs.declared.command.WatchCommand.{WatchCommand}
+use Rattle.watch_machine.specs.declared.command.WatchCommand.TheVariants.{Go, Taken}
+use Rattle.watch_machine.specs.declared.command.WatchOutput.{WatchOutput}
 use Rattle.watch_machine.specs.declared.command.Patience.{Patience}
 use Rattle.watch_machine.specs.declared.command.Patience.TheVariants.{Full, AtMost}
-use Rattle.watch_machine.specs.declared.command.Request.{Request}
-use Rattle.watch_machine.specs.declared.event.Event.{Event}
-use Rattle.watch_machine.specs.declared.event.Event.TheVariants.{Clock, Looked, Renewed, Need, Begin, Known}
+use Rattle.watch_machine.specs.declared.command.WatchRequest.{WatchRequest}
+use Rattle.watch_machine.specs.declared.event.WatchEvent.{WatchEvent}
+use Rattle.watch_machine.specs.declared.event.WatchEvent.TheVariants.{Clock, Looked, Renewed, Need, Begin, Known}
 use Rattle.watch_machine.specs.declared.event.Operation.TheVariants.{Renew}
 use Rattle.watch_machine.specs.declared.fault.WatchFault.{WatchFault}
 use Rattle.watch_machine.specs.declared.lanes.Out.{Out}
@@ -55,11 +55,11 @@ may_take slow Full = slow
 may_take slow (AtMost n) = min slow n
 
 -- how long it takes at most: that of a hung entry until its patience is over
-abbrev pub longest : Partial → Request → ℕ
+abbrev pub longest : Partial → WatchRequest → ℕ
 longest o r = if o.hung r.entry then may_take o.slow r.patience else o.quick
 
 -- the broker: each request that goes out is settled in that time
-abbrev pub AreSettled : Partial → Command → WatchState → Type 0
+abbrev pub AreSettled : Partial → WatchCommand → WatchState → Type 0
 AreSettled o (Go requests until) s = All (λ r. o.takes r.entry s.clocks.at ≤ longest o r) requests
 AreSettled o Taken s = Unit {0}
 
@@ -68,11 +68,11 @@ AreSettled o Taken s = Unit {0}
 abbrev pub partial_next_by : Partial → ℕ → List Out → ℕ
 partial_next_by o until out = least (until + o.late) (map (λ (q : Out). partial_settled_by o q + o.late) out)
 
-abbrev pub partial_next_after_command : Partial → Command → WatchState → ℕ → ℕ
+abbrev pub partial_next_after_command : Partial → WatchCommand → WatchState → ℕ → ℕ
 partial_next_after_command o (Go requests until) s due = partial_next_by o until s.out
 partial_next_after_command o Taken s due = due
 
-abbrev pub partial_next_after : Partial → Result Output WatchFault → WatchState → ℕ → ℕ
+abbrev pub partial_next_after : Partial → Result WatchOutput WatchFault → WatchState → ℕ → ℕ
 partial_next_after o (Ok output) s due = partial_next_after_command o output.command s due
 partial_next_after o (Err fault) s due = due
 
@@ -95,16 +95,16 @@ pub record IsHeldUp (o : Partial) (s : WatchState) (i : ℕ) : Type 0 where
   pub patience : max 1000 (2 * s.presence.pace) ≤ o.patience
 
 -- a clock comes in time
-abbrev pub ClockIsInTime : ℕ → WatchState → Event → Type 0
+abbrev pub ClockIsInTime : ℕ → WatchState → WatchEvent → Type 0
 ClockIsInTime due old (Clock wall elapsed) = (timed old wall elapsed).clocks.at ≤ due
 ClockIsInTime due old event = Unit {0}
 
 -- a clock after which i is still held up
-abbrev pub IsHolding : Partial → ℕ → ℕ → WatchState → Event → Output → WatchState → Type 0
+abbrev pub IsHolding : Partial → ℕ → ℕ → WatchState → WatchEvent → WatchOutput → WatchState → Type 0
 IsHolding o i due old (Clock wall elapsed) output new = ((timed old wall elapsed).clocks.at ≤ due) × (AreSettled o output.command new × IsHeldUp o new i)
 IsHolding o i due old event output new = Unit {0}
 
-abbrev pub IsHeld : Partial → ℕ → ℕ → WatchState → Event → Result Output WatchFault → WatchState → Type 0
+abbrev pub IsHeld : Partial → ℕ → ℕ → WatchState → WatchEvent → Result WatchOutput WatchFault → WatchState → Type 0
 IsHeld o i due old event (Ok output) new = IsHolding o i due old event output new
 IsHeld o i due old event (Err fault) new = Unit {0}
 
@@ -185,7 +185,7 @@ PartialLaw =
     ≤ old.width * (first.state.clocks.at + (o 0).slow + (o 0).late) + (waiting_before (o 0) (length old.forest.entries) i first.state + coming_before o i first.state hs)
 
 -- nothing is told of j: each request of it is lost or refused, or finds the broker busy, and nothing else tells its end
-abbrev pub IsUntoldOf : ℕ → Event → Type 0
+abbrev pub IsUntoldOf : ℕ → WatchEvent → Type 0
 IsUntoldOf j (Clock wall elapsed) = Unit {0}
 IsUntoldOf j (Looked k reply terms) = k ≡ j → is_told reply ≡ false
 IsUntoldOf j (Renewed k reply) = k ≡ j → is_told reply ≡ false

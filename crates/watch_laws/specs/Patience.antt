@@ -4,7 +4,7 @@
 use Rattle.std.specs.Prelude.{◌≡◌, ◌⊎◌, ◌↔◌, ℕ, ◌-◌, ◌*◌, ◌^◌, ◌<◌, true, false, [], ◌∷◌, Some, All, max, min}
 use Rattle.watch_machine.specs.declared.command.Patience.{Patience}
 use Rattle.watch_machine.specs.declared.command.Patience.TheVariants.{Full, AtMost}
-use Rattle.watch_machine.specs.declared.command.Request.{Request}
+use Rattle.watch_machine.specs.declared.command.WatchRequest.{WatchRequest}
 use Rattle.watch_machine.specs.declared.track.End.TheVariants.{Unknown}
 use Rattle.watch_machine.specs.declared.track.Try.{Try}
 use Rattle.watch_machine.specs.History.{History, Turned}
@@ -39,7 +39,7 @@ pub record IsPatience (s : WatchState) (t : Try) (p : Patience) : Type 0 where
   pub whole : NeedsNoHaste s t → (SomebodyIsAlone s → ⊥) → p ≡ Full
 
 -- a request goes out for the try of its entry: it asks what that asks, with that patience
-pub record IsOfTry (s : WatchState) (r : Request) : Type 0 where
+pub record IsOfTry (s : WatchState) (r : WatchRequest) : Type 0 where
   pub attempt : Try
   pub attempt_is : attempt_at s r.entry ≡ Some attempt
   pub operation : r.operation ≡ attempt.operation

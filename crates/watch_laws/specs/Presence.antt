@@ -2,11 +2,11 @@
 -- Source: this project's own.
 use Rattle.std.specs.Prelude.{◌≡◌, ◌≢◌, ◌==◌, ℕ, ◌≤◌, Bool, true, false, not, ◌&&◌, List, [], ◌∷◌, ◌++◌, Option, Some, None, All, length}
 use Rattle.std.specs.List.{list_any}
-use Rattle.watch_machine.specs.declared.command.Request.{Request}
-use Rattle.watch_machine.specs.declared.event.Event.{Event}
-use Rattle.watch_machine.specs.declared.event.Event.TheVariants.{Clock, Looked, Renewed, Need, Begin, Known}
-use Rattle.watch_machine.specs.declared.event.Reply.{Reply}
-use Rattle.watch_machine.specs.declared.event.Reply.TheVariants.{Told, Refused, Busy, Lost}
+use Rattle.watch_machine.specs.declared.command.WatchRequest.{WatchRequest}
+use Rattle.watch_machine.specs.declared.event.WatchEvent.{WatchEvent}
+use Rattle.watch_machine.specs.declared.event.WatchEvent.TheVariants.{Clock, Looked, Renewed, Need, Begin, Known}
+use Rattle.watch_machine.specs.declared.event.WatchReply.{WatchReply}
+use Rattle.watch_machine.specs.declared.event.WatchReply.TheVariants.{Told, Refused, Busy, Lost}
 use Rattle.watch_machine.specs.declared.lanes.Out.{Out}
 use Rattle.watch_machine.specs.Change.{place_now}
 use Rattle.watch_machine.specs.History.{AllHappen, Changes, Happening, Happens, Hands, History, Turned, state_after, state_after_all}
@@ -15,21 +15,21 @@ use Rattle.watch_laws.specs.Absence.{is_event_taken}
 use Rattle.watch_laws.specs.Load.{requests_at_turn}
 
 -- the broker answered, whatever it said
-abbrev pub is_answered : Reply → Bool
+abbrev pub is_answered : WatchReply → Bool
 is_answered (Told seconds renewable date) = true
 is_answered (Refused status date) = true
 is_answered Busy = true
 is_answered Lost = false
 
 -- it told what was asked
-abbrev pub is_told : Reply → Bool
+abbrev pub is_told : WatchReply → Bool
 is_told (Told seconds renewable date) = true
 is_told (Refused status date) = false
 is_told Busy = false
 is_told Lost = false
 
 -- so at an event
-abbrev pub answers : Event → Bool
+abbrev pub answers : WatchEvent → Bool
 answers (Clock wall elapsed) = false
 answers (Looked i reply terms) = is_answered reply
 answers (Renewed i reply) = is_answered reply
@@ -38,7 +38,7 @@ answers Begin = false
 answers (Known i end renewable) = false
 
 -- a request of i is lost
-abbrev pub loses : ℕ → Event → Bool
+abbrev pub loses : ℕ → WatchEvent → Bool
 loses i (Clock wall elapsed) = false
 loses i (Looked j reply terms) = j == i && not (is_answered reply)
 loses i (Renewed j reply) = j == i && not (is_answered reply)
@@ -55,7 +55,7 @@ is_loss i turn = is_event_taken turn.result && loses i turn.event
 
 -- a request of i goes out at a turn
 abbrev pub is_asked_at_turn : ℕ → Turned → Bool
-is_asked_at_turn i turn = list_any (λ (r : Request). r.entry == i) (requests_at_turn turn.result)
+is_asked_at_turn i turn = list_any (λ (r : WatchRequest). r.entry == i) (requests_at_turn turn.result)
 
 -- a change of what is watched is neither
 abbrev pub is_answer_at : Happening → Bool

@@ -1,9 +1,9 @@
 -- Recovery: how long an entry waits while the broker is there. The law is the contract of a public function without a body.
 -- Source: this project's own.
 use Rattle.std.specs.Prelude.{◌≡◌, ℕ, ◌+◌, ◌*◌, ◌<◌, ◌≤◌, true, false, List, [], ◌∷◌, Some, Result, Ok, Err, length}
-use Rattle.watch_machine.specs.declared.command.Output.{Output}
-use Rattle.watch_machine.specs.declared.event.Event.{Event}
-use Rattle.watch_machine.specs.declared.event.Event.TheVariants.{Clock, Looked, Renewed, Need, Begin, Known}
+use Rattle.watch_machine.specs.declared.command.WatchOutput.{WatchOutput}
+use Rattle.watch_machine.specs.declared.event.WatchEvent.{WatchEvent}
+use Rattle.watch_machine.specs.declared.event.WatchEvent.TheVariants.{Clock, Looked, Renewed, Need, Begin, Known}
 use Rattle.watch_machine.specs.declared.fault.WatchFault.{WatchFault}
 use Rattle.watch_machine.specs.declared.track.Try.{Try}
 use Rattle.watch_machine.specs.Change.{former_at}
@@ -27,7 +27,7 @@ pub record MayGo (s : WatchState) (i : ℕ) : Type 0 where
   pub due : ready s.presence (track_at s i) attempt ≤ s.clocks.at
 
 -- a clock comes in time, and after each clock i may go out and has not
-abbrev pub IsPassing : ℕ → ℕ → WatchState → Event → WatchState → Type 0
+abbrev pub IsPassing : ℕ → ℕ → WatchState → WatchEvent → WatchState → Type 0
 IsPassing i due old (Clock wall elapsed) new = ((timed old wall elapsed).clocks.at ≤ due) × MayGo new i
 IsPassing i due old (Looked j reply terms) new = Unit {0}
 IsPassing i due old (Renewed j reply) new = Unit {0}
@@ -35,7 +35,7 @@ IsPassing i due old (Need j until) new = Unit {0}
 IsPassing i due old Begin new = Unit {0}
 IsPassing i due old (Known j end renewable) new = Unit {0}
 
-abbrev pub IsPassedBy : ℕ → ℕ → WatchState → Event → Result Output WatchFault → WatchState → Type 0
+abbrev pub IsPassedBy : ℕ → ℕ → WatchState → WatchEvent → Result WatchOutput WatchFault → WatchState → Type 0
 IsPassedBy i due old event (Ok output) new = IsPassing i due old event new
 IsPassedBy i due old event (Err fault) new = Unit {0}
 

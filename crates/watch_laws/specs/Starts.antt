@@ -4,9 +4,9 @@
 use Rattle.std.specs.Prelude.{◌≡◌, ◌⊎◌, ◌==◌, ℕ, ◌+◌, ◌*◌, ◌<◌, ◌≤◌, Bool, true, false, ◌&&◌, if◌then◌else◌, List, [], ◌∷◌, Option, Some, None, Result, Ok, Err, IfSome, filter, length, nat_le}
 use Rattle.std.specs.List.{All}
 use Rattle.plan_forest.specs.Forest.{Forest}
-use Rattle.watch_machine.specs.declared.command.Output.{Output}
-use Rattle.watch_machine.specs.declared.event.Event.{Event}
-use Rattle.watch_machine.specs.declared.event.Event.TheVariants.{Clock, Looked, Renewed, Need, Begin, Known}
+use Rattle.watch_machine.specs.declared.command.WatchOutput.{WatchOutput}
+use Rattle.watch_machine.specs.declared.event.WatchEvent.{WatchEvent}
+use Rattle.watch_machine.specs.declared.event.WatchEvent.TheVariants.{Clock, Looked, Renewed, Need, Begin, Known}
 use Rattle.watch_machine.specs.declared.event.Operation.TheVariants.{Look, Renew}
 use Rattle.watch_machine.specs.declared.fault.WatchFault.{WatchFault}
 use Rattle.watch_machine.specs.declared.lanes.Out.{Out}
@@ -30,7 +30,7 @@ abbrev pub IsAtWork : Outage → WatchState → ℕ → Type 0
 IsAtWork o s i = (is_request_served o s i ≡ true) ⊎ MayGo s i
 
 -- a clock comes in time, and after each clock i is at work
-abbrev pub IsWorking : Outage → ℕ → ℕ → WatchState → Event → WatchState → Type 0
+abbrev pub IsWorking : Outage → ℕ → ℕ → WatchState → WatchEvent → WatchState → Type 0
 IsWorking o i due old (Clock wall elapsed) new = ((timed old wall elapsed).clocks.at ≤ due) × IsAtWork o new i
 IsWorking o i due old (Looked j reply terms) new = Unit {0}
 IsWorking o i due old (Renewed j reply) new = Unit {0}
@@ -38,7 +38,7 @@ IsWorking o i due old (Need j until) new = Unit {0}
 IsWorking o i due old Begin new = Unit {0}
 IsWorking o i due old (Known j end renewable) new = Unit {0}
 
-abbrev pub IsWorked : Outage → ℕ → ℕ → WatchState → Event → Result Output WatchFault → WatchState → Type 0
+abbrev pub IsWorked : Outage → ℕ → ℕ → WatchState → WatchEvent → Result WatchOutput WatchFault → WatchState → Type 0
 IsWorked o i due old event (Ok output) new = IsWorking o i due old event new
 IsWorked o i due old event (Err fault) new = Unit {0}
 
@@ -49,7 +49,7 @@ AreWorked o i due s (Hands turn ∷ hs) = IsWorked o i due s turn.event turn.res
 AreWorked o i due s (Changes c ∷ hs) = (k : ℕ) × ((former_at c.was k ≡ Some i) × AreWorked o k due c.state hs)
 
 -- an answer to i
-abbrev pub is_answer_to : ℕ → Event → Bool
+abbrev pub is_answer_to : ℕ → WatchEvent → Bool
 is_answer_to i (Clock wall elapsed) = false
 is_answer_to i (Looked j reply terms) = j == i
 is_answer_to i (Renewed j reply) = j == i
@@ -105,13 +105,13 @@ pub record FirstTryIsUnderWay (o : Outage) (s : WatchState) (i : ℕ) : Type 0 w
   pub there : s.presence.away ≡ false
 
 -- the broker is there: a clock comes in time, and no reply is lost
-abbrev pub BrokerIsThere : Outage → ℕ → WatchState → Event → Type 0
+abbrev pub BrokerIsThere : Outage → ℕ → WatchState → WatchEvent → Type 0
 BrokerIsThere o due s (Clock wall elapsed) = (timed s wall elapsed).clocks.at ≤ due
 BrokerIsThere o due s (Looked j reply terms) = IfSome (request_out s.out j Look) (IsReplyInOutage o reply)
 BrokerIsThere o due s (Renewed j reply) = IfSome (request_out s.out j Renew) (IsReplyInOutage o reply)
 BrokerIsThere o due s event = Unit {0}
 
-abbrev pub IsThereAt : Outage → ℕ → WatchState → Event → Result Output WatchFault → Type 0
+abbrev pub IsThereAt : Outage → ℕ → WatchState → WatchEvent → Result WatchOutput WatchFault → Type 0
 IsThereAt o due s event (Ok output) = BrokerIsThere o due s event
 IsThereAt o due s event (Err fault) = Unit {0}
 

@@ -2,13 +2,13 @@
 use Rattle.std.specs.Prelude.{◌≡◌, ◌==◌, ℕ, ◌+◌, ◌<◌, ◌≤◌, Bool, true, false, ◌&&◌, ◌||◌, if◌then◌else◌, List, [], ◌∷◌, Option, Some, None, Result, Ok, Err, IfSome, length}
 use Rattle.std.specs.List.{list_any}
 use Rattle.plan_forest.specs.Forest.{Forest}
-use Rattle.watch_machine.specs.declared.command.Output.{Output}
-use Rattle.watch_machine.specs.declared.command.Request.{Request}
-use Rattle.watch_machine.specs.declared.event.Event.{Event}
-use Rattle.watch_machine.specs.declared.event.Event.TheVariants.{Clock, Looked, Renewed, Need, Begin, Known}
+use Rattle.watch_machine.specs.declared.command.WatchOutput.{WatchOutput}
+use Rattle.watch_machine.specs.declared.command.WatchRequest.{WatchRequest}
+use Rattle.watch_machine.specs.declared.event.WatchEvent.{WatchEvent}
+use Rattle.watch_machine.specs.declared.event.WatchEvent.TheVariants.{Clock, Looked, Renewed, Need, Begin, Known}
 use Rattle.watch_machine.specs.declared.event.Operation.TheVariants.{Renew}
-use Rattle.watch_machine.specs.declared.event.Reply.{Reply}
-use Rattle.watch_machine.specs.declared.event.Reply.TheVariants.{Told, Refused, Busy, Lost}
+use Rattle.watch_machine.specs.declared.event.WatchReply.{WatchReply}
+use Rattle.watch_machine.specs.declared.event.WatchReply.TheVariants.{Told, Refused, Busy, Lost}
 use Rattle.watch_machine.specs.declared.fault.WatchFault.{WatchFault}
 use Rattle.watch_machine.specs.Clocks.{sec}
 use Rattle.watch_machine.specs.History.{Changes, Happening, Hands, History, IsReached, IsRun, Turned, stood}
@@ -29,13 +29,13 @@ is_named_in_round None i = false
 is_named_in_round (Some asked) i = list_any (λ j. j == i) asked
 
 -- an answer of i leaves a reason to renew it: as told its time has come, or it failed. s is the state after it
-abbrev pub reason_answered : WatchState → ℕ → Reply → Bool
+abbrev pub reason_answered : WatchState → ℕ → WatchReply → Bool
 reason_answered s i (Told seconds renewable date) = is_come s i
 reason_answered s i (Refused status date) = true
 reason_answered s i Busy = true
 reason_answered s i Lost = true
 
-abbrev pub reason_taken : ℕ → Bool → Event → Output → WatchState → Bool
+abbrev pub reason_taken : ℕ → Bool → WatchEvent → WatchOutput → WatchState → Bool
 reason_taken i before (Clock wall elapsed) output s = before || (is_come s i || is_named_in_round output.notes.round i)
 reason_taken i before (Looked j reply terms) output s = if j == i then reason_answered s i reply else before
 reason_taken i before (Renewed j reply) output s = if j == i then reason_answered s i reply else before
@@ -45,12 +45,12 @@ reason_taken i before (Known j end renewable) output s = before
 
 -- there is a reason to renew i after a turn, where there was one before or not: since the answer that told it last, a clock found
 -- that its time had come, a round named it, or it failed
-abbrev pub reason : ℕ → Bool → Event → Result Output WatchFault → WatchState → Bool
+abbrev pub reason : ℕ → Bool → WatchEvent → Result WatchOutput WatchFault → WatchState → Bool
 reason i before event (Ok output) s = reason_taken i before event output s
 reason i before event (Err fault) s = before
 
 -- a renewal of i goes out
-abbrev pub renewal_goes_out : ℕ → List Request → Bool
+abbrev pub renewal_goes_out : ℕ → List WatchRequest → Bool
 renewal_goes_out i requests = list_any (λ r. r.entry == i && is_same r.operation Renew) requests
 
 -- a renewal of the entry that stands there goes out for a reason alone; of one that is not there yet there is none
@@ -73,7 +73,7 @@ abbrev pub EarlyLaw : Type 0
 EarlyLaw = (g : Forest) (width : ℕ) (hs : List Happening) → IsRun g width hs → (k : ℕ) → AllReasoned k false hs
 
 -- the round that opens at a turn, None where none does
-abbrev pub round_of : Result Output WatchFault → Option (List ℕ)
+abbrev pub round_of : Result WatchOutput WatchFault → Option (List ℕ)
 round_of (Ok output) = output.notes.round
 round_of (Err fault) = None
 

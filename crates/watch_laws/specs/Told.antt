@@ -6,11 +6,11 @@ use Rattle.base_moment.specs.declared.moment.TheConstants.{LAST}
 use Rattle.plan_forest.specs.declared.entry.Entry.{Entry}
 use Rattle.plan_forest.specs.declared.forest.TheConstants.{END_MAX}
 use Rattle.plan_forest.specs.Push.{is_lease}
-use Rattle.watch_machine.specs.declared.event.Event.{Event}
-use Rattle.watch_machine.specs.declared.event.Event.TheVariants.{Clock, Looked, Renewed, Need, Begin, Known}
+use Rattle.watch_machine.specs.declared.event.WatchEvent.{WatchEvent}
+use Rattle.watch_machine.specs.declared.event.WatchEvent.TheVariants.{Clock, Looked, Renewed, Need, Begin, Known}
 use Rattle.watch_machine.specs.declared.event.Operation.TheVariants.{Look, Renew}
-use Rattle.watch_machine.specs.declared.event.Reply.TheVariants.{Told}
-use Rattle.watch_machine.specs.declared.event.Terms.{Terms}
+use Rattle.watch_machine.specs.declared.event.WatchReply.TheVariants.{Told}
+use Rattle.watch_machine.specs.declared.event.WatchTerms.{WatchTerms}
 use Rattle.watch_machine.specs.declared.lanes.Out.{Out}
 use Rattle.watch_machine.specs.declared.track.End.TheVariants.{At, Never}
 use Rattle.watch_machine.specs.declared.track.Try.{Try}
@@ -43,7 +43,7 @@ pub record EndsTooSoon (t u : Try) : Type 0 where
 -- what the answer to the lookup q tells of i: the end is so many seconds after the second in which the request went out, or there is none; and no
 -- lookup is owed any more. Where the entry is wanted, as it was told, and its time has come, it is renewed at once; else its try ends, unless the
 -- end is not ahead: then it is looked up again
-pub record IsToldByLookup (old new : WatchState) (i seconds : ℕ) (renewable : Bool) (terms : Terms) (q : Out) : Type 0 where
+pub record IsToldByLookup (old new : WatchState) (i seconds : ℕ) (renewable : Bool) (terms : WatchTerms) (q : Out) : Type 0 where
   pub end : (track_at new i).end ≡ (if terms.endless then Never else At (sec q.since + seconds))
   pub goes_on : (track_at new i).renewable ≡ renewable
   pub owes : (track_at new i).owes ≡ false
@@ -55,7 +55,7 @@ pub record IsToldByLookup (old new : WatchState) (i seconds : ℕ) (renewable : 
 
 abbrev pub ToldLaw : Type 0
 ToldLaw =
-    (old : WatchState) (turn : Turned) (i seconds : ℕ) (renewable : Bool) (date : Option ℕ) (terms : Terms) (q : Out) → History old (turn ∷ []) → i < length old.tracks →
+    (old : WatchState) (turn : Turned) (i seconds : ℕ) (renewable : Bool) (date : Option ℕ) (terms : WatchTerms) (q : Out) → History old (turn ∷ []) → i < length old.tracks →
     turn.event ≡ Looked i (Told seconds renewable date) terms → is_event_taken turn.result ≡ true → request_out old.out i Look ≡ Some q → IsToldByLookup old turn.state i seconds renewable terms q
 
 -- the try u that only owes a lookup, which it may go out for within half a minute; it is not lost
@@ -87,10 +87,10 @@ abbrev pub ceiling_by : Option ℕ → Option ℕ
 ceiling_by None = None
 ceiling_by (Some ceiling) = Some (min END_MAX ceiling)
 
-abbrev pub parent_by : Terms → Entry → Option ℕ
+abbrev pub parent_by : WatchTerms → Entry → Option ℕ
 parent_by terms e = if terms.orphan && not (is_lease e.kind) then None else e.parent
 
-abbrev pub entry_by : ℕ → Terms → Entry → Entry
+abbrev pub entry_by : ℕ → WatchTerms → Entry → Entry
 entry_by margin terms e = record e { step = step_by margin e.step terms.step; ceiling = ceiling_by terms.ceiling; parent = parent_by terms e }
 
 -- one entry of the forest is this one now, and nothing else of it is another
@@ -100,7 +100,7 @@ pub record OneIs (old new : WatchState) (i : ℕ) (e : Entry) : Type 0 where
   pub margin : new.forest.margin ≡ old.forest.margin
 
 -- an event writes the forest: a need, or a lookup that tells
-abbrev pub writes : Event → Bool
+abbrev pub writes : WatchEvent → Bool
 writes (Clock wall elapsed) = false
 writes (Looked i (Told seconds renewable date) terms) = true
 writes (Looked i reply terms) = false
@@ -125,7 +125,7 @@ pub record IsHandedIn (old new : WatchState) (i end : ℕ) (renewable : Bool) : 
 -- a lookup that tells writes its entry so, a need is set, and nothing else writes the forest. An end that is handed in is taken so
 pub record ForestWrittenLaw : Type 0 where
   pub terms :
-      (old : WatchState) (turn : Turned) (i seconds : ℕ) (renewable : Bool) (date : Option ℕ) (terms : Terms) → History old (turn ∷ []) → i < length old.forest.entries →
+      (old : WatchState) (turn : Turned) (i seconds : ℕ) (renewable : Bool) (date : Option ℕ) (terms : WatchTerms) → History old (turn ∷ []) → i < length old.forest.entries →
       turn.event ≡ Looked i (Told seconds renewable date) terms → is_event_taken turn.result ≡ true → OneIs old turn.state i (entry_by old.forest.margin terms (entry_of old i))
   pub need :
       (old : WatchState) (turn : Turned) (i until : ℕ) → History old (turn ∷ []) → i < length old.forest.entries → turn.event ≡ Need i until → is_event_taken turn.result ≡ true →

@@ -2,11 +2,11 @@
 -- Source: this project's own, over Vault, "Lease, renew, and revoke" (a renewal counts from its own moment; maximum TTL).
 use Rattle.std.specs.Prelude.{◌≡◌, ℕ, ◌+◌, ◌-◌, ◌/◌, ◌<◌, ◌≤◌, Bool, true, false, not, ◌&&◌, ◌==◌, if◌then◌else◌, List, [], ◌∷◌, ◌++◌, Result, Ok, Err, All, length, min, Option, Some, None}
 use Rattle.plan_forest.specs.Over.{Over}
-use Rattle.watch_machine.specs.declared.command.Output.{Output}
-use Rattle.watch_machine.specs.declared.event.Event.{Event}
-use Rattle.watch_machine.specs.declared.event.Event.TheVariants.{Clock, Looked, Renewed, Need, Begin, Known}
-use Rattle.watch_machine.specs.declared.event.Reply.{Reply}
-use Rattle.watch_machine.specs.declared.event.Reply.TheVariants.{Told, Refused, Busy, Lost}
+use Rattle.watch_machine.specs.declared.command.WatchOutput.{WatchOutput}
+use Rattle.watch_machine.specs.declared.event.WatchEvent.{WatchEvent}
+use Rattle.watch_machine.specs.declared.event.WatchEvent.TheVariants.{Clock, Looked, Renewed, Need, Begin, Known}
+use Rattle.watch_machine.specs.declared.event.WatchReply.{WatchReply}
+use Rattle.watch_machine.specs.declared.event.WatchReply.TheVariants.{Told, Refused, Busy, Lost}
 use Rattle.watch_machine.specs.declared.fault.WatchFault.{WatchFault}
 use Rattle.watch_machine.specs.declared.track.End.TheVariants.{At}
 use Rattle.watch_machine.specs.Beginning.{is_pressed}
@@ -31,13 +31,13 @@ abbrev pub end : Granted → ℕ
 end g = g.from + g.seconds
 
 -- the grant of an answer to a renewal of i, where it is one: it led to the end that is believed in the state s after it
-abbrev pub grant_told : ℕ → WatchState → Reply → List Granted
+abbrev pub grant_told : ℕ → WatchState → WatchReply → List Granted
 grant_told i s (Told seconds renewable date) = record { seconds = seconds; from = believed (track_at s i).end - seconds } ∷ []
 grant_told i s (Refused status date) = []
 grant_told i s Busy = []
 grant_told i s Lost = []
 
-abbrev pub grant_by : ℕ → WatchState → Event → List Granted
+abbrev pub grant_by : ℕ → WatchState → WatchEvent → List Granted
 grant_by i s (Clock wall elapsed) = []
 grant_by i s (Looked j reply terms) = []
 grant_by i s (Renewed j reply) = if j == i then grant_told i s reply else []
@@ -45,7 +45,7 @@ grant_by i s (Need j until) = []
 grant_by i s Begin = []
 grant_by i s (Known j end renewable) = []
 
-abbrev pub grant_of : ℕ → WatchState → Event → Result Output WatchFault → List Granted
+abbrev pub grant_of : ℕ → WatchState → WatchEvent → Result WatchOutput WatchFault → List Granted
 grant_of i s event (Ok output) = grant_by i s event
 grant_of i s event (Err fault) = []
 
@@ -93,7 +93,7 @@ CeilingLaw =
     (track_at s k).top ≡ true → EndAtCeiling ceiling within (grants_through k reached.run)
 
 -- a grant of i
-abbrev pub is_grant_of : ℕ → Event → Bool
+abbrev pub is_grant_of : ℕ → WatchEvent → Bool
 is_grant_of i (Clock wall elapsed) = false
 is_grant_of i (Looked j reply terms) = false
 is_grant_of i (Renewed j reply) = j == i && is_told reply

@@ -2,9 +2,9 @@
 -- Source: this project's own.
 use Rattle.std.specs.Prelude.{◌≡◌, ◌⊎◌, ℕ, ◌+◌, ◌<◌, ◌≤◌, true, false, List, [], ◌∷◌, Some, Result, Ok, Err, length}
 use Rattle.std.specs.List.{list_any}
-use Rattle.watch_machine.specs.declared.command.Command.{Command}
-use Rattle.watch_machine.specs.declared.command.Command.TheVariants.{Go, Taken}
-use Rattle.watch_machine.specs.declared.command.Output.{Output}
+use Rattle.watch_machine.specs.declared.command.WatchCommand.{WatchCommand}
+use Rattle.watch_machine.specs.declared.command.WatchCommand.TheVariants.{Go, Taken}
+use Rattle.watch_machine.specs.declared.command.WatchOutput.{WatchOutput}
 use Rattle.watch_machine.specs.declared.fault.WatchFault.{WatchFault}
 use Rattle.watch_machine.specs.declared.track.Try.{Try}
 use Rattle.watch_machine.specs.Clocks.{ms}
@@ -45,11 +45,11 @@ abbrev pub IsMinded : WatchState → ℕ → ℕ → Type 0
 IsMinded s until i = RequestIsOut s i ⊎ (IsPressed s until i ⊎ TimeIsAhead s until i)
 
 -- a wait ends later than now, and forgets nobody who is wanted: in the plan or not, with an end or without, past or ahead
-abbrev pub WaitsRight : Command → WatchState → Type 0
+abbrev pub WaitsRight : WatchCommand → WatchState → Type 0
 WaitsRight (Go requests until) s = (s.clocks.at < until) × ((i : ℕ) → i < length s.forest.entries → is_wanted s i ≡ true → IsMinded s until i)
 WaitsRight Taken s = Unit {0}
 
-abbrev pub EndsRight : Result Output WatchFault → WatchState → Type 0
+abbrev pub EndsRight : Result WatchOutput WatchFault → WatchState → Type 0
 EndsRight (Ok output) s = WaitsRight output.command s
 EndsRight (Err fault) s = Unit {0}
 
@@ -63,11 +63,11 @@ abbrev pub MindedLaw : Type 0
 MindedLaw = (old : WatchState) (turns : List Turned) → History old turns → AllMinded turns
 
 -- an entry of which a lookup is owed is out, or has a try that the wait does not pass
-abbrev pub OwesRight : Command → WatchState → Type 0
+abbrev pub OwesRight : WatchCommand → WatchState → Type 0
 OwesRight (Go requests until) s = (i : ℕ) → i < length s.forest.entries → (track_at s i).owes ≡ true → RequestIsOut s i ⊎ HasTry s until i
 OwesRight Taken s = Unit {0}
 
-abbrev pub OwedRight : Result Output WatchFault → WatchState → Type 0
+abbrev pub OwedRight : Result WatchOutput WatchFault → WatchState → Type 0
 OwedRight (Ok output) s = OwesRight output.command s
 OwedRight (Err fault) s = Unit {0}
 

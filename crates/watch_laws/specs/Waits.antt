@@ -1,9 +1,9 @@
 -- Waits: until when a clock waits, exactly. The law is the contract of a public function without a body.
 -- Source: this project's own.
 use Rattle.std.specs.Prelude.{◌≡◌, ◌⊎◌, ℕ, ◌+◌, ◌*◌, ◌<◌, ◌≤◌, true, false, [], ◌∷◌, Some, Result, Ok, Err, length, max, min}
-use Rattle.watch_machine.specs.declared.command.Command.{Command}
-use Rattle.watch_machine.specs.declared.command.Command.TheVariants.{Go, Taken}
-use Rattle.watch_machine.specs.declared.command.Output.{Output}
+use Rattle.watch_machine.specs.declared.command.WatchCommand.{WatchCommand}
+use Rattle.watch_machine.specs.declared.command.WatchCommand.TheVariants.{Go, Taken}
+use Rattle.watch_machine.specs.declared.command.WatchOutput.{WatchOutput}
 use Rattle.watch_machine.specs.declared.fault.WatchFault.{WatchFault}
 use Rattle.watch_machine.specs.declared.track.Try.{Try}
 use Rattle.watch_machine.specs.Beginning.{is_pressed}
@@ -41,11 +41,11 @@ pub record IsWait (s : WatchState) (until : ℕ) : Type 0 where
   pub passes_none : (i moment : ℕ) → IsToBeDone s i moment → until ≤ moment
   pub ends : (until ≡ latest_wait s) ⊎ ((i : ℕ) × IsToBeDone s i until)
 
-abbrev pub WaitsSo : Command → WatchState → Type 0
+abbrev pub WaitsSo : WatchCommand → WatchState → Type 0
 WaitsSo (Go requests until) s = IsWait s until
 WaitsSo Taken s = Unit {0}
 
-abbrev pub EndsSo : Result Output WatchFault → WatchState → Type 0
+abbrev pub EndsSo : Result WatchOutput WatchFault → WatchState → Type 0
 EndsSo (Ok output) s = WaitsSo output.command s
 EndsSo (Err fault) s = Unit {0}
 

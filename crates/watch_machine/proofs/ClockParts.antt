@@ -2,11 +2,11 @@
 use Rattle.std.proofs.Common.{◌≡◌, ◌∙◌, ℕ, ◌-◌, ◌<◌, ◌++◌, Bool, List, [], Option, Some, None, length, map, sym, ap, subst}
 use Rattle.plan_forest.specs.Forest.{Forest, entry_at}
 use Rattle.watch_machine.specs.declared.clocks.Clocks.{Clocks}
-use Rattle.watch_machine.specs.declared.command.Command.TheVariants.{Go}
-use Rattle.watch_machine.specs.declared.command.Request.{Request}
+use Rattle.watch_machine.specs.declared.command.WatchCommand.TheVariants.{Go}
+use Rattle.watch_machine.specs.declared.command.WatchRequest.{WatchRequest}
 use Rattle.watch_machine.specs.declared.lanes.Presence.{Presence}
 use Rattle.watch_machine.specs.declared.notes.Notes.{Notes}
-use Rattle.watch_machine.specs.declared.notes.Why.{Why}
+use Rattle.watch_machine.specs.declared.notes.BeginReason.{BeginReason}
 use Rattle.watch_machine.specs.declared.track.Track.{Track}
 use Rattle.watch_machine.specs.Beginning.{beginning, begun, begun_tracks, noted_begun}
 use Rattle.watch_machine.specs.Press.{pressed, pressed_tracks}
@@ -28,14 +28,14 @@ AreNeeds g xs c need = (i : ℕ) → i < length g.entries → need i ≡ need_of
 
 -- and as much after a clock
 pub needs_after :
-    (g : Forest) (c : Clocks) (round : List ℕ) (requests : List Request) (need : ℕ → ℕ) (xs : List Track) → AreNeeds g xs c need →
+    (g : Forest) (c : Clocks) (round : List ℕ) (requests : List WatchRequest) (need : ℕ → ℕ) (xs : List Track) → AreNeeds g xs c need →
     AreNeeds g (each (sent_in c.at requests) (pressed_tracks g c round xs)) c need
 needs_after g c round requests need xs are i below =
     let ys = pressed_tracks g c round xs in
     let zs = each (sent_in c.at requests) ys in
     are i below ∙ sym (need_same zs xs (both_seen zs ys xs (sent_seen c.at requests ys) (pressed_seen g c round xs)) g.entries c i)
 
-module _ (round : List ℕ) (requests : List Request) (until : ℕ) (need : ℕ → ℕ) where
+module _ (round : List ℕ) (requests : List WatchRequest) (until : ℕ) (need : ℕ → ℕ) where
   -- the tracks after all are pressed, and after the requests have gone out
   abbrev pressed_of : WatchState → List Track
   pressed_of m = pressed_tracks m.forest m.clocks round m.tracks
@@ -62,7 +62,7 @@ module _ (round : List ℕ) (requests : List Request) (until : ℕ) (need : ℕ 
 
   -- what goes out after a beginning, or where there was none
   pub command_is :
-      (s new : WatchState) (w : Option Why) (xs : List Track) → xs ≡ begun_tracks s.forest s.clocks w s.tracks → AreNeeds s.forest xs s.clocks need →
+      (s new : WatchState) (w : Option BeginReason) (xs : List Track) → xs ≡ begun_tracks s.forest s.clocks w s.tracks → AreNeeds s.forest xs s.clocks need →
       IsGoing s.forest s.presence s.clocks.at (pressed_tracks s.forest s.clocks round xs) (s.width - length s.out) requests →
       until ≡ wait_by s.forest s.clocks s.presence (each (sent_in s.clocks.at requests) (pressed_tracks s.forest s.clocks round xs)) need →
       new ≡ noted_begun (record s { tracks = each (sent_in s.clocks.at requests) (pressed_tracks s.forest s.clocks round xs); out = s.out ++ map (out_at s.clocks.at) requests }) w →
@@ -73,13 +73,13 @@ module _ (round : List ℕ) (requests : List Request) (until : ℕ) (need : ℕ 
       (command_of (noted_begun (record s { tracks = xs }) (Some w)) new are going waits is)
 
 pub round_of :
-    (s : WatchState) (w : Option Why) (xs : List Track) (round : Option (List ℕ)) → xs ≡ begun_tracks s.forest s.clocks w s.tracks → IsRound s.forest xs s.clocks round →
+    (s : WatchState) (w : Option BeginReason) (xs : List Track) (round : Option (List ℕ)) → xs ≡ begun_tracks s.forest s.clocks w s.tracks → IsRound s.forest xs s.clocks round →
     IsRound (begun s w).forest (begun s w).tracks (begun s w).clocks round
 round_of s None xs round made is = subst (λ ys. IsRound s.forest ys s.clocks round) made is
 round_of s (Some w) xs round made is = subst (λ ys. IsRound s.forest ys s.clocks round) made is
 
 -- all of it, by the clocks, the tracks and the presence that the code finds
-module _ (old new : WatchState) (wall elapsed : ℕ) (k : Clocks) (stepped jumped : Bool) (xs : List Track) (p : Presence) (w : Option Why) where
+module _ (old new : WatchState) (wall elapsed : ℕ) (k : Clocks) (stepped jumped : Bool) (xs : List Track) (p : Presence) (w : Option BeginReason) where
   -- the state after the steps 1 and 2
   abbrev settled_to : WatchState
   settled_to = record old { clocks = k; stepped = stepped; tracks = xs; presence = p; answers = [] }
@@ -104,7 +104,7 @@ module _ (old new : WatchState) (wall elapsed : ℕ) (k : Clocks) (stepped jumpe
   ready_is same is = ap (λ t. begun t w) same ∙ ap (begun (settled (timed old wall elapsed))) is
 
   pub clock_step :
-      (ys : List Track) (round : Option (List ℕ)) (requests : List Request) (until : ℕ) (need : ℕ → ℕ) (notes : Notes) →
+      (ys : List Track) (round : Option (List ℕ)) (requests : List WatchRequest) (until : ℕ) (need : ℕ → ℕ) (notes : Notes) →
       k ≡ clocks_after old wall elapsed → stepped ≡ has_stepped old wall elapsed → jumped ≡ has_jumped old wall elapsed →
       xs ≡ each (λ i. settled_track old.forest.margin k.at) old.tracks → p ≡ presence_after old.forest.margin k.at old.tracks old.answers old.presence →
       w ≡ beginning old.begun old.asked stepped jumped k.at xs → ys ≡ begun_tracks old.forest k w xs → AreNeeds old.forest ys k need → IsRound old.forest ys k round →

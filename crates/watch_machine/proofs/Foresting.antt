@@ -13,7 +13,7 @@ use Rattle.plan_forest.proofs.Entries.{entry_at_set_other, entry_at_set_same}
 use Rattle.plan_forest.proofs.Placed.{Replaces, orphaned_is_forest, range_from_parts, range_parts, replaced_is_forest}
 use Rattle.watch_machine.specs.declared.change.Was.{Was}
 use Rattle.watch_machine.specs.declared.change.Was.TheVariants.{New, Same, Retold}
-use Rattle.watch_machine.specs.declared.event.Terms.{Terms}
+use Rattle.watch_machine.specs.declared.event.WatchTerms.{WatchTerms}
 use Rattle.watch_machine.specs.Change.{entry_by, forest_after, terms_left, was_at}
 use Rattle.watch_machine.specs.Looked.{by_terms, step_told}
 use Rattle.watch_machine.proofs.Cases.{if_cases}
@@ -31,7 +31,7 @@ told_ceiling : (o : Option ℕ) → is_too_high (option_map (λ t. min END_MAX t
 told_ceiling None = refl
 told_ceiling (Some t) = let l : min END_MAX t ≤ END_MAX = omega arith in grind (arith, nat_tests)
 
-pub told_is_forest : (g : Forest) (i : ℕ) (terms : Terms) → IsForest g → i < length g.entries → IsForest (record g { entries = set g.entries i (by_terms g.margin terms (entry_at g.entries i)) })
+pub told_is_forest : (g : Forest) (i : ℕ) (terms : WatchTerms) → IsForest g → i < length g.entries → IsForest (record g { entries = set g.entries i (by_terms g.margin terms (entry_at g.entries i)) })
 unfolding by_terms
 told_is_forest g i terms forest within =
     let old = entry_at g.entries i in

@@ -9,7 +9,7 @@ use Rattle.std.specs.Ordering.{is_lt, nat_cmp, ordering_then}
 use Rattle.std.specs.declared.cmp.Ordering.TheVariants.{Less, Equal, Greater}
 use Rattle.plan_search.proofs.Wanted.{asked_more}
 use Rattle.plan_forest.specs.Forest.{Forest}
-use Rattle.watch_machine.specs.declared.command.Request.{Request}
+use Rattle.watch_machine.specs.declared.command.WatchRequest.{WatchRequest}
 use Rattle.watch_machine.specs.declared.lanes.Presence.{Presence}
 use Rattle.watch_machine.specs.declared.sending.Place.{Place}
 use Rattle.watch_machine.specs.declared.track.Track.{Track}
@@ -78,17 +78,17 @@ line_is g p at xs ps qs are all sorted = record {
       (subst (λ b. is_before b (place_is (get_or qs k e)) ≡ false) (sym (get_or-map place_is qs (k + 1) e d next)) (sorted k e (omega arith) next));
 }
 
-pub each_place : (g : Sending.Place → Request) (qs : List Place) → map (λ q. g (place_is q)) qs ≡ map g (map place_is qs)
+pub each_place : (g : Sending.Place → WatchRequest) (qs : List Place) → map (λ q. g (place_is q)) qs ≡ map g (map place_is qs)
 each_place g [] = refl
 each_place g (q ∷ qs) = ap (λ rs. g (place_is q) ∷ rs) (each_place g qs)
 
 -- and the requests of the first of them go out
 pub going_is :
-    (g : Forest) (p : Presence) (at : ℕ) (xs : List Track) (lanes many : ℕ) (ps qs : List Place) (requests : List Request) → map place_is ps ≡ due g p at xs → IsPermutation ps qs →
+    (g : Forest) (p : Presence) (at : ℕ) (xs : List Track) (lanes many : ℕ) (ps qs : List Place) (requests : List WatchRequest) → map place_is ps ≡ due g p at xs → IsPermutation ps qs →
     IsSortedBy (λ a b. is_before (place_is a) (place_is b)) qs → many ≡ min lanes (length qs) → requests ≡ map (λ q. request p (sec at) xs (place_is q)) (take many qs) →
     IsGoing g p at xs lanes requests
 going_is g p at xs lanes many ps qs requests are all sorted most made =
-    let f : Place → Request = λ q. request p (sec at) xs (place_is q) in record {
+    let f : Place → WatchRequest = λ q. request p (sec at) xs (place_is q) in record {
       picked = take lanes (map place_is qs);
       is_picked = (map place_is qs, (line_is g p at xs ps qs are all sorted, refl));
       requests_are =

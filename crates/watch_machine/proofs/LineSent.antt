@@ -8,7 +8,7 @@ use Rattle.std.proofs.lemmas.List.Folds.{list_any-append, list_any_at, list_any_
 use Rattle.std.specs.List.{list_any}
 use Rattle.plan_forest.specs.declared.entry.Entry.{Entry}
 use Rattle.plan_forest.specs.Forest.{Forest, entry_at}
-use Rattle.watch_machine.specs.declared.command.Request.{Request}
+use Rattle.watch_machine.specs.declared.command.WatchRequest.{WatchRequest}
 use Rattle.watch_machine.specs.declared.lanes.Presence.{Presence}
 use Rattle.watch_machine.specs.declared.line.Line.{Line}
 use Rattle.watch_machine.specs.declared.lull.TheConstants.{NEVER}
@@ -39,15 +39,15 @@ request_entry : (p : Presence) (now : ℕ) (xs : List Track) (q : Place) → (re
 unfolding request
 request_entry p now xs q = asked_of p.away (is_partial now xs) p.pace q.entry (track_in xs q.entry).attempt
 
-asked_all : (p : Presence) (now : ℕ) (xs : List Track) (i : ℕ) (qs : List Place) → list_any (λ (r : Request). r.entry == i) (map (λ (q : Place). request p now xs (place_is q)) qs) ≡ has i (entries_of qs)
+asked_all : (p : Presence) (now : ℕ) (xs : List Track) (i : ℕ) (qs : List Place) → list_any (λ (r : WatchRequest). r.entry == i) (map (λ (q : Place). request p now xs (place_is q)) qs) ≡ has i (entries_of qs)
 asked_all p now xs i [] = refl
 asked_all p now xs i (q ∷ qs) =
-    ap (λ e. (e == i) || list_any (λ (r : Request). r.entry == i) (map (λ (s : Place). request p now xs (place_is s)) qs)) (request_entry p now xs q)
+    ap (λ e. (e == i) || list_any (λ (r : WatchRequest). r.entry == i) (map (λ (s : Place). request p now xs (place_is s)) qs)) (request_entry p now xs q)
     ∙ ap (λ b. (q.entry == i) || b) (asked_all p now xs i qs)
 
-pub asked_are : (p : Presence) (now : ℕ) (xs : List Track) (n i : ℕ) (qs : List Place) (rs : List Request) → rs ≡ requests_of p now xs n qs → list_any (λ (r : Request). r.entry == i) rs ≡ has i (take n (entries_of qs))
+pub asked_are : (p : Presence) (now : ℕ) (xs : List Track) (n i : ℕ) (qs : List Place) (rs : List WatchRequest) → rs ≡ requests_of p now xs n qs → list_any (λ (r : WatchRequest). r.entry == i) rs ≡ has i (take n (entries_of qs))
 asked_are p now xs n i qs rs are =
-    ap (list_any (λ (r : Request). r.entry == i)) are ∙ asked_all p now xs i (take n qs) ∙ ap (has i) (sym (take-map (λ (q : Place). q.entry) n qs))
+    ap (list_any (λ (r : WatchRequest). r.entry == i)) are ∙ asked_all p now xs i (take n qs) ∙ ap (has i) (sym (take-map (λ (q : Place). q.entry) n qs))
 
 -- each of some places is among them
 has_entry : (i : ℕ) (qs : List Place) → list_any (λ (q : Place). q.entry == i) qs ≡ has i (entries_of qs)
@@ -97,12 +97,12 @@ module _ (at : ℕ) (x : Track) where
       ]
 
 -- the same of places that are left in line
-module _ (g : Forest) (p : Presence) (since : ℕ) (xs : List Track) (qs : List Place) (is : IsInLine g p since xs qs) (at n : ℕ) (rs : List Request) (named : (i : ℕ) → list_any (λ (r : Request). r.entry == i) rs ≡ has i (take n (entries_of qs))) where
+module _ (g : Forest) (p : Presence) (since : ℕ) (xs : List Track) (qs : List Place) (is : IsInLine g p since xs qs) (at n : ℕ) (rs : List WatchRequest) (named : (i : ℕ) → list_any (λ (r : WatchRequest). r.entry == i) rs ≡ has i (take n (entries_of qs))) where
   abbrev ys : List Track
   ys = sent_on at rs xs
 
   abbrev names : ℕ → Bool
-  names i = list_any (λ (r : Request). r.entry == i) rs
+  names i = list_any (λ (r : WatchRequest). r.entry == i) rs
 
   read_sent : (i : ℕ) → i < length xs → track_in ys i ≡ sent_in at rs i (track_in xs i)
   read_sent i within = each_read (sent_in at rs) xs i within
@@ -160,7 +160,7 @@ rest_moved line n =
     sym (drop-drop n (min line.from (length qs)) qs) ∙ ap (drop n) (drop_min line.from qs)
 
 -- and so the line is kept
-module _ (g : Forest) (xs : List Track) (p : Presence) (line : Line) (is : IsLine g xs p line) (beside : length xs ≡ length g.entries) (at n : ℕ) (rs : List Request) (named : (i : ℕ) → list_any (λ (r : Request). r.entry == i) rs ≡ has i (take n (entries_of (rest_of line)))) where
+module _ (g : Forest) (xs : List Track) (p : Presence) (line : Line) (is : IsLine g xs p line) (beside : length xs ≡ length g.entries) (at n : ℕ) (rs : List WatchRequest) (named : (i : ℕ) → list_any (λ (r : WatchRequest). r.entry == i) rs ≡ has i (take n (entries_of (rest_of line)))) where
   abbrev zs : List Track
   zs = sent_on at rs xs
 
@@ -168,7 +168,7 @@ module _ (g : Forest) (xs : List Track) (p : Presence) (line : Line) (is : IsLin
   since = line.clocks.at
 
   abbrev asked : ℕ → Bool
-  asked i = list_any (λ (r : Request). r.entry == i) rs
+  asked i = list_any (λ (r : WatchRequest). r.entry == i) rs
 
   abbrev need : ℕ → ℕ
   need = need_of g.entries xs line.clocks

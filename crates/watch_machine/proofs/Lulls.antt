@@ -5,7 +5,7 @@ use Rattle.std.proofs.lemmas.Bool.Decides.{nat_tests}
 use Rattle.std.specs.List.{list_any, range_with_len}
 use Rattle.plan_forest.specs.Forest.{Forest, entry_at}
 use Rattle.watch_machine.specs.declared.clocks.Clocks.{Clocks}
-use Rattle.watch_machine.specs.declared.lanes.Answer.{Answer}
+use Rattle.watch_machine.specs.declared.lanes.LaneAnswer.{LaneAnswer}
 use Rattle.watch_machine.specs.declared.lanes.Presence.{Presence}
 use Rattle.watch_machine.specs.declared.lull.Lull.{Lull}
 use Rattle.watch_machine.specs.declared.lull.TheConstants.{NEVER}
@@ -136,7 +136,7 @@ known_on g xs old new p pace alike (Some lull) is = goes_on g xs old new p pace 
 
 -- answers of which none is silent while the broker is away change only how long answers take
 pub paced_alone :
-    (margin at : ℕ) (xs : List Track) (answers : List Answer) (p : Presence) → p.away && list_any is_silent answers ≡ false →
+    (margin at : ℕ) (xs : List Track) (answers : List LaneAnswer) (p : Presence) → p.away && list_any is_silent answers ≡ false →
     presence_after margin at xs answers p ≡ record p { pace = pace_after at p.pace answers }
 unfolding presence_after held_back
 paced_alone margin at xs answers p none =

@@ -5,9 +5,9 @@ use Rattle.std.proofs.lemmas.List.{get_or_past, set_past}
 use Rattle.plan_forest.specs.declared.entry.Entry.{Entry}
 use Rattle.plan_forest.specs.Push.{is_lease}
 use Rattle.plan_forest.proofs.Entries.{entry_at_past}
-use Rattle.watch_machine.specs.declared.event.Reply.{Reply}
-use Rattle.watch_machine.specs.declared.event.Reply.TheVariants.{Told, Refused, Busy, Lost}
-use Rattle.watch_machine.specs.declared.event.Terms.{Terms}
+use Rattle.watch_machine.specs.declared.event.WatchReply.{WatchReply}
+use Rattle.watch_machine.specs.declared.event.WatchReply.TheVariants.{Told, Refused, Busy, Lost}
+use Rattle.watch_machine.specs.declared.event.WatchTerms.{WatchTerms}
 use Rattle.watch_machine.specs.declared.lanes.Out.{Out}
 use Rattle.watch_machine.specs.declared.track.Track.{Track}
 use Rattle.watch_machine.specs.Answers.{with_track}
@@ -30,11 +30,11 @@ past_all s now i is count past = subst (λ (t : WatchState). IsPastAll t i) is (
 track_past : (s : WatchState) (i : ℕ) (x : Track) → length s.tracks ≤ i → with_track s i x ≡ s
 track_past s i x past = ap (λ xs. record s { tracks = xs }) (set_past s.tracks i x past)
 
-terms_past : (s : WatchState) (i : ℕ) (terms : Terms) → length s.forest.entries ≤ i → with_terms s i terms ≡ s
+terms_past : (s : WatchState) (i : ℕ) (terms : WatchTerms) → length s.forest.entries ≤ i → with_terms s i terms ≡ s
 terms_past s i terms past = ap (λ es. record s { forest = record s.forest { entries = es } }) (set_past s.forest.entries i _ past)
 
 -- of a lookup
-pub looked_past : (s : WatchState) (r : Out) (reply : Reply) (terms : Terms) → IsPastAll s r.entry → looked s r reply terms ≡ s
+pub looked_past : (s : WatchState) (r : Out) (reply : WatchReply) (terms : WatchTerms) → IsPastAll s r.entry → looked s r reply terms ≡ s
 looked_past s r (Told seconds renewable date) terms past =
     let told : told_state s r.entry r.since seconds renewable terms ≡ s = track_past (with_terms s r.entry terms) r.entry _ past.tracks ∙ terms_past s r.entry terms past.entries in
     ap (λ (t : WatchState). with_told_try t r.entry) told ∙ track_past s r.entry _ past.tracks
@@ -45,10 +45,10 @@ looked_past s r Lost terms past = track_past s r.entry _ past.tracks
 watched_not : (s : WatchState) (i : ℕ) → length s.forest.entries ≤ i → is_watched s i ≡ false
 watched_not s i past = grind (arith, nat_tests)
 
-orphan_past : (s : WatchState) (i : ℕ) (terms : Terms) → length s.forest.entries ≤ i → is_orphaned terms (entry_of s i) ≡ false
+orphan_past : (s : WatchState) (i : ℕ) (terms : WatchTerms) → length s.forest.entries ≤ i → is_orphaned terms (entry_of s i) ≡ false
 orphan_past s i terms past = ap (λ (e : Entry). terms.orphan && (not (is_lease e.kind) && is_some e.parent)) (entry_at_past s.forest.entries i past) ∙ and_no terms.orphan false refl
 
-pub notes_past : (s : WatchState) (r : Out) (reply : Reply) (terms : Terms) → length s.forest.entries ≤ r.entry → notes_of s r reply terms ≡ nothing_noted
+pub notes_past : (s : WatchState) (r : Out) (reply : WatchReply) (terms : WatchTerms) → length s.forest.entries ≤ r.entry → notes_of s r reply terms ≡ nothing_noted
 notes_past s r (Told seconds renewable date) terms past =
     ap (λ b. record nothing_noted { orphan = b; endless = is_watched s r.entry && (terms.endless && not (is_never (track_at s r.entry).end)) }) (orphan_past s r.entry terms past)
     ∙ ap (λ b. record nothing_noted { endless = b && (terms.endless && not (is_never (track_at s r.entry).end)) }) (watched_not s r.entry past)
@@ -57,10 +57,10 @@ notes_past s r Busy terms past = ap (λ b. record nothing_noted { gone = if b th
 notes_past s r Lost terms past = ap (λ b. record nothing_noted { gone = if b then None else None }) (watched_not s r.entry past)
 
 -- and of a renewal
-pub renewed_past : (s : WatchState) (r : Out) (reply : Reply) → length s.tracks ≤ r.entry → state_renewed s r reply ≡ s
+pub renewed_past : (s : WatchState) (r : Out) (reply : WatchReply) → length s.tracks ≤ r.entry → state_renewed s r reply ≡ s
 renewed_past s r reply past = track_past s r.entry _ past
 
-pub top_past : (s : WatchState) (r : Out) (reply : Reply) → length s.tracks ≤ r.entry → top_by reply (track_renewed s r reply) ≡ None
+pub top_past : (s : WatchState) (r : Out) (reply : WatchReply) → length s.tracks ≤ r.entry → top_by reply (track_renewed s r reply) ≡ None
 unfolding granted_from renewed_track
 top_past s r (Told seconds renewable date) past =
     ap (λ (x : Track). top_by (Told seconds renewable date) (renewed_track s.forest.margin (entry_of s r.entry).step s.clocks.at r (Told seconds renewable date) x)) (get_or_past s.tracks r.entry no_track past)

@@ -7,10 +7,10 @@ use Rattle.std.proofs.lemmas.List.{length-map, length-take, take-map, take_min}
 use Rattle.std.specs.List.{list_any}
 use Rattle.plan_forest.specs.Forest.{Forest}
 use Rattle.watch_machine.specs.declared.clocks.Clocks.{Clocks}
-use Rattle.watch_machine.specs.declared.command.Command.TheVariants.{Go}
-use Rattle.watch_machine.specs.declared.command.Output.{Output}
-use Rattle.watch_machine.specs.declared.command.Request.{Request}
-use Rattle.watch_machine.specs.declared.event.Reply.{Reply}
+use Rattle.watch_machine.specs.declared.command.WatchCommand.TheVariants.{Go}
+use Rattle.watch_machine.specs.declared.command.WatchOutput.{WatchOutput}
+use Rattle.watch_machine.specs.declared.command.WatchRequest.{WatchRequest}
+use Rattle.watch_machine.specs.declared.event.WatchReply.{WatchReply}
 use Rattle.watch_machine.specs.declared.lanes.Out.{Out}
 use Rattle.watch_machine.specs.declared.lanes.Presence.{Presence}
 use Rattle.watch_machine.specs.declared.line.Line.{Line}
@@ -50,11 +50,11 @@ module _ (s : WatchState) (line : Line) (is : IsLine s.forest s.tracks (calm s.p
   abbrev p : Presence
   p = calm s.presence
 
-  kept_on : (pace n : ℕ) (rs : List Request) → rs ≡ requests_of (paced_by pace s) (sec c.at) xs n (rest_of line) → IsLine g (sent_on c.at rs xs) p (moved line n)
+  kept_on : (pace n : ℕ) (rs : List WatchRequest) → rs ≡ requests_of (paced_by pace s) (sec c.at) xs n (rest_of line) → IsLine g (sent_on c.at rs xs) p (moved line n)
   kept_on pace n rs are = line_sent g xs p line is beside c.at n rs (λ i. asked_are (paced_by pace s) (sec c.at) xs n i (rest_of line) rs are)
 
   waits_then :
-      (pace n : ℕ) (rs : List Request) → rs ≡ requests_of (paced_by pace s) (sec c.at) xs n (rest_of line) →
+      (pace n : ℕ) (rs : List WatchRequest) → rs ≡ requests_of (paced_by pace s) (sec c.at) xs n (rest_of line) →
       min (latest g.margin c.at) line.next ≡ wait_by g c (paced_by pace s) (sent_on c.at rs xs) (need_of g.entries xs c)
   waits_then pace n rs are =
       let ys = sent_on c.at rs xs in
@@ -78,7 +78,7 @@ module _ (s : WatchState) (line : Line) (is : IsLine s.forest s.tracks (calm s.p
 
 -- those in front go out
 pub front_goes :
-    (g : Forest) (p : Presence) (at : ℕ) (xs : List Track) (lanes : ℕ) (qs : List Place) (rs : List Request) → IsSendingOrder g p at xs (map place_is qs) → rs ≡ requests_of p (sec at) xs lanes qs →
+    (g : Forest) (p : Presence) (at : ℕ) (xs : List Track) (lanes : ℕ) (qs : List Place) (rs : List WatchRequest) → IsSendingOrder g p at xs (map place_is qs) → rs ≡ requests_of p (sec at) xs lanes qs →
     IsGoing g p at xs lanes rs
 front_goes g p at xs lanes qs rs order are = record {
   picked = take lanes (map place_is qs);
@@ -87,16 +87,16 @@ front_goes g p at xs lanes qs rs order are = record {
 }
 
 -- and as many as there are requests
-pub front_length : (p : Presence) (now : ℕ) (xs : List Track) (lanes : ℕ) (qs : List Place) (rs : List Request) → rs ≡ requests_of p now xs lanes qs → length rs ≡ min lanes (length qs)
+pub front_length : (p : Presence) (now : ℕ) (xs : List Track) (lanes : ℕ) (qs : List Place) (rs : List WatchRequest) → rs ≡ requests_of p now xs lanes qs → length rs ≡ min lanes (length qs)
 front_length p now xs lanes qs rs are = ap length are ∙ length-map (take lanes qs) (λ (q : Place). request p now xs (place_is q)) ∙ length-take lanes qs
 
-pub front_many : (p : Presence) (now : ℕ) (xs : List Track) (lanes : ℕ) (qs : List Place) (rs : List Request) → rs ≡ requests_of p now xs lanes qs → rs ≡ requests_of p now xs (length rs) qs
+pub front_many : (p : Presence) (now : ℕ) (xs : List Track) (lanes : ℕ) (qs : List Place) (rs : List WatchRequest) → rs ≡ requests_of p now xs lanes qs → rs ≡ requests_of p now xs (length rs) qs
 front_many p now xs lanes qs rs are =
     are ∙ sym (ap (map (λ (q : Place). request p now xs (place_is q))) (ap (λ n. take n qs) (front_length p now xs lanes qs rs are) ∙ take_min lanes qs))
 
 -- such a clock is a step
 pub round_step :
-    (old : WatchState) (wall elapsed : ℕ) (line : Line) (k : Clocks) (stepped jumped : Bool) (until : ℕ) (output : Output) (new : WatchState) → k ≡ clocks_after old wall elapsed →
+    (old : WatchState) (wall elapsed : ℕ) (line : Line) (k : Clocks) (stepped jumped : Bool) (until : ℕ) (output : WatchOutput) (new : WatchState) → k ≡ clocks_after old wall elapsed →
     stepped ≡ has_stepped old wall elapsed → jumped ≡ has_jumped old wall elapsed → IsRoundClock old line k stepped jumped until → IsServed old line k stepped until output new →
     StepClock old wall elapsed output new
 round_step old wall elapsed line k stepped jumped until output new clocks_are stepped_is jumped_is is done =
@@ -107,7 +107,7 @@ round_step old wall elapsed line k stepped jumped until output new clocks_are st
     let rs = done.requests in
     let pressed : pressed_tracks g k [] xs ≡ xs = none_asked g k xs ∙ is.pressed in
     let sent : each (sent_in k.at rs) (pressed_tracks g k [] xs) ≡ sent_on k.at rs xs = ap (each (sent_in k.at rs)) pressed in
-    subst (λ (o : Output). StepClock old wall elapsed o new) (sym done.output_is)
+    subst (λ (o : WatchOutput). StepClock old wall elapsed o new) (sym done.output_is)
     (subst (λ (n : WatchState). StepClock old wall elapsed (record { command = Go rs until; notes = nothing_noted }) n) (sym done.state)
     (clock_step old (served old k stepped rs) wall elapsed k stepped jumped xs p None xs None rs until (need_of g.entries xs k) nothing_noted clocks_are stepped_is jumped_is (sym is.settled) (sym is.presence)
     (sym is.reason) refl (λ i below. refl) is.shut
@@ -116,5 +116,5 @@ round_step old wall elapsed line k stepped jumped until output new clocks_are st
     (ap (λ ys. record (served old k stepped rs) { tracks = ys }) (sym sent))))
 
 -- a real answer while the broker is there leaves the tracks that it has made
-pub answered_state : (s : WatchState) (r : Out) (reply : Reply) → is_real reply ≡ true → s.presence.away ≡ false → replied s r reply ≡ record s { out = map heard (without_request r.entry s.out) }
+pub answered_state : (s : WatchState) (r : Out) (reply : WatchReply) → is_real reply ≡ true → s.presence.away ≡ false → replied s r reply ≡ record s { out = map heard (without_request r.entry s.out) }
 answered_state s r reply real there = cond-true (is_real reply) _ _ real ∙ cond-false s.presence.away _ _ there

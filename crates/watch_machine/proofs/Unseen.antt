@@ -4,7 +4,7 @@ use Rattle.std.specs.List.{list_any}
 use Rattle.plan_forest.specs.declared.entry.Entry.{Entry}
 use Rattle.plan_forest.specs.Forest.{Forest, entry_at}
 use Rattle.watch_machine.specs.declared.clocks.Clocks.{Clocks}
-use Rattle.watch_machine.specs.declared.command.Request.{Request}
+use Rattle.watch_machine.specs.declared.command.WatchRequest.{WatchRequest}
 use Rattle.watch_machine.specs.declared.track.Track.{Track}
 use Rattle.watch_machine.specs.Beginning.{is_called, owing, owing_all, owing_lookup, soon, sooner_try}
 use Rattle.watch_machine.specs.Clocks.{sec}
@@ -47,6 +47,6 @@ pressed_seen g c round xs =
     both_seen (pressed_tracks g c round xs) mid xs
     (each_seen (track_asked_in c.at round) mid (asked_unseen c.at round)) (alone_seen g c xs)
 
-pub sent_seen : (at : ℕ) (requests : List Request) (xs : List Track) → SameSeen (each (sent_in at requests) xs) xs
+pub sent_seen : (at : ℕ) (requests : List WatchRequest) (xs : List Track) → SameSeen (each (sent_in at requests) xs) xs
 sent_seen at requests xs =
-    each_seen (sent_in at requests) xs (λ i x. if_both (λ y. sight y ≡ sight x) (list_any (λ (r : Request). r.entry == i) requests) (sent_track at x) x refl refl)
+    each_seen (sent_in at requests) xs (λ i x. if_both (λ y. sight y ≡ sight x) (list_any (λ (r : WatchRequest). r.entry == i) requests) (sent_track at x) x refl refl)

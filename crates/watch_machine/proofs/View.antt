@@ -15,7 +15,7 @@ use Rattle.plan_forest.specs.Over.{is_over}
 use Rattle.plan_forest.specs.Push.{is_lease, is_too_high}
 use Rattle.plan_forest.proofs.Chains.{ParentsFirst, chain_child, chain_root}
 use Rattle.plan_forest.proofs.Entries.{entry_at_set_other, entry_at_set_same}
-use Rattle.watch_machine.specs.declared.event.Terms.{Terms}
+use Rattle.watch_machine.specs.declared.event.WatchTerms.{WatchTerms}
 use Rattle.watch_machine.specs.declared.track.Track.{Track}
 use Rattle.watch_machine.specs.declared.clocks.Clocks.{Clocks}
 use Rattle.watch_machine.specs.State.{no_track}
@@ -160,18 +160,18 @@ seen_is v g xs c i e end need renewable ceiling view within is ends renewables c
     ∙ ap (λ (f : Entry). record it { step = f.step; ceiling = ceiling_here c f.ceiling; end = believed x.end; renewable = x.renewable; need = min (need_here c f.need) (least_over g.entries xs END_MAX i) }) is
 
 -- an entry that keeps its parent, and one that loses it
-pub not_orphaned : (terms : Terms) (es : List Entry) (i : ℕ) → (terms.orphan && not (is_lease (entry_at es i).kind)) ≡ false → es ≡ set es i (orphaned terms (entry_at es i))
+pub not_orphaned : (terms : WatchTerms) (es : List Entry) (i : ℕ) → (terms.orphan && not (is_lease (entry_at es i).kind)) ≡ false → es ≡ set es i (orphaned terms (entry_at es i))
 unfolding orphaned entry_at
 not_orphaned terms es i kept =
     let e = get_or es i no_entry in
     sym (ap (λ b. set es i (record e { parent = if b then None else e.parent })) kept ∙ set-get_or es i no_entry)
 
-pub now_orphaned : (terms : Terms) (es : List Entry) (i : ℕ) → (terms.orphan && not (is_lease (entry_at es i).kind)) ≡ true → record (entry_at es i) { parent = None } ≡ orphaned terms (entry_at es i)
+pub now_orphaned : (terms : WatchTerms) (es : List Entry) (i : ℕ) → (terms.orphan && not (is_lease (entry_at es i).kind)) ≡ true → record (entry_at es i) { parent = None } ≡ orphaned terms (entry_at es i)
 unfolding orphaned
 now_orphaned terms es i lost = let e = entry_at es i in ap (λ b. record e { parent = if b then None else e.parent }) (sym lost)
 
 -- a lookup's terms leave a view of the forest
 pub told_alike :
-    (v g : Forest) (i margin : ℕ) (terms : Terms) → IsView v g → i < length g.entries → shape (orphaned terms (entry_at v.entries i)) ≡ shape (by_terms margin terms (entry_at g.entries i))
+    (v g : Forest) (i margin : ℕ) (terms : WatchTerms) → IsView v g → i < length g.entries → shape (orphaned terms (entry_at v.entries i)) ≡ shape (by_terms margin terms (entry_at g.entries i))
 unfolding orphaned by_terms
 told_alike v g i margin terms view within = ap (λ (e : Entry). shape (orphaned terms e)) (at_shape v g i view within)

@@ -2,7 +2,7 @@
 -- Source: Vault, HTTP API, "HTTP status codes"; the rest is this project's own.
 use Rattle.std.specs.Prelude.{ℕ, ◌+◌, Bool, true, false, not, ◌||◌, ◌==◌, if◌then◌else◌, List, [], ◌∷◌, ◌++◌, Option, Some, None, filter, map, min, slice_set}
 use Rattle.watch_machine.specs.declared.event.Operation.{Operation}
-use Rattle.watch_machine.specs.declared.event.Reply.{Reply}
+use Rattle.watch_machine.specs.declared.event.WatchReply.{WatchReply}
 use Rattle.watch_machine.specs.declared.lanes.Out.{Out}
 use Rattle.watch_machine.specs.declared.lanes.Presence.{Presence}
 use Rattle.watch_machine.specs.declared.notes.Link.{Link}
@@ -61,18 +61,18 @@ abbrev pub silent : WatchState → WatchState
 silent s = if s.presence.away then s else record s { presence = presence_gone s.presence }
 
 -- an answer, as it is kept until the next clock
-abbrev pub noted : WatchState → Out → Reply → WatchState
+abbrev pub noted : WatchState → Out → WatchReply → WatchState
 noted s r reply = record s { answers = s.answers ++ record { since = r.since; heard = r.heard; reply = reply } ∷ [] }
 
 -- the state after a reply to this request, which is taken for its entry already
 abbrev pub lane_freed : WatchState → Out → WatchState
 lane_freed s r = record s { out = without_request r.entry s.out }
 
-abbrev pub replied : WatchState → Out → Reply → WatchState
+abbrev pub replied : WatchState → Out → WatchReply → WatchState
 replied s r reply = if is_real reply then answers_all (lane_freed s r) else (if r.heard then lane_freed s r else silent (lane_freed s r))
 
 -- what is noted of it
-abbrev pub link : WatchState → Out → Reply → Option Link
+abbrev pub link : WatchState → Out → WatchReply → Option Link
 link s r reply =
     if is_real reply then (if s.presence.away then Some Back else None)
     else (if r.heard || s.presence.away then None else Some Away)

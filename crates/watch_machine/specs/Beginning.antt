@@ -6,8 +6,8 @@ use Rattle.plan_forest.specs.Carried.{carried}
 use Rattle.plan_forest.specs.Forest.{Forest}
 use Rattle.watch_machine.specs.declared.clocks.Clocks.{Clocks}
 use Rattle.watch_machine.specs.declared.event.Operation.TheVariants.{Look}
-use Rattle.watch_machine.specs.declared.notes.Why.{Why}
-use Rattle.watch_machine.specs.declared.notes.Why.TheVariants.{Start, Asked, Jump, Day}
+use Rattle.watch_machine.specs.declared.notes.BeginReason.{BeginReason}
+use Rattle.watch_machine.specs.declared.notes.BeginReason.TheVariants.{Start, Asked, Jump, Day}
 use Rattle.watch_machine.specs.declared.track.Track.{Track}
 use Rattle.watch_machine.specs.declared.track.Try.{Try}
 use Rattle.watch_machine.specs.Clocks.{sec}
@@ -34,7 +34,7 @@ is_past span (Some begun) at = nat_le (begun + span) at
 
 -- why everything is looked up anew, None where it is not: ten minutes after the last time at the soonest where a date has shown the
 -- broker's clock set on since, and a day after it where nobody is pressed whose end is ahead
-unfoldable pub beginning : Option ℕ → Bool → Bool → Bool → ℕ → List Track → Option Why
+unfoldable pub beginning : Option ℕ → Bool → Bool → Bool → ℕ → List Track → Option BeginReason
 beginning begun asked stepped jumped at xs =
     if is_none begun then Some Start
     else (if jumped || (stepped && is_past 600000 begun at) then Some Jump
@@ -89,21 +89,21 @@ untopped xs = each (λ i. untopped_track) xs
 abbrev pub owing_all : Forest → Clocks → Bool → List Track → List Track
 owing_all g c first xs = each (λ i. owing c.at first (is_called g xs c i)) xs
 
-abbrev pub is_start : Why → Bool
+abbrev pub is_start : BeginReason → Bool
 is_start Start = true
 is_start Asked = false
 is_start Jump = false
 is_start Day = false
 
-abbrev pub begun_tracks : Forest → Clocks → Option Why → List Track → List Track
+abbrev pub begun_tracks : Forest → Clocks → Option BeginReason → List Track → List Track
 begun_tracks g c None xs = xs
 begun_tracks g c (Some why) xs = owing_all g c (is_start why) (untopped xs)
 
 -- a state that begins anew
-abbrev pub noted_begun : WatchState → Option Why → WatchState
+abbrev pub noted_begun : WatchState → Option BeginReason → WatchState
 noted_begun s None = s
 noted_begun s (Some why) = record s { begun = Some s.clocks.at; asked = false; stepped = false }
 
 -- the state after step 3 of a clock
-abbrev pub begun : WatchState → Option Why → WatchState
+abbrev pub begun : WatchState → Option BeginReason → WatchState
 begun s why = noted_begun (record s { tracks = begun_tracks s.forest s.clocks why s.tracks }) why

@@ -7,7 +7,7 @@ use Rattle.plan_forest.specs.Forest.{Forest, entry_at}
 use Rattle.plan_forest.specs.Push.{IsForest}
 use Rattle.watch_machine.specs.declared.change.Was.{Was}
 use Rattle.watch_machine.specs.declared.change.Was.TheVariants.{New, Same, Retold}
-use Rattle.watch_machine.specs.declared.event.Terms.{Terms}
+use Rattle.watch_machine.specs.declared.event.WatchTerms.{WatchTerms}
 use Rattle.watch_machine.specs.declared.lanes.Out.{Out}
 use Rattle.watch_machine.specs.declared.track.Track.{Track}
 use Rattle.watch_machine.specs.Beginning.{owing_lookup, untopped_track}
@@ -50,7 +50,7 @@ pub record IsChange (n : ℕ) (g : Forest) (was : List Was) : Type 0 where
 -- ---- what is written of an entry, and known of it
 
 -- what lookups have told of an entry, as terms that tell it again
-abbrev pub terms_left : Entry → Terms
+abbrev pub terms_left : Entry → WatchTerms
 terms_left e = record { step = Some e.step; ceiling = e.ceiling; orphan = is_none e.parent; endless = false }
 
 -- an entry as lookups have told it, where the inventory says of it what it said

@@ -3,8 +3,8 @@
 use Rattle.std.specs.Prelude.{◌≡◌, ℕ, List, [], ◌∷◌, Option, Some, None, Result, Ok, Err, length}
 use Rattle.plan_forest.specs.Forest.{Forest}
 use Rattle.watch_machine.specs.declared.change.Was.{Was}
-use Rattle.watch_machine.specs.declared.command.Output.{Output}
-use Rattle.watch_machine.specs.declared.event.Event.{Event}
+use Rattle.watch_machine.specs.declared.command.WatchOutput.{WatchOutput}
+use Rattle.watch_machine.specs.declared.event.WatchEvent.{WatchEvent}
 use Rattle.watch_machine.specs.declared.fault.WatchFault.{WatchFault}
 use Rattle.watch_machine.specs.declared.fault.WatchFault.TheVariants.{OutOfMemory}
 use Rattle.watch_machine.specs.Change.{IsChange, changed, former_at}
@@ -13,15 +13,15 @@ use Rattle.watch_machine.specs.State.{WatchState, opened}
 use Rattle.watch_machine.specs.Step.{Step, TurnMayWantMemory}
 
 -- what an event gives: a step; or a refusal, which leaves the state. Lack of memory may take the place of a step
-abbrev pub Turn : WatchState → Event → Result Output WatchFault → WatchState → Type 0
+abbrev pub Turn : WatchState → WatchEvent → Result WatchOutput WatchFault → WatchState → Type 0
 Turn old event (Ok output) new = (refusal old event ≡ None) × Step old event output new
 Turn old event (Err OutOfMemory) new = (refusal old event ≡ None) × (TurnMayWantMemory event × (new ≡ old))
 Turn old event (Err fault) new = (refusal old event ≡ Some fault) × (new ≡ old)
 
 -- an event, what it gave, and the state after it
 pub record Turned : Type 0 where
-  pub event : Event
-  pub result : Result Output WatchFault
+  pub event : WatchEvent
+  pub result : Result WatchOutput WatchFault
   pub state : WatchState
 
 -- what events gave one after another

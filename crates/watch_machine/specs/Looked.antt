@@ -6,9 +6,9 @@ use Rattle.plan_forest.specs.declared.forest.TheConstants.{END_MAX}
 use Rattle.plan_forest.specs.Push.{is_lease}
 use Rattle.watch_machine.specs.declared.event.Operation.{Operation}
 use Rattle.watch_machine.specs.declared.event.Operation.TheVariants.{Look, Renew}
-use Rattle.watch_machine.specs.declared.event.Reply.{Reply}
-use Rattle.watch_machine.specs.declared.event.Reply.TheVariants.{Told, Refused, Busy, Lost}
-use Rattle.watch_machine.specs.declared.event.Terms.{Terms}
+use Rattle.watch_machine.specs.declared.event.WatchReply.{WatchReply}
+use Rattle.watch_machine.specs.declared.event.WatchReply.TheVariants.{Told, Refused, Busy, Lost}
+use Rattle.watch_machine.specs.declared.event.WatchTerms.{WatchTerms}
 use Rattle.watch_machine.specs.declared.lanes.Out.{Out}
 use Rattle.watch_machine.specs.declared.track.End.TheVariants.{At, Never}
 use Rattle.watch_machine.specs.declared.track.Track.{Track}
@@ -25,21 +25,21 @@ step_told margin step None = step
 step_told margin step (Some told) = if nat_lt margin told then told else step
 
 -- an entry, alone where the terms say so. A lease keeps its token
-abbrev pub parent_told : Terms → Entry → Option ℕ
+abbrev pub parent_told : WatchTerms → Entry → Option ℕ
 parent_told terms e = if terms.orphan && not (is_lease e.kind) then None else e.parent
 
-unfoldable pub orphaned : Terms → Entry → Entry
+unfoldable pub orphaned : WatchTerms → Entry → Entry
 orphaned terms e = record e { parent = parent_told terms e }
 
 -- an entry by the terms that a lookup told
-unfoldable pub by_terms : ℕ → Terms → Entry → Entry
+unfoldable pub by_terms : ℕ → WatchTerms → Entry → Entry
 by_terms margin terms e = record e {
   step = step_told margin e.step terms.step;
   ceiling = option_map (λ t. min END_MAX t) terms.ceiling;
   parent = parent_told terms e;
 }
 
-abbrev pub with_terms : WatchState → ℕ → Terms → WatchState
+abbrev pub with_terms : WatchState → ℕ → WatchTerms → WatchState
 with_terms s i terms = record s { forest = record s.forest { entries = slice_set s.forest.entries i (by_terms s.forest.margin terms (entry_of s i)) } }
 
 -- a track as a lookup told it that went out at since, but for its try
@@ -63,7 +63,7 @@ abbrev pub told_try : ℕ → Bool → Track → Option Try → Option Try
 told_try at due x None = None
 told_try at due x (Some t) = if due then Some (at_once at t) else (if is_alive (sec at) x then None else Some (failing t Look false false))
 
-abbrev pub told_state : WatchState → ℕ → ℕ → ℕ → Bool → Terms → WatchState
+abbrev pub told_state : WatchState → ℕ → ℕ → ℕ → Bool → WatchTerms → WatchState
 told_state s i since seconds renewable terms = with_track (with_terms s i terms) i (told_track since seconds renewable terms.endless (track_at s i))
 
 -- the entry is wanted, and its time has come
@@ -85,33 +85,33 @@ abbrev pub after_look : ℕ → Track → Try → Operation
 after_look now x t = if t.pressed && is_open now x then Renew else Look
 
 -- the status of a refusal
-abbrev pub status_of : Reply → Option ℕ
+abbrev pub status_of : WatchReply → Option ℕ
 status_of (Told seconds renewable date) = None
 status_of (Refused status date) = Some status
 status_of Busy = None
 status_of Lost = None
 
 -- the try after a lookup that told nothing
-abbrev pub untold_try : ℕ → Bool → Reply → Track → Try → Try
+abbrev pub untold_try : ℕ → Bool → WatchReply → Track → Try → Try
 untold_try at heard (Told seconds renewable date) x t = t
 untold_try at heard (Refused status date) x t = refused_try at x t
 untold_try at heard Busy x t = failing t (after_look (sec at) x t) true false
 untold_try at heard Lost x t = failing t (after_look (sec at) x t) true heard
 
-abbrev pub untold : ℕ → Bool → Reply → Track → Option Try → Option Try
+abbrev pub untold : ℕ → Bool → WatchReply → Track → Option Try → Option Try
 untold at heard reply x None = None
 untold at heard reply x (Some t) = Some (untold_try at heard reply x t)
 
-unfoldable pub untold_track : ℕ → Bool → Reply → Track → Track
+unfoldable pub untold_track : ℕ → Bool → WatchReply → Track → Track
 untold_track at heard reply x = record x { owes = x.owes && is_none (status_of reply); out = false; attempt = untold at heard reply x x.attempt }
 
 -- the state after the answer to this request, but for what it says of the broker
-abbrev pub looked : WatchState → Out → Reply → Terms → WatchState
+abbrev pub looked : WatchState → Out → WatchReply → WatchTerms → WatchState
 looked s r (Told seconds renewable date) terms = with_told_try (told_state s r.entry r.since seconds renewable terms) r.entry
 looked s r (Refused status date) terms = with_track s r.entry (untold_track s.clocks.at r.heard (Refused status date) (track_at s r.entry))
 looked s r Busy terms = with_track s r.entry (untold_track s.clocks.at r.heard Busy (track_at s r.entry))
 looked s r Lost terms = with_track s r.entry (untold_track s.clocks.at r.heard Lost (track_at s r.entry))
 
 -- the terms take an entry away from its parent, and it is told for the first time that it never ends
-abbrev pub is_orphaned : Terms → Entry → Bool
+abbrev pub is_orphaned : WatchTerms → Entry → Bool
 is_orphaned terms e = terms.orphan && (not (is_lease e.kind) && is_some e.parent)

@@ -2,8 +2,8 @@
 -- Source: this project's own.
 use Rattle.std.specs.Prelude.{ℕ, Bool, true, false, ◌&&◌, ◌==◌, if◌then◌else◌, List, Option, Some, None, length, nat_le}
 use Rattle.std.specs.List.{find}
-use Rattle.watch_machine.specs.declared.event.Event.{Event}
-use Rattle.watch_machine.specs.declared.event.Event.TheVariants.{Clock, Looked, Renewed, Need, Begin, Known}
+use Rattle.watch_machine.specs.declared.event.WatchEvent.{WatchEvent}
+use Rattle.watch_machine.specs.declared.event.WatchEvent.TheVariants.{Clock, Looked, Renewed, Need, Begin, Known}
 use Rattle.watch_machine.specs.declared.event.Operation.{Operation}
 use Rattle.watch_machine.specs.declared.event.Operation.TheVariants.{Look, Renew}
 use Rattle.watch_machine.specs.declared.fault.WatchFault.{WatchFault}
@@ -35,7 +35,7 @@ unless_asked s i operation = unless_some s i (request_out s.out i operation)
 
 -- the refusal of an event, None where it has none: there is no such entry, or an answer is to no request that is out. One to a request
 -- that is out is taken, also where its entry is no more
-unfoldable pub refusal : WatchState → Event → Option WatchFault
+unfoldable pub refusal : WatchState → WatchEvent → Option WatchFault
 refusal s (Clock wall elapsed) = None
 refusal s (Looked i reply terms) = unless_asked s i Look
 refusal s (Renewed i reply) = unless_asked s i Renew

@@ -4,8 +4,8 @@
 use Rattle.std.specs.Prelude.{ℕ, ◌+◌, ◌-◌, Bool, true, false, not, ◌&&◌, ◌||◌, if◌then◌else◌, Option, Some, None, min, nat_le, nat_lt}
 use Rattle.watch_machine.specs.declared.event.Operation.{Operation}
 use Rattle.watch_machine.specs.declared.event.Operation.TheVariants.{Look, Renew}
-use Rattle.watch_machine.specs.declared.event.Reply.{Reply}
-use Rattle.watch_machine.specs.declared.event.Reply.TheVariants.{Told, Refused, Busy, Lost}
+use Rattle.watch_machine.specs.declared.event.WatchReply.{WatchReply}
+use Rattle.watch_machine.specs.declared.event.WatchReply.TheVariants.{Told, Refused, Busy, Lost}
 use Rattle.watch_machine.specs.declared.lanes.Out.{Out}
 use Rattle.watch_machine.specs.declared.track.End.{End}
 use Rattle.watch_machine.specs.declared.track.End.TheVariants.{Unknown, At, Never}
@@ -67,31 +67,31 @@ granted margin step at since seconds renewable x = granted_from step at seconds 
 abbrev pub after_renewal : ℕ → Track → Operation
 after_renewal now x = if is_alive now x then Renew else Look
 
-abbrev pub ungranted_try : ℕ → Bool → Reply → Track → Try → Try
+abbrev pub ungranted_try : ℕ → Bool → WatchReply → Track → Try → Try
 ungranted_try at heard (Told seconds renewable date) x t = t
 ungranted_try at heard (Refused status date) x t = failing t Look false false
 ungranted_try at heard Busy x t = failing t (after_renewal (sec at) x) true false
 ungranted_try at heard Lost x t = failing t (after_renewal (sec at) x) true heard
 
-abbrev pub ungranted : ℕ → Bool → Reply → Track → Option Try → Option Try
+abbrev pub ungranted : ℕ → Bool → WatchReply → Track → Option Try → Option Try
 ungranted at heard reply x None = None
 ungranted at heard reply x (Some t) = Some (ungranted_try at heard reply x t)
 
-unfoldable pub ungranted_track : ℕ → Bool → Reply → Track → Track
+unfoldable pub ungranted_track : ℕ → Bool → WatchReply → Track → Track
 ungranted_track at heard reply x = record x { out = false; attempt = ungranted at heard reply x x.attempt }
 
 -- an entry after the answer to this request
-unfoldable pub renewed_track : ℕ → ℕ → ℕ → Out → Reply → Track → Track
+unfoldable pub renewed_track : ℕ → ℕ → ℕ → Out → WatchReply → Track → Track
 renewed_track margin step at r (Told seconds renewable date) x = granted margin step at r.since seconds renewable x
 renewed_track margin step at r (Refused status date) x = ungranted_track at r.heard (Refused status date) x
 renewed_track margin step at r Busy x = ungranted_track at r.heard Busy x
 renewed_track margin step at r Lost x = ungranted_track at r.heard Lost x
 
-abbrev pub track_renewed : WatchState → Out → Reply → Track
+abbrev pub track_renewed : WatchState → Out → WatchReply → Track
 track_renewed s r reply = renewed_track s.forest.margin (entry_of s r.entry).step s.clocks.at r reply (track_at s r.entry)
 
 -- the state after it, but for what it says of the broker
-abbrev pub state_renewed : WatchState → Out → Reply → WatchState
+abbrev pub state_renewed : WatchState → Out → WatchReply → WatchState
 state_renewed s r reply = with_track s r.entry (track_renewed s r reply)
 
 -- the end to which a grant led, where that is the top
@@ -100,7 +100,7 @@ end_at Unknown = None
 end_at (At end) = Some end
 end_at Never = None
 
-abbrev pub top_by : Reply → Track → Option ℕ
+abbrev pub top_by : WatchReply → Track → Option ℕ
 top_by (Told seconds renewable date) x = if x.top then end_at x.end else None
 top_by (Refused status date) x = None
 top_by Busy x = None

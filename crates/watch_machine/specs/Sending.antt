@@ -6,7 +6,7 @@ use Rattle.plan_forest.specs.declared.entry.Entry.{Entry}
 use Rattle.plan_forest.specs.Forest.{Forest, entry_at}
 use Rattle.watch_machine.specs.declared.command.Patience.{Patience}
 use Rattle.watch_machine.specs.declared.command.Patience.TheVariants.{Full, AtMost}
-use Rattle.watch_machine.specs.declared.command.Request.{Request}
+use Rattle.watch_machine.specs.declared.command.WatchRequest.{WatchRequest}
 use Rattle.watch_machine.specs.declared.event.Operation.TheVariants.{Look}
 use Rattle.watch_machine.specs.declared.lanes.Out.{Out}
 use Rattle.watch_machine.specs.declared.lanes.Presence.{Presence}
@@ -66,34 +66,34 @@ patience away partial pace t =
     if away && is_first t then AtMost 250
     else (if partial then AtMost (max 1000 (2 * pace) * 2 ^ (min 20 t.fails - 1)) else Full)
 
-abbrev pub request_of : Bool → Bool → ℕ → ℕ → Option Try → Request
+abbrev pub request_of : Bool → Bool → ℕ → ℕ → Option Try → WatchRequest
 request_of away partial pace i None = record { entry = i; operation = Look; patience = Full }
 request_of away partial pace i (Some t) = record { entry = i; operation = t.operation; patience = patience away partial pace t }
 
-unfoldable pub request : Presence → ℕ → List Track → Place → Request
+unfoldable pub request : Presence → ℕ → List Track → Place → WatchRequest
 request p now xs place = request_of p.away (is_partial now xs) p.pace place.entry (track_in xs place.entry).attempt
 
 -- a request as it is out
-abbrev pub out_at : ℕ → Request → Out
+abbrev pub out_at : ℕ → WatchRequest → Out
 out_at at r = record { entry = r.entry; operation = r.operation; since = at; heard = false }
 
 -- an entry whose request goes out
 abbrev pub sent_track : ℕ → Track → Track
 sent_track at x = record x { last = Some at; out = true }
 
-abbrev pub sent_in : ℕ → List Request → ℕ → Track → Track
-sent_in at requests i x = if list_any (λ (r : Request). r.entry == i) requests then sent_track at x else x
+abbrev pub sent_in : ℕ → List WatchRequest → ℕ → Track → Track
+sent_in at requests i x = if list_any (λ (r : WatchRequest). r.entry == i) requests then sent_track at x else x
 
 -- the state after these requests have gone out
-abbrev pub sent : WatchState → List Request → WatchState
+abbrev pub sent : WatchState → List WatchRequest → WatchState
 sent s requests = record s { tracks = each (sent_in s.clocks.at requests) s.tracks; out = s.out ++ map (out_at s.clocks.at) requests }
 
 -- these requests go out at a clock: of those that are due as many as lanes are free
-pub record IsGoing (g : Forest) (p : Presence) (at : ℕ) (xs : List Track) (lanes : ℕ) (requests : List Request) : Type 0 where
+pub record IsGoing (g : Forest) (p : Presence) (at : ℕ) (xs : List Track) (lanes : ℕ) (requests : List WatchRequest) : Type 0 where
   pub picked : List Place
   pub is_picked : IsPicked g p at xs lanes picked
   pub requests_are : requests ≡ map (request p (sec at) xs) picked
 
 -- step 5 of a clock
-abbrev pub RequestsAreSent : WatchState → List Request → WatchState → Type 0
+abbrev pub RequestsAreSent : WatchState → List WatchRequest → WatchState → Type 0
 RequestsAreSent s requests new = IsGoing s.forest s.presence s.clocks.at s.tracks (s.width - length s.out) requests × (new ≡ sent s requests)

@@ -4,9 +4,9 @@ use Rattle.std.specs.Prelude.{ℕ, ◌+◌, ◌-◌, ◌/◌, Bool, true, false,
 use Rattle.std.specs.List.{list_any}
 use Rattle.base_moment.specs.declared.moment.TheConstants.{LAST}
 use Rattle.watch_machine.specs.declared.clocks.Clocks.{Clocks}
-use Rattle.watch_machine.specs.declared.event.Reply.{Reply}
-use Rattle.watch_machine.specs.declared.event.Reply.TheVariants.{Told, Refused, Busy, Lost}
-use Rattle.watch_machine.specs.declared.lanes.Answer.{Answer}
+use Rattle.watch_machine.specs.declared.event.WatchReply.{WatchReply}
+use Rattle.watch_machine.specs.declared.event.WatchReply.TheVariants.{Told, Refused, Busy, Lost}
+use Rattle.watch_machine.specs.declared.lanes.LaneAnswer.{LaneAnswer}
 use Rattle.watch_machine.specs.declared.lanes.Presence.{Presence}
 use Rattle.watch_machine.specs.declared.track.Track.{Track}
 use Rattle.watch_machine.specs.declared.track.Try.{Try}
@@ -17,20 +17,20 @@ use Rattle.watch_machine.specs.State.{WatchState, each}
 use Rattle.watch_machine.specs.Wanted.{least}
 
 -- the reply shows that the broker is there
-abbrev pub is_real : Reply → Bool
+abbrev pub is_real : WatchReply → Bool
 is_real (Told seconds renewable date) = true
 is_real (Refused status date) = true
 is_real Busy = true
 is_real Lost = false
 
-abbrev pub date_of : Reply → Option ℕ
+abbrev pub date_of : WatchReply → Option ℕ
 date_of (Told seconds renewable date) = date
 date_of (Refused status date) = date
 date_of Busy = None
 date_of Lost = None
 
 -- no answer, and none to another since it was asked
-abbrev pub is_silent : Answer → Bool
+abbrev pub is_silent : LaneAnswer → Bool
 is_silent a = not (is_real a.reply) && not a.heard
 
 -- Clocks
@@ -40,11 +40,11 @@ abbrev pub dated_on : ℕ → Clocks → Option ℕ → Clocks
 dated_on since c None = c
 dated_on since c (Some date) = dated_by since c (min LAST date)
 
-abbrev pub dated : Clocks → Answer → Clocks
+abbrev pub dated : Clocks → LaneAnswer → Clocks
 dated c a = dated_on a.since c (date_of a.reply)
 
 -- and after several, as they came
-abbrev pub dated_by_all : Clocks → List Answer → Clocks
+abbrev pub dated_by_all : Clocks → List LaneAnswer → Clocks
 dated_by_all c answers = fold dated c answers
 
 -- a date is ahead of a clock that a reply had told before
@@ -53,7 +53,7 @@ is_step c None = false
 is_step c (Some date) = c.dated && is_ahead c (min LAST date)
 
 -- one of them is
-abbrev pub steps : Clocks → List Answer → Bool
+abbrev pub steps : Clocks → List LaneAnswer → Bool
 steps c [] = false
 steps c (a ∷ rest) = is_step c (date_of a.reply) || steps (dated c a) rest
 
@@ -78,14 +78,14 @@ has_stepped s wall elapsed = s.stepped || steps (read s.clocks wall elapsed) s.a
 -- Pace
 
 -- how long an answer took, a day at most
-abbrev pub took : ℕ → Answer → ℕ
+abbrev pub took : ℕ → LaneAnswer → ℕ
 took at a = min 86400000 (at - a.since)
 
 -- how long answers take, after one more
-abbrev pub paced : ℕ → ℕ → Answer → ℕ
+abbrev pub paced : ℕ → ℕ → LaneAnswer → ℕ
 paced at pace a = if is_real a.reply then max (took at a) (pace - pace / 8) else pace
 
-abbrev pub pace_after : ℕ → ℕ → List Answer → ℕ
+abbrev pub pace_after : ℕ → ℕ → List LaneAnswer → ℕ
 pace_after at pace answers = fold (paced at) pace answers
 
 -- Failures
@@ -124,14 +124,14 @@ hold_after margin at xs p =
     then at + held margin at xs (count_after at p)
     else min p.hold (at + held margin at xs p.count)
 
-unfoldable pub held_back : ℕ → ℕ → List Track → List Answer → Presence → Presence
+unfoldable pub held_back : ℕ → ℕ → List Track → List LaneAnswer → Presence → Presence
 held_back margin at xs answers p =
     if p.away && list_any is_silent answers
     then record p { count = count_after at p; hold = hold_after margin at xs p }
     else p
 
 -- what the answers since the last clock say of the broker
-unfoldable pub presence_after : ℕ → ℕ → List Track → List Answer → Presence → Presence
+unfoldable pub presence_after : ℕ → ℕ → List Track → List LaneAnswer → Presence → Presence
 presence_after margin at xs answers p = record (held_back margin at xs answers p) { pace = pace_after at p.pace answers }
 
 -- the state after step 1 of a clock

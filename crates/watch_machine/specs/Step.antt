@@ -3,19 +3,19 @@
 use Rattle.std.specs.Prelude.{◌≡◌, ℕ, Bool, true, false, not, ◌&&◌, if◌then◌else◌, List, Option, Some, None, length, min, nat_lt, slice_set}
 use Rattle.base_moment.specs.declared.moment.TheConstants.{LAST}
 use Rattle.plan_forest.specs.declared.forest.TheConstants.{END_MAX}
-use Rattle.watch_machine.specs.declared.command.Command.{Command}
-use Rattle.watch_machine.specs.declared.command.Command.TheVariants.{Go, Taken}
-use Rattle.watch_machine.specs.declared.command.Output.{Output}
-use Rattle.watch_machine.specs.declared.event.Event.{Event}
-use Rattle.watch_machine.specs.declared.event.Event.TheVariants.{Clock, Looked, Renewed, Need, Begin, Known}
+use Rattle.watch_machine.specs.declared.command.WatchCommand.{WatchCommand}
+use Rattle.watch_machine.specs.declared.command.WatchCommand.TheVariants.{Go, Taken}
+use Rattle.watch_machine.specs.declared.command.WatchOutput.{WatchOutput}
+use Rattle.watch_machine.specs.declared.event.WatchEvent.{WatchEvent}
+use Rattle.watch_machine.specs.declared.event.WatchEvent.TheVariants.{Clock, Looked, Renewed, Need, Begin, Known}
 use Rattle.watch_machine.specs.declared.event.Operation.TheVariants.{Look, Renew}
-use Rattle.watch_machine.specs.declared.event.Reply.{Reply}
-use Rattle.watch_machine.specs.declared.event.Reply.TheVariants.{Told, Refused, Busy, Lost}
-use Rattle.watch_machine.specs.declared.event.Terms.{Terms}
+use Rattle.watch_machine.specs.declared.event.WatchReply.{WatchReply}
+use Rattle.watch_machine.specs.declared.event.WatchReply.TheVariants.{Told, Refused, Busy, Lost}
+use Rattle.watch_machine.specs.declared.event.WatchTerms.{WatchTerms}
 use Rattle.watch_machine.specs.declared.lanes.Out.{Out}
 use Rattle.watch_machine.specs.declared.notes.Link.{Link}
 use Rattle.watch_machine.specs.declared.notes.Notes.{Notes}
-use Rattle.watch_machine.specs.declared.notes.Why.{Why}
+use Rattle.watch_machine.specs.declared.notes.BeginReason.{BeginReason}
 use Rattle.watch_machine.specs.declared.track.End.TheVariants.{At}
 use Rattle.watch_machine.specs.declared.track.Track.{Track}
 use Rattle.watch_machine.specs.Answers.{link, noted, replied, with_track}
@@ -36,7 +36,7 @@ abbrev pub nothing_noted : Notes
 nothing_noted = record { began = None; round = None; gone = None; top = None; orphan = false; endless = false; link = None }
 
 -- why a clock begins anew, and the state after its steps 1 to 3
-unfoldable pub why : WatchState → ℕ → ℕ → Option Why
+unfoldable pub why : WatchState → ℕ → ℕ → Option BeginReason
 why s wall elapsed =
     let t = settled (timed s wall elapsed) in
     beginning t.begun t.asked t.stepped (has_jumped s wall elapsed) t.clocks.at t.tracks
@@ -45,13 +45,13 @@ unfoldable pub readied : WatchState → ℕ → ℕ → WatchState
 readied s wall elapsed = begun (settled (timed s wall elapsed)) (why s wall elapsed)
 
 -- what is commanded, and the state in which all are pressed that have to be asked
-abbrev pub StepCommand : WatchState → Command → WatchState → Type 0
+abbrev pub StepCommand : WatchState → WatchCommand → WatchState → Type 0
 StepCommand mid (Go requests until) new = RequestsAreSent mid requests new × (until ≡ wait new)
 StepCommand mid Taken new = ⊥
 
 -- a clock: the clocks move, failures settle, everything begins anew where it has to; then who has to be asked is pressed, a
 -- round opens, as many requests go out as lanes are free, and the wait is told
-pub record StepClock (old : WatchState) (wall elapsed : ℕ) (output : Output) (new : WatchState) : Type 0 where
+pub record StepClock (old : WatchState) (wall elapsed : ℕ) (output : WatchOutput) (new : WatchState) : Type 0 where
   pub round : Option (List ℕ)
   pub is_round : IsRound (readied old wall elapsed).forest (readied old wall elapsed).tracks (readied old wall elapsed).clocks round
   pub notes : output.notes ≡ record nothing_noted { began = why old wall elapsed; round = round }
@@ -62,16 +62,16 @@ abbrev pub is_watched : WatchState → ℕ → Bool
 is_watched s i = nat_lt i (length s.forest.entries)
 
 -- what is noted of an answer to a lookup that told of its entry, of one that told nothing, and of either
-abbrev pub notes_told : WatchState → ℕ → Terms → Notes
+abbrev pub notes_told : WatchState → ℕ → WatchTerms → Notes
 notes_told s i terms = record nothing_noted {
   orphan = is_orphaned terms (entry_of s i);
   endless = is_watched s i && (terms.endless && not (is_never (track_at s i).end));
 }
 
-abbrev pub notes_untold : WatchState → ℕ → Reply → Notes
+abbrev pub notes_untold : WatchState → ℕ → WatchReply → Notes
 notes_untold s i reply = record nothing_noted { gone = if is_watched s i then status_of reply else None }
 
-abbrev pub notes_of : WatchState → Out → Reply → Terms → Notes
+abbrev pub notes_of : WatchState → Out → WatchReply → WatchTerms → Notes
 notes_of s r (Told seconds renewable date) terms = notes_told s r.entry terms
 notes_of s r (Refused status date) terms = notes_untold s r.entry (Refused status date)
 notes_of s r Busy terms = notes_untold s r.entry Busy
@@ -96,28 +96,28 @@ told_earlier end renewable x = record x { end = At (min END_MAX end); renewable 
 abbrev pub known : WatchState → ℕ → ℕ → Bool → WatchState
 known s i end renewable = with_track s i (owing_past s.clocks.at (told_earlier end renewable (track_at s i)))
 
-abbrev pub taken : Notes → Output
+abbrev pub taken : Notes → WatchOutput
 taken notes = record { command = Taken; notes = notes }
 
 -- an answer to a request that is out: it is noted, it is taken for its entry, and then for what it says of the broker. Where its entry is no
 -- more, there is nothing to be made of that
-abbrev pub notes_looked : WatchState → Out → Reply → Terms → Notes
+abbrev pub notes_looked : WatchState → Out → WatchReply → WatchTerms → Notes
 notes_looked s r reply terms = with_link (notes_of s r reply terms) (link (looked s r reply terms) r reply)
 
-abbrev pub notes_renewed : WatchState → Out → Reply → Notes
+abbrev pub notes_renewed : WatchState → Out → WatchReply → Notes
 notes_renewed s r reply = with_link (notes_top (top_by reply (track_renewed s r reply))) (link (state_renewed s r reply) r reply)
 
-abbrev pub StepLooked : WatchState → Option Out → Reply → Terms → Output → WatchState → Type 0
+abbrev pub StepLooked : WatchState → Option Out → WatchReply → WatchTerms → WatchOutput → WatchState → Type 0
 StepLooked old None reply terms output new = ⊥
 StepLooked old (Some r) reply terms output new =
     (output ≡ taken (notes_looked (noted old r reply) r reply terms)) × (new ≡ replied (looked (noted old r reply) r reply terms) r reply)
 
-abbrev pub StepRenewed : WatchState → Option Out → Reply → Output → WatchState → Type 0
+abbrev pub StepRenewed : WatchState → Option Out → WatchReply → WatchOutput → WatchState → Type 0
 StepRenewed old None reply output new = ⊥
 StepRenewed old (Some r) reply output new = (output ≡ taken (notes_renewed (noted old r reply) r reply)) × (new ≡ replied (state_renewed (noted old r reply) r reply) r reply)
 
 -- one step that is not refused
-abbrev pub Step : WatchState → Event → Output → WatchState → Type 0
+abbrev pub Step : WatchState → WatchEvent → WatchOutput → WatchState → Type 0
 Step old (Clock wall elapsed) output new = StepClock old wall elapsed output new
 Step old (Looked i reply terms) output new = StepLooked old (request_out old.out i Look) reply terms output new
 Step old (Renewed i reply) output new = StepRenewed old (request_out old.out i Renew) reply output new
@@ -126,7 +126,7 @@ Step old Begin output new = (output ≡ taken nothing_noted) × (new ≡ record 
 Step old (Known i end renewable) output new = (output ≡ taken nothing_noted) × (new ≡ known old i end renewable)
 
 -- what may want memory: a clock, and an answer
-abbrev pub TurnMayWantMemory : Event → Type 0
+abbrev pub TurnMayWantMemory : WatchEvent → Type 0
 TurnMayWantMemory (Clock wall elapsed) = Unit {0}
 TurnMayWantMemory (Looked i reply terms) = Unit {0}
 TurnMayWantMemory (Renewed i reply) = Unit {0}

@@ -8,7 +8,7 @@ ghost use Rattle.watch_machine.specs.State.{each};
 
 use crate::event::Operation;
 use crate::lines::rested;
-use crate::notes::Why;
+use crate::notes::BeginReason;
 use crate::reading::{Millis, second};
 use crate::track::{Track, Try, keeps_last_try};
 use crate::wanted::{is_alive, is_open};
@@ -111,12 +111,12 @@ pub(crate) fn owing_lookup(track: Track, at: Millis) -> Track
 }
 
 /// Whether everything is looked up anew for the first time.
-pub(crate) fn is_start(why: Why) -> bool
+pub(crate) fn is_start(why: BeginReason) -> bool
     ensures { result ≡ is_start why }
 {
     match why {
-        Why::Start => true,
-        Why::Asked | Why::Jump | Why::Day => false,
+        BeginReason::Start => true,
+        BeginReason::Asked | BeginReason::Jump | BeginReason::Day => false,
     }
 }
 

@@ -7,7 +7,7 @@ ghost use Rattle.watch_machine.specs.code.Bounds.{IsTrack, WentOutAtReading};
 ghost use Rattle.watch_machine.specs.declared.fault.WatchFault.TheVariants.{OutOfMemory};
 
 use crate::beginning::{owing_lookup, untopped};
-use crate::event::Terms;
+use crate::event::WatchTerms;
 use crate::fault::WatchFault;
 use crate::lanes::Out;
 use crate::new_terms::take_terms;
@@ -70,10 +70,10 @@ fn place_now(was: &[Was], count: u32, entry: u32) -> Option<u32>
 }
 
 /// What lookups have told of an entry, as terms that tell it again.
-fn terms_left(entry: &Entry) -> Terms
+fn terms_left(entry: &Entry) -> WatchTerms
     ensures { result ≡ terms_left entry.now }
 {
-    Terms {
+    WatchTerms {
         step: Some(entry.step),
         ceiling: entry.ceiling,
         orphan: entry.parent.is_none(),

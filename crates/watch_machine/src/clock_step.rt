@@ -9,18 +9,18 @@ ghost use Rattle.watch_machine.specs.Round.{IsRound, asked_by_round};
 ghost use Rattle.watch_machine.specs.code.Lull.{IsQuiet, quieted};
 ghost use Rattle.watch_machine.specs.code.View.{Sees};
 ghost use Rattle.watch_machine.specs.code.View.{IsView};
-ghost use Rattle.watch_machine.specs.declared.command.Command.TheVariants.{Go};
+ghost use Rattle.watch_machine.specs.declared.command.WatchCommand.TheVariants.{Go};
 ghost use Rattle.watch_machine.specs.declared.fault.WatchFault.TheVariants.{OutOfMemory};
 
 use crate::beginning::{clear_tops, is_any_urgent, is_past, is_start, owe_all};
 use crate::clocks::{Clocks, goes_on};
-use crate::command::{Command, Output, Requests};
+use crate::command::{WatchCommand, WatchOutput, Requests};
 use crate::fault::WatchFault;
 use crate::lanes::Presence;
 use crate::line::Line;
 use crate::lull::Lull;
 use crate::needs::{Needs, needs_of};
-use crate::notes::{Notes, Why};
+use crate::notes::{Notes, BeginReason};
 use crate::press::{press_alone, press_round};
 use crate::reading::{Millis, moment_at, reading, second};
 use crate::round::round;
@@ -67,18 +67,18 @@ impl Watch {
 
     /// Why everything is looked up anew, `None` where it is not.
     #[tactic(auto, unfolding(crate::specs::Beginning::beginning))]
-    pub(crate) fn reason(&self, timed: Shown, tracks: &[Track]) -> Option<Why>
+    pub(crate) fn reason(&self, timed: Shown, tracks: &[Track]) -> Option<BeginReason>
         ensures { result ≡ beginning self.now.begun self.now.asked timed.stepped timed.jumped timed.clocks.at tracks.now }
     {
         let at = timed.clocks.at;
         if self.begun.is_none() {
-            Some(Why::Start)
+            Some(BeginReason::Start)
         } else if timed.jumped || (timed.stepped && is_past(600_000, self.begun, at)) {
-            Some(Why::Jump)
+            Some(BeginReason::Jump)
         } else if self.asked {
-            Some(Why::Asked)
+            Some(BeginReason::Asked)
         } else if is_past(86_400_000, self.begun, at) && !is_any_urgent(tracks, second(at)) {
-            Some(Why::Day)
+            Some(BeginReason::Day)
         } else {
             None
         }
@@ -90,7 +90,7 @@ impl Watch {
         alloc: Global,
         wall: u64,
         elapsed: u64,
-    ) -> Result<Output, WatchFault>
+    ) -> Result<WatchOutput, WatchFault>
         ensures step { IfOk result (λ output. StepClock self.old wall elapsed output self.new) }
         ensures refused { IfErr result (λ fault. fault ≡ OutOfMemory) }
         ensures unchanged { OnErr result (self.new ≡ self.old) }
@@ -131,7 +131,7 @@ impl Watch {
     }
 
     /// A clock at which nothing is to be done of any entry: none is looked at.
-    fn quiet_clock(&mut self, alloc: Global, timed: Shown, until: Millis) -> Output
+    fn quiet_clock(&mut self, alloc: Global, timed: Shown, until: Millis) -> WatchOutput
         requires quiet { IsQuiet self.old timed.clocks timed.stepped timed.jumped until }
         requires clocks { IsClocks timed.clocks }
         ensures state { self.new ≡ quieted self.old timed.clocks timed.stepped }
@@ -145,8 +145,8 @@ impl Watch {
         self.answers.clear();
         self.clocks = timed.clocks;
         self.stepped = timed.stepped;
-        Output {
-            command: Command::Go {
+        WatchOutput {
+            command: WatchCommand::Go {
                 requests: Requests {
                     items: Vec::new(alloc),
                 },
@@ -157,7 +157,7 @@ impl Watch {
     }
 
     /// A clock at which all entries are gone through. Refused, for lack of memory alone, it leaves the watch as it was.
-    fn whole_clock(&mut self, alloc: Global, wall: u64, elapsed: u64) -> Result<Output, WatchFault>
+    fn whole_clock(&mut self, alloc: Global, wall: u64, elapsed: u64) -> Result<WatchOutput, WatchFault>
         ensures step { IfOk result (λ output. StepClock self.old wall elapsed output self.new) }
         ensures refused { IfErr result (λ fault. fault ≡ OutOfMemory) }
         ensures unchanged { OnErr result (self.new ≡ self.old) }
@@ -209,8 +209,8 @@ impl Watch {
         self.lull = lull;
         self.line = line;
         self.note_begun(why);
-        Ok(Output {
-            command: Command::Go {
+        Ok(WatchOutput {
+            command: WatchCommand::Go {
                 requests: Requests { items: requests },
                 until,
             },
@@ -223,7 +223,7 @@ impl Watch {
     }
 
     /// Everything is looked up anew from now on, where there is a reason.
-    fn note_begun(&mut self, why: Option<Why>)
+    fn note_begun(&mut self, why: Option<BeginReason>)
         ensures { self.new ≡ noted_begun self.old why }
     {
         if why.is_some() {
@@ -241,7 +241,7 @@ fn begin(
     forest: &Forest,
     tracks: &mut [Track],
     clocks: Clocks,
-    why: Option<Why>,
+    why: Option<BeginReason>,
 ) -> Result<Needs, WatchFault>
     requires count { length tracks.old ≡ length forest.now.entries }
     requires view { IsView view.old forest.now }

@@ -16,7 +16,7 @@ pub enum Patience {
 
 /// A request that goes out: the index of its entry, what is asked, and for how long.
 #[derive(Clone, Copy, Debug, PartialEq, Eq)]
-pub struct Request {
+pub struct WatchRequest {
     pub entry: u32,
     pub operation: Operation,
     pub patience: Patience,
@@ -25,28 +25,28 @@ pub struct Request {
 /// A list of requests, in the order in which they go out.
 #[derive(Debug, Drop)]
 pub struct Requests {
-    pub(crate) items: Vec<Request>,
+    pub(crate) items: Vec<WatchRequest>,
 }
 
 impl Model for Requests {
     ghost use Rattle.std.specs.Prelude.{List};
-    ghost use Rattle.watch_machine.specs.declared.command.Request.{Request};
+    ghost use Rattle.watch_machine.specs.declared.command.WatchRequest.{WatchRequest};
 
-    ghost Value = { List Request };
+    ghost Value = { List WatchRequest };
 
     ghost view = { λ x. x.items.items };
 }
 
 impl Requests {
     /// The requests in order.
-    pub fn list(&self) -> &[Request]
+    pub fn list(&self) -> &[WatchRequest]
         ensures { result.now ≡ self.now }
     {
         &self.items
     }
 
     /// The same as a vector.
-    pub fn into_vec(self) -> Vec<Request>
+    pub fn into_vec(self) -> Vec<WatchRequest>
         ensures { result.items ≡ self }
     {
         self.items
@@ -55,7 +55,7 @@ impl Requests {
 
 /// What is to be done now.
 #[derive(Debug, Drop)]
-pub enum Command {
+pub enum WatchCommand {
     /// These requests go out at once, each by itself; there may be none. And nothing else is to be done before this moment of
     /// the clock that never steps, in phase with the wall's seconds, but to take answers and changes as they come.
     Go { requests: Requests, until: Millis },
@@ -65,7 +65,7 @@ pub enum Command {
 
 /// What a step gives: a command, and what is to be noted.
 #[derive(Debug, Drop)]
-pub struct Output {
-    pub command: Command,
+pub struct WatchOutput {
+    pub command: WatchCommand,
     pub notes: Notes,
 }

@@ -16,7 +16,7 @@ pub enum Operation {
 ///
 /// Source: Vault, HTTP API, "HTTP status codes"; RFC 9110, 5.6.7 and 6.6.1 (`Date`).
 #[derive(Clone, Copy, Debug, PartialEq, Eq)]
-pub enum Reply {
+pub enum WatchReply {
     /// 200, and read: the entry ends so many seconds later, and can be renewed or not; with the reply's `Date`.
     Told {
         seconds: Span,
@@ -36,7 +36,7 @@ pub enum Reply {
 
 /// What a lookup that was told says of its entry beside its end.
 #[derive(Clone, Copy, Debug, PartialEq, Eq)]
-pub struct Terms {
+pub struct WatchTerms {
     /// The step in seconds, where it is more than the margin; `None` leaves it as it was.
     pub step: Option<Span>,
     /// The ceiling by the broker's clock, seconds since 1970-01-01T00:00:00Z; `None` where there is none.
@@ -52,7 +52,7 @@ pub struct Terms {
 /// A reading after 9999-12-31T23:59:59.999Z is taken as that moment, a need or a date after 9999-12-31T23:59:59Z as that, and an
 /// `end` past the greatest as the greatest, so no number is refused.
 #[derive(Clone, Copy, Debug, PartialEq, Eq)]
-pub enum Event {
+pub enum WatchEvent {
     /// The two clocks, in milliseconds: the wall's since 1970-01-01T00:00:00Z, and one that never steps. A reading of the latter
     /// before its last one is taken as that.
     Clock {
@@ -62,13 +62,13 @@ pub enum Event {
     /// The answer to a lookup. The terms count where it was told.
     Looked {
         entry: u32,
-        reply: Reply,
-        terms: Terms,
+        reply: WatchReply,
+        terms: WatchTerms,
     },
     /// The answer to a renewal.
     Renewed {
         entry: u32,
-        reply: Reply,
+        reply: WatchReply,
     },
     /// The entry is needed until that moment by the broker's clock, 0 where it is not.
     Need {

@@ -1,4 +1,4 @@
-use crate::event::{Operation, Reply};
+use crate::event::{Operation, WatchReply};
 use crate::reading::Millis;
 
 /// A request that is out.
@@ -14,12 +14,12 @@ pub struct Out {
 
 /// What became of a request since the last clock.
 #[derive(Clone, Copy, Debug, PartialEq, Eq)]
-pub struct Answer {
+pub struct LaneAnswer {
     /// The clock at which the request went out.
     pub since: Millis,
     /// The broker had answered another request meanwhile.
     pub heard: bool,
-    pub reply: Reply,
+    pub reply: WatchReply,
 }
 
 /// Whether the broker is there, and how it is spared. Moments and durations are milliseconds.

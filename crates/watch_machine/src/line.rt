@@ -15,7 +15,7 @@ ghost use Rattle.watch_machine.specs.code.View.{HasNeeds, need_at};
 ghost use Rattle.watch_machine.specs.declared.track.Track.{Track};
 
 use crate::clocks::{Clocks, goes_on};
-use crate::command::Request;
+use crate::command::WatchRequest;
 use crate::lanes::Presence;
 use crate::lines::{is_due, ready};
 use crate::lull::{NEVER, first_past, is_failed, is_owed_alone, time_due};
@@ -301,7 +301,7 @@ impl Line {
         presence: Presence,
         now: Seconds,
         tracks: &[Track],
-    ) -> Result<Vec<Request>, AllocError>
+    ) -> Result<Vec<WatchRequest>, AllocError>
         requires { is_partial now tracks.now ≡ false }
         ensures { IfOk result (λ requests. requests.items ≡ requests_of presence now tracks.now lanes (rest_of self.now)) }
     {

@@ -8,8 +8,8 @@ ghost use Rattle.watch_machine.specs.code.Line.{IsLineOf, IsPlain, IsRoundClock,
 ghost use Rattle.watch_machine.specs.declared.fault.WatchFault.TheVariants.{OutOfMemory};
 
 use crate::clock_step::Shown;
-use crate::command::{Command, Output, Requests};
-use crate::event::Reply;
+use crate::command::{WatchCommand, WatchOutput, Requests};
+use crate::event::WatchReply;
 use crate::fault::WatchFault;
 use crate::lanes::{Out, Presence};
 use crate::line::Line;
@@ -29,7 +29,7 @@ use std::mem;
 
 /// Whether that answer, which made a track of the one before it, leaves what is known of the others, and nothing is to be asked of
 /// its own.
-fn is_plain(reply: Reply, before: Track, after: Track) -> bool
+fn is_plain(reply: WatchReply, before: Track, after: Track) -> bool
     ensures real { IsTrue result → is_real reply ≡ true }
     ensures plain { IsTrue result → IsPlain before after }
 {
@@ -61,7 +61,7 @@ impl Watch {
     }
 
     /// Takes the line out as it is after that answer to a renewal. None is known where its entry is no more.
-    pub(crate) fn line_renewed(&mut self, alloc: Global, request: Out, reply: Reply) -> Line
+    pub(crate) fn line_renewed(&mut self, alloc: Global, request: Out, reply: WatchReply) -> Line
         requires { WentOutAtReading request }
         ensures unchanged { self.new ≡ self.old }
         ensures line { IsLineOf (replied (state_renewed self.old request reply) request reply) result }
@@ -114,7 +114,7 @@ impl Watch {
         timed: Shown,
         line: Line,
         until: Millis,
-    ) -> Result<Output, WatchFault>
+    ) -> Result<WatchOutput, WatchFault>
         requires round { IsRoundClock self.old line timed.clocks timed.stepped timed.jumped until }
         requires clocks { IsClocks timed.clocks }
         ensures served { IfOk result (λ output. IsServed self.old line timed.clocks timed.stepped until output self.new) }
@@ -139,8 +139,8 @@ impl Watch {
         self.stepped = timed.stepped;
         self.lull = None;
         self.line = line;
-        Ok(Output {
-            command: Command::Go {
+        Ok(WatchOutput {
+            command: WatchCommand::Go {
                 requests: Requests { items: requests },
                 until,
             },

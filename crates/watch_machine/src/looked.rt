@@ -8,7 +8,7 @@ ghost use Rattle.watch_machine.specs.State.{entry_of, track_at};
 ghost use Rattle.watch_machine.specs.Step.{notes_of, notes_told, notes_untold};
 
 use crate::answers::failing;
-use crate::event::{Operation, Reply, Terms};
+use crate::event::{Operation, WatchReply, WatchTerms};
 use crate::lanes::Out;
 use crate::margins::has_come;
 use crate::new_terms::{is_orphaned, take_orphan, take_terms};
@@ -125,22 +125,22 @@ fn after_look(track: Track, attempt: Try, now: u64) -> Operation
 }
 
 /// The try after a reply to a lookup that told nothing; others were `heard` meanwhile.
-fn untold_try(track: Track, attempt: Try, reply: Reply, at: Millis, heard: bool) -> Try
+fn untold_try(track: Track, attempt: Try, reply: WatchReply, at: Millis, heard: bool) -> Try
     requires { IsTry attempt }
     ensures value { result ≡ untold_try at heard reply track attempt }
     ensures bounds { IsTry result }
 {
     match reply {
-        Reply::Told { .. } => attempt,
-        Reply::Refused { .. } => refused_try(track, attempt, at),
-        Reply::Busy => failing(attempt, after_look(track, attempt, second(at)), true, false),
-        Reply::Lost => failing(attempt, after_look(track, attempt, second(at)), true, heard),
+        WatchReply::Told { .. } => attempt,
+        WatchReply::Refused { .. } => refused_try(track, attempt, at),
+        WatchReply::Busy => failing(attempt, after_look(track, attempt, second(at)), true, false),
+        WatchReply::Lost => failing(attempt, after_look(track, attempt, second(at)), true, heard),
     }
 }
 
 /// A track after a reply to a lookup that told nothing of it.
 #[tactic(auto, unfolding(crate::specs::Looked::untold_track))]
-fn untold(track: Track, reply: Reply, at: Millis, heard: bool) -> Track
+fn untold(track: Track, reply: WatchReply, at: Millis, heard: bool) -> Track
     requires { IsTrack track }
     ensures value { result ≡ untold_track at heard reply track }
     ensures bounds { IsTrack result }
@@ -158,18 +158,18 @@ fn untold(track: Track, reply: Reply, at: Millis, heard: bool) -> Track
 }
 
 /// The status of a refusal.
-fn status_of(reply: Reply) -> Option<u16>
+fn status_of(reply: WatchReply) -> Option<u16>
     ensures { result ≡ status_of reply }
 {
     match reply {
-        Reply::Refused { status, .. } => Some(status),
-        Reply::Told { .. } | Reply::Busy | Reply::Lost => None,
+        WatchReply::Refused { status, .. } => Some(status),
+        WatchReply::Told { .. } | WatchReply::Busy | WatchReply::Lost => None,
     }
 }
 
 impl Watch {
     /// Takes the answer to a lookup for its entry, if that is still there, and gives what is noted of it.
-    pub(crate) fn looked(&mut self, request: Out, reply: Reply, terms: Terms) -> Notes
+    pub(crate) fn looked(&mut self, request: Out, reply: WatchReply, terms: WatchTerms) -> Notes
         requires { WentOutAtReading request }
         ensures state { self.new ≡ looked self.old request reply terms }
         ensures notes { result ≡ notes_of self.old request reply terms }
@@ -178,7 +178,7 @@ impl Watch {
             return Notes::none();
         }
         match reply {
-            Reply::Told {
+            WatchReply::Told {
                 seconds,
                 renewable,
                 ..
@@ -188,12 +188,12 @@ impl Watch {
                 self.set_after(request.entry);
                 notes
             }
-            Reply::Refused { .. } | Reply::Busy | Reply::Lost => self.tell_nothing(request, reply),
+            WatchReply::Refused { .. } | WatchReply::Busy | WatchReply::Lost => self.tell_nothing(request, reply),
         }
     }
 
     /// What is noted of a lookup that tells of an entry.
-    fn told_notes(&self, entry: u32, terms: Terms) -> Notes
+    fn told_notes(&self, entry: u32, terms: WatchTerms) -> Notes
         requires { entry < length self.now.forest.entries }
         ensures { result ≡ notes_told self.now entry terms }
     {
@@ -205,7 +205,7 @@ impl Watch {
     }
 
     /// Takes a reply to a lookup that told nothing of its entry, and gives what is noted of it.
-    fn tell_nothing(&mut self, request: Out, reply: Reply) -> Notes
+    fn tell_nothing(&mut self, request: Out, reply: WatchReply) -> Notes
         requires { request.entry < length self.old.forest.entries }
         ensures state { self.new ≡ with_track self.old request.entry (untold_track self.old.clocks.at request.heard reply (track_at self.old request.entry)) }
         ensures notes { result ≡ notes_untold self.old request.entry reply }
@@ -220,7 +220,7 @@ impl Watch {
     }
 
     /// Takes what a lookup told of an entry, but for its try.
-    fn take_told(&mut self, request: Out, seconds: Span, renewable: bool, terms: Terms)
+    fn take_told(&mut self, request: Out, seconds: Span, renewable: bool, terms: WatchTerms)
         requires within { request.entry < length self.old.forest.entries }
         requires request { WentOutAtReading request }
         ensures { self.new ≡ told_state self.old request.entry request.since seconds renewable terms }

@@ -10,7 +10,7 @@ ghost use Rattle.watch_machine.specs.code.View.{HasNeeds, need_at};
 
 use crate::beginning::is_pressed;
 use crate::clocks::Clocks;
-use crate::command::Request;
+use crate::command::WatchRequest;
 use crate::lanes::Presence;
 use crate::lines::ready;
 use crate::margins::time;
@@ -174,7 +174,7 @@ impl Lull {
 
     /// The same, where no requests go out: their answers would end it.
     pub(crate) fn after(
-        requests: &[Request],
+        requests: &[WatchRequest],
         forest: &Forest,
         tracks: &[Track],
         needs: &Needs,

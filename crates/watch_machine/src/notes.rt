@@ -5,7 +5,7 @@ use plan_forest::Indices;
 
 /// Why everything is looked up anew.
 #[derive(Clone, Copy, Debug, PartialEq, Eq)]
-pub enum Why {
+pub enum BeginReason {
     /// It is the first clock.
     Start,
     /// It was asked for.
@@ -29,7 +29,7 @@ pub enum Link {
 #[derive(Debug, Drop)]
 pub struct Notes {
     /// Everything is looked up anew.
-    pub began: Option<Why>,
+    pub began: Option<BeginReason>,
     /// A round opened: the entries that it asks, by index.
     pub round: Option<Indices>,
     /// The broker does not know the entry: the status.

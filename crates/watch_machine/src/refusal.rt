@@ -2,7 +2,7 @@ ghost use Rattle.std.specs.Prelude.{◌≡◌, ◌==◌, ◌&&◌, IfSome};
 ghost use Rattle.watch_machine.specs.code.Bounds.{WentOutAtReading};
 ghost use Rattle.watch_machine.specs.Refusal.{is_same, refusal, request_out, unless_asked, unless_within};
 
-use crate::event::{Event, Operation};
+use crate::event::{WatchEvent, Operation};
 use crate::fault::WatchFault;
 use crate::lanes::Out;
 use crate::watch::Watch;
@@ -27,14 +27,14 @@ pub(crate) fn is_same(one: Operation, other: Operation) -> bool
 impl Watch {
     /// Why the event is refused, `None` where it is not.
     #[tactic(auto, unfolding(crate::specs::Refusal::refusal))]
-    pub(crate) fn refusal(&self, event: Event) -> Option<WatchFault>
+    pub(crate) fn refusal(&self, event: WatchEvent) -> Option<WatchFault>
         ensures { result ≡ refusal self.now event }
     {
         match event {
-            Event::Clock { .. } | Event::Begin => None,
-            Event::Looked { entry, .. } => self.unless_asked(entry, Operation::Look),
-            Event::Renewed { entry, .. } => self.unless_asked(entry, Operation::Renew),
-            Event::Need { entry, .. } | Event::Known { entry, .. } => {
+            WatchEvent::Clock { .. } | WatchEvent::Begin => None,
+            WatchEvent::Looked { entry, .. } => self.unless_asked(entry, Operation::Look),
+            WatchEvent::Renewed { entry, .. } => self.unless_asked(entry, Operation::Renew),
+            WatchEvent::Need { entry, .. } | WatchEvent::Known { entry, .. } => {
                 self.unless_within(entry, None)
             }
         }

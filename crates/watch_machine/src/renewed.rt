@@ -7,7 +7,7 @@ ghost use Rattle.watch_machine.specs.Renewed.{after_renewal, end_at, from_base, 
 
 use crate::answers::failing;
 use crate::beginning::owed;
-use crate::event::{Operation, Reply};
+use crate::event::{Operation, WatchReply};
 use crate::lanes::Out;
 use crate::margins::own_by;
 use crate::reading::{Millis, Seconds, second};
@@ -179,22 +179,22 @@ fn after_renewal(track: Track, now: u64) -> Operation
 }
 
 /// The try after a reply to a renewal that granted nothing; others were `heard` meanwhile.
-fn ungranted_try(track: Track, attempt: Try, reply: Reply, at: Millis, heard: bool) -> Try
+fn ungranted_try(track: Track, attempt: Try, reply: WatchReply, at: Millis, heard: bool) -> Try
     requires { IsTry attempt }
     ensures value { result ≡ ungranted_try at heard reply track attempt }
     ensures bounds { IsTry result }
 {
     match reply {
-        Reply::Told { .. } => attempt,
-        Reply::Refused { .. } => failing(attempt, Operation::Look, false, false),
-        Reply::Busy => failing(attempt, after_renewal(track, second(at)), true, false),
-        Reply::Lost => failing(attempt, after_renewal(track, second(at)), true, heard),
+        WatchReply::Told { .. } => attempt,
+        WatchReply::Refused { .. } => failing(attempt, Operation::Look, false, false),
+        WatchReply::Busy => failing(attempt, after_renewal(track, second(at)), true, false),
+        WatchReply::Lost => failing(attempt, after_renewal(track, second(at)), true, heard),
     }
 }
 
 /// A track after a reply to a renewal that granted nothing.
 #[tactic(auto, unfolding(crate::specs::Renewed::ungranted_track))]
-fn ungranted(track: Track, reply: Reply, at: Millis, heard: bool) -> Track
+fn ungranted(track: Track, reply: WatchReply, at: Millis, heard: bool) -> Track
     requires { IsTrack track }
     ensures value { result ≡ ungranted_track at heard reply track }
     ensures bounds { IsTrack result }
@@ -217,7 +217,7 @@ pub(crate) fn renewed_track(
     step: u32,
     at: Millis,
     request: Out,
-    reply: Reply,
+    reply: WatchReply,
     track: Track,
 ) -> Track
     requires at { at ≤ READING_MAX }
@@ -227,7 +227,7 @@ pub(crate) fn renewed_track(
     ensures bounds { IsTrack result }
 {
     match reply {
-        Reply::Told {
+        WatchReply::Told {
             seconds,
             renewable,
             ..
@@ -241,7 +241,7 @@ pub(crate) fn renewed_track(
             };
             granted(granting, renewable, track)
         }
-        Reply::Refused { .. } | Reply::Busy | Reply::Lost => {
+        WatchReply::Refused { .. } | WatchReply::Busy | WatchReply::Lost => {
             ungranted(track, reply, at, request.heard)
         }
     }
@@ -258,18 +258,18 @@ fn end_at(end: End) -> Option<u64>
 }
 
 /// The end of an entry that a grant led no further, by its track after the answer.
-fn top_by(reply: Reply, track: Track) -> Option<u64>
+fn top_by(reply: WatchReply, track: Track) -> Option<u64>
     ensures { result ≡ top_by reply track }
 {
     match reply {
-        Reply::Told { .. } => { if track.top { end_at(track.end) } else { None } }
-        Reply::Refused { .. } | Reply::Busy | Reply::Lost => None,
+        WatchReply::Told { .. } => { if track.top { end_at(track.end) } else { None } }
+        WatchReply::Refused { .. } | WatchReply::Busy | WatchReply::Lost => None,
     }
 }
 
 impl Watch {
     /// Takes the answer to a renewal for its entry, if that is still there, and gives its end where it is led no further.
-    pub(crate) fn renewed(&mut self, request: Out, reply: Reply) -> Option<u64>
+    pub(crate) fn renewed(&mut self, request: Out, reply: WatchReply) -> Option<u64>
         requires { WentOutAtReading request }
         ensures state { self.new ≡ state_renewed self.old request reply }
         ensures top { result ≡ top_by reply (track_renewed self.old request reply) }

@@ -12,7 +12,7 @@ ghost use Rattle.watch_machine.specs.code.Line.{IsFrontOf};
 ghost use Rattle.watch_machine.specs.code.Places.{place_is};
 ghost use Rattle.watch_machine.specs.declared.sending.Place.{Place};
 
-use crate::command::{Patience, Request};
+use crate::command::{Patience, WatchRequest};
 use crate::event::Operation;
 use crate::lanes::{Out, Presence};
 use crate::lines::{is_due, is_first, part, rank};
@@ -120,16 +120,16 @@ fn patience(away: bool, partial: bool, pace: u32, attempt: Try) -> Patience
 }
 
 /// The request of an entry.
-fn request_of(presence: Presence, partial: bool, entry: u32, track: Track) -> Request
+fn request_of(presence: Presence, partial: bool, entry: u32, track: Track) -> WatchRequest
     ensures { result ≡ request_of presence.away partial presence.pace entry track.attempt }
 {
     match track.attempt {
-        None => Request {
+        None => WatchRequest {
             entry,
             operation: Operation::Look,
             patience: Patience::Full,
         },
-        Some(attempt) => Request {
+        Some(attempt) => WatchRequest {
             entry,
             operation: attempt.operation,
             patience: patience(presence.away, partial, presence.pace, attempt),
@@ -144,7 +144,7 @@ pub(crate) fn requests_by(
     partial: bool,
     tracks: &[Track],
     picked: &[Place],
-) -> Result<Vec<Request>, AllocError>
+) -> Result<Vec<WatchRequest>, AllocError>
     ensures { IfOk result (λ requests. requests.items ≡ map (λ (q : Place). request_of presence.away partial presence.pace q.entry (track_in tracks.now q.entry).attempt) picked.now) }
 {
     let mut requests = Vec::with_capacity(alloc, picked.len())?;
@@ -173,7 +173,7 @@ fn requests(
     now: u64,
     tracks: &[Track],
     picked: &[Place],
-) -> Result<Vec<Request>, AllocError>
+) -> Result<Vec<WatchRequest>, AllocError>
     ensures { IfOk result (λ requests. requests.items ≡ map (λ p. request presence now tracks.now (place_is p)) picked.now) }
 {
     let partial = is_partial(tracks, now);
@@ -183,7 +183,7 @@ fn requests(
 /// The requests that go out at a clock, and the line in whose front they stood.
 #[derive(Debug, Drop)]
 pub(crate) struct Front {
-    pub(crate) requests: Vec<Request>,
+    pub(crate) requests: Vec<WatchRequest>,
     pub(crate) line: Vec<Place>,
 }
 
@@ -222,7 +222,7 @@ fn sent(track: Track, at: Millis) -> Track
 }
 
 /// Notes of each entry whose request goes out that it does.
-pub(crate) fn send_all(tracks: &mut [Track], at: Millis, requests: &[Request])
+pub(crate) fn send_all(tracks: &mut [Track], at: Millis, requests: &[WatchRequest])
     requires at { at ≤ READING_MAX }
     requires tracks { All IsTrack tracks.old }
     ensures value { tracks.new ≡ each (sent_in at requests.now) tracks.old }
@@ -237,7 +237,7 @@ pub(crate) fn send_all(tracks: &mut [Track], at: Millis, requests: &[Request])
 }
 
 /// A request as it is out.
-fn out_at(at: Millis, request: Request) -> Out
+fn out_at(at: Millis, request: WatchRequest) -> Out
     requires { at ≤ READING_MAX }
     ensures value { result ≡ out_at at request }
     ensures bounds { WentOutAtReading result }
@@ -255,7 +255,7 @@ pub(crate) fn out_with(
     alloc: Global,
     out: &[Out],
     at: Millis,
-    requests: &[Request],
+    requests: &[WatchRequest],
 ) -> Result<Vec<Out>, AllocError>
     requires at { at ≤ READING_MAX }
     requires out { All WentOutAtReading out.now }

@@ -7,11 +7,11 @@ ghost use Rattle.base_moment.specs.declared.moment.TheConstants.{LAST};
 ghost use Rattle.watch_machine.specs.Clocks.{is_ahead};
 ghost use Rattle.watch_machine.specs.Settling.{count_after, date_of, dated, dated_by_all, dated_on, held, held_back, held_by, hold_after, is_real, is_silent, is_step, pace_after, paced, presence_after, settled_track, settled_try, steps, took};
 ghost use Rattle.watch_machine.specs.State.{each};
-ghost use Rattle.watch_machine.specs.declared.lanes.Answer.{Answer};
+ghost use Rattle.watch_machine.specs.declared.lanes.LaneAnswer.{LaneAnswer};
 
 use crate::clocks::Clocks;
-use crate::event::Reply;
-use crate::lanes::{Answer, Presence};
+use crate::event::WatchReply;
+use crate::lanes::{LaneAnswer, Presence};
 use crate::lines::rested;
 use crate::pauses::{LONGEST, cap, doubled, pause};
 use crate::reading::{BrokerSeconds, Millis};
@@ -28,21 +28,21 @@ pub(crate) struct Heard {
 }
 
 /// Whether the reply shows that the broker is there.
-pub(crate) fn is_real(reply: Reply) -> bool
+pub(crate) fn is_real(reply: WatchReply) -> bool
     ensures { result ≡ is_real reply }
 {
     match reply {
-        Reply::Told { .. } | Reply::Refused { .. } | Reply::Busy => true,
-        Reply::Lost => false,
+        WatchReply::Told { .. } | WatchReply::Refused { .. } | WatchReply::Busy => true,
+        WatchReply::Lost => false,
     }
 }
 
-fn date_of(reply: Reply) -> Option<u64>
+fn date_of(reply: WatchReply) -> Option<u64>
     ensures { result ≡ date_of reply }
 {
     match reply {
-        Reply::Told { date, .. } | Reply::Refused { date, .. } => date,
-        Reply::Busy | Reply::Lost => None,
+        WatchReply::Told { date, .. } | WatchReply::Refused { date, .. } => date,
+        WatchReply::Busy | WatchReply::Lost => None,
     }
 }
 
@@ -55,14 +55,14 @@ fn date_at(date: u64) -> BrokerSeconds
 }
 
 /// Whether there was no answer, and none to another since it was asked.
-fn is_silent(answer: Answer) -> bool
+fn is_silent(answer: LaneAnswer) -> bool
     ensures { result ≡ is_silent answer }
 {
     !is_real(answer.reply) && !answer.heard
 }
 
 /// The clocks after an answer: by its date, if it has one.
-fn dated(clocks: Clocks, answer: Answer) -> Clocks
+fn dated(clocks: Clocks, answer: LaneAnswer) -> Clocks
     requires { IsClocks clocks }
     ensures value { result ≡ dated clocks answer }
     ensures bounds { IsClocks result }
@@ -85,7 +85,7 @@ fn is_step(clocks: Clocks, date: Option<u64>) -> bool
 }
 
 /// The clocks after these answers, as they came.
-pub(crate) fn dated_by_all(clocks: Clocks, answers: &[Answer]) -> Heard
+pub(crate) fn dated_by_all(clocks: Clocks, answers: &[LaneAnswer]) -> Heard
     requires { IsClocks clocks }
     ensures clocks { result.clocks ≡ dated_by_all clocks answers.now }
     ensures stepped { result.stepped ≡ steps clocks answers.now }
@@ -104,14 +104,14 @@ pub(crate) fn dated_by_all(clocks: Clocks, answers: &[Answer]) -> Heard
 }
 
 /// How long an answer took, a day at most.
-fn took(at: Millis, answer: Answer) -> u32
+fn took(at: Millis, answer: LaneAnswer) -> u32
     ensures { result ≡ took at answer }
 {
     at.saturating_sub(answer.since).min(86_400_000) as u32
 }
 
 /// How long answers take, after one more.
-fn paced(at: Millis, pace: u32, answer: Answer) -> u32
+fn paced(at: Millis, pace: u32, answer: LaneAnswer) -> u32
     ensures { result ≡ paced at pace answer }
 {
     if is_real(answer.reply) {
@@ -122,7 +122,7 @@ fn paced(at: Millis, pace: u32, answer: Answer) -> u32
 }
 
 /// How long answers take, after these.
-pub(crate) fn pace_after(at: Millis, pace: u32, answers: &[Answer]) -> u32
+pub(crate) fn pace_after(at: Millis, pace: u32, answers: &[LaneAnswer]) -> u32
     ensures { result ≡ pace_after at pace answers.now }
 {
     let mut now = pace;
@@ -244,14 +244,14 @@ fn hold_after(margin: u32, at: Millis, tracks: &[Track], presence: Presence) -> 
 }
 
 /// Whether one of the answers was none, and none came to another since it was asked.
-fn is_any_silent(answers: &[Answer]) -> bool
+fn is_any_silent(answers: &[LaneAnswer]) -> bool
     ensures { result ≡ list_any is_silent answers.now }
 {
     answers.iter().any(|answer| is_silent(*answer))
 }
 
 /// Whether these answers may change until when tries are held back.
-pub(crate) fn is_holding(answers: &[Answer], presence: Presence) -> bool
+pub(crate) fn is_holding(answers: &[LaneAnswer], presence: Presence) -> bool
     ensures { result ≡ (presence.away && list_any is_silent answers.now) }
 {
     presence.away && is_any_silent(answers)
@@ -263,7 +263,7 @@ fn held_back(
     margin: u32,
     at: Millis,
     tracks: &[Track],
-    answers: &[Answer],
+    answers: &[LaneAnswer],
     presence: Presence,
 ) -> Presence
     requires at { at ≤ READING_MAX }
@@ -286,7 +286,7 @@ pub(crate) fn presence_after(
     margin: u32,
     at: Millis,
     tracks: &[Track],
-    answers: &[Answer],
+    answers: &[LaneAnswer],
     presence: Presence,
 ) -> Presence
     requires at { at ≤ READING_MAX }

@@ -10,10 +10,10 @@ ghost use Rattle.watch_machine.specs.Step.{StepLooked, StepRenewed, notes_looked
 ghost use Rattle.watch_machine.specs.declared.event.Operation.TheVariants.{Look, Renew};
 
 use crate::answers::{back_all, hear_all, is_back, is_gone, take_out};
-use crate::command::{Command, Output};
-use crate::event::{Event, Operation, Reply, Terms};
+use crate::command::{WatchCommand, WatchOutput};
+use crate::event::{WatchEvent, Operation, WatchReply, WatchTerms};
 use crate::fault::WatchFault;
-use crate::lanes::{Answer, Out};
+use crate::lanes::{LaneAnswer, Out};
 use crate::notes::{Link, Notes};
 use crate::settling::is_real;
 use crate::watch::Watch;
@@ -24,7 +24,7 @@ impl Watch {
     ///
     /// - A clock settles the answers since the last one: the broker's clock by the dates that came, a pause for each try that
     ///   failed. Then everything is looked up anew where it has to be, who has to be asked is pressed, and a round opens where
-    ///   one of them is in the plan. The answer is [`Command::Go`]: as many requests as lanes are free, and the moment until which
+    ///   one of them is in the plan. The answer is [`WatchCommand::Go`]: as many requests as lanes are free, and the moment until which
     ///   nothing else is to be done.
     /// - The answer to a request that is out is taken for its entry, and its lane is free. Each request is to be answered, in
     ///   whatever order; one whose answer never comes is handed in as lost. Where its entry is no more ([`Watch::change`]), it is heard
@@ -35,7 +35,7 @@ impl Watch {
     /// request that is out. `OutOfMemory` may come in the place of the answer to a clock, and to an answer.
     ///
     /// What an event gives, and what becomes of the watch, is the turn of the definitions.
-    pub fn step(&mut self, alloc: Global, event: Event) -> Result<Output, WatchFault>
+    pub fn step(&mut self, alloc: Global, event: WatchEvent) -> Result<WatchOutput, WatchFault>
         ensures turn { Turn self.old event result self.new }
         ensures refused { IfSome (refusal self.old event) (λ fault. result ≡ Err fault) }
         ensures memory { refusal self.old event ≡ None → IsOkUnless result WatchFault.OutOfMemory }
@@ -45,22 +45,22 @@ impl Watch {
             return Err(fault);
         }
         match event {
-            Event::Clock { wall, elapsed } => self.clock(alloc, wall, elapsed),
-            Event::Looked {
+            WatchEvent::Clock { wall, elapsed } => self.clock(alloc, wall, elapsed),
+            WatchEvent::Looked {
                 entry,
                 reply,
                 terms,
             } => self.take_looked(entry, reply, terms),
-            Event::Renewed { entry, reply } => self.take_renewed(alloc, entry, reply),
-            Event::Need { entry, until } => {
+            WatchEvent::Renewed { entry, reply } => self.take_renewed(alloc, entry, reply),
+            WatchEvent::Need { entry, until } => {
                 self.need(entry, until);
                 Ok(taken(Notes::none()))
             }
-            Event::Begin => {
+            WatchEvent::Begin => {
                 self.ask_beginning();
                 Ok(taken(Notes::none()))
             }
-            Event::Known {
+            WatchEvent::Known {
                 entry,
                 end,
                 renewable,
@@ -72,7 +72,7 @@ impl Watch {
     }
 
     /// Takes the answer to a lookup. The only error is lack of memory, where the request is out.
-    fn take_looked(&mut self, entry: u32, reply: Reply, terms: Terms) -> Result<Output, WatchFault>
+    fn take_looked(&mut self, entry: u32, reply: WatchReply, terms: WatchTerms) -> Result<WatchOutput, WatchFault>
         ensures step { IfOk result (λ output. StepLooked self.old (request_out self.old.out entry Look) reply terms output self.new) }
         ensures refused { request_out self.old.out entry Look ≢ None → IfErr result (λ fault. fault ≡ OutOfMemory) }
         ensures unchanged { OnErr result (self.new ≡ self.old) }
@@ -91,8 +91,8 @@ impl Watch {
         &mut self,
         alloc: Global,
         entry: u32,
-        reply: Reply,
-    ) -> Result<Output, WatchFault>
+        reply: WatchReply,
+    ) -> Result<WatchOutput, WatchFault>
         ensures step { IfOk result (λ output. StepRenewed self.old (request_out self.old.out entry Renew) reply output self.new) }
         ensures refused { request_out self.old.out entry Renew ≢ None → IfErr result (λ fault. fault ≡ OutOfMemory) }
         ensures unchanged { OnErr result (self.new ≡ self.old) }
@@ -113,12 +113,12 @@ impl Watch {
     }
 
     /// Notes an answer until the next clock. The only error is lack of memory.
-    fn note(&mut self, request: Out, reply: Reply) -> Result<(), WatchFault>
+    fn note(&mut self, request: Out, reply: WatchReply) -> Result<(), WatchFault>
         ensures value { IfOk result (λ _. self.new ≡ noted self.old request reply) }
         ensures refused { IfErr result (λ fault. fault ≡ OutOfMemory) }
         ensures unchanged { OnErr result (self.new ≡ self.old) }
     {
-        self.answers.push(Answer {
+        self.answers.push(LaneAnswer {
             since: request.since,
             heard: request.heard,
             reply,
@@ -127,7 +127,7 @@ impl Watch {
     }
 
     /// Takes an answer for what it says of the broker, and gives what is noted of that.
-    fn replied(&mut self, request: Out, reply: Reply) -> Option<Link>
+    fn replied(&mut self, request: Out, reply: WatchReply) -> Option<Link>
         ensures state { self.new ≡ replied self.old request reply }
         ensures link { result ≡ link self.old request reply }
     {
@@ -161,11 +161,11 @@ impl Watch {
 }
 
 /// What is given where an event is taken.
-fn taken(notes: Notes) -> Output
+fn taken(notes: Notes) -> WatchOutput
     ensures { result ≡ taken notes }
 {
-    Output {
-        command: Command::Taken,
+    WatchOutput {
+        command: WatchCommand::Taken,
         notes,
     }
 }

@@ -10,7 +10,7 @@ ghost use Rattle.watch_machine.specs.Step.{known, told_earlier, with_need_until}
 use crate::beginning::owing_past;
 use crate::clocks::Clocks;
 use crate::fault::WatchFault;
-use crate::lanes::{Answer, Out, Presence};
+use crate::lanes::{LaneAnswer, Out, Presence};
 use crate::line::Line;
 use crate::lull::Lull;
 use crate::reading::{Millis, moment_at};
@@ -36,7 +36,7 @@ pub struct Watch {
     pub(crate) width: u32,
     pub(crate) tracks: Vec<Track>,
     pub(crate) out: Vec<Out>,
-    pub(crate) answers: Vec<Answer>,
+    pub(crate) answers: Vec<LaneAnswer>,
     pub(crate) clocks: Clocks,
     pub(crate) presence: Presence,
     pub(crate) begun: Option<Millis>,

@@ -1,10 +1,10 @@
 -- Hearing: what the watch is told of an answer to a lookup.
 -- Source: this project's own, over Vault, HTTP API: `auth/token`, "Lookup a token (self)"; `sys/leases`, "Read lease".
 use Rattle.std.specs.Prelude.{ℕ, ◌+◌, ◌-◌, Bool, false, not, ◌&&◌, if◌then◌else◌, Option, Some, None, nat_lt}
-use Rattle.watch_machine.specs.declared.event.Event.{Event}
-use Rattle.watch_machine.specs.declared.event.Event.TheVariants.{Known}
-use Rattle.watch_machine.specs.declared.event.Reply.{Reply}
-use Rattle.watch_machine.specs.declared.event.Reply.TheVariants.{Told, Refused, Busy, Lost}
+use Rattle.watch_machine.specs.declared.event.WatchEvent.{WatchEvent}
+use Rattle.watch_machine.specs.declared.event.WatchEvent.TheVariants.{Known}
+use Rattle.watch_machine.specs.declared.event.WatchReply.{WatchReply}
+use Rattle.watch_machine.specs.declared.event.WatchReply.TheVariants.{Told, Refused, Busy, Lost}
 use Rattle.watch_machine.specs.declared.track.End.{End}
 use Rattle.watch_machine.specs.declared.track.End.TheVariants.{Unknown, At, Never}
 use Rattle.watch_machine.specs.Clocks.{sec}
@@ -27,17 +27,17 @@ abbrev pub end_told : ℕ → ℕ → ℕ
 end_told since seconds = sec since + seconds
 
 -- what becomes known by a reply to a lookup of i that went out at that clock
-abbrev pub event_by : WatchState → ℕ → ℕ → Reply → Option Event
+abbrev pub event_by : WatchState → ℕ → ℕ → WatchReply → Option WatchEvent
 event_by w i since (Told seconds renewable date) = if is_news w i (end_told since seconds) then Some (Known i (end_told since seconds) renewable) else None
 event_by w i since (Refused status date) = None
 event_by w i since Busy = None
 event_by w i since Lost = None
 
-abbrev pub event_where : WatchState → ℕ → Option ℕ → Reply → Option Event
+abbrev pub event_where : WatchState → ℕ → Option ℕ → WatchReply → Option WatchEvent
 event_where w i None reply = None
 event_where w i (Some since) reply = event_by w i since reply
 
-unfoldable pub event_of : ScoutState → WatchState → ℕ → Reply → Option Event
+unfoldable pub event_of : ScoutState → WatchState → ℕ → WatchReply → Option WatchEvent
 event_of s w i reply = event_where w i (seen_at s i).since reply
 
 -- its lookup is out no more

@@ -5,7 +5,7 @@ ghost use Rattle.watch_scout.specs.Hearing.{end_told, event_by, event_of, freed,
 use crate::scout::{Scout, Seen};
 use crate::second::second;
 use base_moment::Span;
-use watch_machine::{End, Event, Millis, Reply, Seconds, Watch};
+use watch_machine::{End, WatchEvent, Millis, WatchReply, Seconds, Watch};
 
 /// Whether an end is later than the believed one, where that is known.
 fn is_later(believed: End, end: Seconds) -> bool
@@ -37,11 +37,11 @@ fn end_told(since: Millis, seconds: Span) -> Seconds
 }
 
 /// What becomes known by a reply to a lookup that went out at that clock.
-fn event_by(watch: &Watch, entry: u32, since: Millis, reply: Reply) -> Option<Event>
+fn event_by(watch: &Watch, entry: u32, since: Millis, reply: WatchReply) -> Option<WatchEvent>
     requires { entry < length watch.now.forest.entries }
     ensures { result ≡ event_by watch.now entry since reply }
 {
-    let Reply::Told {
+    let WatchReply::Told {
         seconds,
         renewable,
         ..
@@ -53,7 +53,7 @@ fn event_by(watch: &Watch, entry: u32, since: Millis, reply: Reply) -> Option<Ev
     if !is_news(watch, entry, end) {
         return None;
     }
-    Some(Event::Known {
+    Some(WatchEvent::Known {
         entry,
         end,
         renewable,
@@ -65,7 +65,7 @@ impl Scout {
     /// that is later than the believed one. Every other answer is dropped, and so is one to no lookup that is out; the watch then asks
     /// at its own time.
     #[tactic(auto, unfolding(crate::specs::Hearing::event_of, crate::specs::Hearing::freed))]
-    pub fn answer(&mut self, watch: &Watch, entry: u32, reply: Reply) -> Option<Event>
+    pub fn answer(&mut self, watch: &Watch, entry: u32, reply: WatchReply) -> Option<WatchEvent>
         requires within { entry < length watch.now.forest.entries }
         requires count { length self.old.seen ≡ length watch.now.forest.entries }
         ensures event { result ≡ event_of self.old watch.now entry reply }

@@ -5,11 +5,11 @@ use Rattle.std.proofs.lemmas.Bool.Decides.{nat_tests}
 use Rattle.std.proofs.lemmas.List.{get_or-set_same}
 use Rattle.plan_forest.specs.declared.entry.Entry.{Entry}
 use Rattle.plan_forest.specs.declared.forest.TheConstants.{END_MAX}
-use Rattle.watch_machine.specs.declared.command.Output.{Output}
-use Rattle.watch_machine.specs.declared.event.Event.{Event}
-use Rattle.watch_machine.specs.declared.event.Event.TheVariants.{Clock, Looked, Renewed, Need, Begin, Known}
-use Rattle.watch_machine.specs.declared.event.Reply.{Reply}
-use Rattle.watch_machine.specs.declared.event.Reply.TheVariants.{Told, Refused, Busy, Lost}
+use Rattle.watch_machine.specs.declared.command.WatchOutput.{WatchOutput}
+use Rattle.watch_machine.specs.declared.event.WatchEvent.{WatchEvent}
+use Rattle.watch_machine.specs.declared.event.WatchEvent.TheVariants.{Clock, Looked, Renewed, Need, Begin, Known}
+use Rattle.watch_machine.specs.declared.event.WatchReply.{WatchReply}
+use Rattle.watch_machine.specs.declared.event.WatchReply.TheVariants.{Told, Refused, Busy, Lost}
 use Rattle.watch_machine.specs.declared.fault.WatchFault.{WatchFault}
 use Rattle.watch_machine.specs.declared.fault.WatchFault.TheVariants.{NotAsked, BadIndex, OutOfMemory}
 use Rattle.watch_machine.specs.declared.track.End.{End}
@@ -48,7 +48,7 @@ rest_from : (b c : Bool) → (not b && c) ≡ true → c ≡ true
 rest_from true c h = absurd cc
 rest_from false c h = h
 
-abbrev pub end_in : Event → ℕ
+abbrev pub end_in : WatchEvent → ℕ
 end_in (Known j end renewable) = end
 end_in _ = 0
 
@@ -57,7 +57,7 @@ later_end : (e : End) (end : ℕ) → is_later e end ≡ true → (k : ℕ) × (
 later_end (At k) end h = (k, (refl, lt_from k end h))
 later_end _ end h = absurd cc
 
-news_later : (w : WatchState) (i end : ℕ) (renewable : Bool) (event : Event) → is_news w i end ≡ true → Some (Known i end renewable) ≡ Some event → IsLaterEnd w i event
+news_later : (w : WatchState) (i end : ℕ) (renewable : Bool) (event : WatchEvent) → is_news w i end ≡ true → Some (Known i end renewable) ≡ Some event → IsLaterEnd w i event
 unfolding is_news
 news_later w i end renewable event news is =
     let both = and_parts (is_later (track_at w i).end end) (nat_lt (second w) end) (rest_from (track_at w i).out (is_later (track_at w i).end end && nat_lt (second w) end) news) in
@@ -73,17 +73,17 @@ news_later w i end renewable event news is =
       ahead = lt_from (second w) end both.1;
     }
 
-pub told_news : (w : WatchState) (i since seconds : ℕ) (renewable : Bool) (date : Option ℕ) (event : Event) → event_by w i since (Told seconds renewable date) ≡ Some event →
+pub told_news : (w : WatchState) (i since seconds : ℕ) (renewable : Bool) (date : Option ℕ) (event : WatchEvent) → event_by w i since (Told seconds renewable date) ≡ Some event →
     (is_news w i (end_told since seconds) ≡ true) × (Some (Known i (end_told since seconds) renewable) ≡ Some event)
 told_news w i since seconds renewable date event is =
     let end = end_told since seconds in
-    let Q : Option Event → Type 0 = λ o. o ≡ Some event → (is_news w i end ≡ true) × (Some (Known i end renewable) ≡ Some event) in
+    let Q : Option WatchEvent → Type 0 = λ o. o ≡ Some event → (is_news w i end ≡ true) × (Some (Known i end renewable) ≡ Some event) in
     if_cases Q (is_news w i end) (Some (Known i end renewable)) None (λ news e. (news, e)) (λ none e. absurd cc) is
 
 pub hands : HandedLaw
 unfolding event_of
 hands s w i reply event is = by (seen_at s i).since reply is where
-  by : (since : Option ℕ) (r : Reply) → event_where w i since r ≡ Some event → IsLaterEnd w i event
+  by : (since : Option ℕ) (r : WatchReply) → event_where w i since r ≡ Some event → IsLaterEnd w i event
   by None r e = absurd cc
   by (Some since) (Told seconds renewable date) e =
       let news = told_news w i since seconds renewable date event e in
@@ -120,7 +120,7 @@ not_refused old i end renewable within =
     let within' : nat_le (length old.forest.entries) i ≡ false = grind (arith, nat_tests) in
     cond-false (nat_le (length old.forest.entries) i) (Some BadIndex) None within'
 
-kept_by : (old : WatchState) (i end : ℕ) (renewable : Bool) (result : Result Output WatchFault) (new : WatchState) → Turn old (Known i end renewable) result new → i < length old.forest.entries → i < length old.tracks →
+kept_by : (old : WatchState) (i end : ℕ) (renewable : Bool) (result : Result WatchOutput WatchFault) (new : WatchState) → Turn old (Known i end renewable) result new → i < length old.forest.entries → i < length old.tracks →
     second old < end → end ≤ END_MAX → (is_event_taken result ≡ true) × IsKept old new i end renewable
 kept_by old i end renewable (Ok output) new turn within counted ahead few =
     let y = later_track end renewable (track_at old i) in
@@ -139,7 +139,7 @@ keeps old turn i end renewable h is within counted ahead few =
     kept_by old i end renewable turn.result turn.state (subst (λ e. Turn old e turn.result turn.state) is h) within counted ahead few
 
 -- ---- nothing rests on the agent in front
-pub another : (o : Outage) (w : WatchState) (i j due : ℕ) (event : Event) → IsLaterEnd w j event → (j ≡ i → ⊥) → IsIncident o i due w event
+pub another : (o : Outage) (w : WatchState) (i j due : ℕ) (event : WatchEvent) → IsLaterEnd w j event → (j ≡ i → ⊥) → IsIncident o i due w event
 another o w i j due event h apart = subst (IsIncident o i due w) (sym h.is) apart
 
 plan_kept : (m end : ℕ) (renewable : Bool) (e : Entry) (x : Track) → is_in_plan m e x ≡ true → is_in_plan m e (later_track end renewable x) ≡ true

@@ -3,8 +3,8 @@
 use Rattle.std.proofs.Common.{◌≡◌, ◌⊎◌, ◌∙◌, ℕ, ◌+◌, ◌-◌, ◌*◌, ◌<◌, ◌≤◌, Bool, true, max, All, List, [], ◌∷◌, Result, Ok, Err, length, refl, sym, ap, subst, arith, inl, inr}
 use Rattle.std.proofs.lemmas.Bool.{cases_lt}
 use Rattle.std.proofs.lemmas.List.Elements.{All-weaker}
-use Rattle.watch_machine.specs.declared.command.Output.{Output}
-use Rattle.watch_machine.specs.declared.event.Event.TheVariants.{Known}
+use Rattle.watch_machine.specs.declared.command.WatchOutput.{WatchOutput}
+use Rattle.watch_machine.specs.declared.event.WatchEvent.TheVariants.{Known}
 use Rattle.watch_machine.specs.declared.fault.WatchFault.{WatchFault}
 use Rattle.watch_machine.specs.declared.lanes.Out.{Out}
 use Rattle.watch_machine.specs.declared.track.Track.{Track}
@@ -221,8 +221,8 @@ later_stays f end due rest renewable old new planned is le long base sends h =
     )
 
 -- an end that is handed in leaves the moment by which the next clock comes
-known_due : (o : Outage) (old new : WatchState) (i end due : ℕ) (renewable : Bool) (result : Result Output WatchFault) → Turn old (Known i end renewable) result new → outage_next_after o result new due ≡ due
-known_due o old new i end due renewable (Ok output) turn = ap (λ (x : Output). outage_next_after_command o x.command new due) turn.1.0
+known_due : (o : Outage) (old new : WatchState) (i end due : ℕ) (renewable : Bool) (result : Result WatchOutput WatchFault) → Turn old (Known i end renewable) result new → outage_next_after o result new due ≡ due
+known_due o old new i end due renewable (Ok output) turn = ap (λ (x : WatchOutput). outage_next_after_command o x.command new due) turn.1.0
 known_due o old new i end due renewable (Err fault) turn = refl
 
 -- one turn at which the scout hands in an end of the entry

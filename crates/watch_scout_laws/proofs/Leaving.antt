@@ -1,11 +1,11 @@
 -- Leaving: an entry that is left alone is not renewed. For the law of what is left to the agent in front.
 use Rattle.std.proofs.Common.{◌≡◌, ◌∙◌, ℕ, Bool, true, false, ◌&&◌, ◌||◌, ◌==◌, if◌then◌else◌, List, [], ◌∷◌, ◌++◌, Option, Some, None, Result, Ok, Err, refl, sym, ap, subst, inl, inr, true≢false}
 use Rattle.std.proofs.lemmas.Bool.{and_parts, cases_Bool, cond-false, cond-true, eqb-true, false_from_ne_true}
-use Rattle.watch_machine.specs.declared.command.Output.{Output}
-use Rattle.watch_machine.specs.declared.event.Event.{Event}
-use Rattle.watch_machine.specs.declared.event.Event.TheVariants.{Clock, Looked, Renewed, Need, Begin, Known}
-use Rattle.watch_machine.specs.declared.event.Reply.{Reply}
-use Rattle.watch_machine.specs.declared.event.Reply.TheVariants.{Told, Refused, Busy, Lost}
+use Rattle.watch_machine.specs.declared.command.WatchOutput.{WatchOutput}
+use Rattle.watch_machine.specs.declared.event.WatchEvent.{WatchEvent}
+use Rattle.watch_machine.specs.declared.event.WatchEvent.TheVariants.{Clock, Looked, Renewed, Need, Begin, Known}
+use Rattle.watch_machine.specs.declared.event.WatchReply.{WatchReply}
+use Rattle.watch_machine.specs.declared.event.WatchReply.TheVariants.{Told, Refused, Busy, Lost}
 use Rattle.watch_machine.specs.declared.fault.WatchFault.{WatchFault}
 use Rattle.watch_machine.specs.History.{AllHappen, Changes, Happening, Hands, Turn, Turned, state_after, stood}
 use Rattle.watch_machine.specs.State.{WatchState, opened}
@@ -30,23 +30,23 @@ rest_happens s [] ys h = (s, h)
 rest_happens s (x ∷ xs) ys h = rest_happens (state_after x) xs ys h.1
 
 -- ---- an answer that told it, with its time ahead, leaves no reason
-told_answer : (s : WatchState) (i : ℕ) (reply : Reply) → is_told reply ≡ true → is_come s i ≡ false → reason_answered s i reply ≡ false
+told_answer : (s : WatchState) (i : ℕ) (reply : WatchReply) → is_told reply ≡ true → is_come s i ≡ false → reason_answered s i reply ≡ false
 told_answer s i (Told seconds renewable date) told ahead = ahead
 told_answer s i _ told ahead = absurd cc
 
-own_answer : (s : WatchState) (i j : ℕ) (reply : Reply) (c : Bool) → (j == i && is_told reply) ≡ true → is_come s i ≡ false → (if j == i then reason_answered s i reply else c) ≡ false
+own_answer : (s : WatchState) (i j : ℕ) (reply : WatchReply) (c : Bool) → (j == i && is_told reply) ≡ true → is_come s i ≡ false → (if j == i then reason_answered s i reply else c) ≡ false
 own_answer s i j reply c told ahead =
     let both = and_parts (j == i) (is_told reply) told in
     cond-true (j == i) (reason_answered s i reply) c both.0 ∙ told_answer s i reply both.1 ahead
 
-none_told : (i : ℕ) (c : Bool) (event : Event) (result : Result Output WatchFault) (s : WatchState) → tells i event ≡ true → is_event_taken result ≡ true → is_come s i ≡ false → reason i c event result s ≡ false
+none_told : (i : ℕ) (c : Bool) (event : WatchEvent) (result : Result WatchOutput WatchFault) (s : WatchState) → tells i event ≡ true → is_event_taken result ≡ true → is_come s i ≡ false → reason i c event result s ≡ false
 none_told i c event (Err fault) s told taken' ahead = absurd (true≢false (sym taken'))
 none_told i c (Looked j reply terms) (Ok output) s told taken' ahead = own_answer s i j reply c told ahead
 none_told i c (Renewed j reply) (Ok output) s told taken' ahead = own_answer s i j reply c told ahead
 none_told i c _ (Ok output) s told taken' ahead = absurd cc
 
 -- ---- whoever is left alone has no reason
-any_answer : (s : WatchState) (i j : ℕ) (reply : Reply) → IsToldAhead i j reply s → (if j == i then reason_answered s i reply else false) ≡ false
+any_answer : (s : WatchState) (i j : ℕ) (reply : WatchReply) → IsToldAhead i j reply s → (if j == i then reason_answered s i reply else false) ≡ false
 any_answer s i j reply left' =
     elim (cases_Bool (j == i)) as (λ _. (if j == i then reason_answered s i reply else false) ≡ false) [
       | inl same ↦ (let h = left' (eqb-true j i same) in cond-true (j == i) (reason_answered s i reply) false same ∙ told_answer s i reply h.0 h.1)
@@ -63,7 +63,7 @@ both_none false false a b = refl
 both_none true b e f = absurd cc
 both_none false true e f = absurd cc
 
-none_left : (old : WatchState) (i : ℕ) (event : Event) (result : Result Output WatchFault) (new : WatchState) → Turn old event result new → IsLeftAt i event result new → reason i false event result new ≡ false
+none_left : (old : WatchState) (i : ℕ) (event : WatchEvent) (result : Result WatchOutput WatchFault) (new : WatchState) → Turn old event result new → IsLeftAt i event result new → reason i false event result new ≡ false
 none_left old i event (Err fault) new turn left' = refl
 none_left old i (Clock wall elapsed) (Ok output) new turn left' =
     let last : Turned = record { event = Clock wall elapsed; result = Ok output; state = new } in

@@ -1,6 +1,6 @@
 -- Resting: nothing rests on the agent in front. For the law of outages of an agent that stands behind another.
 use Rattle.std.proofs.Common.{◌≡◌, true, length, sym, ap, subst, arith}
-use Rattle.watch_machine.specs.declared.event.Event.TheVariants.{Known}
+use Rattle.watch_machine.specs.declared.event.WatchEvent.TheVariants.{Known}
 use Rattle.watch_machine.specs.Clocks.{ms}
 use Rattle.watch_machine.specs.Outlook.{time_of}
 use Rattle.watch_machine.specs.State.{WatchState}

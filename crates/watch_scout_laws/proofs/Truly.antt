@@ -1,9 +1,9 @@
 -- Truly: an end that a true reply tells a scout comes no later than the real one. For the laws of real ends.
 use Rattle.std.proofs.Common.{◌≡◌, ℕ, ◌+◌, List, [], ◌∷◌, Option, Some, None, ap, subst}
-use Rattle.watch_machine.specs.declared.event.Event.{Event}
-use Rattle.watch_machine.specs.declared.event.Event.TheVariants.{Clock, Looked, Renewed, Need, Begin, Known}
-use Rattle.watch_machine.specs.declared.event.Reply.{Reply}
-use Rattle.watch_machine.specs.declared.event.Reply.TheVariants.{Told, Refused, Busy, Lost}
+use Rattle.watch_machine.specs.declared.event.WatchEvent.{WatchEvent}
+use Rattle.watch_machine.specs.declared.event.WatchEvent.TheVariants.{Clock, Looked, Renewed, Need, Begin, Known}
+use Rattle.watch_machine.specs.declared.event.WatchReply.{WatchReply}
+use Rattle.watch_machine.specs.declared.event.WatchReply.TheVariants.{Told, Refused, Busy, Lost}
 use Rattle.watch_machine.specs.History.{Changes, Happening, Hands, state_after, stood}
 use Rattle.watch_machine.specs.State.{WatchState, opened}
 use Rattle.watch_machine.proofs.Cases.{value_is}
@@ -17,7 +17,7 @@ use Rattle.watch_scout_laws.proofs.Handing.{end_in, told_news}
 pub harmless : HarmlessLaw
 unfolding event_of
 harmless w honest v i end renewable real o h = by (seen_at h.scout i).since h.reply h.since h.so h.event where
-  by : (since : Option ℕ) (reply : Reply) → IsSinceBy since (w.reading h.asked + v.clocks.phase) → IsTrueReply h.asked real o reply → event_where v i since reply ≡ Some (Known i end renewable) →
+  by : (since : Option ℕ) (reply : WatchReply) → IsSinceBy since (w.reading h.asked + v.clocks.phase) → IsTrueReply h.asked real o reply → event_where v i since reply ≡ Some (Known i end renewable) →
       IsNoLater w v.clocks.phase end real o
   by None reply shown so is = absurd cc
   by (Some since) (Told seconds renewable' date) shown so is =
@@ -29,7 +29,7 @@ harmless w honest v i end renewable real o h = by (seen_at h.scout i).since h.re
   by (Some since) Lost shown so is = absurd cc
 
 -- what was lived behind another was lived by a watch
-true_event : (w : TimedWorld) → IsHonest w → (i asked : ℕ) (s : WatchState) (l : Lived) (event : Event) → IsTrueBehind w i asked s l event → IsTrueEvent w i asked s l event
+true_event : (w : TimedWorld) → IsHonest w → (i asked : ℕ) (s : WatchState) (l : Lived) (event : WatchEvent) → IsTrueBehind w i asked s l event → IsTrueEvent w i asked s l event
 true_event w honest i asked s l (Known j end renewable) so = λ same. harmless w honest s i end renewable l.real l.origin (so same)
 true_event w honest i asked s l _ so = so
 

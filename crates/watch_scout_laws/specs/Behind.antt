@@ -3,10 +3,10 @@
 use Rattle.std.specs.Prelude.{◌≡◌, ℕ, ◌-◌, ◌<◌, ◌≤◌, Bool, true, false, List, [], ◌∷◌, ◌++◌, Option, Some, None, Result, Ok, Err, length}
 use Rattle.plan_forest.specs.declared.forest.TheConstants.{END_MAX}
 use Rattle.plan_forest.specs.Forest.{Forest}
-use Rattle.watch_machine.specs.declared.command.Output.{Output}
-use Rattle.watch_machine.specs.declared.event.Event.{Event}
-use Rattle.watch_machine.specs.declared.event.Event.TheVariants.{Clock, Looked, Renewed, Need, Begin, Known}
-use Rattle.watch_machine.specs.declared.event.Reply.{Reply}
+use Rattle.watch_machine.specs.declared.command.WatchOutput.{WatchOutput}
+use Rattle.watch_machine.specs.declared.event.WatchEvent.{WatchEvent}
+use Rattle.watch_machine.specs.declared.event.WatchEvent.TheVariants.{Clock, Looked, Renewed, Need, Begin, Known}
+use Rattle.watch_machine.specs.declared.event.WatchReply.{WatchReply}
 use Rattle.watch_machine.specs.declared.fault.WatchFault.{WatchFault}
 use Rattle.watch_machine.specs.declared.track.End.TheVariants.{At}
 use Rattle.watch_machine.specs.declared.track.Track.{Track}
@@ -27,7 +27,7 @@ use Rattle.watch_scout.specs.State.{ScoutState}
 -- ---- what a scout hands in
 
 -- an event tells an end of i that is known to be later than the believed one, and ahead; and i is not out
-pub record IsLaterEnd (w : WatchState) (i : ℕ) (event : Event) : Type 0 where
+pub record IsLaterEnd (w : WatchState) (i : ℕ) (event : WatchEvent) : Type 0 where
   pub end : ℕ
   pub renewable : Bool
   pub is : event ≡ Known i end renewable
@@ -39,7 +39,7 @@ pub record IsLaterEnd (w : WatchState) (i : ℕ) (event : Event) : Type 0 where
 
 -- a scout hands in no other
 abbrev pub HandedLaw : Type 0
-HandedLaw = (s : ScoutState) (w : WatchState) (i : ℕ) (reply : Reply) (event : Event) → event_of s w i reply ≡ Some event → IsLaterEnd w i event
+HandedLaw = (s : ScoutState) (w : WatchState) (i : ℕ) (reply : WatchReply) (event : WatchEvent) → event_of s w i reply ≡ Some event → IsLaterEnd w i event
 
 -- ---- what that does
 
@@ -60,11 +60,11 @@ KeptLaw =
 -- ---- what is left to the one in front
 
 -- i is told by a reply, and its time is ahead after it
-abbrev pub IsToldAhead : ℕ → ℕ → Reply → WatchState → Type 0
+abbrev pub IsToldAhead : ℕ → ℕ → WatchReply → WatchState → Type 0
 IsToldAhead i j reply s = j ≡ i → (is_told reply ≡ true) × (is_come s i ≡ false)
 
 -- i is left alone at an event: a clock finds its time ahead, and that of everybody who is wanted; an answer tells it, with its time ahead
-abbrev pub IsLeftBy : ℕ → Event → WatchState → Type 0
+abbrev pub IsLeftBy : ℕ → WatchEvent → WatchState → Type 0
 IsLeftBy i (Clock wall elapsed) s = (is_come s i ≡ false) × ((j : ℕ) → is_wanted s j ≡ true → is_come s j ≡ false)
 IsLeftBy i (Looked j reply terms) s = IsToldAhead i j reply s
 IsLeftBy i (Renewed j reply) s = IsToldAhead i j reply s
@@ -72,7 +72,7 @@ IsLeftBy i (Need j until) s = Unit {0}
 IsLeftBy i Begin s = Unit {0}
 IsLeftBy i (Known j end renewable) s = Unit {0}
 
-abbrev pub IsLeftAt : ℕ → Event → Result Output WatchFault → WatchState → Type 0
+abbrev pub IsLeftAt : ℕ → WatchEvent → Result WatchOutput WatchFault → WatchState → Type 0
 IsLeftAt i event (Ok output) s = IsLeftBy i event s
 IsLeftAt i event (Err fault) s = Unit {0}
 

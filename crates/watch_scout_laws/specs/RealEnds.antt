@@ -3,9 +3,9 @@
 -- Source: this project's own, over Vault, HTTP API: `auth/token`, "Lookup a token (self)"; `sys/leases`, "Read lease".
 use Rattle.std.specs.Prelude.{◌≡◌, ℕ, ◌+◌, ◌≤◌, Bool, List, [], ◌∷◌, Option, Some, None}
 use Rattle.plan_forest.specs.Forest.{Forest}
-use Rattle.watch_machine.specs.declared.event.Event.{Event}
-use Rattle.watch_machine.specs.declared.event.Event.TheVariants.{Known}
-use Rattle.watch_machine.specs.declared.event.Reply.{Reply}
+use Rattle.watch_machine.specs.declared.event.WatchEvent.{WatchEvent}
+use Rattle.watch_machine.specs.declared.event.WatchEvent.TheVariants.{Known}
+use Rattle.watch_machine.specs.declared.event.WatchReply.{WatchReply}
 use Rattle.watch_machine.specs.History.{Changes, Happening, Happens, Hands, state_after, stood}
 use Rattle.watch_machine.specs.State.{WatchState, opened}
 use Rattle.watch_laws.specs.Ends.{AllNoLater, IsHonest, IsNoLater, IsTrueEvent, IsTrueReading, IsTrueReply, Lived, Origin, TimedWorld, asked_at, happened, no_origin}
@@ -20,7 +20,7 @@ IsSinceBy (Some since) shown = since ≤ shown
 -- an end of i that a scout hands in was told by a true reply: the lookup went out at a moment, and the reply was true of that
 pub record IsHeardTruly (w : TimedWorld) (v : WatchState) (i end : ℕ) (renewable : Bool) (real : ℕ) (o : Origin) : Type 0 where
   pub scout : ScoutState
-  pub reply : Reply
+  pub reply : WatchReply
   pub asked : ℕ
   pub since : IsSinceBy (seen_at scout i).since (w.reading asked + v.clocks.phase)
   pub so : IsTrueReply asked real o reply
@@ -32,7 +32,7 @@ HarmlessLaw =
     (w : TimedWorld) → IsHonest w → (v : WatchState) (i end : ℕ) (renewable : Bool) (real : ℕ) (o : Origin) → IsHeardTruly w v i end renewable real o → IsNoLater w v.clocks.phase end real o
 
 -- an event was true of i, as for any watch; but an end that is known was told by its scout
-abbrev pub IsTrueBehind : TimedWorld → ℕ → ℕ → WatchState → Lived → Event → Type 0
+abbrev pub IsTrueBehind : TimedWorld → ℕ → ℕ → WatchState → Lived → WatchEvent → Type 0
 IsTrueBehind w i asked s l (Known j end renewable) = j ≡ i → IsHeardTruly w s i end renewable l.real l.origin
 IsTrueBehind w i asked s l event = IsTrueEvent w i asked s l event
 

@@ -3,9 +3,9 @@
 -- Source: this project's own.
 use Rattle.std.specs.Prelude.{◌≡◌, ◌≢◌, ◌⊎◌, ℕ, ◌-◌, ◌*◌, ◌<◌, ◌≤◌, Bool, true, List, [], ◌∷◌, Some, length}
 use Rattle.plan_forest.specs.declared.forest.TheConstants.{END_MAX}
-use Rattle.watch_machine.specs.declared.event.Event.{Event}
-use Rattle.watch_machine.specs.declared.event.Event.TheVariants.{Known}
-use Rattle.watch_machine.specs.declared.event.Reply.{Reply}
+use Rattle.watch_machine.specs.declared.event.WatchEvent.{WatchEvent}
+use Rattle.watch_machine.specs.declared.event.WatchEvent.TheVariants.{Known}
+use Rattle.watch_machine.specs.declared.event.WatchReply.{WatchReply}
 use Rattle.watch_machine.specs.Change.{former_at}
 use Rattle.watch_machine.specs.Clocks.{ms}
 use Rattle.watch_machine.specs.History.{AllHappen, Changes, Happening, Hands, IsReached, Turn, Turned}
@@ -28,7 +28,7 @@ pub record IsStillBefore (old new : WatchState) (i : ℕ) : Type 0 where
 -- plan and not at its top
 pub record IsToldByScout (o : Outage) (old : WatchState) (turn : Turned) (i : ℕ) : Type 0 where
   pub scout : ScoutState
-  pub reply : Reply
+  pub reply : WatchReply
   pub end : ℕ
   pub renewable : Bool
   pub handed : event_of scout old i reply ≡ Some (Known i end renewable)
@@ -57,9 +57,9 @@ AllAhead i (Changes c ∷ hs) = (k : ℕ) → former_at c.was k ≡ Some i → E
 -- entry before its time, and until it is granted or looked up, its end is ahead, whatever the scout hands in, through any outage that this margin
 -- outlasts; and so it is from each grant and each lookup of it on, until the next one
 pub record RestLaw : Type 0 where
-  pub others : (o : Outage) (s : ScoutState) (w : WatchState) (i j due : ℕ) (reply : Reply) (event : Event) → event_of s w j reply ≡ Some event → j ≢ i → IsIncident o i due w event
+  pub others : (o : Outage) (s : ScoutState) (w : WatchState) (i j due : ℕ) (reply : WatchReply) (event : WatchEvent) → event_of s w j reply ≡ Some event → j ≢ i → IsIncident o i due w event
   pub own :
-      (s : ScoutState) (old : WatchState) (turn : Turned) (i end : ℕ) (renewable : Bool) (reply : Reply) → event_of s old i reply ≡ Some (Known i end renewable) → turn.event ≡ Known i end renewable →
+      (s : ScoutState) (old : WatchState) (turn : Turned) (i end : ℕ) (renewable : Bool) (reply : WatchReply) → event_of s old i reply ≡ Some (Known i end renewable) → turn.event ≡ Known i end renewable →
       Turn old turn.event turn.result turn.state → i < length old.tracks → end ≤ END_MAX → IsBefore old i → is_wanted turn.state i ≡ true → IsStillBefore old turn.state i
   pub outage :
       (margin : ℕ) (name : List ℕ) (o : Outage) (old : WatchState) (last : Turned) (hs : List Happening) (i : ℕ) → last.state.forest.margin ≡ margin_behind margin name → IsReached old → 0 < old.width →

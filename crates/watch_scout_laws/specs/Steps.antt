@@ -1,8 +1,8 @@
 -- Steps: what a scout does, one step after another, beside a watch that may be in any state.
 -- Source: this project's own.
 use Rattle.std.specs.Prelude.{◌≡◌, ℕ, List, [], ◌∷◌, Option}
-use Rattle.watch_machine.specs.declared.event.Event.{Event}
-use Rattle.watch_machine.specs.declared.event.Reply.{Reply}
+use Rattle.watch_machine.specs.declared.event.WatchEvent.{WatchEvent}
+use Rattle.watch_machine.specs.declared.event.WatchReply.{WatchReply}
 use Rattle.watch_machine.specs.State.{WatchState}
 use Rattle.watch_scout.specs.Hearing.{event_of, freed}
 use Rattle.watch_scout.specs.Looking.{found}
@@ -19,8 +19,8 @@ pub record Sought : Type 0 where
 pub record Heard : Type 0 where
   pub watch : WatchState
   pub entry : ℕ
-  pub reply : Reply
-  pub event : Option Event
+  pub reply : WatchReply
+  pub event : Option WatchEvent
   pub state : ScoutState
 
 pub data ScoutStep : Type 0 where

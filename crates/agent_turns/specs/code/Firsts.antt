@@ -3,7 +3,7 @@
 use Rattle.std.specs.Prelude.{◌≡◌, ℕ, List, [], ◌∷◌}
 use Rattle.vault_asking.specs.Sending.{GoesOut}
 use Rattle.vault_lanes.specs.declared.lanes.Answered.{Answered}
-use Rattle.watch_machine.specs.declared.command.Request.{Request}
+use Rattle.watch_machine.specs.declared.command.WatchRequest.{WatchRequest}
 use Rattle.watch_machine.specs.Clocks.{second_of_wall}
 use Rattle.agent_turns.specs.Calls.{call_of_answer}
 use Rattle.agent_turns.specs.Held.{Held, ServingSide}
@@ -12,7 +12,7 @@ use Rattle.agent_turns.specs.Stages.{AnswerIsTaken}
 
 -- the first request that was not sent goes out
 pub record GoesFirst (port : ℕ) (old new : ServingSide) : Type 0 where
-  pub request : Request
+  pub request : WatchRequest
   pub first : old.held.unsent ≡ request ∷ new.held.unsent
   pub out : GoesOut port old.held.agent.inventory old.held.agent.machine (second_of_wall old.held.asked.wall) old.held.asked.elapsed request old.lanes new.lanes
   pub held : new.held ≡ record old.held { unsent = new.held.unsent }

@@ -8,10 +8,10 @@ use Rattle.agent_turns.specs.Apart.{Ending, EndsBy, IsPause, IsShown, IsShownAt,
 use Rattle.agent_turns.specs.Changes.{AllGiven, given_by}
 use Rattle.agent_turns.specs.Held.{ServingSide}
 use Rattle.agent_turns.specs.Neighbours.{AllCalled, NeighbourCall}
-use Rattle.agent_turns.specs.declared.change.Change.{Change}
+use Rattle.agent_turns.specs.declared.change.AgentChange.{AgentChange}
 
 -- a pause by what was read, but for its wait: nothing is another
-pub record IsPausedApart {N : Type 0} (does : NeighbourCall → N → N → Type 0) (until : ℕ) (reading : Option Reading) (millis : ℕ) (seen shown : Agent) (old new : ServingSide) (before given : Option (List Change)) (a b : N) : Type 0 where
+pub record IsPausedApart {N : Type 0} (does : NeighbourCall → N → N → Type 0) (until : ℕ) (reading : Option Reading) (millis : ℕ) (seen shown : Agent) (old new : ServingSide) (before given : Option (List AgentChange)) (a b : N) : Type 0 where
   pub pause : Pause
   pub read : reading ≡ Some pause.reading
   pub waits : millis ≡ pause.millis
@@ -23,7 +23,7 @@ pub record IsPausedApart {N : Type 0} (does : NeighbourCall → N → N → Type
   pub calls : AllCalled does (called_in old.held.agent pause) a b
 
 -- or the wait ends there
-pub record IsEnded {N : Type 0} (does : NeighbourCall → N → N → Type 0) (until : ℕ) (reading : Option Reading) (seen : Agent) (old new : ServingSide) (before given : Option (List Change)) (a b : N) : Type 0 where
+pub record IsEnded {N : Type 0} (does : NeighbourCall → N → N → Type 0) (until : ℕ) (reading : Option Reading) (seen : Agent) (old new : ServingSide) (before given : Option (List AgentChange)) (a b : N) : Type 0 where
   pub ending : Ending
   pub read : clocked_at ending ≡ read_call reading ∷ []
   pub shows : IsShownAt ending seen
@@ -31,6 +31,6 @@ pub record IsEnded {N : Type 0} (does : NeighbourCall → N → N → Type 0) (u
   pub gives : AllGiven (given_at ending) before given
   pub calls : AllCalled does (called_at new.held.agent ending) a b
 
-abbrev pub Pauses : {N : Type 0} → (NeighbourCall → N → N → Type 0) → ℕ → Option Reading → Option ℕ → Agent → Agent → ServingSide → ServingSide → Option (List Change) → Option (List Change) → N → N → Type 0
+abbrev pub Pauses : {N : Type 0} → (NeighbourCall → N → N → Type 0) → ℕ → Option Reading → Option ℕ → Agent → Agent → ServingSide → ServingSide → Option (List AgentChange) → Option (List AgentChange) → N → N → Type 0
 Pauses does until reading (Some millis) seen shown old new before given a b = IsPausedApart does until reading millis seen shown old new before given a b
 Pauses does until reading None seen shown old new before given a b = IsEnded does until reading seen old new before given a b

@@ -7,7 +7,7 @@ use Rattle.base_device.specs.Whole.{MakesAtMost}
 use Rattle.program_report.specs.declared.stop.Stop.{Stop}
 use Rattle.program_lines.specs.Hearing.{Hearing, IsSaidWhole, counted_line}
 use Rattle.program_lines.specs.Listening.{IsHeardFirst, ListeningHalts, MakesAtLeast}
-use Rattle.program_lines.specs.declared.limits.Limits.{Limits}
+use Rattle.program_lines.specs.declared.limits.InputLimits.{InputLimits}
 use Rattle.program_lines.specs.declared.limits.TheConstants.{MOST_LINE}
 
 -- as many of so many bytes as may be heard where so many are left
@@ -46,7 +46,7 @@ pub record HaltsWithin (S : Type 0) (h : Hearing S) (first : ℕ) (old : S) (byt
 
 -- listening under way: by so many reads, of a byte each at least, all of what was read may be heard, of which these bytes are after
 -- the last line, and so many more may be read
-pub record IsListening (S : Type 0) (h : Hearing S) (limits : Limits) (old : S) (reads : ℕ) (pending : List ℕ) (left : Option ℕ) (now : S) (last : ℕ) (fed : Change) (out : Change) : Type 0 where
+pub record IsListening (S : Type 0) (h : Hearing S) (limits : InputLimits) (old : S) (reads : ℕ) (pending : List ℕ) (left : Option ℕ) (now : S) (last : ℕ) (fed : Change) (out : Change) : Type 0 where
   pub read : List ℕ
   pub consumed : Consumes fed.old.input.remaining fed.new.input.remaining read
   pub most : MakesAtMost reads fed.old.input fed.new.input

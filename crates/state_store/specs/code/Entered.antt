@@ -2,7 +2,7 @@
 -- Source: this project's own.
 use Rattle.std.specs.Prelude.{◌≡◌, ◌⊎◌, ℕ, List, true, Result, Ok, string_bytes, Some, None}
 use Rattle.state_changes.specs.declared.change.Change.{Change}
-use Rattle.state_changes.specs.declared.change.What.{What}
+use Rattle.state_changes.specs.declared.change.ChangeKind.{ChangeKind}
 use Rattle.state_changes.specs.declared.row.Row.{Row}
 use Rattle.state_changes.specs.Changes.{change_refusal, rows_changed}
 use Rattle.state_changes.specs.Compaction.{is_need}
@@ -16,14 +16,14 @@ use Rattle.state_store.specs.Books.{Book, IsTextOf}
 use Rattle.state_store.specs.Entering.{IsReadAs, line_for_change, record_for}
 
 -- the line is that of the change, which is read in it; and a replay makes that
-pub record IsRecorded (b : Book) (name : List ℕ) (w : What) (line : List ℕ) (c : Change) : Type 0 where
+pub record IsRecorded (b : Book) (name : List ℕ) (w : ChangeKind) (line : List ℕ) (c : Change) : Type 0 where
   pub line_is : line ≡ line_for_change b.file name w
   pub is_line : IsRecordLine line
   pub read : IsReadAs b.file name w c
   pub as_then : is_as_then b.file.rows c ≡ true
 
 -- why there is no such line
-abbrev pub IsUnrecorded : Book → List ℕ → What → TakeFault → Type 0
+abbrev pub IsUnrecorded : Book → List ℕ → ChangeKind → TakeFault → Type 0
 IsUnrecorded b name w NoRecord = IsRecord (record_for b.file name w) → ⊥
 IsUnrecorded b name w OutOfMemory = Unit {0}
 IsUnrecorded b name w fault = ⊥
@@ -40,7 +40,7 @@ pub record RowsAndTextAreMade (b : Book) (c : Change) (rows : List Row) (text : 
   pub made : rows_changed b.file.margin b.rows c.name c.what ≡ Ok rows
   pub text_is : IsTextOf b.file.margin b.secrets rows text
 
-pub record IsEntered (b : Book) (name : List ℕ) (w : What) (e : Entered) : Type 0 where
+pub record IsEntered (b : Book) (name : List ℕ) (w : ChangeKind) (e : Entered) : Type 0 where
   pub change : Change
   pub recorded : IsRecorded b name w e.line change
   pub made : RowsAndTextAreMade b change e.rows (string_bytes e.text)

@@ -11,7 +11,7 @@ use Rattle.program_report.specs.declared.stop.Stop.TheVariants as stops
 use Rattle.program_report.specs.Sent.{IsAll}
 use Rattle.tick_runs.specs.Closed.{AreAnswered, Exchanged, World}
 use Rattle.tick_runs.specs.Hearing.{IsAskLeft, NeedIsOverlong}
-use Rattle.program_lines.specs.declared.event_line.Heard.{Heard}
+use Rattle.program_lines.specs.declared.event_line.HeardLine.{HeardLine}
 use Rattle.tick_runs.specs.code.Playing.{Answers, AnswersAll}
 use Rattle.tick_runs.specs.Text.{answer_text, inventory_with}
 
@@ -78,7 +78,7 @@ TellsRound port cs t old asked (Err stop) new out = ⊥
 -- ---- a need
 
 -- why hearing a need stops
-abbrev pub StopsNeed : World → Heard → Stop → World → Type 0
+abbrev pub StopsNeed : World → HeardLine → Stop → World → Type 0
 StopsNeed old heard stops.TooLong new = NeedIsOverlong old heard new
 StopsNeed old heard stops.Memory new = Unit {0}
 StopsNeed old heard stop new = ⊥

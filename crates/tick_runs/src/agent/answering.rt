@@ -8,7 +8,7 @@ ghost use Rattle.tick_runs.specs.Hearing.{IsAskLeft};
 ghost use Rattle.tick_runs.specs.code.Playing.{Answers, TakesAnswer};
 ghost use Rattle.tick_runs.specs.Stops.{both};
 
-use crate::agent::Agent;
+use crate::agent::KeeperAgent;
 use crate::agent::lines::{push_answer_line, push_short_lines};
 use crate::agent::refused::stop_of;
 use crate::agent::reply::event_from;
@@ -21,7 +21,7 @@ use vault_exchange::Exchange;
 /// The entry `i` sends its request at `t`, and the keeper is handed what the reply means; the lines of it are appended.
 pub(crate) fn answer<E: Exchange>(
     alloc: Global,
-    agent: &mut Agent,
+    agent: &mut KeeperAgent,
     exchange: &mut E,
     t: Moment,
     i: u32,

@@ -6,7 +6,7 @@ ghost use Rattle.tick_runs.specs.Closed.{asked_by_output};
 ghost use Rattle.tick_runs.specs.Hearing.{IsBetweenEvents};
 ghost use Rattle.tick_runs.specs.code.Playing.{MayCome, TickLeaves, Ticks};
 
-use crate::agent::Agent;
+use crate::agent::KeeperAgent;
 use crate::agent::lines::{push_short_lines, push_wake_line};
 use crate::agent::refused::stop_of;
 use program_report::Stop;
@@ -16,7 +16,7 @@ use tick_keeper::{Event, Output};
 /// Tells the keeper that it is `t`, and appends the lines of what it then shortened and of whom it asks.
 pub(crate) fn tick(
     alloc: Global,
-    agent: &mut Agent,
+    agent: &mut KeeperAgent,
     t: u64,
     text: &mut Vec<u8>,
 ) -> Result<Output, Stop>

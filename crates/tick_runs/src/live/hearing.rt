@@ -4,18 +4,18 @@ ghost use Rattle.std.specs.Result.{IfErr};
 ghost use Rattle.vault_exchange.specs.Exchanges.{Behind};
 ghost use Rattle.program_lines.specs.EventLines.{IsEventLineWithin};
 ghost use Rattle.tick_runs.specs.Hearing.{HearsTo, IsBetweenEvents, NeedIsInForce};
-ghost use Rattle.program_lines.specs.declared.event_line.Heard.TheVariants as heards;
+ghost use Rattle.program_lines.specs.declared.event_line.HeardLine.TheVariants as heards;
 ghost use Rattle.tick_runs.specs.Stops.{both};
 ghost use Rattle.tick_runs.specs.code.Telling.{StopsNeed};
 
-use crate::agent::Agent;
+use crate::agent::KeeperAgent;
 use crate::agent::lines::{push_next, push_short_lines, push_sleep};
 use crate::agent::refused::stop_of;
 use crate::agent::ticking::tick;
 use crate::live::telling::tell_round;
 use base_device::{Sink, Watched};
 use base_moment::Moment;
-use program_lines::Heard;
+use program_lines::HeardLine;
 use program_report::{Stop, send};
 use std::alloc::Global;
 use tick_keeper::{Event, Output};
@@ -33,9 +33,9 @@ use vault_exchange::Exchange;
 /// `out` before is flushed.
 pub fn hear<E: Exchange, W: Sink>(
     alloc: Global,
-    agent: &mut Agent,
+    agent: &mut KeeperAgent,
     exchange: &mut E,
-    heard: Heard,
+    heard: HeardLine,
     out: &mut W,
 ) -> Result<(), Stop>
     requires ready { IsBetweenEvents agent.old.keeper }
@@ -49,20 +49,20 @@ pub fn hear<E: Exchange, W: Sink>(
     ensures port { E.host_port exchange.new ≡ E.host_port exchange.old }
 {
     match heard {
-        Heard::Tick(t) => hear_tick(alloc, agent, exchange, t, out),
-        Heard::Need { i, until } => {
+        HeardLine::Tick(t) => hear_tick(alloc, agent, exchange, t, out),
+        HeardLine::Need { i, until } => {
             let mut text = Vec::new(alloc);
             hear_need(alloc, agent, i, until, &mut text)?;
             send(out, &text)
         }
-        Heard::Unknown => send(out, b"fault unknown-name\n"),
+        HeardLine::Unknown => send(out, b"fault unknown-name\n"),
     }
 }
 
 /// A new need: its line, after those of the needs that it shortens.
 fn hear_need(
     alloc: Global,
-    agent: &mut Agent,
+    agent: &mut KeeperAgent,
     i: u32,
     until: Moment,
     text: &mut Vec<u8>,
@@ -91,7 +91,7 @@ fn hear_need(
 /// It is `t`: whom the keeper then asks, by index, is asked after the lines that say so.
 fn hear_tick<E: Exchange, W: Sink>(
     alloc: Global,
-    agent: &mut Agent,
+    agent: &mut KeeperAgent,
     exchange: &mut E,
     t: Moment,
     out: &mut W,

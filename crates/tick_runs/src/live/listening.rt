@@ -8,10 +8,10 @@ ghost use Rattle.tick_runs.specs.Stops.{both};
 ghost use Rattle.tick_runs.specs.Closed.{World};
 ghost use Rattle.tick_runs.specs.StopsAfter.{events_stop_after};
 
-use crate::agent::Agent;
+use crate::agent::KeeperAgent;
 use crate::live::hearing::hear;
 use base_device::{Sink, Source, Watched};
-use program_lines::{Hearer, Limits, heard_in};
+use program_lines::{Hearer, InputLimits, heard_in};
 use program_report::Stop;
 use std::alloc::Global;
 use vault_exchange::Exchange;
@@ -22,7 +22,7 @@ pub const MOST_EVENTS: usize = 1_048_576;
 /// The most reads of event lines of a run.
 pub const MOST_EVENT_READS: u64 = 65_536;
 
-impl<E: Exchange> Hearer<E> for Agent {
+impl<E: Exchange> Hearer<E> for KeeperAgent {
     ghost Key = { listening.Asked };
 
     ghost State = { World };
@@ -63,7 +63,7 @@ impl<E: Exchange> Hearer<E> for Agent {
 /// with the new need of a line would be too long. `Write`: `out` failed. `Memory`.
 pub(crate) fn listen<R: Source, E: Exchange, W: Sink>(
     alloc: Global,
-    agent: &mut Agent,
+    agent: &mut KeeperAgent,
     events: &mut R,
     exchange: &mut E,
     out: &mut W,
@@ -74,7 +74,7 @@ pub(crate) fn listen<R: Source, E: Exchange, W: Sink>(
     ensures flushed { EndsBetweenLines result → IsTrue (W.seen out.new).output.is_flushed }
     ensures output { (R.seen events.new).output ≡ (R.seen events.old).output }
 {
-    let limits = Limits {
+    let limits = InputLimits {
         bytes: Some(MOST_EVENTS),
         reads: MOST_EVENT_READS,
     };

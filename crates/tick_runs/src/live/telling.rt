@@ -7,7 +7,7 @@ ghost use Rattle.tick_runs.specs.code.Playing.{RoundWaits, TakesAnswer};
 ghost use Rattle.tick_runs.specs.Stops.{both};
 ghost use Rattle.tick_runs.specs.code.Telling.{TellsOne, TellsRound};
 
-use crate::agent::Agent;
+use crate::agent::KeeperAgent;
 use crate::agent::answering::{answer, told_next};
 use base_device::{Sink, Watched};
 use base_moment::Moment;
@@ -20,7 +20,7 @@ use vault_exchange::Exchange;
 /// the next request; the moment of the next tick, if there is one.
 pub(crate) fn tell_round<E: Exchange, W: Sink>(
     alloc: Global,
-    agent: &mut Agent,
+    agent: &mut KeeperAgent,
     exchange: &mut E,
     t: Moment,
     asked: &[u32],
@@ -47,7 +47,7 @@ pub(crate) fn tell_round<E: Exchange, W: Sink>(
 /// flushed.
 fn tell_answer<E: Exchange, W: Sink>(
     alloc: Global,
-    agent: &mut Agent,
+    agent: &mut KeeperAgent,
     exchange: &mut E,
     t: Moment,
     i: u32,

@@ -6,7 +6,7 @@ ghost use Rattle.tick_runs.specs.Hearing.{IsBetweenEvents};
 ghost use Rattle.tick_runs.specs.code.Playing.{Finishes, LastPlays, MayCome, Plays};
 ghost use Rattle.tick_runs.specs.Stops.{both};
 
-use crate::agent::Agent;
+use crate::agent::KeeperAgent;
 use crate::agent::lines::push_done;
 use crate::rehearse::waking::{open, wake};
 use base_device::{Sink, Watched, write_all};
@@ -21,7 +21,7 @@ pub const MOST_WAKES: u64 = 100000;
 /// flushes them at the end.
 pub(crate) fn play<W: Sink>(
     alloc: Global,
-    agent: &mut Agent,
+    agent: &mut KeeperAgent,
     exchange: &mut MemoryExchange,
     start: u64,
     lines: &[u8],
@@ -52,7 +52,7 @@ pub(crate) fn play<W: Sink>(
 /// After the last wake-up that a run may have: its end, or that it would have another.
 fn last<W: Sink>(
     alloc: Global,
-    agent: &mut Agent,
+    agent: &mut KeeperAgent,
     due: u64,
     requests: u64,
     out: &mut W,

@@ -8,7 +8,7 @@ ghost use Rattle.tick_runs.specs.Hearing.{IsBetweenEvents};
 ghost use Rattle.tick_runs.specs.code.Playing.{AnswersAll, LeavesOpen, MayCome, OpensOrEnds, RoundWaits, RunWakes, asked_of_opened, next_in, requests_in};
 ghost use Rattle.tick_runs.specs.Stops.{both};
 
-use crate::agent::Agent;
+use crate::agent::KeeperAgent;
 use crate::agent::answering::{answer, told_next};
 use crate::agent::ticking::tick;
 use base_moment::Moment;
@@ -36,7 +36,7 @@ pub(crate) struct Woken {
 /// Goes on from a tick at `due` to the end of the first round from there; `None` where nothing is to be done any more.
 pub(crate) fn wake(
     alloc: Global,
-    agent: &mut Agent,
+    agent: &mut KeeperAgent,
     exchange: &mut MemoryExchange,
     due: u64,
     text: &mut Vec<u8>,
@@ -67,7 +67,7 @@ pub(crate) fn wake(
 /// The asked entries send their requests at `t`, one after another; the moment of the next tick, if there is one.
 fn round<E: Exchange>(
     alloc: Global,
-    agent: &mut Agent,
+    agent: &mut KeeperAgent,
     exchange: &mut E,
     t: Moment,
     asked: &[u32],
@@ -94,7 +94,7 @@ fn round<E: Exchange>(
 /// Tells the keeper the moments from `t` on, until it asks; `None` where it has nothing to do any more.
 pub(crate) fn open(
     alloc: Global,
-    agent: &mut Agent,
+    agent: &mut KeeperAgent,
     t: u64,
     text: &mut Vec<u8>,
 ) -> Result<Option<Opened>, Stop>

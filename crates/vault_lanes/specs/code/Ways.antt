@@ -14,7 +14,7 @@ use Rattle.vault_lanes.specs.declared.allowance.Allowance.{Allowance}
 use Rattle.vault_lanes.specs.declared.lane.Lane.{Lane}
 use Rattle.vault_lanes.specs.declared.lanes.Answered.{Answered}
 use Rattle.vault_lanes.specs.declared.seats.Seat.{Seat}
-use Rattle.vault_lanes.specs.declared.stage.Stage.TheVariants.{Connecting}
+use Rattle.vault_lanes.specs.declared.stage.RequestStage.TheVariants.{Connecting}
 use Rattle.vault_lanes.specs.declared.way.Way.{Way}
 use Rattle.vault_lanes.specs.declared.way.Way.TheVariants.{Out, Over}
 use Rattle.vault_http.specs.Written.{request_text}

@@ -6,9 +6,9 @@ use Rattle.std.specs.List.{All, IsDistinct, list_any, range_with_len}
 use Rattle.plan_forest.specs.declared.entry.Entry.{Entry}
 use Rattle.plan_forest.specs.Forest.{Forest, entry_at}
 use Rattle.watch_machine.specs.declared.clocks.Clocks.{Clocks}
-use Rattle.watch_machine.specs.declared.command.Command.TheVariants.{Go}
-use Rattle.watch_machine.specs.declared.command.Output.{Output}
-use Rattle.watch_machine.specs.declared.command.Request.{Request}
+use Rattle.watch_machine.specs.declared.command.WatchCommand.TheVariants.{Go}
+use Rattle.watch_machine.specs.declared.command.WatchOutput.{WatchOutput}
+use Rattle.watch_machine.specs.declared.command.WatchRequest.{WatchRequest}
 use Rattle.watch_machine.specs.declared.lanes.Presence.{Presence}
 use Rattle.watch_machine.specs.declared.line.Line.{Line}
 use Rattle.watch_machine.specs.declared.lull.TheConstants.{NEVER}
@@ -114,16 +114,16 @@ pub record IsPlain (before after : Track) : Type 0 where
   pub idle : after.attempt ≡ None
 
 -- the requests of the first n of some places
-abbrev pub requests_of : Presence → ℕ → List Track → ℕ → List Place → List Request
+abbrev pub requests_of : Presence → ℕ → List Track → ℕ → List Place → List WatchRequest
 requests_of p now xs n qs = map (λ (q : Place). request p now xs (place_is q)) (take n qs)
 
 -- all that are due stand in this line, and these are the requests of its front
-pub record IsFrontOf (g : Forest) (p : Presence) (at : ℕ) (xs : List Track) (rs : List Request) (qs : List Place) : Type 0 where
+pub record IsFrontOf (g : Forest) (p : Presence) (at : ℕ) (xs : List Track) (rs : List WatchRequest) (qs : List Place) : Type 0 where
   pub order : IsSendingOrder g p at xs (map place_is qs)
   pub front : rs ≡ requests_of p (sec at) xs (length rs) qs
 
 -- the tracks after these have gone out
-abbrev pub sent_on : ℕ → List Request → List Track → List Track
+abbrev pub sent_on : ℕ → List WatchRequest → List Track → List Track
 sent_on at requests xs = each (sent_in at requests) xs
 
 -- at a clock that shows c nothing is to be done of the entries but that those who wait go out, and so it waits
@@ -135,13 +135,13 @@ pub record IsRoundClock (s : WatchState) (line : Line) (c : Clocks) (stepped jum
   pub pressed : pressed_alone s.forest c s.tracks ≡ s.tracks
   pub order : (pace : ℕ) → IsSendingOrder s.forest (paced_by pace s) c.at s.tracks (map place_is (rest_of line))
   pub together : is_partial (sec c.at) s.tracks ≡ false
-  pub waits : (pace n : ℕ) (rs : List Request) → rs ≡ requests_of (paced_by pace s) (sec c.at) s.tracks n (rest_of line) →
+  pub waits : (pace n : ℕ) (rs : List WatchRequest) → rs ≡ requests_of (paced_by pace s) (sec c.at) s.tracks n (rest_of line) →
       until ≡ wait_by s.forest c (paced_by pace s) (sent_on c.at rs s.tracks) (need_of s.forest.entries s.tracks c)
-  pub kept : (pace n : ℕ) (rs : List Request) → rs ≡ requests_of (paced_by pace s) (sec c.at) s.tracks n (rest_of line) →
+  pub kept : (pace n : ℕ) (rs : List WatchRequest) → rs ≡ requests_of (paced_by pace s) (sec c.at) s.tracks n (rest_of line) →
       IsLine s.forest (sent_on c.at rs s.tracks) (calm s.presence) (moved line n)
 
 -- the state after such a clock, at which these go out
-abbrev pub served : WatchState → Clocks → Bool → List Request → WatchState
+abbrev pub served : WatchState → Clocks → Bool → List WatchRequest → WatchState
 served s c stepped requests = record s {
   clocks = c;
   presence = paced_by (pace_after c.at s.presence.pace s.answers) s;
@@ -152,8 +152,8 @@ served s c stepped requests = record s {
 }
 
 -- as many have gone out of this line as lanes are free
-pub record IsServed (s : WatchState) (line : Line) (c : Clocks) (stepped : Bool) (until : ℕ) (output : Output) (new : WatchState) : Type 0 where
-  pub requests : List Request
+pub record IsServed (s : WatchState) (line : Line) (c : Clocks) (stepped : Bool) (until : ℕ) (output : WatchOutput) (new : WatchState) : Type 0 where
+  pub requests : List WatchRequest
   pub front : requests ≡ requests_of (paced_by (pace_after c.at s.presence.pace s.answers) s) (sec c.at) s.tracks (s.width - length s.out) (rest_of line)
   pub output_is : output ≡ record { command = Go requests until; notes = nothing_noted }
   pub state : new ≡ served s c stepped requests

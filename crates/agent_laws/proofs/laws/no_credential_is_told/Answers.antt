@@ -1,6 +1,6 @@
 -- The words of a fault take no credential.
 use Rattle.std.proofs.Common.{◌≡◌, List, ℕ, refl}
-use Rattle.state_changes.specs.declared.change.What.{What}
+use Rattle.state_changes.specs.declared.change.ChangeKind.{ChangeKind}
 use Rattle.state_notes.proofs.Secrecy.{why_shows_none}
 use Rattle.state_notes.specs.Laws.{IsSameBut}
 use Rattle.state_store.specs.declared.fault.TakeFault.{TakeFault}
@@ -9,7 +9,7 @@ use Rattle.agent_ledger.specs.Reasons.{take_words}
 use Rattle.agent_laws.proofs.Alike.{end_alike, keeps_alike, replaced_alike}
 use Rattle.agent_laws.proofs.laws.no_credential_is_told.Goals as goal
 
-refused : (margin : ℕ) (name : List ℕ) (w v : What) (fault : TakeFault) → IsSameBut w v → take_words margin name w fault ≡ take_words margin name v fault
+refused : (margin : ℕ) (name : List ℕ) (w v : ChangeKind) (fault : TakeFault) → IsSameBut w v → take_words margin name w fault ≡ take_words margin name v fault
 refused margin name w v (takes.Refused fault) h = why_shows_none margin name w v fault h
 refused margin name w v _ h = refl
 

@@ -3,7 +3,7 @@ use Rattle.std.proofs.Common.{◌≡◌, ◌+◌, [], arith, drop, get_or, refl,
 use Rattle.std.proofs.lemmas.Grind.{common_steps}
 use Rattle.std.proofs.lemmas.List.{drop_more}
 use Rattle.watch_machine.specs.declared.command.Patience.TheVariants.{Full}
-use Rattle.watch_machine.specs.declared.command.Request.{Request}
+use Rattle.watch_machine.specs.declared.command.WatchRequest.{WatchRequest}
 use Rattle.watch_machine.specs.declared.event.Operation.TheVariants.{Look}
 use Rattle.agent_log.specs.LinesBehind.{steps_in_line, steps_in_lines}
 use Rattle.agent_log.specs.Lines.{AreSaid}
@@ -11,7 +11,7 @@ use Rattle.agent_log.proofs.Said.{both_said}
 use Rattle.agent_log.proofs.log_behind.say_steps.Goals as goal
 
 -- what stands in a list past its last request
-abbrev none_asked : Request
+abbrev none_asked : WatchRequest
 none_asked = record { entry = 0; operation = Look; patience = Full }
 
 pub loop-request-preserved : goal.loop-request-preserved
@@ -21,7 +21,7 @@ loop-request-preserved c last said =
     let ms = c.args.marks.now in
     let rs = c.args.requests.now in
     let at = c.loop-request.request-index in
-    let r : Request = get_or rs at none_asked in
+    let r : WatchRequest = get_or rs at none_asked in
     let form = c.args.pen.now.form in
     let moment = c.args.pen.now.moment in
     c.loop-request.invariant last

@@ -2,7 +2,7 @@
 -- entries that are named.
 use Rattle.std.proofs.Common.{◌∙◌, ℕ, List, [], ap, map}
 use Rattle.agent_standing.specs.Agent.{Agent}
-use Rattle.agent_standing.specs.declared.standing.Standing.{Standing}
+use Rattle.agent_standing.specs.declared.standing.EntryStanding.{EntryStanding}
 use Rattle.plan_forest.specs.Forest.{Forest}
 use Rattle.watch_machine.specs.Outlook.{broker_now}
 use Rattle.watch_machine.specs.State.{WatchState}
@@ -15,7 +15,7 @@ use Rattle.agent_pages.proofs.laws.no_credential_shows.Goals as goal
 pub returns : goal.returns
 unfolding rows_of served_rows row_of
 returns c = λ a b s t machine forest standings beginnings around named.
-    let shown : WatchState → Forest → List Standing → ℕ → Surroundings → List Named → Board =
+    let shown : WatchState → Forest → List EntryStanding → ℕ → Surroundings → List Named → Board =
     λ m f xs n u ns. let g : Agent = record { machine = m; inventory = record { forest = f; credentials = []; terms = [] }; standings = xs; beginnings = n } in
     record { surroundings = u; broker_now = broker_now m; beginnings = n; margin = f.margin; rows = rows_of g ns } in
     ap (λ m. shown m a.inventory.forest a.standings a.beginnings s.surroundings (map named_by s.named)) machine

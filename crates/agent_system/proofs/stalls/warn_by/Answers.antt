@@ -4,14 +4,14 @@ use Rattle.std.specs.declared.alloc.AllocError.{AllocError}
 use Rattle.state_secrets.specs.Stamps.{FileCall, Made, Stamped}
 use Rattle.state_secrets.specs.declared.secret_files.FileStamp.{FileStamp}
 use Rattle.agent_system.specs.Stalls.{WarnsBy, WarnsOfEnds, log_warning}
-use Rattle.agent_words.specs.declared.said.Said.{Said}
+use Rattle.agent_words.specs.declared.said.SaidLine.{SaidLine}
 use Rattle.agent_system.proofs.stalls.warn_by.Goals as goal
 
 warned :
-    {I : Type 0} (calls : I → Option (List FileCall)) (mounts : List ℕ) (ends : Option (List ℕ)) (stamp : Option FileStamp) (before mid after : I) (old logged new : List Said)
+    {I : Type 0} (calls : I → Option (List FileCall)) (mounts : List ℕ) (ends : Option (List ℕ)) (stamp : Option FileStamp) (before mid after : I) (old logged new : List SaidLine)
     (result : Result (Unit {0}) AllocError) → Made (Stamped (codes "/proc/self/fd/1") stamp) (calls before) (calls mid) → logged ≡ old ++ log_warning mounts stamp
     → OnOk result (WarnsOfEnds calls mounts ends mid after logged new) → OnOk result (WarnsBy calls (Ok mounts) ends before after old new)
-warned calls mounts ends stamp before mid after old logged new (Ok x) made logs warns = (stamp, (mid, (made, subst (λ (l : List Said). WarnsOfEnds calls mounts ends mid after l new) logs warns)))
+warned calls mounts ends stamp before mid after old logged new (Ok x) made logs warns = (stamp, (mid, (made, subst (λ (l : List SaidLine). WarnsOfEnds calls mounts ends mid after l new) logs warns)))
 warned calls mounts ends stamp before mid after old logged new (Err e) made logs warns = tt
 
 pub returns : goal.returns

@@ -5,7 +5,7 @@ use Rattle.vault_lanes.specs.Failing.{FailsMore}
 use Rattle.vault_lanes.specs.Lanes.{AreWaitedFor, Came, to_come}
 use Rattle.vault_lanes.specs.Stages.{reads_with}
 use Rattle.vault_lanes.specs.code.Courses.{came_by, is_unjudged}
-use Rattle.vault_lanes.specs.declared.stage.Stage.TheVariants.{Connecting}
+use Rattle.vault_lanes.specs.declared.stage.RequestStage.TheVariants.{Connecting}
 use Rattle.vault_lanes.proofs.Judged.{IsStill}
 use Rattle.vault_lanes.proofs.lane.read_on.Given as goal
 

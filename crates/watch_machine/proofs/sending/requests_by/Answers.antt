@@ -1,7 +1,7 @@
 -- Each place's request is made after those before it.
 use Rattle.std.proofs.Common.{◌≡◌, ◌∙◌, ◌<◌, ◌++◌, ◌∷◌, [], Bool, List, ap, arith, get_or, length, map, sym, take}
 use Rattle.std.proofs.lemmas.List.{map_more, take_all}
-use Rattle.watch_machine.specs.declared.command.Request.{Request}
+use Rattle.watch_machine.specs.declared.command.WatchRequest.{WatchRequest}
 use Rattle.watch_machine.specs.declared.lanes.Presence.{Presence}
 use Rattle.watch_machine.specs.declared.sending.Place.{Place}
 use Rattle.watch_machine.specs.declared.track.Track.{Track}
@@ -21,7 +21,7 @@ loop-place-preserved c =
     let xs = c.args.tracks.now in
     let picked = c.args.picked.now in
     let k = c.loop-place.place-index in
-    let f : Place → Request = λ q. request_of p.away c.args.partial p.pace q.entry (track_in xs q.entry).attempt in
+    let f : Place → WatchRequest = λ q. request_of p.away c.args.partial p.pace q.entry (track_in xs q.entry).attempt in
     let within : k < length picked = omega arith in
     c.in_ok-push.ensures.items ∙ ap (λ rs. rs ++ c.request_of.result ∷ []) c.loop-place.invariant
     ∙ ap (λ r. map f (take k picked) ++ r ∷ []) (c.request_of.ensures ∙ request_at p c.args.partial xs (get_or picked k _) _ c.track_in-track.ensures)
@@ -31,5 +31,5 @@ pub returns : goal.returns
 returns c =
     let p = c.args.presence in
     let xs = c.args.tracks.now in
-    let f : Place → Request = λ q. request_of p.away c.args.partial p.pace q.entry (track_in xs q.entry).attempt in
+    let f : Place → WatchRequest = λ q. request_of p.away c.args.partial p.pace q.entry (track_in xs q.entry).attempt in
     c.loop-place.invariant ∙ ap (map f) (take_all c.loop-place.place-index c.args.picked.now (omega arith))

@@ -1,6 +1,6 @@
 -- Those whose requests are before the index go out.
 use Rattle.std.specs.List.{All}
-use Rattle.watch_machine.specs.declared.command.Request.{Request}
+use Rattle.watch_machine.specs.declared.command.WatchRequest.{WatchRequest}
 use Rattle.watch_machine.specs.Sending.{sent_track}
 use Rattle.watch_machine.specs.code.Bounds.{IsTrack}
 use Rattle.watch_machine.proofs.Marked.{Marked}
@@ -8,6 +8,6 @@ use Rattle.watch_machine.proofs.sending.send_all.Given as goal
 
 abbrev pub invariant-loop-request : goal.invariant-loop-request
 invariant-loop-request l = record {
-  marked : Marked (λ (r : Request). r.entry) (λ i. sent_track l.at) l.initial.tracks l.tracks l.requests l.request-index;
+  marked : Marked (λ (r : WatchRequest). r.entry) (λ i. sent_track l.at) l.initial.tracks l.tracks l.requests l.request-index;
   bounds : All IsTrack l.tracks;
 }

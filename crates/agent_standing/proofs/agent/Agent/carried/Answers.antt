@@ -4,14 +4,14 @@ use Rattle.std.proofs.lemmas.List.Elements.{All-push}
 use Rattle.std.proofs.lemmas.List.FromFn.{map-range_with_len_more}
 use Rattle.std.specs.List.{All, range_with_len}
 use Rattle.plan_forest.specs.Forest.{Forest}
-use Rattle.agent_standing.specs.declared.standing.Standing.{Standing}
+use Rattle.agent_standing.specs.declared.standing.EntryStanding.{EntryStanding}
 use Rattle.agent_standing.specs.Agent.{IsStanding}
 use Rattle.agent_standing.specs.Changed.{carried_standing}
 use Rattle.agent_standing.proofs.agent.Agent.carried.Goals as goal
 
 pub loop-index-preserved : goal.loop-index-preserved
 loop-index-preserved c =
-    let f : ℕ → Standing = carried_standing c.args.self.now c.args.inventory.now in
+    let f : ℕ → EntryStanding = carried_standing c.args.self.now c.args.inventory.now in
     let k = c.loop-index.index in
     record {
       is =
@@ -22,6 +22,6 @@ loop-index-preserved c =
 
 pub returns-clause-value : goal.returns-clause-value
 returns-clause-value c =
-    let f : ℕ → Standing = carried_standing c.args.self.now c.args.inventory.now in
+    let f : ℕ → EntryStanding = carried_standing c.args.self.now c.args.inventory.now in
     let count : c.len-index-end.result ≡ length c.args.inventory.now.forest.entries = c.len-index-end.ensures.value ∙ ap (λ (g : Forest). length g.entries) c.forest.ensures.value in
     c.loop-index.invariant.is ∙ ap (λ n. map f (range_with_len 0 n)) (let e : c.loop-index.index ≡ length c.args.inventory.now.forest.entries = omega (arith, count) in e)

@@ -2,7 +2,7 @@
 use Rattle.std.proofs.Common.{◌≡◌, ◌∙◌, List, ap, length, replicate, subst, sym}
 use Rattle.plan_forest.specs.Forest.{Forest}
 use Rattle.watch_machine.specs.State.{WatchState, opened}
-use Rattle.agent_standing.specs.declared.standing.Standing.{Standing}
+use Rattle.agent_standing.specs.declared.standing.EntryStanding.{EntryStanding}
 use Rattle.agent_standing.specs.Agent.{IsAgent}
 use Rattle.agent_standing.specs.Standings.{fresh_standing}
 use Rattle.agent_standing.proofs.Fresh.{fresh_is_agent}
@@ -16,4 +16,4 @@ invariant_of-result c =
     let standings : c.in_ok-standings.standings.items ≡ replicate (length s.forest.entries) fresh_standing =
     c.in_ok-standings.ensures ∙ ap (λ n. replicate n fresh_standing) (c.len.ensures.value ∙ ap (λ (g : Forest). length g.entries) forest) in
     subst (λ (m : WatchState). IsAgent (record { machine = m; inventory = s; standings = c.in_ok-standings.standings.items; beginnings = 0 })) (sym machine)
-    (subst (λ (xs : List Standing). IsAgent (record { machine = opened s.forest c.args.width; inventory = s; standings = xs; beginnings = 0 })) (sym standings) (fresh_is_agent s c.args.width))
+    (subst (λ (xs : List EntryStanding). IsAgent (record { machine = opened s.forest c.args.width; inventory = s; standings = xs; beginnings = 0 })) (sym standings) (fresh_is_agent s c.args.width))

@@ -1,6 +1,6 @@
 -- One end more is handed in.
 use Rattle.std.proofs.Common.{◌∙◌, ap}
-use Rattle.watch_machine.specs.declared.event.Event.TheVariants.{Clock}
+use Rattle.watch_machine.specs.declared.event.WatchEvent.TheVariants.{Clock}
 use Rattle.agent_turns.specs.Held.{Held}
 use Rattle.agent_turns.proofs.Resumed.{resumed_on}
 use Rattle.agent_turns.proofs.serving.Serving.hand_all_known.Goals as goal

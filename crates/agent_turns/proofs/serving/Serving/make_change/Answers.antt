@@ -4,7 +4,7 @@ use Rattle.agent_standing.specs.Agent.{Agent}
 use Rattle.agent_turns.specs.Changes.{AllGiven}
 use Rattle.agent_turns.specs.Held.{Held}
 use Rattle.agent_turns.specs.Neighbours.{Give, Settle}
-use Rattle.agent_turns.specs.declared.change.Change.{Change}
+use Rattle.agent_turns.specs.declared.change.AgentChange.{AgentChange}
 use Rattle.agent_turns.proofs.Called.{called_once, called_twice}
 use Rattle.agent_turns.proofs.serving.Serving.make_change.Goals as goal
 
@@ -13,7 +13,7 @@ returns-clause-made g c =
     let change = c.in-Some.change in
     let is_made = c.make-is_made.result in
     let given : AllGiven (change ∷ []) (g.N.Neighbours.given c.args.neighbours.now) (g.N.Neighbours.given c.settle.new.self) =
-    subst (λ (x : Option (List Change)). AllGiven (change ∷ []) (g.N.Neighbours.given c.args.neighbours.now) x) (sym c.settle.ensures.given) c.in-Some.ensures.given in (
+    subst (λ (x : Option (List AgentChange)). AllGiven (change ∷ []) (g.N.Neighbours.given c.args.neighbours.now) x) (sym c.settle.ensures.given) c.in-Some.ensures.given in (
       Some (record { change = change; is_made = is_made }),
       (
         c.make-is_made.ensures.made,

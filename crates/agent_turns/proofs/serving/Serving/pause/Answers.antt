@@ -7,7 +7,7 @@ use Rattle.agent_turns.specs.Changes.{AllGiven}
 use Rattle.agent_turns.specs.Held.{Held, ServingSide, serving_side}
 use Rattle.agent_turns.specs.Neighbours.{Give, GoOn}
 use Rattle.agent_turns.specs.code.Pauses.{IsEnded, IsPausedApart}
-use Rattle.agent_turns.specs.declared.change.Change.{Change}
+use Rattle.agent_turns.specs.declared.change.AgentChange.{AgentChange}
 use Rattle.agent_turns.proofs.Waited.{ended_changed, ended_over, given_once, paused_with, paused_without}
 use Rattle.agent_turns.proofs.serving.Serving.pause.Goals as goal
 
@@ -24,7 +24,7 @@ returns-in_default-clause-pauses g c =
     let s : ServingSide = serving_side c.args.self.now lanes in
     subst (λ (r : Option Reading). IsPausedApart g.N.Neighbours.does c.args.until r c.pause_by.result c.args.shown.now.agent c.take.new.self.agent s s (g.N.Neighbours.given c.args.neighbours.now) (g.N.Neighbours.given c.change.new.self) c.args.neighbours.now c.change.new.self) (sym c.in_ok-reading.was)
     (paused_without g.N.Neighbours.does c.args.until c.pause_by.result c.go_on-is_busy.result c.in_ok-reading.reading c.args.shown.now.agent c.take.new.self.agent s _ _ _ c.go_on-is_busy.new.self _ c.if-reading-until.false c.pause_by.ensures c.take.ensures.turned (subst (λ (a : Agent). g.N.Neighbours.does (GoOn a c.in_ok-reading.reading c.go_on-is_busy.result) c.args.neighbours.now c.go_on-is_busy.new.self) (ap (λ (h : Held). h.agent) c.shown.view_is) c.go_on-is_busy.ensures.does) (subst (λ (a : Agent). g.N.Neighbours.does (Give a c.in_ok-reading.reading None) c.go_on-is_busy.new.self c.change.new.self) (ap (λ (h : Held). h.agent) c.shown.view_is) c.in_default.ensures.does)
-    (subst (λ (x : Option (List Change)). AllGiven [] x (g.N.Neighbours.given c.change.new.self)) c.go_on-is_busy.ensures.given c.in_default.ensures.given))
+    (subst (λ (x : Option (List AgentChange)). AllGiven [] x (g.N.Neighbours.given c.change.new.self)) c.go_on-is_busy.ensures.given c.in_default.ensures.given))
 
 pub returns-then-goes_on-clause-pauses : goal.returns-then-goes_on-clause-pauses
 returns-then-goes_on-clause-pauses g c =

@@ -2,8 +2,8 @@
 use Rattle.std.proofs.Common.{◌∙◌, IfSome, List, Ok, ap, subst, sym}
 use Rattle.agent_standing.specs.Agent.{Agent}
 use Rattle.agent_standing.specs.Turns.{AgentTurn}
-use Rattle.watch_machine.specs.declared.command.Request.{Request}
-use Rattle.watch_machine.specs.declared.event.Event.TheVariants.{Clock}
+use Rattle.watch_machine.specs.declared.command.WatchRequest.{WatchRequest}
+use Rattle.watch_machine.specs.declared.event.WatchEvent.TheVariants.{Clock}
 use Rattle.agent_turns.specs.Held.{Held}
 use Rattle.agent_turns.specs.Neighbours.{Hear, Time}
 use Rattle.agent_turns.specs.Outlook.{IsOutlook}
@@ -20,4 +20,4 @@ returns-clause-reads g c =
     (subst (λ (a : Agent). AgentTurn c.args.self.now.agent (Clock c.args.reading.wall c.args.reading.elapsed) (Ok c.in-Ok.output) a) (sym c.outlook.ensures.unchanged)
     (subst (λ (a : Agent). AgentTurn a (Clock c.args.reading.wall c.args.reading.elapsed) (Ok c.in-Ok.output) c.turn.new.self) (ap (λ (h : Held). h.agent) c.self.view_is) c.in-Ok.ensures.turn))
     (subst (λ (a : Agent). IfSome c.outlook.result (IsOutlook a.machine)) (sym c.outlook.ensures.unchanged) c.outlook.ensures.next) made c.say_shorts.ensures.rest
-    (subst (λ (rs : List Request). g.N.Neighbours.does (Hear mid (Time c.in-Ok.output.notes rs c.outlook.result)) c.args.neighbours.now c.hear.new.self) c.list.ensures c.hear.ensures.does) c.say_shorts.ensures.said
+    (subst (λ (rs : List WatchRequest). g.N.Neighbours.does (Hear mid (Time c.in-Ok.output.notes rs c.outlook.result)) c.args.neighbours.now c.hear.new.self) c.list.ensures c.hear.ensures.does) c.say_shorts.ensures.said

@@ -5,7 +5,7 @@ use Rattle.vault_asking.specs.Handing.{out_of}
 use Rattle.vault_asking.specs.Told.{event_as, said_to}
 use Rattle.vault_asking.specs.declared.told.Said.{Said}
 use Rattle.vault_lanes.specs.declared.lanes.Answered.{Answered}
-use Rattle.watch_machine.specs.declared.command.Output.{Output}
+use Rattle.watch_machine.specs.declared.command.WatchOutput.{WatchOutput}
 use Rattle.watch_machine.specs.declared.lanes.Out.{Out}
 use Rattle.agent_turns.specs.Held.{Held}
 use Rattle.agent_turns.proofs.InStep.{first_out}
@@ -29,7 +29,7 @@ returns-clause-taken g c =
     let a : Answered = c.index-answered.result.now in
     let request : Out = c.request_of-request.result in
     let said : Said = c.in_ok-said.said in
-    let output : Output = c.in-Ok.output in
+    let output : WatchOutput = c.in-Ok.output in
     let first : old.pending ≡ a ∷ new.pending = search rules in
     let is_out : out_of old.agent.machine.out a.index ≡ Some request = search rules in
     let said_is : said ≡ said_to old.agent.inventory request.operation a.index a.answer = search rules in

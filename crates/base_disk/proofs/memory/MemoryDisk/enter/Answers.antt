@@ -1,13 +1,13 @@
 use Rattle.std.proofs.Common.{sym, ◌∙◌, subst, Bool, true, false, if◌then◌else◌, Ok, Err}
 use Rattle.base_disk.specs.Memory.{HasEntered, EntersCall, is_turn}
-use Rattle.base_disk.specs.declared.call.What.{What}
-use Rattle.base_disk.specs.declared.fault.Why.{Why}
+use Rattle.base_disk.specs.declared.call.CallMade.{CallMade}
+use Rattle.base_disk.specs.declared.fault.DiskTrouble.{DiskTrouble}
 use Rattle.base_disk.specs.declared.fault.DiskFault.TheVariants as faults
 use Rattle.base_disk.specs.declared.memory.MemoryDisk.{MemoryDisk}
 use Rattle.base_disk.proofs.memory.MemoryDisk.enter.Goals as goal
 
 -- a call that fails is entered too
-either_way : {path : _} {asked : What} {m n : MemoryDisk} (b : Bool) (why : Why) → HasEntered path asked m n → EntersCall path asked m n (if b then Err (faults.Failed why) else Ok tt)
+either_way : {path : _} {asked : CallMade} {m n : MemoryDisk} (b : Bool) (why : DiskTrouble) → HasEntered path asked m n → EntersCall path asked m n (if b then Err (faults.Failed why) else Ok tt)
 either_way true why h = h
 either_way false why h = h
 

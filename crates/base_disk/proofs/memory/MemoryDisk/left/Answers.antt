@@ -6,7 +6,7 @@ use Rattle.base_disk.specs.State.{DiskState}
 use Rattle.base_disk.specs.History.{file_after, sound_after, state_after_call, state_after_calls}
 use Rattle.base_disk.specs.Memory.{at_first, image_of, kept_of, held_file}
 use Rattle.base_disk.specs.Left.{PathIsFollowed}
-use Rattle.base_disk.specs.declared.call.Call.{Call}
+use Rattle.base_disk.specs.declared.call.DiskCall.{DiskCall}
 use Rattle.base_disk.proofs.Left.{state_more, followed_here, followed_past, elsewhere, not_elsewhere}
 use Rattle.base_disk.proofs.memory.MemoryDisk.left.Goals as goal
 
@@ -17,7 +17,7 @@ loop-call-preserved-then-is_elsewhere c =
     let first = at_first (image_of m.files.items) (kept_of m.files.items m.kept) m.fault in
     let call = c.call-item.result in
     let k = c.loop-call.call-index in
-    let long : length c.deref-call-items.result.now ≡ length m.calls.items = ap (λ (l : List Call). length l) c.deref-call-items.ensures.value in
+    let long : length c.deref-call-items.result.now ≡ length m.calls.items = ap (λ (l : List DiskCall). length l) c.deref-call-items.ensures.value in
     let below : k < length m.calls.items = omega (arith, c.loop-call-test.true, long) in
     let item : call ≡ get_or m.calls.items k call = cc (c.deref-call-items.ensures.value, c.call-item.is) in
     subst (λ (t : DiskState). PathIsFollowed path (held_file c.loop-call.seen) (held_file c.loop-call.left) c.loop-call.sound t) (sym (state_more m.calls.items k call first below item))
@@ -31,7 +31,7 @@ loop-call-preserved c =
     let first = at_first (image_of m.files.items) (kept_of m.files.items m.kept) m.fault in
     let call = c.call-item.result in
     let k = c.loop-call.call-index in
-    let long : length c.deref-call-items.result.now ≡ length m.calls.items = ap (λ (l : List Call). length l) c.deref-call-items.ensures.value in
+    let long : length c.deref-call-items.result.now ≡ length m.calls.items = ap (λ (l : List DiskCall). length l) c.deref-call-items.ensures.value in
     let below : k < length m.calls.items = omega (arith, c.loop-call-test.true, long) in
     let item : call ≡ get_or m.calls.items k call = cc (c.deref-call-items.ensures.value, c.call-item.is) in
     let mid = state_after_calls (take k m.calls.items) first in

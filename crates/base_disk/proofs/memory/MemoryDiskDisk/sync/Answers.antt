@@ -1,6 +1,6 @@
 use Rattle.std.proofs.Common.{◌∙◌, ap, not}
 use Rattle.std.proofs.lemmas.Result.{on_ok_weaker}
-use Rattle.base_disk.specs.declared.call.What.TheVariants as what
+use Rattle.base_disk.specs.declared.call.CallMade.TheVariants as what
 use Rattle.base_disk.proofs.Runs.{touches, elapses, at_ok, synced, sync_crash, sync_seen}
 use Rattle.base_disk.proofs.memory.MemoryDiskDisk.sync.Goals as goal
 

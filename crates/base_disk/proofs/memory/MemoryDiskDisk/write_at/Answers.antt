@@ -4,7 +4,7 @@ use Rattle.base_disk.specs.Image.{image_changed, with_bytes, overwritten}
 use Rattle.base_disk.specs.Torn.{Torn, Tears}
 use Rattle.base_disk.specs.State.{OutcomesFollow}
 use Rattle.base_disk.specs.Memory.{memory_state}
-use Rattle.base_disk.specs.declared.call.What.TheVariants as what
+use Rattle.base_disk.specs.declared.call.CallMade.TheVariants as what
 use Rattle.base_disk.proofs.Runs.{touches, elapses, at_ok, wrote, write_crash}
 use Rattle.base_disk.proofs.memory.MemoryDiskDisk.write_at.Goals as goal
 

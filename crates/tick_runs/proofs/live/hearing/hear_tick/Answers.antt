@@ -7,7 +7,7 @@ use Rattle.program_report.specs.declared.stop.Stop.TheVariants as stops
 use Rattle.program_report.specs.Sent.{IsAll, SendsText}
 use Rattle.tick_runs.specs.code.Telling.{IsSentWhole}
 use Rattle.tick_runs.specs.Hearing.{HearsTo, next_tick_line}
-use Rattle.program_lines.specs.declared.event_line.Heard.TheVariants as heards
+use Rattle.program_lines.specs.declared.event_line.HeardLine.TheVariants as heards
 use Rattle.tick_runs.specs.Stops.{both}
 use Rattle.tick_runs.specs.code.Telling.{TellsRound}
 use Rattle.program_lines.specs.Hearing.{joined_changes}

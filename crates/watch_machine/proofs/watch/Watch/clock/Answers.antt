@@ -1,6 +1,6 @@
 -- A clock at which nothing is to be done is a step of the definitions, and so is one at which all entries are gone through.
 use Rattle.std.proofs.Common.{subst, sym}
-use Rattle.watch_machine.specs.declared.command.Output.{Output}
+use Rattle.watch_machine.specs.declared.command.WatchOutput.{WatchOutput}
 use Rattle.watch_machine.specs.State.{WatchState}
 use Rattle.watch_machine.specs.Step.{StepClock}
 use Rattle.watch_machine.specs.code.Line.{IsRoundClock, IsServed}
@@ -17,7 +17,7 @@ returns-in-Some-clause-step c =
     let wall = c.args.wall in
     let elapsed = c.args.elapsed in
     subst (λ (n : WatchState). StepClock s wall elapsed c.quiet_clock.result n) (sym c.quiet_clock.ensures.state)
-    (subst (λ (o : Output). StepClock s wall elapsed o (quieted s t.clocks t.stepped)) (sym c.quiet_clock.ensures.output)
+    (subst (λ (o : WatchOutput). StepClock s wall elapsed o (quieted s t.clocks t.stepped)) (sym c.quiet_clock.ensures.output)
     (quiet_step s wall elapsed t.clocks t.stepped t.jumped c.in-Some.until c.timed-timed.ensures.clocks c.timed-timed.ensures.stepped c.timed-timed.ensures.jumped c.in-Some.ensures))
 
 pub returns-in-Some-round_until-clause-step : goal.returns-in-Some-round_until-clause-step

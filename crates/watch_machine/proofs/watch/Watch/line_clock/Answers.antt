@@ -1,9 +1,9 @@
 -- Those in front go out, and the line is kept.
 use Rattle.std.proofs.Common.{◌≡◌, ◌∙◌, ◌-◌, ◌++◌, ℕ, List, [], ap, arith, drop, length, map, sym, subst, take}
 use Rattle.std.specs.List.{All}
-use Rattle.watch_machine.specs.declared.command.Command.TheVariants.{Go}
-use Rattle.watch_machine.specs.declared.command.Output.{Output}
-use Rattle.watch_machine.specs.declared.lanes.Answer.{Answer}
+use Rattle.watch_machine.specs.declared.command.WatchCommand.TheVariants.{Go}
+use Rattle.watch_machine.specs.declared.command.WatchOutput.{WatchOutput}
+use Rattle.watch_machine.specs.declared.lanes.LaneAnswer.{LaneAnswer}
 use Rattle.watch_machine.specs.declared.lanes.Out.{Out}
 use Rattle.watch_machine.specs.declared.track.Track.{Track}
 use Rattle.watch_machine.specs.Clocks.{sec}
@@ -54,7 +54,7 @@ out_are c =
     c.in_ok-out.ensures.value ∙ ap (λ os. os ++ map (out_at at) c.deref-4.result.now) c.deref-3.ensures.value
     ∙ ap (λ rs. c.self.inside.out.items ++ map (out_at at) rs) c.deref-4.ensures.value
 
-abbrev after : After-none → List Track → List Out → List Answer → ℕ → WatchState
+abbrev after : After-none → List Track → List Out → List LaneAnswer → ℕ → WatchState
 after c xs os as' pace = record (before c) {
   tracks = xs;
   out = os;
@@ -65,7 +65,7 @@ after c xs os as' pace = record (before c) {
 }
 
 -- what is given, and the tracks as they are written
-abbrev said : After-none → Output
+abbrev said : After-none → WatchOutput
 said c = record { command = Go c.in_ok-requests.requests.items c.args.until; notes = c.none.result }
 
 abbrev take_of : After-none → List Track
@@ -86,7 +86,7 @@ returns-clause-served c =
           ∙ ap (λ n. requests_of (paced_by n (before c)) (sec t.clocks.at) w.tracks.items (w.width - length w.out.items) (rest_of line)) (pace_is c);
       output_is = ap (λ n. record { command = Go rs c.args.until; notes = n }) c.none.ensures;
       state = ap (λ xs. after c xs c.in_ok-out.out.items c.clear.new.self.items pace) kept ∙ ap (λ os. after c (sent_on t.clocks.at rs w.tracks.items) os c.clear.new.self.items pace) (out_are c)
-          ∙ ap (λ (ys : List Answer). after c (sent_on t.clocks.at rs w.tracks.items) (w.out.items ++ map (out_at t.clocks.at) rs) ys pace) c.clear.ensures.items
+          ∙ ap (λ (ys : List LaneAnswer). after c (sent_on t.clocks.at rs w.tracks.items) (w.out.items ++ map (out_at t.clocks.at) rs) ys pace) c.clear.ensures.items
           ∙ ap (after c (sent_on t.clocks.at rs w.tracks.items) (w.out.items ++ map (out_at t.clocks.at) rs) []) (pace_is c);
     })
 

@@ -1,9 +1,9 @@
 -- The parts of a clock are together the step of the definitions.
 use Rattle.std.proofs.Common.{◌≡◌, ◌∙◌, ◌-◌, ◌++◌, IfSome, List, [], ap, drop, length, map, subst, sym}
 use Rattle.std.specs.List.{All}
-use Rattle.watch_machine.specs.declared.command.Command.TheVariants.{Go}
-use Rattle.watch_machine.specs.declared.command.Output.{Output}
-use Rattle.watch_machine.specs.declared.lanes.Answer.{Answer}
+use Rattle.watch_machine.specs.declared.command.WatchCommand.TheVariants.{Go}
+use Rattle.watch_machine.specs.declared.command.WatchOutput.{WatchOutput}
+use Rattle.watch_machine.specs.declared.lanes.LaneAnswer.{LaneAnswer}
 use Rattle.watch_machine.specs.declared.lanes.Out.{Out}
 use Rattle.watch_machine.specs.declared.notes.Notes.{Notes}
 use Rattle.watch_machine.specs.declared.track.Track.{Track}
@@ -148,7 +148,7 @@ waits c =
     ∙ sends c)
 
 -- what is left, and what is noted
-abbrev after : After-drop-needs-inside-3 → List Track → List Out → List Answer → WatchState
+abbrev after : After-drop-needs-inside-3 → List Track → List Out → List LaneAnswer → WatchState
 after c xs os as' =
     let w = c.self.inside in
     record {
@@ -172,10 +172,10 @@ leaves c =
     (thrice c.in_ok-tracks.tracks c.deref_mut.result.now c.begin.new.tracks c.deref_mut.ensures.value c.begin.auto.tracks c.press.new.tracks (pressed_count c) c.send_all.new.tracks (sent_count c)
     ∙ sends c)
     ∙ ap (λ os. noted_begun (after c (sent_of c) os c.clear.new.self.items) why) (out_are c)
-    ∙ ap (λ (ys : List Answer). noted_begun (after c (sent_of c) ((before c).out ++ map (out_at c.timed-timed.result.clocks.at) c.in_ok-requests.field-0.requests.items) ys) why) c.clear.ensures.items
+    ∙ ap (λ (ys : List LaneAnswer). noted_begun (after c (sent_of c) ((before c).out ++ map (out_at c.timed-timed.result.clocks.at) c.in_ok-requests.field-0.requests.items) ys) why) c.clear.ensures.items
 
 -- what is given
-abbrev said : After-drop-needs-inside-3 → Output
+abbrev said : After-drop-needs-inside-3 → WatchOutput
 said c = record { command = Go c.in_ok-requests.field-0.requests.items c.wait-until.result; notes = record c.none.result { began = c.reason-why.result; round = c.in_ok-round.round } }
 
 pub returns-clause-step : goal.returns-clause-step

@@ -1,6 +1,6 @@
 -- A step keeps the count of the entries.
 use Rattle.tick_runs.proofs.Agents.{fit_turned}
-use Rattle.tick_runs.proofs.agent.Agent.step.Goals as goal
+use Rattle.tick_runs.proofs.agent.KeeperAgent.step.Goals as goal
 
 pub invariant_of-self : goal.invariant_of-self
 invariant_of-self c =
