@@ -1,14 +1,9 @@
 -- Reading: what is wanted by a line, and by one that was not read. For `wanted_by_line` and `wanted_of`.
 use Rattle.std.proofs.Common.{◌≡◌, ◌≢◌, ◌∙◌, ℕ, List, Ok, Err, IfOk, Result, ap, refl, sym, take}
-use Rattle.agent_control.specs.Answer.{FailsWithRequestFault}
-use Rattle.agent_control.specs.Front.{IsLineFront}
-use Rattle.agent_control.specs.Requests.{request_in_line}
-use Rattle.agent_control.specs.declared.fault.RequestFault.{RequestFault}
+use Rattle.agent_control.specs.{Answer.FailsWithRequestFault, Front.IsLineFront, Requests.request_in_line, declared.fault.RequestFault.RequestFault, declared.request.ControlRequest.ControlRequest}
 use Rattle.agent_control.specs.declared.fault.RequestFault.TheVariants as faults
 use Rattle.agent_control.specs.declared.front.Front.TheVariants as fronts
-use Rattle.agent_control.specs.declared.request.ControlRequest.{ControlRequest}
-use Rattle.agent_answers.specs.Wanting.{ClientWants, wanted_if}
-use Rattle.agent_answers.specs.declared.wanted.Wanted.{Wanted}
+use Rattle.agent_answers.specs.{Wanting.ClientWants, Wanting.wanted_if, declared.wanted.Wanted.Wanted}
 use Rattle.agent_answers.specs.declared.wanted.Wanted.TheVariants as wanted
 use Rattle.agent_answers.specs.declared.wanted.ClientRefusal.TheVariants as whys
 

@@ -1,14 +1,12 @@
 -- The first of those whose line has ended is answered. For `reply_to_one`.
-use Rattle.std.proofs.Common.{◌≡◌, ℕ, ◌/◌, List, Bool, true, false, Option, Some, None, inl, inr, subst, sym}
+use Rattle.std.proofs.Common.{◌≡◌, ℕ, ◌/◌, List, Bool, true, Option, Some, None, inl, subst, sym}
 use Rattle.agent_standing.specs.Agent.{Agent}
 use Rattle.base_clients.specs.declared.guest.Guest.{Guest}
 use Rattle.base_clients.specs.Tables.{AnswersFirst, BecomesAt, GuestTable, first_asked, request_asked_at}
 use Rattle.base_clock.specs.declared.reading.Reading.{Reading}
 use Rattle.agent_pages.specs.Naming.{Around}
+use Rattle.agent_answers.specs.{Wanting.ClientWants, declared.lines.RequestLines.RequestLines, declared.wanted.Wanted.Wanted}
 use Rattle.agent_answers.specs.Controlling.{FirstIsReplied, OneIsReplied, RepliesTo}
-use Rattle.agent_answers.specs.Wanting.{ClientWants}
-use Rattle.agent_answers.specs.declared.lines.RequestLines.{RequestLines}
-use Rattle.agent_answers.specs.declared.wanted.Wanted.{Wanted}
 
 -- where somebody has asked, somebody is given the answer
 given_at :

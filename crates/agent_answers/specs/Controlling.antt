@@ -1,27 +1,17 @@
 -- Controlling: what the clients of an agent's control socket are answered, and what they ask to be done.
 -- Source: this project's own.
-use Rattle.std.specs.Prelude.{◌≡◌, ◌≢◌, ◌⊎◌, ◌/◌, ℕ, List, [], ◌∷◌, ◌++◌, Bool, true, false, ◌&&◌, ◌||◌, Option, Some, None, is_none, is_some, Result, Ok, Err, codes, if◌then◌else◌}
+use Rattle.std.specs.Prelude.{◌≡◌, ◌⊎◌, ◌/◌, ℕ, List, [], ◌∷◌, ◌++◌, Bool, true, false, ◌&&◌, ◌||◌, Option, Some, None, is_none, is_some, Result, Ok, Err, codes, if◌then◌else◌}
 use Rattle.std.specs.List.{list_any}
 use Rattle.agent_standing.specs.Agent.{Agent}
-use Rattle.base_clients.specs.Doors.{DoorLog}
-use Rattle.base_clients.specs.Guests.{can_go_on}
+use Rattle.base_clients.specs.{Doors.DoorLog, Guests.can_go_on, declared.clients.GuestRequest.GuestRequest, declared.talk.TalkCall.TalkCall}
 use Rattle.base_clients.specs.Tables.{AnswersFirst, AnswersGuest, GuestFollows, GuestTable, TakesRequest, Turns, first_asked}
-use Rattle.base_clients.specs.declared.clients.GuestRequest.{GuestRequest}
-use Rattle.base_clients.specs.declared.talk.TalkCall.{TalkCall}
 use Rattle.base_clock.specs.declared.reading.Reading.{Reading}
 use Rattle.agent_control.specs.declared.limits.TheConstants.{LINE_MAX}
-use Rattle.agent_pages.specs.Answers.{IsTold}
-use Rattle.agent_pages.specs.Board.{board_of}
-use Rattle.agent_pages.specs.declared.asked.Page.{Page}
-use Rattle.agent_pages.specs.Naming.{Around}
+use Rattle.agent_pages.specs.{Answers.IsTold, Board.board_of, declared.asked.Page.Page, Naming.Around}
+use Rattle.agent_answers.specs.{declared.asked.ClientOrder.ClientOrder, declared.control.Control.Control, declared.lines.RequestLines.RequestLines, declared.wanted.Wanted.Wanted, declared.wanted.ClientRefusal.ClientRefusal}
+use Rattle.agent_answers.specs.{declared.went.Went.Went}
 use Rattle.agent_answers.specs.Wanting.{ClientWants, TellsRequestLine, refusal_text}
-use Rattle.agent_answers.specs.declared.asked.ClientOrder.{ClientOrder}
-use Rattle.agent_answers.specs.declared.control.Control.{Control}
-use Rattle.agent_answers.specs.declared.lines.RequestLines.{RequestLines}
-use Rattle.agent_answers.specs.declared.wanted.Wanted.{Wanted}
 use Rattle.agent_answers.specs.declared.wanted.Wanted.TheVariants as wanted
-use Rattle.agent_answers.specs.declared.wanted.ClientRefusal.{ClientRefusal}
-use Rattle.agent_answers.specs.declared.went.Went.{Went}
 
 -- ---- what is answered
 

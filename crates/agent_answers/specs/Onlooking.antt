@@ -3,26 +3,13 @@
 use Rattle.std.specs.Prelude.{◌≡◌, ℕ, List, [], ◌++◌, Bool, true, false, ◌&&◌, ◌||◌, if◌then◌else◌, Option, Some, None, is_some, nat_le}
 use Rattle.std.specs.List.{list_any}
 use Rattle.agent_standing.specs.Agent.{Agent}
-use Rattle.base_clients.specs.Doors.{DoorLog}
-use Rattle.base_clients.specs.Guests.{can_go_on}
+use Rattle.base_clients.specs.{Doors.DoorLog, Guests.can_go_on, declared.talk.TalkCall.TalkCall}
 use Rattle.base_clients.specs.Tables.{AnswersFirst, GuestTable, Turns, first_asked, first_by}
-use Rattle.base_clients.specs.declared.talk.TalkCall.{TalkCall}
 use Rattle.base_clock.specs.Rests.{shorter}
-use Rattle.agent_pages.specs.Answers.{IsAnswer}
-use Rattle.agent_pages.specs.Board.{board_of}
-use Rattle.agent_pages.specs.Questions.{BytesAsk}
-use Rattle.agent_pages.specs.declared.answer.OnlookerAnswer.{OnlookerAnswer}
-use Rattle.agent_pages.specs.declared.asked.AskedPage.{AskedPage}
+use Rattle.agent_pages.specs.{Answers.IsAnswer, Board.board_of, Questions.BytesAsk, declared.answer.OnlookerAnswer.OnlookerAnswer, declared.asked.AskedPage.AskedPage, declared.asked.Question.Question}
+use Rattle.agent_pages.specs.{declared.asked.Question.TheVariants.Unread, declared.asked.TheConstants.HEAD_MAX, Naming.Around}
 use Rattle.agent_pages.specs.declared.asked.AskedPage.TheVariants.{Open, Whole}
-use Rattle.agent_pages.specs.declared.asked.Question.{Question}
-use Rattle.agent_pages.specs.declared.asked.Question.TheVariants.{Unread}
-use Rattle.agent_pages.specs.declared.asked.TheConstants.{HEAD_MAX}
-use Rattle.agent_pages.specs.Naming.{Around}
-use Rattle.agent_answers.specs.Resting.{rest_before}
-use Rattle.agent_answers.specs.declared.heads.Heads.{Heads}
-use Rattle.agent_answers.specs.declared.onlookers.Onlookers.{Onlookers}
-use Rattle.agent_answers.specs.declared.rest.Rest.{Rest}
-use Rattle.agent_answers.specs.declared.went.Went.{Went}
+use Rattle.agent_answers.specs.{Resting.rest_before, declared.heads.Heads.Heads, declared.onlookers.Onlookers.Onlookers, declared.rest.Rest.Rest, declared.went.Went.Went}
 
 -- ---- what is asked
 

@@ -1,8 +1,7 @@
 -- Resting: how the pages of onlookers are spread over time, in milliseconds.
 -- Source: this project's own.
 use Rattle.std.specs.Prelude.{ℕ, ◌+◌, ◌-◌, ◌*◌, ◌^◌, min, Option, Some, None}
-use Rattle.agent_answers.specs.declared.rest.Rest.{Rest}
-use Rattle.agent_answers.specs.declared.rest.TheConstants.{MOST_REST}
+use Rattle.agent_answers.specs.{declared.rest.Rest.Rest, declared.rest.TheConstants.MOST_REST}
 
 -- nine times as long as the page took, which was begun then; a part of a millisecond counts as one
 abbrev pub rest_length : ℕ → ℕ → ℕ

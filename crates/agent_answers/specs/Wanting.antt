@@ -1,22 +1,15 @@
 -- Wanting: what a client of the control socket wants, by what it has sent.
 -- Source: this project's own; what a line asks for is agent_control's.
 use Rattle.std.specs.Prelude.{◌≡◌, ℕ, List, Bool, true, false, Option, Some, None, Result, Ok, Err, codes, take}
-use Rattle.agent_control.specs.Front.{IsLineFront}
-use Rattle.agent_control.specs.Replies.{request_fault_text}
-use Rattle.agent_control.specs.Requests.{request_in_line}
-use Rattle.agent_control.specs.When.{need_at}
-use Rattle.agent_control.specs.declared.fault.RequestFault.{RequestFault}
+use Rattle.agent_control.specs.{Front.IsLineFront, Replies.request_fault_text, Requests.request_in_line, When.need_at, declared.fault.RequestFault.RequestFault, declared.front.Front.Front, declared.request.ControlRequest.ControlRequest}
 use Rattle.agent_control.specs.declared.fault.RequestFault.TheVariants as faults
-use Rattle.agent_control.specs.declared.front.Front.{Front}
 use Rattle.agent_control.specs.declared.front.Front.TheVariants as fronts
-use Rattle.agent_control.specs.declared.request.ControlRequest.{ControlRequest}
 use Rattle.agent_control.specs.declared.request.ControlRequest.TheVariants as requests
 use Rattle.vault_inventory.specs.declared.need.Need.{Need}
 use Rattle.agent_pages.specs.declared.asked.Page.TheVariants as pages
 use Rattle.agent_answers.specs.declared.asked.ClientOrder.TheVariants as asked
-use Rattle.agent_answers.specs.declared.wanted.Wanted.{Wanted}
+use Rattle.agent_answers.specs.{declared.wanted.Wanted.Wanted, declared.wanted.ClientRefusal.ClientRefusal}
 use Rattle.agent_answers.specs.declared.wanted.Wanted.TheVariants as wanted
-use Rattle.agent_answers.specs.declared.wanted.ClientRefusal.{ClientRefusal}
 use Rattle.agent_answers.specs.declared.wanted.ClientRefusal.TheVariants as whys
 
 abbrev pub is_front_over : Front → Bool

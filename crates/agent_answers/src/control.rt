@@ -5,7 +5,7 @@ ghost use Rattle.agent_answers.specs.Controlling.{AnswersAside, AnswersAsked, Co
 
 use crate::asked::ClientOrder;
 use crate::lines::RequestLines;
-use crate::wanted::{Wanted, ClientRefusal, wanted_of};
+use crate::wanted::{ClientRefusal, Wanted, wanted_of};
 use crate::went::Went;
 use agent_control::LINE_MAX;
 use agent_pages::{Page, Surroundings, board_of, told_of};

@@ -24,5 +24,5 @@ pub use heads::Heads;
 pub use lines::RequestLines;
 pub use onlookers::{MOST_ONLOOKERS, Onlookers};
 pub use rest::{MOST_REST, Rest};
-pub use wanted::{Wanted, ClientRefusal};
+pub use wanted::{ClientRefusal, Wanted};
 pub use went::Went;

@@ -8,7 +8,7 @@ ghost use Rattle.agent_answers.specs.declared.wanted.Wanted.TheVariants.{Refused
 ghost use Rattle.agent_answers.specs.declared.wanted.ClientRefusal.TheVariants.{Fault};
 
 use crate::asked::ClientOrder;
-use agent_control::{Front, ControlRequest, RequestFault, When, front_of, read_request};
+use agent_control::{ControlRequest, Front, RequestFault, When, front_of, read_request};
 use agent_pages::Page;
 use base_moment::{Moment, Name};
 use std::alloc::{AllocError, Global};
@@ -92,7 +92,10 @@ fn wanted_now(now: u64, request: ControlRequest) -> Wanted
 {
     match request {
         ControlRequest::Need { name, when } => needed(name, need_at(now, when)),
-        ControlRequest::Replace { name, credential } => Wanted::Do(ClientOrder::Replace { name, credential }),
+        ControlRequest::Replace { name, credential } => Wanted::Do(ClientOrder::Replace {
+            name,
+            credential,
+        }),
         ControlRequest::Add { table } => Wanted::Do(ClientOrder::Add { table }),
         ControlRequest::Drop { name } => Wanted::Do(ClientOrder::Drop { name }),
         ControlRequest::Settle => Wanted::Do(ClientOrder::Settle),

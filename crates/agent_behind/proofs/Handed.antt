@@ -3,12 +3,8 @@ use Rattle.std.proofs.Common.{◌≡◌, ◌∙◌, true, false, Option, None, i
 use Rattle.std.proofs.lemmas.Bool.{cond-false, cond-true}
 use Rattle.agent_standing.specs.Agent.{Agent}
 use Rattle.vault_lanes.specs.declared.lanes.Answered.{Answered}
-use Rattle.watch_machine.specs.declared.event.WatchEvent.{WatchEvent}
-use Rattle.watch_machine.specs.declared.event.WatchReply.{WatchReply}
-use Rattle.watch_machine.specs.declared.event.WatchReply.TheVariants.{Lost}
-use Rattle.watch_machine.specs.State.{WatchState}
-use Rattle.watch_scout.specs.Hearing.{event_of, freed}
-use Rattle.watch_scout.specs.State.{ScoutState}
+use Rattle.watch_machine.specs.{declared.event.WatchEvent.WatchEvent, declared.event.WatchReply.WatchReply, declared.event.WatchReply.TheVariants.Lost, State.WatchState}
+use Rattle.watch_scout.specs.{Hearing.event_of, Hearing.freed, State.ScoutState}
 use Rattle.agent_behind.specs.Lookouts.{IsHandedIn, IsReplyTo, is_of_served}
 
 -- one that is of no entry that is served is dropped

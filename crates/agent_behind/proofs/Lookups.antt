@@ -5,11 +5,8 @@ use Rattle.vault_asking.specs.Sending.{GoesOut, Lanes}
 use Rattle.base_clock.specs.declared.reading.Reading.{Reading}
 use Rattle.vault_asking.proofs.InStep.{put_count}
 use Rattle.vault_lanes.specs.Out.{Out, OutIsPut}
-use Rattle.watch_machine.specs.Clocks.{second_of_wall}
-use Rattle.watch_machine.specs.State.{WatchState}
-use Rattle.watch_scout.specs.Hearing.{freed}
-use Rattle.watch_scout.specs.Looking.{found}
-use Rattle.watch_scout.specs.State.{ScoutState}
+use Rattle.watch_machine.specs.{Clocks.second_of_wall, State.WatchState}
+use Rattle.watch_scout.specs.{Hearing.freed, Looking.found, State.ScoutState}
 use Rattle.watch_scout.proofs.Coming.{found_seen, freed_seen}
 use Rattle.agent_behind.specs.Lookups.{AreLookedUp, ByFound, IsLookedUp, Side, look_at, side}
 

@@ -2,12 +2,12 @@
 use Rattle.std.proofs.Common.{◌≡◌, ◌∙◌, ℕ, ◌||◌, Bool, true, false, List, Option, Some, None, ap, refl, subst, sym}
 use Rattle.agent_standing.specs.Agent.{Agent}
 use Rattle.base_clock.specs.declared.reading.Reading.{Reading}
-use Rattle.agent_turns.specs.Neighbours.{GoOn, Hear, NeighbourCall, Step, Thing}
 use Rattle.agent_turns.specs.declared.change.AgentChange.{AgentChange}
+use Rattle.agent_turns.specs.Neighbours.{GoOn, Hear, NeighbourCall, Step, Thing}
 use Rattle.watch_machine.specs.declared.command.WatchRequest.{WatchRequest}
+use Rattle.agent_behind.specs.declared.behind.Behind.{Behind}
 use Rattle.agent_behind.specs.Behinds.{HearsBy, OneGives, OneGoesAhead, PassesBehind, StepsBy, StepsIf, lead_ahead, renews, requests_at}
 use Rattle.agent_behind.specs.Lookouts.{Ahead, GivesAhead, GoesAhead}
-use Rattle.agent_behind.specs.declared.behind.Behind.{Behind}
 
 -- ---- the lookout, where there is one
 

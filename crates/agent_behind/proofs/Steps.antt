@@ -10,14 +10,9 @@ use Rattle.plan_forest.specs.Forest.{Forest}
 use Rattle.watch_scout_laws.specs.Behind.{IsLaterEnd}
 use Rattle.watch_scout_laws.specs.Steps.{AllSteps, ScoutStep, Hears, Seeks, scout_after}
 use Rattle.watch_scout_laws.proofs.Handing.{hands}
-use Rattle.watch_machine.specs.declared.event.WatchEvent.{WatchEvent}
-use Rattle.watch_machine.specs.declared.event.WatchReply.{WatchReply}
-use Rattle.watch_machine.specs.declared.event.WatchReply.TheVariants.{Lost}
-use Rattle.watch_machine.specs.State.{WatchState}
+use Rattle.watch_machine.specs.{declared.event.WatchEvent.WatchEvent, declared.event.WatchReply.WatchReply, declared.event.WatchReply.TheVariants.Lost, State.WatchState}
 use Rattle.watch_machine.proofs.Cases.{value_is}
-use Rattle.watch_scout.specs.Hearing.{event_of, freed}
-use Rattle.watch_scout.specs.Looking.{found}
-use Rattle.watch_scout.specs.State.{ScoutState}
+use Rattle.watch_scout.specs.{Hearing.event_of, Hearing.freed, Looking.found, State.ScoutState}
 use Rattle.agent_behind.specs.Laws.{Follows, GivesLaw, GoesLaw, IsFirstScout, IsLaterKnown, ToldLaw}
 use Rattle.agent_behind.specs.Lookouts.{Ahead, HandsInBy, IsHandedIn, IsMade, LooksBy, StandsBeside, change_of, is_of_served}
 use Rattle.agent_behind.specs.Lookups.{AreLookedUp, ByFound, IsLookedUp, Side, asked_from, side}

@@ -3,18 +3,13 @@
 use Rattle.std.specs.Prelude.{◌≡◌, ◌⊎◌, ℕ, Bool, true, false, ◌||◌, if◌then◌else◌, List, Option, Some, None, option_map}
 use Rattle.std.specs.List.{list_any}
 use Rattle.agent_standing.specs.Agent.{Agent}
-use Rattle.base_clock.specs.Rests.{rest_until, shorter}
-use Rattle.base_clock.specs.declared.reading.Reading.{Reading}
+use Rattle.base_clock.specs.{Rests.rest_until, Rests.shorter, declared.reading.Reading.Reading}
 use Rattle.agent_turns.specs.Neighbours.{Answer, End, Give, GoOn, Hear, NeighbourCall, Needs, Rest, Settle, Step, Thing, Time, Want}
 use Rattle.agent_turns.specs.declared.change.AgentChange.{AgentChange}
 use Rattle.agent_turns.specs.declared.change.AgentChange.TheVariants as changes
-use Rattle.watch_machine.specs.Refusal.{is_same}
-use Rattle.watch_machine.specs.State.{WatchState}
-use Rattle.watch_machine.specs.declared.command.WatchRequest.{WatchRequest}
-use Rattle.watch_machine.specs.declared.event.Operation.TheVariants.{Renew}
+use Rattle.watch_machine.specs.{Refusal.is_same, State.WatchState, declared.command.WatchRequest.WatchRequest, declared.event.Operation.TheVariants.Renew}
+use Rattle.agent_behind.specs.{declared.behind.Behind.Behind, declared.behind.Giver.Giver}
 use Rattle.agent_behind.specs.Lookouts.{Ahead, GivesAhead, GoesAhead, lead_by}
-use Rattle.agent_behind.specs.declared.behind.Behind.{Behind}
-use Rattle.agent_behind.specs.declared.behind.Giver.{Giver}
 use Rattle.agent_behind.specs.declared.behind.Giver.TheVariants.{Others, OthersServe, Lookout}
 
 -- ---- the lookout, where there is one

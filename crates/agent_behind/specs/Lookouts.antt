@@ -2,24 +2,16 @@
 -- Source: this project's own.
 use Rattle.std.specs.Prelude.{◌≡◌, ◌⊎◌, ℕ, ◌-◌, ◌==◌, Bool, true, false, not, ◌&&◌, if◌then◌else◌, List, [], ◌∷◌, ◌++◌, Option, Some, None, IfSome, length, nat_lt}
 use Rattle.agent_standing.specs.Agent.{Agent}
-use Rattle.vault_asking.specs.Sending.{Lanes}
-use Rattle.vault_asking.specs.Told.{reply_as}
+use Rattle.vault_asking.specs.{Sending.Lanes, Told.reply_as}
 use Rattle.base_clock.specs.declared.reading.Reading.{Reading}
-use Rattle.vault_lanes.specs.Out.{AreThereAt, IsParted}
-use Rattle.vault_lanes.specs.declared.lanes.Answered.{Answered}
+use Rattle.vault_lanes.specs.{Out.AreThereAt, Out.IsParted, declared.lanes.Answered.Answered}
 use Rattle.agent_turns.specs.declared.change.AgentChange.{AgentChange}
 use Rattle.agent_turns.specs.declared.change.AgentChange.TheVariants as changes
 use Rattle.plan_forest.specs.Forest.{Forest}
-use Rattle.watch_machine.specs.declared.event.WatchEvent.{WatchEvent}
+use Rattle.watch_machine.specs.{declared.event.WatchEvent.WatchEvent, declared.event.Operation.TheVariants.Look, declared.event.WatchReply.WatchReply, declared.event.WatchReply.TheVariants.Lost, State.WatchState}
 use Rattle.watch_machine.specs.declared.event.WatchEvent.TheVariants.{Clock, Looked, Renewed, Need, Begin, Known}
-use Rattle.watch_machine.specs.declared.event.Operation.TheVariants.{Look}
-use Rattle.watch_machine.specs.declared.event.WatchReply.{WatchReply}
-use Rattle.watch_machine.specs.declared.event.WatchReply.TheVariants.{Lost}
-use Rattle.watch_machine.specs.State.{WatchState}
 use Rattle.plan_spread.specs.Behind.{margin_in_front}
-use Rattle.watch_scout.specs.Hearing.{event_of, freed}
-use Rattle.watch_scout.specs.Looking.{lead, next_moment}
-use Rattle.watch_scout.specs.State.{ScoutState, opened_scout}
+use Rattle.watch_scout.specs.{Hearing.event_of, Hearing.freed, Looking.lead, Looking.next_moment, State.ScoutState, State.opened_scout}
 use Rattle.agent_behind.specs.Lookups.{AreLookedUp, side}
 
 -- what a lookout is: the number of its agent's name; how many lanes it has, the port that their requests name, and what is out on them; the

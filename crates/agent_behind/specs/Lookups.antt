@@ -4,13 +4,8 @@ use Rattle.std.specs.Prelude.{◌≡◌, ◌⊎◌, ℕ, zero, suc, Option, Some
 use Rattle.agent_standing.specs.Agent.{Agent}
 use Rattle.vault_asking.specs.Sending.{GoesOut, Lanes}
 use Rattle.base_clock.specs.declared.reading.Reading.{Reading}
-use Rattle.watch_machine.specs.declared.command.Patience.TheVariants.{Full}
-use Rattle.watch_machine.specs.declared.command.WatchRequest.{WatchRequest}
-use Rattle.watch_machine.specs.declared.event.Operation.TheVariants.{Look}
-use Rattle.watch_machine.specs.Clocks.{second_of_wall}
-use Rattle.watch_scout.specs.Hearing.{freed}
-use Rattle.watch_scout.specs.Looking.{found}
-use Rattle.watch_scout.specs.State.{ScoutState}
+use Rattle.watch_machine.specs.{declared.command.Patience.TheVariants.Full, declared.command.WatchRequest.WatchRequest, declared.event.Operation.TheVariants.Look, Clocks.second_of_wall}
+use Rattle.watch_scout.specs.{Hearing.freed, Looking.found, State.ScoutState}
 
 -- a scout, and the lanes over which it looks
 pub record Side : Type 0 where

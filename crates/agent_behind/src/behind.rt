@@ -14,7 +14,7 @@ use agent_turns::{AgentChange, Happened, Neighbours};
 use base_clock::{Reading, shorter};
 use std::alloc::Global;
 use vault_lanes::Lanes;
-use watch_machine::{Millis, Operation, WatchRequest, Watch};
+use watch_machine::{Millis, Operation, Watch, WatchRequest};
 
 /// Whose a change is.
 #[derive(Clone, Copy, Debug, PartialEq, Eq)]
@@ -120,7 +120,10 @@ fn giver_of(change: &AgentChange) -> Giver
     ensures { result ≡ giver_of change.now }
 {
     match change {
-        AgentChange::Need { .. } | AgentChange::Begin | AgentChange::Known { .. } | AgentChange::Kept => Giver::Others,
+        AgentChange::Need { .. }
+        | AgentChange::Begin
+        | AgentChange::Known { .. }
+        | AgentChange::Kept => Giver::Others,
         AgentChange::Serve(_) => Giver::OthersServe,
     }
 }
@@ -143,7 +146,8 @@ fn giver_of_known(change: &AgentChange) -> Giver
             entry: *entry,
             end: *end,
         },
-        AgentChange::Need { .. } | AgentChange::Begin | AgentChange::Serve(_) | AgentChange::Kept => Giver::Others,
+        AgentChange::Need { .. } | AgentChange::Begin | AgentChange::Serve(_) | AgentChange::Kept =>
+            Giver::Others,
     }
 }
 

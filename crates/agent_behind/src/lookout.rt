@@ -13,7 +13,7 @@ use std::alloc::{AllocError, Global};
 use std::marker::Model;
 use vault_asking::said_of_entry;
 use vault_lanes::{Answered, Lanes};
-use watch_machine::{WatchEvent, Millis, Operation, WatchReply, Watch};
+use watch_machine::{Millis, Operation, Watch, WatchEvent, WatchReply};
 use watch_scout::Scout;
 
 /// A scout, and the lanes over which it looks.
@@ -213,7 +213,12 @@ fn due_after(scout: &Option<Scout>, watch: &Watch, now: Millis) -> Millis
 
 /// An answer is handed to the scout: the event that the agent is to be told, if there is one.
 #[tactic(auto, using(crate::proofs::Handed::dropped, crate::proofs::Handed::handed))]
-fn hand_in(alloc: Global, scout: &mut Scout, agent: &Agent, answered: &Answered) -> Option<WatchEvent>
+fn hand_in(
+    alloc: Global,
+    scout: &mut Scout,
+    agent: &Agent,
+    answered: &Answered,
+) -> Option<WatchEvent>
     ensures { IsHandedIn agent.now answered.now scout.old result scout.new }
 {
     if !is_of_served(agent, scout, answered.index) {

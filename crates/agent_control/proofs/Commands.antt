@@ -6,19 +6,14 @@ use Rattle.vault_json.specs.Body.{json_tree}
 use Rattle.plan_forest.specs.Push.{is_name}
 use Rattle.vault_inventory.specs.Values.{is_credential}
 use Rattle.agent_control.specs.Answer.{◌>>=◌}
+use Rattle.agent_control.specs.{When.when_of, declared.fault.RequestFault.RequestFault, declared.limits.TheConstants.LINE_MAX, declared.request.ControlRequest.ControlRequest, declared.when.When.When}
 use Rattle.agent_control.specs.Laws.{RequestFound, RequestOnly, WordsAskFor}
 use Rattle.agent_control.specs.Requests.{IsControlRequest, asked_by_line, command_of, if_named, is_command, is_command_with, need_request, plain_of, replace_of, request_in_line}
-use Rattle.agent_control.specs.When.{when_of}
 use Rattle.agent_control.specs.Words.{or_not_words, tree_of_words, word_at, words_in_tree, words_of}
-use Rattle.agent_control.specs.declared.fault.RequestFault.{RequestFault}
 use Rattle.agent_control.specs.declared.fault.RequestFault.TheVariants.{TooLong, NoCommand, BadName, BadCredential}
-use Rattle.agent_control.specs.declared.limits.TheConstants.{LINE_MAX}
-use Rattle.agent_control.specs.declared.request.ControlRequest.{ControlRequest}
 use Rattle.agent_control.specs.declared.request.ControlRequest.TheVariants.{Need, Replace, Add, Drop, Status, Health, Settle, Reload, Follow}
-use Rattle.agent_control.specs.declared.when.When.{When}
+use Rattle.agent_control.proofs.{Whens.when_found, Whens.when_only, WordTrees.words_back, WordTrees.words_only}
 use Rattle.agent_control.proofs.Chosen.{branch, granted, ok_same, refused, then_ok, then_some}
-use Rattle.agent_control.proofs.Whens.{when_found, when_only}
-use Rattle.agent_control.proofs.WordTrees.{words_back, words_only}
 
 -- ---- so many words
 

@@ -3,15 +3,12 @@ use Rattle.std.proofs.Common.{◌≡◌, ◌≢◌, ℕ, ◌+◌, ◌/◌, ◌%�
 use Rattle.std.proofs.Math.Seq.{get_or-append_seam}
 use Rattle.std.proofs.lemmas.List.{get_or_append_left}
 use Rattle.std.proofs.lemmas.Bool.{and_from, cases_eq, eq-eqb, ne_eqb, not_from_false, true≢false}
-use Rattle.std.specs.Char.{digit_char}
-use Rattle.std.specs.List.{join_with_byte}
+use Rattle.std.specs.{Char.digit_char, List.join_with_byte}
 use Rattle.json.specs.Print.{escape, escape_byte, escape_letter, quoted}
 use Rattle.base_words.specs.Laws.{Lacks}
 use Rattle.base_words.proofs.Joined.{lacks_append, lacks_each}
-use Rattle.agent_control.specs.Front.{IsLineFront, LacksFeed}
-use Rattle.agent_control.specs.declared.limits.TheConstants.{LINE_MAX}
+use Rattle.agent_control.specs.{Front.IsLineFront, Front.LacksFeed, declared.limits.TheConstants.LINE_MAX, declared.front.Front.TheVariants.Whole}
 use Rattle.agent_control.proofs.WordTrees.{line_of}
-use Rattle.agent_control.specs.declared.front.Front.TheVariants.{Whole}
 
 one_lacks : (x : ℕ) → x ≢ 10 → Lacks 10 (x ∷ [])
 one_lacks x other = and_from _ true (not_from_false _ (ne_eqb x 10 other)) refl

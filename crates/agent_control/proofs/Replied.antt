@@ -1,18 +1,16 @@
 -- Replies: the text of a reply is read as that reply, and no other text is.
 use Rattle.std.proofs.Common.{◌≡◌, ◌≢◌, inl, inr, ℕ, zero, suc, ◌<◌, Bool, true, false, not, cond, ◌==◌, List, [], ◌∷◌, ◌++◌, length, take, drop, bytes_eq, codes, Option, Some, None, option_map, refl, sym, ap, ◌∙◌, subst, arith, append_assoc, length-append}
-use Rattle.std.proofs.lemmas.Bool.{and_from, and_parts, cases_Bool, cond-true, cond-false, eqb-true, eq-eqb, not_from_false}
 use Rattle.std.proofs.lemmas.List.Splits.{slice_split_at}
-use Rattle.std.specs.Cmp.Lexicographic.{bytes_decides}
-use Rattle.std.specs.List.{join_with_byte, onto_first}
-use Rattle.base_words.specs.Laws.{AllLack, Lacks}
-use Rattle.base_words.specs.Pieces.{pieces}
+use Rattle.std.proofs.lemmas.Bool.{and_from, and_parts, cases_Bool, cond-true, cond-false, eqb-true, eq-eqb, not_from_false}
+use Rattle.std.specs.{Cmp.Lexicographic.bytes_decides, List.join_with_byte, List.onto_first}
+use Rattle.base_words.specs.{Laws.AllLack, Laws.Lacks, Pieces.pieces}
 use Rattle.base_words.proofs.Cutting.{has_piece}
 use Rattle.base_words.proofs.Joined.{joined_back, lacks_append, lacks_each}
+use Rattle.agent_control.specs.declared.reply.ControlReply.{ControlReply}
 use Rattle.agent_control.specs.Laws.{ReplyFound, ReplyOnly, WhyIsLine}
 use Rattle.agent_control.specs.Replies.{IsControlReply, closed_lines, control_reply_text, lines_of_text, lines_text, refusal_of, refused_in, reply_if, reply_in_lines, reply_in_text, reply_lines, request_fault_text}
-use Rattle.agent_control.specs.declared.fault.RequestFault.TheVariants as faults
-use Rattle.agent_control.specs.declared.reply.ControlReply.{ControlReply}
 use Rattle.agent_control.specs.declared.reply.ControlReply.TheVariants.{Done, Refused}
+use Rattle.agent_control.specs.declared.fault.RequestFault.TheVariants as faults
 use Rattle.agent_control.proofs.Chosen.{mapped, passed, some_same}
 
 -- ---- for the reader of lines

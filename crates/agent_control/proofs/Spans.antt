@@ -1,13 +1,9 @@
 -- A time from now: what is read of a word is what it says, and each is read.
 use Rattle.std.proofs.Common.{◌≡◌, inl, inr, ℕ, ◌+◌, ◌-◌, ◌*◌, ◌<◌, ◌≤◌, true, false, ◌&&◌, List, [], ◌∷◌, ◌++◌, length, take, get_or, nat_lt, nat_le, Some, refl, sym, ap, ◌∙◌, subst, arith, length-append, lt-ltb, ltb-true, le-leb}
 use Rattle.std.proofs.Math.Seq.{take-append_seam, get_or-append_seam, take-length}
+use Rattle.std.proofs.lemmas.{List.append-nil, List.take_more, List.Folds.list_all-append, Str.Parse.digits_value_short}
 use Rattle.std.proofs.lemmas.Bool.{and_from, and_parts, cases_Bool, cases_eq, cond-true, cond-false, leb-true, ne_eqb}
-use Rattle.std.proofs.lemmas.List.{append-nil, take_more}
-use Rattle.std.proofs.lemmas.List.Folds.{list_all-append}
-use Rattle.std.proofs.lemmas.Str.Parse.{digits_value_short}
-use Rattle.std.specs.Char.{is_ascii_digit}
-use Rattle.std.specs.List.{list_all}
-use Rattle.std.specs.Str.Parse.{digits_value}
+use Rattle.std.specs.{Char.is_ascii_digit, List.list_all, Str.Parse.digits_value}
 use Rattle.base_words.proofs.Digits.{own}
 use Rattle.base_moment.specs.declared.moment.TheConstants.{LAST}
 use Rattle.agent_control.specs.Laws.{AreDigits, IsUnit}

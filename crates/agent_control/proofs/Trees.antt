@@ -1,15 +1,8 @@
 -- What is made of what serde_json reads, for `tree`.
 use Rattle.std.proofs.Common.{◌≡◌, ◌∙◌, Option, None, Some, Result, Ok, Err, IfOk, IfErr, ap, refl, subst, sym}
-use Rattle.serde_json.specs.Data.{Data}
-use Rattle.serde_json.specs.Errors.{IsMemory}
-use Rattle.serde_json.specs.View.{view}
-use Rattle.serde_json.specs.declared.error.Code.{Code}
+use Rattle.serde_json.specs.{Data.Data, Errors.IsMemory, View.view, declared.error.Code.Code, declared.error.Error.Error, declared.value.Value.Value}
 use Rattle.serde_json.specs.declared.error.Code.TheVariants as codes
-use Rattle.serde_json.specs.declared.error.Error.{Error}
-use Rattle.serde_json.specs.declared.value.Value.{Value}
-use Rattle.agent_control.specs.Answer.{GivesOrRequestFault}
-use Rattle.agent_control.specs.Words.{or_not_words}
-use Rattle.agent_control.specs.declared.fault.RequestFault.{RequestFault}
+use Rattle.agent_control.specs.{Answer.GivesOrRequestFault, Words.or_not_words, declared.fault.RequestFault.RequestFault}
 use Rattle.agent_control.specs.declared.fault.RequestFault.TheVariants as faults
 
 module _ (answer : Result Value RequestFault) (tree : Option Data) where

@@ -2,25 +2,15 @@
 use Rattle.std.proofs.Common.{◌≡◌, inl, inr, ℕ, ◌+◌, ◌*◌, ◌/◌, ◌<◌, ◌≤◌, true, false, ◌==◌, List, [], ◌∷◌, drop, get_or, nat_le, bytes_eq, codes, Option, Some, None, option_map, ℤ, pos, negsuc, Result, Ok, Err, refl, sym, ap, ◌∙◌, subst, arith}
 use Rattle.std.proofs.lemmas.Bool.{and_parts, cases_Bool, cond-true, cond-false, eqb-true, leb-true, ne_eqb, true≢false}
 use Rattle.std.proofs.lemmas.Int.{ints}
-use Rattle.std.specs.Char.{is_ascii_digit}
-use Rattle.std.specs.Cmp.Lexicographic.{bytes_decides}
-use Rattle.std.specs.List.{list_all}
-use Rattle.std.specs.Result.{result_ok}
-use Rattle.std.specs.Str.Parse.{digits_value}
-use Rattle.base_moment.specs.declared.fault.TimeFault.{TimeFault}
-use Rattle.base_moment.specs.declared.moment.TheConstants.{LAST}
-use Rattle.base_moment.specs.MomentOf.{in_range, moment_of}
-use Rattle.base_moment.specs.Rfc3339.{seconds_of}
+use Rattle.std.specs.{Char.is_ascii_digit, Cmp.Lexicographic.bytes_decides, List.list_all, Result.result_ok, Str.Parse.digits_value}
+use Rattle.base_moment.specs.{declared.fault.TimeFault.TimeFault, declared.moment.TheConstants.LAST, MomentOf.in_range, MomentOf.moment_of, Rfc3339.seconds_of}
 use Rattle.base_moment.proofs.Moments.{moment_found, moment_tells}
-use Rattle.vault_inventory.specs.Languages.{full}
-use Rattle.vault_inventory.specs.Values.{is_always, need_text}
-use Rattle.vault_inventory.specs.Values as values
-use Rattle.vault_inventory.specs.declared.need.Need.{Need}
+use Rattle.vault_inventory.specs.{Languages.full, Values.is_always, Values.need_text, declared.need.Need.Need, Needs.IsNeed}
 use Rattle.vault_inventory.specs.declared.need.Need.TheVariants.{Until, Always}
-use Rattle.vault_inventory.specs.Needs.{IsNeed}
+use Rattle.vault_inventory.specs.Values as values
+use Rattle.agent_control.specs.declared.when.When.{When}
 use Rattle.agent_control.specs.Laws.{AreDigits, SaysNeed, SaysWhen}
 use Rattle.agent_control.specs.When.{IsWhen, fixed_if, fixed_of, is_number, seconds_each, span_of, when_of}
-use Rattle.agent_control.specs.declared.when.When.{When}
 use Rattle.agent_control.specs.declared.when.When.TheVariants.{Fixed, FromNow}
 use Rattle.agent_control.proofs.Chosen.{mapped, some_same}
 use Rattle.agent_control.proofs.Spans.{digits_number, each_found, each_only, number_parts, span_found, span_only}

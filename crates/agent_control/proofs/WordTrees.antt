@@ -3,8 +3,8 @@ use Rattle.std.proofs.Common.{◌≡◌, ℕ, ◌≤◌, true, false, max, List,
 use Rattle.std.specs.List.{join_with_byte}
 use Rattle.json.specs.Print.{quoted}
 use Rattle.json.specs.Tree as tree
-use Rattle.serde_json.specs.Data.{Data, null, boolean, number, string, array, object, Items, no_items, item}
 use Rattle.serde_json.specs.Read.{of_items, max_depth}
+use Rattle.serde_json.specs.Data.{Data, null, string, array, Items, no_items, item}
 use Rattle.serde_json.specs.Written.{compact_text, has_float, items_have_float, items_outline, items_text, outline}
 use Rattle.vault_json.specs.Body.{json_tree}
 use Rattle.vault_json.proofs.Bodies.{tree_of_text}

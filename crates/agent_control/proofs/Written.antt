@@ -1,33 +1,25 @@
 -- What is written of a request is one line, and is read as that request.
 use Rattle.std.proofs.Common.{◌≡◌, ℕ, ◌^◌, ◌<◌, ◌≤◌, true, false, List, [], ◌∷◌, ◌++◌, length, nat_lt, decimal, Ok, IsUtf8, refl, sym, ap, ◌∙◌, subst, arith, inl, ltb-false}
-use Rattle.std.proofs.lemmas.Bool.{and_parts}
+use Rattle.std.proofs.lemmas.{Bool.and_parts, List.append-nil}
 use Rattle.std.proofs.lemmas.Fmt.{IsAscii-decimal, decimal_nonempty, digits_decimal, digits_value-decimal, length-decimal-le}
 use Rattle.std.proofs.lemmas.Str.{IsUtf8-append, IsUtf8-from_ascii, IsUtf8-from_is_utf8}
-use Rattle.std.proofs.lemmas.List.{append-nil}
 use Rattle.std.specs.Str.{is_utf8}
 use Rattle.serde_json.specs.Written.{compact_text}
 use Rattle.json.proofs.Printed.Utf8.{IsUtf8-are_ascii}
 use Rattle.base_moment.specs.declared.moment.TheConstants.{LAST}
 use Rattle.base_words.specs.Laws.{Lacks}
 use Rattle.base_words.proofs.Digits.{own}
-use Rattle.vault_inventory.specs.declared.need.Need.{Need}
+use Rattle.vault_inventory.specs.{declared.need.Need.Need, Needs.IsNeed, Needs.need_word}
 use Rattle.vault_inventory.specs.declared.need.Need.TheVariants.{Until, Always}
-use Rattle.vault_inventory.specs.Needs.{IsNeed, need_word}
-use Rattle.agent_control.specs.Front.{IsLineFront}
-use Rattle.agent_control.specs.declared.front.Front.TheVariants.{Whole}
+use Rattle.agent_control.specs.{Front.IsLineFront, declared.front.Front.TheVariants.Whole, When.IsWhen, When.when_word, Words.tree_of_words, declared.limits.TheConstants.LINE_MAX, declared.request.ControlRequest.ControlRequest}
+use Rattle.agent_control.specs.{declared.when.When.When}
 use Rattle.agent_control.specs.Laws.{AreDigits, LineAsks, RequestWrittenIsRead, SaysNeed, SaysWhen, WordsAskFor}
 use Rattle.agent_control.specs.Requests.{IsControlRequest, ended, is_request_text, line_for, request_line_text, tree_for, words_for}
-use Rattle.agent_control.specs.When.{IsWhen, when_word}
-use Rattle.agent_control.specs.Words.{tree_of_words}
 use Rattle.agent_control.specs.declared.fault.RequestFault.TheVariants.{TooLong, NotWords}
-use Rattle.agent_control.specs.declared.limits.TheConstants.{LINE_MAX}
-use Rattle.agent_control.specs.declared.request.ControlRequest.{ControlRequest}
-use Rattle.agent_control.specs.declared.request.ControlRequest.TheVariants as asks
-use Rattle.agent_control.specs.declared.when.When.{When}
 use Rattle.agent_control.specs.declared.when.When.TheVariants.{Fixed, FromNow}
+use Rattle.agent_control.specs.declared.request.ControlRequest.TheVariants as asks
+use Rattle.agent_control.proofs.{Commands.request_only, OneLine.front_is, OneLine.line_lacks}
 use Rattle.agent_control.proofs.Chosen.{granted, ok_same, refused, then_ok}
-use Rattle.agent_control.proofs.Commands.{request_only}
-use Rattle.agent_control.proofs.OneLine.{front_is, line_lacks}
 use Rattle.agent_control.proofs.WordTrees.{AllUtf8, line_read, line_text}
 
 -- ---- WHEN

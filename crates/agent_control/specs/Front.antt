@@ -1,8 +1,7 @@
 -- Front: how far the first line of what a client has sent has come.
 -- Source: this project's own.
 use Rattle.std.specs.Prelude.{◌≡◌, ◌≢◌, ℕ, ◌+◌, ◌<◌, ◌≤◌, List, length, slice_index}
-use Rattle.agent_control.specs.declared.limits.TheConstants.{LINE_MAX}
-use Rattle.agent_control.specs.declared.front.Front.{Front}
+use Rattle.agent_control.specs.{declared.limits.TheConstants.LINE_MAX, declared.front.Front.Front}
 use Rattle.agent_control.specs.declared.front.Front.TheVariants.{Open, Whole, TooLong}
 
 -- no line feed stands among the first n bytes

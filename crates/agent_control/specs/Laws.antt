@@ -1,25 +1,17 @@
 -- Laws of the control protocol. Each is the contract of a public function without a body.
 use Rattle.std.specs.Prelude.{◌≡◌, ◌⊎◌, ℕ, ◌*◌, ◌<◌, ◌≤◌, true, false, List, [], ◌∷◌, ◌++◌, Ok, Some, length, codes}
-use Rattle.std.specs.Char.{is_ascii_digit}
-use Rattle.std.specs.List.{list_all}
-use Rattle.std.specs.Str.Parse.{digits_value}
+use Rattle.std.specs.{Char.is_ascii_digit, List.list_all, Str.Parse.digits_value}
 use Rattle.base_moment.specs.MomentOf.{moment_of}
 use Rattle.vault_json.specs.Body.{json_tree}
 use Rattle.vault_inventory.specs.declared.need.Need.{Need}
 use Rattle.vault_inventory.specs.declared.need.Need.TheVariants.{Until, Always}
-use Rattle.agent_control.specs.Front.{IsLineFront}
+use Rattle.agent_control.specs.{Front.IsLineFront, Words.tree_of_words, declared.limits.TheConstants.LINE_MAX, declared.fault.RequestFault.RequestFault, declared.front.Front.TheVariants.Whole, declared.reply.ControlReply.ControlReply}
+use Rattle.agent_control.specs.{declared.request.ControlRequest.ControlRequest, declared.when.When.When}
 use Rattle.agent_control.specs.Replies.{IsControlReply, control_reply_text, reply_in_text, request_fault_text}
 use Rattle.agent_control.specs.Requests.{IsControlRequest, request_in_line, request_line_text}
-use Rattle.agent_control.specs.Words.{tree_of_words}
-use Rattle.agent_control.specs.declared.limits.TheConstants.{LINE_MAX}
-use Rattle.agent_control.specs.declared.fault.RequestFault.{RequestFault}
-use Rattle.agent_control.specs.declared.front.Front.TheVariants.{Whole}
-use Rattle.agent_control.specs.declared.reply.ControlReply.{ControlReply}
-use Rattle.agent_control.specs.declared.reply.ControlReply.TheVariants as replies
-use Rattle.agent_control.specs.declared.request.ControlRequest.{ControlRequest}
-use Rattle.agent_control.specs.declared.request.ControlRequest.TheVariants as asks
-use Rattle.agent_control.specs.declared.when.When.{When}
 use Rattle.agent_control.specs.declared.when.When.TheVariants.{Fixed, FromNow}
+use Rattle.agent_control.specs.declared.reply.ControlReply.TheVariants as replies
+use Rattle.agent_control.specs.declared.request.ControlRequest.TheVariants as asks
 
 -- ---- what a line says, whatever reads it
 

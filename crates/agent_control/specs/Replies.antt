@@ -1,11 +1,9 @@
 -- Replies: the lines that answer a request, and what a client reads of them.
 -- Source: this project's own.
 use Rattle.std.specs.Prelude.{ℕ, ◌==◌, List, [], ◌∷◌, ◌++◌, if◌then◌else◌, Option, Some, None, option_map, length, take, drop, bytes_eq, codes}
-use Rattle.base_words.specs.Laws.{AllLack, Lacks}
-use Rattle.base_words.specs.Pieces.{pieces}
-use Rattle.agent_control.specs.declared.fault.RequestFault.{RequestFault}
+use Rattle.base_words.specs.{Laws.AllLack, Laws.Lacks, Pieces.pieces}
+use Rattle.agent_control.specs.{declared.fault.RequestFault.RequestFault, declared.reply.ControlReply.ControlReply}
 use Rattle.agent_control.specs.declared.fault.RequestFault.TheVariants.{TooLong, NotWords, NoCommand, BadName, BadWhen, BadCredential, OutOfMemory}
-use Rattle.agent_control.specs.declared.reply.ControlReply.{ControlReply}
 use Rattle.agent_control.specs.declared.reply.ControlReply.TheVariants.{Done, Refused}
 
 -- ---- as it is written

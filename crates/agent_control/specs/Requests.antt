@@ -2,19 +2,15 @@
 -- Source: this project's own.
 use Rattle.std.specs.Prelude.{◌≡◌, ℕ, Bool, true, false, ◌&&◌, ◌==◌, if◌then◌else◌, List, [], ◌∷◌, ◌++◌, Option, Some, None, Result, Ok, Err, length, nat_lt, bytes_eq, codes}
 use Rattle.std.specs.Str.{is_utf8}
-use Rattle.serde_json.specs.Data.{Data}
-use Rattle.serde_json.specs.Written.{compact_text}
+use Rattle.serde_json.specs.{Data.Data, Written.compact_text}
 use Rattle.plan_forest.specs.Push.{is_name}
 use Rattle.vault_inventory.specs.Values.{is_credential}
 use Rattle.agent_control.specs.Answer.{◌>>=◌}
+use Rattle.agent_control.specs.{declared.limits.TheConstants.LINE_MAX, declared.fault.RequestFault.RequestFault, declared.request.ControlRequest.ControlRequest, declared.when.When.When}
 use Rattle.agent_control.specs.When.{IsWhen, when_of, when_word}
 use Rattle.agent_control.specs.Words.{texted, word_at, words_of}
-use Rattle.agent_control.specs.declared.limits.TheConstants.{LINE_MAX}
-use Rattle.agent_control.specs.declared.fault.RequestFault.{RequestFault}
 use Rattle.agent_control.specs.declared.fault.RequestFault.TheVariants.{TooLong, NoCommand, BadName, BadWhen, BadCredential}
-use Rattle.agent_control.specs.declared.request.ControlRequest.{ControlRequest}
 use Rattle.agent_control.specs.declared.request.ControlRequest.TheVariants.{Need, Replace, Add, Drop, Status, Health, Settle, Reload, Follow}
-use Rattle.agent_control.specs.declared.when.When.{When}
 
 -- ---- as it is read
 

@@ -1,15 +1,9 @@
 -- When: until when an entry is to be needed, as the word of a request says it.
 -- Source: RFC 3339, section 5.6, for a date; the rest is this project's own.
 use Rattle.std.specs.Prelude.{ℕ, ◌+◌, ◌-◌, ◌*◌, ◌≤◌, Bool, ◌&&◌, ◌==◌, if◌then◌else◌, List, ◌∷◌, Option, Some, None, length, take, drop, slice_index, nat_lt, nat_le, decimal, option_map}
-use Rattle.std.specs.Char.{is_ascii_digit}
-use Rattle.std.specs.List.{list_all}
-use Rattle.std.specs.Str.Parse.{digits_value}
+use Rattle.std.specs.{Char.is_ascii_digit, List.list_all, Str.Parse.digits_value}
 use Rattle.base_moment.specs.declared.moment.TheConstants.{LAST}
-use Rattle.vault_inventory.specs.Languages.{full}
-use Rattle.vault_inventory.specs.Values.{need_text}
-use Rattle.vault_inventory.specs.declared.need.Need.{Need}
-use Rattle.vault_inventory.specs.declared.need.Need.TheVariants.{Until}
-use Rattle.vault_inventory.specs.Needs.{IsNeed, need_word}
+use Rattle.vault_inventory.specs.{Languages.full, Values.need_text, declared.need.Need.Need, declared.need.Need.TheVariants.Until, Needs.IsNeed, Needs.need_word}
 use Rattle.agent_control.specs.declared.when.When.{When}
 use Rattle.agent_control.specs.declared.when.When.TheVariants.{Fixed, FromNow}
 

@@ -1,11 +1,10 @@
 -- Words: a line as an array of words, as it is read and as it is written.
 -- Source: RFC 8259.
 use Rattle.std.specs.Prelude.{ℕ, Bool, if◌then◌else◌, List, [], ◌∷◌, get_or, Option, Some, None, option_map, option_and_then, Result, Ok, Err}
-use Rattle.serde_json.specs.Data.{Data, string, array, Items, no_items, item}
 use Rattle.serde_json.specs.Find.{as_array, as_str}
+use Rattle.serde_json.specs.Data.{Data, string, array, Items, no_items, item}
 use Rattle.vault_json.specs.Body.{json_tree}
-use Rattle.agent_control.specs.declared.fault.RequestFault.{RequestFault}
-use Rattle.agent_control.specs.declared.fault.RequestFault.TheVariants.{NotWords}
+use Rattle.agent_control.specs.{declared.fault.RequestFault.RequestFault, declared.fault.RequestFault.TheVariants.NotWords}
 
 -- the word at an index
 abbrev pub word_at : List (List ℕ) → ℕ → List ℕ

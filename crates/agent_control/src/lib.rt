@@ -26,7 +26,7 @@ pub use laws::{
 };
 pub use limits::LINE_MAX;
 pub use reader::read_request;
-pub use reply::{Lines, ControlReply, write_reply};
+pub use reply::{ControlReply, Lines, write_reply};
 pub use reply_reader::read_reply;
 pub use request::ControlRequest;
 pub use when::{When, read_when};

@@ -1,7 +1,7 @@
 ghost use Rattle.std.specs.Prelude.{◌≡◌, IfOk, Some, option_map};
 ghost use Rattle.agent_control.specs.Replies.{lines_of_text, refusal_of, refused_in, reply_in_lines, reply_in_text};
 
-use crate::reply::{Lines, ControlReply};
+use crate::reply::{ControlReply, Lines};
 use base_moment::Text;
 use base_words::cut;
 use std::alloc::{AllocError, Global};

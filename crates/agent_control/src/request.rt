@@ -63,7 +63,10 @@ impl fmt::Debug for ControlRequest {
             ControlRequest::Health => f.write_str("Health"),
             ControlRequest::Settle => f.write_str("Settle"),
             ControlRequest::Reload => f.write_str("Reload"),
-            ControlRequest::Follow { alerts } => f.debug_struct("Follow").field("alerts", alerts).finish(),
+            ControlRequest::Follow { alerts } => f
+                .debug_struct("Follow")
+                .field("alerts", alerts)
+                .finish(),
         }
     }
 }

@@ -5,12 +5,11 @@ use Rattle.std.proofs.lemmas.Bool.{and_parts, cond-false}
 use Rattle.std.proofs.lemmas.List.{flat_map_more, take_all, take_more}
 use Rattle.std.specs.Cmp.Lexicographic.{bytes_decides}
 use Rattle.std.specs.List.{flat_map, list_all, onto_first, slice_split}
-use Rattle.base_words.specs.Laws.{Lacks}
-use Rattle.base_words.specs.Pieces.{pieces}
+use Rattle.base_words.specs.{Laws.Lacks, Pieces.pieces}
 use Rattle.agent_standing.specs.declared.ends.KnownEnd.{KnownEnd}
 use Rattle.agent_standing.specs.Ends.{EndLineLaw, EndWrittenIsRead, IsKnownEnd, end_of_text, end_text, in_boot}
-use Rattle.agent_ends.specs.Ends.{ends_in, ends_in_line, ends_text, line_of_end}
 use Rattle.agent_ends.specs.Laws.{ReadBackLaw}
+use Rattle.agent_ends.specs.Ends.{ends_in, ends_in_line, ends_text, line_of_end}
 
 -- ---- as they are written
 
@@ -33,10 +32,6 @@ text_all ends i past = ap ends_text (take_all i ends past)
 pub read_cut : (boot text line after : List ℕ) → pieces 10 text ≡ line ∷ pieces 10 after → ends_in boot text ≡ ends_in_line boot line ++ ends_in boot after
 unfolding ends_in
 read_cut boot text line after cut = ap (flat_map (ends_in_line boot)) cut
-
-pub read_last : (boot text : List ℕ) → pieces 10 text ≡ text ∷ [] → ends_in boot text ≡ ends_in_line boot text
-unfolding ends_in
-read_last boot text cut = ap (flat_map (ends_in_line boot)) cut ∙ append-nil (ends_in_line boot text)
 
 -- ---- read back
 

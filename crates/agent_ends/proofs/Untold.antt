@@ -1,24 +1,18 @@
 -- Untold: an event that tells of no end leaves what is kept as it was.
 use Rattle.std.proofs.Common.{◌≡◌, ◌∙◌, ℕ, zero, suc, false, List, [], ◌∷◌, ◌++◌, Option, Some, None, length, refl, sym, ap, subst, slice_index_or}
-use Rattle.std.proofs.lemmas.List.{length-set}
-use Rattle.std.proofs.lemmas.List.Concat.{flat_map-cons}
+use Rattle.std.proofs.lemmas.{List.length-set, List.Concat.flat_map-cons}
 use Rattle.std.specs.List.{flat_map, range_with_len}
 use Rattle.std.specs.Prelude.{slice_set}
-use Rattle.plan_forest.specs.declared.entry.Entry.{Entry}
-use Rattle.plan_forest.specs.Forest.{entry_at, no_entry}
+use Rattle.plan_forest.specs.{declared.entry.Entry.Entry, Forest.entry_at, Forest.no_entry}
 use Rattle.vault_inventory.specs.Inventories.{Inventory, credential_at, inventory_with_need}
-use Rattle.watch_machine.specs.declared.event.WatchEvent.{WatchEvent}
-use Rattle.watch_machine.specs.declared.event.WatchEvent.TheVariants.{Clock, Looked, Renewed, Need, Begin, Known}
+use Rattle.watch_machine.specs.{declared.event.WatchEvent.WatchEvent, State.WatchState}
+use Rattle.watch_machine.specs.declared.event.WatchEvent.TheVariants.{Looked, Renewed, Need, Known}
 use Rattle.watch_machine.specs.declared.event.WatchReply.TheVariants.{Told, Refused, Busy, Lost}
-use Rattle.watch_machine.specs.State.{WatchState}
-use Rattle.agent_standing.specs.declared.ends.KnownEnd.{KnownEnd}
-use Rattle.agent_standing.specs.declared.standing.EntryStanding.{EntryStanding}
-use Rattle.agent_standing.specs.declared.standing.Told as told
-use Rattle.agent_standing.specs.Agent.{Agent}
+use Rattle.agent_standing.specs.{declared.ends.KnownEnd.KnownEnd, declared.standing.EntryStanding.EntryStanding, Agent.Agent, Turns.inventory_after}
 use Rattle.agent_standing.specs.Standings.{fresh_standing, standing_in, standings_after}
-use Rattle.agent_standing.specs.Turns.{inventory_after}
-use Rattle.agent_ends.specs.Ends.{end_with, ends_of, ends_told_at, known_by, mark_of}
+use Rattle.agent_standing.specs.declared.standing.Told as told
 use Rattle.agent_ends.specs.Laws.{OnlyToldLaw, tells_end}
+use Rattle.agent_ends.specs.Ends.{end_with, ends_of, ends_told_at, known_by, mark_of}
 
 -- one element is another, of which something is as it was of the one before
 set_same : {X Y : Type 0} (f : X → Y) (d : X) (xs : List X) (j : ℕ) (y : X) → f y ≡ f (slice_index_or xs j d) → (i : ℕ) → f (slice_index_or (slice_set xs j y) i d) ≡ f (slice_index_or xs i d)

@@ -3,17 +3,12 @@
 use Rattle.std.specs.Prelude.{ℕ, List, [], ◌∷◌, ◌++◌, Option, Some, None, bytes_eq, if◌then◌else◌, length, option_to_list}
 use Rattle.std.specs.List.{flat_map, range_with_len}
 use Rattle.base_words.specs.Pieces.{pieces}
-use Rattle.plan_forest.specs.declared.entry.Kind.{Kind}
-use Rattle.plan_forest.specs.Forest.{entry_at, index_named}
-use Rattle.vault_inventory.specs.Inventories.{Inventory, credential_at}
+use Rattle.plan_forest.specs.{declared.entry.Kind.Kind, Forest.entry_at, Forest.index_named}
+use Rattle.vault_inventory.specs.{Inventories.Inventory, Inventories.credential_at, Kinds.kind_word}
 use Rattle.state_changes.specs.Words.{fingerprint}
-use Rattle.watch_machine.specs.declared.event.WatchEvent.{WatchEvent}
-use Rattle.watch_machine.specs.declared.event.WatchEvent.TheVariants.{Known}
-use Rattle.agent_standing.specs.declared.ends.KnownEnd.{KnownEnd}
-use Rattle.agent_standing.specs.declared.standing.Told.{Told}
-use Rattle.agent_standing.specs.Agent.{Agent, standing_at}
+use Rattle.watch_machine.specs.{declared.event.WatchEvent.WatchEvent, declared.event.WatchEvent.TheVariants.Known}
+use Rattle.agent_standing.specs.{declared.ends.KnownEnd.KnownEnd, declared.standing.Told.Told, Agent.Agent, Agent.standing_at}
 use Rattle.agent_standing.specs.Ends.{end_of_text, end_text, in_boot}
-use Rattle.vault_inventory.specs.Kinds.{kind_word}
 
 -- ---- the file
 

@@ -2,15 +2,11 @@
 -- Source: this project's own.
 use Rattle.std.specs.Prelude.{◌≡◌, ℕ, ◌+◌, Bool, true, false, not, ◌&&◌, IsTrue, List, Option, None, Some, OnOk, Result, is_err, min, nat_lt, string_bytes}
 use Rattle.agent_standing.specs.Agent.{Agent}
-use Rattle.base_disk.specs.declared.fault.DiskFault.{DiskFault}
-use Rattle.base_disk.specs.Image.{File, with_file_at}
+use Rattle.base_disk.specs.{declared.fault.DiskFault.DiskFault, Image.File, Image.with_file_at, Torn.MovesFile, declared.system.TheConstants.FILE_MODE}
 use Rattle.base_disk.specs.State.{DiskKeeps, DiskState, IsAfter, LeavesOnly, TellsFailure}
-use Rattle.base_disk.specs.Torn.{MovesFile}
-use Rattle.base_disk.specs.declared.system.TheConstants.{FILE_MODE}
 use Rattle.watch_machine.specs.declared.event.WatchReply.{WatchReply}
 use Rattle.watch_machine.specs.declared.event.WatchReply.TheVariants.{Told, Refused, Busy, Lost}
-use Rattle.agent_ends.specs.Ends.{ends_of, ends_text}
-use Rattle.agent_ends.specs.declared.file.EndsFile.{EndsFile}
+use Rattle.agent_ends.specs.{Ends.ends_of, Ends.ends_text, declared.file.EndsFile.EndsFile}
 
 -- by no other answer does what is known of an end change
 abbrev pub tells_of_end : WatchReply → Bool

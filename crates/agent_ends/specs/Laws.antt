@@ -1,14 +1,10 @@
 -- Laws of ends that are kept over a restart. Each is the contract of a public function without a body.
 use Rattle.std.specs.Prelude.{◌≡◌, ℕ, Bool, true, false, List, [], ◌∷◌}
-use Rattle.agent_standing.specs.declared.ends.KnownEnd.{KnownEnd}
-use Rattle.agent_standing.specs.Agent.{Agent}
-use Rattle.agent_standing.specs.Ends.{IsKnownEnd}
-use Rattle.agent_standing.specs.Turns.{EventIsTaken}
-use Rattle.watch_machine.specs.declared.command.WatchOutput.{WatchOutput}
-use Rattle.watch_machine.specs.declared.event.WatchEvent.{WatchEvent}
+use Rattle.agent_standing.specs.{declared.ends.KnownEnd.KnownEnd, Agent.Agent, Ends.IsKnownEnd, Turns.EventIsTaken}
+use Rattle.watch_machine.specs.{declared.command.WatchOutput.WatchOutput, declared.event.WatchEvent.WatchEvent}
 use Rattle.watch_machine.specs.declared.event.WatchEvent.TheVariants.{Clock, Looked, Renewed, Need, Begin, Known}
-use Rattle.agent_ends.specs.Ends.{ends_in, ends_of, ends_text}
 use Rattle.agent_ends.specs.Files.{tells_of_end}
+use Rattle.agent_ends.specs.Ends.{ends_in, ends_of, ends_text}
 
 -- each may be kept, and was told in this boot
 abbrev pub AreOf : List ℕ → List KnownEnd → Type 0

@@ -1,14 +1,10 @@
 -- Admits: a client follows the log from now on, or does not. For `follow` and `admit`.
-use Rattle.std.proofs.Common.{◌≡◌, ◌<◌, ◌≤◌, ℕ, Bool, Option, Some, None, Err, IfSome, inl, inr, length, refl, subst, sym}
+use Rattle.std.proofs.Common.{◌≡◌, ◌<◌, ◌≤◌, ℕ, Bool, Option, Some, None, Err, IfSome, inl, inr, length, subst, sym}
 use Rattle.std.specs.Prelude.{codes}
-use Rattle.agent_answers.specs.declared.control.Control.{Control}
 use Rattle.base_clock.specs.declared.reading.Reading.{Reading}
-use Rattle.agent_house.specs.Admitting.{AdmitsIf, AnswerBeginsWith, FollowsLog, IsAdmitted, asking_in}
-use Rattle.agent_house.specs.Houses.{WillTell}
+use Rattle.agent_house.specs.{Houses.WillTell, declared.follow_command.TheConstants.MOST_FOLLOWERS, declared.house.House.House}
+use Rattle.agent_house.specs.Admitting.{AdmitsIf, FollowsLog, IsAdmitted, asking_in}
 use Rattle.agent_words.specs.Outcomes.{Why}
-use Rattle.agent_log.specs.Rooms.{with_follower}
-use Rattle.agent_house.specs.declared.follow_command.TheConstants.{MOST_FOLLOWERS}
-use Rattle.agent_house.specs.declared.house.House.{House}
 
 module _ {S T D K E : Type 0} (now : Reading) (alerts : Bool) (old mid new : House S T D K E) where
   pub not_admitted : (why : Why) → MOST_FOLLOWERS ≤ length old.desk.room.followers → IfSome why (λ words. words ≡ codes "8 clients follow the log already")

@@ -2,25 +2,18 @@
 use Rattle.std.proofs.Common.{◌≡◌, ◌∙◌, ℕ, ◌+◌, ◌≤◌, Bool, List, Option, ap, subst, sym}
 use Rattle.std.specs.Prelude.{◌&&◌, ◌||◌}
 use Rattle.agent_standing.specs.Agent.{Agent}
-use Rattle.agent_answers.specs.declared.control.Control.{Control}
-use Rattle.agent_answers.specs.declared.onlookers.Onlookers.{Onlookers}
-use Rattle.agent_answers.specs.declared.went.Went.{Went}
+use Rattle.agent_answers.specs.{declared.control.Control.Control, declared.onlookers.Onlookers.Onlookers, declared.went.Went.Went}
 use Rattle.state_changes.specs.declared.row.Row.{Row}
-use Rattle.base_clients.specs.Doors.{DoorLog}
-use Rattle.base_clients.specs.declared.talk.TalkCall.{TalkCall}
+use Rattle.base_clients.specs.{Doors.DoorLog, declared.talk.TalkCall.TalkCall}
 use Rattle.base_clock.specs.declared.reading.Reading.{Reading}
 use Rattle.base_device.specs.declared.tried.Tried.{Tried}
-use Rattle.base_log.specs.declared.writing.TheConstants.{MOST_TRIES}
-use Rattle.agent_pages.specs.declared.board.Surroundings.{Surroundings}
-use Rattle.agent_pages.specs.Naming.{beside}
+use Rattle.base_log.specs.{declared.writing.TheConstants.MOST_TRIES, declared.form.Form.Form}
+use Rattle.agent_pages.specs.{declared.board.Surroundings.Surroundings, Naming.beside}
+use Rattle.agent_log.specs.{Feeding.FollowersGoOn, Rooms.Rooms}
 use Rattle.agent_log.specs.LogDesk.{Desk, HearsWant, ReaderIsGiven}
-use Rattle.agent_log.specs.Feeding.{FollowersGoOn}
-use Rattle.agent_log.specs.Rooms.{Rooms}
-use Rattle.agent_house.specs.Retries.{folder_in}
+use Rattle.agent_house.specs.{Retries.folder_in, declared.house.House.House}
 use Rattle.agent_house.specs.Houses.{Attends, ClientsGoOn, OnlookersGoOn, around_of, named_in}
 use Rattle.agent_words.specs.Moments.{second_of}
-use Rattle.agent_house.specs.declared.house.House.{House}
-use Rattle.base_log.specs.declared.form.Form.{Form}
 
 -- what is said where something decides it that is the same
 pub hears_by : (a b : Bool) (agent : Agent) (old new : Desk) → a ≡ b → HearsWant agent a old new → HearsWant agent b old new

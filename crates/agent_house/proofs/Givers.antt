@@ -2,54 +2,35 @@
 use Rattle.std.proofs.Common.{◌≡◌, ◌∙◌, ◌⊎◌, ℕ, Bool, true, false, inl, inr, List, [], Option, Some, None, Result, Ok, Err, ap, refl, subst, sym}
 use Rattle.std.proofs.lemmas.Bool.{true≢false}
 use Rattle.std.specs.Prelude.{◌||◌, Vec, is_some, option_to_list}
-use Rattle.std.specs.declared.alloc.AllocError.{AllocError}
-use Rattle.std.specs.declared.alloc.Global.{Global}
+use Rattle.std.specs.{declared.alloc.AllocError.AllocError, declared.alloc.Global.Global}
 use Rattle.agent_standing.specs.Agent.{Agent}
-use Rattle.agent_answers.specs.declared.asked.ClientOrder.{ClientOrder}
+use Rattle.agent_answers.specs.{declared.asked.ClientOrder.ClientOrder, declared.control.Control.Control, declared.went.Went.Went}
 use Rattle.agent_answers.specs.declared.asked.ClientOrder.TheVariants as asked
-use Rattle.agent_answers.specs.declared.control.Control.{Control}
-use Rattle.agent_answers.specs.declared.went.Went.{Went}
-use Rattle.state_changes.specs.Rows.{named}
+use Rattle.state_changes.specs.{Rows.named, declared.row.Row.Row, declared.change.ChangeKind.ChangeKind}
 use Rattle.state_changes.specs.declared.change.ChangeKind.TheVariants as what
-use Rattle.state_changes.specs.declared.row.Row.{Row}
-use Rattle.base_clients.specs.Doors.{DoorLog}
-use Rattle.base_clients.specs.declared.talk.TalkCall.{TalkCall}
+use Rattle.base_clients.specs.{Doors.DoorLog, declared.talk.TalkCall.TalkCall}
 use Rattle.base_device.specs.declared.tried.Tried.{Tried}
 use Rattle.base_clock.specs.declared.reading.Reading.{Reading}
-use Rattle.vault_inventory.specs.Inventories.{Inventory}
-use Rattle.vault_inventory.specs.declared.need.Need.{Need}
+use Rattle.vault_inventory.specs.{Inventories.Inventory, declared.need.Need.Need}
 use Rattle.agent_pages.specs.Naming.{Around}
-use Rattle.agent_turns.specs.Changes.{AllGiven}
-use Rattle.agent_turns.specs.declared.change.AgentChange.{AgentChange}
+use Rattle.agent_turns.specs.{Changes.AllGiven, declared.change.AgentChange.AgentChange}
+use Rattle.agent_house.specs.{Retries.KeeperTries, Retries.is_any_asked, Looks.AsksToLook, Looks.LooksAround, declared.given.Awaited.Awaited, declared.given.Given.Given, declared.house.House.House}
 use Rattle.agent_house.specs.Admitting.{AdmitsIf, AnswerBeginsWith, FollowsLog, asking_in}
-use Rattle.agent_house.specs.Awaiting.{AddsRow, HearsFor, HearsOfAwaited, HearsVerdict, IsAddedLine, IsRefusedFor, Judges, LooksUpBy, LooksUpFirst, LooksUpIf, Makes, ProvesBy, Replaces, SetsAside, VerdictIs, addressed}
-use Rattle.agent_house.specs.Commands.{AddsEntry, AddsIf, AsksFor, AsksIf, CarriesIf, CarriesOut, ClosesClient, DropsEntry, GivesNeed, InventoryIsDue, NeedIsKept, StateIsServed, GoesOnIf, GoesOnWithClients, LacksMemory, Needs, NeedsIf, Reloads, RereadBy, ServesClients, SettlesFile, SettlesAnswer, SettlesAside, SettlesBy, SettlesGiven, SettlesNeed, SettlesServed, TellsNeed, TellsReload, end_named}
-use Rattle.agent_log.specs.Feeding.{FollowersGoOn}
-use Rattle.agent_house.specs.Retries.{KeeperTries, is_any_asked}
-use Rattle.agent_house.specs.Houses.{Attends, ClientIsAnswered, ClientIsAside, ClientIsSent, ClientsAsk, ClientsGoOn, Concludes, IsAnsweredAs, IsAnsweredAside, SendsAside, WillRefuse, WillTell, bytes_sent, changes_given, given_where}
+use Rattle.agent_house.specs.Awaiting.{HearsFor, IsAddedLine, Judges, LooksUpBy, LooksUpFirst, LooksUpIf, Makes, ProvesBy, VerdictIs}
+use Rattle.agent_house.specs.Commands.{AddsIf, AsksFor, AsksIf, CarriesIf, CarriesOut, GivesNeed, InventoryIsDue, NeedIsKept, StateIsServed, GoesOnIf, GoesOnWithClients, LacksMemory, NeedsIf, RereadBy, ServesClients, SettlesBy, SettlesGiven, TellsReload, end_named}
+use Rattle.agent_house.specs.Houses.{Attends, ClientIsAnswered, ClientIsAside, ClientIsSent, ClientsAsk, ClientsGoOn, Concludes, IsAnsweredAs, IsAnsweredAside, WillRefuse, WillTell, bytes_sent, changes_given, given_where}
+use Rattle.agent_log.specs.{Feeding.FollowersGoOn, LookupLosses.line_with_loss, Lines.Line, Rooms.Rooms, declared.mark.Mark.Mark}
+use Rattle.agent_ledger.specs.{declared.keeping.FileLook.FileLook, declared.keeping.KeepNews.KeepNews, declared.keeping.LookedUp.LookedUp}
 use Rattle.agent_ledger.specs.Keeping.{KeepCall, KeeperIsAsked, Settle, Take}
+use Rattle.agent_words.specs.declared.reread.Reread.{Reread}
 use Rattle.agent_words.specs.Outcomes.{Outcome, Why, Whys}
 use Rattle.agent_words.specs.Telling.{IsDropLine, replaced_text, settle_line, until_of_need}
-use Rattle.agent_log.specs.LookupLosses.{line_with_loss}
-use Rattle.agent_log.specs.Lines.{Line}
-use Rattle.agent_log.specs.Rooms.{Rooms}
 use Rattle.base_log.specs.declared.form.Form.{Form}
-use Rattle.agent_house.specs.Looks.{AsksToLook, LooksAround}
-use Rattle.state_changes.specs.declared.change.ChangeKind.{ChangeKind}
 use Rattle.vault_lanes.specs.declared.loss.Loss.{Loss}
 use Rattle.vault_proving.specs.declared.verdict.Verdict.{Verdict}
 use Rattle.vault_proving.specs.declared.verdict.Verdict.TheVariants as verdicts
-use Rattle.agent_house.specs.declared.given.Awaited.{Awaited}
-use Rattle.agent_house.specs.declared.given.Given.{Given}
 use Rattle.agent_house.specs.declared.given.Given.TheVariants as givens
-use Rattle.agent_house.specs.declared.given.GivenNeed.{GivenNeed}
-use Rattle.agent_house.specs.declared.house.House.{House}
-use Rattle.agent_ledger.specs.declared.keeping.FileLook.{FileLook}
-use Rattle.agent_ledger.specs.declared.keeping.KeepNews.{KeepNews}
-use Rattle.agent_ledger.specs.declared.keeping.LookedUp.{LookedUp}
 use Rattle.agent_ledger.specs.declared.keeping.LookedUp.TheVariants as lookups
-use Rattle.agent_words.specs.declared.reread.Reread.{Reread}
-use Rattle.agent_log.specs.declared.mark.Mark.{Mark}
 
 -- ---- who is there stays there, and the log's reader is left alone
 

@@ -1,5 +1,5 @@
 -- Told: what is told of a command that was done. For `taking`.
-use Rattle.std.proofs.Common.{◌≡◌, ℕ, List, Option, Some, None, Ok, Result, IfSome}
+use Rattle.std.proofs.Common.{ℕ, List, Option, Some, None, Ok, Result, IfSome}
 use Rattle.agent_ledger.specs.Keeping.{KeepCall, KeeperIsAsked}
 use Rattle.agent_words.specs.Outcomes.{Why}
 

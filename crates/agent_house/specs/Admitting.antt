@@ -1,14 +1,11 @@
 -- Admitting: a client asks for the log's lines from now on.
 -- Source: this project's own.
 use Rattle.std.specs.Prelude.{◌≡◌, ◌⊎◌, ◌<◌, ◌≤◌, ℕ, Bool, List, Option, Some, None, IfSome, Err, codes, length}
-use Rattle.agent_answers.specs.Controlling.{FollowsAsked}
-use Rattle.agent_answers.specs.declared.control.Control.{Control}
+use Rattle.agent_answers.specs.{Controlling.FollowsAsked, declared.control.Control.Control}
 use Rattle.base_clock.specs.declared.reading.Reading.{Reading}
-use Rattle.agent_house.specs.Houses.{WillTell}
+use Rattle.agent_house.specs.{Houses.WillTell, declared.follow_command.TheConstants.MOST_FOLLOWERS, declared.house.House.House}
 use Rattle.agent_words.specs.Outcomes.{Why}
 use Rattle.agent_log.specs.Rooms.{with_follower}
-use Rattle.agent_house.specs.declared.follow_command.TheConstants.{MOST_FOLLOWERS}
-use Rattle.agent_house.specs.declared.house.House.{House}
 
 -- the client's answer begins with this, and goes on
 abbrev pub AnswerBeginsWith : {T D : Type 0} → List ℕ → Option (Control T D) → Option (Control T D) → Type 0

@@ -3,27 +3,21 @@
 use Rattle.std.specs.Prelude.{◌≡◌, ℕ, Bool, true, false, List, ◌++◌, Option, Some, None, IfSome, Result, Ok, Err, codes}
 use Rattle.std.specs.declared.alloc.AllocError.{AllocError}
 use Rattle.agent_standing.specs.Agent.{Agent}
-use Rattle.agent_answers.specs.declared.control.Control.{Control}
-use Rattle.state_changes.specs.Rows.{named}
-use Rattle.state_changes.specs.declared.change.ChangeKind.{ChangeKind}
+use Rattle.state_changes.specs.{Rows.named, declared.change.ChangeKind.ChangeKind, declared.row.Row.Row}
 use Rattle.state_changes.specs.declared.change.ChangeKind.TheVariants as what
-use Rattle.state_changes.specs.declared.row.Row.{Row}
 use Rattle.base_clock.specs.declared.reading.Reading.{Reading}
 use Rattle.vault_lanes.specs.declared.loss.Loss.{Loss}
 use Rattle.vault_proving.specs.declared.verdict.Verdict.{Verdict}
 use Rattle.vault_proving.specs.declared.verdict.Verdict.TheVariants as verdicts
-use Rattle.agent_log.specs.Changed.{entry_log_line}
-use Rattle.agent_log.specs.LookupLosses.{line_with_loss}
+use Rattle.agent_log.specs.{Changed.entry_log_line, LookupLosses.line_with_loss}
+use Rattle.agent_house.specs.{declared.given.Awaited.Awaited, declared.given.Given.Given, declared.house.House.House}
 use Rattle.agent_house.specs.Houses.{ClientIsAside, Concludes, WillTell}
+use Rattle.agent_ledger.specs.declared.keeping.LookedUp.{LookedUp}
 use Rattle.agent_ledger.specs.Keeping.{KeepCall, KeeperIsAsked, LookUp, Prove, Take}
 use Rattle.agent_words.specs.Outcomes.{Outcome, Why}
 use Rattle.agent_words.specs.Telling.{IsAddLine, replaced_text, until_of_need}
 use Rattle.agent_words.specs.VerdictWords.{endless_words, kept_words, later_words, status_words}
-use Rattle.agent_house.specs.declared.given.Awaited.{Awaited}
-use Rattle.agent_house.specs.declared.given.Given.{Given}
 use Rattle.agent_house.specs.declared.given.Given.TheVariants as givens
-use Rattle.agent_house.specs.declared.house.House.{House}
-use Rattle.agent_ledger.specs.declared.keeping.LookedUp.{LookedUp}
 use Rattle.agent_ledger.specs.declared.keeping.LookedUp.TheVariants as looked
 
 -- ---- a change that brings a credential is made; why says why the broker has said nothing of it, where it was asked and has not

@@ -1,45 +1,31 @@
 -- Commands: what clients ask for is carried out, and what comes of it.
 -- Source: this project's own; docs/running.md, "Changes while it runs".
-use Rattle.std.specs.Prelude.{◌≡◌, ◌≢◌, ◌⊎◌, ◌==◌, ◌&&◌, ℕ, Bool, true, false, not, nat_lt, List, [], ◌∷◌, Option, Some, None, IfSome, Vec, Result, Ok, Err, codes, length, replicate}
-use Rattle.std.specs.declared.alloc.AllocError.{AllocError}
-use Rattle.std.specs.declared.alloc.Global.{Global}
-use Rattle.agent_standing.specs.Agent.{Agent}
-use Rattle.agent_standing.specs.Status.{status_of_entry}
-use Rattle.agent_answers.specs.declared.asked.ClientOrder.{ClientOrder}
+use Rattle.std.specs.Prelude.{◌≡◌, ◌≢◌, ◌⊎◌, ◌==◌, ◌&&◌, ℕ, Bool, true, false, not, nat_lt, List, [], Option, Some, None, IfSome, Vec, Result, Ok, Err, codes, length, replicate}
+use Rattle.std.specs.{declared.alloc.AllocError.AllocError, declared.alloc.Global.Global}
+use Rattle.agent_standing.specs.{Agent.Agent, Status.status_of_entry}
+use Rattle.agent_answers.specs.{declared.asked.ClientOrder.ClientOrder, declared.control.Control.Control}
 use Rattle.agent_answers.specs.declared.asked.ClientOrder.TheVariants as asked
-use Rattle.agent_answers.specs.declared.control.Control.{Control}
-use Rattle.state_changes.specs.Rows.{named}
+use Rattle.state_changes.specs.{Rows.named, declared.row.Row.Row}
 use Rattle.state_changes.specs.declared.change.ChangeKind.TheVariants as what
-use Rattle.state_changes.specs.declared.row.Row.{Row}
 use Rattle.base_clock.specs.declared.reading.Reading.{Reading}
-use Rattle.vault_inventory.specs.Inventories.{Inventory}
-use Rattle.vault_inventory.specs.declared.need.Need.{Need}
-use Rattle.vault_inventory.specs.declared.need.Need.TheVariants as needs
+use Rattle.vault_inventory.specs.{Inventories.Inventory, declared.need.Need.Need}
 use Rattle.program_lines.specs.Text.{name_of}
 use Rattle.base_moment.specs.declared.moment.TheConstants.{LAST}
 use Rattle.agent_turns.specs.declared.change.AgentChange.{AgentChange}
 use Rattle.agent_turns.specs.declared.change.AgentChange.TheVariants as changes
 use Rattle.plan_forest.specs.Forest.{index_named}
-use Rattle.watch_machine.specs.Shortness.{short_of}
-use Rattle.watch_machine.specs.State.{WatchState}
-use Rattle.agent_house.specs.Admitting.{FollowsLog}
-use Rattle.agent_house.specs.Awaiting.{HearsVerdict, LooksUpFirst}
-use Rattle.agent_log.specs.Changed.{entry_log_line, fault_lines, reread_lines, settled_line}
-use Rattle.agent_log.specs.LinesOfClocks.{marks_anew}
-use Rattle.agent_log.specs.LogDesk.{Desk, HearsRefusal, SaysLine, SaysLines}
+use Rattle.watch_machine.specs.{Shortness.short_of, State.WatchState}
+use Rattle.agent_house.specs.{Admitting.FollowsLog, Awaiting.HearsVerdict, Awaiting.LooksUpFirst, declared.given.Given.Given, declared.given.GivenNeed.GivenNeed, declared.house.House.House}
 use Rattle.agent_house.specs.Retries.{TriesAgain, is_any_asked, keeps_in, read_badly, read_well}
 use Rattle.agent_house.specs.Houses.{ClientIsAnswered, ClientIsSent, ClientsAsk, Concludes, IsAnsweredAside, SendsAside, WillRefuse, WillTell}
-use Rattle.agent_words.specs.Outcomes.{IsNotKept, Outcome, Why, Whys}
-use Rattle.agent_ledger.specs.Keeping.{KeepCall, KeeperIsAsked, MarkServed, Reload, Settle, Take}
-use Rattle.agent_log.specs.Marks.{fresh_mark}
-use Rattle.agent_log.specs.Sockets.{need_log_line}
-use Rattle.agent_words.specs.Telling.{IsDropLine, IsNeedLine, IsNeedReply, reload_line, settle_line, until_of_need}
-use Rattle.agent_house.specs.declared.given.Given.{Given}
-use Rattle.agent_house.specs.declared.given.Given.TheVariants as givens
-use Rattle.agent_house.specs.declared.given.GivenNeed.{GivenNeed}
-use Rattle.agent_house.specs.declared.house.House.{House}
+use Rattle.agent_log.specs.{LinesOfClocks.marks_anew, Marks.fresh_mark, Sockets.need_log_line, declared.mark.Mark.Mark}
+use Rattle.agent_log.specs.Changed.{entry_log_line, fault_lines, reread_lines, settled_line}
+use Rattle.agent_log.specs.LogDesk.{Desk, HearsRefusal, SaysLine, SaysLines}
 use Rattle.agent_words.specs.declared.reread.Reread.{Reread}
-use Rattle.agent_log.specs.declared.mark.Mark.{Mark}
+use Rattle.agent_words.specs.Outcomes.{IsNotKept, Outcome, Why, Whys}
+use Rattle.agent_words.specs.Telling.{IsDropLine, IsNeedLine, IsNeedReply, reload_line, settle_line, until_of_need}
+use Rattle.agent_ledger.specs.Keeping.{KeepCall, KeeperIsAsked, MarkServed, Reload, Settle, Take}
+use Rattle.agent_house.specs.declared.given.Given.TheVariants as givens
 
 -- the end of the entry of that name, where an agent knows it
 abbrev pub end_known_at : Agent → Option ℕ → Option ℕ

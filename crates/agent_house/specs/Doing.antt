@@ -4,29 +4,21 @@ use Rattle.std.specs.Prelude.{◌≡◌, ℕ, Bool, true, false, ◌&&◌, ◌||
 use Rattle.std.specs.declared.alloc.AllocError.{AllocError}
 use Rattle.agent_standing.specs.Agent.{Agent}
 use Rattle.state_changes.specs.declared.row.Row.{Row}
-use Rattle.base_clients.specs.Doors.{DoorLog}
-use Rattle.base_clients.specs.declared.talk.TalkCall.{TalkCall}
+use Rattle.base_clients.specs.{Doors.DoorLog, declared.talk.TalkCall.TalkCall}
 use Rattle.base_clock.specs.declared.reading.Reading.{Reading}
 use Rattle.base_device.specs.declared.tried.Tried.{Tried}
 use Rattle.base_disk.specs.State.{DiskState}
 use Rattle.vault_inventory.specs.Inventories.{Inventory}
 use Rattle.agent_turns.specs.Neighbours.{Answer, End, Give, GoOn, Hear, NeighbourCall, Needs, Rest, Settle, Step, Thing, Time, Want}
-use Rattle.watch_machine.specs.declared.command.WatchRequest.{WatchRequest}
-use Rattle.watch_machine.specs.declared.notes.Notes.{Notes}
-use Rattle.watch_machine.specs.declared.outlook.Next.{Next}
+use Rattle.watch_machine.specs.{declared.command.WatchRequest.WatchRequest, declared.notes.Notes.Notes, declared.outlook.Next.Next}
+use Rattle.agent_house.specs.{Behind.looked, Behind.stepped, Houses.Attends, Nexts.HearsNext, Looks.LooksAround, Rests.Rests, declared.house.House.House}
 use Rattle.agent_house.specs.Commands.{AsksFor, SettlesGiven, is_served}
+use Rattle.agent_house.specs.Ends.{HearsServed, KeepsEnds, after_answer, to_be_kept}
 use Rattle.agent_log.specs.LinesBehind.{steps_in_count}
 use Rattle.agent_log.specs.LogDesk.{Desk, HearsAhead, HearsAnswer, HearsClock, HearsShorts, HearsSteps}
-use Rattle.agent_house.specs.Behind.{looked, stepped}
-use Rattle.agent_house.specs.Ends.{HearsServed, KeepsEnds, after_answer, to_be_kept}
-use Rattle.agent_house.specs.Houses.{Attends}
+use Rattle.agent_log.specs.Wants.{HearsTime, HearsUnmade, HearsWanting}
 use Rattle.agent_ledger.specs.Keeping.{KeepCall}
 use Rattle.agent_words.specs.Outcomes.{Why}
-use Rattle.agent_house.specs.Nexts.{HearsNext}
-use Rattle.agent_house.specs.Looks.{LooksAround}
-use Rattle.agent_house.specs.Rests.{Rests}
-use Rattle.agent_log.specs.Wants.{HearsTime, HearsUnmade, HearsWanting}
-use Rattle.agent_house.specs.declared.house.House.{House}
 
 -- ---- what is heard of
 

@@ -2,13 +2,10 @@
 -- Source: this project's own; docs/running.md, "What the operator sees".
 use Rattle.std.specs.Prelude.{◌≡◌, ℕ, Bool, true, false, ◌||◌, Option, Some, None, Result, option_map}
 use Rattle.agent_standing.specs.Agent.{Agent}
-use Rattle.base_disk.specs.State.{DiskState}
-use Rattle.base_disk.specs.declared.fault.DiskFault.{DiskFault}
-use Rattle.agent_ends.specs.Files.{EndsFileGoesOn, tells_of_end}
-use Rattle.agent_ends.specs.declared.file.EndsFile.{EndsFile}
+use Rattle.base_disk.specs.{State.DiskState, declared.fault.DiskFault.DiskFault}
+use Rattle.agent_ends.specs.{Files.EndsFileGoesOn, Files.tells_of_end, declared.file.EndsFile.EndsFile}
 use Rattle.watch_machine.specs.declared.event.WatchReply.{WatchReply}
-use Rattle.agent_log.specs.LinesOfEnds.{tried_lines}
-use Rattle.agent_log.specs.LogDesk.{SaysLines}
+use Rattle.agent_log.specs.{LinesOfEnds.tried_lines, LogDesk.SaysLines}
 use Rattle.agent_house.specs.declared.house.House.{House}
 
 abbrev pub is_failing : {E : Type 0} → Option (EndsFile E) → Bool

@@ -1,39 +1,23 @@
 -- Houses: what each neighbour is given of a turn, and which client is told what. What clients ask for is carried out by specs/Commands.
 -- Source: this project's own; what one onlooker and one client is given is agent_answers's.
-use Rattle.std.specs.Prelude.{◌≡◌, ℕ, ◌+◌, ◌/◌, ◌≤◌, Bool, true, false, ◌&&◌, ◌||◌, List, [], Option, Some, None, Result, Ok, Err, is_ok, is_some}
+use Rattle.std.specs.Prelude.{◌≡◌, ℕ, ◌+◌, ◌/◌, ◌≤◌, Bool, true, false, ◌&&◌, ◌||◌, List, [], Option, Some, None, Result, Ok, is_ok, is_some}
 use Rattle.std.specs.declared.alloc.AllocError.{AllocError}
 use Rattle.agent_standing.specs.Agent.{Agent}
+use Rattle.agent_answers.specs.{Onlooking.OnlookingGoesOn, declared.asked.ClientOrder.ClientOrder, declared.control.Control.Control, declared.onlookers.Onlookers.Onlookers, declared.went.Went.Went}
 use Rattle.agent_answers.specs.Controlling.{AnswersAside, AnswersAsked, ControlGoesOn, GivesAsked}
-use Rattle.agent_answers.specs.Onlooking.{OnlookingGoesOn}
-use Rattle.agent_answers.specs.declared.asked.ClientOrder.{ClientOrder}
-use Rattle.agent_answers.specs.declared.control.Control.{Control}
-use Rattle.agent_answers.specs.declared.onlookers.Onlookers.{Onlookers}
-use Rattle.agent_answers.specs.declared.went.Went.{Went}
 use Rattle.state_changes.specs.declared.row.Row.{Row}
-use Rattle.base_clients.specs.Doors.{DoorLog}
-use Rattle.base_clients.specs.declared.talk.TalkCall.{TalkCall}
+use Rattle.base_clients.specs.{Doors.DoorLog, declared.talk.TalkCall.TalkCall}
 use Rattle.base_clock.specs.declared.reading.Reading.{Reading}
 use Rattle.base_device.specs.declared.tried.Tried.{Tried}
-use Rattle.base_log.specs.Waiting.{Waiting}
-use Rattle.base_log.specs.declared.writing.TheConstants.{MOST_TRIES}
-use Rattle.agent_pages.specs.declared.board.FileReading.{FileReading}
-use Rattle.agent_pages.specs.declared.board.Surroundings.{Surroundings}
-use Rattle.agent_pages.specs.declared.standby.Standby.{Standby}
-use Rattle.agent_pages.specs.declared.state_folder.StateFolder.{StateFolder}
-use Rattle.agent_pages.specs.Naming.{Around, beside}
+use Rattle.base_log.specs.{Waiting.Waiting, declared.writing.TheConstants.MOST_TRIES}
+use Rattle.agent_pages.specs.{declared.board.FileReading.FileReading, declared.board.Surroundings.Surroundings, declared.standby.Standby.Standby, declared.state_folder.StateFolder.StateFolder, Naming.Around, Naming.beside}
 use Rattle.agent_turns.specs.declared.change.AgentChange.{AgentChange}
 use Rattle.watch_machine.specs.declared.outlook.Next.{Next}
+use Rattle.agent_log.specs.{Feeding.FollowersGoOn, Lines.Line, Rooms.Rooms}
 use Rattle.agent_log.specs.LogDesk.{Desk, HearsIf, HearsWant, ReaderIsGiven}
-use Rattle.agent_log.specs.Feeding.{FollowersGoOn}
-use Rattle.agent_words.specs.Outcomes.{Outcome}
-use Rattle.agent_log.specs.Lines.{Line}
-use Rattle.agent_words.specs.Moments.{second_of}
-use Rattle.agent_house.specs.Nexts.{next_wake_of}
-use Rattle.agent_house.specs.Retries.{folder_in}
-use Rattle.agent_log.specs.Rooms.{Rooms}
-use Rattle.agent_words.specs.Telling.{IsRefusalFor, IsReplyTo}
+use Rattle.agent_words.specs.{Outcomes.Outcome, Moments.second_of, Telling.IsRefusalFor, Telling.IsReplyTo}
+use Rattle.agent_house.specs.{Nexts.next_wake_of, Retries.folder_in, declared.house.House.House}
 use Rattle.agent_house.specs.declared.given.Given.TheVariants as givens
-use Rattle.agent_house.specs.declared.house.House.{House}
 
 -- ---- what the agent does not know of itself
 

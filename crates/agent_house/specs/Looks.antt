@@ -3,11 +3,8 @@
 use Rattle.std.specs.Prelude.{◌≡◌, Bool, false, Option, Some, None}
 use Rattle.agent_standing.specs.Agent.{Agent}
 use Rattle.base_clock.specs.declared.reading.Reading.{Reading}
-use Rattle.agent_ledger.specs.Keeping.{KeepCall, Look}
-use Rattle.agent_log.specs.LogDesk.{SaysLines}
-use Rattle.agent_log.specs.SecretLines.{look_lines}
-use Rattle.agent_ledger.specs.Takings.{quiet}
-use Rattle.agent_ledger.specs.declared.keeping.FileLook.{FileLook}
+use Rattle.agent_ledger.specs.{Keeping.KeepCall, Keeping.Look, Takings.quiet, declared.keeping.FileLook.FileLook}
+use Rattle.agent_log.specs.{LogDesk.SaysLines, SecretLines.look_lines}
 use Rattle.agent_house.specs.declared.house.House.{House}
 
 abbrev pub AsksToLook : {K : Type 0} → (KeepCall → K → K → Type 0) → Reading → FileLook → Option K → Option K → Type 0

@@ -2,11 +2,8 @@
 -- Source: this project's own; docs/running.md, "What the operator sees".
 use Rattle.std.specs.Prelude.{◌≡◌, ℕ, Option, Some, None}
 use Rattle.agent_standing.specs.Agent.{Agent}
-use Rattle.watch_machine.specs.Outlook.{broker_moment}
-use Rattle.watch_machine.specs.State.{WatchState}
-use Rattle.watch_machine.specs.declared.outlook.Next.{Next}
-use Rattle.agent_log.specs.LinesOfNexts.{next_lines}
-use Rattle.agent_log.specs.LogDesk.{SaysLines}
+use Rattle.watch_machine.specs.{Outlook.broker_moment, State.WatchState, declared.outlook.Next.Next}
+use Rattle.agent_log.specs.{LinesOfNexts.next_lines, LogDesk.SaysLines}
 use Rattle.agent_house.specs.declared.house.House.{House}
 
 -- by the broker's clock

@@ -1,9 +1,7 @@
 -- Rests: for how long a house may be left alone, where nothing tells of one of its neighbours before.
 -- Source: this project's own.
 use Rattle.std.specs.Prelude.{◌≡◌, ℕ, if◌then◌else◌, Option, Some, None}
-use Rattle.agent_answers.specs.declared.control.Control.{Control}
-use Rattle.agent_answers.specs.declared.onlookers.Onlookers.{Onlookers}
-use Rattle.agent_answers.specs.Onlooking.{onlookers_due}
+use Rattle.agent_answers.specs.{declared.control.Control.Control, declared.onlookers.Onlookers.Onlookers, Onlooking.onlookers_due}
 use Rattle.base_clients.specs.Tables.{first_by}
 use Rattle.base_clock.specs.Rests.{rest_until, shorter}
 use Rattle.agent_ends.specs.declared.file.EndsFile.{EndsFile}

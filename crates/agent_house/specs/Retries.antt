@@ -3,12 +3,9 @@
 use Rattle.std.specs.Prelude.{◌≡◌, ℕ, ◌/◌, Bool, true, false, Option, Some, None, Result, Ok, Err}
 use Rattle.std.specs.declared.alloc.AllocError.{AllocError}
 use Rattle.agent_answers.specs.declared.asked.ClientOrder.{ClientOrder}
-use Rattle.agent_ledger.specs.Keeping.{KeepCall, TryAgain}
-use Rattle.agent_ledger.specs.declared.keeping.KeepNews.{KeepNews}
-use Rattle.agent_log.specs.AtStart.{AreSaidAtStart}
-use Rattle.agent_log.specs.LogDesk.{Desk}
-use Rattle.agent_pages.specs.declared.board.FileReading.{FileReading}
-use Rattle.agent_pages.specs.declared.state_folder.StateFolder.{StateFolder}
+use Rattle.agent_ledger.specs.{Keeping.KeepCall, Keeping.TryAgain, declared.keeping.KeepNews.KeepNews}
+use Rattle.agent_log.specs.{AtStart.AreSaidAtStart, LogDesk.Desk}
+use Rattle.agent_pages.specs.{declared.board.FileReading.FileReading, declared.state_folder.StateFolder.StateFolder}
 use Rattle.agent_pages.specs.declared.state_folder.StateFolder.TheVariants.{NotAskedFor, CannotBeUsed, IsOpen}
 use Rattle.base_clock.specs.declared.reading.Reading.{Reading}
 use Rattle.agent_house.specs.declared.house.House.{House}

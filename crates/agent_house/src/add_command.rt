@@ -15,7 +15,7 @@ use agent_words::{add_line, why_not_kept};
 use base_clients::{Door, Talk};
 use base_clock::Reading;
 use base_moment::{Name, Text};
-use state_changes::{Row, ChangeKind};
+use state_changes::{ChangeKind, Row};
 use std::alloc::Global;
 use vault_lanes::Loss;
 

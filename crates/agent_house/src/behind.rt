@@ -25,7 +25,13 @@ impl<S, T, D, K, E> House<S, T, D, K, E> {
 
     /// The agent asks this, and looks each entry up so many milliseconds before its time. What is counted are the entries of which it is said that
     /// it steps in.
-    pub fn hear_steps(&mut self, alloc: Global, agent: &Agent, lead: Millis, requests: &[WatchRequest])
+    pub fn hear_steps(
+        &mut self,
+        alloc: Global,
+        agent: &Agent,
+        lead: Millis,
+        requests: &[WatchRequest],
+    )
         ensures said { HearsSteps agent.now lead requests.now self.old.desk self.new.desk }
         ensures rest { self.new ≡ record self.old { desk = self.new.desk; standby = stepped (steps_in_count agent.now.machine lead self.old.desk.marks requests.now) self.old.standby } }
     {

@@ -59,7 +59,9 @@ impl<S, T: Talk, D: Door<T>, K: Keeping, E> House<S, T, D, K, E> {
         ensures { Makes K.does K.rows agent.now now name.now what why self.old self.new }
     {
         match what {
-            ChangeKind::Replace(credential) => self.replace(alloc, agent, now, name, credential, why),
+            ChangeKind::Replace(credential) => self.replace(
+                alloc, agent, now, name, credential, why,
+            ),
             ChangeKind::Add(row) => self.add_row(alloc, agent, now, name, row, why),
             ChangeKind::Need(_) | ChangeKind::Drop => self.will_tell(alloc, Err(None), now.elapsed),
         }

@@ -45,7 +45,12 @@ impl<S, T: Talk, D: Door<T>, K: Keeping, E> House<S, T, D, K, E> {
     }
 
     // What has waited for the broker's word is carried out, or refused, once that is there; else what the first of the clients asks for.
-    fn go_on_with_clients(&mut self, alloc: Global, agent: &Agent, now: Reading) -> Option<AgentChange>
+    fn go_on_with_clients(
+        &mut self,
+        alloc: Global,
+        agent: &Agent,
+        now: Reading,
+    ) -> Option<AgentChange>
         ensures { GoesOnWithClients K.does K.rows K.keeps K.path K.reads K.gives agent.now now result self.old self.new }
     {
         if self.hear_verdict(alloc, agent, now) {
@@ -84,11 +89,23 @@ impl<S, T: Talk, D: Door<T>, K: Keeping, E> House<S, T, D, K, E> {
     }
 
     // Carries out what a client asks for.
-    fn carry_out(&mut self, alloc: Global, agent: &Agent, now: Reading, asked: ClientOrder) -> AgentChange
+    fn carry_out(
+        &mut self,
+        alloc: Global,
+        agent: &Agent,
+        now: Reading,
+        asked: ClientOrder,
+    ) -> AgentChange
         ensures { CarriesOut K.does K.rows K.keeps K.path K.reads K.gives agent.now now asked result self.old self.new }
     {
         match asked {
-            ClientOrder::Need { name, need } => return self.need(alloc, agent, now, name.list(), &need),
+            ClientOrder::Need { name, need } => return self.need(
+                alloc,
+                agent,
+                now,
+                name.list(),
+                &need,
+            ),
             ClientOrder::Replace { name, credential } => {
                 self.look_up_first(alloc, agent, now, name, ChangeKind::Replace(credential))
             }

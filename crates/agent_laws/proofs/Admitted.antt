@@ -1,25 +1,16 @@
 -- Admitted: where a change is asked for, nobody is told `ok` but a client that follows the log from then on, which has asked for that. For
 -- `whoever_is_told_ok_has_it`.
 use Rattle.std.proofs.Common.{◌≡◌, ◌∙◌, ◌⊎◌, ℕ, zero, suc, Bool, true, false, ◌&&◌, inl, inr, List, [], ◌∷◌, ◌++◌, get_or, nat_eq, Option, Some, None, Result, Ok, Err, ap, codes, refl, slice_get, slice_set, subst, sym}
-use Rattle.std.proofs.lemmas.Bool.{and_parts, eqb-true}
-use Rattle.std.proofs.lemmas.List.Quantifiers.{position-Some}
-use Rattle.std.specs.List.{position}
+use Rattle.std.proofs.lemmas.{Bool.and_parts, Bool.eqb-true, List.Quantifiers.position-Some}
+use Rattle.std.specs.{List.position, declared.alloc.AllocError.AllocError, declared.alloc.Global.Global}
 use Rattle.std.specs.Prelude.{Vec}
-use Rattle.std.specs.declared.alloc.AllocError.{AllocError}
-use Rattle.std.specs.declared.alloc.Global.{Global}
 use Rattle.agent_standing.specs.Agent.{Agent}
-use Rattle.agent_answers.specs.Controlling.{FollowsAsking}
-use Rattle.agent_answers.specs.declared.asked.ClientOrder.{ClientOrder}
+use Rattle.agent_answers.specs.{Controlling.FollowsAsking, declared.asked.ClientOrder.ClientOrder, declared.control.Control.Control}
 use Rattle.agent_answers.specs.declared.asked.ClientOrder.TheVariants as asked
-use Rattle.agent_answers.specs.declared.control.Control.{Control}
-use Rattle.state_changes.specs.declared.change.ChangeKind.{ChangeKind}
+use Rattle.state_changes.specs.{declared.change.ChangeKind.ChangeKind, declared.row.Row.Row}
 use Rattle.state_changes.specs.declared.change.ChangeKind.TheVariants as what
-use Rattle.state_changes.specs.declared.row.Row.{Row}
-use Rattle.base_clients.specs.Guests.{is_stage_asked, is_waiting}
+use Rattle.base_clients.specs.{Guests.is_stage_asked, Guests.is_waiting, declared.clients.GuestRequest.GuestRequest, declared.guest.Guest.Guest, declared.stage.GuestStage.GuestStage}
 use Rattle.base_clients.specs.Tables.{BecomesAt, GuestTable, TakesAt, following, waits_as}
-use Rattle.base_clients.specs.declared.clients.GuestRequest.{GuestRequest}
-use Rattle.base_clients.specs.declared.guest.Guest.{Guest}
-use Rattle.base_clients.specs.declared.stage.GuestStage.{GuestStage}
 use Rattle.base_clients.specs.declared.stage.GuestStage.TheVariants as stages
 use Rattle.base_clock.specs.declared.reading.Reading.{Reading}
 use Rattle.vault_inventory.specs.Inventories.{Inventory}
@@ -27,20 +18,16 @@ use Rattle.vault_lanes.specs.declared.loss.Loss.{Loss}
 use Rattle.vault_proving.specs.declared.verdict.Verdict.{Verdict}
 use Rattle.vault_proving.specs.declared.verdict.Verdict.TheVariants as verdicts
 use Rattle.agent_turns.specs.declared.change.AgentChange.{AgentChange}
-use Rattle.agent_log.specs.Lines.{Line}
-use Rattle.agent_log.specs.declared.mark.Mark.{Mark}
-use Rattle.agent_words.specs.Outcomes.{Outcome, Why, Whys}
+use Rattle.agent_log.specs.{Lines.Line, declared.mark.Mark.Mark}
 use Rattle.agent_words.specs.declared.reread.Reread.{Reread}
-use Rattle.agent_ledger.specs.Keeping.{KeepCall}
-use Rattle.agent_ledger.specs.declared.keeping.LookedUp.{LookedUp}
+use Rattle.agent_words.specs.Outcomes.{Outcome, Why, Whys}
+use Rattle.agent_ledger.specs.{Keeping.KeepCall, declared.keeping.LookedUp.LookedUp}
 use Rattle.agent_ledger.specs.declared.keeping.LookedUp.TheVariants as lookups
+use Rattle.agent_house.specs.{Retries.read_badly, Retries.read_well, declared.given.Awaited.Awaited, declared.house.House.House}
 use Rattle.agent_house.specs.Admitting.{AdmitsIf, AnswerBeginsWith, FollowsLog, asking_in}
 use Rattle.agent_house.specs.Awaiting.{HearsFor, Judges, LooksUpIf, Makes, VerdictIs}
 use Rattle.agent_house.specs.Commands.{AddsIf, AsksFor, AsksIf, CarriesIf, CarriesOut, GivesNeed, GoesOnIf, NeedsIf, TellsReload}
-use Rattle.agent_house.specs.Retries.{read_badly, read_well}
 use Rattle.agent_house.specs.Houses.{ClientIsAside, ClientsAsk, Concludes, WillRefuse, WillTell}
-use Rattle.agent_house.specs.declared.given.Awaited.{Awaited}
-use Rattle.agent_house.specs.declared.house.House.{House}
 use Rattle.agent_laws.specs.Acknowledged.{TellsOk, answer_in, guests_in}
 use Rattle.agent_laws.proofs.Owed.{IsTurnOf}
 

@@ -3,61 +3,36 @@
 use Rattle.std.proofs.Common.{◌≡◌, ◌∙◌, ◌+◌, ◌++◌, ℕ, zero, suc, true, false, cond, List, [], ◌∷◌, Option, None, Some, Result, Ok, Err, ap, inl, inr, refl, subst, sym, take, length}
 use Rattle.std.specs.List.{find, flat_map}
 use Rattle.std.specs.Prelude.{◌-◌, not, ◌&&◌, if◌then◌else◌, bytes_eq, codes, is_none, is_some, nat_lt, slice_get}
-use Rattle.agent_standing.specs.Agent.{Agent}
-use Rattle.agent_standing.specs.Status.{status_of_entry}
-use Rattle.agent_standing.specs.declared.shorts.Short.{Short}
-use Rattle.agent_standing.specs.declared.standing.EntryStanding.{EntryStanding}
-use Rattle.agent_standing.specs.declared.standing.Trouble.{Trouble}
+use Rattle.agent_standing.specs.{Agent.Agent, Status.status_of_entry, declared.shorts.Short.Short, declared.standing.EntryStanding.EntryStanding, declared.standing.Trouble.Trouble}
 use Rattle.vault_asking.specs.declared.told.Said.{Said}
+use Rattle.state_changes.specs.{declared.change.Record.Record, declared.change.ChangeKind.ChangeKind, declared.replaying.JournalNote.JournalNote, declared.replaying.NotMadeReason.NotMadeReason, declared.row.Row.Row}
+use Rattle.state_changes.specs.{Secrets.is_of, Secrets.taken_from, declared.secret.Secret.Secret}
 use Rattle.state_changes.specs.Rows.{is_lease_if, is_row_named, named}
-use Rattle.state_changes.specs.declared.change.Record.{Record}
 use Rattle.state_changes.specs.declared.change.Record.TheVariants.{Made, Settling}
-use Rattle.state_changes.specs.declared.change.ChangeKind.{ChangeKind}
 use Rattle.state_changes.specs.declared.change.ChangeKind.TheVariants as what
-use Rattle.state_changes.specs.declared.replaying.JournalNote.{JournalNote}
-use Rattle.state_changes.specs.declared.replaying.NotMadeReason.{NotMadeReason}
-use Rattle.state_changes.specs.declared.row.Row.{Row}
 use Rattle.base_files.specs.Files.{Files}
 use Rattle.vault_inventory.proofs.Barely.{served_secrecy_law}
-use Rattle.vault_inventory.specs.Bare.{DocumentsAreAlike}
-use Rattle.vault_inventory.specs.Inventory.{read_served}
-use Rattle.vault_inventory.specs.Served.{Served}
-use Rattle.vault_inventory.specs.declared.fault.InvFault.{InvFault}
-use Rattle.vault_inventory.specs.declared.fault.InvFault.TheVariants.{NotToml}
+use Rattle.vault_inventory.specs.{Bare.DocumentsAreAlike, Inventory.read_served, Served.Served, declared.fault.InvFault.InvFault, declared.fault.InvFault.TheVariants.NotToml}
 use Rattle.vault_lint.specs.Marks.{marks_of}
 use Rattle.vault_lint.proofs.Alike.{said_alike}
 use Rattle.vault_inventory.specs.declared.note.EntryNote as entries
 use Rattle.state_notes.proofs.Secrecy.{note_shows_none}
 use Rattle.state_notes.specs.Laws.{IsSameBut}
 use Rattle.vault_proving.specs.declared.verdict.Verdict.TheVariants as verdicts
-use Rattle.state_secrets.specs.Credentials.{placed}
-use Rattle.state_secrets.specs.Looking.{is_held}
+use Rattle.state_secrets.specs.{Credentials.placed, Looking.is_held}
 use Rattle.state_keeping.specs.Noted.{line_about, lines_in_note, note_lines}
-use Rattle.state_changes.specs.Secrets.{is_of, taken_from}
-use Rattle.state_changes.specs.declared.secret.Secret.{Secret}
-use Rattle.plan_forest.specs.Forest.{Forest, index_named}
-use Rattle.plan_forest.specs.Push.{is_lease}
-use Rattle.watch_machine.specs.State.{WatchState}
-use Rattle.watch_machine.specs.declared.command.WatchRequest.{WatchRequest}
-use Rattle.watch_machine.specs.declared.event.Operation.{Operation}
-use Rattle.watch_machine.specs.declared.notes.Notes.{Notes}
-use Rattle.watch_machine.specs.declared.outlook.Next.{Next}
-use Rattle.agent_log.specs.LinesOfAnswers.{answered_lines}
+use Rattle.plan_forest.specs.{Forest.Forest, Forest.index_named, Push.is_lease}
+use Rattle.watch_machine.specs.{State.WatchState, declared.command.WatchRequest.WatchRequest, declared.event.Operation.Operation, declared.notes.Notes.Notes, declared.outlook.Next.Next}
+use Rattle.agent_log.specs.{LinesOfAnswers.answered_lines, LinesOfNexts.next_lines, declared.mark.Mark.Mark}
 use Rattle.agent_log.specs.LinesOfClocks.{clocked_lines, marks_anew, marks_clocked, short_log_lines}
-use Rattle.agent_log.specs.LinesOfNexts.{next_lines}
-use Rattle.agent_log.specs.declared.mark.Mark.{Mark}
-use Rattle.agent_house.specs.Nexts.{next_there}
+use Rattle.agent_house.specs.{Nexts.next_there, Commands.end_known_at, Commands.end_named}
 use Rattle.agent_laws.specs.Alike.{AgentsAreAlike, FilesAreAlike, IsRecordBut, JudgedAlike, RecordsAreAlike, RowsAreAlike, SecretsAreAlike, ServedAreAlike}
-use Rattle.agent_house.specs.Commands.{end_known_at, end_named}
+use Rattle.agent_words.specs.{Telling.replaced_text, VerdictWords.kept_words, declared.demands.Demands.Demands, declared.fault.StartFault.StartFault}
 use Rattle.agent_words.specs.Filling.{AreUnfilled, CannotFill, FillsFrom, FillsRow, IsFaultOfRow}
 use Rattle.agent_words.specs.Noting.{AreWhysNotServed, IsAlone, said_faults}
-use Rattle.agent_ledger.specs.Rereading.{left_lines, said_notes}
 use Rattle.agent_words.specs.Starts.{bare_at, bare_faults, fault_list, least_margin, margin_fault, written_faults}
-use Rattle.agent_words.specs.Telling.{replaced_text}
-use Rattle.agent_words.specs.VerdictWords.{kept_words}
-use Rattle.agent_words.specs.declared.demands.Demands.{Demands}
-use Rattle.agent_words.specs.declared.fault.StartFault.{StartFault}
 use Rattle.agent_words.specs.declared.fault.StartFault.TheVariants.{NoCredential, NoMargin, SmallMargin}
+use Rattle.agent_ledger.specs.Rereading.{left_lines, said_notes}
 
 -- ---- agents
 

@@ -2,39 +2,31 @@
 -- of disks.
 use Rattle.std.proofs.Common.{◌≡◌, ◌∙◌, ◌⊎◌, ℕ, ◌+◌, ◌≤◌, Bool, true, false, inl, inr, List, [], ◌∷◌, Option, Some, None, Result, Ok, Err, ap, arith, refl, subst, sym}
 use Rattle.std.specs.Prelude.{Vec}
-use Rattle.std.specs.declared.alloc.AllocError.{AllocError}
-use Rattle.std.specs.declared.alloc.Global.{Global}
+use Rattle.std.specs.{declared.alloc.AllocError.AllocError, declared.alloc.Global.Global}
 use Rattle.agent_standing.specs.Agent.{Agent}
 use Rattle.agent_answers.specs.declared.asked.ClientOrder.{ClientOrder}
 use Rattle.agent_answers.specs.declared.asked.ClientOrder.TheVariants as asked
-use Rattle.state_changes.specs.declared.change.ChangeKind.{ChangeKind}
+use Rattle.state_changes.specs.{declared.change.ChangeKind.ChangeKind, declared.row.Row.Row}
 use Rattle.state_changes.specs.declared.change.ChangeKind.TheVariants as what
-use Rattle.state_changes.specs.declared.row.Row.{Row}
 use Rattle.base_clock.specs.declared.reading.Reading.{Reading}
-use Rattle.vault_inventory.specs.Inventories.{Inventory}
-use Rattle.vault_inventory.specs.declared.need.Need.{Need}
+use Rattle.vault_inventory.specs.{Inventories.Inventory, declared.need.Need.Need}
 use Rattle.vault_lanes.specs.declared.loss.Loss.{Loss}
 use Rattle.vault_proving.specs.declared.verdict.Verdict.{Verdict}
 use Rattle.vault_proving.specs.declared.verdict.Verdict.TheVariants as verdicts
 use Rattle.agent_turns.specs.declared.change.AgentChange.{AgentChange}
+use Rattle.agent_house.specs.{Retries.KeeperTries, Retries.is_any_asked, declared.given.Awaited.Awaited, declared.given.Given.Given, declared.house.House.House}
 use Rattle.agent_house.specs.Admitting.{AdmitsIf, FollowsLog, asking_in}
 use Rattle.agent_house.specs.Awaiting.{HearsFor, Judges, LooksUpBy, LooksUpFirst, LooksUpIf, Makes, ProvesBy, VerdictIs}
 use Rattle.agent_house.specs.Commands.{AddsIf, AsksIf, AsksToReload, CarriesIf, CarriesOut, GivesNeed, GoesOnIf, LacksMemory, NeedIsKept, NeedsIf, RereadBy, RereadIf, ServesClients, SettlesBy, SettlesGiven, StateIsServed, TakesIfThere, TakesNeedBy, TellsReload}
-use Rattle.agent_house.specs.Retries.{KeeperTries, is_any_asked}
-use Rattle.agent_laws.specs.Disks.{IsAskedWithin, KeeperIsCalled, looks_of, makes_of, tries_of}
 use Rattle.agent_house.specs.Houses.{ClientIsSent, Concludes, WillRefuse, WillTell}
+use Rattle.agent_laws.specs.Disks.{IsAskedWithin, KeeperIsCalled, looks_of, makes_of, tries_of}
+use Rattle.agent_ledger.specs.{declared.keeping.KeepNews.KeepNews, declared.keeping.LookedUp.LookedUp}
 use Rattle.agent_ledger.specs.Keeping.{KeepCall, KeeperIsAsked, LookUp, MarkServed, Prove, Reload, Settle, Take, TryAgain}
-use Rattle.agent_words.specs.Outcomes.{Outcome, Why, Whys, done_of}
-use Rattle.agent_log.specs.Lines.{Line}
-use Rattle.agent_house.specs.declared.given.Awaited.{Awaited}
-use Rattle.agent_house.specs.declared.given.Given.{Given}
-use Rattle.agent_house.specs.declared.given.Given.TheVariants as givens
-use Rattle.agent_house.specs.declared.house.House.{House}
-use Rattle.agent_ledger.specs.declared.keeping.KeepNews.{KeepNews}
-use Rattle.agent_ledger.specs.declared.keeping.LookedUp.{LookedUp}
-use Rattle.agent_ledger.specs.declared.keeping.LookedUp.TheVariants as lookups
 use Rattle.agent_words.specs.declared.reread.Reread.{Reread}
-use Rattle.agent_log.specs.declared.mark.Mark.{Mark}
+use Rattle.agent_words.specs.Outcomes.{Outcome, Why, Whys, done_of}
+use Rattle.agent_log.specs.{Lines.Line, declared.mark.Mark.Mark}
+use Rattle.agent_house.specs.declared.given.Given.TheVariants as givens
+use Rattle.agent_ledger.specs.declared.keeping.LookedUp.TheVariants as lookups
 use Rattle.agent_laws.proofs.Called.{within_join, within_more, within_none, within_one}
 
 -- ---- one question

@@ -3,31 +3,22 @@ use Rattle.std.proofs.Common.{◌≡◌, ◌∙◌, ℕ, zero, suc, ◌+◌, ◌
 use Rattle.std.specs.Bool.{beq}
 use Rattle.std.specs.List.{AllZip, find, list_any}
 use Rattle.std.specs.Prelude.{option_map}
-use Rattle.plan_forest.specs.Push.{first_met, is_lease}
-use Rattle.plan_forest.specs.declared.forest.TheConstants.{MAX_DEPTH, MAX_ENTRIES}
+use Rattle.plan_forest.specs.{Push.first_met, Push.is_lease, declared.forest.TheConstants.MAX_DEPTH, declared.forest.TheConstants.MAX_ENTRIES}
 use Rattle.vault_inventory.specs.Terms.{step_of}
+use Rattle.state_changes.specs.{Secrets.is_of, Secrets.taken_from, declared.change.Change.Change, declared.change.Record.Record, declared.change.ChangeKind.ChangeKind, declared.fault.ChangeFault.ChangeFault, declared.replaying.File.File}
+use Rattle.state_changes.specs.{declared.replaying.NotMadeReason.TheVariants.FileWins, declared.row.Row.Row, declared.secret.Secret.Secret}
 use Rattle.state_changes.specs.Changes.{change_refusal, is_added, never_refuses, refusal_of_entry, refused_credential, refused_drop, refused_row, rows_changed, rows_unless, rows_with_change}
 use Rattle.state_changes.specs.Replay.{ReplayState, holds, holds_of, is_as_then, made, made_with, overruled, replay_begun, replay_from, replay_step, replayed}
 use Rattle.state_changes.specs.Rows.{has_under, holds_of_parent, is_deep, is_lease_if, is_row_named, is_row_under_lease, is_taken, is_under, named, row_lacks_parent, with_named, without_row}
-use Rattle.state_changes.specs.Secrets.{is_of, taken_from}
-use Rattle.state_changes.specs.declared.change.Change.{Change}
-use Rattle.state_changes.specs.declared.change.Record.{Record}
 use Rattle.state_changes.specs.declared.change.Record.TheVariants.{Made, Settling}
-use Rattle.state_changes.specs.declared.change.ChangeKind.{ChangeKind}
-use Rattle.state_changes.specs.declared.change.ChangeKind.TheVariants as what
-use Rattle.state_changes.specs.declared.fault.ChangeFault.{ChangeFault}
 use Rattle.state_changes.specs.declared.fault.ChangeFault.TheVariants.{CredentialTwice, Full, HasUnder, InFile, NameTwice, NoParent, ParentIsLease, StepTooSmall, TooDeep}
-use Rattle.state_changes.specs.declared.replaying.File.{File}
-use Rattle.state_changes.specs.declared.replaying.NotMadeReason.TheVariants.{FileWins}
-use Rattle.state_changes.specs.declared.row.Row.{Row}
-use Rattle.state_changes.specs.declared.secret.Secret.{Secret}
-use Rattle.state_secrets.specs.Looking.{is_held}
+use Rattle.state_changes.specs.declared.change.ChangeKind.TheVariants as what
+use Rattle.state_secrets.specs.{Looking.is_held, declared.looking.DueFile.DueFile}
 use Rattle.state_secrets.specs.Outcomes.{has_it, is_credential_of, names_file, secrets_with, stays}
-use Rattle.state_secrets.specs.declared.looking.DueFile.{DueFile}
 use Rattle.state_store.specs.Handed.{all_filled, all_ready, filled, filled_from, filled_with, handed, holds_if_parent, if_there, is_ready}
+use Rattle.agent_ledger.specs.declared.secret_changes.TheConstants.{ALWAYS_FIT}
 use Rattle.agent_ledger.specs.Shared.{has_of_kind, is_any_shared, may_be_apart}
 use Rattle.agent_ledger.specs.Takings.{brings_others, has_credential, is_anothers, may_be_anothers}
-use Rattle.agent_ledger.specs.declared.secret_changes.TheConstants.{ALWAYS_FIT}
 use Rattle.agent_laws.specs.Decided.{IsFileBeside, IsPairing, IsRecordBeside, made_beside, row_beside, rows_beside, secret_beside, secrets_beside, what_beside}
 
 -- ---- lists with something beside each element

@@ -2,70 +2,41 @@
 -- `a_house_shows_no_credential`.
 use Rattle.std.proofs.Common.{◌≡◌, ◌∙◌, ℕ, Bool, true, false, inl, inr, List, [], ◌∷◌, Option, Some, None, Result, ap, map, refl, subst, sym, Ok, Err, option_map}
 use Rattle.std.specs.Prelude.{Vec}
-use Rattle.std.specs.declared.alloc.AllocError.{AllocError}
-use Rattle.std.specs.declared.alloc.Global.{Global}
-use Rattle.agent_standing.specs.Agent.{Agent}
-use Rattle.agent_standing.specs.declared.standing.EntryStanding.{EntryStanding}
+use Rattle.std.specs.{declared.alloc.AllocError.AllocError, declared.alloc.Global.Global}
+use Rattle.agent_standing.specs.{Agent.Agent, declared.standing.EntryStanding.EntryStanding}
+use Rattle.agent_answers.specs.{declared.asked.ClientOrder.ClientOrder, declared.control.Control.Control, declared.heads.Heads.Heads, declared.lines.RequestLines.RequestLines, declared.onlookers.Onlookers.Onlookers}
+use Rattle.agent_answers.specs.{declared.wanted.Wanted.Wanted, declared.went.Went.Went}
 use Rattle.agent_answers.specs.Controlling.{FirstIsReplied, RepliesTo, ShownIf}
 use Rattle.agent_answers.specs.Onlooking.{FirstIsSent, IsSentIf, OneIsSent, question_of}
-use Rattle.agent_answers.specs.declared.asked.ClientOrder.{ClientOrder}
-use Rattle.agent_answers.specs.declared.control.Control.{Control}
-use Rattle.agent_answers.specs.declared.heads.Heads.{Heads}
-use Rattle.agent_answers.specs.declared.lines.RequestLines.{RequestLines}
-use Rattle.agent_answers.specs.declared.onlookers.Onlookers.{Onlookers}
-use Rattle.agent_answers.specs.declared.wanted.Wanted.{Wanted}
 use Rattle.agent_answers.specs.declared.wanted.Wanted.TheVariants as wanted
-use Rattle.agent_answers.specs.declared.went.Went.{Went}
 use Rattle.state_changes.specs.declared.row.Row.{Row}
-use Rattle.base_clients.specs.Doors.{DoorLog}
-use Rattle.base_clients.specs.Tables.{GuestTable, first_asked}
-use Rattle.base_clients.specs.declared.talk.TalkCall.{TalkCall}
+use Rattle.base_clients.specs.{Doors.DoorLog, Tables.GuestTable, Tables.first_asked, declared.talk.TalkCall.TalkCall}
 use Rattle.base_clock.specs.declared.reading.Reading.{Reading}
 use Rattle.base_device.specs.declared.tried.Tried.{Tried}
-use Rattle.base_disk.specs.State.{DiskState}
-use Rattle.base_disk.specs.declared.fault.DiskFault.{DiskFault}
+use Rattle.base_disk.specs.{State.DiskState, declared.fault.DiskFault.DiskFault}
 use Rattle.agent_ends.specs.declared.file.EndsFile.{EndsFile}
 use Rattle.vault_inventory.specs.Inventories.{Inventory}
 use Rattle.program_lines.specs.Text.{name_of}
+use Rattle.agent_pages.specs.{Answers.IsAnswer, Answers.IsTold, Naming.Around, Naming.named_by, declared.asked.Page.Page, declared.board.Board.Board}
 use Rattle.agent_pages.specs.Board.{board_of, row_of, rows_of, served_rows}
-use Rattle.agent_pages.specs.Answers.{IsAnswer, IsTold}
-use Rattle.agent_pages.specs.Naming.{Around, named_by}
-use Rattle.agent_pages.specs.declared.asked.Page.{Page}
-use Rattle.agent_pages.specs.declared.board.Board.{Board}
 use Rattle.agent_turns.specs.Neighbours.{AllCalled, Answer, End, Needs, NeighbourCall, Step, Thing, Time, Want}
 use Rattle.vault_proving.specs.declared.verdict.Verdict.{Verdict}
 use Rattle.plan_forest.specs.Forest.{Forest}
-use Rattle.watch_machine.specs.Outlook.{broker_now}
-use Rattle.watch_machine.specs.State.{WatchState}
-use Rattle.watch_machine.specs.declared.outlook.Next.{Next}
+use Rattle.watch_machine.specs.{Outlook.broker_now, State.WatchState, declared.outlook.Next.Next}
+use Rattle.agent_log.specs.{LinesOfClocks.memory_line, LinesOfClocks.trouble_at, LinesOfNexts.next_lines, Marks.mark_at, Marks.with_trouble, Sockets.need_log_line, declared.mark.Mark.Mark, declared.mark.Want.Want as Lack}
 use Rattle.agent_log.specs.Lines.{AreSaid, IsSaid, Line}
 use Rattle.agent_log.specs.LinesBehind.{ahead_line, steps_in_count, steps_in_lines, with_steps}
-use Rattle.agent_log.specs.LinesOfClocks.{memory_line, trouble_at}
-use Rattle.agent_log.specs.LinesOfNexts.{next_lines}
 use Rattle.agent_log.specs.LogDesk.{Desk, HearsWant, SaysLines}
-use Rattle.agent_log.specs.Marks.{mark_at, with_trouble}
-use Rattle.agent_log.specs.Sockets.{need_log_line}
 use Rattle.agent_log.specs.Wants.{HearsTimeBy, HearsUnmade, HearsWantingBy, SaysWant}
-use Rattle.agent_log.specs.declared.mark.Mark.{Mark}
-use Rattle.agent_log.specs.declared.mark.Want.{Want as Lack}
-use Rattle.agent_log.specs.declared.mark.Want.TheVariants.{Over, Passing, Said, Unsaid}
-use Rattle.agent_words.specs.Moments.{now_of}
-use Rattle.agent_words.specs.Outcomes.{Why}
-use Rattle.agent_words.specs.Telling.{IsNeedReply}
+use Rattle.agent_log.specs.declared.mark.Want.TheVariants.{Passing, Said, Unsaid}
+use Rattle.agent_words.specs.{Moments.now_of, Outcomes.Why, Telling.IsNeedReply}
 use Rattle.agent_ledger.specs.Keeping.{KeepCall}
-use Rattle.agent_house.specs.Behind.{stepped}
-use Rattle.agent_house.specs.Awaiting.{HearsFor, VerdictIs}
+use Rattle.agent_house.specs.{Behind.stepped, Awaiting.HearsFor, Awaiting.VerdictIs, Ends.EndsGoOn, Ends.KeepsEnds, Retries.keeps_in, Looks.LooksAround, Nexts.HearsNext, Nexts.next_there, declared.given.Awaited.Awaited}
+use Rattle.agent_house.specs.{declared.given.Given.Given, declared.house.House.House}
 use Rattle.agent_house.specs.Commands.{AsksFor, AsksIf, CarriesIf, GoesOnIf, GoesOnWithClients, LacksMemory, SettlesBy, TellsNeed, reach_of_need}
 use Rattle.agent_house.specs.Doing.{HearsOf, HearsServedIf, HouseGoesOn, SettlesChange}
-use Rattle.agent_house.specs.Ends.{EndsGoOn, KeepsEnds}
-use Rattle.agent_house.specs.Retries.{keeps_in}
 use Rattle.agent_house.specs.Houses.{Attends, ClientIsSent, ClientsGoOn, OnlookersGoOn, SendsAside}
-use Rattle.agent_house.specs.Looks.{LooksAround}
-use Rattle.agent_house.specs.Nexts.{HearsNext, next_there}
-use Rattle.agent_house.specs.declared.given.Awaited.{Awaited}
-use Rattle.agent_house.specs.declared.given.Given.{Given}
 use Rattle.agent_house.specs.declared.given.Given.TheVariants as givens
-use Rattle.agent_house.specs.declared.house.House.{House}
 use Rattle.agent_laws.specs.Alike.{AgentsAreAlike}
 use Rattle.agent_laws.specs.Heard.{AreBothAlike, Both, BothGoOn, BothHear, BothRest, BothSettle, Does, IsBothAlike, NeitherGives, of_one, of_other}
 use Rattle.agent_laws.proofs.Asks.{asked_for, settled_given}

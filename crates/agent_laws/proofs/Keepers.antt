@@ -3,27 +3,20 @@ use Rattle.std.proofs.Common.{◌≡◌, ◌∙◌, ℕ, Bool, true, false, List
 use Rattle.std.specs.declared.alloc.AllocError.{AllocError}
 use Rattle.agent_standing.specs.Agent.{Agent}
 use Rattle.state_changes.specs.declared.row.Row.{Row}
-use Rattle.base_clients.specs.Doors.{DoorLog}
-use Rattle.base_clients.specs.declared.talk.TalkCall.{TalkCall}
+use Rattle.base_clients.specs.{Doors.DoorLog, declared.talk.TalkCall.TalkCall}
 use Rattle.base_clock.specs.declared.reading.Reading.{Reading}
 use Rattle.base_device.specs.declared.tried.Tried.{Tried}
 use Rattle.base_disk.specs.State.{DiskState}
 use Rattle.vault_inventory.specs.Inventories.{Inventory}
 use Rattle.watch_machine.specs.declared.outlook.Next.{Next}
-use Rattle.agent_pages.specs.Naming.{beside as around_with}
-use Rattle.agent_pages.specs.declared.state_folder.StateFolder.{StateFolder}
+use Rattle.agent_pages.specs.{Naming.beside as around_with, declared.state_folder.StateFolder.StateFolder}
 use Rattle.agent_turns.specs.Neighbours.{AllCalled, Answer, End, Give, GoOn, Hear, Needs, NeighbourCall, Rest, Settle, Step, Thing, Time, Want}
-use Rattle.agent_words.specs.Outcomes.{Why}
-use Rattle.agent_words.specs.Telling.{IsNeedReply}
+use Rattle.agent_words.specs.{Outcomes.Why, Telling.IsNeedReply}
 use Rattle.agent_ledger.specs.Keeping.{KeepCall}
-use Rattle.agent_house.specs.Commands.{SettlesBy, reach_of_need}
+use Rattle.agent_house.specs.{Commands.SettlesBy, Commands.reach_of_need, Nexts.HearsNext, Retries.folder_in, declared.given.Given.Given, declared.house.House.House}
 use Rattle.agent_house.specs.Doing.{HearsOf, HearsServedIf, HouseGoesOn, SettlesChange}
 use Rattle.agent_house.specs.Houses.{Attends, ClientIsSent, around_of, named_in}
-use Rattle.agent_house.specs.Nexts.{HearsNext}
-use Rattle.agent_house.specs.Retries.{folder_in}
-use Rattle.agent_house.specs.declared.given.Given.{Given}
 use Rattle.agent_house.specs.declared.given.Given.TheVariants as givens
-use Rattle.agent_house.specs.declared.house.House.{House}
 use Rattle.agent_laws.specs.Keepers.{AreKeepersBeside, AsksSame, DoesBy, agent_beside, call_beside, house_beside}
 use Rattle.agent_laws.proofs.Asks.{asked_for, settled_given}
 use Rattle.agent_laws.proofs.Heard.{clients, ends_none, heard, heard_ends, onlookers, served_ends, settled, went_on}

@@ -1,62 +1,42 @@
 -- Kept: what whoever keeps changes is asked for, and what a client asks for, where that has other credentials. For `no_kept_credential_shows`.
 use Rattle.std.proofs.Common.{◌≡◌, ◌∙◌, ◌⊎◌, ◌++◌, ℕ, Bool, true, false, inl, inr, List, [], ◌∷◌, Option, Some, None, Result, Ok, Err, ap, map, option_map, refl, subst, sym}
 use Rattle.std.specs.Prelude.{IfSome, Vec, codes, is_ok}
-use Rattle.std.specs.Cmp.Lexicographic.{bytes_decides}
-use Rattle.std.specs.declared.alloc.AllocError.{AllocError}
-use Rattle.std.specs.declared.alloc.Global.{Global}
+use Rattle.std.specs.{Cmp.Lexicographic.bytes_decides, declared.alloc.AllocError.AllocError, declared.alloc.Global.Global}
 use Rattle.agent_standing.specs.Agent.{Agent}
 use Rattle.agent_answers.specs.declared.asked.ClientOrder.{ClientOrder}
 use Rattle.agent_answers.specs.declared.asked.ClientOrder.TheVariants as asked
-use Rattle.state_changes.specs.Rows.{named}
-use Rattle.state_changes.specs.declared.change.ChangeKind.{ChangeKind}
+use Rattle.state_changes.specs.{Rows.named, declared.change.ChangeKind.ChangeKind, declared.row.Row.Row}
 use Rattle.state_changes.specs.declared.change.ChangeKind.TheVariants as what
-use Rattle.state_changes.specs.declared.row.Row.{Row}
 use Rattle.base_clock.specs.declared.reading.Reading.{Reading}
-use Rattle.vault_inventory.specs.Inventories.{Inventory}
-use Rattle.vault_inventory.specs.declared.need.Need.{Need}
-use Rattle.vault_inventory.specs.declared.terms.Terms.{Terms}
+use Rattle.vault_inventory.specs.{Inventories.Inventory, declared.need.Need.Need, declared.terms.Terms.Terms}
 use Rattle.vault_lanes.specs.declared.loss.Loss.{Loss}
 use Rattle.vault_proving.specs.declared.verdict.Verdict.{Verdict}
 use Rattle.vault_proving.specs.declared.verdict.Verdict.TheVariants as verdicts
 use Rattle.plan_forest.specs.Forest.{Forest, index_named}
 use Rattle.watch_machine.specs.Outlook.{broker_now}
-use Rattle.agent_pages.specs.Board.{board_of, rows_of}
+use Rattle.agent_pages.specs.{Board.board_of, Board.rows_of, declared.board.Board.Board}
 use Rattle.agent_pages.specs.Naming.{Around, Named, named_by}
-use Rattle.agent_pages.specs.declared.board.Board.{Board}
 use Rattle.agent_turns.specs.declared.change.AgentChange.{AgentChange}
+use Rattle.agent_log.specs.{Lines.Line, LinesOfClocks.memory_line, LogDesk.Desk, LogDesk.HearsIf, LookupLosses.line_with_loss, Sockets.need_log_line, declared.mark.Mark.Mark}
 use Rattle.agent_log.specs.Changed.{entry_log_line, fault_lines, reread_lines, settled_line}
-use Rattle.agent_log.specs.Lines.{Line}
-use Rattle.agent_log.specs.LinesOfClocks.{memory_line}
-use Rattle.agent_log.specs.LogDesk.{Desk, HearsIf}
-use Rattle.agent_log.specs.LookupLosses.{line_with_loss}
-use Rattle.agent_log.specs.Sockets.{need_log_line}
-use Rattle.agent_log.specs.declared.mark.Mark.{Mark}
+use Rattle.agent_words.specs.declared.reread.Reread.{Reread}
 use Rattle.agent_words.specs.Outcomes.{Outcome, SaysSo, Why, Whys, done_of}
 use Rattle.agent_words.specs.Telling.{IsDropLine, reload_line, replaced_text, settle_line, until_of_need}
 use Rattle.agent_words.specs.VerdictWords.{endless_words, kept_words, later_words, status_words}
-use Rattle.agent_words.specs.declared.reread.Reread.{Reread}
+use Rattle.agent_ledger.specs.{declared.keeping.FileLook.FileLook, declared.keeping.KeepNews.KeepNews, declared.keeping.LookedUp.LookedUp}
 use Rattle.agent_ledger.specs.Keeping.{KeepCall, KeeperIsAsked, Look, LookUp, MarkServed, Prove, Reload, RestFor, Settle, Take, TryAgain}
-use Rattle.agent_ledger.specs.declared.keeping.FileLook.{FileLook}
-use Rattle.agent_ledger.specs.declared.keeping.KeepNews.{KeepNews}
-use Rattle.agent_ledger.specs.declared.keeping.LookedUp.{LookedUp}
 use Rattle.agent_ledger.specs.declared.keeping.LookedUp.TheVariants as lookups
+use Rattle.agent_house.specs.{Looks.AsksToLook, Rests.KeeperRests, declared.given.Awaited.Awaited, declared.given.Given.Given, declared.house.House.House}
 use Rattle.agent_house.specs.Admitting.{AdmitsIf, FollowsLog, asking_in}
 use Rattle.agent_house.specs.Awaiting.{AddsRow, HearsFor, IsAddedLine, IsRefusedFor, Judges, LooksUpBy, LooksUpFirst, LooksUpIf, Makes, ProvesBy, Replaces, VerdictIs}
 use Rattle.agent_house.specs.Commands.{AddsIf, AsksFor, AsksIf, AsksToReload, CarriesIf, CarriesOut, DropsEntry, GivesNeed, GoesOnIf, InventoryIsDue, IsGivenWith, LacksMemory, NeedIsKept, Needs, NeedsIf, ReadsIf, ReadsRow, RereadBy, RereadIf, SettlesFile, StateIsServed, TakesIfThere, TakesNeedBy, TellsReload, end_named, path_if_kept}
 use Rattle.agent_house.specs.Houses.{Concludes, WillRefuse, WillTell, named_in}
-use Rattle.agent_house.specs.Looks.{AsksToLook}
-use Rattle.agent_house.specs.Rests.{KeeperRests}
 use Rattle.agent_house.specs.Retries.{KeeperTries, folder_in, folder_where, is_any_asked, keeps_in, read_badly, read_well}
-use Rattle.agent_house.specs.declared.given.Awaited.{Awaited}
-use Rattle.agent_house.specs.declared.given.Given.{Given}
 use Rattle.agent_house.specs.declared.given.Given.TheVariants as givens
-use Rattle.agent_house.specs.declared.house.House.{House}
 use Rattle.agent_laws.specs.Alike.{AgentsAreAlike}
 use Rattle.agent_laws.specs.Decided.{IsPairing, row_beside, rows_beside}
 use Rattle.agent_laws.specs.Keepers.{AreKeepersBeside, AsksSame, agent_beside, change_beside, house_beside, inventory_beside}
-use Rattle.agent_laws.proofs.Alike.{end_alike}
-use Rattle.agent_laws.proofs.Decided.{named_beside}
-use Rattle.agent_laws.proofs.Heard.{says_so}
+use Rattle.agent_laws.proofs.{Alike.end_alike, Decided.named_beside, Heard.says_so}
 
 -- ---- agents, inventories and entries with other credentials
 

@@ -1,41 +1,33 @@
 -- Owed: where a house owes its client an `ok`, the client has asked for it, and it is done. For `whoever_is_told_ok_has_it`.
 use Rattle.std.proofs.Common.{◌≡◌, ◌∙◌, ◌⊎◌, ℕ, Bool, true, false, inl, inr, List, [], ◌∷◌, ◌++◌, Option, Some, None, Result, Ok, Err, ap, arith, codes, refl, slice_index, subst, sym}
 use Rattle.std.specs.Prelude.{Vec}
-use Rattle.std.specs.declared.alloc.AllocError.{AllocError}
-use Rattle.std.specs.declared.alloc.Global.{Global}
+use Rattle.std.specs.{declared.alloc.AllocError.AllocError, declared.alloc.Global.Global}
 use Rattle.agent_standing.specs.Agent.{Agent}
-use Rattle.agent_answers.specs.declared.asked.ClientOrder.{ClientOrder}
+use Rattle.agent_answers.specs.{declared.asked.ClientOrder.ClientOrder, declared.control.Control.Control}
 use Rattle.agent_answers.specs.declared.asked.ClientOrder.TheVariants as asked
-use Rattle.agent_answers.specs.declared.control.Control.{Control}
-use Rattle.state_changes.specs.declared.change.ChangeKind.{ChangeKind}
+use Rattle.state_changes.specs.{declared.change.ChangeKind.ChangeKind, declared.row.Row.Row}
 use Rattle.state_changes.specs.declared.change.ChangeKind.TheVariants as what
-use Rattle.state_changes.specs.declared.row.Row.{Row}
 use Rattle.base_clock.specs.declared.reading.Reading.{Reading}
 use Rattle.agent_control.specs.Replies.{control_reply_text}
 use Rattle.agent_control.specs.declared.reply.ControlReply.TheVariants as replies
-use Rattle.vault_inventory.specs.Inventories.{Inventory}
-use Rattle.vault_inventory.specs.declared.need.Need.{Need}
+use Rattle.vault_inventory.specs.{Inventories.Inventory, declared.need.Need.Need}
 use Rattle.vault_lanes.specs.declared.loss.Loss.{Loss}
 use Rattle.vault_proving.specs.declared.verdict.Verdict.{Verdict}
 use Rattle.vault_proving.specs.declared.verdict.Verdict.TheVariants as verdicts
 use Rattle.agent_turns.specs.declared.change.AgentChange.{AgentChange}
-use Rattle.agent_log.specs.Lines.{Line}
-use Rattle.agent_log.specs.declared.mark.Mark.{Mark}
+use Rattle.agent_log.specs.{Lines.Line, declared.mark.Mark.Mark}
+use Rattle.agent_words.specs.declared.reread.Reread.{Reread}
 use Rattle.agent_words.specs.Outcomes.{Outcome, Why, Whys}
 use Rattle.agent_words.specs.Telling.{IsRefusalFor, IsRefusedReply, IsReplyTo}
-use Rattle.agent_words.specs.declared.reread.Reread.{Reread}
-use Rattle.agent_ledger.specs.Keeping.{KeepCall, KeeperIsAsked, Reload, Settle, Take}
 use Rattle.agent_ledger.specs.declared.keeping.LookedUp.{LookedUp}
+use Rattle.agent_ledger.specs.Keeping.{KeepCall, KeeperIsAsked, Reload, Settle, Take}
 use Rattle.agent_ledger.specs.declared.keeping.LookedUp.TheVariants as lookups
+use Rattle.agent_house.specs.{Retries.read_badly, Retries.read_well, declared.given.Awaited.Awaited, declared.given.Given.Given, declared.house.House.House}
 use Rattle.agent_house.specs.Admitting.{AdmitsIf, FollowsLog, asking_in}
 use Rattle.agent_house.specs.Awaiting.{HearsFor, Judges, LooksUpFirst, LooksUpIf, Makes, VerdictIs, addressed}
 use Rattle.agent_house.specs.Commands.{AddsIf, AsksFor, AsksIf, CarriesIf, CarriesOut, GivesNeed, GoesOnIf, IsGivenWith, NeedIsKept, NeedsIf, ReadsRow, RereadBy, RereadIf, TakesIfThere, TakesNeedBy, TellsReload}
-use Rattle.agent_house.specs.Retries.{read_badly, read_well}
 use Rattle.agent_house.specs.Houses.{ClientIsAside, ClientsAsk, Concludes, WillRefuse, WillTell, bytes_sent}
-use Rattle.agent_house.specs.declared.given.Awaited.{Awaited}
-use Rattle.agent_house.specs.declared.given.Given.{Given}
 use Rattle.agent_house.specs.declared.given.Given.TheVariants as givens
-use Rattle.agent_house.specs.declared.house.House.{House}
 
 abbrev got : {X : Type 0} → X → Option X → X
 got d None = d

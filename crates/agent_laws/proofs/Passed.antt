@@ -2,15 +2,11 @@
 -- for a beginning. For the laws of what a turn calls.
 use Rattle.std.proofs.Common.{◌≡◌, ℕ, Bool, true, false, inl, inr, List, Option, None, Some, ap, subst, sym}
 use Rattle.agent_standing.specs.Agent.{Agent}
+use Rattle.agent_behind.specs.{declared.behind.Behind.Behind, declared.behind.Giver.Giver, declared.behind.Giver.TheVariants.Lookout}
 use Rattle.agent_behind.specs.Behinds.{OthersGive, PassesBehind, SettlesBy, StepsBy, StepsIf, lead_ahead, renews, requests_at}
-use Rattle.agent_behind.specs.declared.behind.Behind.{Behind}
-use Rattle.agent_behind.specs.declared.behind.Giver.{Giver}
-use Rattle.agent_behind.specs.declared.behind.Giver.TheVariants.{Lookout, Others, OthersServe}
 use Rattle.base_clock.specs.declared.reading.Reading.{Reading}
-use Rattle.agent_turns.specs.Days.{PassesToOthers, SettlesOthers}
+use Rattle.agent_turns.specs.{Days.PassesToOthers, Days.SettlesOthers, declared.change.AgentChange.AgentChange, declared.day.EarlyDay.EarlyDay}
 use Rattle.agent_turns.specs.Neighbours.{End, Give, GoOn, Hear, NeighbourCall, Rest, Settle, Step, Thing}
-use Rattle.agent_turns.specs.declared.change.AgentChange.{AgentChange}
-use Rattle.agent_turns.specs.declared.day.EarlyDay.{EarlyDay}
 use Rattle.watch_machine.specs.declared.command.WatchRequest.{WatchRequest}
 
 -- what is to hold of calls, for that: to hear twice is as to hear once, and to hear, or nothing, as to be told that a change was made; whether

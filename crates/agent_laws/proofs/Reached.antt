@@ -2,11 +2,9 @@
 use Rattle.std.proofs.Common.{◌≡◌, ◌∙◌, ℕ, ◌+◌, ◌≤◌, Bool, true, false, List, Option, Some, None, Result, ap, subst}
 use Rattle.std.specs.declared.alloc.AllocError.{AllocError}
 use Rattle.agent_standing.specs.Agent.{Agent}
-use Rattle.agent_behind.specs.Behinds.{PassesBehind}
-use Rattle.agent_behind.specs.declared.behind.Behind.{Behind}
+use Rattle.agent_behind.specs.{Behinds.PassesBehind, declared.behind.Behind.Behind}
 use Rattle.state_changes.specs.declared.row.Row.{Row}
-use Rattle.base_clients.specs.Doors.{DoorLog}
-use Rattle.base_clients.specs.declared.talk.TalkCall.{TalkCall}
+use Rattle.base_clients.specs.{Doors.DoorLog, declared.talk.TalkCall.TalkCall}
 use Rattle.base_device.specs.declared.tried.Tried.{Tried}
 use Rattle.base_disk.specs.State.{DiskState}
 use Rattle.vault_inventory.specs.Inventories.{Inventory}
@@ -15,11 +13,10 @@ use Rattle.agent_turns.specs.Days.{PassesToOthers}
 use Rattle.agent_turns.specs.Neighbours.{Answer, End, Give, GoOn, Hear, NeighbourCall, Needs, Rest, Settle, Step, Thing, Time, Want}
 use Rattle.agent_turns.specs.declared.day.EarlyDay.{EarlyDay}
 use Rattle.watch_machine.specs.declared.outlook.Next.{Next}
+use Rattle.agent_house.specs.{Nexts.HearsNext, declared.house.House.House}
 use Rattle.agent_house.specs.Doing.{DoesToHouse, HearsOf, HearsServedIf}
 use Rattle.agent_ledger.specs.Keeping.{KeepCall}
 use Rattle.agent_words.specs.Outcomes.{Why}
-use Rattle.agent_house.specs.Nexts.{HearsNext}
-use Rattle.agent_house.specs.declared.house.House.{House}
 use Rattle.agent_house.proofs.Givers.{asked_for, settled_given}
 use Rattle.agent_laws.proofs.Passed.{Passes, by_day, by_day_behind}
 

@@ -1,16 +1,12 @@
 -- Reaching: what the calls of the loop do to a house that stands behind others. For `whoever_is_told_ok_has_it`.
 use Rattle.std.proofs.Common.{◌≡◌, ◌∙◌, ◌⊎◌, ℕ, Bool, true, false, inl, inr, List, Option, Some, None, ap, subst}
 use Rattle.agent_standing.specs.Agent.{Agent}
+use Rattle.agent_behind.specs.{declared.behind.Behind.Behind, declared.behind.Giver.Giver, declared.behind.Giver.TheVariants.Lookout}
 use Rattle.agent_behind.specs.Behinds.{PassesBehind, SettlesBy, StepsBy, StepsIf, giver_of, lead_ahead, renews, requests_at}
-use Rattle.agent_behind.specs.declared.behind.Behind.{Behind}
-use Rattle.agent_behind.specs.declared.behind.Giver.{Giver}
-use Rattle.agent_behind.specs.declared.behind.Giver.TheVariants.{Lookout, Others, OthersServe}
 use Rattle.base_clock.specs.declared.reading.Reading.{Reading}
-use Rattle.agent_turns.specs.Days.{PassesToOthers, SettlesOthers}
+use Rattle.agent_turns.specs.{Days.PassesToOthers, Days.SettlesOthers, declared.change.AgentChange.AgentChange, declared.day.EarlyDay.EarlyDay}
 use Rattle.agent_turns.specs.Neighbours.{End, Give, GoOn, Hear, NeighbourCall, Rest, Settle, Step, Thing}
-use Rattle.agent_turns.specs.declared.change.AgentChange.{AgentChange}
 use Rattle.agent_turns.specs.declared.change.AgentChange.TheVariants as changes
-use Rattle.agent_turns.specs.declared.day.EarlyDay.{EarlyDay}
 use Rattle.watch_machine.specs.declared.command.WatchRequest.{WatchRequest}
 use Rattle.agent_house.specs.declared.house.House.{House}
 

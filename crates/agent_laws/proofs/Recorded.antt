@@ -5,48 +5,29 @@ use Rattle.std.specs.List.{Contains}
 use Rattle.agent_answers.specs.declared.asked.ClientOrder.{ClientOrder}
 use Rattle.agent_answers.specs.declared.asked.ClientOrder.TheVariants as asked
 use Rattle.vault_asking.specs.Sending.{Lanes}
-use Rattle.state_changes.specs.declared.change.Record.{Record}
+use Rattle.state_changes.specs.{declared.change.Record.Record, declared.change.ChangeKind.ChangeKind, declared.row.Row.Row, declared.replaying.File.File, declared.replaying.JournalNote.JournalNote, Records.record_of, Words.fingerprint}
+use Rattle.state_changes.specs.{declared.secret.Secret.Secret}
 use Rattle.state_changes.specs.declared.change.Record.TheVariants.{Made, Settling}
-use Rattle.state_changes.specs.declared.change.ChangeKind.{ChangeKind}
-use Rattle.state_changes.specs.declared.change.ChangeKind.TheVariants as what
-use Rattle.state_changes.specs.declared.row.Row.{Row}
-use Rattle.state_changes.specs.declared.replaying.File.{File}
-use Rattle.state_changes.specs.declared.replaying.JournalNote.{JournalNote}
 use Rattle.state_changes.specs.Compaction.{is_need, is_void, voids}
-use Rattle.state_changes.specs.Records.{record_of}
+use Rattle.state_changes.specs.declared.change.ChangeKind.TheVariants as what
 use Rattle.base_disk.specs.Image as images
-use Rattle.base_disk.specs.Image.{Image}
-use Rattle.base_disk.specs.State.{DiskState}
-use Rattle.state_changes.specs.Words.{fingerprint}
+use Rattle.base_disk.specs.{Image.Image, State.DiskState}
 use Rattle.base_journal.specs.Journals.{CrashLeaves, FileIsThere, JournalIsWhole, bytes_of_file}
 use Rattle.base_journal.specs.Records.{AreLines, StandsFor, at_rest, lines_kept}
 use Rattle.base_journal.proofs.Steps.{at_end}
 use Rattle.state_secrets.specs.Stamps.{FileCall}
-use Rattle.state_keeping.specs.Places.{Places}
+use Rattle.state_keeping.specs.{Places.Places, Reading.IsFileAt, declared.reading.FileRead.FileRead}
 use Rattle.state_keeping.specs.Settles.{IsSettledIf, LeavesAloneIf, copy_with, mode_of}
-use Rattle.state_keeping.specs.Reading.{IsFileAt}
 use Rattle.state_keeping.specs.States.{Kept, book_in, store_in}
-use Rattle.state_keeping.specs.declared.reading.FileRead.{FileRead}
-use Rattle.state_store.specs.Books.{Book, IsBookIf}
-use Rattle.state_store.specs.Compacted.{compacted_lines}
-use Rattle.state_store.specs.Entering.{line_for_change}
-use Rattle.state_store.specs.Moved.{SaysAlready}
-use Rattle.state_store.specs.Records.{records_in}
+use Rattle.state_store.specs.{Books.Book, Books.IsBookIf, Compacted.compacted_lines, Entering.line_for_change, Moved.SaysAlready, Records.records_in, declared.store.Store.Store}
 use Rattle.state_store.specs.Stores.{book_of, journal_of, lines_in, path_of_store}
-use Rattle.state_changes.specs.declared.secret.Secret.{Secret}
-use Rattle.state_store.specs.declared.store.Store.{Store}
-use Rattle.state_store.proofs.Lists.{records_push}
-use Rattle.state_store.proofs.Staying.{damaged_records}
-use Rattle.agent_words.specs.Outcomes.{Why}
-use Rattle.agent_words.specs.declared.reread.Reread.{Reread}
+use Rattle.state_store.proofs.{Lists.records_push, Staying.damaged_records}
+use Rattle.agent_words.specs.{Outcomes.Why, declared.reread.Reread.Reread}
+use Rattle.agent_ledger.specs.{declared.late.Late.Late, declared.late.Shut.Shut, declared.ledger.Ledger.Ledger, Rereading.AreBytesOf}
 use Rattle.agent_ledger.specs.Keeping.{KeepCall, Reload, Settle, Take}
 use Rattle.agent_ledger.specs.Lates.{DoesLate, ReadsLate, TakesShut}
 use Rattle.agent_ledger.specs.Ledgers.{AreCompacted, DoesLedger, IsTakenOn, ReadsTable}
-use Rattle.agent_ledger.specs.declared.late.Late.{Late}
 use Rattle.agent_ledger.specs.declared.late.Late.TheVariants.{Open, NotYet}
-use Rattle.agent_ledger.specs.declared.late.Shut.{Shut}
-use Rattle.agent_ledger.specs.declared.ledger.Ledger.{Ledger}
-use Rattle.agent_ledger.specs.Rereading.{AreBytesOf}
 use Rattle.agent_laws.specs.Acknowledged.{FileHasAll, FileSaysAll, HasRecord, IsDone, IsDoneUnkept, IsKept, IsOnDisk, IsReread}
 use Rattle.agent_laws.proofs.Owed.{AreDone, IsChangeOf}
 

@@ -1,33 +1,22 @@
 -- Shown: while a house goes on, whoever's answer begins with `ok` was given it before, or is shown a page. For `whoever_is_told_ok_has_it`.
 use Rattle.std.proofs.Common.{◌≡◌, ◌∙◌, ◌⊎◌, ℕ, zero, suc, ◌/◌, Bool, true, false, ◌||◌, cond, inl, inr, List, [], ◌∷◌, ◌++◌, drop, filter, length, nat_lt, not, take, Option, Some, None, Result, ap, arith, codes, refl, slice_get, slice_index, slice_set, subst, sym}
-use Rattle.std.specs.List.{position, remove}
-use Rattle.std.specs.declared.alloc.AllocError.{AllocError}
+use Rattle.std.specs.{List.position, List.remove, declared.alloc.AllocError.AllocError}
 use Rattle.agent_standing.specs.Agent.{Agent}
+use Rattle.agent_answers.specs.{Wanting.ClientWants, Wanting.TellsRequestLine, declared.control.Control.Control, declared.lines.RequestLines.RequestLines, declared.wanted.Wanted.Wanted, declared.wanted.ClientRefusal.ClientRefusal}
+use Rattle.agent_answers.specs.{declared.went.Went.Went}
 use Rattle.agent_answers.specs.Controlling.{ControlGoesOn, FirstIsReplied, IsShownText, RepliesTo, TextIf, refused_text}
-use Rattle.agent_answers.specs.Wanting.{ClientWants, TellsRequestLine}
-use Rattle.agent_answers.specs.declared.control.Control.{Control}
-use Rattle.agent_answers.specs.declared.lines.RequestLines.{RequestLines}
-use Rattle.agent_answers.specs.declared.wanted.Wanted.{Wanted}
 use Rattle.agent_answers.specs.declared.wanted.Wanted.TheVariants as wanted
-use Rattle.agent_answers.specs.declared.wanted.ClientRefusal.{ClientRefusal}
-use Rattle.agent_answers.specs.declared.went.Went.{Went}
-use Rattle.agent_pages.specs.Naming.{Around}
-use Rattle.agent_pages.specs.declared.asked.Page.{Page}
-use Rattle.base_clients.specs.Doors.{DoorLog}
+use Rattle.agent_pages.specs.{Naming.Around, declared.asked.Page.Page}
+use Rattle.base_clients.specs.{Doors.DoorLog, declared.fed.Fed.Fed, declared.guest.Guest.Guest, declared.stage.GuestStage.GuestStage, declared.talk.TalkCall.TalkCall}
 use Rattle.base_clients.specs.Guests.{GoesOnFrom, IsFedFrom, IsToldOn, answering_rest, asked_bytes, count, heard_to, in_time, is_stage_asked, is_stage_over, read_to, told_to, written_to}
 use Rattle.base_clients.specs.Tables.{AnswersFirst, BecomesAt, EachGoesOn, FeedsAt, GuestTable, OneGoesOn, Turns, arrive, arrive_all, first_asked, follows_as, guest_answered, idle_since, is_idle_since, request_asked_at, request_of_guest, with_place, without_idlest, without_place}
-use Rattle.base_clients.specs.declared.fed.Fed.{Fed}
-use Rattle.base_clients.specs.declared.guest.Guest.{Guest}
-use Rattle.base_clients.specs.declared.stage.GuestStage.{GuestStage}
 use Rattle.base_clients.specs.declared.stage.GuestStage.TheVariants as stages
-use Rattle.base_clients.specs.declared.talk.TalkCall.{TalkCall}
 use Rattle.base_device.specs.declared.tried.Tried.{Tried}
 use Rattle.base_device.specs.declared.tried.Tried.TheVariants.{Done, Waits, Failed}
 use Rattle.base_clock.specs.declared.reading.Reading.{Reading}
-use Rattle.base_log.specs.declared.follower.Follower.{Follower}
-use Rattle.base_log.specs.declared.form.Form.{Form}
-use Rattle.agent_log.specs.Feeding.{AreFed, EachIsFed, FollowersGoOn}
+use Rattle.base_log.specs.{declared.follower.Follower.Follower, declared.form.Form.Form}
 use Rattle.agent_log.specs.Rooms.{Rooms}
+use Rattle.agent_log.specs.Feeding.{AreFed, EachIsFed, FollowersGoOn}
 use Rattle.agent_house.specs.Houses.{ClientsGoOn}
 use Rattle.agent_laws.specs.Acknowledged.{HasOk, HasSent, IsSameAnswer, IsShown, WasThere, answer_in, guests_in}
 

@@ -3,34 +3,22 @@ use Rattle.std.proofs.Common.{◌≡◌, ◌∙◌, ◌⊎◌, ℕ, ◌≤◌, B
 use Rattle.std.specs.Prelude.{option_map}
 use Rattle.std.specs.declared.alloc.AllocError.{AllocError}
 use Rattle.agent_standing.specs.Agent.{Agent}
-use Rattle.agent_behind.specs.Behinds.{PassesBehind}
-use Rattle.agent_behind.specs.declared.behind.Behind.{Behind}
+use Rattle.agent_behind.specs.{Behinds.PassesBehind, declared.behind.Behind.Behind}
 use Rattle.state_changes.specs.declared.row.Row.{Row}
-use Rattle.base_clients.specs.Doors.{DoorLog}
-use Rattle.base_clients.specs.declared.talk.TalkCall.{TalkCall}
+use Rattle.base_clients.specs.{Doors.DoorLog, declared.talk.TalkCall.TalkCall}
 use Rattle.base_clock.specs.declared.reading.Reading.{Reading}
 use Rattle.base_device.specs.declared.tried.Tried.{Tried}
-use Rattle.base_disk.specs.State.{DiskState}
-use Rattle.base_disk.specs.declared.fault.DiskFault.{DiskFault}
-use Rattle.agent_ends.specs.Files.{EndsFileGoesOn}
-use Rattle.agent_ends.specs.declared.file.EndsFile.{EndsFile}
+use Rattle.base_disk.specs.{State.DiskState, declared.fault.DiskFault.DiskFault}
+use Rattle.agent_ends.specs.{Files.EndsFileGoesOn, declared.file.EndsFile.EndsFile}
 use Rattle.vault_inventory.specs.Inventories.{Inventory}
-use Rattle.agent_turns.specs.Changes.{given_by}
-use Rattle.agent_turns.specs.Days.{PassesToOthers}
-use Rattle.agent_turns.specs.Calls.{calls_in}
+use Rattle.agent_turns.specs.{Changes.given_by, Days.PassesToOthers, Calls.calls_in, declared.change.AgentChange.AgentChange, declared.day.EarlyDay.EarlyDay}
 use Rattle.agent_turns.specs.Neighbours.{AllCalled, Answer, End, Give, GoOn, Hear, NeighbourCall, Needs, Rest, Settle, Step, Thing, Time, Want}
-use Rattle.agent_turns.specs.declared.change.AgentChange.{AgentChange}
-use Rattle.agent_turns.specs.declared.day.EarlyDay.{EarlyDay}
 use Rattle.watch_machine.specs.declared.outlook.Next.{Next}
 use Rattle.agent_laws.specs.Disks.{AreEndsLeft, AsksLittle, EndsAreTriedOnce, IsAskedWithin, ToHouse, TriesEnds}
-use Rattle.agent_house.specs.Doing.{HearsOf, HearsServedIf}
+use Rattle.agent_house.specs.{Doing.HearsOf, Doing.HearsServedIf, Nexts.HearsNext, Looks.AsksToLook, declared.house.House.House}
 use Rattle.agent_house.specs.Ends.{EndsGoOn, after_answer, to_be_kept}
-use Rattle.agent_ledger.specs.Keeping.{KeepCall, Look}
-use Rattle.agent_ledger.specs.declared.keeping.FileLook.{FileLook}
+use Rattle.agent_ledger.specs.{Keeping.KeepCall, Keeping.Look, declared.keeping.FileLook.FileLook}
 use Rattle.agent_words.specs.Outcomes.{Why}
-use Rattle.agent_house.specs.Nexts.{HearsNext}
-use Rattle.agent_house.specs.Looks.{AsksToLook}
-use Rattle.agent_house.specs.declared.house.House.{House}
 use Rattle.agent_laws.proofs.Asks.{Spares, asked_for, settled_given}
 use Rattle.agent_laws.proofs.Called.{within_join, within_more, within_none, within_one}
 use Rattle.agent_laws.proofs.Passed.{Passes, by_day, by_day_behind}

@@ -1,40 +1,26 @@
 -- Stamped: how many stamps a ledger looks at and how many files it reads, and that its disk is left alone. For the laws of disks.
 use Rattle.std.proofs.Common.{◌≡◌, ◌∙◌, ℕ, zero, suc, ◌+◌, ◌-◌, ◌*◌, ◌≤◌, ◌≢◌, ◌⊎◌, Bool, inl, inr, List, [], ◌∷◌, ◌++◌, Option, Some, None, Result, Ok, Err, ap, append-nil, append_assoc, arith, length, refl, subst, sym}
 use Rattle.std.proofs.lemmas.List.Sums.{sum_by-append, sum_by-cons}
-use Rattle.std.specs.List.{sum_by}
-use Rattle.std.specs.declared.alloc.AllocError.{AllocError}
+use Rattle.std.specs.{List.sum_by, declared.alloc.AllocError.AllocError}
 use Rattle.vault_asking.specs.Sending.{Lanes}
-use Rattle.state_changes.specs.declared.row.Row.{Row}
+use Rattle.state_changes.specs.{declared.row.Row.Row, declared.secret.Secret.Secret}
 use Rattle.base_clock.specs.declared.reading.Reading.{Reading}
 use Rattle.base_device.specs.declared.fault.InputFault.{InputFault}
 use Rattle.base_disk.specs.State.{DiskState}
-use Rattle.vault_proving.specs.declared.candidate.Candidate.{Candidate}
-use Rattle.vault_proving.specs.declared.verdict.Verdict.{Verdict}
+use Rattle.vault_proving.specs.{declared.candidate.Candidate.Candidate, declared.verdict.Verdict.Verdict}
+use Rattle.state_secrets.specs.{declared.looking.DueFile.DueFile, declared.looking.FileMark.FileMark, declared.looking.Pass.Pass, declared.looking.SecretTrouble.SecretTrouble, declared.looking.Step.Step, declared.news.Looked.Looked}
+use Rattle.state_secrets.specs.{declared.secret_files.FileStamp.FileStamp}
 use Rattle.state_secrets.specs.Looking.{Passes, PassesByStep, Steps}
 use Rattle.state_secrets.specs.Stamps.{FileCall, Made, Opened, Stamped}
-use Rattle.state_secrets.specs.declared.looking.DueFile.{DueFile}
-use Rattle.state_secrets.specs.declared.looking.FileMark.{FileMark}
-use Rattle.state_secrets.specs.declared.looking.Pass.{Pass}
-use Rattle.state_secrets.specs.declared.looking.Pass.TheVariants as passes
-use Rattle.state_secrets.specs.declared.looking.SecretTrouble.{SecretTrouble}
-use Rattle.state_secrets.specs.declared.looking.Step.{Step}
 use Rattle.state_secrets.specs.declared.looking.Step.TheVariants.{Bare, Same, Ends}
-use Rattle.state_secrets.specs.declared.news.Looked.{Looked}
-use Rattle.state_secrets.specs.declared.secret_files.FileStamp.{FileStamp}
-use Rattle.agent_turns.specs.Changes.{given_by}
-use Rattle.agent_turns.specs.Neighbours.{NeighbourCall}
-use Rattle.state_changes.specs.declared.secret.Secret.{Secret}
+use Rattle.state_secrets.specs.declared.looking.Pass.TheVariants as passes
+use Rattle.agent_turns.specs.{Changes.given_by, Neighbours.NeighbourCall}
 use Rattle.agent_laws.specs.Disks.{AllAsked, AsksLittle, FewAreMade, KeeperIsCalled, LedgerIsSpared, LedgerLaw, SparesIf, SparesLate, SparesLedger, looks_of, makes_of, opens_of, stamps_of}
+use Rattle.agent_ledger.specs.{Lates.DoesBoth, Lates.DoesLate, Ledgers.DoesLedger, declared.asked_file.AskedFile.AskedFile, declared.asker.FileWord.FileWord, declared.late.Late.Late, declared.ledger.Ledger.Ledger}
+use Rattle.agent_ledger.specs.{declared.keeping.FileLook.FileLook}
 use Rattle.agent_ledger.specs.Keeping.{KeepCall, Look, LookUp, MarkServed, Prove, Reload, RestFor, Settle, Take, TryAgain}
-use Rattle.agent_ledger.specs.Lates.{DoesBoth, DoesLate}
-use Rattle.agent_ledger.specs.Ledgers.{DoesLedger}
 use Rattle.agent_ledger.specs.Takings.{AwaitsIf, IsEarly, IsFileReadAs, IsPass, JudgesFile, LooksBy, LooksByWord, LooksOn, LooksOrHears, LooksUpBy, LooksUpNew, ReadsNew, ReadsUp, TakesHeldUp, TakesRead, TakesUpFile}
-use Rattle.agent_ledger.specs.declared.asked_file.AskedFile.{AskedFile}
-use Rattle.agent_ledger.specs.declared.asker.FileWord.{FileWord}
-use Rattle.agent_ledger.specs.declared.late.Late.{Late}
 use Rattle.agent_ledger.specs.declared.late.Late.TheVariants.{Open, NotYet}
-use Rattle.agent_ledger.specs.declared.ledger.Ledger.{Ledger}
-use Rattle.agent_ledger.specs.declared.keeping.FileLook.{FileLook}
 
 -- ---- calls of files, one after another
 

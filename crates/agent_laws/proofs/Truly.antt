@@ -2,23 +2,16 @@
 use Rattle.std.proofs.Common.{◌≡◌, ◌∙◌, ◌⊎◌, ℕ, Bool, true, false, ◌&&◌, inl, inr, List, [], ◌++◌, Option, Some, None, Result, ap, arith, codes, refl, slice_get, slice_index, slice_set, subst, sym}
 use Rattle.std.specs.List.{position}
 use Rattle.agent_standing.specs.Agent.{Agent}
-use Rattle.agent_answers.specs.Controlling.{AnswersAsking}
-use Rattle.agent_answers.specs.declared.asked.ClientOrder.{ClientOrder}
-use Rattle.agent_answers.specs.declared.control.Control.{Control}
+use Rattle.agent_answers.specs.{Controlling.AnswersAsking, declared.asked.ClientOrder.ClientOrder, declared.control.Control.Control}
 use Rattle.state_changes.specs.declared.row.Row.{Row}
+use Rattle.base_clients.specs.{declared.guest.Guest.Guest, declared.stage.GuestStage.GuestStage}
 use Rattle.base_clients.specs.Tables.{AnswersGuest, BecomesAt, GuestTable, guest_answered, waits_as}
-use Rattle.base_clients.specs.declared.guest.Guest.{Guest}
-use Rattle.base_clients.specs.declared.stage.GuestStage.{GuestStage}
 use Rattle.base_clients.specs.declared.stage.GuestStage.TheVariants as stages
 use Rattle.agent_ledger.specs.Keeping.{KeepCall}
 use Rattle.agent_words.specs.Outcomes.{Why}
-use Rattle.agent_house.specs.Admitting.{asking_in}
-use Rattle.agent_house.specs.Commands.{SettlesBy, is_served}
-use Rattle.agent_house.specs.Doing.{HearsServedIf, SettlesChange}
+use Rattle.agent_house.specs.{Admitting.asking_in, Commands.SettlesBy, Commands.is_served, Doing.HearsServedIf, Doing.SettlesChange, declared.given.Given.Given, declared.house.House.House}
 use Rattle.agent_house.specs.Houses.{ClientIsAnswered, IsAnsweredAside, bytes_sent}
-use Rattle.agent_house.specs.declared.given.Given.{Given}
 use Rattle.agent_house.specs.declared.given.Given.TheVariants as givens
-use Rattle.agent_house.specs.declared.house.House.{House}
 use Rattle.agent_laws.specs.Acknowledged.{HasOk, WasThere, answer_in, guests_in}
 use Rattle.agent_laws.proofs.Admitted.{set_back, waits_number}
 use Rattle.agent_laws.proofs.Owed.{IsOwed, IsTold, Owes}

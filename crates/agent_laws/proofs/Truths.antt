@@ -6,35 +6,23 @@ use Rattle.agent_standing.specs.Agent.{Agent}
 use Rattle.agent_answers.specs.declared.asked.ClientOrder.{ClientOrder}
 use Rattle.agent_answers.specs.declared.asked.ClientOrder.TheVariants as asked
 use Rattle.state_changes.specs.declared.row.Row.{Row}
-use Rattle.base_clients.specs.Doors.{DoorLog}
-use Rattle.base_clients.specs.declared.guest.Guest.{Guest}
-use Rattle.base_clients.specs.declared.talk.TalkCall.{TalkCall}
+use Rattle.base_clients.specs.{Doors.DoorLog, declared.guest.Guest.Guest, declared.talk.TalkCall.TalkCall}
 use Rattle.base_clock.specs.declared.reading.Reading.{Reading}
 use Rattle.base_device.specs.declared.tried.Tried.{Tried}
 use Rattle.base_disk.specs.State.{DiskState}
 use Rattle.vault_inventory.specs.Inventories.{Inventory}
+use Rattle.agent_turns.specs.{Changes.MadeChange, Held.ServingSide, Runs.AreTurns, Stages.of_stages, Turns.ServingTurn, Turns.TurnHears, declared.change.AgentChange.AgentChange}
 use Rattle.agent_turns.specs.Calls.{calls_after, calls_at, calls_in, calls_of, calls_of_answering, calls_of_reading, heard_of_want}
-use Rattle.agent_turns.specs.Changes.{MadeChange}
-use Rattle.agent_turns.specs.Held.{ServingSide}
 use Rattle.agent_turns.specs.Neighbours.{AllCalled, Answer, End, Give, GoOn, Hear, NeighbourCall, Needs, Rest, Settle, Step, Thing, Time, Want, calls_for_change}
-use Rattle.agent_turns.specs.Runs.{AreTurns}
-use Rattle.agent_turns.specs.Stages.{of_stages}
-use Rattle.agent_turns.specs.Turns.{ServingTurn, TurnHears}
-use Rattle.agent_turns.specs.declared.change.AgentChange.{AgentChange}
 use Rattle.watch_machine.specs.declared.outlook.Next.{Next}
 use Rattle.agent_words.specs.Outcomes.{Why}
 use Rattle.agent_ledger.specs.Keeping.{KeepCall}
-use Rattle.agent_house.specs.Admitting.{asking_in}
-use Rattle.agent_house.specs.Doing.{DoesToHouse, HearsOf}
-use Rattle.agent_house.specs.Nexts.{HearsNext}
-use Rattle.agent_house.specs.declared.given.Awaited.{Awaited}
-use Rattle.agent_house.specs.declared.given.Given.{Given}
-use Rattle.agent_house.specs.declared.house.House.{House}
+use Rattle.agent_house.specs.{Admitting.asking_in, Doing.DoesToHouse, Doing.HearsOf, Nexts.HearsNext, declared.given.Awaited.Awaited, declared.given.Given.Given, declared.house.House.House}
 use Rattle.agent_laws.specs.Acknowledged.{AllTellTruly, Asks, IsShown, TellsOk, TellsOkAmid, TurnsTellTruly, guests_in}
+use Rattle.agent_laws.proofs.Shown.{clients_told}
 use Rattle.agent_laws.proofs.Admitted.{Follows, admitted_alone, same_ok}
 use Rattle.agent_laws.proofs.Owed.{AreDone, IsOwed, IsTurnOf, Owes, WaitsFor, asked_for, none_given}
 use Rattle.agent_laws.proofs.Reaching.{AreLeft, IsChanged, IsHeard, Reaches, SettlesOr, unheard}
-use Rattle.agent_laws.proofs.Shown.{clients_told}
 use Rattle.agent_laws.proofs.Truly.{awaited_then, none_then, told_truly}
 use Rattle.agent_laws.proofs.Weighed.{light_stages, light_want, weight}
 

@@ -3,13 +3,10 @@ use Rattle.std.proofs.Common.{◌≡◌, ℕ, ◌+◌, ◌≤◌, Bool, true, fa
 use Rattle.agent_standing.specs.Agent.{Agent}
 use Rattle.base_clock.specs.declared.reading.Reading.{Reading}
 use Rattle.vault_lanes.specs.declared.lanes.Answered.{Answered}
+use Rattle.agent_turns.specs.{Changes.MadeChange, Changes.given_by, Held.ServingSide, Turns.ServingTurn, Turns.TurnHears, declared.change.AgentChange.AgentChange}
 use Rattle.agent_turns.specs.Calls.{call_of_answer, calls_after, calls_at, calls_of_answering, calls_of_answers, calls_of_reading, heard_of_want, needs_of}
-use Rattle.agent_turns.specs.Changes.{MadeChange, given_by}
-use Rattle.agent_turns.specs.Held.{ServingSide}
 use Rattle.agent_turns.specs.Neighbours.{Give, GoOn, Hear, NeighbourCall, Rest, Settle, Thing, Time, Want, calls_for_change}
 use Rattle.agent_turns.specs.Stages.{AnswersAreTaken, AnswersCome, Commands, HandsInAnswers, LeftOverGoesFirst, Listed, OnHeld, SendsRequests, TakesAnswers, TakesReadings, TakesUp, Then, nothing, of_answers, of_coming, of_commands, of_left, of_stages, one_and_then}
-use Rattle.agent_turns.specs.Turns.{ServingTurn, TurnHears}
-use Rattle.agent_turns.specs.declared.change.AgentChange.{AgentChange}
 
 -- how often they go on, and how many changes they give
 abbrev pub goes : NeighbourCall → ℕ

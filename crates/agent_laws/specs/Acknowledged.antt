@@ -4,57 +4,31 @@
 use Rattle.std.specs.Prelude.{◌≡◌, ◌⊎◌, ◌/◌, ℕ, Bool, IsTrue, List, [], ◌∷◌, ◌++◌, Option, Some, None, Ok, codes, drop, slice_get}
 use Rattle.std.specs.List.{Contains}
 use Rattle.agent_standing.specs.Agent.{Agent}
-use Rattle.agent_answers.specs.Controlling.{IsShownText}
-use Rattle.agent_answers.specs.Wanting.{ClientWants}
-use Rattle.agent_answers.specs.declared.asked.ClientOrder.{ClientOrder}
+use Rattle.agent_answers.specs.{Controlling.IsShownText, Wanting.ClientWants, declared.asked.ClientOrder.ClientOrder, declared.control.Control.Control}
 use Rattle.agent_answers.specs.declared.asked.ClientOrder.TheVariants as asked
-use Rattle.agent_answers.specs.declared.control.Control.{Control}
 use Rattle.agent_answers.specs.declared.wanted.Wanted.TheVariants as wanted
-use Rattle.agent_pages.specs.Naming.{Around}
-use Rattle.agent_pages.specs.declared.asked.Page.{Page}
+use Rattle.agent_pages.specs.{Naming.Around, declared.asked.Page.Page}
 use Rattle.vault_asking.specs.Sending.{Lanes}
-use Rattle.agent_behind.specs.Behinds.{PassesBehind}
-use Rattle.agent_behind.specs.declared.behind.Behind.{Behind}
-use Rattle.state_changes.specs.Listed.{rows_of_served}
-use Rattle.state_changes.specs.Words.{fingerprint}
-use Rattle.state_changes.specs.declared.change.ChangeKind.{ChangeKind}
+use Rattle.agent_behind.specs.{Behinds.PassesBehind, declared.behind.Behind.Behind}
+use Rattle.state_changes.specs.{Listed.rows_of_served, Words.fingerprint, declared.change.ChangeKind.ChangeKind, declared.replaying.JournalNote.JournalNote, declared.row.Row.Row}
 use Rattle.state_changes.specs.declared.change.ChangeKind.TheVariants as what
-use Rattle.state_changes.specs.declared.replaying.JournalNote.{JournalNote}
-use Rattle.state_changes.specs.declared.row.Row.{Row}
-use Rattle.base_clients.specs.Doors.{DoorLog}
-use Rattle.base_clients.specs.declared.guest.Guest.{Guest}
-use Rattle.base_clients.specs.declared.stage.GuestStage.{GuestStage}
+use Rattle.base_clients.specs.{Doors.DoorLog, declared.guest.Guest.Guest, declared.stage.GuestStage.GuestStage, declared.talk.TalkCall.TalkCall}
 use Rattle.base_clients.specs.declared.stage.GuestStage.TheVariants as stages
-use Rattle.base_clients.specs.declared.talk.TalkCall.{TalkCall}
 use Rattle.base_clock.specs.declared.reading.Reading.{Reading}
 use Rattle.base_device.specs.declared.tried.Tried.{Tried}
-use Rattle.base_disk.specs.Image.{Image}
-use Rattle.base_disk.specs.State.{DiskState}
-use Rattle.base_journal.specs.Journals.{FileIsThere, JournalIsWhole, bytes_of_file}
+use Rattle.base_disk.specs.{Image.Image, State.DiskState}
 use Rattle.base_journal.specs.Records.{StandsFor}
-use Rattle.vault_inventory.specs.Inventory.{read_served}
-use Rattle.vault_inventory.specs.Served.{Served}
+use Rattle.base_journal.specs.Journals.{FileIsThere, JournalIsWhole, bytes_of_file}
+use Rattle.vault_inventory.specs.{Inventory.read_served, Served.Served}
 use Rattle.state_secrets.specs.Stamps.{FileCall}
-use Rattle.agent_turns.specs.Calls.{calls_of}
-use Rattle.agent_turns.specs.Days.{PassesToOthers}
-use Rattle.agent_turns.specs.Held.{ServingSide}
+use Rattle.agent_turns.specs.{Calls.calls_of, Days.PassesToOthers, Held.ServingSide, Runs.AreTurns, Turns.ServingTurn, declared.day.EarlyDay.EarlyDay}
 use Rattle.agent_turns.specs.Neighbours.{AllCalled, Give, GoOn, Hear, NeighbourCall, Rest, Settle, WithCalls}
-use Rattle.agent_turns.specs.Runs.{AreTurns}
-use Rattle.agent_turns.specs.Turns.{ServingTurn}
-use Rattle.agent_turns.specs.declared.day.EarlyDay.{EarlyDay}
-use Rattle.state_keeping.specs.Settles.{copy_with}
+use Rattle.state_keeping.specs.{Settles.copy_with, Tables.row_of_table}
 use Rattle.state_keeping.specs.States.{Kept, book_in, store_in}
-use Rattle.state_keeping.specs.Tables.{row_of_table}
-use Rattle.state_store.specs.Books.{IsBookIf, file_of}
-use Rattle.state_store.specs.Entering.{line_for_change}
-use Rattle.state_store.specs.Moved.{SaysAlready}
-use Rattle.state_store.specs.Records.{records_in}
+use Rattle.state_store.specs.{Books.IsBookIf, Books.file_of, Entering.line_for_change, Moved.SaysAlready, Records.records_in}
 use Rattle.state_store.specs.Stores.{journal_of, lines_in, path_of_store}
-use Rattle.agent_ledger.specs.Rereading.{AreBytesOf}
-use Rattle.agent_house.specs.Admitting.{asking_in}
-use Rattle.agent_house.specs.Houses.{ClientsAsk}
-use Rattle.agent_house.specs.declared.house.House.{House}
-use Rattle.agent_ledger.specs.declared.late.Late.{Late}
+use Rattle.agent_ledger.specs.{Rereading.AreBytesOf, declared.late.Late.Late}
+use Rattle.agent_house.specs.{Admitting.asking_in, Houses.ClientsAsk, declared.house.House.House}
 use Rattle.agent_ledger.specs.declared.late.Late.TheVariants as lates
 use Rattle.agent_laws.specs.Disks.{ToLedger}
 

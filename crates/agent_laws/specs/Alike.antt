@@ -2,57 +2,25 @@
 -- public function without a body.
 -- Source: this project's own.
 use Rattle.std.specs.Prelude.{◌≡◌, ◌⊎◌, ℕ, List, [], ◌∷◌, Option, Some, Ok, Err, bytes_eq}
-use Rattle.agent_standing.specs.Agent.{Agent}
-use Rattle.agent_standing.specs.declared.shorts.Short.{Short}
-use Rattle.agent_standing.specs.declared.standing.Trouble.{Trouble}
+use Rattle.agent_standing.specs.{Agent.Agent, declared.shorts.Short.Short, declared.standing.Trouble.Trouble}
 use Rattle.vault_asking.specs.declared.told.Said.{Said}
-use Rattle.state_changes.specs.Rows.{named}
-use Rattle.state_changes.specs.declared.change.Record.{Record}
+use Rattle.state_changes.specs.{Rows.named, declared.change.Record.Record, declared.change.ChangeKind.ChangeKind, declared.replaying.JournalNote.JournalNote, declared.row.Row.Row, declared.secret.Secret.Secret}
 use Rattle.state_changes.specs.declared.change.Record.TheVariants.{Made, Settling}
-use Rattle.state_changes.specs.declared.change.ChangeKind.{ChangeKind}
-use Rattle.state_changes.specs.declared.replaying.JournalNote.{JournalNote}
-use Rattle.state_changes.specs.declared.row.Row.{Row}
 use Rattle.base_files.specs.Files.{Files}
-use Rattle.vault_inventory.specs.Bare.{DocumentsAreAlike}
-use Rattle.vault_inventory.specs.Inventories.{credential_at}
-use Rattle.vault_inventory.specs.Inventory.{read_served}
-use Rattle.vault_inventory.specs.Laws.{DifferInCredentials}
-use Rattle.vault_inventory.specs.Served.{Served}
-use Rattle.vault_inventory.specs.declared.fault.InvFault.{InvFault}
-use Rattle.vault_inventory.specs.declared.fault.InvFault.TheVariants.{NotToml}
+use Rattle.vault_inventory.specs.{Bare.DocumentsAreAlike, Inventories.credential_at, Inventory.read_served, Laws.DifferInCredentials, Served.Served, declared.fault.InvFault.InvFault, declared.fault.InvFault.TheVariants.NotToml}
 use Rattle.program_lines.specs.Text.{name_of}
 use Rattle.vault_lint.specs.Marks.{marks_of}
 use Rattle.state_notes.specs.Laws.{IsSameBut}
 use Rattle.vault_proving.specs.declared.verdict.Verdict.{Verdict}
-use Rattle.state_secrets.specs.Looking.{is_held}
-use Rattle.state_secrets.specs.Outcomes.{news_about, news_of}
-use Rattle.state_secrets.specs.declared.looking.FileSeen.{FileSeen}
-use Rattle.state_secrets.specs.declared.news.Became.{Became}
+use Rattle.state_secrets.specs.{Looking.is_held, Outcomes.news_about, Outcomes.news_of, declared.looking.FileSeen.FileSeen, declared.news.Became.Became}
 use Rattle.state_store.specs.declared.fault.TakeFault.{TakeFault}
-use Rattle.state_changes.specs.declared.secret.Secret.{Secret}
-use Rattle.watch_machine.specs.declared.command.WatchRequest.{WatchRequest}
-use Rattle.watch_machine.specs.declared.event.Operation.{Operation}
-use Rattle.watch_machine.specs.declared.notes.Notes.{Notes}
-use Rattle.watch_machine.specs.declared.outlook.Next.{Next}
-use Rattle.agent_log.specs.LinesOfAnswers.{answered_lines}
+use Rattle.watch_machine.specs.{declared.command.WatchRequest.WatchRequest, declared.event.Operation.Operation, declared.notes.Notes.Notes, declared.outlook.Next.Next}
+use Rattle.agent_log.specs.{LinesOfAnswers.answered_lines, LinesOfNexts.next_lines, SecretLines.news_lines, Sockets.need_log_line, declared.mark.Mark.Mark}
 use Rattle.agent_log.specs.LinesOfClocks.{clocked_lines, marks_anew, marks_clocked, short_log_lines}
-use Rattle.agent_house.specs.Commands.{end_named}
+use Rattle.agent_house.specs.{Commands.end_named, Nexts.next_there}
+use Rattle.agent_words.specs.{Noting.AreWhysNotServed, Refusing.start_refusal_line, Starts.written_faults, Telling.replaced_text, VerdictWords.kept_words, declared.demands.Demands.Demands, declared.fault.StartFault.StartFault}
 use Rattle.agent_words.specs.Filling.{AreUnfilled, FileHolds, FillingFails}
-use Rattle.agent_log.specs.LinesOfNexts.{next_lines}
-use Rattle.agent_house.specs.Nexts.{next_there}
-use Rattle.agent_words.specs.Noting.{AreWhysNotServed}
-use Rattle.agent_ledger.specs.Reasons.{bare_words, take_words}
-use Rattle.agent_ledger.specs.Rereading.{said_notes}
-use Rattle.agent_words.specs.Refusing.{start_refusal_line}
-use Rattle.agent_log.specs.SecretLines.{news_lines}
-use Rattle.agent_log.specs.Sockets.{need_log_line}
-use Rattle.agent_words.specs.Starts.{written_faults}
-use Rattle.agent_ledger.specs.Takings.{judged}
-use Rattle.agent_words.specs.Telling.{replaced_text}
-use Rattle.agent_words.specs.VerdictWords.{kept_words}
-use Rattle.agent_words.specs.declared.demands.Demands.{Demands}
-use Rattle.agent_words.specs.declared.fault.StartFault.{StartFault}
-use Rattle.agent_log.specs.declared.mark.Mark.{Mark}
+use Rattle.agent_ledger.specs.{Reasons.bare_words, Reasons.take_words, Rereading.said_notes, Takings.judged}
 
 -- two agents that differ in credentials alone, or in terms or beginnings
 pub record AgentsAreAlike (a b : Agent) : Type 0 where

@@ -3,22 +3,13 @@
 -- Source: this project's own.
 use Rattle.std.specs.Prelude.{◌≡◌, ℕ, List, Result, Ok, Err, bytes_eq, map}
 use Rattle.std.specs.List.{AllZip}
-use Rattle.state_changes.specs.Changes.{change_refusal, rows_changed}
-use Rattle.state_changes.specs.Replay.{is_as_then, replayed}
-use Rattle.state_changes.specs.Rows.{named}
-use Rattle.state_changes.specs.declared.change.Record.{Record}
+use Rattle.state_changes.specs.{Changes.change_refusal, Changes.rows_changed, Replay.is_as_then, Replay.replayed, Rows.named, declared.change.Record.Record, declared.change.ChangeKind.ChangeKind, declared.fault.ChangeFault.ChangeFault}
+use Rattle.state_changes.specs.{declared.replaying.File.File, declared.row.Row.Row, declared.secret.Secret.Secret}
 use Rattle.state_changes.specs.declared.change.Record.TheVariants.{Made, Settling}
-use Rattle.state_changes.specs.declared.change.ChangeKind.{ChangeKind}
 use Rattle.state_changes.specs.declared.change.ChangeKind.TheVariants as what
-use Rattle.state_changes.specs.declared.fault.ChangeFault.{ChangeFault}
-use Rattle.state_changes.specs.declared.replaying.File.{File}
-use Rattle.state_changes.specs.declared.row.Row.{Row}
-use Rattle.state_changes.specs.declared.secret.Secret.{Secret}
-use Rattle.state_secrets.specs.Outcomes.{has_it, secrets_with}
-use Rattle.state_secrets.specs.declared.looking.DueFile.{DueFile}
+use Rattle.state_secrets.specs.{Outcomes.has_it, Outcomes.secrets_with, declared.looking.DueFile.DueFile}
 use Rattle.state_store.specs.Handed.{handed}
-use Rattle.agent_ledger.specs.Shared.{may_be_apart}
-use Rattle.agent_ledger.specs.Takings.{may_be_anothers}
+use Rattle.agent_ledger.specs.{Shared.may_be_apart, Takings.may_be_anothers}
 
 -- ---- the other side
 

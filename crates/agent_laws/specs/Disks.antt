@@ -1,38 +1,25 @@
 -- Disks: how often disks are called in a turn. Each law is the contract of a public function without a body.
 -- Source: this project's own; which call of the loop does what is specs/Doing.
 use Rattle.std.specs.Prelude.{◌≡◌, ◌⊎◌, ◌*◌, ◌≤◌, ℕ, Bool, true, List, [], ◌∷◌, ◌++◌, Option, Some, None, IfSome, Result, length}
-use Rattle.std.specs.List.{sum_by}
-use Rattle.std.specs.declared.alloc.AllocError.{AllocError}
+use Rattle.std.specs.{List.sum_by, declared.alloc.AllocError.AllocError}
 use Rattle.agent_standing.specs.Agent.{Agent}
 use Rattle.vault_asking.specs.Sending.{Lanes}
-use Rattle.agent_behind.specs.Behinds.{PassesBehind}
-use Rattle.agent_behind.specs.declared.behind.Behind.{Behind}
+use Rattle.agent_behind.specs.{Behinds.PassesBehind, declared.behind.Behind.Behind}
 use Rattle.state_changes.specs.declared.row.Row.{Row}
-use Rattle.base_clients.specs.Doors.{DoorLog}
-use Rattle.base_clients.specs.declared.talk.TalkCall.{TalkCall}
+use Rattle.base_clients.specs.{Doors.DoorLog, declared.talk.TalkCall.TalkCall}
 use Rattle.base_device.specs.declared.tried.Tried.{Tried}
-use Rattle.base_disk.specs.State.{DiskState}
-use Rattle.base_disk.specs.declared.fault.DiskFault.{DiskFault}
-use Rattle.agent_ends.specs.Files.{FileIsTried, is_file_due}
-use Rattle.agent_ends.specs.declared.file.EndsFile.{EndsFile}
+use Rattle.base_disk.specs.{State.DiskState, declared.fault.DiskFault.DiskFault}
+use Rattle.agent_ends.specs.{Files.FileIsTried, Files.is_file_due, declared.file.EndsFile.EndsFile}
 use Rattle.vault_inventory.specs.Inventories.{Inventory}
-use Rattle.state_secrets.specs.Stamps.{FileCall, Opened, Stamped}
 use Rattle.state_secrets.specs.declared.looking.TheConstants.{MOST_LOOKS}
-use Rattle.agent_turns.specs.Changes.{given_by}
-use Rattle.agent_turns.specs.Days.{PassesToOthers}
-use Rattle.agent_turns.specs.Calls.{TurnCalls}
-use Rattle.agent_turns.specs.Neighbours.{NeighbourCall}
-use Rattle.agent_turns.specs.Turns.{ServingTurn}
-use Rattle.agent_turns.specs.declared.day.EarlyDay.{EarlyDay}
-use Rattle.agent_house.specs.Doing.{DoesToHouse}
+use Rattle.state_secrets.specs.Stamps.{FileCall, Opened, Stamped}
+use Rattle.agent_turns.specs.{Changes.given_by, Days.PassesToOthers, Calls.TurnCalls, Neighbours.NeighbourCall, Turns.ServingTurn, declared.day.EarlyDay.EarlyDay}
+use Rattle.agent_house.specs.{Doing.DoesToHouse, declared.house.House.House}
+use Rattle.agent_ledger.specs.{Ledgers.DoesLedger, declared.late.Late.Late, declared.ledger.Ledger.Ledger}
 use Rattle.agent_ledger.specs.Keeping.{KeepCall, Look, LookUp, MarkServed, Prove, Reload, RestFor, Settle, Take, TryAgain}
-use Rattle.agent_words.specs.Outcomes.{Why}
 use Rattle.agent_ledger.specs.Lates.{DoesLate, GivesLate, ReadsLate, is_open, late_path, late_rows}
-use Rattle.agent_ledger.specs.Ledgers.{DoesLedger}
-use Rattle.agent_ledger.specs.declared.late.Late.{Late}
 use Rattle.agent_ledger.specs.declared.late.Late.TheVariants.{Open, NotYet}
-use Rattle.agent_house.specs.declared.house.House.{House}
-use Rattle.agent_ledger.specs.declared.ledger.Ledger.{Ledger}
+use Rattle.agent_words.specs.Outcomes.{Why}
 
 -- ---- whoever keeps changes
 

@@ -5,20 +5,18 @@ use Rattle.std.specs.Prelude.{◌≡◌, ℕ, Bool, List, Option, None, Some, Re
 use Rattle.std.specs.declared.alloc.AllocError.{AllocError}
 use Rattle.agent_standing.specs.Agent.{Agent}
 use Rattle.state_changes.specs.declared.row.Row.{Row}
-use Rattle.base_clients.specs.Doors.{DoorLog}
-use Rattle.base_clients.specs.declared.talk.TalkCall.{TalkCall}
+use Rattle.base_clients.specs.{Doors.DoorLog, declared.talk.TalkCall.TalkCall}
 use Rattle.base_device.specs.declared.tried.Tried.{Tried}
 use Rattle.base_disk.specs.State.{DiskState}
 use Rattle.vault_inventory.specs.Inventories.{Inventory}
-use Rattle.agent_turns.specs.Neighbours.{AllCalled, NeighbourCall}
+use Rattle.agent_turns.specs.{Neighbours.AllCalled, Neighbours.NeighbourCall, declared.change.AgentChange.AgentChange}
 use Rattle.agent_turns.specs.Neighbours as turns
-use Rattle.agent_turns.specs.declared.change.AgentChange.{AgentChange}
 use Rattle.agent_turns.specs.declared.change.AgentChange.TheVariants as changes
 use Rattle.agent_house.specs.declared.house.House.{House}
 use Rattle.agent_ledger.specs.Keeping.{KeepCall, Look, LookUp, MarkServed, Prove, Reload, RestFor, Settle, Take, TryAgain}
 use Rattle.agent_words.specs.Outcomes.{Why}
-use Rattle.agent_laws.specs.Decided.{IsPairing, rows_beside, what_beside}
 use Rattle.agent_laws.specs.Heard.{Does}
+use Rattle.agent_laws.specs.Decided.{IsPairing, rows_beside, what_beside}
 
 -- ---- the other side
 

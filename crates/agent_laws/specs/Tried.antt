@@ -2,24 +2,17 @@
 -- Source: this project's own.
 use Rattle.std.specs.Prelude.{◌+◌, ◌≤◌, ℕ, Bool, List, Option, Result}
 use Rattle.std.specs.declared.alloc.AllocError.{AllocError}
-use Rattle.agent_behind.specs.Behinds.{PassesBehind}
-use Rattle.agent_behind.specs.declared.behind.Behind.{Behind}
+use Rattle.agent_behind.specs.{Behinds.PassesBehind, declared.behind.Behind.Behind}
 use Rattle.state_changes.specs.declared.row.Row.{Row}
-use Rattle.base_clients.specs.Doors.{DoorLog}
-use Rattle.base_clients.specs.declared.talk.TalkCall.{TalkCall}
+use Rattle.base_clients.specs.{Doors.DoorLog, declared.talk.TalkCall.TalkCall}
 use Rattle.base_device.specs.declared.tried.Tried.{Tried}
 use Rattle.base_disk.specs.State.{DiskState}
 use Rattle.vault_inventory.specs.Inventories.{Inventory}
 use Rattle.base_log.specs.declared.writing.TheConstants.{MOST_TRIES}
-use Rattle.agent_turns.specs.Days.{PassesToOthers}
-use Rattle.agent_turns.specs.Calls.{TurnCalls}
-use Rattle.agent_turns.specs.Neighbours.{NeighbourCall}
-use Rattle.agent_turns.specs.Turns.{ServingTurn}
-use Rattle.agent_turns.specs.declared.day.EarlyDay.{EarlyDay}
-use Rattle.agent_house.specs.Doing.{DoesToHouse}
+use Rattle.agent_turns.specs.{Days.PassesToOthers, Calls.TurnCalls, Neighbours.NeighbourCall, Turns.ServingTurn, declared.day.EarlyDay.EarlyDay}
+use Rattle.agent_house.specs.{Doing.DoesToHouse, declared.house.House.House}
 use Rattle.agent_ledger.specs.Keeping.{KeepCall}
 use Rattle.agent_words.specs.Outcomes.{Why}
-use Rattle.agent_house.specs.declared.house.House.{House}
 
 -- in a turn of neighbours to which each call does this, the reader that they hold is tried 16 times at most
 abbrev pub IsTriedLittle : {S N : Type 0} → (NeighbourCall → N → N → Type 0) → (S → ℕ) → (N → S) → Type 0

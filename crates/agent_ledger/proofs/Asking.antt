@@ -1,18 +1,13 @@
 -- Asking: files are looked up by askers, and heard of. For `hear_first`, `ask_at`, `ask_about` and `look`.
 use Rattle.std.proofs.Common.{◌≡◌, ◌∙◌, ℕ, ◌<◌, ◌≤◌, ◌+◌, arith, true, not, ◌&&◌, List, [], ◌∷◌, ◌++◌, Option, Some, None, Result, Ok, Err, Vec, ap, append-nil, append_assoc, drop, get_or, is_none, is_some, length, refl, set, subst, suc, sym, take}
-use Rattle.std.proofs.lemmas.Grind.{drop_more_same}
+use Rattle.std.proofs.lemmas.{Grind.drop_more_same, List.Quantifiers.position-Some, Option.slice_get-get_or}
 use Rattle.std.proofs.lemmas.List.{drop-set-lt, drop_all, drop_more, length-set, set_split, take_all, take_more_set, with_items_is}
-use Rattle.std.proofs.lemmas.List.Quantifiers.{position-Some}
-use Rattle.std.proofs.lemmas.Option.{slice_get-get_or}
-use Rattle.std.specs.Vec.{with_items}
-use Rattle.std.specs.declared.alloc.AllocError.{AllocError}
+use Rattle.std.specs.{Vec.with_items, declared.alloc.AllocError.AllocError}
 use Rattle.vault_asking.specs.Sending.{Lanes}
 use Rattle.base_clock.specs.declared.reading.Reading.{Reading}
 use Rattle.vault_proving.specs.declared.candidate.Candidate.{Candidate}
+use Rattle.agent_ledger.specs.{declared.asked_file.AskedFile.AskedFile, declared.asker.Asker.Asker, declared.asker.FileWord.FileWord}
 use Rattle.agent_ledger.specs.Askers.{AskerAsks, FileGoesOut, HearsFirst, HearsIf, free_place, is_free}
-use Rattle.agent_ledger.specs.declared.asked_file.AskedFile.{AskedFile}
-use Rattle.agent_ledger.specs.declared.asker.Asker.{Asker}
-use Rattle.agent_ledger.specs.declared.asker.FileWord.{FileWord}
 
 module _ {L : Type 0} (lanes_seen : L → Lanes) (now : ℕ) where
   -- no file is looked up

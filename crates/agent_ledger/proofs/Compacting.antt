@@ -1,5 +1,5 @@
 -- Compacting: what becomes of the lines, whatever came of it. For `compact_if`.
-use Rattle.std.proofs.Common.{◌≡◌, ◌∙◌, ap, ℕ, Bool, true, false, if◌then◌else◌, List, Result, Ok, Err, IfOk, OnErr, inl, inr, sym}
+use Rattle.std.proofs.Common.{◌≡◌, ℕ, Bool, true, false, if◌then◌else◌, List, Result, Ok, Err, IfOk, OnErr, inl, inr, sym}
 use Rattle.base_disk.specs.declared.fault.DiskFault.{DiskFault}
 use Rattle.state_store.specs.Compacted.{compacted_lines, is_worth}
 use Rattle.agent_ledger.specs.Ledgers.{AreCompacted}

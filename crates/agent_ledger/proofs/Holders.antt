@@ -1,15 +1,11 @@
 -- Holders: another entry has a credential as its own, or it is what is held of that entry's file. For `is_anothers`.
 use Rattle.std.proofs.Common.{◌≡◌, ◌∙◌, ◌⊎◌, ℕ, ◌<◌, Bool, true, false, cond, not, ◌&&◌, ◌||◌, List, [], ◌∷◌, Option, Some, None, bytes_eq, find, get_or, is_none, length, refl, sym, ap, inl, inr, true≢false}
-use Rattle.std.proofs.lemmas.Bool.{and_from, and_parts, or_left, or_right}
 use Rattle.std.proofs.lemmas.List.Folds.{Any-from_list_any, list_any-from_Any}
-use Rattle.std.specs.Bool.{beq}
-use Rattle.std.specs.Cmp.Lexicographic.{bytes_decides}
-use Rattle.std.specs.List.{list_any}
+use Rattle.std.proofs.lemmas.Bool.{and_from, and_parts, or_left, or_right}
+use Rattle.std.specs.{Bool.beq, Cmp.Lexicographic.bytes_decides, List.list_any}
 use Rattle.plan_forest.specs.Push.{is_lease}
-use Rattle.state_changes.specs.declared.row.Row.{Row}
+use Rattle.state_changes.specs.{declared.row.Row.Row, Secrets.is_of, Secrets.taken_from, declared.secret.Secret.Secret}
 use Rattle.state_secrets.specs.Outcomes.{has_it, is_credential_of, is_own_file}
-use Rattle.state_changes.specs.Secrets.{is_of, taken_from}
-use Rattle.state_changes.specs.declared.secret.Secret.{Secret}
 use Rattle.agent_ledger.specs.Takings.{has_credential, is_anothers}
 use Rattle.agent_ledger.specs.code.Holders.{is_for, is_for_another, is_other, is_others_by_file, is_others_own}
 

@@ -3,13 +3,9 @@ use Rattle.std.proofs.Common.{◌≡◌, ◌∙◌, ℕ, ◌+◌, ◌<◌, ◌�
 use Rattle.std.proofs.lemmas.List.{drop_all, drop_more}
 use Rattle.std.specs.List.{position, position_or_len}
 use Rattle.state_changes.specs.declared.row.Row.{Row}
-use Rattle.agent_ledger.specs.Keeping.{KeepCall}
-use Rattle.agent_words.specs.Outcomes.{nothing_kept}
-use Rattle.agent_ledger.specs.Rereading.{AreAtMost}
-use Rattle.agent_ledger.specs.Lates.{IsUntold}
+use Rattle.agent_ledger.specs.{Keeping.KeepCall, Rereading.AreAtMost, Lates.IsUntold, declared.opening.NeedMeanwhile.NeedMeanwhile, declared.opening.OpenedLedger.OpenedLedger}
 use Rattle.agent_ledger.specs.Openings.{RecordsNeed, RecordsNeeds, is_need_of}
-use Rattle.agent_ledger.specs.declared.opening.NeedMeanwhile.{NeedMeanwhile}
-use Rattle.agent_ledger.specs.declared.opening.OpenedLedger.{OpenedLedger}
+use Rattle.agent_words.specs.Outcomes.{nothing_kept}
 
 chosen : (b : Bool) (m n : ℕ) → cond b (Some m) None ≡ Some n → (b ≡ true) × (m ≡ n)
 chosen true m n e = (refl, cc)

@@ -1,20 +1,14 @@
 -- Sharing: the credentials of the rows from a place on, by kind, and whether two of a kind have one. For `is_any_shared`.
-use Rattle.std.proofs.Common.{◌≡◌, ◌∙◌, ℕ, suc, ◌+◌, ◌<◌, ◌≤◌, Bool, true, false, not, cond, ◌&&◌, ◌||◌, List, [], ◌∷◌, bytes_eq, drop, get_or, length, arith, refl, sym, ap, subst}
-use Rattle.std.proofs.Math.ListN.{drop_of_length-le}
-use Rattle.std.proofs.Math.Seq.{drop-cons}
+use Rattle.std.proofs.Common.{◌≡◌, ◌∙◌, ℕ, suc, ◌+◌, ◌<◌, Bool, true, false, not, cond, ◌&&◌, ◌||◌, List, [], ◌∷◌, bytes_eq, drop, get_or, length, arith, refl, sym, ap, subst}
+use Rattle.std.proofs.{Math.ListN.drop_of_length-le, Math.Seq.drop-cons}
 use Rattle.std.proofs.lemmas.Map.Text.{is_eq-slice_cmp}
+use Rattle.std.specs.{Bool.beq, Cmp.Lexicographic.slice_cmp, List.list_any, declared.cmp.Ordering.Ordering}
 use Rattle.std.specs.BTreeSet.{BTreeSet, Updates, contains}
-use Rattle.std.specs.Bool.{beq}
-use Rattle.std.specs.Cmp.Lexicographic.{slice_cmp}
-use Rattle.std.specs.List.{list_any}
 use Rattle.std.specs.Ordering.{bool_cmp, is_eq, nat_cmp, ordering_then}
-use Rattle.std.specs.declared.cmp.Ordering.{Ordering}
 use Rattle.std.specs.declared.cmp.Ordering.TheVariants.{Less, Equal, Greater}
 use Rattle.plan_forest.specs.Push.{is_lease}
 use Rattle.state_changes.specs.declared.row.Row.{Row}
-use Rattle.agent_ledger.specs.Shared.{has_of_kind, is_any_shared}
-use Rattle.agent_ledger.specs.code.OfKinds.{AreCredentialsOf, of_kind_cmp}
-use Rattle.agent_ledger.specs.declared.shared.OfKind.{OfKind}
+use Rattle.agent_ledger.specs.{Shared.has_of_kind, Shared.is_any_shared, code.OfKinds.AreCredentialsOf, code.OfKinds.of_kind_cmp, declared.shared.OfKind.OfKind}
 
 -- ---- of one row
 

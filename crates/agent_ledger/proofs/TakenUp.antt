@@ -1,16 +1,9 @@
 -- TakenUp: what a file gives was taken, and what came of it is kept and told. For `take_up`.
 use Rattle.std.proofs.Common.{◌≡◌, ◌∙◌, ℕ, Bool, List, Option, Result, true, ap, inl, subst}
 use Rattle.state_keeping.specs.States.{Kept, book_in}
-use Rattle.state_secrets.specs.Looking.{is_held, seen_of}
+use Rattle.state_secrets.specs.{Looking.is_held, Looking.seen_of, declared.looking.DueFile.DueFile, declared.looking.FileSeen.FileSeen, declared.looking.Looking.Looking, declared.looking.SecretTrouble.SecretTrouble}
+use Rattle.state_secrets.specs.{declared.news.Became.Became, declared.news.Looked.Looked, declared.news.SecretNews.SecretNews, declared.news.SecretWord.SecretWord}
 use Rattle.state_secrets.specs.Outcomes.{IsNoted, news_about, news_of, seen_after}
-use Rattle.state_secrets.specs.declared.looking.DueFile.{DueFile}
-use Rattle.state_secrets.specs.declared.looking.FileSeen.{FileSeen}
-use Rattle.state_secrets.specs.declared.looking.Looking.{Looking}
-use Rattle.state_secrets.specs.declared.looking.SecretTrouble.{SecretTrouble}
-use Rattle.state_secrets.specs.declared.news.Became.{Became}
-use Rattle.state_secrets.specs.declared.news.Looked.{Looked}
-use Rattle.state_secrets.specs.declared.news.SecretNews.{SecretNews}
-use Rattle.state_secrets.specs.declared.news.SecretWord.{SecretWord}
 use Rattle.agent_ledger.specs.Takings.{TakesHeld, TakesUpFile}
 
 abbrev telling : Option SecretNews → Looked

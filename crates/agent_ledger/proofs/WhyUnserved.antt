@@ -2,23 +2,13 @@
 use Rattle.std.proofs.Common.{◌≡◌, ◌∙◌, ℕ, Bool, IsTrue, List, [], Option, Some, None, Ok, Err, IfSome, ap, inl, inr, subst, sym}
 use Rattle.agent_standing.specs.Waiting.{changed}
 use Rattle.state_changes.specs.declared.replaying.JournalNote.{JournalNote}
-use Rattle.base_disk.specs.State.{DiskState}
-use Rattle.base_disk.specs.declared.fault.DiskFault.{DiskFault}
-use Rattle.state_keeping.specs.Settles.{IsCopied}
+use Rattle.base_disk.specs.{State.DiskState, declared.fault.DiskFault.DiskFault}
+use Rattle.state_keeping.specs.{Settles.IsCopied, Keepers.store_of, Keepers.waiting_in}
 use Rattle.state_keeping.specs.States.{Kept, book_in, store_in}
-use Rattle.state_store.specs.Books.{IsBookIf}
-use Rattle.state_store.specs.Records.{records_in}
-use Rattle.state_store.specs.Stores.{book_of, lines_in}
-use Rattle.state_keeping.specs.Keepers.{store_of, waiting_in}
-use Rattle.agent_words.specs.Outcomes.{Whys}
-use Rattle.agent_ledger.specs.Ledgers.{ReloadsOn}
-use Rattle.agent_words.specs.Reading.{IsWellWritten}
-use Rattle.agent_words.specs.Noting.{SaysFaults}
+use Rattle.state_store.specs.{Books.IsBookIf, Records.records_in, Stores.book_of, Stores.lines_in}
+use Rattle.agent_words.specs.{Outcomes.Whys, Reading.IsWellWritten, Noting.SaysFaults, declared.demands.Demands.Demands, declared.reread.Reread.Reread}
+use Rattle.agent_ledger.specs.{Ledgers.ReloadsOn, Untouched.IsAsItWas, declared.ledger.Ledger.Ledger}
 use Rattle.agent_ledger.specs.Rereading.{AreAtMost, AreBytesOf, IsOneWhy, IsWhyNotReread, SaysCopy, SaysNoBook, SaysNotes, SaysUnread}
-use Rattle.agent_words.specs.declared.demands.Demands.{Demands}
-use Rattle.agent_ledger.specs.Untouched.{IsAsItWas}
-use Rattle.agent_words.specs.declared.reread.Reread.{Reread}
-use Rattle.agent_ledger.specs.declared.ledger.Ledger.{Ledger}
 
 -- the one reason says so
 one_says : (P : List ℕ → Type 0) (why : Option (List ℕ)) (whys : List (List ℕ)) → IfSome why P → AreAtMost why whys → IsOneWhy P whys

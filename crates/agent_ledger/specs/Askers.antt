@@ -1,16 +1,13 @@
 -- Askers: over the lanes of each of them what one file of a credential holds is looked up, and the broker's word on it is heard.
 -- Source: docs/running.md, "Secrets by file".
 use Rattle.std.specs.Prelude.{◌≡◌, ℕ, ◌==◌, Bool, false, not, ◌&&◌, ◌||◌, List, [], ◌∷◌, Option, Some, None, Result, Ok, Err, bytes_eq, is_none, is_some, length}
-use Rattle.std.specs.List.{list_any, position, slice_get, slice_set}
 use Rattle.std.specs.declared.alloc.AllocError.{AllocError}
+use Rattle.std.specs.List.{list_any, position, slice_get, slice_set}
 use Rattle.vault_asking.specs.Sending.{Lanes}
 use Rattle.base_clock.specs.declared.reading.Reading.{Reading}
-use Rattle.vault_proving.specs.Lookups.{CandidateGoesOut, InquiryGoesOn}
-use Rattle.vault_proving.specs.declared.candidate.Candidate.{Candidate}
+use Rattle.vault_proving.specs.{Lookups.CandidateGoesOut, Lookups.InquiryGoesOn, declared.candidate.Candidate.Candidate}
 use Rattle.agent_words.specs.Moments.{second_of}
-use Rattle.agent_ledger.specs.declared.asked_file.AskedFile.{AskedFile}
-use Rattle.agent_ledger.specs.declared.asker.Asker.{Asker}
-use Rattle.agent_ledger.specs.declared.asker.FileWord.{FileWord}
+use Rattle.agent_ledger.specs.{declared.asked_file.AskedFile.AskedFile, declared.asker.Asker.Asker, declared.asker.FileWord.FileWord}
 
 -- ---- which of them look something up
 

@@ -1,19 +1,13 @@
 -- Candidates: what is looked up before a change is made that brings a credential.
 -- Source: this project's own.
 use Rattle.std.specs.Prelude.{◌≡◌, ◌⊎◌, ℕ, true, false, List, [], ◌∷◌, Option, Some, None, Ok, option_map, is_none, is_some, if◌then◌else◌}
-use Rattle.state_changes.specs.Changes.{change_refusal}
-use Rattle.state_changes.specs.Listed.{rows_of_served}
-use Rattle.state_changes.specs.Rows.{named}
-use Rattle.state_changes.specs.declared.change.ChangeKind.{ChangeKind}
+use Rattle.state_changes.specs.{Changes.change_refusal, Listed.rows_of_served, Rows.named, declared.change.ChangeKind.ChangeKind, declared.row.Row.Row}
 use Rattle.state_changes.specs.declared.change.ChangeKind.TheVariants as what
-use Rattle.state_changes.specs.declared.row.Row.{Row}
-use Rattle.vault_inventory.specs.Inventory.{read_served}
-use Rattle.vault_inventory.specs.Served.{Served}
+use Rattle.vault_inventory.specs.{Inventory.read_served, Served.Served}
 use Rattle.vault_proving.specs.declared.candidate.Candidate.{Candidate}
 use Rattle.vault_served.specs.ForGood.{inventory_for_good}
 use Rattle.state_file.specs.Settled.{TextIsSettled}
-use Rattle.plan_forest.specs.Forest.{index_named}
-use Rattle.plan_forest.specs.declared.entry.Kind.{Kind}
+use Rattle.plan_forest.specs.{Forest.index_named, declared.entry.Kind.Kind}
 use Rattle.plan_forest.specs.declared.entry.Kind.TheVariants.{Token, Lease}
 
 -- an entry with that credential, which stands in it and in no file

@@ -5,9 +5,8 @@ use Rattle.std.specs.Prelude.{◌≡◌, ℕ, Option, Some, None, Result, Ok, Er
 use Rattle.std.specs.declared.alloc.AllocError.{AllocError}
 use Rattle.vault_asking.specs.Sending.{Lanes}
 use Rattle.base_clock.specs.declared.reading.Reading.{Reading}
+use Rattle.vault_proving.specs.{declared.candidate.Candidate.Candidate, declared.verdict.Verdict.Verdict}
 use Rattle.vault_proving.specs.Lookups.{CandidateGoesOut, Inquiry, InquiryGoesOn}
-use Rattle.vault_proving.specs.declared.candidate.Candidate.{Candidate}
-use Rattle.vault_proving.specs.declared.verdict.Verdict.{Verdict}
 use Rattle.agent_words.specs.Moments.{second_of}
 use Rattle.agent_ledger.specs.declared.keeping.LookedUp.{LookedUp}
 use Rattle.agent_ledger.specs.declared.keeping.LookedUp.TheVariants as lookups

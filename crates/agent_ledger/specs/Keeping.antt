@@ -5,11 +5,9 @@ use Rattle.std.specs.declared.alloc.AllocError.{AllocError}
 use Rattle.state_changes.specs.declared.change.ChangeKind.{ChangeKind}
 use Rattle.base_clock.specs.declared.reading.Reading.{Reading}
 use Rattle.vault_proving.specs.declared.verdict.Verdict.{Verdict}
-use Rattle.agent_ledger.specs.declared.keeping.FileLook.{FileLook}
-use Rattle.agent_ledger.specs.declared.keeping.KeepNews.{KeepNews}
-use Rattle.agent_ledger.specs.declared.keeping.LookedUp.{LookedUp}
-use Rattle.agent_words.specs.Outcomes.{IsNotKept, Outcome, SaysSo, Why, Whys, done_of}
+use Rattle.agent_ledger.specs.{declared.keeping.FileLook.FileLook, declared.keeping.KeepNews.KeepNews, declared.keeping.LookedUp.LookedUp}
 use Rattle.agent_words.specs.declared.reread.Reread.{Reread}
+use Rattle.agent_words.specs.Outcomes.{IsNotKept, Outcome, SaysSo, Why, Whys, done_of}
 
 -- at a moment of the clock that never steps, in milliseconds, a change of the entry of that name is to be made, and was or was not; at a
 -- reading the credential that it brings is to be looked up, and at a moment the verdict on it is asked for; the file is to hold every

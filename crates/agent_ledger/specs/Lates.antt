@@ -5,29 +5,20 @@ use Rattle.std.specs.Prelude.{◌≡◌, ◌⊎◌, ℕ, ◌+◌, Bool, true, fa
 use Rattle.std.specs.declared.alloc.AllocError.{AllocError}
 use Rattle.agent_standing.specs.Waiting.{changed}
 use Rattle.vault_asking.specs.Sending.{Lanes}
-use Rattle.state_changes.specs.declared.change.ChangeKind.{ChangeKind}
+use Rattle.state_changes.specs.{declared.change.ChangeKind.ChangeKind, declared.row.Row.Row}
 use Rattle.state_changes.specs.declared.change.ChangeKind.TheVariants as what
-use Rattle.state_changes.specs.declared.row.Row.{Row}
 use Rattle.base_clock.specs.Rests.{rest_until}
 use Rattle.base_disk.specs.State.{DiskState}
-use Rattle.vault_inventory.specs.Inventories.{Inventory}
-use Rattle.vault_inventory.specs.declared.need.Need.{Need}
-use Rattle.state_keeping.specs.States.{book_in, store_in}
-use Rattle.state_keeping.specs.Keepers.{waiting_in}
+use Rattle.vault_inventory.specs.{Inventories.Inventory, declared.need.Need.Need}
+use Rattle.state_keeping.specs.{States.book_in, States.store_in, Keepers.waiting_in}
 use Rattle.state_secrets.specs.Stamps.{FileCall}
 use Rattle.agent_words.specs.Outcomes.{IsNotKept, Why, nothing_kept}
+use Rattle.agent_ledger.specs.{Openings.RecordsNeeds, Openings.noted, Takings.quiet, declared.keeping.KeepNews.KeepNews, declared.late.Late.Late, declared.late.Shut.Shut, declared.late.TheConstants.TRY_FOLDER, declared.ledger.Ledger.Ledger}
+use Rattle.agent_ledger.specs.{declared.opening.OpenedLedger.OpenedLedger}
 use Rattle.agent_ledger.specs.Keeping.{KeepCall, Look, LookUp, MarkServed, Prove, Reload, RestFor, Settle, Take, TryAgain}
 use Rattle.agent_ledger.specs.Ledgers.{DoesLedger, GivesLedger, ReadsTable}
-use Rattle.agent_ledger.specs.Openings.{RecordsNeeds, noted}
-use Rattle.agent_ledger.specs.Takings.{quiet}
-use Rattle.agent_ledger.specs.declared.keeping.KeepNews.{KeepNews}
-use Rattle.agent_ledger.specs.declared.keeping.LookedUp.TheVariants as lookups
-use Rattle.agent_ledger.specs.declared.late.Late.{Late}
 use Rattle.agent_ledger.specs.declared.late.Late.TheVariants.{Open, NotYet}
-use Rattle.agent_ledger.specs.declared.late.Shut.{Shut}
-use Rattle.agent_ledger.specs.declared.late.TheConstants.{TRY_FOLDER}
-use Rattle.agent_ledger.specs.declared.ledger.Ledger.{Ledger}
-use Rattle.agent_ledger.specs.declared.opening.OpenedLedger.{OpenedLedger}
+use Rattle.agent_ledger.specs.declared.keeping.LookedUp.TheVariants as lookups
 
 -- ---- as long as there is no ledger
 

@@ -4,51 +4,25 @@ use Rattle.std.specs.Prelude.{◌≡◌, ◌≢◌, ◌⊎◌, ℕ, Bool, true, 
 use Rattle.std.specs.declared.alloc.AllocError.{AllocError}
 use Rattle.agent_standing.specs.Waiting.{change_due_at, changed, is_change_due}
 use Rattle.vault_asking.specs.Sending.{Lanes}
-use Rattle.state_changes.specs.declared.change.ChangeKind.{ChangeKind}
-use Rattle.state_changes.specs.declared.replaying.JournalNote.{JournalNote}
-use Rattle.state_changes.specs.declared.row.Row.{Row}
-use Rattle.base_clock.specs.Rests.{rest_until, shorter}
-use Rattle.base_clock.specs.declared.reading.Reading.{Reading}
-use Rattle.base_clock.specs.declared.rest.TheConstants.{TRY_AGAIN}
-use Rattle.base_disk.specs.State.{DiskState, LeavesOnly}
-use Rattle.base_disk.specs.declared.fault.DiskFault.{DiskFault}
+use Rattle.state_changes.specs.{declared.change.ChangeKind.ChangeKind, declared.replaying.JournalNote.JournalNote, declared.row.Row.Row, declared.secret.Secret.Secret}
+use Rattle.base_clock.specs.{Rests.rest_until, Rests.shorter, declared.reading.Reading.Reading, declared.rest.TheConstants.TRY_AGAIN}
+use Rattle.base_disk.specs.{State.DiskState, State.LeavesOnly, declared.fault.DiskFault.DiskFault}
 use Rattle.base_files.specs.Files.{Files}
 use Rattle.vault_inventory.specs.Inventories.{Inventory}
-use Rattle.base_journal.specs.Journals.{CrashLeaves, JournalIsWhole}
-use Rattle.base_journal.specs.Records.{StandsFor}
+use Rattle.base_journal.specs.{Journals.CrashLeaves, Journals.JournalIsWhole, Records.StandsFor}
 use Rattle.vault_proving.specs.declared.candidate.Candidate.{Candidate}
+use Rattle.state_keeping.specs.{Tables.row_of_table, declared.fault.TableFault.TableFault, Keepers.InventoryIsGiven, Keepers.waiting_in}
 use Rattle.state_keeping.specs.Settles.{IsCopied, IsSettledState, IsWhyUnsettledState}
 use Rattle.state_keeping.specs.States.{Kept, book_in, store_in}
-use Rattle.state_keeping.specs.Tables.{row_of_table}
-use Rattle.state_keeping.specs.declared.fault.TableFault.{TableFault}
-use Rattle.state_store.specs.Books.{HasSecrets, IsBookIf}
-use Rattle.state_store.specs.Compacted.{compacted_lines, is_worth}
-use Rattle.state_store.specs.Handed.{handed}
-use Rattle.state_store.specs.Records.{records_in}
-use Rattle.state_store.specs.Entering.{FaultTellsDisk, FaultTellsLength}
+use Rattle.state_store.specs.{Books.HasSecrets, Books.IsBookIf, Compacted.compacted_lines, Compacted.is_worth, Handed.handed, Records.records_in, Entering.FaultTellsDisk, Entering.FaultTellsLength, declared.fault.TakeFault.TakeFault}
 use Rattle.state_store.specs.Stores.{ChangeIsTaken, IsWhyUntaken, journal_of, lines_in, path_of_store, size_with}
-use Rattle.state_store.specs.declared.fault.TakeFault.{TakeFault}
-use Rattle.state_changes.specs.declared.secret.Secret.{Secret}
-use Rattle.state_keeping.specs.Keepers.{InventoryIsGiven, waiting_in}
-use Rattle.state_secrets.specs.Looking.{begun_anew}
-use Rattle.state_secrets.specs.Stamps.{FileCall}
-use Rattle.agent_ledger.specs.Askers.{is_any_asking}
-use Rattle.agent_ledger.specs.Candidates.{IsCandidateFor}
-use Rattle.agent_words.specs.Gathering.{AreGathered}
+use Rattle.state_secrets.specs.{Looking.begun_anew, Stamps.FileCall}
+use Rattle.agent_ledger.specs.{Askers.is_any_asking, Candidates.IsCandidateFor, Shared.may_be_apart, Takings.LooksOrHears, Untouched.IsAsItWas, declared.keeping.LookedUp.LookedUp, declared.ledger.Ledger.Ledger}
 use Rattle.agent_ledger.specs.Inquiries.{AsksAbout, ProvesOn, asked_in}
 use Rattle.agent_ledger.specs.Keeping.{KeepCall, Look, LookUp, MarkServed, Prove, Reload, RestFor, Settle, Take, TryAgain}
-use Rattle.agent_words.specs.Outcomes.{Why, Whys}
-use Rattle.agent_words.specs.Reading.{IsWellWritten, IsWide}
 use Rattle.agent_ledger.specs.Reasons.{bare_words, left_over_words, settle_words, table_words, take_words}
 use Rattle.agent_ledger.specs.Rereading.{AreBytesOf, IsWhyNotReread, SaysCopy, SaysNotes}
-use Rattle.agent_words.specs.Starts.{is_bare_row}
-use Rattle.agent_ledger.specs.Shared.{may_be_apart}
-use Rattle.agent_ledger.specs.Takings.{LooksOrHears}
-use Rattle.agent_ledger.specs.Untouched.{IsAsItWas}
-use Rattle.agent_words.specs.declared.demands.Demands.{Demands}
-use Rattle.agent_ledger.specs.declared.keeping.LookedUp.{LookedUp}
-use Rattle.agent_words.specs.declared.reread.Reread.{Reread}
-use Rattle.agent_ledger.specs.declared.ledger.Ledger.{Ledger}
+use Rattle.agent_words.specs.{Gathering.AreGathered, Outcomes.Why, Outcomes.Whys, Reading.IsWellWritten, Reading.IsWide, Starts.is_bare_row, declared.demands.Demands.Demands, declared.reread.Reread.Reread}
 
 -- ---- a change
 

@@ -2,16 +2,11 @@
 -- Source: docs/commands/serve.md, "Changes".
 use Rattle.std.specs.Prelude.{◌≡◌, ◌⊎◌, ℕ, Bool, true, false, List, [], ◌∷◌, ◌++◌, Option, Some, None, Ok, Err, bytes_eq, codes, is_some}
 use Rattle.std.specs.List.{position, slice_set}
-use Rattle.state_changes.specs.Rows.{named}
+use Rattle.state_changes.specs.{Rows.named, declared.row.Row.Row}
 use Rattle.state_changes.specs.declared.change.ChangeKind.TheVariants as what
-use Rattle.state_changes.specs.declared.row.Row.{Row}
 use Rattle.base_log.specs.declared.level.Level.TheVariants.{Alert}
-use Rattle.agent_words.specs.Outcomes.{Why}
-use Rattle.agent_words.specs.declared.said.About.TheVariants.{Folder}
-use Rattle.agent_words.specs.declared.said.SaidLine.{SaidLine}
-use Rattle.agent_ledger.specs.Keeping.{KeepCall, Take}
-use Rattle.agent_ledger.specs.declared.opening.NeedMeanwhile.{NeedMeanwhile}
-use Rattle.agent_ledger.specs.declared.opening.OpenedLedger.{OpenedLedger}
+use Rattle.agent_words.specs.{Outcomes.Why, declared.said.About.TheVariants.Folder, declared.said.SaidLine.SaidLine}
+use Rattle.agent_ledger.specs.{Keeping.KeepCall, Keeping.Take, declared.opening.NeedMeanwhile.NeedMeanwhile, declared.opening.OpenedLedger.OpenedLedger}
 
 -- ---- the needs that are given while no change is kept: the last one of each entry
 

@@ -1,21 +1,18 @@
 -- Reasons: why a change is not kept, or a file is not what is kept, in words for the one who asked. No credential is in any of them.
 -- Source: this project's own.
 use Rattle.std.specs.Prelude.{ℕ, Bool, true, false, List, ◌++◌, codes, decimal}
-use Rattle.state_changes.specs.declared.change.ChangeKind.{ChangeKind}
-use Rattle.state_changes.specs.declared.row.Row.{Row}
+use Rattle.state_changes.specs.{declared.change.ChangeKind.ChangeKind, declared.row.Row.Row}
 use Rattle.base_disk.specs.declared.fault.DiskFault.{DiskFault}
 use Rattle.vault_inventory.specs.Keys.{key_text}
 use Rattle.state_notes.specs.Lines.{change_fault_text}
 use Rattle.program_report.specs.FaultLine.{inventory_words, tree_word}
 use Rattle.state_file.specs.declared.fault.SettleFault.{SettleFault}
 use Rattle.state_file.specs.declared.fault.SettleFault.TheVariants as settling
-use Rattle.state_keeping.specs.declared.fault.SettleWhy.{SettleWhy}
+use Rattle.state_keeping.specs.{declared.fault.SettleWhy.SettleWhy, declared.fault.TableFault.TableFault}
 use Rattle.state_keeping.specs.declared.fault.SettleWhy.TheVariants as settles
-use Rattle.state_keeping.specs.declared.fault.TableFault.{TableFault}
 use Rattle.state_keeping.specs.declared.fault.TableFault.TheVariants as tables
-use Rattle.state_store.specs.declared.fault.FileFault.{FileFault}
+use Rattle.state_store.specs.{declared.fault.FileFault.FileFault, declared.fault.TakeFault.TakeFault}
 use Rattle.state_store.specs.declared.fault.FileFault.TheVariants as files
-use Rattle.state_store.specs.declared.fault.TakeFault.{TakeFault}
 use Rattle.state_store.specs.declared.fault.TakeFault.TheVariants as takes
 use Rattle.plan_forest.specs.Push.{is_lease}
 use Rattle.agent_words.specs.Reasons.{disk_words, unread_words}

@@ -1,19 +1,12 @@
 -- Rereading: what is said of a file that is read again, or why it is not served.
 -- Source: docs/running.md, "What the operator sees".
 use Rattle.std.specs.Prelude.{◌≡◌, ◌⊎◌, ℕ, ◌-◌, ◌==◌, if◌then◌else◌, Bool, IsTrue, List, [], ◌∷◌, ◌++◌, Option, Some, None, codes, length, take}
-use Rattle.state_changes.specs.declared.change.Record.{Record}
-use Rattle.state_changes.specs.declared.replaying.JournalNote.{JournalNote}
-use Rattle.base_disk.specs.State.{DiskState}
-use Rattle.base_disk.specs.declared.fault.DiskFault.{DiskFault}
+use Rattle.state_changes.specs.{declared.change.Record.Record, declared.replaying.JournalNote.JournalNote}
+use Rattle.base_disk.specs.{State.DiskState, declared.fault.DiskFault.DiskFault}
 use Rattle.state_file.specs.declared.fault.ReadFault.{ReadFault}
-use Rattle.state_keeping.specs.Noted.{note_lines}
-use Rattle.state_keeping.specs.Reading.{IsWhyUnread}
-use Rattle.state_keeping.specs.States.{Kept}
-use Rattle.state_store.specs.Books.{IsFileFaultOf}
-use Rattle.state_store.specs.declared.fault.FileFault.{FileFault}
-use Rattle.agent_words.specs.Noting.{SaysFaults}
-use Rattle.agent_words.specs.Reasons.{disk_words, unread_words}
-use Rattle.agent_words.specs.declared.demands.Demands.{Demands}
+use Rattle.state_keeping.specs.{Noted.note_lines, Reading.IsWhyUnread, States.Kept}
+use Rattle.state_store.specs.{Books.IsFileFaultOf, declared.fault.FileFault.FileFault}
+use Rattle.agent_words.specs.{Noting.SaysFaults, Reasons.disk_words, Reasons.unread_words, declared.demands.Demands.Demands}
 use Rattle.agent_ledger.specs.Reasons.{book_words, left_words}
 
 -- the file has these bytes

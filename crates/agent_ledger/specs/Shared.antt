@@ -1,8 +1,7 @@
 -- Shared: entries of one kind that have one credential, and so cannot be handed on together.
 -- Source: docs/inventory.md, "Secrets in files".
 use Rattle.std.specs.Prelude.{ℕ, Bool, false, ◌&&◌, ◌||◌, List, [], ◌∷◌, bytes_eq, length, nat_lt}
-use Rattle.std.specs.Bool.{beq}
-use Rattle.std.specs.List.{list_any}
+use Rattle.std.specs.{Bool.beq, List.list_any}
 use Rattle.plan_forest.specs.Push.{is_lease}
 use Rattle.state_changes.specs.declared.row.Row.{Row}
 use Rattle.agent_ledger.specs.declared.secret_changes.TheConstants.{ALWAYS_FIT}

@@ -1,45 +1,28 @@
 -- Takings: a file of a credential is looked at and read, and what it holds is looked up at the broker and taken into a state.
 -- Source: docs/running.md, "Secrets by file".
 use Rattle.std.specs.Prelude.{◌≡◌, ◌⊎◌, ◌<◌, ◌≤◌, ℕ, ◌+◌, Bool, true, false, not, ◌&&◌, ◌||◌, List, Option, Some, None, IfOk, Result, Ok, Err, bytes_eq, drop, length, min}
-use Rattle.std.specs.Bool.{beq}
-use Rattle.std.specs.List.{list_any}
-use Rattle.std.specs.declared.alloc.AllocError.{AllocError}
+use Rattle.std.specs.{Bool.beq, List.list_any, declared.alloc.AllocError.AllocError}
 use Rattle.agent_standing.specs.Waiting.{changed}
 use Rattle.vault_asking.specs.Sending.{Lanes}
 use Rattle.plan_forest.specs.Push.{is_lease}
-use Rattle.state_changes.specs.Rows.{has_under, named}
-use Rattle.state_changes.specs.declared.row.Row.{Row}
+use Rattle.state_changes.specs.{Rows.has_under, Rows.named, declared.row.Row.Row, declared.secret.Secret.Secret}
 use Rattle.base_clock.specs.declared.reading.Reading.{Reading}
 use Rattle.vault_lanes.specs.declared.loss.Loss.{Loss}
-use Rattle.vault_proving.specs.declared.candidate.Candidate.{Candidate}
-use Rattle.vault_proving.specs.declared.verdict.Verdict.{Verdict}
+use Rattle.vault_proving.specs.{declared.candidate.Candidate.Candidate, declared.verdict.Verdict.Verdict}
 use Rattle.vault_proving.specs.declared.verdict.Verdict.TheVariants.{Good, Refused, Endless, Missing}
-use Rattle.state_keeping.specs.States.{Kept, book_in, store_in}
-use Rattle.state_store.specs.Books.{Book, HasSecrets}
-use Rattle.state_store.specs.Stores.{lines_in}
-use Rattle.state_changes.specs.declared.secret.Secret.{Secret}
 use Rattle.state_keeping.specs.Keepers.{waiting_in}
+use Rattle.state_keeping.specs.States.{Kept, book_in, store_in}
+use Rattle.state_store.specs.{Books.Book, Books.HasSecrets, Stores.lines_in}
+use Rattle.state_secrets.specs.{Stamps.FileCall, declared.looking.DueFile.DueFile, declared.looking.Looking.Looking, declared.looking.Pass.Pass, declared.looking.SecretTrouble.SecretTrouble}
+use Rattle.state_secrets.specs.{declared.looking.TheConstants.MOST_LOOKS, declared.looking.TheConstants.NEVER, declared.news.Became.Became, declared.news.Looked.Looked}
 use Rattle.state_secrets.specs.Looking.{IsPassed, Passes, is_held, seen_of}
 use Rattle.state_secrets.specs.Outcomes.{IsNoted, MayRead, ReadsFile, has_it, names_file, news_about, news_of, secret_for, secrets_with, seen_after}
-use Rattle.state_secrets.specs.Stamps.{FileCall}
-use Rattle.state_secrets.specs.declared.looking.DueFile.{DueFile}
-use Rattle.state_secrets.specs.declared.looking.Looking.{Looking}
-use Rattle.state_secrets.specs.declared.looking.Pass.{Pass}
-use Rattle.state_secrets.specs.declared.looking.Pass.TheVariants as passes
-use Rattle.state_secrets.specs.declared.looking.SecretTrouble.{SecretTrouble}
-use Rattle.state_secrets.specs.declared.looking.SecretTrouble.TheVariants as troubles
-use Rattle.state_secrets.specs.declared.looking.TheConstants.{MOST_LOOKS, NEVER}
-use Rattle.state_secrets.specs.declared.news.Became.{Became}
 use Rattle.state_secrets.specs.declared.news.Became.TheVariants.{Taken, Same, Troubled}
-use Rattle.state_secrets.specs.declared.news.Looked.{Looked}
-use Rattle.agent_ledger.specs.Candidates.{IsFileCandidate}
+use Rattle.state_secrets.specs.declared.looking.Pass.TheVariants as passes
+use Rattle.state_secrets.specs.declared.looking.SecretTrouble.TheVariants as troubles
+use Rattle.agent_ledger.specs.{Candidates.IsFileCandidate, Untouched.IsAsItWas, declared.asked_file.AskedFile.AskedFile, declared.asker.FileWord.FileWord, declared.keeping.FileLook.FileLook, declared.ledger.Ledger.Ledger}
+use Rattle.agent_ledger.specs.{declared.secret_changes.TheConstants.ALWAYS_FIT}
 use Rattle.agent_ledger.specs.Askers.{AskerAsks, HearsFirst, free_place, is_asked_for, may_look}
-use Rattle.agent_ledger.specs.Untouched.{IsAsItWas}
-use Rattle.agent_ledger.specs.declared.asked_file.AskedFile.{AskedFile}
-use Rattle.agent_ledger.specs.declared.asker.FileWord.{FileWord}
-use Rattle.agent_ledger.specs.declared.keeping.FileLook.{FileLook}
-use Rattle.agent_ledger.specs.declared.ledger.Ledger.{Ledger}
-use Rattle.agent_ledger.specs.declared.secret_changes.TheConstants.{ALWAYS_FIT}
 
 -- ---- why a credential is not taken
 

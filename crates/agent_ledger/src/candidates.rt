@@ -7,7 +7,7 @@ ghost use Rattle.agent_ledger.specs.Candidates.{AreRowsOf, IsAlone, IsCandidateF
 use base_disk::Disk;
 use base_moment::Text;
 use plan_forest::Kind;
-use state_changes::{Row, Rows, ChangeKind, rows_of};
+use state_changes::{ChangeKind, Row, Rows, rows_of};
 use state_file::settle;
 use state_keeping::State;
 use std::alloc::{AllocError, Global};

@@ -10,7 +10,7 @@ ghost use Rattle.agent_words.specs.Outcomes.{Why};
 use agent_words::{Reread, SaidLine};
 use base_clock::Reading;
 use base_moment::Text;
-use state_changes::{Row, ChangeKind};
+use state_changes::{ChangeKind, Row};
 use state_secrets::Looked;
 use std::alloc::{AllocError, Global};
 use vault_inventory::Inventory;
@@ -80,7 +80,13 @@ pub trait Keeping {
 
     /// Makes a change of the entry of that name. `now` is in milliseconds of the clock that never steps. At `Ok` it holds over a restart,
     /// where it keeps what it takes.
-    fn take(&mut self, alloc: Global, now: u64, name: &[u8], what: ChangeKind) -> Result<(), Option<Text>>
+    fn take(
+        &mut self,
+        alloc: Global,
+        now: u64,
+        name: &[u8],
+        what: ChangeKind,
+    ) -> Result<(), Option<Text>>
         ensures { Self.does (Take now name.now what result) self.old self.new };
 
     /// Looks up the credential that this change of the entry of that name brings, where it brings one and may be made. It waits for

@@ -15,7 +15,7 @@ use base_clock::{Reading, rest_until};
 use base_disk::Disk;
 use base_files::Inputs;
 use base_moment::{Name, Text};
-use state_changes::{Row, Rows, ChangeKind};
+use state_changes::{ChangeKind, Row, Rows};
 use state_secrets::SecretFiles;
 use std::alloc::{AllocError, Global};
 use std::mem;
@@ -61,7 +61,9 @@ impl<F, L: Lanes> Shut<F, L> {
                 Ok(()) => Ok(()),
                 Err(AllocError) => Err(None),
             },
-            ChangeKind::Replace(_) | ChangeKind::Add(_) | ChangeKind::Drop => Err(why_not_kept(alloc)),
+            ChangeKind::Replace(_) | ChangeKind::Add(_) | ChangeKind::Drop => Err(why_not_kept(
+                alloc,
+            )),
         }
     }
 

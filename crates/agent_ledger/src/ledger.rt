@@ -41,7 +41,7 @@ use base_disk::{Disk, DiskFault};
 use base_files::Inputs;
 use base_moment::{Name, Text};
 use base_words::push_number;
-use state_changes::{JournalNote, Row, Secret, ChangeKind};
+use state_changes::{ChangeKind, JournalNote, Row, Secret};
 use state_file::SettleFault;
 use state_keeping::{Reloaded, State, TableFault, read_table};
 use state_secrets::{Looking, SecretFiles};

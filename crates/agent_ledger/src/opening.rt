@@ -95,10 +95,7 @@ impl<K: Keeping> OpenedLedger<K> {
     fn take_need(&mut self, alloc: Global, now: u64, given: &NeedMeanwhile) -> bool
         ensures { TakesNeed K.does K.rows now given.now result self.old self.new }
     {
-        match self
-            .keeper
-            .take(alloc, now, given.name.list(), ChangeKind::Need(given.need))
-        {
+        match self.keeper.take(alloc, now, given.name.list(), ChangeKind::Need(given.need)) {
             Ok(()) => true,
             Err(_why) => false,
         }

@@ -9,7 +9,7 @@ use base_disk::DiskFault;
 use base_moment::Text;
 use plan_forest::Kind;
 use program_report::tree_word;
-use state_changes::{Row, ChangeKind};
+use state_changes::{ChangeKind, Row};
 use state_file::SettleFault;
 use state_keeping::{SettleWhy, TableFault};
 use state_notes::why;

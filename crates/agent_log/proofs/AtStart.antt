@@ -3,8 +3,7 @@ use Rattle.std.proofs.Common.{◌≡◌, ◌∙◌, ℕ, ◌+◌, ◌<◌, List,
 use Rattle.std.proofs.lemmas.List.{take_more}
 use Rattle.agent_words.specs.declared.said.SaidLine.{SaidLine}
 use Rattle.base_clock.specs.declared.reading.Reading.{Reading}
-use Rattle.agent_log.specs.AtStart.{AreSaidAtStart, IsSaidAtStart}
-use Rattle.agent_log.specs.LogDesk.{Desk}
+use Rattle.agent_log.specs.{AtStart.AreSaidAtStart, AtStart.IsSaidAtStart, LogDesk.Desk}
 
 said_join : (now : Reading) (ss : List SaidLine) (s : SaidLine) (old mid new : Desk) → AreSaidAtStart now ss old mid → IsSaidAtStart now s mid new → AreSaidAtStart now (ss ++ s ∷ []) old new
 said_join now [] s old mid new h one = (new, (subst (λ (d : Desk). IsSaidAtStart now s d new) h one, refl))

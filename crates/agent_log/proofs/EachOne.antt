@@ -5,12 +5,8 @@ use Rattle.std.proofs.lemmas.List.{drop-set-lt, drop_more, take_more_set}
 use Rattle.std.proofs.Math.Seq.{take-add}
 use Rattle.agent_answers.specs.declared.lines.RequestLines.{RequestLines}
 use Rattle.base_clients.specs.Tables.{GuestTable}
-use Rattle.base_log.specs.declared.follower.Follower.{Follower}
-use Rattle.base_log.specs.declared.level.Level.{Level}
-use Rattle.agent_log.specs.Feeding.{EachIsFed, FollowerIsFed}
-use Rattle.agent_log.specs.Lines.{EachIsTold, FollowerIsTold}
-use Rattle.agent_log.specs.Rooms.{misses}
-use Rattle.base_log.specs.declared.form.Form.{Form}
+use Rattle.base_log.specs.{declared.follower.Follower.Follower, declared.level.Level.Level, declared.form.Form.Form}
+use Rattle.agent_log.specs.{Feeding.EachIsFed, Feeding.FollowerIsFed, Lines.EachIsTold, Lines.FollowerIsTold, Rooms.misses}
 
 pub rest_next : (old out : List Follower) (i : ℕ) (n : Follower) → drop i out ≡ drop i old → drop (i + 1) (set out i n) ≡ drop (i + 1) old
 rest_next old out i n rest = drop-set-lt (i + 1) out i n (omega arith) ∙ drop_more_same out old i rest

@@ -1,10 +1,9 @@
 -- Marking: marks that are made anew one after another. For `mark_ended`.
 use Rattle.std.proofs.Common.{◌≡◌, ◌∙◌, ℕ, ◌+◌, ◌<◌, ◌≤◌, List, [], ◌∷◌, ◌++◌, get_or, length, map, set, take, refl, sym, ap, arith}
-use Rattle.std.proofs.lemmas.List.{get_or-set_other, length-set, take_all, take_more_set}
 use Rattle.std.proofs.lemmas.List.FromFn.{map-range_with_len_more}
+use Rattle.std.proofs.lemmas.List.{get_or-set_other, length-set, take_all, take_more_set}
 use Rattle.std.specs.List.{range_with_len}
-use Rattle.agent_log.specs.Marks.{fresh_mark, mark_at}
-use Rattle.agent_log.specs.declared.mark.Mark.{Mark}
+use Rattle.agent_log.specs.{Marks.fresh_mark, Marks.mark_at, declared.mark.Mark.Mark}
 
 -- those before k are made by f, the others are as they were
 pub record Marked (f : ℕ → Mark → Mark) (old now : List Mark) (k : ℕ) : Type 0 where

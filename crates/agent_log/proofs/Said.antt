@@ -1,7 +1,7 @@
 -- Said: lines that are said one after another.
-use Rattle.std.proofs.Common.{◌≡◌, List, [], ◌∷◌, ◌++◌, ℕ, inl, inr, refl, subst, sym}
-use Rattle.agent_log.specs.Lines.{ArePut, AreSaid, Line, LineIsSaid, LineIsWritten}
+use Rattle.std.proofs.Common.{◌≡◌, List, [], ◌∷◌, ◌++◌, ℕ, inl, inr, refl, subst}
 use Rattle.agent_log.specs.Rooms.{Rooms, missing_in}
+use Rattle.agent_log.specs.Lines.{ArePut, AreSaid, Line, LineIsSaid, LineIsWritten}
 use Rattle.base_log.specs.declared.form.Form.{Form}
 
 -- a line whose text is put

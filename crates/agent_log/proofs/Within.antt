@@ -1,14 +1,10 @@
 -- Within: a connection takes no more than waits for the one who follows. For `feed_one`.
-use Rattle.std.proofs.Common.{◌≡◌, ℕ, ◌≤◌, List, Option, Some, None, Result, Ok, Err, arith, length, length-take, subst, sym, take}
-use Rattle.std.specs.List.{position}
-use Rattle.std.specs.declared.alloc.AllocError.{AllocError}
+use Rattle.std.proofs.Common.{◌≡◌, ℕ, List, Option, Some, None, Result, Ok, Err, arith, length, length-take, subst, sym, take}
+use Rattle.std.specs.{List.position, declared.alloc.AllocError.AllocError}
 use Rattle.agent_answers.specs.declared.lines.RequestLines.{RequestLines}
-use Rattle.base_clients.specs.Guests.{AddsFront, IsFedFrom}
+use Rattle.base_clients.specs.{Guests.AddsFront, Guests.IsFedFrom, declared.fed.Fed.Fed, declared.guest.Guest.Guest, declared.stage.GuestStage.GuestStage}
 use Rattle.base_clients.specs.Tables.{Feeds, FeedsAt, GuestTable, follows_as}
-use Rattle.base_clients.specs.declared.fed.Fed.{Fed}
 use Rattle.base_clients.specs.declared.fed.Fed.TheVariants.{Gone, Full, Taken}
-use Rattle.base_clients.specs.declared.guest.Guest.{Guest}
-use Rattle.base_clients.specs.declared.stage.GuestStage.{GuestStage}
 use Rattle.base_clients.specs.declared.stage.GuestStage.TheVariants as stages
 use Rattle.agent_log.specs.Feeding.{IsFedAtMost}
 

@@ -1,8 +1,7 @@
 -- AtStart: what is said of a start, or of a state folder that is opened later, one line after another.
 -- Source: docs/troubleshooting.md, "Lines of the log".
 use Rattle.std.specs.Prelude.{◌≡◌, List, [], ◌∷◌}
-use Rattle.agent_words.specs.Saying.{about_word}
-use Rattle.agent_words.specs.declared.said.SaidLine.{SaidLine}
+use Rattle.agent_words.specs.{Saying.about_word, declared.said.SaidLine.SaidLine}
 use Rattle.base_clock.specs.declared.reading.Reading.{Reading}
 use Rattle.agent_log.specs.LogDesk.{Desk, HearsAtStart}
 

@@ -2,16 +2,11 @@
 -- Source: this project's own; what a connection takes is base_clients'.
 use Rattle.std.specs.Prelude.{◌≡◌, ◌≤◌, ℕ, List, [], ◌∷◌, Option, Some, None, Result, Ok, Err, true, filter, nat_lt, not}
 use Rattle.std.specs.declared.alloc.AllocError.{AllocError}
-use Rattle.agent_answers.specs.declared.control.Control.{Control}
-use Rattle.agent_answers.specs.declared.lines.RequestLines.{RequestLines}
-use Rattle.base_clients.specs.Tables.{Feeds, GuestTable}
-use Rattle.base_clients.specs.declared.fed.Fed.{Fed}
+use Rattle.agent_answers.specs.{declared.control.Control.Control, declared.lines.RequestLines.RequestLines}
+use Rattle.base_clients.specs.{Tables.Feeds, Tables.GuestTable, declared.fed.Fed.Fed}
 use Rattle.base_clients.specs.declared.fed.Fed.TheVariants.{Gone, Full, Taken}
-use Rattle.base_log.specs.Waiting.{giving}
-use Rattle.base_log.specs.declared.follower.Follower.{Follower}
-use Rattle.agent_log.specs.LogDesk.{TellsIf}
-use Rattle.agent_log.specs.Rooms.{Rooms}
-use Rattle.base_log.specs.declared.form.Form.{Form}
+use Rattle.base_log.specs.{Waiting.giving, declared.follower.Follower.Follower, declared.form.Form.Form}
+use Rattle.agent_log.specs.{LogDesk.TellsIf, Rooms.Rooms}
 
 -- what its connection took waits no more, and then lines that were dropped may be told of
 pub record IsGivenOf (form : Form) (moment taken : ℕ) (old new : Follower) : Type 0 where

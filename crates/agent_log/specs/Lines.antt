@@ -1,21 +1,15 @@
 -- Lines: what is said of an agent, and what becomes of it in the room of its log, and in the room of each of those who follow it.
 -- Source: docs/running.md, "What the operator sees".
 use Rattle.std.specs.Prelude.{◌≡◌, ◌⊎◌, ◌<◌, ℕ, Bool, true, false, if◌then◌else◌, List, [], ◌∷◌, ◌++◌, codes, Option, Some, None}
-use Rattle.vault_lanes.specs.declared.loss.Loss.{Loss}
+use Rattle.vault_lanes.specs.{declared.loss.Loss.Loss, declared.reason.ConnectReason.ConnectReason}
 use Rattle.vault_lanes.specs.declared.loss.Loss.TheVariants as losses
-use Rattle.vault_lanes.specs.declared.reason.ConnectReason.{ConnectReason}
 use Rattle.vault_lanes.specs.declared.reason.ConnectReason.TheVariants as reasons
-use Rattle.base_log.specs.Following.{put_if_heard}
-use Rattle.base_log.specs.Forms.{IsLineJson, IsLineText}
+use Rattle.base_log.specs.{Following.put_if_heard, Forms.IsLineJson, Forms.IsLineText, declared.follower.Follower.Follower, declared.level.Level.Level, declared.level.Level.TheVariants.Warning, declared.line.LineWord.LineWord}
+use Rattle.base_log.specs.{declared.form.Form.Form}
 use Rattle.base_log.specs.Waiting.{Waiting, dropping, with_line}
-use Rattle.base_log.specs.declared.follower.Follower.{Follower}
-use Rattle.base_log.specs.declared.level.Level.{Level}
-use Rattle.base_log.specs.declared.level.Level.TheVariants.{Warning}
-use Rattle.base_log.specs.declared.line.LineWord.{LineWord}
+use Rattle.base_log.specs.declared.form.Form.TheVariants.{Text, Json}
 use Rattle.base_log.specs.declared.line.LineWord.TheVariants as words
 use Rattle.agent_log.specs.Rooms.{Rooms, misses, missing_in}
-use Rattle.base_log.specs.declared.form.Form.{Form}
-use Rattle.base_log.specs.declared.form.Form.TheVariants.{Text, Json}
 
 -- ---- a line
 

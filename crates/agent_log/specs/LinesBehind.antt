@@ -5,15 +5,9 @@ use Rattle.agent_standing.specs.Agent.{Agent}
 use Rattle.program_lines.specs.Text.{name_of}
 use Rattle.base_log.specs.declared.level.Level.TheVariants.{Info, Warning}
 use Rattle.base_log.specs.declared.line.LineWord.TheVariants as words
-use Rattle.watch_machine.specs.Clocks.{ms}
-use Rattle.watch_machine.specs.Outlook.{time_of}
-use Rattle.watch_machine.specs.Refusal.{is_same}
-use Rattle.watch_machine.specs.State.{WatchState, second}
-use Rattle.watch_machine.specs.declared.command.WatchRequest.{WatchRequest}
-use Rattle.watch_machine.specs.declared.event.Operation.TheVariants.{Renew}
+use Rattle.watch_machine.specs.{Clocks.ms, Outlook.time_of, Refusal.is_same, State.WatchState, State.second, declared.command.WatchRequest.WatchRequest, declared.event.Operation.TheVariants.Renew}
+use Rattle.agent_log.specs.{Marks.mark_at, Marks.with_mark, declared.mark.Mark.Mark}
 use Rattle.agent_log.specs.Lines.{Line, line_if, said_line, text_line}
-use Rattle.agent_log.specs.Marks.{mark_at, with_mark}
-use Rattle.agent_log.specs.declared.mark.Mark.{Mark}
 
 -- ---- an end that was looked up
 

@@ -1,25 +1,18 @@
 -- LinesOfAnswers: what is said of an answer to a request.
 -- Source: docs/running.md, "What the operator sees".
 use Rattle.std.specs.Prelude.{ℕ, ◌+◌, if◌then◌else◌, List, [], ◌∷◌, ◌++◌, Option, Some, None, codes, length, nat_lt, unwrap_or}
-use Rattle.agent_standing.specs.Agent.{Agent}
-use Rattle.agent_standing.specs.declared.standing.Trouble.{Trouble}
+use Rattle.agent_standing.specs.{Agent.Agent, declared.standing.Trouble.Trouble}
 use Rattle.agent_standing.specs.declared.standing.Trouble.TheVariants as troubles
 use Rattle.vault_asking.specs.declared.told.Said.{Said}
 use Rattle.vault_lanes.specs.declared.loss.Loss.{Loss}
 use Rattle.program_lines.specs.Text.{name_of}
-use Rattle.base_log.specs.declared.level.Level.{Level}
+use Rattle.base_log.specs.{declared.level.Level.Level, declared.line.LineWord.LineWord}
 use Rattle.base_log.specs.declared.level.Level.TheVariants.{Info, Note, Warning, Alert}
-use Rattle.base_log.specs.declared.line.LineWord.{LineWord}
 use Rattle.base_log.specs.declared.line.LineWord.TheVariants as words
-use Rattle.watch_machine.specs.Outlook.{broker_moment, broker_now}
-use Rattle.watch_machine.specs.State.{WatchState}
-use Rattle.watch_machine.specs.declared.event.Operation.{Operation}
+use Rattle.watch_machine.specs.{Outlook.broker_moment, Outlook.broker_now, State.WatchState, declared.event.Operation.Operation, declared.event.WatchReply.WatchReply, declared.notes.Link.Link, declared.notes.Notes.Notes}
 use Rattle.watch_machine.specs.declared.event.Operation.TheVariants.{Look, Renew}
-use Rattle.watch_machine.specs.declared.event.WatchReply.{WatchReply}
 use Rattle.watch_machine.specs.declared.event.WatchReply.TheVariants.{Told, Refused, Busy, Lost}
-use Rattle.watch_machine.specs.declared.notes.Link.{Link}
 use Rattle.watch_machine.specs.declared.notes.Link.TheVariants.{Away, Back}
-use Rattle.watch_machine.specs.declared.notes.Notes.{Notes}
 use Rattle.agent_log.specs.Lines.{Line, line_if, loss_words, said_line, text_line}
 use Rattle.agent_words.specs.Moments.{moment_word, number_held}
 

@@ -2,31 +2,19 @@
 -- Source: docs/running.md, "What the operator sees".
 use Rattle.std.specs.Prelude.{ℕ, ◌+◌, Bool, true, false, not, ◌&&◌, if◌then◌else◌, List, [], ◌∷◌, ◌++◌, Option, Some, None, codes, flat_map, length, map, nat_lt}
 use Rattle.std.specs.List.{list_any, range_with_len}
-use Rattle.agent_standing.specs.Agent.{Agent, standing_at}
-use Rattle.agent_standing.specs.Status.{status_of_entry}
-use Rattle.agent_standing.specs.declared.shorts.Short.{Short}
-use Rattle.agent_standing.specs.declared.standing.Trouble.{Trouble}
-use Rattle.agent_standing.specs.declared.status.Condition.{Condition}
+use Rattle.agent_standing.specs.{Agent.Agent, Agent.standing_at, Status.status_of_entry, declared.shorts.Short.Short, declared.standing.Trouble.Trouble, declared.status.Condition.Condition}
 use Rattle.agent_standing.specs.declared.status.Condition.TheVariants as conditions
-use Rattle.agent_standing.specs.declared.status.Status.{Status}
 use Rattle.program_lines.specs.Text.{name_of}
-use Rattle.base_log.specs.declared.level.Level.TheVariants.{Info, Warning, Alert}
 use Rattle.base_log.specs.declared.line.LineWord.{LineWord}
+use Rattle.base_log.specs.declared.level.Level.TheVariants.{Info, Warning, Alert}
 use Rattle.base_log.specs.declared.line.LineWord.TheVariants as words
-use Rattle.plan_forest.specs.Forest.{Forest, entry_at}
-use Rattle.watch_machine.specs.Outlook.{broker_now}
-use Rattle.watch_machine.specs.Refusal.{is_same}
-use Rattle.watch_machine.specs.State.{entry_of}
-use Rattle.watch_machine.specs.declared.command.WatchRequest.{WatchRequest}
-use Rattle.watch_machine.specs.declared.event.Operation.{Operation}
+use Rattle.plan_forest.specs.Forest.{Forest}
+use Rattle.watch_machine.specs.{Outlook.broker_now, Refusal.is_same, State.entry_of, declared.command.WatchRequest.WatchRequest, declared.event.Operation.Operation, declared.notes.Notes.Notes, declared.notes.BeginReason.BeginReason}
 use Rattle.watch_machine.specs.declared.event.Operation.TheVariants.{Look, Renew}
-use Rattle.watch_machine.specs.declared.notes.Notes.{Notes}
-use Rattle.watch_machine.specs.declared.notes.BeginReason.{BeginReason}
 use Rattle.watch_machine.specs.declared.notes.BeginReason.TheVariants.{Start, Asked, Jump, Day}
+use Rattle.agent_log.specs.{Marks.mark_at, declared.mark.Mark.Mark}
 use Rattle.agent_log.specs.Lines.{Line, line_if, said_line, text_line}
 use Rattle.agent_words.specs.Moments.{moment_word}
-use Rattle.agent_log.specs.Marks.{mark_at}
-use Rattle.agent_log.specs.declared.mark.Mark.{Mark}
 
 -- ---- why everything is looked up anew, and the round that opens
 

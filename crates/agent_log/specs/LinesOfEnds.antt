@@ -8,8 +8,7 @@ use Rattle.base_log.specs.declared.level.Level.TheVariants.{Alert, Note}
 use Rattle.base_log.specs.declared.line.LineWord.TheVariants as words
 use Rattle.agent_log.specs.LogDesk.{Desk}
 use Rattle.agent_log.specs.Lines.{Line, LineIsSaid, said_line}
-use Rattle.agent_words.specs.Moments.{second_of}
-use Rattle.agent_words.specs.Reasons.{disk_words}
+use Rattle.agent_words.specs.{Moments.second_of, Reasons.disk_words}
 
 abbrev pub ends_line : Level → List ℕ → DiskFault → Line
 ends_line level what fault = said_line level (codes "ends") (words.Text what ∷ words.Text (disk_words fault) ∷ [])

@@ -3,30 +3,20 @@
 -- Source: this project's own; docs/running.md, "What the operator sees".
 use Rattle.std.specs.Prelude.{◌≡◌, ◌⊎◌, ◌≤◌, ℕ, Bool, true, false, not, ◌&&◌, List, [], ◌∷◌, Option, length, min, nat_eq, nat_lt, replicate, take}
 use Rattle.std.specs.Io.KnownBytes.{Appends}
-use Rattle.agent_standing.specs.Agent.{Agent}
-use Rattle.agent_standing.specs.declared.shorts.Short.{Short}
+use Rattle.agent_standing.specs.{Agent.Agent, declared.shorts.Short.Short}
 use Rattle.vault_asking.specs.declared.told.Said.{Said}
 use Rattle.base_clock.specs.declared.reading.Reading.{Reading}
 use Rattle.base_device.specs.declared.tried.Tried.{Tried}
-use Rattle.base_log.specs.Turns.{TurnIsMade}
+use Rattle.base_log.specs.{Turns.TurnIsMade, declared.level.Level.Level, declared.form.Form.Form}
 use Rattle.base_log.specs.Waiting.{Waiting, after_turn, closed_if, giving, with_notice}
-use Rattle.base_log.specs.declared.level.Level.{Level}
-use Rattle.watch_machine.specs.declared.command.WatchRequest.{WatchRequest}
-use Rattle.watch_machine.specs.declared.event.Operation.{Operation}
-use Rattle.watch_machine.specs.declared.notes.Notes.{Notes}
+use Rattle.watch_machine.specs.{declared.command.WatchRequest.WatchRequest, declared.event.Operation.Operation, declared.notes.Notes.Notes}
+use Rattle.agent_log.specs.{LinesOfAnswers.answered_lines, Rooms.Rooms, Rooms.begun_rooms, Sockets.socket_log_line, declared.log_reader.TheConstants.MOST_GIVEN, declared.mark.Mark.Mark, declared.mark.Want.Want}
+use Rattle.agent_log.specs.{declared.mark.Want.TheVariants.Over}
 use Rattle.agent_log.specs.LinesBehind.{ahead_line, steps_in_lines, with_step, with_steps}
-use Rattle.agent_log.specs.LinesOfAnswers.{answered_lines}
 use Rattle.agent_log.specs.LinesOfClocks.{clocked_lines, marks_clocked, memory_line, short_log_lines, trouble_at}
 use Rattle.agent_log.specs.Lines.{AreSaid, Line, LineIsSaid, TellsDropped, text_line}
-use Rattle.agent_words.specs.Moments.{now_of, second_of}
 use Rattle.agent_log.specs.Marks.{fresh_mark, mark_at, with_trouble}
-use Rattle.agent_log.specs.Rooms.{Rooms, begun_rooms}
-use Rattle.agent_log.specs.Sockets.{socket_log_line}
-use Rattle.base_log.specs.declared.form.Form.{Form}
-use Rattle.agent_log.specs.declared.log_reader.TheConstants.{MOST_GIVEN}
-use Rattle.agent_log.specs.declared.mark.Mark.{Mark}
-use Rattle.agent_log.specs.declared.mark.Want.{Want}
-use Rattle.agent_log.specs.declared.mark.Want.TheVariants.{Over}
+use Rattle.agent_words.specs.Moments.{now_of, second_of}
 
 -- how lines are written, where the broker is reached, those that wait, a mark for each entry, and what was said of a lack of memory
 pub record Desk : Type 0 where

@@ -1,6 +1,6 @@
 -- LookupLosses: what is said where the broker has said nothing of a credential that was looked up.
 -- Source: docs/commands/serve.md, "A lookup first".
-use Rattle.std.specs.Prelude.{◌≡◌, ℕ, List, ◌++◌, Option, Some, None, codes, decimal}
+use Rattle.std.specs.Prelude.{ℕ, List, ◌++◌, Option, Some, None, codes, decimal}
 use Rattle.agent_log.specs.Lines.{reason_text}
 use Rattle.vault_lanes.specs.declared.loss.Loss.{Loss}
 use Rattle.vault_lanes.specs.declared.loss.Loss.TheVariants as losses

@@ -1,6 +1,6 @@
 -- Marks: what was said last of each entry.
 -- Source: this project's own; docs/running.md, "What the operator sees".
-use Rattle.std.specs.Prelude.{ℕ, Bool, false, if◌then◌else◌, List, Option, None, length, nat_lt, replicate, slice_index_or, slice_set}
+use Rattle.std.specs.Prelude.{ℕ, false, if◌then◌else◌, List, Option, None, length, nat_lt, slice_index_or, slice_set}
 use Rattle.agent_standing.specs.declared.standing.Trouble.{Trouble}
 use Rattle.agent_log.specs.declared.mark.Mark.{Mark}
 

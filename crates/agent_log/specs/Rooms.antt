@@ -1,11 +1,7 @@
 -- Rooms: the room of the log, and those who follow it, each with a room of its own.
 -- Source: this project's own.
 use Rattle.std.specs.Prelude.{ℕ, Bool, true, false, List, [], ◌∷◌, ◌++◌, map, Option, Some, None, option_map}
-use Rattle.base_log.specs.Following.{missed_line}
-use Rattle.base_log.specs.Waiting.{Waiting, dropping}
-use Rattle.base_log.specs.declared.follower.Follower.{Follower}
-use Rattle.base_log.specs.declared.level.Level.{Level}
-use Rattle.base_log.specs.declared.room.TheConstants.{FOLLOWER_ROOM, LOG_ROOM}
+use Rattle.base_log.specs.{Following.missed_line, Waiting.Waiting, Waiting.dropping, declared.follower.Follower.Follower, declared.level.Level.Level, declared.room.TheConstants.FOLLOWER_ROOM, declared.room.TheConstants.LOG_ROOM}
 
 -- warnings and alerts wait for the first who follows those alone, in the room of one that is not there yet
 pub record Rooms : Type 0 where

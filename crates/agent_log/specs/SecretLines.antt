@@ -5,15 +5,10 @@ use Rattle.vault_lanes.specs.declared.loss.Loss.{Loss}
 use Rattle.base_log.specs.declared.level.Level.{Level}
 use Rattle.base_log.specs.declared.level.Level.TheVariants.{Info, Warning, Alert}
 use Rattle.base_log.specs.declared.line.LineWord.TheVariants as words
-use Rattle.agent_log.specs.LinesOfClocks.{memory_line}
-use Rattle.agent_log.specs.Lines.{Line, said_line}
-use Rattle.agent_log.specs.LookupLosses.{line_with_loss}
+use Rattle.agent_log.specs.{LinesOfClocks.memory_line, Lines.Line, Lines.said_line, LookupLosses.line_with_loss}
 use Rattle.agent_words.specs.VerdictWords.{endless_words, status_words}
-use Rattle.state_secrets.specs.declared.looking.SecretTrouble.{SecretTrouble}
+use Rattle.state_secrets.specs.{declared.looking.SecretTrouble.SecretTrouble, declared.news.Looked.Looked, declared.news.SecretNews.SecretNews, declared.news.SecretWord.SecretWord}
 use Rattle.state_secrets.specs.declared.looking.SecretTrouble.TheVariants.{Unread, NotRegular, NoSecret, Another, TooLong, Endless, Refused}
-use Rattle.state_secrets.specs.declared.news.Looked.{Looked}
-use Rattle.state_secrets.specs.declared.news.SecretNews.{SecretNews}
-use Rattle.state_secrets.specs.declared.news.SecretWord.{SecretWord}
 use Rattle.state_secrets.specs.declared.news.SecretWord.TheVariants.{Taken, Mended, Kept, Without}
 
 abbrev pub trouble_text : SecretTrouble → List ℕ

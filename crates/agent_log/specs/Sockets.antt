@@ -1,8 +1,8 @@
 -- Sockets: what is said of the agent's own sockets.
 -- Source: docs/running.md, "What the operator sees" and "Changes while it runs".
 use Rattle.std.specs.Prelude.{ℕ, ◌==◌, if◌then◌else◌, List, [], ◌∷◌, ◌++◌, codes}
-use Rattle.base_log.specs.declared.level.Level.TheVariants.{Info, Alert}
 use Rattle.base_log.specs.declared.line.LineWord.{LineWord}
+use Rattle.base_log.specs.declared.level.Level.TheVariants.{Info, Alert}
 use Rattle.base_log.specs.declared.line.LineWord.TheVariants as words
 use Rattle.base_moment.specs.declared.moment.TheConstants.{LAST}
 use Rattle.agent_log.specs.Lines.{Line, said_line}

@@ -3,12 +3,9 @@
 use Rattle.std.specs.Prelude.{◌≡◌, ℕ, Bool, true, false, ◌&&◌, ◌==◌, if◌then◌else◌, Option, Some, None, length}
 use Rattle.agent_standing.specs.Agent.{Agent}
 use Rattle.base_clock.specs.declared.rest.TheConstants.{TRY_AGAIN}
-use Rattle.agent_log.specs.LinesOfClocks.{memory_line}
-use Rattle.agent_log.specs.LogDesk.{Desk}
-use Rattle.agent_log.specs.Lines.{IsSaid}
-use Rattle.agent_words.specs.Moments.{now_of}
-use Rattle.agent_log.specs.declared.mark.Want.{Want}
+use Rattle.agent_log.specs.{LinesOfClocks.memory_line, LogDesk.Desk, Lines.IsSaid, declared.mark.Want.Want}
 use Rattle.agent_log.specs.declared.mark.Want.TheVariants.{Over, Unsaid, Said, Passing}
+use Rattle.agent_words.specs.Moments.{now_of}
 
 -- what is left where it was said, and where it could not be
 abbrev pub said_or : Bool → Want → Want

@@ -70,7 +70,13 @@ impl Desk {
     }
 
     /// Says what is noted of the time that was handed in, whom is asked what, and whose ends are past.
-    pub fn hear_clock(&mut self, alloc: Global, agent: &Agent, notes: &Notes, requests: &[WatchRequest])
+    pub fn hear_clock(
+        &mut self,
+        alloc: Global,
+        agent: &Agent,
+        notes: &Notes,
+        requests: &[WatchRequest],
+    )
         ensures { HearsClock agent.now notes.now requests.now self.old self.new }
     {
         let pen = self.pen(alloc, agent);
@@ -116,7 +122,13 @@ impl Desk {
     }
 
     /// Says for which entries an agent steps in that stands behind another, by what it asks.
-    pub fn hear_steps(&mut self, alloc: Global, agent: &Agent, lead: Millis, requests: &[WatchRequest])
+    pub fn hear_steps(
+        &mut self,
+        alloc: Global,
+        agent: &Agent,
+        lead: Millis,
+        requests: &[WatchRequest],
+    )
         ensures { HearsSteps agent.now lead requests.now self.old self.new }
     {
         let pen = self.pen(alloc, agent);

@@ -13,7 +13,7 @@ use base_log::{Level, LineWord};
 use program_lines::name_of;
 use vault_asking::HandedIn;
 use vault_lanes::Loss;
-use watch_machine::{Link, Operation, WatchReply, Watch};
+use watch_machine::{Link, Operation, Watch, WatchReply};
 
 /// Says what came of a request, and what is noted of that, by what was wrong with its entry before; where its entry is no more, what it
 /// says of the broker.
@@ -59,7 +59,14 @@ fn say_reply(
             let status = LineWord::Number(u64::from(status));
             pen.say_of(level, "refused", name, status, room);
         }
-        WatchReply::Busy | WatchReply::Lost => say_lost(pen, place, name, before, handed.said.loss, room),
+        WatchReply::Busy | WatchReply::Lost => say_lost(
+            pen,
+            place,
+            name,
+            before,
+            handed.said.loss,
+            room,
+        ),
     }
 }
 

@@ -10,7 +10,7 @@ use crate::rooms::Rooms;
 use agent_standing::Agent;
 use base_log::{Level, LineWord};
 use program_lines::name_of;
-use watch_machine::{Millis, Operation, WatchRequest, Watch};
+use watch_machine::{Millis, Operation, Watch, WatchRequest};
 
 /// Says that an entry was looked up, and how many seconds it has left.
 #[tactic(auto, unfolding(watch_machine::specs::Clocks::sec))]

@@ -13,7 +13,7 @@ use agent_words::moment_word;
 use base_log::Level;
 use plan_forest::{Forest, Indices};
 use program_lines::name_of;
-use watch_machine::{Notes, Operation, WatchRequest, BeginReason};
+use watch_machine::{BeginReason, Notes, Operation, WatchRequest};
 
 /// Says what is noted of the time, whom is asked what, and whose ends are past.
 #[tactic(auto, using(crate::proofs::Said::both_said), unfolding(crate::specs::LinesOfClocks::clocked_lines))]

@@ -5,7 +5,7 @@ ghost use Rattle.agent_log.specs.Lines.{AreSaid, IsSaid, LineIsSaid, LineIsWritt
 
 use crate::log_words::{name_and, one_text, text_word};
 use crate::rooms::Rooms;
-use base_log::{Form, Level, LogLine, LineWord, json_of_line, text_of_line};
+use base_log::{Form, Level, LineWord, LogLine, json_of_line, text_of_line};
 use base_moment::Moment;
 use std::alloc::{AllocError, Global};
 
@@ -20,7 +20,13 @@ pub(crate) struct Pen {
 impl Pen {
     /// Says a line. Where memory is wanting for it, it is dropped and counted.
     #[tactic(auto, using(crate::proofs::Said::put_said, crate::proofs::Said::missed))]
-    pub(crate) fn say(&self, level: Level, event: &'static str, words: Vec<LineWord>, room: &mut Rooms)
+    pub(crate) fn say(
+        &self,
+        level: Level,
+        event: &'static str,
+        words: Vec<LineWord>,
+        room: &mut Rooms,
+    )
         ensures { LineIsSaid self.now.form self.now.moment (said_line level event.now words.items) room.old room.new }
     {
         match self.written(level, event, words) {

@@ -43,7 +43,11 @@ fn push_loss(
 }
 
 /// A place, and why there is no connection to it.
-fn unreached_word(alloc: Global, place: &[u8], reason: ConnectReason) -> Result<LineWord, AllocError>
+fn unreached_word(
+    alloc: Global,
+    place: &[u8],
+    reason: ConnectReason,
+) -> Result<LineWord, AllocError>
     ensures { IfOk result (λ w. w ≡ kinds.Text (place.now ++ (codes ": " ++ reason_text reason))) }
 {
     let mut text = Vec::from_slice(alloc, place)?;
@@ -83,7 +87,11 @@ pub(crate) fn one_text(alloc: Global, text: &[u8]) -> Result<Vec<LineWord>, Allo
 }
 
 /// A name and a word.
-pub(crate) fn name_and(alloc: Global, name: &[u8], word: LineWord) -> Result<Vec<LineWord>, AllocError>
+pub(crate) fn name_and(
+    alloc: Global,
+    name: &[u8],
+    word: LineWord,
+) -> Result<Vec<LineWord>, AllocError>
     ensures { IfOk result (λ ws. ws.items ≡ kinds.Text name.now ∷ word ∷ []) }
 {
     let mut words = Vec::new(alloc);

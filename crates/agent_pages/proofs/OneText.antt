@@ -1,27 +1,20 @@
 -- OneText: what is told of a board is one text, since each moment has one date.
 use Rattle.std.proofs.Common.{◌≡◌, ◌∙◌, ℕ, List, [], ◌∷◌, ◌++◌, Bool, true, false, ap, sym}
 use Rattle.base_moment.proofs.Moments.{one_date_text}
+use Rattle.agent_pages.specs.{Folders.folder_line, declared.asked.Method.Method, declared.asked.Page.Page, declared.board.Board.Board, declared.board.BoardRow.BoardRow, declared.lines.Lines.Lines, declared.point.Point.Point}
+use Rattle.agent_pages.specs.{declared.state.EntryState.EntryState, declared.shown.Shown.Shown}
 use Rattle.agent_pages.specs.Answers.{IsAnswer, IsBody, IsPage, IsShown, IsTold, OneAnswer, OneTold, health_code, sent_to}
-use Rattle.agent_pages.specs.Folders.{folder_line}
 use Rattle.agent_pages.specs.Health.{IsMissingLine, IsMissingLineIf, SaysWhyMoment, is_healthy, is_missing, missing_line}
 use Rattle.agent_pages.specs.Lines.{AreEntryLines, IsEntryLine, IsHealthIf, IsHealthText, IsStandingText}
 use Rattle.agent_pages.specs.Points.{SaysPoint, point_at, point_of}
 use Rattle.agent_pages.specs.Standing.{IsStandingLine, first_line, standing_line}
-use Rattle.agent_pages.specs.declared.asked.Method.{Method}
 use Rattle.agent_pages.specs.declared.asked.Method.TheVariants.{Get, Head, Other}
-use Rattle.agent_pages.specs.declared.asked.Page.{Page}
 use Rattle.agent_pages.specs.declared.asked.Page.TheVariants.{Metrics, Health, Listing, Nowhere}
 use Rattle.agent_pages.specs.declared.asked.Question.TheVariants.{Read, Unread, TooLong}
-use Rattle.agent_pages.specs.declared.board.Board.{Board}
-use Rattle.agent_pages.specs.declared.board.BoardRow.{BoardRow}
-use Rattle.agent_pages.specs.declared.lines.Lines.{Lines}
 use Rattle.agent_pages.specs.declared.lines.Lines.TheVariants.{Standing, Missing}
-use Rattle.agent_pages.specs.declared.point.Point.{Point}
 use Rattle.agent_pages.specs.declared.point.Point.TheVariants.{Unknown, At, Always}
 use Rattle.agent_pages.specs.declared.shown.Content.TheVariants as contents
-use Rattle.agent_pages.specs.declared.state.EntryState.{EntryState}
 use Rattle.agent_pages.specs.declared.state.EntryState.TheVariants as states
-use Rattle.agent_pages.specs.declared.shown.Shown.{Shown}
 
 one_point : (p : Point) (a b : List ℕ) → SaysPoint p a → SaysPoint p b → a ≡ b
 one_point Unknown a b x y = x ∙ sym y

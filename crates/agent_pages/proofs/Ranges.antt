@@ -2,8 +2,7 @@
 use Rattle.std.proofs.Common.{◌≡◌, ◌≢◌, ℕ, ◌<◌, Bool, false, ◌||◌, List, [], ◌∷◌, ◌++◌, length, refl, sym, ap, ◌∙◌, arith, length-append}
 use Rattle.std.specs.List.{join_with_byte, list_any}
 use Rattle.base_words.specs.Pieces.{pieces}
-use Rattle.base_words.proofs.Cutting.{has_piece}
-use Rattle.base_words.proofs.Joined.{joined_back}
+use Rattle.base_words.proofs.{Cutting.has_piece, Joined.joined_back}
 
 joined_more : (b : ℕ) (piece : List ℕ) (ps : List (List ℕ)) → ps ≢ [] → join_with_byte b (piece ∷ ps) ≡ piece ++ b ∷ join_with_byte b ps
 joined_more b piece [] some = absurd (some refl)

@@ -1,9 +1,8 @@
 -- Accept: whether a request takes OpenMetrics' text.
 -- Source: RFC 9110, sections 5.6.3, 8.3.1, 12.4.2 and 12.5.1; OpenMetrics 1.0, "Protocol Negotiation". Weights are not compared: it is taken
 -- where some range of a field `Accept` names it, and not with a weight of 0.
-use Rattle.std.specs.Prelude.{ℕ, Bool, true, false, ◌&&◌, ◌||◌, ◌==◌, not, List, [], ◌∷◌, codes, drop, length, take, take_while}
-use Rattle.std.specs.List.{list_all, list_any}
-use Rattle.std.specs.Str.{str_eq_ignore_ascii_case}
+use Rattle.std.specs.Prelude.{ℕ, Bool, false, ◌&&◌, ◌||◌, ◌==◌, not, List, [], ◌∷◌, codes, drop, length, take, take_while}
+use Rattle.std.specs.{List.list_all, List.list_any, Str.str_eq_ignore_ascii_case}
 use Rattle.base_words.specs.Pieces.{pieces}
 
 -- white space: a space or a tab

@@ -2,24 +2,14 @@
 -- Source: RFC 9112, sections 2, 4, 6.2 and 9.6; RFC 9110, sections 8.6, 9.3.1, 9.3.2, 10.2.1 and 15; RFC 6585, section 5. Media types:
 -- Prometheus, "Exposition formats", text format 0.0.4; OpenMetrics 1.0, "Content Type"; RFC 8259, section 11.
 use Rattle.std.specs.Prelude.{◌≡◌, ℕ, if◌then◌else◌, List, [], ◌++◌, codes, decimal, length}
-use Rattle.agent_pages.specs.declared.answer.OnlookerAnswer.{OnlookerAnswer}
-use Rattle.agent_pages.specs.declared.asked.Method.{Method}
+use Rattle.agent_pages.specs.{declared.answer.OnlookerAnswer.OnlookerAnswer, declared.asked.Method.Method, declared.asked.Page.Page, declared.asked.Question.Question, declared.board.Board.Board, declared.shown.Code.Code}
+use Rattle.agent_pages.specs.{declared.shown.Content.Content, declared.shown.Shown.Shown, Health.is_healthy, Lines.IsHealthText, Lines.IsStandingText, Listing.listing_text, Metrics.metrics_text}
 use Rattle.agent_pages.specs.declared.asked.Method.TheVariants.{Get, Head, Other}
-use Rattle.agent_pages.specs.declared.asked.Page.{Page}
 use Rattle.agent_pages.specs.declared.asked.Page.TheVariants.{Metrics, Health, Listing, Nowhere}
-use Rattle.agent_pages.specs.declared.asked.Question.{Question}
 use Rattle.agent_pages.specs.declared.asked.Question.TheVariants.{Read, Unread, TooLong}
-use Rattle.agent_pages.specs.declared.board.Board.{Board}
 use Rattle.agent_pages.specs.declared.family.Format.TheVariants.{Prometheus, OpenMetrics}
-use Rattle.agent_pages.specs.declared.shown.Code.{Code}
 use Rattle.agent_pages.specs.declared.shown.Code.TheVariants as codes_of
-use Rattle.agent_pages.specs.declared.shown.Content.{Content}
 use Rattle.agent_pages.specs.declared.shown.Content.TheVariants as contents
-use Rattle.agent_pages.specs.declared.shown.Shown.{Shown}
-use Rattle.agent_pages.specs.Health.{is_healthy}
-use Rattle.agent_pages.specs.Lines.{IsHealthText, IsStandingText}
-use Rattle.agent_pages.specs.Listing.{listing_text}
-use Rattle.agent_pages.specs.Metrics.{metrics_text}
 
 -- a status and its phrase
 unfoldable pub code_words : Code → List ℕ

@@ -2,18 +2,11 @@
 -- Source: this project's own.
 use Rattle.std.specs.Prelude.{◌≡◌, ℕ, ◌+◌, List, ◌++◌, Option, Some, None, length, map, min}
 use Rattle.std.specs.List.{range_with_len}
-use Rattle.plan_forest.specs.Carried.{carried}
-use Rattle.plan_forest.specs.Forest.{entry_at}
-use Rattle.watch_machine.specs.Clocks.{sec}
-use Rattle.watch_machine.specs.Outlook.{broker_moment, broker_now}
-use Rattle.watch_machine.specs.State.{WatchState, entry_of}
-use Rattle.agent_standing.specs.Agent.{Agent, standing_at}
-use Rattle.agent_standing.specs.Status.{status_of_entry}
-use Rattle.agent_pages.specs.declared.board.Board.{Board}
-use Rattle.agent_pages.specs.declared.board.BoardRow.{BoardRow}
+use Rattle.plan_forest.specs.{Carried.carried, Forest.entry_at}
+use Rattle.watch_machine.specs.{Clocks.sec, Outlook.broker_moment, Outlook.broker_now, State.WatchState, State.entry_of}
+use Rattle.agent_standing.specs.{Agent.Agent, Agent.standing_at, Status.status_of_entry}
+use Rattle.agent_pages.specs.{declared.board.Board.Board, declared.board.BoardRow.BoardRow, States.state_of, Waiting.waiting_rows}
 use Rattle.agent_pages.specs.Naming.{Around, Named, named_by}
-use Rattle.agent_pages.specs.States.{state_of}
-use Rattle.agent_pages.specs.Waiting.{waiting_rows}
 
 -- the moment by the broker's clock of a reading of the clock that never steps, as that is handed in
 abbrev pub moment_of_reading : WatchState → ℕ → ℕ

@@ -1,6 +1,6 @@
 -- Escapes: texts within double quotes, in metrics and in JSON.
 -- Source: Prometheus, "Exposition formats", "Comments, help text, and type information"; OpenMetrics 1.0, "Escaping"; RFC 8259, section 7.
-use Rattle.std.specs.Prelude.{ℕ, ◌+◌, ◌/◌, ◌%◌, Bool, ◌||◌, ◌==◌, if◌then◌else◌, List, [], ◌∷◌, ◌++◌, codes, nat_lt}
+use Rattle.std.specs.Prelude.{ℕ, ◌+◌, ◌/◌, ◌%◌, ◌||◌, ◌==◌, if◌then◌else◌, List, [], ◌∷◌, ◌++◌, codes, nat_lt}
 use Rattle.base_words.specs.Texts.{hex_digit}
 
 -- a byte of a label's value: a backslash stands before a backslash and before a double quote, and a line feed is `\n`

@@ -3,12 +3,9 @@
 use Rattle.std.specs.Prelude.{◌≡◌, ℕ, Bool, true, false, ◌&&◌, not, if◌then◌else◌, List, [], ◌++◌, codes, nat_lt}
 use Rattle.std.specs.List.{list_any}
 use Rattle.base_moment.specs.declared.moment.TheConstants.{LAST}
-use Rattle.agent_pages.specs.declared.board.Board.{Board}
-use Rattle.agent_pages.specs.declared.board.BoardRow.{BoardRow}
-use Rattle.agent_pages.specs.declared.state.EntryState.{EntryState}
+use Rattle.agent_pages.specs.{declared.board.Board.Board, declared.board.BoardRow.BoardRow, declared.state.EntryState.EntryState, States.is_kept}
 use Rattle.agent_pages.specs.declared.state.EntryState.TheVariants.{Gone, Ended, Waiting, Short, Unknown, Trying, Kept}
 use Rattle.agent_pages.specs.Points.{SaysPoint, point_at, point_of}
-use Rattle.agent_pages.specs.States.{is_kept}
 
 -- an entry is missing that is needed, by itself or by one under it, and is not kept
 unfoldable pub is_missing : ℕ → BoardRow → Bool

@@ -1,13 +1,8 @@
 -- Lines: the status and health as lines for people, with dates in UTC.
 -- Source: this project's own, docs/running.md, "What the operator sees".
 use Rattle.std.specs.Prelude.{◌≡◌, ℕ, Bool, true, false, List, [], ◌∷◌, ◌++◌, codes}
-use Rattle.agent_pages.specs.Folders.{folder_line}
+use Rattle.agent_pages.specs.{Folders.folder_line, Points.SaysPoint, Points.point_of, Standing.IsStandingLine, Standing.first_line, declared.board.Board.Board, declared.board.BoardRow.BoardRow, declared.lines.Lines.Lines}
 use Rattle.agent_pages.specs.Health.{IsMissingLineIf, is_healthy, is_missing}
-use Rattle.agent_pages.specs.Points.{SaysPoint, point_of}
-use Rattle.agent_pages.specs.Standing.{IsStandingLine, first_line}
-use Rattle.agent_pages.specs.declared.board.Board.{Board}
-use Rattle.agent_pages.specs.declared.board.BoardRow.{BoardRow}
-use Rattle.agent_pages.specs.declared.lines.Lines.{Lines}
 use Rattle.agent_pages.specs.declared.lines.Lines.TheVariants.{Standing, Missing}
 
 abbrev pub IsEntryLine : Lines → BoardRow → List ℕ → Type 0

@@ -4,11 +4,7 @@ use Rattle.std.specs.Prelude.{ℕ, List, [], ◌∷◌, ◌++◌, Option, Some, 
 use Rattle.agent_standing.specs.declared.standing.Trouble.{Trouble}
 use Rattle.agent_standing.specs.declared.standing.Trouble.TheVariants as troubles
 use Rattle.vault_inventory.specs.Kinds.{kind_word}
-use Rattle.agent_pages.specs.declared.board.Board.{Board}
-use Rattle.agent_pages.specs.declared.board.BoardRow.{BoardRow}
-use Rattle.agent_pages.specs.Escapes.{json_value}
-use Rattle.agent_pages.specs.Standby.{standby_word}
-use Rattle.agent_pages.specs.States.{state_word}
+use Rattle.agent_pages.specs.{declared.board.Board.Board, declared.board.BoardRow.BoardRow, Escapes.json_value, Standby.standby_word, States.state_word}
 
 abbrev pub trouble_word : Option Trouble → List ℕ
 trouble_word None = codes "null"

@@ -2,24 +2,14 @@
 -- Source: Prometheus, "Exposition formats", text format 0.0.4; OpenMetrics 1.0, "Text Format" and "Counter". Names, help and figures are
 -- this project's own: the table `FAMILIES`.
 use Rattle.std.specs.Prelude.{ℕ, ◌-◌, Bool, true, false, if◌then◌else◌, List, [], ◌∷◌, ◌++◌, Option, Some, None, bytes_eq, codes, decimal, map, nat_lt}
-use Rattle.agent_pages.specs.declared.board.Board.{Board}
-use Rattle.agent_pages.specs.declared.board.BoardRow.{BoardRow}
-use Rattle.agent_pages.specs.declared.family.Column.{Column}
-use Rattle.agent_pages.specs.declared.family.Column.TheVariants as columns
-use Rattle.agent_pages.specs.declared.family.FamilyKind.{FamilyKind}
+use Rattle.agent_pages.specs.{declared.board.Board.Board, declared.board.BoardRow.BoardRow, declared.family.Column.Column, declared.family.FamilyKind.FamilyKind, declared.family.Figure.Figure, declared.family.Format.Format}
+use Rattle.agent_pages.specs.{declared.family.Tells.Tells, declared.family.TheConstants.FAMILIES, declared.state.EntryState.EntryState, Escapes.label_value, Folders.is_open, States.state_word}
 use Rattle.agent_pages.specs.declared.family.FamilyKind.TheVariants.{Gauge, Counter}
-use Rattle.agent_pages.specs.declared.family.Figure.{Figure}
-use Rattle.agent_pages.specs.declared.family.Figure.TheVariants as figures
-use Rattle.agent_pages.specs.declared.family.Format.{Format}
 use Rattle.agent_pages.specs.declared.family.Format.TheVariants.{Prometheus, OpenMetrics}
-use Rattle.agent_pages.specs.declared.family.Tells.{Tells}
 use Rattle.agent_pages.specs.declared.family.Tells.TheVariants.{Build, ClockOffset, Agent, Entry}
-use Rattle.agent_pages.specs.declared.family.TheConstants.{FAMILIES}
-use Rattle.agent_pages.specs.declared.state.EntryState.{EntryState}
 use Rattle.agent_pages.specs.declared.state.EntryState.TheVariants.{Gone, Ended, Waiting, Short, Unknown, Trying, Kept}
-use Rattle.agent_pages.specs.Escapes.{label_value}
-use Rattle.agent_pages.specs.Folders.{is_open}
-use Rattle.agent_pages.specs.States.{state_word}
+use Rattle.agent_pages.specs.declared.family.Column.TheVariants as columns
+use Rattle.agent_pages.specs.declared.family.Figure.TheVariants as figures
 use Rattle.base_version.specs.Version.{build_labels}
 
 -- ---- the lines that tell of a family

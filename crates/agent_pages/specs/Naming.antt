@@ -4,9 +4,7 @@ use Rattle.std.specs.Prelude.{ℕ, false, if◌then◌else◌, List, [], ◌∷�
 use Rattle.state_changes.specs.declared.row.Row.{Row}
 use Rattle.vault_inventory.specs.Needs.{has_always, until}
 use Rattle.base_moment.specs.declared.moment.TheConstants.{LAST}
-use Rattle.plan_forest.specs.declared.entry.Entry.{Entry}
-use Rattle.plan_forest.specs.declared.entry.Kind.{Kind}
-use Rattle.plan_forest.specs.Forest.{index_named}
+use Rattle.plan_forest.specs.{declared.entry.Entry.Entry, declared.entry.Kind.Kind, Forest.index_named}
 use Rattle.agent_pages.specs.declared.board.Surroundings.{Surroundings}
 
 -- figures that an agent does not know of itself, and the entries that its inventory names, after every change

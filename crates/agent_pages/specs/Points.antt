@@ -1,8 +1,7 @@
 -- Points: a moment as people are told it, a date in UTC.
 -- Source: this project's own, docs/running.md, "What the operator sees".
 use Rattle.std.specs.Prelude.{◌≡◌, ℕ, ◌==◌, if◌then◌else◌, List, Option, Some, None, codes, nat_lt}
-use Rattle.base_moment.specs.Rfc3339.{IsDateText}
-use Rattle.base_moment.specs.declared.moment.TheConstants.{LAST}
+use Rattle.base_moment.specs.{Rfc3339.IsDateText, declared.moment.TheConstants.LAST}
 use Rattle.agent_pages.specs.declared.point.Point.{Point}
 use Rattle.agent_pages.specs.declared.point.Point.TheVariants.{Unknown, At, Always}
 

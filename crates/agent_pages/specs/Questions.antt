@@ -1,23 +1,17 @@
 -- Questions: what the first bytes of an onlooker ask for.
 -- Source: RFC 9112, sections 2, 3 and 5; RFC 9110, sections 9.1 and 9.3; RFC 6585, section 5.
-use Rattle.std.specs.Prelude.{◌≡◌, ℕ, ◌<◌, ◌≤◌, Bool, true, false, if◌then◌else◌, List, [], ◌∷◌, bytes_eq, codes, length, map, take}
-use Rattle.httparse.specs.Grammar.{HasNoRequest, MayBecomeRequest, ReadsRequest, RequestHead}
+use Rattle.std.specs.Prelude.{◌≡◌, ℕ, ◌<◌, ◌≤◌, Bool, true, false, if◌then◌else◌, List, bytes_eq, codes, length, map, take}
 use Rattle.httparse.specs.Spans.{RequestOverflows, name_and_value}
+use Rattle.httparse.specs.Grammar.{HasNoRequest, MayBecomeRequest, ReadsRequest, RequestHead}
 use Rattle.base_words.specs.Pieces.{first, pieces}
-use Rattle.agent_pages.specs.declared.asked.AskedPage.{AskedPage}
-use Rattle.agent_pages.specs.declared.asked.AskedPage.TheVariants as asked
-use Rattle.agent_pages.specs.declared.asked.Front.{Front}
-use Rattle.agent_pages.specs.declared.asked.Front.TheVariants as fronts
-use Rattle.agent_pages.specs.declared.asked.Method.{Method}
+use Rattle.agent_pages.specs.{declared.asked.AskedPage.AskedPage, declared.asked.Front.Front, declared.asked.Method.Method, declared.asked.Page.Page, declared.asked.Question.Question}
+use Rattle.agent_pages.specs.{declared.asked.TheConstants.FIELDS_MAX, declared.asked.TheConstants.HEAD_MAX, declared.family.Format.Format, Accept.takes_fields}
 use Rattle.agent_pages.specs.declared.asked.Method.TheVariants.{Get, Head, Other}
-use Rattle.agent_pages.specs.declared.asked.Page.{Page}
 use Rattle.agent_pages.specs.declared.asked.Page.TheVariants.{Metrics, Health, Listing, Nowhere}
-use Rattle.agent_pages.specs.declared.asked.Question.{Question}
-use Rattle.agent_pages.specs.declared.asked.Question.TheVariants as questions
-use Rattle.agent_pages.specs.declared.asked.TheConstants.{FIELDS_MAX, HEAD_MAX}
-use Rattle.agent_pages.specs.declared.family.Format.{Format}
 use Rattle.agent_pages.specs.declared.family.Format.TheVariants.{Prometheus, OpenMetrics}
-use Rattle.agent_pages.specs.Accept.{takes_fields}
+use Rattle.agent_pages.specs.declared.asked.AskedPage.TheVariants as asked
+use Rattle.agent_pages.specs.declared.asked.Front.TheVariants as fronts
+use Rattle.agent_pages.specs.declared.asked.Question.TheVariants as questions
 
 -- methods are told apart by the case of their letters, too
 unfoldable pub method_of : List ℕ → Method

@@ -3,11 +3,8 @@
 use Rattle.std.specs.Prelude.{◌≡◌, ℕ, List, ◌++◌, Option, Some, None, codes, decimal}
 use Rattle.agent_standing.specs.declared.standing.Trouble.{Trouble}
 use Rattle.agent_standing.specs.declared.standing.Trouble.TheVariants.{Lost, Refused, Gone}
+use Rattle.agent_pages.specs.{Standby.standby_word, States.state_word, declared.board.Board.Board, declared.board.BoardRow.BoardRow}
 use Rattle.agent_pages.specs.Points.{SaysPoint, point_at, point_of}
-use Rattle.agent_pages.specs.Standby.{standby_word}
-use Rattle.agent_pages.specs.States.{state_word}
-use Rattle.agent_pages.specs.declared.board.Board.{Board}
-use Rattle.agent_pages.specs.declared.board.BoardRow.{BoardRow}
 
 abbrev pub wrong_word : Option Trouble → List ℕ
 wrong_word None = codes "-"

@@ -1,14 +1,11 @@
 -- Waiting: the entries that an inventory names and that are not served, each of which waits for its credential, or for that of a token over
 -- it.
 -- Source: this project's own, docs/commands/serve.md, "Secrets by file".
-use Rattle.std.specs.Prelude.{ℕ, Bool, true, false, ◌||◌, if◌then◌else◌, List, [], ◌∷◌, Option, Some, None, flat_map, is_none, length}
+use Rattle.std.specs.Prelude.{ℕ, Bool, false, ◌||◌, if◌then◌else◌, List, [], ◌∷◌, None, flat_map, is_none, length}
 use Rattle.std.specs.List.{range_with_len}
-use Rattle.plan_forest.specs.declared.entry.Entry.{Entry}
-use Rattle.plan_forest.specs.Carried.{carried}
-use Rattle.plan_forest.specs.Forest.{entry_at, index_named}
-use Rattle.agent_pages.specs.declared.board.BoardRow.{BoardRow}
+use Rattle.plan_forest.specs.{declared.entry.Entry.Entry, Carried.carried, Forest.entry_at, Forest.index_named}
+use Rattle.agent_pages.specs.{declared.board.BoardRow.BoardRow, Naming.Named, Naming.entries_after}
 use Rattle.agent_pages.specs.declared.state.EntryState.TheVariants as states
-use Rattle.agent_pages.specs.Naming.{Named, entries_after}
 
 -- an entry waits where none of its name is served
 abbrev pub is_waiting : List Entry → List ℕ → Bool

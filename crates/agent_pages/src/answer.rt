@@ -21,7 +21,11 @@ pub struct OnlookerAnswer {
 /// head alone, which is the same. Any other path is 404, another method of these three 405, bytes that are no head 400, and a head that is
 /// too long 431. The only error is out of memory.
 #[tactic(auto, unfolding(crate::specs::Answers::IsAnswer))]
-pub fn answer_to(alloc: Global, board: &Board, question: Question) -> Result<OnlookerAnswer, AllocError>
+pub fn answer_to(
+    alloc: Global,
+    board: &Board,
+    question: Question,
+) -> Result<OnlookerAnswer, AllocError>
     ensures { IfOk result (λ answer. IsAnswer board.now question answer) }
 {
     match question {

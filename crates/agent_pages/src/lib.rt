@@ -31,7 +31,7 @@ mod waiting;
 
 pub use answer::{OnlookerAnswer, answer_to};
 pub use asked::{AskedPage, FIELDS_MAX, HEAD_MAX, Method, Page, Question, read_question};
-pub use board::{Board, FileReading, BoardRow, Surroundings};
+pub use board::{Board, BoardRow, FileReading, Surroundings};
 pub use family::Format;
 pub use gathering::board_of;
 pub use laws::{limits_of_onlookers, no_credential_shows, nothing_else_is_told};

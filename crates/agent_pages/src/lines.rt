@@ -68,7 +68,12 @@ fn push_lines(
 }
 
 /// Appends what is written of an entry.
-fn push_line(alloc: Global, lines: Lines, row: &BoardRow, text: &mut Vec<u8>) -> Result<(), AllocError>
+fn push_line(
+    alloc: Global,
+    lines: Lines,
+    row: &BoardRow,
+    text: &mut Vec<u8>,
+) -> Result<(), AllocError>
     ensures { OnOk result ((line : List ℕ) × IsEntryLine lines row.now line × (text.new.items ≡ text.old.items ++ line)) }
 {
     match lines {

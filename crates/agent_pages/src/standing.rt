@@ -32,7 +32,11 @@ fn push_count(alloc: Global, label: &[u8], count: u64, line: &mut Vec<u8>) -> Re
 }
 
 /// Appends the line of an entry.
-pub(crate) fn push_standing(alloc: Global, row: &BoardRow, text: &mut Vec<u8>) -> Result<(), AllocError>
+pub(crate) fn push_standing(
+    alloc: Global,
+    row: &BoardRow,
+    text: &mut Vec<u8>,
+) -> Result<(), AllocError>
     ensures { OnOk result ((line : List ℕ) × IsStandingLine row.now line × (text.new.items ≡ text.old.items ++ line)) }
 {
     let until = point_text(alloc, point_of(row.end))?;

@@ -1,8 +1,7 @@
 -- Having: an agent that has run has, of a start that the words demand. For the program.
 use Rattle.std.proofs.Common.{◌≡◌, ℕ, Bool, List, [], None, Option}
 use Rattle.std.specs.Prelude.{◌&&◌, is_none, is_some, option_copied, option_map, string_bytes}
-use Rattle.agent_ledger.specs.declared.late.Late.{Late}
-use Rattle.agent_ledger.specs.declared.ledger.Ledger.{Ledger}
+use Rattle.agent_ledger.specs.{declared.late.Late.Late, declared.ledger.Ledger.Ledger}
 use Rattle.agent_words.specs.declared.demands.Demands.{Demands}
 use Rattle.vault_asking.specs.Sending.{Lanes}
 use Rattle.agent_behind.specs.declared.behind.Behind.{Behind}
@@ -11,18 +10,13 @@ use Rattle.base_disk.specs.State.{DiskState}
 use Rattle.base_files.specs.Files.{Files}
 use Rattle.agent_house.specs.declared.house.House.{House}
 use Rattle.state_secrets.specs.Stamps.{FileCall}
-use Rattle.agent_turns.specs.Neighbours.{NeighbourCall}
-use Rattle.agent_turns.specs.declared.change.AgentChange.{AgentChange}
+use Rattle.agent_turns.specs.{Neighbours.NeighbourCall, declared.change.AgentChange.AgentChange, declared.day.EarlyDay.EarlyDay}
 use Rattle.vault_exchange.specs.Sockets.{port_of}
-use Rattle.agent_turns.specs.declared.day.EarlyDay.{EarlyDay}
 use Rattle.program_commands.specs.declared.job.ServeWords.{ServeWords}
-use Rattle.agent_start.specs.Alone.{IsServedAlone}
+use Rattle.agent_start.specs.{Alone.IsServedAlone, Starts.IsStart, declared.start.Start.Start}
 use Rattle.agent_system.specs.Numbers.{IsNumber}
-use Rattle.agent_start.specs.Starts.{IsStart}
-use Rattle.agent_start.specs.declared.start.Start.{Start}
-use Rattle.agent_run.specs.Doors.{DoorCall}
+use Rattle.agent_run.specs.{Doors.DoorCall, declared.begun.Parts.Parts}
 use Rattle.agent_run.specs.Run.{HasRun, HasRunSo, IsDemanded, IsRun, demands_of, ends_path, timeout_of, width_of}
-use Rattle.agent_run.specs.declared.begun.Parts.{Parts}
 
 pub is_demanded : (served : ServeWords) (number : ℕ) (d : Demands) → IsNumber (option_copied served.name) served.file.now number → d ≡ demands_of served number → IsDemanded served d
 is_demanded served number d its is = (number, (its, is))

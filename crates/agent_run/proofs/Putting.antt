@@ -1,48 +1,31 @@
 -- Putting: what a start puts together is what its parts are. For `begin`, `run_over` and their parts.
 use Rattle.std.proofs.Common.{◌≡◌, ◌∙◌, ℕ, Bool, List, [], None, Ok, Err, Option, Result, Some, String, Vec, ap, length, min, refl, subst}
 use Rattle.std.specs.Prelude.{IfOk, is_some}
-use Rattle.std.specs.Result.{result_ok}
-use Rattle.std.specs.declared.alloc.AllocError.{AllocError}
-use Rattle.std.specs.declared.alloc.Global.{Global}
-use Rattle.agent_ledger.specs.declared.asker.Asker.{Asker}
-use Rattle.agent_ledger.specs.declared.late.Late.{Late}
-use Rattle.agent_ledger.specs.declared.late.Shut.{Shut}
-use Rattle.agent_ledger.specs.declared.ledger.Ledger.{Ledger}
+use Rattle.std.specs.{Result.result_ok, declared.alloc.AllocError.AllocError, declared.alloc.Global.Global}
+use Rattle.agent_ledger.specs.{declared.asker.Asker.Asker, declared.late.Late.Late, declared.late.Shut.Shut, declared.ledger.Ledger.Ledger}
 use Rattle.agent_log.specs.LogDesk.{Desk, HearsNoSocket}
 use Rattle.vault_asking.specs.Sending.{Lanes}
 use Rattle.vault_proving.specs.declared.proving.Proving.{Proving}
-use Rattle.agent_behind.specs.Lookouts.{Ahead}
-use Rattle.agent_behind.specs.declared.behind.Behind.{Behind}
-use Rattle.base_clock.specs.Seen.{CallIsMade, ClockSeen, read_call}
+use Rattle.agent_behind.specs.{Lookouts.Ahead, declared.behind.Behind.Behind}
 use Rattle.base_clock.specs.declared.reading.Reading.{Reading}
-use Rattle.base_device.specs.declared.fault.Failed.{Failed}
-use Rattle.base_device.specs.declared.place.Place.{Place}
+use Rattle.base_clock.specs.Seen.{CallIsMade, ClockSeen, read_call}
+use Rattle.base_device.specs.{declared.fault.Failed.Failed, declared.place.Place.Place}
 use Rattle.base_disk.specs.State.{DiskState}
 use Rattle.agent_house.specs.declared.house.House.{House}
 use Rattle.vault_inventory.specs.Inventories.{Inventory}
 use Rattle.base_log.specs.declared.form.Form.{Form}
 use Rattle.state_changes.specs.declared.row.Row.{Row}
 use Rattle.state_secrets.specs.Stamps.{FileCall}
-use Rattle.agent_turns.specs.Neighbours.{NeighbourCall}
-use Rattle.agent_turns.specs.declared.change.AgentChange.{AgentChange}
-use Rattle.agent_turns.specs.declared.day.EarlyDay.{EarlyDay}
+use Rattle.agent_turns.specs.{Neighbours.NeighbourCall, declared.change.AgentChange.AgentChange, declared.day.EarlyDay.EarlyDay}
 use Rattle.program_commands.specs.declared.job.ServeWords.{ServeWords}
-use Rattle.agent_system.specs.Descriptors.{ArePlaces}
-use Rattle.agent_system.specs.Saying.{BeginsDesk}
-use Rattle.agent_system.specs.Stalls.{WarnsOfDisks}
-use Rattle.agent_system.specs.TakingOver.{TakesOver}
+use Rattle.agent_system.specs.{Descriptors.ArePlaces, Saying.BeginsDesk, Stalls.WarnsOfDisks, TakingOver.TakesOver}
 use Rattle.agent_words.specs.declared.said.SaidLine.{SaidLine}
 use Rattle.agent_start.specs.declared.start.Start.{Start}
 use Rattle.watch_machine.specs.declared.event.WatchEvent.{WatchEvent}
+use Rattle.agent_run.specs.{Running.RunsFrom, Waits.IsResumedFrom, Waits.WaitsFor, declared.begun.Begun.Begun, declared.begun.Parts.Parts, declared.begun.Ready.Ready, declared.doors.Guests.Guests}
 use Rattle.agent_run.specs.Begun.{BeginsLog, IsBegun, IsLateOf, IsLookout, IsReady, IsShutAtFirst, LooksAhead, SaysIfBehind, beside, day_of, ends_folder, house_of, place_text}
 use Rattle.agent_run.specs.Doors.{DoorCall, IsDoor, SaysNoDoor, cost_without}
 use Rattle.agent_run.specs.Run.{IsRun, ReadsFirst, reading_or_none}
-use Rattle.agent_run.specs.Running.{RunsFrom}
-use Rattle.agent_run.specs.Waits.{IsResumedFrom, WaitsFor}
-use Rattle.agent_run.specs.declared.begun.Begun.{Begun}
-use Rattle.agent_run.specs.declared.begun.Parts.{Parts}
-use Rattle.agent_run.specs.declared.begun.Ready.{Ready}
-use Rattle.agent_run.specs.declared.doors.Guests.{Guests}
 use Rattle.agent_run.specs.declared.doors.Guests.TheVariants.{Clients, Onlookers}
 
 -- ---- what it is put together from

@@ -2,17 +2,11 @@
 -- Source: this project's own.
 use Rattle.std.specs.Prelude.{◌≡◌, ℕ, ◌/◌, Bool, false, if◌then◌else◌, List, [], Option, Some, None, String, Vec, ◌++◌, codes, decimal, is_some, length, min, option_map, string_bytes}
 use Rattle.std.specs.declared.alloc.Global.{Global}
-use Rattle.agent_ledger.specs.declared.asker.Asker.{Asker}
-use Rattle.agent_ledger.specs.declared.late.Late.{Late}
+use Rattle.agent_ledger.specs.{declared.asker.Asker.Asker, declared.late.Late.Late, declared.late.Shut.Shut, declared.ledger.Ledger.Ledger}
 use Rattle.agent_ledger.specs.declared.late.Late.TheVariants as lates
-use Rattle.agent_ledger.specs.declared.late.Shut.{Shut}
-use Rattle.agent_ledger.specs.declared.ledger.Ledger.{Ledger}
 use Rattle.agent_log.specs.LogDesk.{Desk}
-use Rattle.agent_answers.specs.Controlling.{nobody_asks}
-use Rattle.agent_answers.specs.Onlooking.{nobody}
-use Rattle.agent_behind.specs.Lookouts.{Ahead}
-use Rattle.agent_behind.specs.declared.behind.Behind.{Behind}
-use Rattle.agent_behind.specs.declared.behind.Giver.TheVariants.{Others}
+use Rattle.agent_answers.specs.{Controlling.nobody_asks, Onlooking.nobody}
+use Rattle.agent_behind.specs.{Lookouts.Ahead, declared.behind.Behind.Behind, declared.behind.Giver.TheVariants.Others}
 use Rattle.state_changes.specs.declared.row.Row.{Row}
 use Rattle.base_clock.specs.declared.reading.Reading.{Reading}
 use Rattle.base_device.specs.declared.place.Place.{Place}
@@ -22,24 +16,15 @@ use Rattle.agent_ends.specs.declared.file.EndsFile.{EndsFile}
 use Rattle.agent_house.specs.declared.house.House.{House}
 use Rattle.vault_inventory.specs.Inventories.{Inventory}
 use Rattle.base_log.specs.declared.form.Form.{Form}
-use Rattle.agent_pages.specs.Standby.{begun_standby}
-use Rattle.agent_pages.specs.declared.board.FileReading.{FileReading}
+use Rattle.agent_pages.specs.{Standby.begun_standby, declared.board.FileReading.FileReading}
 use Rattle.state_secrets.specs.Stamps.{FileCall}
 use Rattle.agent_turns.specs.declared.day.EarlyDay.{EarlyDay}
 use Rattle.program_commands.specs.declared.job.ServeWords.{ServeWords}
-use Rattle.agent_system.specs.Descriptors.{ArePlaces}
-use Rattle.agent_system.specs.Saying.{BeginsDesk, SaysBehind}
-use Rattle.agent_system.specs.Whole.{folder_of}
-use Rattle.agent_system.specs.Stalls.{WarnsOfDisks}
-use Rattle.agent_system.specs.TakingOver.{TakesOver}
+use Rattle.agent_system.specs.{Descriptors.ArePlaces, Saying.BeginsDesk, Saying.SaysBehind, Whole.folder_of, Stalls.WarnsOfDisks, TakingOver.TakesOver}
 use Rattle.agent_words.specs.declared.said.SaidLine.{SaidLine}
 use Rattle.agent_start.specs.declared.start.Start.{Start}
-use Rattle.agent_run.specs.Doors.{DoorCall, IsDoor}
+use Rattle.agent_run.specs.{Doors.DoorCall, Doors.IsDoor, declared.begun.Begun.Begun, declared.begun.Entrances.Entrances, declared.begun.Parts.Parts, declared.begun.Ready.Ready}
 use Rattle.agent_run.specs.Waits.{IsResumedFrom, WaitsFor, millis_of}
-use Rattle.agent_run.specs.declared.begun.Begun.{Begun}
-use Rattle.agent_run.specs.declared.begun.Entrances.{Entrances}
-use Rattle.agent_run.specs.declared.begun.Parts.{Parts}
-use Rattle.agent_run.specs.declared.begun.Ready.{Ready}
 use Rattle.agent_run.specs.declared.doors.Guests.TheVariants.{Clients, Onlookers}
 
 -- the folder of the file of the ends, where there is one

@@ -2,38 +2,25 @@
 -- Source: this project's own; docs/commands/serve.md.
 use Rattle.std.specs.Prelude.{◌≡◌, ℕ, Bool, Option, Some, None, if◌then◌else◌, ◌&&◌, List, [], ◌++◌, codes, is_none, is_some, length, max, min, option_copied, option_map, string_bytes, true}
 use Rattle.std.specs.List.{All}
-use Rattle.agent_ledger.specs.Askers.{is_free}
-use Rattle.agent_ledger.specs.declared.asker.Asker.{Asker}
-use Rattle.agent_ledger.specs.declared.late.Late.{Late}
-use Rattle.agent_ledger.specs.declared.ledger.Ledger.{Ledger}
+use Rattle.agent_ledger.specs.{Askers.is_free, declared.asker.Asker.Asker, declared.late.Late.Late, declared.ledger.Ledger.Ledger}
 use Rattle.agent_words.specs.declared.demands.Demands.{Demands}
 use Rattle.vault_asking.specs.Sending.{Lanes}
 use Rattle.agent_behind.specs.declared.behind.Behind.{Behind}
-use Rattle.base_clock.specs.Seen.{CallIsMade, ClockSeen, read_call}
 use Rattle.base_clock.specs.declared.reading.Reading.{Reading}
+use Rattle.base_clock.specs.Seen.{CallIsMade, ClockSeen, read_call}
 use Rattle.base_disk.specs.State.{DiskState}
 use Rattle.base_files.specs.Files.{Files}
 use Rattle.agent_house.specs.declared.house.House.{House}
 use Rattle.vault_exchange.specs.Sockets.{port_of}
 use Rattle.vault_lanes.specs.Out.{Out}
 use Rattle.state_secrets.specs.Stamps.{FileCall}
-use Rattle.agent_turns.specs.Neighbours.{NeighbourCall}
-use Rattle.agent_turns.specs.declared.change.AgentChange.{AgentChange}
-use Rattle.agent_turns.specs.declared.day.EarlyDay.{EarlyDay}
+use Rattle.agent_turns.specs.{Neighbours.NeighbourCall, declared.change.AgentChange.AgentChange, declared.day.EarlyDay.EarlyDay}
 use Rattle.plan_spread.specs.Parts.{part_by}
-use Rattle.program_commands.specs.declared.job.EndsRoom.{EndsRoom}
+use Rattle.program_commands.specs.{declared.job.EndsRoom.EndsRoom, declared.job.ServeWords.ServeWords}
 use Rattle.program_commands.specs.declared.job.EndsRoom.TheVariants as rooms
-use Rattle.program_commands.specs.declared.job.ServeWords.{ServeWords}
-use Rattle.agent_start.specs.Alone.{IsServedAlone}
-use Rattle.agent_system.specs.Numbers.{IsNumber}
-use Rattle.agent_system.specs.Whole.{folder_of}
-use Rattle.agent_start.specs.Starts.{IsStart}
-use Rattle.agent_start.specs.declared.start.Start.{Start}
-use Rattle.agent_run.specs.Begun.{IsBegun}
-use Rattle.agent_run.specs.Doors.{DoorCall}
-use Rattle.agent_run.specs.Running.{RunsFrom}
-use Rattle.agent_run.specs.declared.begun.Begun.{Begun}
-use Rattle.agent_run.specs.declared.begun.Parts.{Parts}
+use Rattle.agent_start.specs.{Alone.IsServedAlone, Starts.IsStart, declared.start.Start.Start}
+use Rattle.agent_system.specs.{Numbers.IsNumber, Whole.folder_of}
+use Rattle.agent_run.specs.{Begun.IsBegun, Doors.DoorCall, Running.RunsFrom, declared.begun.Begun.Begun, declared.begun.Parts.Parts}
 
 -- the time-out of a request, in seconds, and how many may be out at once, by the words of the command line
 abbrev pub timeout_of : ℕ → ℕ

@@ -1,13 +1,7 @@
 -- Believing: what was told of an entry is what the Watch believes of it. For the turns of an agent.
 use Rattle.std.proofs.Common.{ℕ, ◌<◌, Bool, Option, refl, sym, subst, arith}
-use Rattle.watch_machine.specs.declared.clocks.Clocks.{Clocks}
-use Rattle.watch_machine.specs.declared.track.End.{End}
-use Rattle.watch_machine.specs.declared.track.End.TheVariants.{Unknown, At, Never}
-use Rattle.watch_machine.specs.declared.track.Track.{Track}
-use Rattle.watch_machine.specs.State.{WatchState, track_at}
-use Rattle.agent_standing.specs.declared.standing.Told.{Told}
-use Rattle.agent_standing.specs.Agent.{Believes}
-use Rattle.agent_standing.specs.Standings.{told_end, told_of}
+use Rattle.watch_machine.specs.{declared.clocks.Clocks.Clocks, declared.track.End.End, declared.track.End.TheVariants.At, declared.track.Track.Track, State.WatchState, State.track_at}
+use Rattle.agent_standing.specs.{declared.standing.Told.Told, Agent.Believes, Standings.told_end, Standings.told_of}
 use Rattle.agent_standing.proofs.Left.{Word}
 
 -- an end that was told just now

@@ -2,21 +2,13 @@
 -- ends.
 use Rattle.std.proofs.Common.{◌≡◌, ◌∙◌, ℕ, ◌≤◌, Bool, true, false, not, cond, ◌&&◌, ◌==◌, List, [], ◌∷◌, Option, Some, None, bytes_eq, codes, decimal, refl, sym, ap, arith, inl, inr}
 use Rattle.std.proofs.lemmas.Bool.{and_from, and_parts, cases_Bool, cond-false, cond-true, ne_eqb, not_from_false}
-use Rattle.std.specs.Cmp.Lexicographic.{bytes_decides}
-use Rattle.std.specs.Int.{is_in_range}
-use Rattle.std.specs.List.{join_with_byte, list_all}
-use Rattle.std.specs.Option.{option_map}
-use Rattle.base_words.specs.Laws.{AllLack, Lacks}
-use Rattle.base_words.specs.Numbers.{number_up_to}
-use Rattle.base_words.specs.Pieces.{four, pieces}
-use Rattle.base_words.proofs.Joined.{cut_back, decimal_lacks, joined_back, lacks_append}
+use Rattle.std.specs.{Cmp.Lexicographic.bytes_decides, Int.is_in_range, List.join_with_byte, List.list_all, Option.option_map}
+use Rattle.base_words.specs.{Laws.AllLack, Laws.Lacks, Numbers.number_up_to, Pieces.four, Pieces.pieces, Texts.yes_or_no}
 use Rattle.base_words.proofs.Numbers.{number_back, number_spelled}
+use Rattle.base_words.proofs.Joined.{cut_back, decimal_lacks, joined_back, lacks_append}
 use Rattle.vault_inventory.specs.Values.{is_credential}
-use Rattle.plan_forest.specs.declared.forest.TheConstants.{END_MAX}
-use Rattle.plan_forest.specs.Push.{is_name, is_name_byte}
-use Rattle.base_words.specs.Texts.{yes_or_no}
-use Rattle.agent_standing.specs.declared.ends.KnownEnd.{KnownEnd}
-use Rattle.agent_standing.specs.declared.standing.Told.{Told}
+use Rattle.plan_forest.specs.{declared.forest.TheConstants.END_MAX, Push.is_name, Push.is_name_byte}
+use Rattle.agent_standing.specs.{declared.ends.KnownEnd.KnownEnd, declared.standing.Told.Told}
 use Rattle.agent_standing.specs.Ends.{BootLaw, EndLineLaw, EndReadIsWritten, EndWrittenIsRead, IsKnownEnd, end_of_text, end_text, end_words, five, in_boot, known_end_by, renewable_of, told_by_words, told_of_words}
 
 -- one word more in front

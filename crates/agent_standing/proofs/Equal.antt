@@ -1,21 +1,14 @@
 -- Equal: what `==` says of entries and terms; and inventories that are the same at each index are the same. For `is_same` and its parts.
 use Rattle.std.proofs.Common.{◌≡◌, ◌∙◌, ◌==◌, ◌↔◌, ℕ, ◌<◌, Bool, true, false, [], Option, Some, None, ap, length, refl, subst, sym, true≢false}
-use Rattle.std.proofs.lemmas.Bool.{and_parts, eqb-true}
-use Rattle.std.proofs.lemmas.List.{ext_get_or}
-use Rattle.std.specs.Bool.{beq}
-use Rattle.std.specs.Cmp.Lexicographic.{bytes_decides}
-use Rattle.std.specs.Option.{option_eq}
+use Rattle.std.proofs.lemmas.{Bool.and_parts, Bool.eqb-true, List.ext_get_or}
+use Rattle.std.specs.{Bool.beq, Cmp.Lexicographic.bytes_decides, Option.option_eq}
+use Rattle.vault_inventory.specs.{contracts.terms.TermsEq.TheImpl.Laws.laws-law as terms_law, declared.terms.Terms.Terms}
 use Rattle.vault_inventory.specs.Inventories.{Inventory, IsInventory, credential_at, empty_terms, terms_at}
-use Rattle.vault_inventory.specs.contracts.terms.TermsEq.TheImpl.Laws.{laws-law as terms_law}
 use Rattle.vault_inventory.specs.contracts.terms.TermsPartialEq.TheImpl as terms_eq
-use Rattle.vault_inventory.specs.declared.terms.Terms.{Terms}
-use Rattle.plan_forest.specs.Forest.{entry_at, no_entry}
-use Rattle.plan_forest.specs.contracts.entry.EntryEq.TheImpl.Laws.{laws-law as entry_law}
+use Rattle.plan_forest.specs.{Forest.entry_at, Forest.no_entry, contracts.entry.EntryEq.TheImpl.Laws.laws-law as entry_law, declared.entry.Entry.Entry, declared.entry.Kind.Kind}
+use Rattle.plan_forest.specs.declared.entry.Kind.TheVariants.{Token, Lease}
 use Rattle.plan_forest.specs.contracts.entry.EntryPartialEq.TheImpl as entry_eq
 use Rattle.plan_forest.specs.contracts.entry.KindPartialEq.TheImpl as kind_eq
-use Rattle.plan_forest.specs.declared.entry.Entry.{Entry}
-use Rattle.plan_forest.specs.declared.entry.Kind.{Kind}
-use Rattle.plan_forest.specs.declared.entry.Kind.TheVariants.{Token, Lease}
 use Rattle.agent_standing.specs.code.Same.{IsAsLarge, IsSameAt}
 
 -- ---- what `==` says

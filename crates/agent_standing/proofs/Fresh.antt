@@ -1,16 +1,13 @@
 -- Fresh: an agent that serves from now on is one. For `new`.
 use Rattle.std.proofs.Common.{◌≡◌, ℕ, zero, suc, None, All, length, map, replicate, refl, sym, ap, subst, arith, inl, inr}
-use Rattle.std.proofs.lemmas.Bool.{cases_lt}
+use Rattle.std.proofs.lemmas.{Bool.cases_lt, List.Elements.All-cons, List.Elements.All-nil}
 use Rattle.std.proofs.lemmas.List.{get_or-map, get_or_past, length-map, length-replicate}
-use Rattle.std.proofs.lemmas.List.Elements.{All-cons, All-nil}
 use Rattle.vault_inventory.specs.Inventories.{Inventory}
 use Rattle.plan_forest.specs.Forest.{Forest, no_entry}
-use Rattle.watch_machine.specs.declared.track.End.TheVariants.{Unknown}
-use Rattle.watch_machine.specs.declared.track.Track.{Track}
+use Rattle.watch_machine.specs.{declared.track.End.TheVariants.Unknown, declared.track.Track.Track}
 use Rattle.watch_machine.specs.State.{fresh_track, no_track, opened, track_at}
-use Rattle.agent_standing.specs.declared.standing.EntryStanding.{EntryStanding}
+use Rattle.agent_standing.specs.{declared.standing.EntryStanding.EntryStanding, Standings.fresh_standing, Standings.standing_in}
 use Rattle.agent_standing.specs.Agent.{Believes, IsAgent, IsStanding, fresh}
-use Rattle.agent_standing.specs.Standings.{fresh_standing, standing_in}
 
 -- nobody has told an end of a Watch that is new
 pub opened_unknown : (g : Forest) (width i : ℕ) → (track_at (opened g width) i).end ≡ Unknown

@@ -1,27 +1,18 @@
 -- Onward: an agent that serves another inventory is one. For `change`.
 use Rattle.std.proofs.Common.{◌≡◌, ◌∙◌, ℕ, List, Option, Some, None, All, ap, arith, inl, inr, length, map, refl, subst, sym}
-use Rattle.std.proofs.lemmas.Bool.{cases_lt}
-use Rattle.std.proofs.lemmas.List.{get_or_past}
-use Rattle.std.proofs.lemmas.List.FromFn.{get_or-map-range_with_len, length-map-range_with_len}
+use Rattle.std.proofs.lemmas.{Bool.cases_lt, List.get_or_past, List.FromFn.get_or-map-range_with_len, List.FromFn.length-map-range_with_len}
 use Rattle.std.specs.List.{range_with_len}
 use Rattle.vault_inventory.specs.Inventories.{Inventory}
-use Rattle.plan_forest.specs.declared.entry.Entry.{Entry}
-use Rattle.plan_forest.specs.Forest.{entry_at}
-use Rattle.watch_machine.specs.declared.change.Was.{Was}
+use Rattle.plan_forest.specs.{declared.entry.Entry.Entry, Forest.entry_at}
+use Rattle.watch_machine.specs.{declared.change.Was.Was, declared.track.Track.Track, Beginning.owing_lookup, Beginning.untopped_track}
 use Rattle.watch_machine.specs.declared.change.Was.TheVariants.{New, Same, Retold}
-use Rattle.watch_machine.specs.declared.track.Track.{Track}
-use Rattle.watch_machine.specs.Beginning.{owing_lookup, untopped_track}
 use Rattle.watch_machine.specs.Change.{changed, entry_by, forest_after, track_by, tracks_after, was_at}
 use Rattle.watch_machine.specs.State.{fresh_track, no_track, track_at}
 use Rattle.watch_machine.proofs.Cases.{if_both}
-use Rattle.agent_standing.specs.declared.standing.EntryStanding.{EntryStanding}
-use Rattle.agent_standing.specs.declared.standing.Told.{Told}
+use Rattle.agent_standing.specs.{declared.standing.EntryStanding.EntryStanding, declared.standing.Told.Told, Standings.fresh_standing, Standings.standing_in}
 use Rattle.agent_standing.specs.Agent.{Agent, Believes, IsAgent, IsStanding, standing_at}
 use Rattle.agent_standing.specs.Changed.{all_was, carried_standing, former, is_said_again, standing_of, was_by, was_of}
-use Rattle.agent_standing.specs.Standings.{fresh_standing, standing_in}
-use Rattle.agent_standing.proofs.Believing.{still_believed}
-use Rattle.agent_standing.proofs.Fresh.{unknown_believed}
-use Rattle.agent_standing.proofs.Left.{lookup_word}
+use Rattle.agent_standing.proofs.{Believing.still_believed, Fresh.unknown_believed, Left.lookup_word}
 
 abbrev Believed : Track → Option Told → Type 0
 Believed x told = Believes x.end x.renewable told

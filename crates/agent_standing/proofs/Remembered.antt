@@ -1,21 +1,13 @@
 -- Remembered: where another inventory is served, nothing is forgotten of the entries that were served before. For `nothing_is_forgotten`.
 use Rattle.std.proofs.Common.{◌≡◌, ◌∙◌, ℕ, ◌<◌, Option, Some, None, length, refl, ap, arith}
-use Rattle.std.proofs.lemmas.Bool.{cond-true}
-use Rattle.std.proofs.lemmas.List.FromFn.{get_or-map-range_with_len}
+use Rattle.std.proofs.lemmas.{Bool.cond-true, List.FromFn.get_or-map-range_with_len}
 use Rattle.vault_inventory.specs.Inventories.{Inventory}
 use Rattle.plan_forest.specs.Forest.{entry_at}
-use Rattle.watch_machine.specs.declared.change.Was.{Was}
+use Rattle.watch_machine.specs.{declared.change.Was.Was, declared.track.Track.Track, Beginning.untopped_track, Change.track_by, State.WatchState, State.track_at}
 use Rattle.watch_machine.specs.declared.change.Was.TheVariants.{New, Same, Retold}
-use Rattle.watch_machine.specs.declared.track.Track.{Track}
-use Rattle.watch_machine.specs.Beginning.{untopped_track}
-use Rattle.watch_machine.specs.Change.{track_by}
-use Rattle.watch_machine.specs.State.{WatchState, track_at}
-use Rattle.watch_machine.proofs.Cases.{if_both}
-use Rattle.watch_machine.proofs.Moved.{changed_track}
-use Rattle.agent_standing.specs.Agent.{Agent, standing_at}
+use Rattle.watch_machine.proofs.{Cases.if_both, Moved.changed_track}
+use Rattle.agent_standing.specs.{Agent.Agent, Agent.standing_at, Laws.FreshLaw, Laws.RememberedLaw, Standings.fresh_standing, Standings.standing_in}
 use Rattle.agent_standing.specs.Changed.{AgentIsChanged, all_was, carried_standing, former, is_said_again, standing_of, was_by, was_of}
-use Rattle.agent_standing.specs.Laws.{FreshLaw, RememberedLaw}
-use Rattle.agent_standing.specs.Standings.{fresh_standing, standing_in}
 use Rattle.agent_standing.proofs.Left.{Word, lookup_word, word}
 
 module _ (old new : Agent) (s : Inventory) (h : AgentIsChanged old s new) (j : ℕ) (within : j < length s.forest.entries) where

@@ -1,19 +1,15 @@
 -- Saying: standings that are made anew one after another, and what is told in a list of news. For `say_all`, `shorts_of` and `say_shorts`.
 use Rattle.std.proofs.Common.{◌≡◌, ◌∙◌, ℕ, zero, suc, ◌+◌, ◌<◌, ◌≤◌, Bool, List, [], ◌∷◌, ◌++◌, Option, Some, None, All, flat_map, length, map, set, take, refl, sym, ap, subst, arith, inl, inr}
-use Rattle.std.proofs.lemmas.Bool.{cases_lt}
-use Rattle.std.proofs.lemmas.Grind.{flat_map-append}
+use Rattle.std.proofs.lemmas.{Bool.cases_lt, Grind.flat_map-append}
 use Rattle.std.proofs.lemmas.List.{append-nil, get_or_past, get_or-set_other, length-set, take_all, take_more_set}
 use Rattle.std.proofs.lemmas.List.FromFn.{fill_by_all, get_or-map-range_with_len, length-map-range_with_len, map-range_with_len_more}
 use Rattle.std.specs.List.{range_with_len}
 use Rattle.plan_forest.proofs.Ranges.{range_more}
-use Rattle.vault_inventory.specs.Inventories.{terms_at}
-use Rattle.vault_inventory.specs.declared.terms.Terms.{Terms}
+use Rattle.vault_inventory.specs.{Inventories.terms_at, declared.terms.Terms.Terms}
 use Rattle.watch_machine.specs.State.{WatchState, track_at}
-use Rattle.agent_standing.specs.declared.shorts.Short.{Short}
-use Rattle.agent_standing.specs.declared.standing.EntryStanding.{EntryStanding}
+use Rattle.agent_standing.specs.{declared.shorts.Short.Short, declared.standing.EntryStanding.EntryStanding, Standings.fresh_standing, Standings.standing_in}
 use Rattle.agent_standing.specs.Agent.{Agent, Believes, IsAgent, IsStanding}
 use Rattle.agent_standing.specs.Shorts.{all_said, news_of_entry, said_short, said_standing, said_standings, short_at, shorts_in}
-use Rattle.agent_standing.specs.Standings.{fresh_standing, standing_in}
 
 -- those before k are made by f, the others are as they were
 pub record Said (f : ℕ → EntryStanding → EntryStanding) (old now : List EntryStanding) (k : ℕ) : Type 0 where

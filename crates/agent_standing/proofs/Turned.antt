@@ -1,22 +1,18 @@
 -- Turned: after a turn, an agent is one. For `turn`.
-use Rattle.std.proofs.Common.{◌≡◌, ◌∙◌, ℕ, zero, suc, ◌<◌, ◌≤◌, Bool, List, [], ◌∷◌, Some, Ok, All, length, refl, sym, ap, subst, arith, inl, inr}
+use Rattle.std.proofs.Common.{◌≡◌, ◌∙◌, ℕ, zero, suc, ◌<◌, ◌≤◌, List, [], ◌∷◌, Ok, All, length, refl, sym, ap, subst, arith, inl, inr}
 use Rattle.std.proofs.lemmas.Bool.{cases_eq, cases_lt}
 use Rattle.std.proofs.lemmas.List.{get_or_past, get_or-set_other, get_or-set_same, length-set, set_past}
 use Rattle.std.specs.Prelude.{slice_set}
 use Rattle.vault_inventory.specs.Inventories.{Inventory, inventory_with_need}
-use Rattle.watch_machine.specs.declared.command.WatchOutput.{WatchOutput}
-use Rattle.watch_machine.specs.declared.event.WatchEvent.{WatchEvent}
+use Rattle.watch_machine.specs.{declared.command.WatchOutput.WatchOutput, declared.event.WatchEvent.WatchEvent, declared.track.Track.Track, History.Turn}
 use Rattle.watch_machine.specs.declared.event.WatchEvent.TheVariants.{Clock, Looked, Renewed, Need, Begin, Known}
 use Rattle.watch_machine.specs.declared.event.WatchReply.TheVariants.{Told, Refused, Busy, Lost}
-use Rattle.watch_machine.specs.declared.track.Track.{Track}
-use Rattle.watch_machine.specs.History.{Turn}
 use Rattle.watch_machine.specs.State.{WatchState, no_track, track_at}
-use Rattle.agent_standing.specs.declared.standing.EntryStanding.{EntryStanding}
+use Rattle.agent_standing.specs.{declared.standing.EntryStanding.EntryStanding, Turns.EventIsTaken, Turns.inventory_after}
 use Rattle.agent_standing.specs.Agent.{Agent, Believes, IsAgent, IsStanding}
 use Rattle.agent_standing.specs.Standings.{fresh_standing, standing_in, standings_after, told_of}
-use Rattle.agent_standing.specs.Turns.{EventIsTaken, inventory_after}
-use Rattle.agent_standing.proofs.Left.{IsLeft, TellsOf, left_turn}
 use Rattle.agent_standing.proofs.Believing.{still_believed, told_believed}
+use Rattle.agent_standing.proofs.Left.{IsLeft, TellsOf, left_turn}
 
 -- ---- what was told of an entry of which an event tells nothing
 

@@ -1,9 +1,7 @@
 -- Within: an event that the Watch takes is of one of its entries, but for an answer, whose entry may be no more. For the turns of an agent.
 use Rattle.std.proofs.Common.{◌≡◌, None, length}
-use Rattle.watch_machine.specs.declared.event.WatchEvent.{WatchEvent}
-use Rattle.watch_machine.specs.declared.event.WatchEvent.TheVariants.{Clock, Looked, Renewed, Need, Begin, Known}
-use Rattle.watch_machine.specs.Refusal.{refusal}
-use Rattle.watch_machine.specs.State.{WatchState}
+use Rattle.watch_machine.specs.{declared.event.WatchEvent.WatchEvent, Refusal.refusal, State.WatchState}
+use Rattle.watch_machine.specs.declared.event.WatchEvent.TheVariants.{Need, Known}
 use Rattle.agent_standing.specs.code.Within.{IsEventWithin}
 use Rattle.agent_standing.proofs.Left.{by_index}
 

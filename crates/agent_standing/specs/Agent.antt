@@ -7,9 +7,7 @@ use Rattle.plan_forest.specs.declared.forest.TheConstants.{END_MAX}
 use Rattle.watch_machine.specs.declared.track.End.{End}
 use Rattle.watch_machine.specs.declared.track.End.TheVariants.{Unknown, At, Never}
 use Rattle.watch_machine.specs.State.{WatchState, opened, track_at}
-use Rattle.agent_standing.specs.declared.standing.EntryStanding.{EntryStanding}
-use Rattle.agent_standing.specs.declared.standing.Told.{Told}
-use Rattle.agent_standing.specs.Standings.{fresh_standing, standing_in}
+use Rattle.agent_standing.specs.{declared.standing.EntryStanding.EntryStanding, declared.standing.Told.Told, Standings.fresh_standing, Standings.standing_in}
 
 -- the Watch over what is served; what is served, with its credentials and its needs as they were given last; what is said of each
 -- entry; and how often everything was looked up anew

@@ -3,18 +3,13 @@
 -- Source: this project's own.
 use Rattle.std.specs.Prelude.{◌≡◌, ℕ, Bool, true, false, not, ◌&&◌, ◌==◌, if◌then◌else◌, List, [], Option, Some, None, bytes_eq, length, map}
 use Rattle.std.specs.List.{range_with_len}
-use Rattle.vault_inventory.specs.Inventories.{Inventory, credential_at, terms_at}
 use Rattle.vault_inventory.specs.declared.terms.Terms.{Terms}
-use Rattle.plan_forest.specs.declared.entry.Entry.{Entry}
-use Rattle.plan_forest.specs.declared.entry.Kind.{Kind}
+use Rattle.vault_inventory.specs.Inventories.{Inventory, credential_at, terms_at}
+use Rattle.plan_forest.specs.{declared.entry.Entry.Entry, declared.entry.Kind.Kind, Forest.entry_at, Forest.index_named}
 use Rattle.plan_forest.specs.declared.entry.Kind.TheVariants.{Token, Lease}
-use Rattle.plan_forest.specs.Forest.{entry_at, index_named}
-use Rattle.watch_machine.specs.declared.change.Was.{Was}
+use Rattle.watch_machine.specs.{declared.change.Was.Was, History.IsChanged}
 use Rattle.watch_machine.specs.declared.change.Was.TheVariants.{New, Same, Retold}
-use Rattle.watch_machine.specs.History.{IsChanged}
-use Rattle.agent_standing.specs.declared.standing.EntryStanding.{EntryStanding}
-use Rattle.agent_standing.specs.Agent.{Agent, standing_at}
-use Rattle.agent_standing.specs.Standings.{fresh_standing}
+use Rattle.agent_standing.specs.{declared.standing.EntryStanding.EntryStanding, Agent.Agent, Agent.standing_at, Standings.fresh_standing}
 
 -- ---- where an entry was served before, and what is said of it
 

@@ -3,14 +3,9 @@
 use Rattle.std.specs.Prelude.{◌≡◌, ℕ, ◌≤◌, Bool, true, false, ◌&&◌, if◌then◌else◌, List, [], ◌∷◌, Option, Some, None, bytes_eq, codes, decimal}
 use Rattle.std.specs.List.{join_with_byte}
 use Rattle.vault_inventory.specs.Values.{is_credential}
-use Rattle.plan_forest.specs.declared.forest.TheConstants.{END_MAX}
-use Rattle.plan_forest.specs.Push.{is_name}
-use Rattle.base_words.specs.Laws.{Lacks}
-use Rattle.base_words.specs.Numbers.{number_up_to}
-use Rattle.base_words.specs.Pieces.{words}
-use Rattle.base_words.specs.Texts.{yes_or_no}
-use Rattle.agent_standing.specs.declared.ends.KnownEnd.{KnownEnd}
-use Rattle.agent_standing.specs.declared.standing.Told.{Told}
+use Rattle.plan_forest.specs.{declared.forest.TheConstants.END_MAX, Push.is_name}
+use Rattle.base_words.specs.{Laws.Lacks, Numbers.number_up_to, Pieces.words, Texts.yes_or_no}
+use Rattle.agent_standing.specs.{declared.ends.KnownEnd.KnownEnd, declared.standing.Told.Told}
 
 -- ---- as it is written
 

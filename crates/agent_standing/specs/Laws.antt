@@ -3,11 +3,9 @@
 use Rattle.std.specs.Prelude.{◌≡◌, ℕ, ◌<◌, true, None, Some, length}
 use Rattle.vault_inventory.specs.Inventories.{Inventory}
 use Rattle.plan_forest.specs.Forest.{entry_at}
-use Rattle.watch_machine.specs.Beginning.{owing_lookup}
-use Rattle.watch_machine.specs.State.{fresh_track, track_at}
-use Rattle.agent_standing.specs.Agent.{Agent, standing_at}
+use Rattle.watch_machine.specs.{Beginning.owing_lookup, State.fresh_track, State.track_at}
+use Rattle.agent_standing.specs.{Agent.Agent, Agent.standing_at, Standings.fresh_standing}
 use Rattle.agent_standing.specs.Changed.{AgentIsChanged, former, is_said_again}
-use Rattle.agent_standing.specs.Standings.{fresh_standing}
 
 -- where another inventory is served, what was said of an entry that was served before with the same credential is said of it, and the
 -- Watch believes the end and the word on renewal that it believed. Where the inventory says of it what it said, but for its need, all that

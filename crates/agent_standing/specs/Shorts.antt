@@ -3,16 +3,10 @@
 use Rattle.std.specs.Prelude.{ℕ, ◌+◌, ◌/◌, Bool, not, ◌&&◌, ◌||◌, if◌then◌else◌, List, [], ◌∷◌, Option, Some, None, length, map, min, nat_le}
 use Rattle.std.specs.List.{flat_map, range_with_len}
 use Rattle.base_moment.specs.declared.moment.TheConstants.{LAST}
-use Rattle.vault_inventory.specs.Inventories.{terms_at}
-use Rattle.vault_inventory.specs.declared.terms.Terms.{Terms}
-use Rattle.watch_machine.specs.Outlook.{broker_now}
-use Rattle.watch_machine.specs.Shortness.{is_news, short_of}
+use Rattle.vault_inventory.specs.{Inventories.terms_at, declared.terms.Terms.Terms}
+use Rattle.watch_machine.specs.{Outlook.broker_now, Shortness.is_news, Shortness.short_of}
 use Rattle.watch_machine.specs.State.{WatchState, entry_of, track_at}
-use Rattle.agent_standing.specs.declared.shorts.Short.{Short}
-use Rattle.agent_standing.specs.declared.standing.EntryStanding.{EntryStanding}
-use Rattle.agent_standing.specs.Agent.{Agent}
-use Rattle.agent_standing.specs.Standings.{standing_in}
-use Rattle.agent_standing.specs.Status.{has_ended, is_gone}
+use Rattle.agent_standing.specs.{declared.shorts.Short.Short, declared.standing.EntryStanding.EntryStanding, Agent.Agent, Standings.standing_in, Status.has_ended, Status.is_gone}
 
 -- how long before its reach an entry has to be issued again: the margin, and no more than a twentieth of its step
 unfoldable pub notice_of : ℕ → ℕ → ℕ

@@ -2,17 +2,11 @@
 -- Source: this project's own, over Vault, HTTP API: `auth/token`, "Lookup a token (self)", "Renew a token (self)"; `sys/leases`, "Read
 -- lease", "Renew lease".
 use Rattle.std.specs.Prelude.{ℕ, ◌+◌, ◌-◌, ◌*◌, ◌/◌, Bool, List, Option, Some, None, min, slice_index_or, slice_set}
-use Rattle.watch_machine.specs.declared.clocks.Clocks.{Clocks}
-use Rattle.watch_machine.specs.declared.event.WatchEvent.{WatchEvent}
+use Rattle.watch_machine.specs.{declared.clocks.Clocks.Clocks, declared.event.WatchEvent.WatchEvent, declared.event.WatchReply.WatchReply, declared.track.End.End, State.WatchState, State.track_at}
 use Rattle.watch_machine.specs.declared.event.WatchEvent.TheVariants.{Clock, Looked, Renewed, Need, Begin, Known}
-use Rattle.watch_machine.specs.declared.event.WatchReply.{WatchReply}
-use Rattle.watch_machine.specs.declared.event.WatchReply.TheVariants as replies
-use Rattle.watch_machine.specs.declared.track.End.{End}
 use Rattle.watch_machine.specs.declared.track.End.TheVariants.{Unknown, At, Never}
-use Rattle.watch_machine.specs.State.{WatchState, track_at}
-use Rattle.agent_standing.specs.declared.standing.EntryStanding.{EntryStanding}
-use Rattle.agent_standing.specs.declared.standing.Told.{Told}
-use Rattle.agent_standing.specs.declared.standing.Trouble.{Trouble}
+use Rattle.watch_machine.specs.declared.event.WatchReply.TheVariants as replies
+use Rattle.agent_standing.specs.{declared.standing.EntryStanding.EntryStanding, declared.standing.Told.Told, declared.standing.Trouble.Trouble}
 use Rattle.agent_standing.specs.declared.standing.Trouble.TheVariants.{Lost, Refused, Gone}
 
 -- nothing was told of an entry yet

@@ -1,16 +1,12 @@
 -- Status: how an entry stands, for `status`, `health` and the metrics.
 -- Source: this project's own.
 use Rattle.std.specs.Prelude.{ℕ, ◌+◌, Bool, true, false, ◌&&◌, ◌||◌, if◌then◌else◌, Option, Some, None, is_some, nat_le, nat_lt}
-use Rattle.watch_machine.specs.declared.track.End.{End}
+use Rattle.watch_machine.specs.{declared.track.End.End, Outlook.broker_moment, Wanted.is_unknown}
 use Rattle.watch_machine.specs.declared.track.End.TheVariants.{Unknown, At, Never}
-use Rattle.watch_machine.specs.Outlook.{broker_moment}
 use Rattle.watch_machine.specs.State.{WatchState, entry_of, second, track_at}
-use Rattle.watch_machine.specs.Wanted.{is_unknown}
-use Rattle.agent_standing.specs.declared.standing.Trouble.{Trouble}
-use Rattle.agent_standing.specs.declared.standing.Trouble.TheVariants as troubles
+use Rattle.agent_standing.specs.{declared.standing.Trouble.Trouble, declared.status.Status.Status, Agent.Agent, Agent.standing_at}
 use Rattle.agent_standing.specs.declared.status.Condition.TheVariants.{Gone, Ended, Short, Trying, Kept}
-use Rattle.agent_standing.specs.declared.status.Status.{Status}
-use Rattle.agent_standing.specs.Agent.{Agent, standing_at}
+use Rattle.agent_standing.specs.declared.standing.Trouble.TheVariants as troubles
 
 -- the moment of an end by the broker's clock, where it is known
 abbrev pub end_there : WatchState → End → Option ℕ

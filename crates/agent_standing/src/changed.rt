@@ -35,7 +35,11 @@ impl Agent {
     }
 
     /// What is said of each entry of another inventory from then on. The only error is out of memory.
-    fn carried(&self, alloc: Global, inventory: &Inventory) -> Result<Vec<EntryStanding>, AllocError>
+    fn carried(
+        &self,
+        alloc: Global,
+        inventory: &Inventory,
+    ) -> Result<Vec<EntryStanding>, AllocError>
         ensures value { IfOk result (λ standings. standings.items ≡ map (carried_standing self.now inventory.now) (range_with_len 0 (length inventory.now.forest.entries))) }
         ensures bounds { IfOk result (λ standings. All IsStanding standings.items) }
     {

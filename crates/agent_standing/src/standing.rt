@@ -4,7 +4,7 @@ ghost use Rattle.agent_standing.specs.Agent.{IsStanding};
 ghost use Rattle.agent_standing.specs.Standings.{fresh_standing, known_standing, looked_standing, more, renewed_standing, told_of, troubled};
 ghost use Rattle.plan_forest.specs.declared.forest.TheConstants.{END_MAX};
 
-use watch_machine::{End, Millis, WatchReply, Seconds, Watch};
+use watch_machine::{End, Millis, Seconds, Watch, WatchReply};
 
 /// What the broker told of an entry in this boot, of the credential that is served.
 #[derive(Clone, Copy, Debug, PartialEq, Eq)]

@@ -13,7 +13,7 @@ use crate::standing::{EntryStanding, more};
 use base_moment::{LAST, Moment};
 use std::alloc::Global;
 use vault_inventory::Inventory;
-use watch_machine::{WatchEvent, WatchOutput, Watch, WatchFault, BeginReason};
+use watch_machine::{BeginReason, Watch, WatchEvent, WatchFault, WatchOutput};
 
 impl Agent {
     /// Takes one event: the Watch takes it, and what is said of its entry follows. Readings of clocks are milliseconds, durations

@@ -2,26 +2,17 @@
 use Rattle.std.proofs.Common.{◌≡◌, ◌++◌, ℕ, List, [], Some, Result, Ok, Err, IfOk, inl, inr, map, subst}
 use Rattle.std.proofs.Math.Path.{fun_ext}
 use Rattle.std.specs.declared.alloc.AllocError.{AllocError}
-use Rattle.agent_words.specs.Gathering.{AreGathered}
-use Rattle.agent_words.specs.Reading.{IsWellWritten, IsWide}
-use Rattle.agent_words.specs.declared.demands.Demands.{Demands}
-use Rattle.state_changes.specs.declared.replaying.JournalNote.{JournalNote}
-use Rattle.state_changes.specs.declared.row.Row.{Row}
+use Rattle.agent_words.specs.{Gathering.AreGathered, Reading.IsWellWritten, Reading.IsWide, declared.demands.Demands.Demands, declared.said.About.TheVariants.SecretFile, declared.said.SaidLine.SaidLine}
+use Rattle.state_changes.specs.{declared.replaying.JournalNote.JournalNote, declared.row.Row.Row, declared.secret.Secret.Secret}
 use Rattle.base_files.specs.Files.{FileIsRead, Files}
-use Rattle.vault_inventory.specs.Inventories.{Inventory}
-use Rattle.vault_inventory.specs.declared.limits.TheConstants.{MOST_INVENTORY}
+use Rattle.vault_inventory.specs.{Inventories.Inventory, declared.limits.TheConstants.MOST_INVENTORY}
 use Rattle.base_log.specs.declared.level.Level.TheVariants.{Alert}
 use Rattle.program_report.specs.declared.exit.Exit.{Exit}
 use Rattle.vault_served.specs.ForGood.{inventory_for_good}
 use Rattle.state_store.specs.Books.{Book, HasSecrets, IsBookOf}
-use Rattle.state_changes.specs.declared.secret.Secret.{Secret}
-use Rattle.agent_start.specs.Alone.{IsFilledBook, IsServedHeld, IsServedUnkept, IsWrittenBook, ServesHeld}
-use Rattle.agent_system.specs.Saying.{said_as}
-use Rattle.agent_system.specs.Whole.{IsServedWhole, folder_of}
 use Rattle.agent_start.specs.Starts.{IsServedOf}
-use Rattle.agent_system.specs.declared.reading.Inventories.{Inventories}
-use Rattle.agent_words.specs.declared.said.About.TheVariants.{SecretFile}
-use Rattle.agent_words.specs.declared.said.SaidLine.{SaidLine}
+use Rattle.agent_start.specs.Alone.{IsFilledBook, IsServedHeld, IsServedUnkept, IsWrittenBook, ServesHeld}
+use Rattle.agent_system.specs.{Saying.said_as, Whole.IsServedWhole, Whole.folder_of, declared.reading.Inventories.Inventories}
 
 -- ---- of bytes of FILE
 

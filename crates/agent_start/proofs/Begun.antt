@@ -1,26 +1,20 @@
 -- Begun: a start with a ledger is a start, and so is one without. For `start_with`, `make_start` and their parts.
 use Rattle.std.proofs.Common.{◌≡◌, ◌∙◌, ℕ, Bool, true, false, List, [], ◌∷◌, ◌++◌, None, Option, Some, Vec, ap, inl, inr, map, refl, subst, sym}
 use Rattle.std.proofs.lemmas.List.Elements.{All-cons, All-nil}
-use Rattle.std.specs.List.{All}
+use Rattle.std.specs.{List.All, declared.alloc.Global.Global}
 use Rattle.std.specs.Prelude.{Err, IfErr, IfOk, IfSome, Ok, Result, is_some}
-use Rattle.std.specs.declared.alloc.Global.{Global}
 use Rattle.agent_ledger.specs.declared.ledger.Ledger.{Ledger}
-use Rattle.agent_words.specs.declared.demands.Demands.{Demands}
+use Rattle.agent_words.specs.{declared.demands.Demands.Demands, declared.said.About.TheVariants.SecretFile, declared.said.SaidLine.SaidLine}
 use Rattle.base_files.specs.Files.{Files}
 use Rattle.base_log.specs.declared.level.Level.TheVariants.{Alert}
 use Rattle.program_report.specs.declared.exit.Exit.{Exit}
 use Rattle.state_secrets.specs.Looking.{IsBegun}
 use Rattle.state_keeping.specs.Keepers.{waiting_in}
+use Rattle.agent_start.specs.{declared.folder.NotBegun.NotBegun, declared.start.Start.Start}
 use Rattle.agent_start.specs.Alone.{IsServedAlone, IsServedUnkept, ServesHeld}
-use Rattle.agent_system.specs.Saying.{said_as}
-use Rattle.agent_system.specs.Whole.{IsServedFile, folder_of}
 use Rattle.agent_start.specs.Starts.{Begins, IsFreshLedger, IsLedgerAtStart, IsReason, IsSaidAlone, IsServedBy, IsStart, IsStartAlone, IsWhyNotBegun, SaysUnheld, SaysUnused, StartsBy, is_unused}
-use Rattle.agent_start.specs.declared.folder.NotBegun.{NotBegun}
+use Rattle.agent_system.specs.{Saying.said_as, Whole.IsServedFile, Whole.folder_of, declared.reading.Inventories.Inventories}
 use Rattle.agent_start.specs.declared.folder.NotBegun.TheVariants as nots
-use Rattle.agent_system.specs.declared.reading.Inventories.{Inventories}
-use Rattle.agent_words.specs.declared.said.About.TheVariants.{SecretFile}
-use Rattle.agent_words.specs.declared.said.SaidLine.{SaidLine}
-use Rattle.agent_start.specs.declared.start.Start.{Start}
 
 is_reason : (has_folder : Bool) (why : NotBegun) → IsWhyNotBegun has_folder why → IsReason why
 is_reason false why h = subst IsReason (sym h) tt

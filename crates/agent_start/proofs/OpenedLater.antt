@@ -3,8 +3,7 @@ use Rattle.std.proofs.Common.{◌≡◌, ◌∙◌, ap, subst, sym}
 use Rattle.agent_ledger.specs.declared.ledger.Ledger.{Ledger}
 use Rattle.agent_words.specs.declared.demands.Demands.{Demands}
 use Rattle.state_secrets.specs.Looking.{IsBegun}
-use Rattle.agent_start.specs.Later.{IsLaterLedger}
-use Rattle.agent_start.specs.Starts.{IsFreshLedger}
+use Rattle.agent_start.specs.{Later.IsLaterLedger, Starts.IsFreshLedger}
 
 pub filled_later : {D I L : Type 0} → (d : Demands) (l k : Ledger D I L) → IsFreshLedger l → l.demands ≡ d → k ≡ record l { state = k.state; inputs = k.inputs } → IsLaterLedger d k
 filled_later d l k fresh demands filled = record {

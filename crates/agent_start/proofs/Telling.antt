@@ -3,25 +3,18 @@
 use Rattle.std.proofs.Common.{◌≡◌, ◌∙◌, ℕ, List, [], ◌∷◌, ◌++◌, Option, Some, Result, ap, map, subst}
 use Rattle.std.specs.Prelude.{IfOk, OnErr}
 use Rattle.std.specs.declared.alloc.AllocError.{AllocError}
-use Rattle.agent_ledger.specs.Ledgers.{IsFilledOn}
-use Rattle.agent_ledger.specs.Rereading.{said_notes}
-use Rattle.agent_ledger.specs.Untouched.{IsAsItWas}
-use Rattle.agent_ledger.specs.declared.ledger.Ledger.{Ledger}
+use Rattle.agent_ledger.specs.{Ledgers.IsFilledOn, Rereading.said_notes, Untouched.IsAsItWas, declared.ledger.Ledger.Ledger}
 use Rattle.agent_words.specs.declared.said.About.TheVariants as abouts
 use Rattle.agent_words.specs.declared.said.SaidLine.{SaidLine}
 use Rattle.base_files.specs.Files.{Files}
 use Rattle.base_log.specs.declared.level.Level.TheVariants as levels
 use Rattle.state_changes.specs.declared.replaying.JournalNote.{JournalNote}
-use Rattle.state_keeping.specs.Places.{Places}
+use Rattle.state_keeping.specs.{Places.Places, declared.opening.OpenedState.OpenedState}
 use Rattle.state_keeping.specs.States.{Kept, book_in, store_in}
-use Rattle.state_keeping.specs.declared.opening.OpenedState.{OpenedState}
-use Rattle.state_store.specs.Records.{records_in}
-use Rattle.state_store.specs.Stores.{lines_in}
-use Rattle.agent_start.specs.Later.{open_text}
-use Rattle.agent_system.specs.Saying.{said_as}
-use Rattle.agent_system.specs.Whole.{folder_of}
+use Rattle.state_store.specs.{Records.records_in, Stores.lines_in}
+use Rattle.agent_start.specs.{Later.open_text, declared.start.Start.Start}
 use Rattle.agent_start.specs.Telling.{SaysAtStart, SaysFilled, SaysLater, SaysStart, after_opened, files_line, said_of_files}
-use Rattle.agent_start.specs.declared.start.Start.{Start}
+use Rattle.agent_system.specs.{Saying.said_as, Whole.folder_of}
 
 -- the lines about the journal, and then that about files
 pub says_filled :

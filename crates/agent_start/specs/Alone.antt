@@ -1,22 +1,15 @@
 -- Alone: what is served without a ledger: what FILE says, as it was read, with what the files of credentials hold that it names.
 -- Source: this project's own; docs/commands/serve.md, "The inventory" and "Secrets by file".
 use Rattle.std.specs.Prelude.{◌≡◌, ◌⊎◌, ℕ, Bool, true, false, List, [], ◌∷◌, ◌++◌, Option, Some, None, Ok, map}
-use Rattle.agent_words.specs.Gathering.{AreGathered}
-use Rattle.agent_words.specs.Reading.{IsWellWritten}
-use Rattle.agent_words.specs.declared.demands.Demands.{Demands}
-use Rattle.state_changes.specs.declared.replaying.JournalNote.{JournalNote}
+use Rattle.agent_words.specs.{Gathering.AreGathered, Reading.IsWellWritten, declared.demands.Demands.Demands, declared.said.About.TheVariants.SecretFile, declared.said.SaidLine.SaidLine}
+use Rattle.state_changes.specs.{declared.replaying.JournalNote.JournalNote, declared.secret.Secret.Secret}
 use Rattle.base_files.specs.Files.{FileIsRead, Files}
 use Rattle.vault_inventory.specs.declared.limits.TheConstants.{MOST_INVENTORY}
 use Rattle.base_log.specs.declared.level.Level.TheVariants.{Alert}
 use Rattle.state_store.specs.Books.{Book, HasSecrets, IsBookOf}
-use Rattle.state_changes.specs.declared.secret.Secret.{Secret}
-use Rattle.agent_system.specs.Saying.{said_as}
+use Rattle.agent_system.specs.{Saying.said_as, declared.reading.Inventories.Inventories}
 use Rattle.agent_system.specs.Whole.{IsServedFile, IsServedWhole, folder_of}
-use Rattle.agent_start.specs.Starts.{IsServedOf}
-use Rattle.agent_system.specs.declared.reading.Inventories.{Inventories}
-use Rattle.agent_words.specs.declared.said.About.TheVariants.{SecretFile}
-use Rattle.agent_words.specs.declared.said.SaidLine.{SaidLine}
-use Rattle.agent_start.specs.declared.start.Start.{Start}
+use Rattle.agent_start.specs.{Starts.IsServedOf, declared.start.Start.Start}
 
 -- ---- of bytes of FILE, by the files of credentials and the folder at which their paths start
 

@@ -3,20 +3,16 @@
 use Rattle.std.specs.Prelude.{◌≡◌, ℕ, Bool, true, false, List, [], ◌∷◌, None, IfSome, Result, Ok, Err, is_some}
 use Rattle.std.specs.List.{All}
 use Rattle.agent_ledger.specs.declared.ledger.Ledger.{Ledger}
-use Rattle.agent_words.specs.Reading.{IsWide}
-use Rattle.agent_words.specs.declared.demands.Demands.{Demands}
+use Rattle.agent_words.specs.{Reading.IsWide, declared.demands.Demands.Demands, declared.said.SaidLine.SaidLine}
+use Rattle.agent_words.specs.declared.said.About.TheVariants.{Folder, SecretFile}
 use Rattle.vault_inventory.specs.Inventories.{Inventory}
 use Rattle.base_log.specs.declared.level.Level.TheVariants.{Alert}
 use Rattle.state_secrets.specs.Looking.{IsBegun}
 use Rattle.vault_served.specs.ForGood.{inventory_for_good}
-use Rattle.state_keeping.specs.States.{book_in}
-use Rattle.state_keeping.specs.Keepers.{waiting_in}
+use Rattle.state_keeping.specs.{States.book_in, Keepers.waiting_in}
 use Rattle.agent_system.specs.Saying.{IsSaidAs}
-use Rattle.agent_start.specs.declared.folder.NotBegun.{NotBegun}
+use Rattle.agent_start.specs.{declared.folder.NotBegun.NotBegun, declared.start.Start.Start}
 use Rattle.agent_start.specs.declared.folder.NotBegun.TheVariants as nots
-use Rattle.agent_words.specs.declared.said.About.TheVariants.{Folder, SecretFile}
-use Rattle.agent_words.specs.declared.said.SaidLine.{SaidLine}
-use Rattle.agent_start.specs.declared.start.Start.{Start}
 
 -- ---- a folder that cannot be used
 

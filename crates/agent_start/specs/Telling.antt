@@ -3,26 +3,18 @@
 -- Source: docs/running.md, "What the operator sees".
 use Rattle.std.specs.Prelude.{◌≡◌, ℕ, ◌==◌, Bool, true, false, if◌then◌else◌, List, [], ◌∷◌, ◌++◌, Option, Some, None, Result, Ok, Err, IfOk, OnErr, codes, decimal, is_none, map}
 use Rattle.std.specs.declared.alloc.AllocError.{AllocError}
-use Rattle.agent_ledger.specs.Ledgers.{IsFilledOn}
-use Rattle.agent_ledger.specs.Rereading.{said_notes}
-use Rattle.agent_ledger.specs.Untouched.{IsAsItWas}
-use Rattle.agent_ledger.specs.declared.ledger.Ledger.{Ledger}
-use Rattle.agent_words.specs.Reasons.{disk_words}
+use Rattle.agent_ledger.specs.{Ledgers.IsFilledOn, Rereading.said_notes, Untouched.IsAsItWas, declared.ledger.Ledger.Ledger}
+use Rattle.agent_words.specs.{Reasons.disk_words, declared.said.SaidLine.SaidLine}
 use Rattle.agent_words.specs.declared.said.About.TheVariants as abouts
-use Rattle.agent_words.specs.declared.said.SaidLine.{SaidLine}
 use Rattle.base_disk.specs.declared.fault.DiskFault.{DiskFault}
 use Rattle.base_files.specs.Files.{Files}
 use Rattle.base_log.specs.declared.level.Level.TheVariants as levels
 use Rattle.state_changes.specs.declared.replaying.JournalNote.{JournalNote}
-use Rattle.state_keeping.specs.Places.{Places}
+use Rattle.state_keeping.specs.{Places.Places, declared.opening.OpenedState.OpenedState}
 use Rattle.state_keeping.specs.States.{Kept, book_in, store_in}
-use Rattle.state_keeping.specs.declared.opening.OpenedState.{OpenedState}
-use Rattle.state_store.specs.Records.{records_in}
-use Rattle.state_store.specs.Stores.{lines_in}
-use Rattle.agent_start.specs.Later.{open_text}
-use Rattle.agent_system.specs.Saying.{said_as}
-use Rattle.agent_system.specs.Whole.{folder_of}
-use Rattle.agent_start.specs.declared.start.Start.{Start}
+use Rattle.state_store.specs.{Records.records_in, Stores.lines_in}
+use Rattle.agent_start.specs.{Later.open_text, declared.start.Start.Start}
+use Rattle.agent_system.specs.{Saying.said_as, Whole.folder_of}
 
 -- ---- what was opened
 

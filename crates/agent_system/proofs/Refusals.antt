@@ -1,12 +1,10 @@
 -- Refusals: a file that is not served refuses the start.
 use Rattle.std.proofs.Common.{subst, sym}
-use Rattle.base_device.specs.Seen.{Change}
-use Rattle.base_device.specs.declared.fault.InputFault.{InputFault}
+use Rattle.base_device.specs.{Seen.Change, declared.fault.InputFault.InputFault}
 use Rattle.base_device.specs.declared.fault.InputFault.TheVariants as inputs
 use Rattle.vault_inventory.specs.declared.fault.InvFault.{InvFault}
 use Rattle.vault_inventory.specs.declared.fault.InvFault.TheVariants as inventories
-use Rattle.program_report.specs.declared.exit.Exit.{Exit}
-use Rattle.program_report.specs.Exits.{stop_of_input, stop_of_inventory}
+use Rattle.program_report.specs.{declared.exit.Exit.Exit, Exits.stop_of_input, Exits.stop_of_inventory}
 use Rattle.agent_system.specs.Refusals.{IsToldOf, RefusesStart}
 
 pub refused_input : (fault : InputFault) (exit : Exit) (errors : Change) → IsToldOf (stop_of_input fault) exit errors → RefusesStart exit errors

@@ -4,9 +4,9 @@ use Rattle.std.proofs.Common.{◌≡◌, ◌≢◌, ◌∙◌, inl, inr, ⊎_eli
 use Rattle.std.proofs.lemmas.Bool.{cond-false, cond-true}
 use Rattle.std.proofs.lemmas.List.{drop-drop, drop_at, drop_more}
 use Rattle.std.specs.Str.{bytes_eq}
+use Rattle.base_disk.specs.Torn.{MovesFile}
 use Rattle.base_disk.specs.Image.{File, Image, with_file_at}
 use Rattle.base_disk.specs.State.{DiskKeeps, DiskState, Elapses, IsAfter, LeavesAlone, LeavesOnly}
-use Rattle.base_disk.specs.Torn.{MovesFile}
 use Rattle.base_disk.proofs.Moments.{and_then, goes_on, started, weaker}
 use Rattle.base_journal.specs.Journals.{FileIsThere, KeepsOthers, bytes_of_file}
 use Rattle.base_journal.specs.Records.{StandsFor, block, blocks}

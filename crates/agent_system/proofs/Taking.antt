@@ -1,24 +1,18 @@
 -- Taking: the ends that a start takes over, step by step, and how many guests it lets in. For `take_over`, its parts and `places_for`.
 use Rattle.std.proofs.Common.{◌≡◌, ◌∙◌, ℕ, Bool, true, false, IsTrue, List, [], Option, Some, None, Result, Ok, Err, String, Vec, ap, inl, inr, is_none, nat_lt, refl, string_bytes, subst, sym}
 use Rattle.std.specs.Prelude.{IfOk, MatchOption}
-use Rattle.std.specs.declared.alloc.AllocError.{AllocError}
-use Rattle.std.specs.declared.alloc.Global.{Global}
-use Rattle.agent_log.specs.LinesOfEnds.{HearsUnread}
-use Rattle.agent_log.specs.LogDesk.{Desk}
+use Rattle.std.specs.{declared.alloc.AllocError.AllocError, declared.alloc.Global.Global}
+use Rattle.agent_log.specs.{LinesOfEnds.HearsUnread, LogDesk.Desk}
 use Rattle.agent_standing.specs.declared.ends.KnownEnd.{KnownEnd}
 use Rattle.base_clock.specs.declared.reading.Reading.{Reading}
-use Rattle.base_disk.specs.Image.{File}
-use Rattle.base_disk.specs.State.{DiskState, LeavesAlone}
-use Rattle.base_disk.specs.declared.fault.DiskFault.{DiskFault}
-use Rattle.agent_ends.specs.Ends.{events_for}
-use Rattle.agent_ends.specs.declared.file.EndsFile.{EndsFile}
+use Rattle.base_disk.specs.{Image.File, State.DiskState, State.LeavesAlone, declared.fault.DiskFault.DiskFault}
+use Rattle.agent_ends.specs.{Ends.events_for, declared.file.EndsFile.EndsFile}
 use Rattle.vault_inventory.specs.Inventories.{Inventory}
 use Rattle.base_words.specs.Texts.{stripped}
 use Rattle.watch_machine.specs.declared.event.WatchEvent.{WatchEvent}
+use Rattle.agent_system.specs.{declared.descriptors.Places.Places, declared.ends.TakenOver.TakenOver}
 use Rattle.agent_system.specs.Descriptors.{ArePlaces, WarnsIf, few_text, needed, places_within}
 use Rattle.agent_system.specs.TakingOver.{AreEndsOn, AsksForLock, FindsBoot, HandsIn, IsBootId, IsFileTaken, IsNotOwn, IsNothing, IsOwn, SaysHeld, TakesFile, boot_path, fresh_file, lock_of_ends}
-use Rattle.agent_system.specs.declared.descriptors.Places.{Places}
-use Rattle.agent_system.specs.declared.ends.TakenOver.{TakenOver}
 use Rattle.agent_system.proofs.SetAside.{alone_twice}
 
 pub are_places :

@@ -1,17 +1,14 @@
 -- Whole: where paths start, and what is served of FILE, step by step. For `folder_of`, `serve_bytes`, `read_inventory` and `refuse_bytes`.
 use Rattle.std.proofs.Common.{◌≡◌, ◌≢◌, ◌∙◌, ◌+◌, ◌<◌, ℕ, suc, zero, true, false, List, [], ◌∷◌, None, Option, Result, Ok, Err, IfOk, add-one, ap, arith, eq-eqb, get_or, length, ne_eqb, refl, subst, sym, take}
-use Rattle.std.proofs.lemmas.Bool.{cond-false, cond-true}
-use Rattle.std.proofs.lemmas.List.Folds.{list_any_at}
+use Rattle.std.proofs.lemmas.{Bool.cond-false, Bool.cond-true, List.Folds.list_any_at}
 use Rattle.std.specs.List.{list_any}
+use Rattle.agent_words.specs.{declared.demands.Demands.Demands, declared.fault.StartFault.StartFault}
 use Rattle.agent_words.specs.Reading.{AreWrittenFaults, IsToServe, IsWellWritten}
-use Rattle.agent_words.specs.declared.demands.Demands.{Demands}
-use Rattle.agent_words.specs.declared.fault.StartFault.{StartFault}
 use Rattle.base_files.specs.Files.{FileIsRead, Files}
-use Rattle.vault_inventory.specs.Inventories.{Inventory}
-use Rattle.vault_inventory.specs.declared.limits.TheConstants.{MOST_INVENTORY}
+use Rattle.vault_inventory.specs.{Inventories.Inventory, declared.limits.TheConstants.MOST_INVENTORY}
 use Rattle.program_report.specs.declared.exit.Exit.{Exit}
-use Rattle.agent_system.specs.Whole.{IsServedFile, IsServedWhole, folder_of, is_slash}
 use Rattle.agent_system.specs.declared.reading.Inventories.{Inventories}
+use Rattle.agent_system.specs.Whole.{IsServedFile, IsServedWhole, folder_of, is_slash}
 
 -- ---- where paths start
 

@@ -2,12 +2,10 @@
 -- Source: this project's own; docs/commands/serve.md, "Open files".
 use Rattle.std.specs.Prelude.{◌≡◌, ℕ, ◌+◌, ◌-◌, ◌*◌, ◌/◌, Bool, true, false, if◌then◌else◌, List, ◌++◌, codes, decimal, min, nat_lt}
 use Rattle.agent_log.specs.LogDesk.{Desk}
-use Rattle.agent_answers.specs.declared.control.TheConstants.{MOST_CLIENTS}
-use Rattle.agent_answers.specs.declared.onlookers.TheConstants.{MOST_ONLOOKERS}
+use Rattle.agent_answers.specs.{declared.control.TheConstants.MOST_CLIENTS, declared.onlookers.TheConstants.MOST_ONLOOKERS}
 use Rattle.base_clock.specs.declared.reading.Reading.{Reading}
 use Rattle.base_log.specs.declared.level.Level.TheVariants.{Warning}
-use Rattle.agent_system.specs.Saying.{SaysOrWants}
-use Rattle.agent_system.specs.declared.descriptors.Places.{Places}
+use Rattle.agent_system.specs.{Saying.SaysOrWants, declared.descriptors.Places.Places}
 
 -- an agent behind another looks ahead over lanes of its own
 abbrev pub needed_ahead : ℕ → Bool → ℕ

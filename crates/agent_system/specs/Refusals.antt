@@ -2,14 +2,9 @@
 -- Source: this project's own.
 use Rattle.std.specs.Prelude.{◌≡◌, Option, Some, None, Result, Ok, Err}
 use Rattle.base_device.specs.Seen.{Change}
-use Rattle.program_report.specs.declared.exit.Exit.{Exit}
+use Rattle.program_report.specs.{declared.exit.Exit.Exit, declared.stop.Stop.Stop, Exits.exit_of, Sent.IsUntouched, Told.Reports, FaultLine.line_of_stop}
 use Rattle.program_report.specs.declared.exit.Exit.TheVariants as exits
-use Rattle.program_report.specs.declared.stop.Stop.{Stop}
 use Rattle.program_report.specs.declared.stop.Stop.TheVariants as stops
-use Rattle.program_report.specs.Exits.{exit_of}
-use Rattle.program_report.specs.Sent.{IsUntouched}
-use Rattle.program_report.specs.Told.{Reports}
-use Rattle.program_report.specs.FaultLine.{line_of_stop}
 
 -- a start that is refused: the file is no inventory, or cannot be served so; it cannot be read; or memory is wanting, which is all
 -- that is told then

@@ -4,11 +4,8 @@ use Rattle.std.specs.Prelude.{◌≡◌, ◌⊎◌, ℕ, List, codes, decimal}
 use Rattle.agent_log.specs.AtStart.{AreSaidAtStart}
 use Rattle.agent_log.specs.LogDesk.{Desk, HearsAtStart, begun_desk}
 use Rattle.base_clock.specs.declared.reading.Reading.{Reading}
-use Rattle.base_log.specs.declared.form.Form.{Form}
-use Rattle.base_log.specs.declared.level.Level.{Level}
-use Rattle.base_log.specs.declared.level.Level.TheVariants.{Info}
-use Rattle.agent_words.specs.declared.said.About.{About}
-use Rattle.agent_words.specs.declared.said.SaidLine.{SaidLine}
+use Rattle.base_log.specs.{declared.form.Form.Form, declared.level.Level.Level, declared.level.Level.TheVariants.Info}
+use Rattle.agent_words.specs.{declared.said.About.About, declared.said.SaidLine.SaidLine}
 
 -- the log of an agent with so many entries, in which that was said
 abbrev pub BeginsDesk : Form → List ℕ → ℕ → Reading → List SaidLine → Desk → Type 0

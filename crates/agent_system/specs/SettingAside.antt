@@ -2,13 +2,11 @@
 -- Source: this project's own; docs/running.md, "What holds after a crash".
 use Rattle.std.specs.Prelude.{◌≡◌, ◌≢◌, ◌⊎◌, ◌==◌, ℕ, List, [], ◌∷◌, ◌++◌, Bool, true, Option, if◌then◌else◌, length, codes, decimal}
 use Rattle.std.specs.List.{ends_with}
-use Rattle.base_disk.specs.Image.{File, Image, with_file_at}
 use Rattle.base_disk.specs.State.{DiskState, LeavesAlone}
-use Rattle.base_journal.specs.Journals.{FileIsThere, bytes_of_file}
-use Rattle.base_journal.specs.Records.{StandsFor}
+use Rattle.base_disk.specs.Image.{File, Image, with_file_at}
+use Rattle.base_journal.specs.{Journals.FileIsThere, Journals.bytes_of_file, Records.StandsFor}
 use Rattle.base_log.specs.declared.level.Level.TheVariants.{Alert}
-use Rattle.agent_words.specs.declared.said.About.TheVariants.{Journal}
-use Rattle.agent_words.specs.declared.said.SaidLine.{SaidLine}
+use Rattle.agent_words.specs.{declared.said.About.TheVariants.Journal, declared.said.SaidLine.SaidLine}
 
 -- ---- what cannot be read
 

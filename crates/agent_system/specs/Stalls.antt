@@ -3,13 +3,11 @@
 use Rattle.std.specs.Prelude.{◌≡◌, ℕ, not, ◌&&◌, if◌then◌else◌, List, [], ◌∷◌, ◌++◌, Option, Some, None, Result, Ok, Err, codes}
 use Rattle.base_device.specs.declared.fault.InputFault.{InputFault}
 use Rattle.base_log.specs.declared.level.Level.TheVariants.{Warning}
-use Rattle.state_secrets.specs.Stamps.{FileCall, Made, Opened, Stamped}
 use Rattle.state_secrets.specs.declared.secret_files.FileStamp.{FileStamp}
-use Rattle.agent_system.specs.Mounts.{is_in_memory}
-use Rattle.agent_words.specs.declared.said.About.{About}
+use Rattle.state_secrets.specs.Stamps.{FileCall, Made, Opened, Stamped}
+use Rattle.agent_system.specs.{Mounts.is_in_memory, declared.stalls.TheConstants.MOST_MOUNTS}
+use Rattle.agent_words.specs.{declared.said.About.About, declared.said.SaidLine.SaidLine}
 use Rattle.agent_words.specs.declared.said.About.TheVariants as abouts
-use Rattle.agent_words.specs.declared.said.SaidLine.{SaidLine}
-use Rattle.agent_system.specs.declared.stalls.TheConstants.{MOST_MOUNTS}
 
 abbrev pub warning_of : About → List ℕ → List SaidLine
 warning_of about text = record { level = Warning; about = about; text = text } ∷ []

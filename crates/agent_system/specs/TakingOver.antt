@@ -2,15 +2,11 @@
 -- Source: this project's own; docs/commands/serve.md, "Ends over a restart".
 use Rattle.std.specs.Prelude.{◌≡◌, ◌⊎◌, ℕ, Bool, true, false, IsTrue, List, [], ◌++◌, Option, Some, None, MatchOption, String, codes, string_bytes}
 use Rattle.std.specs.declared.alloc.Global.{Global}
-use Rattle.agent_log.specs.LinesOfEnds.{HearsUnread}
-use Rattle.agent_log.specs.LogDesk.{Desk, HearsAtStart}
+use Rattle.agent_log.specs.{LinesOfEnds.HearsUnread, LogDesk.Desk, LogDesk.HearsAtStart}
 use Rattle.agent_standing.specs.declared.ends.KnownEnd.{KnownEnd}
 use Rattle.base_clock.specs.declared.reading.Reading.{Reading}
-use Rattle.base_disk.specs.Image.{File}
-use Rattle.base_disk.specs.State.{DiskState, LeavesAlone}
-use Rattle.base_disk.specs.declared.fault.DiskFault.{DiskFault}
-use Rattle.agent_ends.specs.Ends.{ends_in, events_for}
-use Rattle.agent_ends.specs.declared.file.EndsFile.{EndsFile}
+use Rattle.base_disk.specs.{Image.File, State.DiskState, State.LeavesAlone, declared.fault.DiskFault.DiskFault}
+use Rattle.agent_ends.specs.{Ends.ends_in, Ends.events_for, declared.file.EndsFile.EndsFile}
 use Rattle.vault_inventory.specs.Inventories.{Inventory}
 use Rattle.base_log.specs.declared.level.Level.TheVariants.{Alert}
 use Rattle.base_words.specs.Texts.{stripped}

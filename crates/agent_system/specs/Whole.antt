@@ -2,8 +2,7 @@
 -- Source: this project's own; docs/commands/serve.md, "The inventory" and "Secrets by file".
 use Rattle.std.specs.Prelude.{◌≡◌, ℕ, ◌==◌, Bool, if◌then◌else◌, List, [], ◌∷◌, None, Ok}
 use Rattle.std.specs.List.{list_any}
-use Rattle.agent_words.specs.Reading.{IsToServe}
-use Rattle.agent_words.specs.declared.demands.Demands.{Demands}
+use Rattle.agent_words.specs.{Reading.IsToServe, declared.demands.Demands.Demands}
 use Rattle.base_files.specs.Files.{FileIsRead, Files}
 use Rattle.vault_inventory.specs.declared.limits.TheConstants.{MOST_INVENTORY}
 use Rattle.agent_system.specs.declared.reading.Inventories.{Inventories}

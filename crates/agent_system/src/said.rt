@@ -29,7 +29,12 @@ fn margin_text(alloc: Global, margin: u32) -> Result<Vec<u8>, AllocError>
 }
 
 /// Appends what is said: its level, what it is about, and its words. The only error is lack of memory.
-pub fn push(said: &mut Vec<SaidLine>, level: Level, about: About, text: Text) -> Result<(), AllocError>
+pub fn push(
+    said: &mut Vec<SaidLine>,
+    level: Level,
+    about: About,
+    text: Text,
+) -> Result<(), AllocError>
     ensures { OnOk result (said.new.items ≡ said.old.items ++ record { level = level; about = about; text = text } ∷ []) }
 {
     Ok(said.push(SaidLine { level, about, text })?)

@@ -108,7 +108,12 @@ fn warn_of_folder(
 }
 
 // Adds a warning.
-fn warn(alloc: Global, about: About, text: &[u8], said: &mut Vec<SaidLine>) -> Result<(), AllocError>
+fn warn(
+    alloc: Global,
+    about: About,
+    text: &[u8],
+    said: &mut Vec<SaidLine>,
+) -> Result<(), AllocError>
     ensures { OnOk result (said.new.items ≡ said.old.items ++ warning_of about text.now) }
 {
     push(said, Level::Warning, about, Text::of(alloc, text)?)

@@ -1,43 +1,27 @@
 -- Alike: agents that differ in credentials alone go the same way. For `secrets_change_no_turn`.
 use Rattle.std.proofs.Common.{◌≡◌, ◌∙◌, ℕ, zero, ◌-◌, Bool, true, false, List, [], ◌∷◌, ◌++◌, Option, Some, None, Result, Ok, Err, ap, ap₂, length, map, refl, sym, subst, inl, inr}
 use Rattle.std.specs.List.{range_with_len}
-use Rattle.agent_standing.specs.Agent.{Agent}
+use Rattle.agent_standing.specs.{Agent.Agent, Shorts.all_said, Shorts.said_standings, Standings.standing_in, Standings.standings_after, declared.standing.EntryStanding.EntryStanding}
 use Rattle.agent_standing.specs.Changed.{all_was, carried_standing, standing_of, was_of}
-use Rattle.agent_standing.specs.Changed as agents
-use Rattle.agent_standing.specs.Shorts.{all_said, said_standings}
-use Rattle.agent_standing.specs.Standings.{standing_in, standings_after}
 use Rattle.agent_standing.specs.Turns.{AgentTurn, beginnings_after, inventory_after}
+use Rattle.agent_standing.specs.Changed as agents
 use Rattle.agent_standing.specs.Turns as turns
-use Rattle.agent_standing.specs.declared.standing.EntryStanding.{EntryStanding}
 use Rattle.agent_standing.proofs.WasOf.{former_by}
 use Rattle.vault_asking.proofs.Once.{turn_once}
-use Rattle.vault_asking.specs.Handing.{out_of}
-use Rattle.vault_asking.specs.Sending.{Lanes}
-use Rattle.vault_asking.specs.Told.{event_as}
-use Rattle.vault_asking.specs.declared.told.Said.{Said}
+use Rattle.vault_asking.specs.{Handing.out_of, Sending.Lanes, Told.event_as, declared.told.Said.Said}
 use Rattle.base_clock.specs.declared.reading.Reading.{Reading}
 use Rattle.vault_inventory.specs.Inventories.{Inventory, inventory_with_need}
 use Rattle.vault_lanes.specs.declared.lanes.Answered.{Answered}
 use Rattle.plan_forest.specs.Forest.{Forest}
-use Rattle.watch_machine.specs.Change.{changed, former}
-use Rattle.watch_machine.specs.declared.change.Was.{Was}
-use Rattle.watch_machine.specs.declared.command.WatchCommand.{WatchCommand}
+use Rattle.watch_machine.specs.{Change.changed, Change.former, declared.change.Was.Was, declared.command.WatchCommand.WatchCommand, declared.command.WatchOutput.WatchOutput, declared.command.WatchRequest.WatchRequest}
+use Rattle.watch_machine.specs.{declared.event.WatchEvent.WatchEvent, declared.fault.WatchFault.WatchFault, declared.lanes.Out.Out, History.Turn, State.WatchState, Step.TurnMayWantMemory}
 use Rattle.watch_machine.specs.declared.command.WatchCommand.TheVariants.{Go, Taken}
-use Rattle.watch_machine.specs.declared.command.WatchOutput.{WatchOutput}
-use Rattle.watch_machine.specs.declared.command.WatchRequest.{WatchRequest}
-use Rattle.watch_machine.specs.declared.event.WatchEvent.{WatchEvent}
 use Rattle.watch_machine.specs.declared.event.WatchEvent.TheVariants as events
-use Rattle.watch_machine.specs.declared.fault.WatchFault.{WatchFault}
-use Rattle.watch_machine.specs.declared.lanes.Out.{Out}
-use Rattle.watch_machine.specs.History.{Turn}
-use Rattle.watch_machine.specs.State.{WatchState}
-use Rattle.watch_machine.specs.Step.{TurnMayWantMemory}
+use Rattle.agent_turns.specs.{Stages.AnswerIsTaken, Stages.AnswersAreTaken, declared.change.AgentChange.AgentChange}
 use Rattle.agent_turns.specs.Alike.{AlikeLaw, AreAgentsAlike, AreHeldAlike, AreInventoriesAlike, AreWordsAlike, ChangedAlikeLaw, Content, KeepsInventory, OneKeepsInventory, ServedAlikeLaw, contents_at, contents_in, contents_taken}
 use Rattle.agent_turns.specs.Changes.{AgentIsTurned, ChangeIsMade, MadeChange, OneIsMade}
 use Rattle.agent_turns.specs.Held.{Held, ServingSide, serving_side}
-use Rattle.agent_turns.specs.Stages.{AnswerIsTaken, AnswersAreTaken}
 use Rattle.agent_turns.specs.Words.{HandsBy, SaysBy, TurnFollowsWords, Words, WordsHandIn}
-use Rattle.agent_turns.specs.declared.change.AgentChange.{AgentChange}
 use Rattle.agent_turns.specs.declared.change.AgentChange.TheVariants.{Need, Begin, Known, Serve, Kept}
 use Rattle.agent_turns.proofs.OneWay.{not_both}
 

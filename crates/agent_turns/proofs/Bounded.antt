@@ -8,14 +8,12 @@ use Rattle.vault_asking.proofs.InStep.{parted_count}
 use Rattle.base_clock.specs.declared.reading.Reading.{Reading}
 use Rattle.base_device.specs.Moments.{earlier}
 use Rattle.vault_lanes.specs.declared.lanes.Answered.{Answered}
+use Rattle.agent_turns.specs.{Changes.MadeChange, Changes.is_one_made, Laws.CallsLaw, Laws.TurnWaitLaw, declared.change.AgentChange.AgentChange}
 use Rattle.agent_turns.specs.Calls.{calls_after, calls_at, calls_of_answering, calls_of_answers, calls_of_reading, calls_of_taken, calls_of_taking, heard_of_want}
-use Rattle.agent_turns.specs.Changes.{MadeChange, is_one_made}
 use Rattle.agent_turns.specs.Held.{Held, IsInStep, ServingSide}
-use Rattle.agent_turns.specs.Laws.{CallsLaw, TurnWaitLaw}
 use Rattle.agent_turns.specs.Neighbours.{GoOn, Rest, calls_for_change}
 use Rattle.agent_turns.specs.Stages.{AnswersAreTaken, Commands, HandsInAnswers, HaveTaken, LeftOverGoesFirst, OnHeld, TakesAnswers, TakesUp, Then, of_answers, of_coming, of_commands, of_left, of_stages}
 use Rattle.agent_turns.specs.Turns.{ServingTurn, TurnHears, longest_wait, turn_wait_by}
-use Rattle.agent_turns.specs.declared.change.AgentChange.{AgentChange}
 use Rattle.agent_turns.proofs.Staged.{sends_keeps}
 
 -- ---- the wait

@@ -1,11 +1,10 @@
 -- Called: calls of the neighbours, one after another. For the parts of a turn, and for `run`.
-use Rattle.std.proofs.Common.{◌≡◌, ◌∙◌, ℕ, Bool, true, false, List, [], ◌∷◌, ◌++◌, Result, Ok, Err, IsErr, is_ok, refl, sym, subst, inl, inr}
+use Rattle.std.proofs.Common.{◌≡◌, ℕ, Bool, true, false, List, [], ◌∷◌, ◌++◌, Result, Ok, Err, IsErr, is_ok, refl, subst, inl, inr}
+use Rattle.agent_turns.specs.{Runs.AreTurns, Turns.IsServingTurn, Turns.ServingTurn}
 use Rattle.agent_turns.specs.Calls.{InStage, calls_in, calls_of, on_held}
 use Rattle.agent_turns.specs.Held.{Held, ServingSide, serving_side}
 use Rattle.agent_turns.specs.Neighbours.{AllCalled, NeighbourCall, WithCalls}
-use Rattle.agent_turns.specs.Runs.{AreTurns}
 use Rattle.agent_turns.specs.Stages.{Listed, OnHeld, Then, one_and_then}
-use Rattle.agent_turns.specs.Turns.{IsServingTurn, ServingTurn}
 use Rattle.vault_asking.specs.Sending.{Lanes}
 
 pub called_join : {N : Type 0} → (does : NeighbourCall → N → N → Type 0) (xs ys : List NeighbourCall) (a b c : N) → AllCalled does xs a b → AllCalled does ys b c → AllCalled does (xs ++ ys) a c

@@ -1,30 +1,22 @@
 -- Changed: a change is made, and leaves what is held in step with the lanes. For `make_change` and the turn.
 use Rattle.std.proofs.Common.{◌≡◌, ◌≢◌, ◌==◌, ◌&&◌, ◌∙◌, ℕ, ◌<◌, All, Bool, true, false, List, [], ◌++◌, Option, Some, None, Result, Ok, Err, append_assoc, eqb-true, length, map, refl, sym, ap, ap₂, subst, arith, inl, inr}
-use Rattle.std.proofs.lemmas.List.{nil_from_length}
-use Rattle.std.proofs.lemmas.List.Elements.{All-nil}
-use Rattle.agent_standing.specs.Agent.{Agent}
-use Rattle.agent_standing.specs.Changed.{AgentIsChanged, all_was}
-use Rattle.agent_standing.specs.Turns.{AgentTurn}
+use Rattle.std.proofs.lemmas.{List.nil_from_length, List.Elements.All-nil}
+use Rattle.agent_standing.specs.{Agent.Agent, Changed.AgentIsChanged, Changed.all_was, Turns.AgentTurn}
 use Rattle.agent_standing.proofs.Left.{turn_entries}
-use Rattle.vault_asking.specs.InStep.{IsAbreast, entries_answered, entries_out, times}
 use Rattle.vault_asking.specs.Sending.{Lanes}
+use Rattle.vault_asking.specs.InStep.{IsAbreast, entries_answered, entries_out, times}
 use Rattle.vault_asking.proofs.Changed.{change_law}
 use Rattle.vault_asking.proofs.Sound.{IsQuiet, turn_begin, turn_known, turn_need}
 use Rattle.vault_inventory.specs.Inventories.{Inventory}
 use Rattle.vault_lanes.specs.Out as lanes
 use Rattle.vault_lanes.specs.Out.{renamed}
-use Rattle.watch_machine.specs.declared.command.WatchOutput.{WatchOutput}
-use Rattle.watch_machine.specs.declared.command.WatchRequest.{WatchRequest}
-use Rattle.watch_machine.specs.declared.event.WatchEvent.{WatchEvent}
+use Rattle.watch_machine.specs.{declared.command.WatchOutput.WatchOutput, declared.command.WatchRequest.WatchRequest, declared.event.WatchEvent.WatchEvent, declared.fault.WatchFault.WatchFault, declared.lanes.Out.Out, History.Changed}
+use Rattle.watch_machine.specs.{State.WatchState}
 use Rattle.watch_machine.specs.declared.event.WatchEvent.TheVariants as events
-use Rattle.watch_machine.specs.declared.fault.WatchFault.{WatchFault}
-use Rattle.watch_machine.specs.declared.lanes.Out.{Out}
-use Rattle.watch_machine.specs.History.{Changed}
-use Rattle.watch_machine.specs.State.{WatchState}
 use Rattle.watch_machine.proofs.Changing.{out_length}
+use Rattle.agent_turns.specs.declared.change.AgentChange.{AgentChange}
 use Rattle.agent_turns.specs.Changes.{AllGiven, ChangeIsMade, InventoryIsServed, MadeChange, OneIsMade, ServesInventory}
 use Rattle.agent_turns.specs.Held.{Held, IsInStep, ServingSide, entries_unsent, serving_side}
-use Rattle.agent_turns.specs.declared.change.AgentChange.{AgentChange}
 use Rattle.agent_turns.specs.declared.change.AgentChange.TheVariants.{Need, Begin, Known, Serve, Kept}
 use Rattle.agent_turns.proofs.InStep.{still_named}
 

@@ -5,8 +5,7 @@ use Rattle.agent_standing.specs.Agent.{Agent}
 use Rattle.base_clock.specs.declared.reading.Reading.{Reading}
 use Rattle.vault_lanes.specs.declared.lanes.Answered.{Answered}
 use Rattle.watch_machine.specs.declared.command.WatchRequest.{WatchRequest}
-use Rattle.agent_turns.specs.Held.{Held, ServingSide}
-use Rattle.agent_turns.specs.Laws.{WordsLaw}
+use Rattle.agent_turns.specs.{Held.Held, Held.ServingSide, Laws.WordsLaw}
 use Rattle.agent_turns.specs.Stages.{AnswersAreTaken, AnswersCome, Commands, HandsInAnswers as HandsStage, HaveTaken, LeftOverGoesFirst, OnHeld, SendsRequests, ShortsAreSaid, TakesAnswers, TakesReadings, TakesUp, Then, TimeIsHandedIn}
 use Rattle.agent_turns.specs.Turns.{IsServingTurn, ServingTurn, TurnHears}
 use Rattle.agent_turns.specs.Words.{SaysBy, Suffices, SufficesBy, TurnFollowsWords, Words, WordsHandIn}

@@ -1,13 +1,10 @@
 -- InStep: what each stage leaves is in step with the lanes. For the stages, and the turn over them.
 use Rattle.std.proofs.Common.{◌≡◌, ◌≢◌, ◌∙◌, ℕ, ◌<◌, All, List, [], ◌∷◌, ◌++◌, None, Ok, drop, length, slice_index_or, refl, sym, ap, subst, arith, inl, inr}
-use Rattle.std.proofs.lemmas.List.{length-append}
-use Rattle.std.proofs.lemmas.List.Elements.{All-head, All-tail}
-use Rattle.agent_standing.specs.Agent.{Agent}
-use Rattle.agent_standing.specs.Turns.{inventory_after}
+use Rattle.std.proofs.lemmas.{List.length-append, List.Elements.All-head, List.Elements.All-tail}
+use Rattle.agent_standing.specs.{Agent.Agent, Turns.inventory_after}
 use Rattle.agent_standing.proofs.Left.{turn_entries}
-use Rattle.vault_asking.specs.Handing.{AreHandedIn, out_of}
+use Rattle.vault_asking.specs.{Handing.AreHandedIn, Handing.out_of, Told.event_as}
 use Rattle.vault_asking.specs.InStep.{AreOut, entries_answered, entries_out, times}
-use Rattle.vault_asking.specs.Told.{event_as}
 use Rattle.vault_asking.proofs.AnswersOut.{are_over, some_out}
 use Rattle.vault_asking.proofs.InStep.{parted_count, parted_times, sent_all}
 use Rattle.vault_asking.proofs.Sound.{counts, same_index, times_append, turn_gone}
@@ -15,12 +12,8 @@ use Rattle.base_clock.specs.declared.reading.Reading.{Reading}
 use Rattle.vault_inventory.specs.Inventories.{Inventory}
 use Rattle.vault_lanes.specs.Out as lanes
 use Rattle.vault_lanes.specs.declared.lanes.Answered.{Answered}
-use Rattle.watch_machine.specs.declared.command.WatchRequest.{WatchRequest}
-use Rattle.watch_machine.specs.declared.event.Operation.{Operation}
+use Rattle.watch_machine.specs.{declared.command.WatchRequest.WatchRequest, declared.event.Operation.Operation, declared.event.WatchReply.WatchReply, declared.event.WatchTerms.WatchTerms, State.WatchState}
 use Rattle.watch_machine.specs.declared.event.Operation.TheVariants.{Look, Renew}
-use Rattle.watch_machine.specs.declared.event.WatchReply.{WatchReply}
-use Rattle.watch_machine.specs.declared.event.WatchTerms.{WatchTerms}
-use Rattle.watch_machine.specs.State.{WatchState}
 use Rattle.agent_turns.specs.Held.{Held, IsInStep, ServingSide, entries_unsent}
 use Rattle.agent_turns.specs.Stages.{AnswersAreTaken, HaveCome, HaveGone, HaveTaken, IsKeptBack, ShortsAreSaid, TimeIsHandedIn}
 

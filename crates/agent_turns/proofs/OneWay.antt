@@ -1,37 +1,20 @@
 -- OneWay: from the same words and the same beginning the same follows.
 use Rattle.std.proofs.Common.{◌≡◌, ◌∙◌, ℕ, zero, ◌-◌, Bool, true, false, List, [], ◌∷◌, ◌++◌, Option, Some, None, Result, Ok, Err, ap, ap₂, sym, subst, inl, inr}
-use Rattle.agent_standing.specs.Agent.{Agent}
-use Rattle.agent_standing.specs.Changed.{AgentIsChanged}
-use Rattle.agent_standing.specs.Shorts.{all_said}
-use Rattle.agent_standing.specs.Standings.{standings_after}
-use Rattle.agent_standing.specs.Turns.{AgentTurn, beginnings_after}
+use Rattle.agent_standing.specs.{Agent.Agent, Changed.AgentIsChanged, Shorts.all_said, Standings.standings_after, Turns.AgentTurn, Turns.beginnings_after, declared.standing.EntryStanding.EntryStanding}
 use Rattle.agent_standing.specs.Turns as turns
-use Rattle.agent_standing.specs.declared.standing.EntryStanding.{EntryStanding}
 use Rattle.vault_asking.proofs.Once.{turn_once}
-use Rattle.vault_asking.specs.Sending.{Lanes}
-use Rattle.vault_asking.specs.Told.{event_as, said_to}
-use Rattle.vault_asking.specs.declared.told.Said.{Said}
+use Rattle.vault_asking.specs.{Sending.Lanes, Told.event_as, Told.said_to, declared.told.Said.Said}
 use Rattle.base_clock.specs.declared.reading.Reading.{Reading}
 use Rattle.vault_inventory.specs.Inventories.{Inventory}
 use Rattle.vault_lanes.specs.declared.lanes.Answered.{Answered}
-use Rattle.watch_machine.specs.declared.command.WatchCommand.{WatchCommand}
+use Rattle.watch_machine.specs.{declared.command.WatchCommand.WatchCommand, declared.command.WatchOutput.WatchOutput, declared.command.WatchRequest.WatchRequest, declared.event.WatchEvent.WatchEvent, declared.fault.WatchFault.WatchFault}
+use Rattle.watch_machine.specs.{declared.fault.WatchFault.TheVariants.OutOfMemory, declared.lanes.Out.Out, History.Turn, State.WatchState, Step.TurnMayWantMemory}
 use Rattle.watch_machine.specs.declared.command.WatchCommand.TheVariants.{Go, Taken}
-use Rattle.watch_machine.specs.declared.command.WatchOutput.{WatchOutput}
-use Rattle.watch_machine.specs.declared.command.WatchRequest.{WatchRequest}
-use Rattle.watch_machine.specs.declared.event.WatchEvent.{WatchEvent}
 use Rattle.watch_machine.specs.declared.event.WatchEvent.TheVariants as events
-use Rattle.watch_machine.specs.declared.fault.WatchFault.{WatchFault}
-use Rattle.watch_machine.specs.declared.fault.WatchFault.TheVariants.{NotAsked, BadIndex, OutOfMemory}
-use Rattle.watch_machine.specs.declared.lanes.Out.{Out}
-use Rattle.watch_machine.specs.History.{Turn}
-use Rattle.watch_machine.specs.State.{WatchState}
-use Rattle.watch_machine.specs.Step.{TurnMayWantMemory}
+use Rattle.agent_turns.specs.{Laws.OneWayLaw, Stages.AnswerIsTaken, Stages.AnswersAreTaken, declared.change.AgentChange.AgentChange}
 use Rattle.agent_turns.specs.Changes.{AgentIsTurned, ChangeIsMade, InventoryIsServed, MadeChange, OneIsMade, ServesInventory}
 use Rattle.agent_turns.specs.Held.{Held, ServingSide, serving_side}
-use Rattle.agent_turns.specs.Laws.{OneWayLaw}
-use Rattle.agent_turns.specs.Stages.{AnswerIsTaken, AnswersAreTaken}
 use Rattle.agent_turns.specs.Words.{AllFollow, HandsBy, SaysBy, TurnFollowsWords, Words, WordsHandIn}
-use Rattle.agent_turns.specs.declared.change.AgentChange.{AgentChange}
 use Rattle.agent_turns.specs.declared.change.AgentChange.TheVariants.{Need, Begin, Known, Serve, Kept}
 
 -- ---- the agent

@@ -1,22 +1,12 @@
 -- Read: the time was handed in. For `read`.
-use Rattle.std.proofs.Common.{◌≡◌, ◌∙◌, ℕ, ◌-◌, IfSome, List, [], ◌∷◌, None, Ok, Option, Some, true, ap, inl, inr, subst, sym}
-use Rattle.agent_standing.specs.Agent.{Agent}
-use Rattle.agent_standing.specs.Shorts.{all_said, shorts_of}
-use Rattle.agent_standing.specs.Turns.{AgentTurn}
-use Rattle.agent_standing.specs.declared.shorts.Short.{Short}
+use Rattle.std.proofs.Common.{◌≡◌, ◌∙◌, ℕ, ◌-◌, IfSome, List, [], None, Ok, Option, Some, true, ap, inl, inr, subst, sym}
+use Rattle.agent_standing.specs.{Agent.Agent, Shorts.all_said, Shorts.shorts_of, Turns.AgentTurn, declared.shorts.Short.Short}
 use Rattle.vault_lanes.specs.declared.lanes.Answered.{Answered}
 use Rattle.base_clock.specs.declared.reading.Reading.{Reading}
-use Rattle.watch_machine.specs.declared.command.WatchCommand.{WatchCommand}
-use Rattle.watch_machine.specs.declared.command.WatchCommand.TheVariants.{Go}
-use Rattle.watch_machine.specs.declared.command.WatchOutput.{WatchOutput}
-use Rattle.watch_machine.specs.declared.command.WatchRequest.{WatchRequest}
-use Rattle.watch_machine.specs.declared.event.WatchEvent.TheVariants.{Clock}
-use Rattle.watch_machine.specs.declared.outlook.Next.{Next}
-use Rattle.agent_turns.specs.Calls.{calls_of_readings, needs_of}
-use Rattle.agent_turns.specs.Held.{Held}
+use Rattle.watch_machine.specs.{declared.command.WatchCommand.WatchCommand, declared.command.WatchCommand.TheVariants.Go, declared.command.WatchOutput.WatchOutput, declared.command.WatchRequest.WatchRequest}
+use Rattle.watch_machine.specs.{declared.event.WatchEvent.TheVariants.Clock, declared.outlook.Next.Next}
+use Rattle.agent_turns.specs.{Calls.calls_of_readings, Calls.needs_of, Held.Held, Outlook.IsOutlook, Stages.ShortsAreSaid, Stages.TakesReadings}
 use Rattle.agent_turns.specs.Neighbours.{Hear, NeighbourCall, Needs, Time, WithCalls}
-use Rattle.agent_turns.specs.Outlook.{IsOutlook}
-use Rattle.agent_turns.specs.Stages.{ShortsAreSaid, TakesReadings}
 use Rattle.agent_turns.proofs.Called.{called_twice}
 
 -- what is held once the agent has taken the time

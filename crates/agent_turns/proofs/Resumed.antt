@@ -7,8 +7,7 @@ use Rattle.vault_asking.proofs.Sound.{turn_known}
 use Rattle.vault_lanes.specs.Out as lanes
 use Rattle.watch_machine.specs.declared.event.WatchEvent.{WatchEvent}
 use Rattle.watch_machine.specs.declared.event.WatchEvent.TheVariants as events
-use Rattle.agent_turns.specs.Held.{Held, IsInStep}
-use Rattle.agent_turns.specs.Resuming.{AreResumed, IsResumed}
+use Rattle.agent_turns.specs.{Held.Held, Held.IsInStep, Resuming.AreResumed, Resuming.IsResumed}
 use Rattle.agent_turns.proofs.Changed.{turned_in_step}
 
 resumed_join : (es : List WatchEvent) (e : WatchEvent) (old mid new : Agent) → AreResumed es old mid → IsResumed e mid new → AreResumed (es ++ e ∷ []) old new

@@ -3,10 +3,7 @@ use Rattle.std.proofs.Common.{◌≡◌, ◌∙◌, ℕ, ◌+◌, List, [], ◌�
 use Rattle.std.proofs.lemmas.List.{length-append}
 use Rattle.base_clock.specs.Seen.{AllMade, ClockSeen}
 use Rattle.base_clock.proofs.Joined.{joined_law}
-use Rattle.agent_turns.specs.Changes.{AllGiven, given_by}
-use Rattle.agent_turns.specs.Runs.{all_calls, all_changes}
-use Rattle.agent_turns.specs.Turns.{ServingTurn, calls_of_turn}
-use Rattle.agent_turns.specs.declared.change.AgentChange.{AgentChange}
+use Rattle.agent_turns.specs.{Changes.AllGiven, Changes.given_by, Runs.all_calls, Runs.all_changes, Turns.ServingTurn, Turns.calls_of_turn, declared.change.AgentChange.AgentChange}
 use Rattle.agent_turns.proofs.Changed.{given_join}
 
 append_none : {T : Type 0} → (xs : List T) → xs ++ [] ≡ xs

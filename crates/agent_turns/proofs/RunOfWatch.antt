@@ -1,14 +1,10 @@
 -- RunOfWatch: the law that all that happens to the Watch of an agent from its start on is one run of it.
 use Rattle.std.proofs.Common.{◌≡◌, ◌++◌, true, List, [], ◌∷◌, ℕ, filter, ap, refl, subst}
 use Rattle.agent_standing.specs.Agent.{Agent, fresh}
-use Rattle.watch_machine.specs.declared.event.WatchEvent.{WatchEvent}
+use Rattle.watch_machine.specs.{declared.event.WatchEvent.WatchEvent, State.opened}
 use Rattle.watch_machine.specs.declared.event.WatchEvent.TheVariants as events
-use Rattle.watch_machine.specs.State.{opened}
+use Rattle.agent_turns.specs.{Happenings.happenings_of, Held.Held, Held.ServingSide, Laws.Lead, Resuming.AreResumed, Resuming.IsResumed}
 use Rattle.agent_turns.specs.Apart.{Ending, EndsBy, Spent, Unread, Over, Changed}
-use Rattle.agent_turns.specs.Happenings.{happenings_of}
-use Rattle.agent_turns.specs.Held.{Held, ServingSide}
-use Rattle.agent_turns.specs.Laws.{Lead}
-use Rattle.agent_turns.specs.Resuming.{AreResumed, IsResumed}
 use Rattle.agent_turns.specs.RunOfWatch.{ResumedLaw, ServingLaw, events_of, happenings_of_known, happenings_of_resuming, happenings_of_wait, is_told_before}
 use Rattle.agent_turns.proofs.Stretch.{and_then, by_change, by_event, nowhere, stretch_law}
 

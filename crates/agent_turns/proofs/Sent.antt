@@ -6,9 +6,8 @@ use Rattle.vault_lanes.specs.Serving.{BehindLanes, BrokerIsLeft}
 use Rattle.vault_http.specs.declared.request.Request.{Request}
 use Rattle.watch_machine.specs.declared.command.WatchRequest as machine
 use Rattle.watch_machine.specs.Clocks.{second_of_wall}
+use Rattle.agent_turns.specs.{Stages.HaveGone, Stages.IsKeptBack, code.Firsts.GoesFirst}
 use Rattle.agent_turns.specs.Held.{Held, ServingSide, serving_side}
-use Rattle.agent_turns.specs.Stages.{HaveGone, IsKeptBack}
-use Rattle.agent_turns.specs.code.Firsts.{GoesFirst}
 
 -- and one more
 pub gone_on : (port : ℕ) (old mid new : ServingSide) → HaveGone port old mid → GoesFirst port mid new → HaveGone port old new

@@ -1,28 +1,19 @@
 -- Stretch: the law that what happens to the Watch in turns leads from the one state of it to the other.
 use Rattle.std.proofs.Common.{◌≡◌, ◌∙◌, ℕ, Bool, true, false, List, [], ◌∷◌, ◌++◌, Option, Result, Ok, Err, Some, None, ap, refl, sym, subst, inl, inr}
-use Rattle.agent_standing.specs.Agent.{Agent}
-use Rattle.agent_standing.specs.Turns.{AgentTurn}
-use Rattle.vault_asking.specs.Told.{event_as, event_of_answer}
-use Rattle.vault_asking.specs.declared.told.Said.{Said}
+use Rattle.agent_standing.specs.{Agent.Agent, Turns.AgentTurn}
+use Rattle.vault_asking.specs.{Told.event_as, Told.event_of_answer, declared.told.Said.Said}
 use Rattle.base_clock.specs.declared.reading.Reading.{Reading}
 use Rattle.vault_inventory.specs.Inventories.{Inventory}
 use Rattle.vault_lanes.specs.declared.lanes.Answered.{Answered}
-use Rattle.watch_machine.specs.declared.command.WatchCommand.TheVariants.{Go}
-use Rattle.watch_machine.specs.declared.command.WatchOutput.{WatchOutput}
-use Rattle.watch_machine.specs.declared.event.WatchEvent.{WatchEvent}
-use Rattle.watch_machine.specs.declared.event.WatchEvent.TheVariants as events
-use Rattle.watch_machine.specs.declared.fault.WatchFault.{WatchFault}
+use Rattle.watch_machine.specs.{declared.command.WatchCommand.TheVariants.Go, declared.command.WatchOutput.WatchOutput, declared.event.WatchEvent.WatchEvent, declared.fault.WatchFault.WatchFault, State.WatchState}
 use Rattle.watch_machine.specs.History.{AllHappen, Happening, Turn, state_after, state_after_all}
-use Rattle.watch_machine.specs.State.{WatchState}
+use Rattle.watch_machine.specs.declared.event.WatchEvent.TheVariants as events
+use Rattle.agent_turns.specs.{Held.Held, Held.ServingSide, Laws.Lead, Laws.StretchLaw, Turns.IsServingTurn, Turns.TurnHears, declared.change.AgentChange.AgentChange}
 use Rattle.agent_turns.specs.Changes.{ChangeIsMade, MadeChange, OneIsMade, ServesInventory}
-use Rattle.agent_turns.specs.Held.{Held, ServingSide}
-use Rattle.agent_turns.specs.Laws.{Lead, StretchLaw}
 use Rattle.agent_turns.specs.Stages.{AnswerIsTaken, AnswersAreTaken, AnswersCome, Commands, HandsInAnswers, LeftOverGoesFirst, Listed, OnHeld, SendsRequests, TakesAnswers, TakesReadings, TakesUp, Then, nothing, one_and_then}
-use Rattle.agent_turns.specs.Turns as turns
-use Rattle.agent_turns.specs.Turns.{IsServingTurn, TurnHears}
 use Rattle.agent_turns.specs.Happenings.{happening_of_answer, handed, happenings_in, happenings_of, happenings_of_answers, happenings_of_change, happenings_of_hearing, happenings_of_one, happenings_of_readings, happenings_of_serving, happenings_of_stages, happenings_of_taking}
-use Rattle.agent_turns.specs.declared.change.AgentChange.{AgentChange}
 use Rattle.agent_turns.specs.declared.change.AgentChange.TheVariants.{Need, Begin, Known, Serve, Kept}
+use Rattle.agent_turns.specs.Turns as turns
 use Rattle.agent_turns.proofs.InStep.{said_machine}
 
 pub nowhere : (old new : WatchState) → new ≡ old → Lead old [] new

@@ -1,20 +1,15 @@
 -- Taken: answers are handed in one after another, and the neighbours hear of each. For `take_all`.
 use Rattle.std.proofs.Common.{◌≡◌, ◌∙◌, ◌<◌, ◌∷◌, [], ◌++◌, Bool, true, false, List, Ok, Some, append_assoc, arith, length, refl, sym, ap, subst}
 use Rattle.std.proofs.lemmas.List.{nil_from_length}
-use Rattle.agent_standing.specs.Agent.{Agent}
-use Rattle.agent_standing.specs.Turns.{AgentTurn}
-use Rattle.vault_asking.specs.Handing.{out_of}
-use Rattle.vault_asking.specs.Told.{event_as, said_to}
-use Rattle.vault_asking.specs.declared.told.Said.{Said}
+use Rattle.agent_standing.specs.{Agent.Agent, Turns.AgentTurn}
+use Rattle.vault_asking.specs.{Handing.out_of, Told.event_as, Told.said_to, declared.told.Said.Said}
 use Rattle.vault_lanes.specs.declared.lanes.Answered.{Answered}
+use Rattle.agent_turns.specs.{Held.Held, code.Firsts.TakesFirst, code.Firsts.calls_of_first}
 use Rattle.agent_turns.specs.Calls.{call_of_answer, calls_of_answers, calls_of_taken, calls_of_taking}
-use Rattle.agent_turns.specs.Held.{Held}
 use Rattle.agent_turns.specs.Neighbours.{Answer, Hear, NeighbourCall, WithCalls}
 use Rattle.agent_turns.specs.Stages.{AnswerIsTaken, AnswersAreTaken, HaveTaken, TakesAnswers}
-use Rattle.agent_turns.specs.code.Firsts.{TakesFirst, calls_of_first}
 use Rattle.agent_turns.proofs.Called.{called_once}
-use Rattle.watch_machine.specs.declared.command.WatchOutput.{WatchOutput}
-use Rattle.watch_machine.specs.declared.lanes.Out.{Out}
+use Rattle.watch_machine.specs.{declared.command.WatchOutput.WatchOutput, declared.lanes.Out.Out}
 
 module _ {N : Type 0} (does : NeighbourCall → N → N → Type 0) where
   pub none_taken : (h : Held) (a : N) → WithCalls does (HaveTaken h h) (calls_of_taken h h) a a

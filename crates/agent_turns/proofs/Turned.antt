@@ -3,15 +3,12 @@ use Rattle.std.proofs.Common.{◌≡◌, ℕ, Bool, false, ◌||◌, IfSome, Lis
 use Rattle.base_clock.specs.declared.reading.Reading.{Reading}
 use Rattle.base_device.specs.Moments.{earlier}
 use Rattle.vault_lanes.specs.Out as lanes
-use Rattle.vault_lanes.specs.Out.{first_at}
-use Rattle.vault_lanes.specs.Serving.{BehindLanes}
+use Rattle.vault_lanes.specs.{Out.first_at, Serving.BehindLanes}
+use Rattle.agent_turns.specs.{Held.ServingSide, Stages.LeftOverGoesFirst, Stages.of_stages, declared.change.AgentChange.AgentChange}
 use Rattle.agent_turns.specs.Calls.{InStage, calls_after, calls_in, calls_of_answering, calls_of_reading, heard_of_want}
 use Rattle.agent_turns.specs.Changes.{AllGiven, MadeChange, OneIsMade, is_one_made}
-use Rattle.agent_turns.specs.Held.{ServingSide}
 use Rattle.agent_turns.specs.Neighbours.{AllCalled, GoOn, NeighbourCall, Rest, WithCalls, calls_for_change}
-use Rattle.agent_turns.specs.Stages.{LeftOverGoesFirst, of_stages}
 use Rattle.agent_turns.specs.Turns.{IsDue, IsServingTurn, ServingTurn, turn_wait_by}
-use Rattle.agent_turns.specs.declared.change.AgentChange.{AgentChange}
 use Rattle.agent_turns.proofs.Called.{called_join, called_once}
 
 -- no clock could be read

@@ -1,24 +1,17 @@
 -- Waited: a start waits pause after pause, and then its wait ends. For `wait_apart` and its parts.
 use Rattle.std.proofs.Common.{◌≡◌, ℕ, ◌+◌, ◌≤◌, ◌<◌, Bool, true, false, not, ◌||◌, List, [], ◌∷◌, ◌++◌, Option, Some, None, append-nil, length, refl, sym, subst, arith}
-use Rattle.std.proofs.lemmas.List.{flat_map_more, length-append}
-use Rattle.std.proofs.lemmas.List.Elements.{All-nil, All-push}
+use Rattle.std.proofs.lemmas.{List.flat_map_more, List.length-append, List.Elements.All-nil, List.Elements.All-push}
 use Rattle.std.specs.List.{All, flat_map}
 use Rattle.agent_standing.specs.Agent.{Agent}
+use Rattle.base_clock.specs.{declared.call.ClockCall.ClockCall, declared.call.ClockCall.TheVariants.Wait, declared.reading.Reading.Reading}
 use Rattle.base_clock.specs.Seen.{AllMade, ClockSeen, read_call}
-use Rattle.base_clock.specs.declared.call.ClockCall.{ClockCall}
-use Rattle.base_clock.specs.declared.call.ClockCall.TheVariants.{Wait}
-use Rattle.base_clock.specs.declared.reading.Reading.{Reading}
 use Rattle.base_clock.proofs.Joined.{joined_law, none_law}
+use Rattle.agent_turns.specs.{Held.IsInStep, Held.ServingSide, code.Pauses.IsEnded, code.Pauses.IsPausedApart, declared.change.AgentChange.AgentChange}
 use Rattle.agent_turns.specs.Apart.{Changed, Ending, EndsAfter, EndsBy, IsPause, IsWaitedApart, Over, Pause, AreShown, IsShown, Spent, Unread, Waited, all_called, all_clocked, all_given, called_at, called_by, called_in, clocked_at, clocked_in, given_at, goes_on, is_change_kept, pause_by, told_by}
 use Rattle.agent_turns.specs.Changes.{AllGiven, ChangeIsMade, MadeChange, given_by}
-use Rattle.agent_turns.specs.Held.{IsInStep, ServingSide}
 use Rattle.agent_turns.specs.Neighbours.{AllCalled, Give, GoOn, NeighbourCall, Settle}
-use Rattle.agent_turns.specs.code.Pauses.{IsEnded, IsPausedApart}
-use Rattle.agent_turns.specs.declared.change.AgentChange.{AgentChange}
 use Rattle.agent_turns.specs.declared.change.AgentChange.TheVariants.{Need, Begin, Known, Serve, Kept}
-use Rattle.agent_turns.proofs.Called.{called_join, called_twice}
-use Rattle.agent_turns.proofs.Changed.{given_join, made_keeps}
-use Rattle.agent_turns.proofs.Turned.{given_none}
+use Rattle.agent_turns.proofs.{Called.called_join, Called.called_twice, Changed.given_join, Changed.made_keeps, Turned.given_none}
 
 -- ---- one pause
 

@@ -1,19 +1,15 @@
 -- Alike: two agents whose inventories differ in credentials alone. The contract of a public function without a body.
 -- Source: this project's own.
 use Rattle.std.specs.Prelude.{◌≡◌, ◌↔◌, ◌++◌, ℕ, Bool, List, [], ◌∷◌, Option, None, Some}
-use Rattle.agent_standing.specs.Agent.{Agent}
-use Rattle.agent_standing.specs.Changed.{AgentIsChanged, all_was}
-use Rattle.vault_asking.specs.Sending.{Lanes}
-use Rattle.vault_asking.specs.declared.told.Said.{Said}
+use Rattle.agent_standing.specs.{Agent.Agent, Changed.AgentIsChanged, Changed.all_was}
+use Rattle.vault_asking.specs.{Sending.Lanes, declared.told.Said.Said}
 use Rattle.base_clock.specs.declared.reading.Reading.{Reading}
 use Rattle.vault_inventory.specs.Inventories.{Inventory}
 use Rattle.vault_lanes.specs.declared.lanes.Answered.{Answered}
 use Rattle.watch_machine.specs.declared.command.WatchRequest.{WatchRequest}
-use Rattle.agent_turns.specs.Changes.{MadeChange, ServesInventory}
+use Rattle.agent_turns.specs.{Changes.MadeChange, Changes.ServesInventory, Stages.AnswersAreTaken, declared.change.AgentChange.AgentChange}
 use Rattle.agent_turns.specs.Held.{Held, ServingSide, serving_side}
-use Rattle.agent_turns.specs.Stages.{AnswersAreTaken}
 use Rattle.agent_turns.specs.Words.{AllFollow, HandsBy, TurnFollowsWords, Words}
-use Rattle.agent_turns.specs.declared.change.AgentChange.{AgentChange}
 use Rattle.agent_turns.specs.declared.change.AgentChange.TheVariants.{Need, Begin, Known, Serve, Kept}
 
 -- ---- what is alike

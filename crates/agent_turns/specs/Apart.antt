@@ -3,21 +3,14 @@
 -- Source: this project's own.
 use Rattle.std.specs.Prelude.{◌≡◌, ℕ, ◌-◌, ◌*◌, ◌<◌, ◌≤◌, Bool, true, false, not, ◌&&◌, ◌||◌, if◌then◌else◌, List, [], ◌∷◌, ◌++◌, Option, Some, None, Result, length, min, nat_lt}
 use Rattle.std.specs.List.{All, flat_map}
-use Rattle.agent_standing.specs.Agent.{Agent, standing_at}
-use Rattle.agent_standing.specs.Turns.{AgentTurn}
-use Rattle.agent_standing.specs.declared.standing.Told.{Told}
-use Rattle.base_clock.specs.Seen.{read_call}
-use Rattle.base_clock.specs.declared.call.ClockCall.{ClockCall}
-use Rattle.base_clock.specs.declared.call.ClockCall.TheVariants.{Wait}
-use Rattle.base_clock.specs.declared.reading.Reading.{Reading}
+use Rattle.agent_standing.specs.{Agent.Agent, Agent.standing_at, Turns.AgentTurn, declared.standing.Told.Told}
+use Rattle.base_clock.specs.{Seen.read_call, declared.call.ClockCall.ClockCall, declared.call.ClockCall.TheVariants.Wait, declared.reading.Reading.Reading}
 use Rattle.plan_forest.specs.Carried.{carried}
-use Rattle.watch_machine.specs.declared.command.WatchOutput.{WatchOutput}
+use Rattle.watch_machine.specs.{declared.command.WatchOutput.WatchOutput, declared.fault.WatchFault.WatchFault}
 use Rattle.watch_machine.specs.declared.event.WatchEvent.TheVariants as events
-use Rattle.watch_machine.specs.declared.fault.WatchFault.{WatchFault}
+use Rattle.agent_turns.specs.{Held.ServingSide, declared.change.AgentChange.AgentChange}
 use Rattle.agent_turns.specs.Changes.{MadeChange, MakesChange, given_by, is_one_made}
-use Rattle.agent_turns.specs.Held.{ServingSide}
 use Rattle.agent_turns.specs.Neighbours.{GoOn, NeighbourCall, calls_for_change}
-use Rattle.agent_turns.specs.declared.change.AgentChange.{AgentChange}
 use Rattle.agent_turns.specs.declared.change.AgentChange.TheVariants.{Need, Begin, Known, Serve, Kept}
 
 -- ---- whether it may

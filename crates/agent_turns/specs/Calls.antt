@@ -4,14 +4,12 @@
 -- Source: this project's own.
 use Rattle.std.proofs.Common.{inl, inr}
 use Rattle.std.specs.Prelude.{ℕ, Bool, true, false, List, [], ◌∷◌, ◌++◌, Option, Some, None}
-use Rattle.agent_standing.specs.Agent.{Agent}
-use Rattle.agent_standing.specs.Shorts.{shorts_of}
+use Rattle.agent_standing.specs.{Agent.Agent, Shorts.shorts_of}
 use Rattle.base_clock.specs.declared.reading.Reading.{Reading}
 use Rattle.vault_lanes.specs.declared.lanes.Answered.{Answered}
-use Rattle.agent_turns.specs.Held.{Held, ServingSide}
+use Rattle.agent_turns.specs.{Held.Held, Held.ServingSide, Runs.AreTurns}
 use Rattle.agent_turns.specs.Neighbours.{Answer, GoOn, Hear, NeighbourCall, Needs, Rest, Thing, Time, Want, WithCalls, calls_for_change}
-use Rattle.agent_turns.specs.Runs.{AreTurns}
-use Rattle.agent_turns.specs.Stages.{AnswerIsTaken, AnswersAreTaken, HaveTaken, LeftOverGoesFirst, Listed, OnHeld, ShortsAreSaid, TakesAnswers, TakesReadings, of_stages}
+use Rattle.agent_turns.specs.Stages.{AnswerIsTaken, AnswersAreTaken, HaveTaken, Listed, OnHeld, ShortsAreSaid, TakesAnswers, TakesReadings, of_stages}
 use Rattle.agent_turns.specs.Turns.{IsServingTurn, ServingTurn, TurnHears}
 
 -- ---- what is heard

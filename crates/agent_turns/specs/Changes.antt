@@ -1,17 +1,13 @@
 -- Changes: what is taken from clients and files while the agent runs, and what it makes of the agent.
 -- Source: this project's own.
 use Rattle.std.specs.Prelude.{◌≡◌, ◌≢◌, ◌⊎◌, ◌++◌, Bool, true, false, List, [], ◌∷◌, Option, Some, None, IfSome, Result}
-use Rattle.agent_standing.specs.Changed.{AgentIsChanged}
-use Rattle.agent_standing.specs.Turns.{AgentTurn}
+use Rattle.agent_standing.specs.{Changed.AgentIsChanged, Turns.AgentTurn}
 use Rattle.vault_asking.specs.InStep.{entries_out}
 use Rattle.vault_inventory.specs.Inventories.{Inventory}
 use Rattle.vault_lanes.specs.Out.{renamed}
-use Rattle.watch_machine.specs.declared.command.WatchOutput.{WatchOutput}
-use Rattle.watch_machine.specs.declared.event.WatchEvent.{WatchEvent}
+use Rattle.watch_machine.specs.{declared.command.WatchOutput.WatchOutput, declared.event.WatchEvent.WatchEvent, declared.fault.WatchFault.WatchFault}
 use Rattle.watch_machine.specs.declared.event.WatchEvent.TheVariants as events
-use Rattle.watch_machine.specs.declared.fault.WatchFault.{WatchFault}
-use Rattle.agent_turns.specs.Held.{ServingSide}
-use Rattle.agent_turns.specs.declared.change.AgentChange.{AgentChange}
+use Rattle.agent_turns.specs.{Held.ServingSide, declared.change.AgentChange.AgentChange}
 use Rattle.agent_turns.specs.declared.change.AgentChange.TheVariants.{Need, Begin, Known, Serve, Kept}
 
 -- the agent takes an event of its own; one of no entry leaves it as it was

@@ -3,16 +3,10 @@
 use Rattle.std.specs.Prelude.{◌≡◌, ◌⊎◌, ℕ, ◌+◌, ◌-◌, Bool, true, false, ◌&&◌, if◌then◌else◌, IfOk, Option, Some, None, is_some, min, nat_le, nat_lt, Result, Ok, Err}
 use Rattle.std.specs.declared.alloc.AllocError.{AllocError}
 use Rattle.agent_standing.specs.Agent.{Agent}
-use Rattle.base_clock.specs.Rests.{rest_until, shorter}
-use Rattle.base_clock.specs.declared.reading.Reading.{Reading}
-use Rattle.watch_machine.specs.State.{WatchState}
-use Rattle.watch_machine.specs.Clocks.{second_of_wall}
-use Rattle.agent_turns.specs.Apart.{MayWait}
+use Rattle.base_clock.specs.{Rests.rest_until, Rests.shorter, declared.reading.Reading.Reading}
+use Rattle.watch_machine.specs.{State.WatchState, Clocks.second_of_wall}
+use Rattle.agent_turns.specs.{Apart.MayWait, declared.change.AgentChange.AgentChange, declared.change.AgentChange.TheVariants.Begin, declared.day.EarlyDay.EarlyDay, declared.day.TheConstants.DAY}
 use Rattle.agent_turns.specs.Neighbours.{Answer, End, Give, GoOn, Hear, NeighbourCall, Needs, Rest, Settle, Step, Thing, Time, Want}
-use Rattle.agent_turns.specs.declared.change.AgentChange.{AgentChange}
-use Rattle.agent_turns.specs.declared.change.AgentChange.TheVariants.{Begin}
-use Rattle.agent_turns.specs.declared.day.EarlyDay.{EarlyDay}
-use Rattle.agent_turns.specs.declared.day.TheConstants.{DAY}
 
 -- ---- when
 

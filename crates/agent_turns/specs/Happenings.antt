@@ -4,24 +4,18 @@
 -- Source: this project's own.
 use Rattle.std.proofs.Common.{inl, inr}
 use Rattle.std.specs.Prelude.{ℕ, Bool, true, false, List, [], ◌∷◌, ◌++◌, Option, Some, None, Result, Ok}
-use Rattle.agent_standing.specs.Agent.{Agent}
-use Rattle.agent_standing.specs.Changed.{all_was}
+use Rattle.agent_standing.specs.{Agent.Agent, Changed.all_was}
 use Rattle.vault_asking.specs.Told.{event_of_answer}
 use Rattle.base_clock.specs.declared.reading.Reading.{Reading}
 use Rattle.vault_inventory.specs.Inventories.{Inventory}
 use Rattle.vault_lanes.specs.declared.lanes.Answered.{Answered}
-use Rattle.watch_machine.specs.declared.command.WatchCommand.TheVariants.{Go}
-use Rattle.watch_machine.specs.declared.command.WatchOutput.{WatchOutput}
-use Rattle.watch_machine.specs.declared.event.WatchEvent.{WatchEvent}
-use Rattle.watch_machine.specs.declared.event.WatchEvent.TheVariants as events
-use Rattle.watch_machine.specs.declared.fault.WatchFault.{WatchFault}
+use Rattle.watch_machine.specs.{declared.command.WatchCommand.TheVariants.Go, declared.command.WatchOutput.WatchOutput, declared.event.WatchEvent.WatchEvent, declared.fault.WatchFault.WatchFault}
 use Rattle.watch_machine.specs.History.{Happening, Hands, Changes}
+use Rattle.watch_machine.specs.declared.event.WatchEvent.TheVariants as events
+use Rattle.agent_turns.specs.{Held.ServingSide, Runs.AreTurns, declared.change.AgentChange.AgentChange}
 use Rattle.agent_turns.specs.Changes.{ChangeIsMade, MadeChange, OneIsMade, ServesInventory}
-use Rattle.agent_turns.specs.Held.{ServingSide}
-use Rattle.agent_turns.specs.Runs.{AreTurns}
 use Rattle.agent_turns.specs.Stages.{AnswerIsTaken, AnswersAreTaken, LeftOverGoesFirst, Listed, OnHeld, TakesAnswers, TakesReadings, of_stages}
 use Rattle.agent_turns.specs.Turns.{IsServingTurn, ServingTurn, TurnHears}
-use Rattle.agent_turns.specs.declared.change.AgentChange.{AgentChange}
 use Rattle.agent_turns.specs.declared.change.AgentChange.TheVariants.{Need, Begin, Known, Serve, Kept}
 
 -- the event was handed in, and this came of it

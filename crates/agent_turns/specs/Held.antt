@@ -5,8 +5,8 @@ use Rattle.agent_standing.specs.Agent.{Agent}
 use Rattle.base_clock.specs.declared.reading.Reading.{Reading}
 use Rattle.vault_lanes.specs.Out as lanes
 use Rattle.vault_lanes.specs.declared.lanes.Answered.{Answered}
-use Rattle.vault_asking.specs.InStep.{MachineIsSound, entries_answered, entries_on, entries_out, times}
 use Rattle.vault_asking.specs.Sending.{Lanes}
+use Rattle.vault_asking.specs.InStep.{MachineIsSound, entries_answered, entries_on, entries_out, times}
 use Rattle.watch_machine.specs.declared.command.WatchRequest.{WatchRequest}
 
 -- the agent; the answers that came and are not handed in yet; the requests that the Watch commands and that are not sent yet; the

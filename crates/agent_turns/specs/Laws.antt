@@ -3,13 +3,10 @@
 use Rattle.std.specs.Prelude.{◌≡◌, ℕ, ◌+◌, ◌-◌, ◌≤◌, true, List, Some, IfSome, length}
 use Rattle.std.specs.List.{All}
 use Rattle.base_clock.specs.declared.reading.Reading.{Reading}
+use Rattle.watch_machine.specs.{State.WatchState, declared.command.WatchRequest.WatchRequest}
 use Rattle.watch_machine.specs.History.{AllHappen, Happening, state_after_all}
-use Rattle.watch_machine.specs.State.{WatchState}
-use Rattle.watch_machine.specs.declared.command.WatchRequest.{WatchRequest}
-use Rattle.agent_turns.specs.Calls.{calls_in}
-use Rattle.agent_turns.specs.Happenings.{happenings_of}
+use Rattle.agent_turns.specs.{Calls.calls_in, Happenings.happenings_of, Runs.AreTurns}
 use Rattle.agent_turns.specs.Held.{Held, IsInStep, ServingSide}
-use Rattle.agent_turns.specs.Runs.{AreTurns}
 use Rattle.agent_turns.specs.Turns.{IsServingTurn, ServingTurn, longest_wait}
 use Rattle.agent_turns.specs.Words.{AllAreWordsOf, AllFollow, Suffices, Words}
 

@@ -1,18 +1,12 @@
 -- Neighbours: what the loop calls them for.
 -- Source: this project's own.
 use Rattle.std.specs.Prelude.{◌≡◌, ℕ, Bool, List, [], ◌∷◌, Option, Some, None}
-use Rattle.agent_standing.specs.Agent.{Agent}
-use Rattle.agent_standing.specs.declared.shorts.Short.{Short}
+use Rattle.agent_standing.specs.{Agent.Agent, declared.shorts.Short.Short}
 use Rattle.vault_asking.specs.declared.told.Said.{Said}
 use Rattle.base_clock.specs.declared.reading.Reading.{Reading}
-use Rattle.agent_turns.specs.Changes.{MadeChange}
-use Rattle.agent_turns.specs.declared.change.AgentChange.{AgentChange}
-use Rattle.agent_turns.specs.declared.neighbours.Happened.{Happened}
+use Rattle.agent_turns.specs.{Changes.MadeChange, declared.change.AgentChange.AgentChange, declared.neighbours.Happened.Happened}
 use Rattle.agent_turns.specs.declared.neighbours.Happened.TheVariants as happened
-use Rattle.watch_machine.specs.declared.command.WatchRequest.{WatchRequest}
-use Rattle.watch_machine.specs.declared.event.Operation.{Operation}
-use Rattle.watch_machine.specs.declared.notes.Notes.{Notes}
-use Rattle.watch_machine.specs.declared.outlook.Next.{Next}
+use Rattle.watch_machine.specs.{declared.command.WatchRequest.WatchRequest, declared.event.Operation.Operation, declared.notes.Notes.Notes, declared.outlook.Next.Next}
 
 -- what they may hear of: of an answer that was handed in, its entry, what was asked, what it says and what is noted of it; of the time, what
 -- is noted of it, the requests that go out, and the next time where it is told; which needs are short then, or that memory is wanting to say

@@ -1,9 +1,7 @@
 -- Outlook: what the neighbours are told of the next time of an entry.
 -- Source: this project's own.
 use Rattle.std.specs.Prelude.{◌≡◌, [], Option, IfSome}
-use Rattle.watch_machine.specs.Outlook.{IsNextTime}
-use Rattle.watch_machine.specs.State.{WatchState}
-use Rattle.watch_machine.specs.declared.outlook.Next.{Next}
+use Rattle.watch_machine.specs.{Outlook.IsNextTime, State.WatchState, declared.outlook.Next.Next}
 use Rattle.agent_turns.specs.declared.neighbours.Happened.{Happened}
 use Rattle.agent_turns.specs.declared.neighbours.Happened.TheVariants as happened
 

@@ -1,12 +1,9 @@
 -- Resuming: an agent that takes over in the boot in which ends were told.
 -- Source: this project's own.
 use Rattle.std.specs.Prelude.{◌≡◌, List, [], ◌∷◌, Result}
-use Rattle.agent_standing.specs.Agent.{Agent}
-use Rattle.agent_standing.specs.Turns.{AgentTurn}
-use Rattle.watch_machine.specs.declared.command.WatchOutput.{WatchOutput}
-use Rattle.watch_machine.specs.declared.event.WatchEvent.{WatchEvent}
+use Rattle.agent_standing.specs.{Agent.Agent, Turns.AgentTurn}
+use Rattle.watch_machine.specs.{declared.command.WatchOutput.WatchOutput, declared.event.WatchEvent.WatchEvent, declared.fault.WatchFault.WatchFault}
 use Rattle.watch_machine.specs.declared.event.WatchEvent.TheVariants.{Clock, Looked, Renewed, Need, Begin, Known}
-use Rattle.watch_machine.specs.declared.fault.WatchFault.{WatchFault}
 
 -- an end that was told before is handed in, and nothing else is
 abbrev pub IsResumed : WatchEvent → Agent → Agent → Type 0

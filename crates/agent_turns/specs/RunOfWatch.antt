@@ -6,16 +6,12 @@ use Rattle.std.specs.List.{flat_map}
 use Rattle.agent_standing.specs.Agent.{Agent, fresh}
 use Rattle.vault_inventory.specs.Inventories.{Inventory}
 use Rattle.plan_forest.specs.Forest.{Forest}
-use Rattle.watch_machine.specs.declared.event.WatchEvent.{WatchEvent}
-use Rattle.watch_machine.specs.declared.event.WatchEvent.TheVariants as events
+use Rattle.watch_machine.specs.{declared.event.WatchEvent.WatchEvent, State.WatchState, State.opened}
 use Rattle.watch_machine.specs.History.{Happening, Hands, Changes, IsRun, state_after_all}
-use Rattle.watch_machine.specs.State.{WatchState, opened}
+use Rattle.watch_machine.specs.declared.event.WatchEvent.TheVariants as events
+use Rattle.agent_turns.specs.{Held.ServingSide, Held.held_at_first, Resuming.AreResumed, Resuming.IsResumed, Runs.AreTurns, Turns.ServingTurn}
 use Rattle.agent_turns.specs.Apart.{Ending, EndsBy, IsWaitedApart, Waited, Spent, Unread, Over, Changed}
 use Rattle.agent_turns.specs.Happenings.{handed, happenings_of, happenings_of_change}
-use Rattle.agent_turns.specs.Held.{ServingSide, held_at_first}
-use Rattle.agent_turns.specs.Resuming.{AreResumed, IsResumed}
-use Rattle.agent_turns.specs.Runs.{AreTurns}
-use Rattle.agent_turns.specs.Turns.{ServingTurn}
 
 -- ---- what it is handed first
 

@@ -3,9 +3,7 @@
 use Rattle.std.specs.Prelude.{◌≡◌, ℕ, List, [], ◌∷◌}
 use Rattle.std.specs.List.{flat_map}
 use Rattle.base_clock.specs.declared.call.ClockCall.{ClockCall}
-use Rattle.agent_turns.specs.Changes.{given_by}
-use Rattle.agent_turns.specs.Held.{ServingSide}
-use Rattle.agent_turns.specs.declared.change.AgentChange.{AgentChange}
+use Rattle.agent_turns.specs.{Changes.given_by, Held.ServingSide, declared.change.AgentChange.AgentChange}
 use Rattle.agent_turns.specs.Turns.{IsServingTurn, ServingTurn, calls_of_turn}
 
 abbrev pub AreTurns : ℕ → ServingSide → List ServingTurn → ServingSide → Type 0

@@ -3,28 +3,13 @@
 -- Source: this project's own.
 use Rattle.std.proofs.Common.{inl, inr}
 use Rattle.std.specs.Prelude.{◌≡◌, ◌⊎◌, ℕ, ◌-◌, ◌++◌, Bool, true, false, List, [], ◌∷◌, Option, Some, Ok, IfSome}
-use Rattle.agent_standing.specs.Agent.{Agent}
-use Rattle.agent_standing.specs.Shorts.{all_said}
-use Rattle.agent_standing.specs.Turns.{AgentTurn}
-use Rattle.vault_asking.specs.Asking.{ask_of}
-use Rattle.vault_asking.specs.Handing.{out_of}
-use Rattle.vault_asking.specs.Sending.{GoOut}
-use Rattle.vault_asking.specs.Told.{event_as, said_to}
-use Rattle.vault_asking.specs.declared.told.Said.{Said}
+use Rattle.agent_standing.specs.{Agent.Agent, Shorts.all_said, Turns.AgentTurn}
+use Rattle.vault_asking.specs.{Asking.ask_of, Handing.out_of, Sending.GoOut, Told.event_as, Told.said_to, declared.told.Said.Said}
 use Rattle.base_clock.specs.declared.reading.Reading.{Reading}
-use Rattle.vault_lanes.specs.Out.{AreThereAt, IsParted}
-use Rattle.vault_lanes.specs.Serving.{BrokerIsLeft}
-use Rattle.vault_lanes.specs.declared.lanes.Answered.{Answered}
-use Rattle.watch_machine.specs.declared.command.WatchCommand.TheVariants.{Go}
-use Rattle.watch_machine.specs.declared.command.WatchOutput.{WatchOutput}
-use Rattle.watch_machine.specs.declared.command.WatchRequest.{WatchRequest}
-use Rattle.watch_machine.specs.declared.event.WatchEvent.TheVariants.{Clock}
-use Rattle.watch_machine.specs.declared.lanes.Out.{Out}
-use Rattle.watch_machine.specs.declared.notes.Notes.{Notes}
-use Rattle.watch_machine.specs.declared.outlook.Next.{Next}
-use Rattle.watch_machine.specs.Clocks.{second_of_wall}
-use Rattle.agent_turns.specs.Held.{Held, ServingSide}
-use Rattle.agent_turns.specs.Outlook.{IsOutlook}
+use Rattle.vault_lanes.specs.{Out.AreThereAt, Out.IsParted, Serving.BrokerIsLeft, declared.lanes.Answered.Answered}
+use Rattle.watch_machine.specs.{declared.command.WatchCommand.TheVariants.Go, declared.command.WatchOutput.WatchOutput, declared.command.WatchRequest.WatchRequest, declared.event.WatchEvent.TheVariants.Clock, declared.lanes.Out.Out}
+use Rattle.watch_machine.specs.{declared.notes.Notes.Notes, declared.outlook.Next.Next, Clocks.second_of_wall}
+use Rattle.agent_turns.specs.{Held.Held, Held.ServingSide, Outlook.IsOutlook}
 
 -- ---- requests go out
 

@@ -1,15 +1,11 @@
 -- Turns: one round of the loop: the time is handed in, a change is taken, and one wait follows.
 -- Source: this project's own.
 use Rattle.std.specs.Prelude.{◌≡◌, ℕ, ◌-◌, ◌*◌, ◌/◌, Bool, false, ◌||◌, if◌then◌else◌, List, [], ◌∷◌, Option, Some, None, IfSome, max, min}
-use Rattle.base_clock.specs.Seen.{read_call}
-use Rattle.base_clock.specs.declared.call.ClockCall.{ClockCall}
-use Rattle.base_clock.specs.declared.call.ClockCall.TheVariants.{Wait}
-use Rattle.base_clock.specs.declared.reading.Reading.{Reading}
+use Rattle.base_clock.specs.{Seen.read_call, declared.call.ClockCall.ClockCall, declared.call.ClockCall.TheVariants.Wait, declared.reading.Reading.Reading}
 use Rattle.base_device.specs.Moments.{earlier}
 use Rattle.vault_lanes.specs.Out.{first_at}
+use Rattle.agent_turns.specs.{Held.Held, Held.ServingSide, Stages.LeftOverGoesFirst}
 use Rattle.agent_turns.specs.Changes.{MadeChange, OneIsMade, is_one_made}
-use Rattle.agent_turns.specs.Held.{Held, ServingSide}
-use Rattle.agent_turns.specs.Stages.{LeftOverGoesFirst}
 
 -- what a turn read, where it could; whether memory sufficed to hand the time in; the change that it took, where one was given;
 -- whether a neighbour could go on at once; the moment by which a lane has to be looked at; for how long the neighbours may then be left

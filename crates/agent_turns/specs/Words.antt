@@ -2,20 +2,12 @@
 -- nothing among it, nor of the lanes, but for the answers that come off them.
 -- Source: this project's own.
 use Rattle.std.specs.Prelude.{◌≡◌, ℕ, ◌-◌, ◌++◌, Bool, true, false, List, [], ◌∷◌, Option, Some, None, Ok}
-use Rattle.agent_standing.specs.Agent.{Agent}
-use Rattle.agent_standing.specs.Shorts.{all_said}
-use Rattle.agent_standing.specs.Turns.{AgentTurn}
+use Rattle.agent_standing.specs.{Agent.Agent, Shorts.all_said, Turns.AgentTurn}
 use Rattle.vault_asking.specs.Sending.{Lanes}
 use Rattle.base_clock.specs.declared.reading.Reading.{Reading}
 use Rattle.vault_lanes.specs.declared.lanes.Answered.{Answered}
-use Rattle.watch_machine.specs.declared.command.WatchCommand.TheVariants.{Go}
-use Rattle.watch_machine.specs.declared.command.WatchRequest.{WatchRequest}
-use Rattle.watch_machine.specs.declared.event.WatchEvent.TheVariants.{Clock}
-use Rattle.watch_machine.specs.declared.notes.Notes.{Notes}
-use Rattle.agent_turns.specs.Changes.{MadeChange, OneIsMade}
-use Rattle.agent_turns.specs.Held.{Held, serving_side}
-use Rattle.agent_turns.specs.Stages.{AnswersAreTaken}
-use Rattle.agent_turns.specs.Turns.{ServingTurn}
+use Rattle.watch_machine.specs.{declared.command.WatchCommand.TheVariants.Go, declared.command.WatchRequest.WatchRequest, declared.event.WatchEvent.TheVariants.Clock, declared.notes.Notes.Notes}
+use Rattle.agent_turns.specs.{Changes.MadeChange, Changes.OneIsMade, Held.Held, Held.serving_side, Stages.AnswersAreTaken, Turns.ServingTurn}
 
 -- the readings, where the clocks could be read; the answers that came off their lanes; whether memory sufficed to say what is short;
 -- and the change that was taken, where one was given

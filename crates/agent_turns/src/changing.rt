@@ -16,7 +16,7 @@ use std::alloc::Global;
 use vault_asking::SeenLanes;
 use vault_inventory::Inventory;
 use vault_lanes::Lanes;
-use watch_machine::{WatchEvent, Out, WatchFault};
+use watch_machine::{Out, WatchEvent, WatchFault};
 
 impl Serving {
     /// Takes a change, where the neighbours have one, and makes it. Whether it was made.
@@ -42,7 +42,12 @@ impl Serving {
     }
 
     /// Makes a change. Whether memory sufficed; where it did not all is as it was. None but another inventory wants memory.
-    pub(crate) fn make<L: Lanes>(&mut self, alloc: Global, lanes: &mut L, change: AgentChange) -> bool
+    pub(crate) fn make<L: Lanes>(
+        &mut self,
+        alloc: Global,
+        lanes: &mut L,
+        change: AgentChange,
+    ) -> bool
         ensures made { ChangeIsMade change result (serving_side self.old (⟦<L as SeenLanes>⟧.seen lanes.old)) (serving_side self.new (⟦<L as SeenLanes>⟧.seen lanes.new)) }
         ensures width { L.width lanes.new ≡ L.width lanes.old }
         ensures port { L.host_port lanes.new ≡ L.host_port lanes.old }

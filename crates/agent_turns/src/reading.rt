@@ -11,7 +11,7 @@ use agent_standing::Agent;
 use base_clock::Reading;
 use std::alloc::{AllocError, Global};
 use std::collections::VecDeque;
-use watch_machine::{WatchCommand, WatchEvent, Next, WatchOutput};
+use watch_machine::{Next, WatchCommand, WatchEvent, WatchOutput};
 
 impl Serving {
     /// Hands in the readings of both clocks; what the Watch commands is then to be sent. The only error is out of memory: all is

@@ -112,7 +112,10 @@ fn is_kept(change: &AgentChange) -> bool
     ensures { result ≡ is_change_kept change.now }
 {
     match change {
-        AgentChange::Need { .. } | AgentChange::Begin | AgentChange::Known { .. } | AgentChange::Serve(_) => false,
+        AgentChange::Need { .. }
+        | AgentChange::Begin
+        | AgentChange::Known { .. }
+        | AgentChange::Serve(_) => false,
         AgentChange::Kept => true,
     }
 }
@@ -122,7 +125,10 @@ fn is_served(change: &AgentChange) -> bool
     ensures { result ≡ is_change_served change.now }
 {
     match change {
-        AgentChange::Need { .. } | AgentChange::Begin | AgentChange::Known { .. } | AgentChange::Kept => false,
+        AgentChange::Need { .. }
+        | AgentChange::Begin
+        | AgentChange::Known { .. }
+        | AgentChange::Kept => false,
         AgentChange::Serve(_) => true,
     }
 }

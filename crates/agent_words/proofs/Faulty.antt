@@ -1,26 +1,17 @@
 -- Faulty: all faults of a start, and that the first of them is why it is refused. For `faults_to_serve`,
 -- `faults_as_written`, `faults_of`, `last_fault` and `why_not_served`.
-use Rattle.std.proofs.Common.{◌≡◌, ◌∙◌, ◌==◌, ℕ, List, [], ◌∷◌, ◌++◌, Bool, false, true, Result, Ok, Err, IfOk, ap, arith, inl, inr, length, refl, subst, sym}
+use Rattle.std.proofs.Common.{◌≡◌, ◌∙◌, ◌==◌, ℕ, List, [], ◌∷◌, ◌++◌, false, true, Result, Ok, Err, IfOk, ap, arith, inl, inr, length, refl, subst, sym}
 use Rattle.std.proofs.lemmas.Bool.{eqb-false, eqb-true}
 use Rattle.std.specs.Prelude.{Vec}
-use Rattle.std.specs.declared.alloc.AllocError.{AllocError}
-use Rattle.std.specs.declared.alloc.Global.{Global}
+use Rattle.std.specs.{declared.alloc.AllocError.AllocError, declared.alloc.Global.Global}
 use Rattle.std.proofs.Math.Path.{fun_ext}
-use Rattle.state_changes.specs.Listed.{rows_of_served}
-use Rattle.state_changes.specs.declared.row.Row.{Row}
+use Rattle.state_changes.specs.{Listed.rows_of_served, declared.row.Row.Row}
 use Rattle.base_files.specs.Files.{Files}
-use Rattle.vault_inventory.specs.Answers.{FailsWithInvFault}
-use Rattle.vault_inventory.specs.Inventories.{Inventory}
-use Rattle.vault_inventory.specs.Inventory.{read_served}
-use Rattle.vault_inventory.specs.Served.{Served}
-use Rattle.vault_inventory.specs.declared.fault.InvFault.{InvFault}
+use Rattle.vault_inventory.specs.{Answers.FailsWithInvFault, Inventories.Inventory, Inventory.read_served, Served.Served, declared.fault.InvFault.InvFault}
 use Rattle.vault_inventory.specs.declared.fault.InvFault.TheVariants as inventories
-use Rattle.agent_words.specs.Filling.{AreUnfilled}
-use Rattle.agent_words.specs.Noting.{AreWhysNotServed, SaysFaults}
+use Rattle.agent_words.specs.{Filling.AreUnfilled, Noting.AreWhysNotServed, Noting.SaysFaults, declared.demands.Demands.Demands, declared.fault.StartFault.StartFault}
 use Rattle.agent_words.specs.Reading.{AreAllOr, AreFaults, AreFaultsOf, AreLast, AreOfNoInventory, AreWrittenFaults, FirstIsWhy, IsStartFaultOf, IsWellWritten}
 use Rattle.agent_words.specs.Starts.{first_listed_fault, first_start_fault, written_faults}
-use Rattle.agent_words.specs.declared.demands.Demands.{Demands}
-use Rattle.agent_words.specs.declared.fault.StartFault.{StartFault}
 use Rattle.agent_words.specs.declared.fault.StartFault.TheVariants as faults
 use Rattle.agent_words.proofs.Unfilled.{first_unfilled}
 

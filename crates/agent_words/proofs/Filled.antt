@@ -1,15 +1,13 @@
 -- Filled: what is filled by one list of files is filled by another that says the same; and rows that are filled one after another.
-use Rattle.std.proofs.Common.{◌≡◌, ◌∙◌, ◌⊎◌, ℕ, ◌+◌, List, [], ◌∷◌, ◌++◌, Option, Some, None, Ok, Err, IsErr, IsErrAnd, IfErr, IsUtf8, Result, false, true, ap, append-nil, append_assoc, drop, inl, inr, refl, subst, sym, ⊎_elim}
-use Rattle.std.proofs.lemmas.Bool.{false_from_ne_true}
-use Rattle.std.proofs.lemmas.Str.{IsUtf8-from_is_utf8}
+use Rattle.std.proofs.Common.{◌≡◌, ◌∙◌, ◌⊎◌, ℕ, ◌+◌, List, [], ◌∷◌, ◌++◌, Option, Some, None, Ok, Err, IsErr, IsErrAnd, IfErr, IsUtf8, Result, false, true, append-nil, append_assoc, drop, inl, inr, refl, subst, sym, ⊎_elim}
+use Rattle.std.proofs.lemmas.{Bool.false_from_ne_true, Str.IsUtf8-from_is_utf8}
 use Rattle.std.specs.Str.{is_utf8}
 use Rattle.state_changes.specs.declared.row.Row.{Row}
 use Rattle.base_device.specs.declared.fault.InputFault.TheVariants as inputs
 use Rattle.base_files.specs.Files.{FileIsRead, Files}
-use Rattle.state_secrets.specs.Credentials.{placed}
-use Rattle.state_secrets.specs.declared.credential.TheConstants.{MOST_SECRET}
-use Rattle.agent_words.specs.Filling.{AreFilled, CannotFill, FillingFails, FillsFrom, FillsRow, FirstUnfilled}
+use Rattle.state_secrets.specs.{Credentials.placed, declared.credential.TheConstants.MOST_SECRET}
 use Rattle.agent_words.specs.declared.fault.StartFault.{StartFault}
+use Rattle.agent_words.specs.Filling.{AreFilled, CannotFill, FillingFails, FillsFrom, FillsRow, FirstUnfilled}
 use Rattle.agent_words.specs.declared.fault.StartFault.TheVariants as faults
 
 -- ---- a file

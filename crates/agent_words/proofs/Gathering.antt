@@ -1,10 +1,8 @@
 -- Gathering: what rows give, one after another. For `gather`.
 use Rattle.std.proofs.Common.{◌≡◌, ◌∙◌, ℕ, ◌+◌, List, [], ◌∷◌, ◌++◌, Option, None, Some, Result, Ok, Err, ap, append-nil, append_assoc, drop, refl, subst, sym}
-use Rattle.state_changes.specs.declared.row.Row.{Row}
+use Rattle.state_changes.specs.{declared.row.Row.Row, declared.secret.Secret.Secret}
 use Rattle.base_files.specs.Files.{FileIsRead, Files}
-use Rattle.state_secrets.specs.Credentials.{placed}
-use Rattle.state_secrets.specs.declared.credential.TheConstants.{MOST_SECRET}
-use Rattle.state_changes.specs.declared.secret.Secret.{Secret}
+use Rattle.state_secrets.specs.{Credentials.placed, declared.credential.TheConstants.MOST_SECRET}
 use Rattle.agent_words.specs.Gathering.{AreGathered, Gives, line_given, secret_in}
 use Rattle.agent_words.proofs.Filled.{wants_as}
 

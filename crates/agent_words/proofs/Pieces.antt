@@ -1,5 +1,5 @@
 -- Pieces: what is appended piece by piece.
-use Rattle.std.proofs.Common.{◌≡◌, ℕ, List, [], ◌∷◌, ◌++◌, arith}
+use Rattle.std.proofs.Common.{◌≡◌, ℕ, List, ◌++◌, arith}
 use Rattle.std.proofs.lemmas.Grind.{common_steps}
 
 pub four_pieces : (new c b : List ℕ) (w x y z : List ℕ) → b ≡ w ++ x → c ≡ b ++ y → new ≡ c ++ z → new ≡ w ++ (x ++ (y ++ z))

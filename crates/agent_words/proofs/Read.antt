@@ -1,24 +1,16 @@
 -- Read: what a start comes to, step by step. For `read_to_serve`, `serve_text`, `filled_text` and `wide`.
-use Rattle.std.proofs.Common.{◌≡◌, ◌∙◌, ◌⊎◌, List, ℕ, Bool, true, false, Option, Some, None, Result, Ok, Err, IfErr, IfOk, IsErr, IsErrAnd, inl, inr, refl, sym, ap, subst}
-use Rattle.state_changes.specs.Listed.{rows_of_served}
-use Rattle.state_changes.specs.declared.row.Row.{Row}
+use Rattle.std.proofs.Common.{◌≡◌, ◌∙◌, ◌⊎◌, List, ℕ, true, false, Some, None, Result, Ok, Err, IfErr, IfOk, IsErr, IsErrAnd, inl, inr, refl, sym, ap, subst}
+use Rattle.state_changes.specs.{Listed.rows_of_served, declared.row.Row.Row}
 use Rattle.base_files.specs.Files.{Files}
 use Rattle.vault_inventory.specs.Answers.{◌>>=◌, FailsWithInvFault}
-use Rattle.vault_inventory.specs.Inventories.{Inventory}
-use Rattle.vault_inventory.specs.Inventory.{read_served}
-use Rattle.vault_inventory.specs.Served.{Served}
-use Rattle.vault_inventory.specs.declared.fault.InvFault.{InvFault}
+use Rattle.vault_inventory.specs.{Inventories.Inventory, Inventory.read_served, Served.Served, declared.fault.InvFault.InvFault}
 use Rattle.vault_inventory.specs.declared.fault.InvFault.TheVariants as inventories
 use Rattle.vault_served.specs.ForGood.{inventory_for_good, served_for_good}
 use Rattle.state_file.specs.declared.fault.SettleFault.{SettleFault}
 use Rattle.state_file.specs.declared.fault.SettleFault.TheVariants as settling
-use Rattle.agent_words.specs.Faults.{start_of_inventory, start_of_settling}
-use Rattle.agent_words.specs.Filling.{AreFilled}
+use Rattle.agent_words.specs.{Faults.start_of_inventory, Faults.start_of_settling, Filling.AreFilled, Starts.first_start_fault, declared.demands.Demands.Demands, declared.fault.StartFault.StartFault}
+use Rattle.agent_words.specs.{declared.fault.StartFault.TheVariants.OutOfMemory}
 use Rattle.agent_words.specs.Reading.{IsFilledText, IsToServe, IsUnfilled, IsWide, IsWideText, NotTogether, is_as_written, is_full, keeps_margin}
-use Rattle.agent_words.specs.Starts.{first_start_fault}
-use Rattle.agent_words.specs.declared.demands.Demands.{Demands}
-use Rattle.agent_words.specs.declared.fault.StartFault.{StartFault}
-use Rattle.agent_words.specs.declared.fault.StartFault.TheVariants.{OutOfMemory}
 
 -- ---- a text that can be read
 

@@ -2,9 +2,8 @@
 use Rattle.std.proofs.Common.{◌≡◌, ◌∙◌, ◌⊎◌, ℕ, ◌+◌, List, [], ◌∷◌, ◌++◌, Option, Some, None, append-nil, append_assoc, drop, inl, inr, refl, subst, sym}
 use Rattle.state_changes.specs.declared.row.Row.{Row}
 use Rattle.base_files.specs.Files.{Files}
+use Rattle.agent_words.specs.{Starts.fault_list, declared.fault.StartFault.StartFault}
 use Rattle.agent_words.specs.Filling.{AreUnfilled, CannotFill, FirstUnfilled, IsFaultOfRow}
-use Rattle.agent_words.specs.Starts.{fault_list}
-use Rattle.agent_words.specs.declared.fault.StartFault.{StartFault}
 use Rattle.agent_words.specs.declared.fault.StartFault.TheVariants as faults
 use Rattle.agent_words.proofs.Filled.{cannot_as, fills_as}
 

@@ -1,18 +1,14 @@
 -- Filling: entries whose credentials stand in files, with what these files hold.
 -- Source: this project's own; docs/inventory.md, "Secrets in files".
 use Rattle.std.specs.Prelude.{◌≡◌, ◌⊎◌, ℕ, ◌+◌, Bool, true, false, List, [], ◌∷◌, ◌++◌, Option, Some, None, Ok, Err, is_none}
-use Rattle.std.specs.List.{list_all}
-use Rattle.std.specs.Str.{is_utf8}
+use Rattle.std.specs.{List.list_all, Str.is_utf8}
 use Rattle.state_changes.specs.declared.row.Row.{Row}
 use Rattle.base_device.specs.declared.fault.InputFault.TheVariants as inputs
 use Rattle.base_files.specs.Files.{FileIsRead, Files}
-use Rattle.vault_inventory.specs.Values.{is_credential}
-use Rattle.vault_inventory.specs.declared.note.EntryNote.{EntryNote}
-use Rattle.state_secrets.specs.Credentials.{placed}
-use Rattle.state_secrets.specs.declared.credential.TheConstants.{MOST_SECRET}
+use Rattle.vault_inventory.specs.{Values.is_credential, declared.note.EntryNote.EntryNote}
+use Rattle.state_secrets.specs.{Credentials.placed, declared.credential.TheConstants.MOST_SECRET}
 use Rattle.base_words.specs.Texts.{stripped}
-use Rattle.agent_words.specs.Starts.{fault_list}
-use Rattle.agent_words.specs.declared.fault.StartFault.{StartFault}
+use Rattle.agent_words.specs.{Starts.fault_list, declared.fault.StartFault.StartFault}
 use Rattle.agent_words.specs.declared.fault.StartFault.TheVariants as faults
 
 -- ---- a row

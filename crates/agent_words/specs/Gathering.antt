@@ -1,12 +1,10 @@
 -- Gathering: what the files of credentials hold that rows name, and what is said of those that hold none.
 -- Source: this project's own; docs/inventory.md, "Secrets in files".
 use Rattle.std.specs.Prelude.{◌≡◌, ℕ, List, [], ◌∷◌, ◌++◌, Option, Some, None, Result, Ok, Err, codes}
-use Rattle.state_changes.specs.declared.row.Row.{Row}
+use Rattle.state_changes.specs.{declared.row.Row.Row, declared.secret.Secret.Secret}
 use Rattle.base_files.specs.Files.{Files}
-use Rattle.state_changes.specs.declared.secret.Secret.{Secret}
 use Rattle.state_secrets.specs.Credentials.{placed}
-use Rattle.agent_words.specs.Filling.{FileHolds, FillingFails}
-use Rattle.agent_words.specs.declared.fault.StartFault.{StartFault}
+use Rattle.agent_words.specs.{Filling.FileHolds, Filling.FillingFails, declared.fault.StartFault.StartFault}
 
 -- ---- a row
 

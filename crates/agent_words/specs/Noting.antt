@@ -1,16 +1,10 @@
 -- Noting: why a file that is read anew is not served, a reason a line.
 -- Source: this project's own; docs/running.md, "What the operator sees".
 use Rattle.std.specs.Prelude.{◌≡◌, ◌⊎◌, ℕ, ◌-◌, ◌==◌, if◌then◌else◌, List, [], ◌∷◌, ◌++◌, Option, Some, None, length, map, take, Ok, Err}
-use Rattle.vault_inventory.specs.Inventory.{read_served}
-use Rattle.vault_inventory.specs.Served.{Served}
-use Rattle.vault_inventory.specs.declared.fault.InvFault.{InvFault}
+use Rattle.vault_inventory.specs.{Inventory.read_served, Served.Served, declared.fault.InvFault.InvFault}
 use Rattle.vault_lint.specs.FaultWords.{IsSaidOf}
 use Rattle.plan_forest.specs.Forest.{Forest}
-use Rattle.agent_words.specs.Outcomes.{Whys}
-use Rattle.agent_words.specs.Reading.{AreWrittenFaults, IsWellWritten}
-use Rattle.agent_words.specs.Reasons.{file_words, more_words}
-use Rattle.agent_words.specs.declared.demands.Demands.{Demands}
-use Rattle.agent_words.specs.declared.fault.StartFault.{StartFault}
+use Rattle.agent_words.specs.{Outcomes.Whys, Reading.AreWrittenFaults, Reading.IsWellWritten, Reasons.file_words, Reasons.more_words, declared.demands.Demands.Demands, declared.fault.StartFault.StartFault}
 
 -- so many faults are not said one by one
 abbrev pub more_faults : ℕ → List (List ℕ)

@@ -1,25 +1,15 @@
 -- Reading: what is served by the text of an inventory, or the fault of the start.
 -- Source: this project's own; docs/commands/serve.md.
-use Rattle.std.specs.Prelude.{◌≡◌, ◌⊎◌, ◌&&◌, ℕ, ◌+◌, ◌∷◌, ◌++◌, Bool, true, false, is_none, length, nat_eq, nat_lt, List, [], Option, Some, None, Result, Ok, Err, codes}
-use Rattle.state_changes.specs.Listed.{rows_of_served}
-use Rattle.state_changes.specs.declared.row.Row.{Row}
+use Rattle.std.specs.Prelude.{◌≡◌, ◌⊎◌, ◌&&◌, ℕ, ◌+◌, ◌∷◌, ◌++◌, Bool, true, false, is_none, length, nat_eq, nat_lt, List, [], Option, Some, None, Result, Ok, Err}
+use Rattle.state_changes.specs.{Listed.rows_of_served, declared.row.Row.Row}
 use Rattle.base_files.specs.Files.{Files}
-use Rattle.vault_inventory.specs.Inventories.{Inventory}
-use Rattle.vault_inventory.specs.Inventory.{read_served}
-use Rattle.vault_inventory.specs.Served.{Served}
-use Rattle.vault_inventory.specs.declared.limits.TheConstants.{MOST_INVENTORY}
-use Rattle.vault_inventory.specs.declared.note.EntryNote.{EntryNote}
-use Rattle.vault_inventory.specs.declared.fault.InvFault.{InvFault}
+use Rattle.vault_inventory.specs.{Inventories.Inventory, Inventory.read_served, Served.Served, declared.limits.TheConstants.MOST_INVENTORY, declared.note.EntryNote.EntryNote, declared.fault.InvFault.InvFault}
 use Rattle.vault_served.specs.ForGood.{inventory_for_good}
-use Rattle.state_file.specs.Settled.{TextIsSettled}
-use Rattle.state_file.specs.declared.fault.SettleFault.{SettleFault}
-use Rattle.plan_spread.specs.Behind.{margin_by}
-use Rattle.plan_spread.specs.Margins.{room_of, wider}
+use Rattle.state_file.specs.{Settled.TextIsSettled, declared.fault.SettleFault.SettleFault}
+use Rattle.plan_spread.specs.{Behind.margin_by, Margins.room_of, Margins.wider}
 use Rattle.plan_forest.specs.Forest.{Forest}
+use Rattle.agent_words.specs.{Starts.first_start_fault, Starts.written_faults, declared.demands.Demands.Demands, declared.fault.StartFault.StartFault}
 use Rattle.agent_words.specs.Filling.{AreFilled, AreUnfilled, FirstUnfilled, names_no_file}
-use Rattle.agent_words.specs.Starts.{first_start_fault, written_faults}
-use Rattle.agent_words.specs.declared.demands.Demands.{Demands}
-use Rattle.agent_words.specs.declared.fault.StartFault.{StartFault}
 use Rattle.agent_words.specs.declared.fault.StartFault.TheVariants as faults
 
 -- the agent wakes up by the margin that is written

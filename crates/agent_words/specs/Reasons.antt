@@ -8,9 +8,7 @@ use Rattle.program_report.specs.FaultLine.{inventory_words}
 use Rattle.state_file.specs.declared.fault.ReadFault.{ReadFault}
 use Rattle.state_file.specs.declared.fault.ReadFault.TheVariants as reads
 use Rattle.plan_forest.specs.Forest.{Forest}
-use Rattle.agent_words.specs.Refusing.{start_words}
-use Rattle.agent_words.specs.declared.demands.Demands.{Demands}
-use Rattle.agent_words.specs.declared.fault.StartFault.{StartFault}
+use Rattle.agent_words.specs.{Refusing.start_words, declared.demands.Demands.Demands, declared.fault.StartFault.StartFault}
 use Rattle.agent_words.specs.declared.fault.StartFault.TheVariants as starts
 
 abbrev pub disk_words : DiskFault → List ℕ

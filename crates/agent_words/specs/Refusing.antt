@@ -1,16 +1,13 @@
 -- Refusing: what is said of a start that is refused.
 -- Source: this project's own; docs/commands/serve.md.
-use Rattle.std.specs.Prelude.{ℕ, Bool, if◌then◌else◌, List, [], ◌∷◌, ◌++◌, Option, Some, None, codes, decimal}
+use Rattle.std.specs.Prelude.{ℕ, if◌then◌else◌, List, [], ◌∷◌, ◌++◌, Option, Some, None, codes, decimal}
 use Rattle.vault_inventory.specs.declared.fault.InvFault.{InvFault}
 use Rattle.vault_inventory.specs.declared.fault.InvFault.TheVariants as inventories
 use Rattle.program_lines.specs.Text.{name_of}
 use Rattle.state_file.specs.declared.fault.SettleFault.{SettleFault}
 use Rattle.state_file.specs.declared.fault.SettleFault.TheVariants as settling
-use Rattle.plan_forest.specs.Forest.{Forest, entry_at}
-use Rattle.plan_forest.specs.Push.{is_lease}
-use Rattle.agent_words.specs.Starts.{least_margin}
-use Rattle.agent_words.specs.declared.demands.Demands.{Demands}
-use Rattle.agent_words.specs.declared.fault.StartFault.{StartFault}
+use Rattle.plan_forest.specs.{Forest.Forest, Forest.entry_at, Push.is_lease}
+use Rattle.agent_words.specs.{Starts.least_margin, declared.demands.Demands.Demands, declared.fault.StartFault.StartFault}
 use Rattle.agent_words.specs.declared.fault.StartFault.TheVariants.{Inventory, NoMargin, SmallMargin, NoCredential, NoFile, NoSecret, Together, OutOfMemory}
 
 -- the key of an entry's credential, and that of its file

@@ -1,13 +1,10 @@
 -- Starts: why an inventory that can be read is not served.
 -- Source: this project's own; docs/commands/serve.md.
-use Rattle.std.specs.Prelude.{◌≡◌, ℕ, ◌+◌, ◌*◌, Bool, not, ◌&&◌, if◌then◌else◌, List, [], ◌∷◌, ◌++◌, Option, Some, None, bytes_eq, codes, decimal, is_none, nat_lt}
+use Rattle.std.specs.Prelude.{ℕ, ◌+◌, ◌*◌, Bool, not, ◌&&◌, if◌then◌else◌, List, [], ◌∷◌, ◌++◌, Option, Some, None, bytes_eq, is_none, nat_lt}
 use Rattle.state_changes.specs.declared.row.Row.{Row}
-use Rattle.vault_inventory.specs.Inventories.{credential_at}
-use Rattle.vault_inventory.specs.Served.{Served}
-use Rattle.vault_inventory.specs.declared.note.EntryNote.{EntryNote}
+use Rattle.vault_inventory.specs.{Inventories.credential_at, Served.Served, declared.note.EntryNote.EntryNote}
 use Rattle.program_lines.specs.Text.{name_of}
-use Rattle.agent_words.specs.declared.demands.Demands.{Demands}
-use Rattle.agent_words.specs.declared.fault.StartFault.{StartFault}
+use Rattle.agent_words.specs.{declared.demands.Demands.Demands, declared.fault.StartFault.StartFault}
 use Rattle.agent_words.specs.declared.fault.StartFault.TheVariants.{NoMargin, SmallMargin, NoCredential}
 
 -- an entry has neither a credential of its own, so that its name stands for one, nor a file with one

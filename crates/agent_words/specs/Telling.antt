@@ -1,14 +1,12 @@
 -- Telling: what the client of a command is told, in words.
 -- Source: docs/commands/calls.md.
-use Rattle.std.specs.Prelude.{◌≡◌, ℕ, ◌==◌, Bool, true, false, if◌then◌else◌, List, [], ◌∷◌, ◌++◌, Option, Some, None, Result, Ok, Err, codes, min}
-use Rattle.state_changes.specs.Rows.{is_lease_if}
-use Rattle.state_changes.specs.declared.row.Row.{Row}
+use Rattle.std.specs.Prelude.{◌≡◌, ℕ, ◌==◌, Bool, true, false, if◌then◌else◌, List, [], ◌∷◌, ◌++◌, Option, Some, None, Ok, Err, codes, min}
+use Rattle.state_changes.specs.{Rows.is_lease_if, declared.row.Row.Row}
 use Rattle.agent_control.specs.Replies.{control_reply_text}
 use Rattle.agent_control.specs.declared.reply.ControlReply.TheVariants as replies
 use Rattle.vault_inventory.specs.declared.need.Need.{Need}
 use Rattle.vault_inventory.specs.declared.need.Need.TheVariants as needs
-use Rattle.base_moment.specs.Rfc3339.{IsDateText}
-use Rattle.base_moment.specs.declared.moment.TheConstants.{LAST}
+use Rattle.base_moment.specs.{Rfc3339.IsDateText, declared.moment.TheConstants.LAST}
 use Rattle.agent_words.specs.Outcomes.{Outcome, Why}
 
 -- ---- the lines

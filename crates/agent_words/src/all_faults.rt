@@ -1,7 +1,7 @@
 //! Why the text of an inventory is not served: every fault of it that can be told beside the others.
 ghost use Rattle.std.specs.Prelude.{◌≡◌, ◌∷◌, [], List, ℕ, IfOk, Ok};
 ghost use Rattle.vault_inventory.specs.Inventory.{read_served};
-ghost use Rattle.vault_inventory.specs.ServedInventory.{ServedInventory};
+ghost use Rattle.vault_inventory.specs.Served.{Served};
 ghost use Rattle.agent_words.specs.Reading.{AreFaults, AreFaultsOf, AreLast, AreWrittenFaults, FirstIsWhy};
 
 use crate::demands::Demands;
@@ -87,7 +87,7 @@ fn last_fault<I: Inputs>(
     folder: &str,
     inputs: &mut I,
 ) -> Result<Vec<StartFault>, AllocError>
-    requires { (served : ServedInventory) × (read_served bytes.now ≡ Ok served) }
+    requires { (served : Served) × (read_served bytes.now ≡ Ok served) }
     ensures last { IfOk result (λ faults. AreLast demands (I.bytes_at inputs.old) folder.now bytes.now faults.items) }
     ensures same { (path : List ℕ) → I.bytes_at inputs.new path ≡ I.bytes_at inputs.old path }
 {

@@ -6,7 +6,7 @@ ghost use Rattle.state_changes.specs.Rows.{is_lease_if};
 ghost use Rattle.agent_words.specs.Outcomes.{nothing_kept};
 ghost use Rattle.agent_words.specs.Telling.{AreNeedLines, AreReachLines, IsAddLine, IsDated, IsDoneReply, IsDropLine, IsEndedLine, IsNeedLine, IsNeedReply, IsRefusalFor, IsRefusedReply, IsReplyTo, SaysNeeded, reload_line, replaced_text, settle_line, unkept_line};
 
-use agent_control::{Lines, ControlReply, write_reply};
+use agent_control::{ControlReply, Lines, write_reply};
 use base_moment::{LAST, Moment, Text, date_text};
 use state_changes::Row;
 use std::alloc::{AllocError, Global};
@@ -230,7 +230,11 @@ fn refused_reply(alloc: Global, why: Option<Text>) -> Option<Text>
     ensures { IsRefusedReply why result }
 {
     let why = why?;
-    write_reply(alloc, &ControlReply::Refused(why, Lines::of(Vec::new(alloc)))).ok()
+    write_reply(
+        alloc,
+        &ControlReply::Refused(why, Lines::of(Vec::new(alloc))),
+    )
+    .ok()
 }
 
 /// The lines of the answer to what was not done for these reasons; `None` where there are none, or memory was wanting.

@@ -8,7 +8,7 @@ use crate::demands::Demands;
 use crate::fault::StartFault;
 use state_changes::Row;
 use std::alloc::{AllocError, Global};
-use vault_inventory::{Inventory, EntryNote, ServedInventory};
+use vault_inventory::{EntryNote, Inventory, ServedInventory};
 
 /// The first fault of what is written.
 #[tactic(auto, unfolding(crate::specs::Starts::first_start_fault, crate::specs::Starts::written_faults))]

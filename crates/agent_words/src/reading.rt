@@ -2,7 +2,7 @@
 ghost use Rattle.std.specs.Prelude.{◌≡◌, ◌⊎◌, List, ℕ, IfErr, IfOk, Ok, false, string_bytes};
 ghost use Rattle.std.specs.List.{list_all};
 ghost use Rattle.vault_inventory.specs.Inventory.{read_served};
-ghost use Rattle.vault_inventory.specs.ServedInventory.{ServedInventory};
+ghost use Rattle.vault_inventory.specs.Served.{Served};
 ghost use Rattle.vault_served.specs.ForGood.{inventory_for_good};
 ghost use Rattle.agent_words.specs.Filling.{names_no_file};
 ghost use Rattle.agent_words.specs.Reading.{IsFilledText, IsToServe, IsUnfilled, IsWide, IsWideText, NotTogether, is_as_written, is_full, keeps_margin, margin_for};
@@ -17,7 +17,7 @@ use plan_spread::{margin_by, margin_with};
 use state_changes::listed_rows;
 use state_file::settle;
 use std::alloc::{AllocError, Global};
-use vault_inventory::{Inventory, MOST_INVENTORY, EntryNote, ServedInventory, read_served};
+use vault_inventory::{EntryNote, Inventory, MOST_INVENTORY, ServedInventory, read_served};
 use vault_served::{read_for_good, served_for_good};
 
 /// How much longer a margin may be written than another: it has four digits at most, and a unit.
@@ -88,7 +88,7 @@ fn names_no_file(notes: &[EntryNote]) -> bool
 // What is served by a text that can be read. The only error is lack of memory.
 #[tactic(auto, using(crate::proofs::Read::only_memory))]
 fn serve_text(alloc: Global, text: &[u8]) -> Result<Inventory, StartFault>
-    requires { (v : ServedInventory) × (read_served text.now ≡ Ok v) }
+    requires { (v : Served) × (read_served text.now ≡ Ok v) }
     ensures served { IfOk result (λ inventory. inventory_for_good text.now ≡ Ok inventory) }
     ensures memory { IfErr result (λ fault. fault ≡ OutOfMemory) }
 {

@@ -16,7 +16,12 @@ pub fn why_later(alloc: Global) -> Option<Text>
 
 /// That the broker refuses to look the credential up which this change of the entry of that name brings. The only error is lack of
 /// memory, here and in what follows.
-pub fn why_refused(alloc: Global, name: &[u8], what: &ChangeKind, status: u16) -> Result<Text, AllocError>
+pub fn why_refused(
+    alloc: Global,
+    name: &[u8],
+    what: &ChangeKind,
+    status: u16,
+) -> Result<Text, AllocError>
     ensures { IfOk result (λ why. why ≡ status_words status ++ kept_words name.now what.now) }
 {
     let mut text = status_text(alloc, status)?;

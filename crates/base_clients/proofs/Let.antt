@@ -1,7 +1,6 @@
 -- Some are let in, one after another: for `let_in`.
 use Rattle.std.proofs.Common.{◌≡◌, ℕ, ◌≤◌, ◌+◌, ◌⊎◌, inl, inr, ◌∙◌, List, [], ◌∷◌, ◌++◌, length, Option, Some, None, Result, Ok, Bool, true, false, refl, sym, subst, ap, append_assoc, append-nil, length-append, arith}
-use Rattle.base_clients.specs.Doors.{AskedFor, DoorLog}
-use Rattle.base_clients.specs.declared.clients.Came.{Came}
+use Rattle.base_clients.specs.{Doors.AskedFor, Doors.DoorLog, declared.clients.Came.Came}
 use Rattle.base_clients.specs.declared.clients.Came.TheVariants.{One, Nobody}
 use Rattle.base_clients.specs.Tables.{GuestTable, LetsIn, LetsOneIn, arrive, arrive_all}
 

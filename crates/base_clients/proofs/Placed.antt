@@ -2,12 +2,8 @@
 use Rattle.std.proofs.Common.{◌≡◌, ℕ, suc, zero, ◌<◌, ◌∙◌, Bool, true, false, cond, List, [], ◌∷◌, length, get_or, set, Option, Some, None, Result, refl, sym, subst, ap, arith}
 use Rattle.std.proofs.lemmas.List.Quantifiers.{position-Some}
 use Rattle.std.specs.List.{position, slice_get}
-use Rattle.base_clients.specs.Guests.{GuestIsFed, is_stage_asked}
+use Rattle.base_clients.specs.{Guests.GuestIsFed, Guests.is_stage_asked, declared.clients.GuestRequest.GuestRequest, declared.fed.Fed.Fed, declared.guest.Guest.Guest, declared.limits.GuestLimits.GuestLimits}
 use Rattle.base_clients.specs.Tables.{BecomesAt, Feeds, FeedsAt, GuestTable, TakesAt, TakesFrom, TakesRequest, follows_as}
-use Rattle.base_clients.specs.declared.clients.GuestRequest.{GuestRequest}
-use Rattle.base_clients.specs.declared.fed.Fed.{Fed}
-use Rattle.base_clients.specs.declared.guest.Guest.{Guest}
-use Rattle.base_clients.specs.declared.limits.GuestLimits.{GuestLimits}
 
 got : {X : Type 0} (xs : List X) (i : ℕ) (x : X) → i < length xs → x ≡ get_or xs i x → slice_get xs i ≡ Some x
 got [] i x within is = absurd (omega arith)

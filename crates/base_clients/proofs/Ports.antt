@@ -1,11 +1,8 @@
 -- Ports: a word that is no path has no slash, one that is no number of 16 bits is no port, and an address is what its text says.
 use Rattle.std.proofs.Common.{◌≡◌, ℕ, ◌^◌, ◌<◌, ◌≤◌, ◌∙◌, inl, inr, Bool, true, false, List, None, Some, Result, Ok, Err, MatchBool, arith, length, subst, sym}
-use Rattle.std.proofs.lemmas.List.{get_or_default}
-use Rattle.std.proofs.lemmas.Str.Pattern.{contains_char}
-use Rattle.std.specs.Net.Grammar.{IsSocketText, Parses}
+use Rattle.std.proofs.lemmas.{List.get_or_default, Str.Pattern.contains_char}
+use Rattle.std.specs.{Net.Grammar.IsSocketText, Net.Grammar.Parses, Str.Pattern.FindsChar, declared.net.socket_addr.SocketAddr.SocketAddr}
 use Rattle.std.specs.Str.Parse.{IsNumeral, ParsesUnsigned, digits_value, without_leading_plus}
-use Rattle.std.specs.Str.Pattern.{FindsChar}
-use Rattle.std.specs.declared.net.socket_addr.SocketAddr.{SocketAddr}
 use Rattle.base_device.specs.Places.{IsPath}
 use Rattle.base_clients.specs.Entrances.{IsAddress, IsPort}
 

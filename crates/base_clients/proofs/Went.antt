@@ -3,13 +3,10 @@ use Rattle.std.proofs.Common.{◌≡◌, ℕ, ◌<◌, ◌+◌, inl, inr, Bool, 
 use Rattle.std.proofs.lemmas.Grind.{drop_more_same}
 use Rattle.std.proofs.lemmas.List.{drop-set-lt, drop_more, take_more_set}
 use Rattle.std.proofs.Math.Seq.{take-add}
+use Rattle.base_clients.specs.{Doors.DoorLog, declared.limits.GuestLimits.GuestLimits, declared.guest.Guest.Guest, declared.talk.TalkCall.TalkCall}
 use Rattle.base_clients.specs.Guests.{GuestGoesOn, GuestIsLost, is_stage_over}
 use Rattle.base_clients.specs.Tables.{EachGoesOn, GuestTable, LetsIn, OneGoesOn, Turns}
-use Rattle.base_clients.specs.Doors.{DoorLog}
 use Rattle.base_clients.proofs.Let.{lets_less}
-use Rattle.base_clients.specs.declared.limits.GuestLimits.{GuestLimits}
-use Rattle.base_clients.specs.declared.guest.Guest.{Guest}
-use Rattle.base_clients.specs.declared.talk.TalkCall.{TalkCall}
 
 and_false : (e : Bool) → (e && false) ≡ false
 and_false true = refl

@@ -2,11 +2,8 @@
 use Rattle.std.proofs.Common.{◌≡◌, ℕ, ◌<◌, ◌≤◌, ◌∙◌, Bool, List, [], length, take, Option, None, Some, refl, sym, subst, ap, append-nil, length-take, arith}
 use Rattle.std.proofs.lemmas.List.{length-take-le, take-take}
 use Rattle.std.specs.Io.KnownBytes.{Appends, Consumes, IsAtEnd, Keeps}
-use Rattle.base_clients.specs.Guests.{count}
-use Rattle.base_clients.specs.declared.guest.Guest.{Guest}
-use Rattle.base_clients.specs.declared.stage.GuestStage.{GuestStage}
-use Rattle.base_device.specs.Tries.{IfTryDone, MatchTried}
-use Rattle.base_device.specs.declared.tried.Tried.{Tried}
+use Rattle.base_clients.specs.{Guests.count, declared.guest.Guest.Guest, declared.stage.GuestStage.GuestStage}
+use Rattle.base_device.specs.{Tries.IfTryDone, Tries.MatchTried, declared.tried.Tried.Tried}
 use Rattle.base_device.specs.declared.tried.Tried.TheVariants.{Done, Waits, Failed}
 
 -- a front of a front

@@ -1,9 +1,8 @@
 -- Entrances: where guests come in, as a word of the command line says it.
 -- Source: this project's own; decimal digits and addresses are as std reads them.
 use Rattle.std.specs.Prelude.{◌≡◌, ℕ, ◌≤◌, ◌⊎◌, List, Option, Some, None}
-use Rattle.std.specs.Net.Grammar.{IsSocketText}
+use Rattle.std.specs.{Net.Grammar.IsSocketText, declared.net.socket_addr.SocketAddr.SocketAddr}
 use Rattle.std.specs.Str.Parse.{IsNumeral, digits_value, without_leading_plus}
-use Rattle.std.specs.declared.net.socket_addr.SocketAddr.{SocketAddr}
 use Rattle.base_device.specs.Places.{IsHere, IsPath}
 use Rattle.base_clients.specs.declared.entrance.Entrance.{Entrance}
 use Rattle.base_clients.specs.declared.entrance.Entrance.TheVariants as entrances

@@ -2,16 +2,11 @@
 -- Source: this project's own.
 use Rattle.std.specs.Prelude.{◌≡◌, ◌≢◌, ℕ, zero, suc, ◌+◌, ◌-◌, ◌^◌, ◌<◌, ◌≤◌, min, nat_lt, List, [], ◌∷◌, ◌++◌, length, take, drop, Bool, true, false, not, ◌&&◌, ◌||◌, Option, Some, None, Result, Ok, Err, if◌then◌else◌}
 use Rattle.std.specs.Io.KnownBytes.{Appends, Consumes, IsAtEnd, Keeps}
-use Rattle.base_device.specs.Tries.{MatchTried}
-use Rattle.base_device.specs.declared.tried.Tried.{Tried}
+use Rattle.base_device.specs.{Tries.MatchTried, declared.tried.Tried.Tried}
 use Rattle.base_device.specs.declared.tried.Tried.TheVariants.{Done, Waits, Failed}
-use Rattle.base_clients.specs.Calls.{Logs}
-use Rattle.base_clients.specs.declared.fed.Fed.{Fed}
+use Rattle.base_clients.specs.{Calls.Logs, declared.fed.Fed.Fed, declared.guest.Guest.Guest, declared.stage.GuestStage.GuestStage, declared.talk.TalkCall.TalkCall}
 use Rattle.base_clients.specs.declared.fed.Fed.TheVariants.{Gone, Full, Taken}
-use Rattle.base_clients.specs.declared.guest.Guest.{Guest}
-use Rattle.base_clients.specs.declared.stage.GuestStage.{GuestStage}
 use Rattle.base_clients.specs.declared.stage.GuestStage.TheVariants.{Reading, Asked, Waiting, Answering, Following, Over}
-use Rattle.base_clients.specs.declared.talk.TalkCall.{TalkCall}
 use Rattle.base_clients.specs.declared.talk.TalkCall.TheVariants.{Gave, Got}
 
 abbrev pub is_stage_over : GuestStage → Bool

@@ -3,17 +3,11 @@
 use Rattle.std.specs.Prelude.{◌≡◌, ℕ, ◌+◌, ◌-◌, ◌^◌, ◌≤◌, ◌⊎◌, min, nat_lt, nat_eq, List, [], ◌∷◌, ◌++◌, length, filter, not, Bool, true, false, ◌&&◌, Option, Some, None, Result, Ok, Err, if◌then◌else◌}
 use Rattle.std.specs.List.{position, remove, slice_get, slice_set}
 use Rattle.base_device.specs.Moments.{earlier}
-use Rattle.base_clients.specs.Doors.{AskedFor, DoorLog}
+use Rattle.base_clients.specs.{Doors.AskedFor, Doors.DoorLog, declared.clients.Came.Came, declared.clients.GuestRequest.GuestRequest, declared.fed.Fed.Fed, declared.fed.Fed.TheVariants.Gone, declared.guest.Guest.Guest}
+use Rattle.base_clients.specs.{declared.limits.GuestLimits.GuestLimits, declared.talk.TalkCall.TalkCall}
 use Rattle.base_clients.specs.Guests.{GuestGoesOn, GuestIsFed, GuestIsLost, asked_bytes, by_after, is_following, is_stage_asked, is_stage_busy, is_stage_over, is_waiting, newcomer}
-use Rattle.base_clients.specs.declared.clients.Came.{Came}
 use Rattle.base_clients.specs.declared.clients.Came.TheVariants.{One, Nobody, NoPlace}
-use Rattle.base_clients.specs.declared.clients.GuestRequest.{GuestRequest}
-use Rattle.base_clients.specs.declared.fed.Fed.{Fed}
-use Rattle.base_clients.specs.declared.fed.Fed.TheVariants.{Gone}
-use Rattle.base_clients.specs.declared.guest.Guest.{Guest}
-use Rattle.base_clients.specs.declared.limits.GuestLimits.{GuestLimits}
 use Rattle.base_clients.specs.declared.stage.GuestStage.TheVariants.{Asked, Answering, Following, Waiting}
-use Rattle.base_clients.specs.declared.talk.TalkCall.{TalkCall}
 
 -- the guests, the first to come first; the number of the next; how many may be there and how long a request may be; what tells
 -- that one is whole

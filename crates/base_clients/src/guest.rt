@@ -9,7 +9,9 @@ use crate::fed::Fed;
 use crate::framing::Framing;
 use crate::left::Left;
 use crate::limits::PATIENCE;
-use crate::stage::{GuestStage, count, has_waited, heard_to, moved_by, read_to, told_to, written_to};
+use crate::stage::{
+    GuestStage, count, has_waited, heard_to, moved_by, read_to, told_to, written_to,
+};
 use crate::talk::Talk;
 use base_device::Tried;
 use base_moment::Text;

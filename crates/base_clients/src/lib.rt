@@ -31,4 +31,4 @@ pub use left::Left;
 pub use limits::{GuestLimits, MOST_AT_ONCE, MOST_PIECE, PATIENCE};
 pub use sockets::{SocketDoor, SocketTalk};
 pub use stage::GuestStage;
-pub use talk::{TalkCall, Talk};
+pub use talk::{Talk, TalkCall};

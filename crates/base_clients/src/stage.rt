@@ -86,7 +86,10 @@ impl GuestStage {
     {
         match self {
             GuestStage::Reading(_) | GuestStage::Answering(_) => true,
-            GuestStage::Asked(_) | GuestStage::Waiting | GuestStage::Following(_) | GuestStage::Over => false,
+            GuestStage::Asked(_)
+            | GuestStage::Waiting
+            | GuestStage::Following(_)
+            | GuestStage::Over => false,
         }
     }
 
@@ -111,7 +114,8 @@ impl GuestStage {
         match self {
             GuestStage::Reading(bytes) if now < by => GuestStage::Reading(bytes),
             GuestStage::Answering(left) if now < by => GuestStage::Answering(left),
-            GuestStage::Reading(_) | GuestStage::Answering(_) | GuestStage::Over => GuestStage::Over,
+            GuestStage::Reading(_) | GuestStage::Answering(_) | GuestStage::Over =>
+                GuestStage::Over,
             GuestStage::Asked(bytes) => GuestStage::Asked(bytes),
             GuestStage::Waiting => GuestStage::Waiting,
             GuestStage::Following(left) => GuestStage::Following(left),

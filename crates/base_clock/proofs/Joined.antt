@@ -1,8 +1,6 @@
 -- Calls that follow each other.
 use Rattle.std.proofs.Common.{◌≡◌, ◌∙◌, List, [], ◌++◌, Option, None, Some, IfSome, ap, append_assoc, append-nil, refl, subst, sym}
-use Rattle.base_clock.specs.Laws.{JoinedLaw, NoneLaw}
-use Rattle.base_clock.specs.Seen.{AllMade, ClockSeen}
-use Rattle.base_clock.specs.declared.call.ClockCall.{ClockCall}
+use Rattle.base_clock.specs.{Laws.JoinedLaw, Laws.NoneLaw, declared.call.ClockCall.ClockCall}
 
 -- these are known, and are others and then `more`
 abbrev Adds : Option (List ClockCall) → List ClockCall → List ClockCall → Type 0

@@ -1,7 +1,6 @@
 -- Laws of clocks. Each is the contract of a public function without a body.
 use Rattle.std.specs.Prelude.{List, [], ◌++◌}
-use Rattle.base_clock.specs.Seen.{AllMade, ClockSeen}
-use Rattle.base_clock.specs.declared.call.ClockCall.{ClockCall}
+use Rattle.base_clock.specs.{Seen.AllMade, Seen.ClockSeen, declared.call.ClockCall.ClockCall}
 
 -- calls that follow others are those and then these
 abbrev pub JoinedLaw : Type 0

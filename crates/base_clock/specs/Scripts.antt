@@ -2,9 +2,7 @@
 -- Source: this project's own.
 use Rattle.std.specs.Prelude.{ℕ, Bool, false, List, [], ◌∷◌, ◌++◌, length, nat_lt, if◌then◌else◌, Option, Some, None}
 use Rattle.base_device.specs.Failures.{one_more}
-use Rattle.base_clock.specs.Seen.{ClockSeen, read_call}
-use Rattle.base_clock.specs.declared.call.ClockCall.{ClockCall}
-use Rattle.base_clock.specs.declared.reading.Reading.{Reading}
+use Rattle.base_clock.specs.{Seen.ClockSeen, Seen.read_call, declared.call.ClockCall.ClockCall, declared.reading.Reading.Reading}
 
 -- the readings to come, none for one that fails; the calls that are kept, and for how many there is room; whether all that were
 -- made are kept; and how many failed

@@ -1,9 +1,8 @@
 -- Seen: what contracts see of a clock.
 -- Source: this project's own.
 use Rattle.std.specs.Prelude.{◌≡◌, ℕ, List, [], ◌∷◌, ◌++◌, Option, Some, None, IfSome}
-use Rattle.base_clock.specs.declared.call.ClockCall.{ClockCall}
+use Rattle.base_clock.specs.{declared.call.ClockCall.ClockCall, declared.reading.Reading.Reading}
 use Rattle.base_clock.specs.declared.call.ClockCall.TheVariants as calls
-use Rattle.base_clock.specs.declared.reading.Reading.{Reading}
 
 -- what was asked of it from the first call on, where that is known; and how many of its calls failed, up to the greatest `u64`
 pub record ClockSeen : Type 0 where

@@ -1,9 +1,7 @@
 -- What a read of a source in memory hands out, over plain lists: for `MemorySource::read_some`.
 use Rattle.std.proofs.Common.{◌≡◌, ℕ, ◌+◌, ◌-◌, ◌<◌, ◌≤◌, ◌⊎◌, zero, suc, max, refl, replicate, length, take, drop, List, [], ◌∷◌, ◌++◌, arith, sym, ap, ◌∙◌, min, length-drop, take-append-drop, inl, inr}
-use Rattle.std.proofs.lemmas.List.{take_at, drop-drop, drop_all}
-use Rattle.std.proofs.lemmas.Bool.{cases_lt}
-use Rattle.base_device.specs.Memory.{next_piece, reads_of}
-use Rattle.base_device.specs.declared.limits.TheConstants.{MOST_ROOM}
+use Rattle.std.proofs.lemmas.{List.take_at, List.drop-drop, List.drop_all, Bool.cases_lt}
+use Rattle.base_device.specs.{Memory.next_piece, Memory.reads_of, declared.limits.TheConstants.MOST_ROOM}
 
 -- the copied bytes at the front of the room, and the rest, are what was left
 pub handed_front : (xs copied out : List ℕ) (place n : ℕ) → copied ≡ take (place + n - place) (drop place xs) → length copied ≡ n
@@ -68,12 +66,3 @@ pub end_alone : (pieces bytes : List ℕ) → reads_of pieces (length bytes) + 1
 unfolding reads_of
 end_alone pieces [] h = refl
 end_alone pieces (b ∷ bytes) h = absurd (let none = none_of pieces (length (b ∷ bytes)) (omega (arith, h)) in omega (arith, none))
-
--- so many bytes, one a piece, need as many reads
-pub reads_of_ones : (n : ℕ) → reads_of (replicate n 1) n ≡ n
-unfolding reads_of
-reads_of_ones zero = refl
-reads_of_ones (suc n) =
-    let rest = reads_of_ones n in
-    let one : suc n - min (max 1 1) MOST_ROOM ≡ n = omega arith in
-    omega (arith, rest, ap (reads_of (replicate n 1)) one)

@@ -1,12 +1,9 @@
 -- How a device counts the calls that answered `Failed`. The count stops at the greatest `u64`, and a count that stands
 -- there is taken as risen. This is the project's own rule.
 use Rattle.std.specs.Prelude.{◌≡◌, ℕ, ◌+◌, ◌-◌, ◌^◌, ◌<◌, ◌≤◌, ◌⊎◌, nat_lt, if◌then◌else◌, Result, Ok, Err}
-use Rattle.base_device.specs.declared.fault.Failed.{Failed}
-use Rattle.base_device.specs.declared.fault.SinkFault.{SinkFault}
+use Rattle.base_device.specs.{declared.fault.Failed.Failed, declared.fault.SinkFault.SinkFault, declared.one_read.MoreFault.MoreFault, declared.fault.InputFault.InputFault}
 use Rattle.base_device.specs.declared.fault.SinkFault.TheVariants as faults
-use Rattle.base_device.specs.declared.one_read.MoreFault.{MoreFault}
 use Rattle.base_device.specs.declared.one_read.MoreFault.TheVariants as more
-use Rattle.base_device.specs.declared.fault.InputFault.{InputFault}
 use Rattle.base_device.specs.declared.fault.InputFault.TheVariants as inputs
 
 -- the count after one more failure

@@ -1,11 +1,7 @@
 -- What the devices in memory hold, and what a call of a source in memory does.
 use Rattle.std.specs.Prelude.{◌≡◌, ℕ, zero, suc, ◌+◌, ◌-◌, ◌/◌, ◌^◌, List, [], ◌∷◌, length, drop, min, max, Bool, true, false, Option, None, Some, Result, Ok, Err}
-use Rattle.base_device.specs.declared.fault.Failed.{Failed}
-use Rattle.base_device.specs.declared.fault.SinkFault.{SinkFault}
+use Rattle.base_device.specs.{declared.fault.Failed.Failed, declared.fault.SinkFault.SinkFault, Failures.one_more, Seen.Input, Seen.Output, declared.limits.TheConstants.MOST_ROOM}
 use Rattle.base_device.specs.declared.fault.SinkFault.TheVariants as faults
-use Rattle.base_device.specs.Failures.{one_more}
-use Rattle.base_device.specs.Seen.{Input, Output}
-use Rattle.base_device.specs.declared.limits.TheConstants.{MOST_ROOM}
 
 -- the calls that go well before the one that fails (none: no call fails), and the calls that failed so far
 pub record Calls : Type 0 where

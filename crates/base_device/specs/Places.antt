@@ -1,10 +1,7 @@
 -- Places: what a word of a command line says of a place, and the address of a port on this machine.
 -- Source: this project's own; addresses are as std reads them.
 use Rattle.std.specs.Prelude.{◌≡◌, ℕ, ◌∷◌, [], List}
-use Rattle.std.specs.List.{Contains}
-use Rattle.std.specs.Net.Addr.{ipv4_octets, MatchIp}
-use Rattle.std.specs.Net.Socket.{socket_ip, socket_port}
-use Rattle.std.specs.declared.net.socket_addr.SocketAddr.{SocketAddr}
+use Rattle.std.specs.{List.Contains, Net.Addr.ipv4_octets, Net.Addr.MatchIp, Net.Socket.socket_ip, Net.Socket.socket_port, declared.net.socket_addr.SocketAddr.SocketAddr}
 
 -- a word with a slash in it is a path
 abbrev pub IsPath : List ℕ → Type 0

@@ -1,8 +1,7 @@
 -- Tries: what a call comes to that does not wait.
 -- Source: this project's own.
 use Rattle.std.specs.Prelude.{◌≡◌, ◌⊎◌, ℕ, Result, Ok, Err}
-use Rattle.base_device.specs.declared.tried.Tried.{Tried}
-use Rattle.base_device.specs.declared.tried.Tried.TheVariants.{Done, Waits, Failed}
+use Rattle.base_device.specs.{declared.tried.Tried.Tried, declared.tried.Tried.TheVariants.Done, declared.tried.Tried.TheVariants.Waits, declared.tried.Tried.TheVariants.Failed}
 
 -- P of the number of bytes, where there is one, and else Q
 abbrev pub MatchTried : Tried → (ℕ → Type 0) → Type 0 → Type 0

@@ -2,12 +2,9 @@
 use Rattle.std.specs.Prelude.{◌≡◌, ℕ, ◌+◌, ◌<◌, ◌≤◌, ◌⊎◌, List, length, Option, Some, None, IfSome, Result, Ok, Err}
 use Rattle.std.specs.declared.io.ErrorKind.{ErrorKind}
 use Rattle.std.specs.declared.io.ErrorKind.TheVariants as kinds
-use Rattle.base_device.specs.declared.fault.InputFault.{InputFault}
+use Rattle.base_device.specs.{declared.fault.InputFault.InputFault, declared.one_read.MoreFault.MoreFault, declared.limits.TheConstants.MOST_READS, Seen.Input}
 use Rattle.base_device.specs.declared.fault.InputFault.TheVariants as faults
-use Rattle.base_device.specs.declared.one_read.MoreFault.{MoreFault}
 use Rattle.base_device.specs.declared.one_read.MoreFault.TheVariants as more
-use Rattle.base_device.specs.declared.limits.TheConstants.{MOST_READS}
-use Rattle.base_device.specs.Seen.{Input}
 
 -- where its bytes are known, at most that many reads were made of the input between the two states
 abbrev pub MakesAtMost : ℕ → Input → Input → Type 0

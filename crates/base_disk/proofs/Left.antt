@@ -1,17 +1,11 @@
 -- What a crash may leave at one path goes on through the calls of a disk in memory.
-use Rattle.std.proofs.Common.{◌≡◌, ◌⊎◌, inl, inr, ⊎_elim, ℕ, suc, zero, ◌+◌, ◌-◌, ◌<◌, ◌≤◌, max, min, List, [], ◌∷◌, ◌++◌, length, take, drop, get_or, Bool, true, false, if◌then◌else◌, not, Option, Some, refl, sym, ◌∙◌, ap, subst, arith, length-append, length-take, length-drop}
+use Rattle.std.proofs.Common.{◌≡◌, ◌⊎◌, inl, inr, ⊎_elim, ℕ, suc, zero, ◌+◌, ◌-◌, ◌<◌, ◌≤◌, List, [], ◌∷◌, ◌++◌, length, take, drop, get_or, Bool, true, false, if◌then◌else◌, not, Option, Some, refl, sym, ◌∙◌, ap, subst, arith, length-append, length-take, length-drop}
 use Rattle.std.proofs.lemmas.Bool.{true≢false, false≢true, cases_Bool}
-use Rattle.std.proofs.lemmas.Slice.Eq.{bytes_eq-Decides}
-use Rattle.std.proofs.lemmas.List.{take_at, drop_at, take_all, drop_all, take_more}
+use Rattle.std.proofs.lemmas.{Slice.Eq.bytes_eq-Decides, List.take_at, List.take_more}
 use Rattle.std.specs.Str.{bytes_eq}
-use Rattle.base_disk.specs.Image.{File, Image, image_changed, with_file_at, with_bytes, overwritten}
-use Rattle.base_disk.specs.Torn.{Torn, Tears, MovesFile, IsTornFile}
-use Rattle.base_disk.specs.State.{DiskState}
-use Rattle.base_disk.specs.History.{state_after_call, state_after_calls, left_after_what, file_after, sound_after}
-use Rattle.base_disk.specs.Left.{MayStand, MayMake, PathIsFollowed}
-use Rattle.base_disk.specs.Memory.{EitherEach}
-use Rattle.base_disk.specs.declared.call.DiskCall.{DiskCall}
-use Rattle.base_disk.specs.declared.call.CallMade.{CallMade}
+use Rattle.base_disk.specs.{Image.File, Image.Image, Image.image_changed, Image.with_file_at, Image.with_bytes, Image.overwritten, Torn.Torn, Torn.Tears, Torn.MovesFile, Torn.IsTornFile, State.DiskState}
+use Rattle.base_disk.specs.{History.state_after_call, History.state_after_calls, History.left_after_what, History.file_after, History.sound_after, Left.MayStand, Left.MayMake, Left.PathIsFollowed, Memory.EitherEach}
+use Rattle.base_disk.specs.{declared.call.DiskCall.DiskCall, declared.call.CallMade.CallMade}
 use Rattle.base_disk.specs.declared.call.CallMade.TheVariants as what
 use Rattle.base_disk.proofs.Runs.{after_all_push}
 

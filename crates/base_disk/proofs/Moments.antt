@@ -1,7 +1,6 @@
 -- How a run of calls of a disk goes on.
 use Rattle.std.proofs.Common.{inl, inr, ⊎_elim, arith}
-use Rattle.base_disk.specs.Image.{Image}
-use Rattle.base_disk.specs.State.{DiskState, Elapses, LeavesOnly}
+use Rattle.base_disk.specs.{Image.Image, State.DiskState, State.Elapses, State.LeavesOnly}
 
 -- before the first call
 pub started : (old : DiskState) (P : Image → Type 0) → ((c : Image) → old.left_since old.moment c → old.may_leave c) → ((c : Image) → old.may_leave c → P c) → LeavesOnly old old P

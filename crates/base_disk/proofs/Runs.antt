@@ -1,21 +1,15 @@
 -- What the calls of a disk in memory make of it, one by one.
-use Rattle.std.proofs.Common.{◌≡◌, ℕ, List, [], ◌∷◌, ◌++◌, length, Bool, true, false, if◌then◌else◌, Option, Some, None, Result, Ok, Err, OnOk, refl, sym, ◌∙◌, ap, subst, inl, inr, ◌⊎◌, ⊎_elim, arith, take, Vec}
+use Rattle.std.proofs.Common.{◌≡◌, ℕ, List, [], ◌∷◌, ◌++◌, length, Bool, true, false, if◌then◌else◌, Option, Some, None, Result, Ok, Err, OnOk, refl, sym, ◌∙◌, ap, subst, inl, inr, ◌⊎◌, ⊎_elim, arith, Vec}
 use Rattle.std.proofs.lemmas.Bool.{true≢false}
 use Rattle.std.proofs.lemmas.Slice.Eq.{bytes_eq-Decides}
-use Rattle.std.specs.declared.alloc.Global.{Global}
-use Rattle.std.specs.Str.{bytes_eq}
-use Rattle.base_disk.specs.Image.{File, Image, image_changed, with_file_at, with_bytes, overwritten}
-use Rattle.base_disk.specs.Torn.{Torn, Tears, MovesFile}
-use Rattle.base_disk.specs.State.{DiskState, Beside, Touches, Elapses, OutcomesFollow}
-use Rattle.base_disk.specs.History.{state_after_call, state_after_calls, file_after, left_by_call, file_after_all}
-use Rattle.base_disk.specs.Memory.{state_of, memory_state, at_first, image_of, kept_of, beside_of, IsSame, HasEntered, EntersCall}
+use Rattle.std.specs.{declared.alloc.Global.Global, Str.bytes_eq}
+use Rattle.base_disk.specs.{Image.File, Image.Image, Image.image_changed, Image.with_file_at, Image.with_bytes, Image.overwritten, Torn.Torn, Torn.Tears, Torn.MovesFile}
+use Rattle.base_disk.specs.{State.DiskState, State.Beside, State.Touches, State.Elapses, State.OutcomesFollow, History.state_after_call, History.state_after_calls, History.file_after, History.left_by_call, History.file_after_all}
+use Rattle.base_disk.specs.{Memory.state_of, Memory.memory_state, Memory.at_first, Memory.image_of, Memory.kept_of, Memory.beside_of, Memory.IsSame, Memory.HasEntered, Memory.EntersCall, declared.call.DiskCall.DiskCall}
+use Rattle.base_disk.specs.{declared.call.CallMade.CallMade, declared.fault.DiskFault.DiskFault, declared.memory.MemoryDisk.MemoryDisk}
 use Rattle.base_disk.proofs.Torn.{torn_not, tears_not}
-use Rattle.base_disk.specs.declared.call.DiskCall.{DiskCall}
-use Rattle.base_disk.specs.declared.call.CallMade.{CallMade}
 use Rattle.base_disk.specs.declared.call.CallMade.TheVariants as what
-use Rattle.base_disk.specs.declared.fault.DiskFault.{DiskFault}
 use Rattle.base_disk.specs.declared.fault.DiskFault.TheVariants as faults
-use Rattle.base_disk.specs.declared.memory.MemoryDisk.{MemoryDisk}
 
 -- the last call comes after all others
 pub after_all_push : (calls : List DiskCall) (call : DiskCall) (s : DiskState) → state_after_calls (calls ++ call ∷ []) s ≡ state_after_call call (state_after_calls calls s)

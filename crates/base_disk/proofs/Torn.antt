@@ -1,7 +1,6 @@
 -- What a crash cuts short may not have begun.
-use Rattle.std.proofs.Common.{refl, ℕ, List, length, Option, None, Some, arith}
-use Rattle.base_disk.specs.Image.{File, Image}
-use Rattle.base_disk.specs.Torn.{Torn, Tears, IsTornFile}
+use Rattle.std.proofs.Common.{refl, ℕ, List, Option, None, Some, arith}
+use Rattle.base_disk.specs.{Image.File, Image.Image, Torn.Torn, Torn.Tears, Torn.IsTornFile}
 
 pub torn_not : (at n : ℕ) (xs : List ℕ) → Torn at n xs xs
 torn_not at n xs = record { before = refl; after = refl; no_shorter = omega arith; no_longer = omega arith }

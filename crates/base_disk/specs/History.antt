@@ -2,11 +2,7 @@
 -- Source: this project's own.
 use Rattle.std.specs.Prelude.{◌≡◌, ◌⊎◌, ℕ, suc, ◌/◌, ◌≤◌, List, [], ◌∷◌, length, take, Option, Some, Bool, true, false, if◌then◌else◌}
 use Rattle.std.specs.Str.{bytes_eq}
-use Rattle.base_disk.specs.Image.{File, Image, image_changed, with_bytes, overwritten}
-use Rattle.base_disk.specs.Torn.{Torn, Tears, MovesFile}
-use Rattle.base_disk.specs.State.{DiskState}
-use Rattle.base_disk.specs.declared.call.DiskCall.{DiskCall}
-use Rattle.base_disk.specs.declared.call.CallMade.{CallMade}
+use Rattle.base_disk.specs.{Image.File, Image.Image, Image.image_changed, Image.with_bytes, Image.overwritten, Torn.Torn, Torn.Tears, Torn.MovesFile, State.DiskState, declared.call.DiskCall.DiskCall, declared.call.CallMade.CallMade}
 use Rattle.base_disk.specs.declared.call.CallMade.TheVariants as what
 
 -- the file at a path after a call on it; a write that fails takes half of the bytes

@@ -1,10 +1,7 @@
 -- Left: what a crash may leave at one path, whatever it leaves at the others.
 -- Source: this project's own.
 use Rattle.std.specs.Prelude.{◌≡◌, ◌⊎◌, List, ℕ, length, Option, Some, Bool, true, false, if◌then◌else◌}
-use Rattle.base_disk.specs.Image.{File, Image, image_changed}
-use Rattle.base_disk.specs.Torn.{Torn, IsTornFile}
-use Rattle.base_disk.specs.State.{DiskState}
-use Rattle.base_disk.specs.declared.call.CallMade.{CallMade}
+use Rattle.base_disk.specs.{Image.File, Image.Image, Image.image_changed, Torn.Torn, Torn.IsTornFile, State.DiskState, declared.call.CallMade.CallMade}
 use Rattle.base_disk.specs.declared.call.CallMade.TheVariants as what
 
 -- whatever a crash may leave, it may leave with this file, or none, at the path

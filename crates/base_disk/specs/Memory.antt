@@ -1,22 +1,11 @@
 -- Memory: a disk in memory is the files that it began with, and what its calls did to them.
 -- Source: this project's own.
 use Rattle.std.specs.Prelude.{◌≡◌, ◌⊎◌, ℕ, zero, suc, ◌≤◌, List, [], ◌∷◌, ◌++◌, Vec, Result, Err, Option, None, Some, Bool, true, false, if◌then◌else◌}
-use Rattle.std.specs.Str.{bytes_eq}
-use Rattle.base_disk.specs.Image.{File, Image}
-use Rattle.base_disk.specs.State.{DiskState, Beside}
-use Rattle.base_disk.specs.History.{state_after_calls}
-use Rattle.base_disk.specs.declared.call.Stored.{Stored}
-use Rattle.base_disk.specs.declared.call.DiskCall.{DiskCall}
-use Rattle.base_disk.specs.declared.call.Held.{Held}
-use Rattle.std.specs.declared.alloc.Global.{Global}
-use Rattle.base_disk.specs.declared.call.CallMade.{CallMade}
-use Rattle.base_disk.specs.declared.fault.DiskFault.{DiskFault}
+use Rattle.std.specs.{Str.bytes_eq, declared.alloc.Global.Global}
+use Rattle.base_disk.specs.{Image.File, Image.Image, State.DiskState, State.Beside, History.state_after_calls, declared.call.Stored.Stored, declared.call.DiskCall.DiskCall, declared.call.Held.Held, declared.call.CallMade.CallMade}
+use Rattle.base_disk.specs.{declared.fault.DiskFault.DiskFault, declared.failing.Failing.Failing, declared.fault.DiskTrouble.DiskTrouble, declared.memory.MemoryDisk.MemoryDisk, declared.call.FileDraft.FileDraft}
 use Rattle.base_disk.specs.declared.fault.DiskFault.TheVariants as faults
-use Rattle.base_disk.specs.declared.failing.Failing.{Failing}
 use Rattle.base_disk.specs.declared.failing.Failing.TheVariants as failing
-use Rattle.base_disk.specs.declared.fault.DiskTrouble.{DiskTrouble}
-use Rattle.base_disk.specs.declared.memory.MemoryDisk.{MemoryDisk}
-use Rattle.base_disk.specs.declared.call.FileDraft.{FileDraft}
 
 -- a file that code holds
 abbrev pub held_file : Option Held → Option File

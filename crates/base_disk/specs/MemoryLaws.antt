@@ -2,13 +2,8 @@
 use Rattle.std.specs.Prelude.{List, [], ◌∷◌}
 use Rattle.std.proofs.Common.{inr, ⊎_elim, le_trans, le_of_lt, lt-suc_self}
 use Rattle.std.proofs.Math.Nat.{not-suc-le_self}
-use Rattle.base_disk.specs.Image.{Image}
-use Rattle.base_disk.specs.State.{DiskState}
-use Rattle.base_disk.specs.History.{state_after_call, state_after_calls}
-use Rattle.base_disk.specs.Memory.{at_first, image_of, kept_of, memory_state, IsLawful}
-use Rattle.base_disk.specs.declared.call.DiskCall.{DiskCall}
-use Rattle.base_disk.specs.declared.fault.DiskTrouble.{DiskTrouble}
-use Rattle.base_disk.specs.declared.memory.MemoryDisk.{MemoryDisk}
+use Rattle.base_disk.specs.{Image.Image, State.DiskState, History.state_after_call, History.state_after_calls, Memory.at_first, Memory.image_of, Memory.kept_of, Memory.memory_state, Memory.IsLawful, declared.call.DiskCall.DiskCall}
+use Rattle.base_disk.specs.{declared.fault.DiskTrouble.DiskTrouble, declared.memory.MemoryDisk.MemoryDisk}
 
 lawful_first : (image kept : Image) (why : DiskTrouble) → IsLawful (at_first image kept why)
 lawful_first image kept why = record {

@@ -3,9 +3,7 @@
 use Rattle.std.specs.Prelude.{◌≡◌, ◌⊎◌, ℕ, ◌≤◌, List, Bool, true, false, Option, Some, Result, Ok, Err}
 use Rattle.std.specs.Str.{bytes_eq}
 use Rattle.base_device.specs.Failures.{one_more}
-use Rattle.base_disk.specs.Image.{Image, File, SameElsewhere}
-use Rattle.base_disk.specs.declared.fault.DiskTrouble.{DiskTrouble}
-use Rattle.base_disk.specs.declared.fault.DiskFault.{DiskFault}
+use Rattle.base_disk.specs.{Image.Image, Image.File, Image.SameElsewhere, declared.fault.DiskTrouble.DiskTrouble, declared.fault.DiskFault.DiskFault}
 use Rattle.base_disk.specs.declared.fault.DiskFault.TheVariants as faults
 
 -- a file that is written beside the place that it is for, and whether it is on the disk

@@ -1,9 +1,7 @@
 -- System: of a real disk contracts know how many calls failed, and nothing of what stands on it.
 -- Source: this project's own.
 use Rattle.std.specs.Prelude.{ℕ, None, false, Result, Err}
-use Rattle.base_disk.specs.State.{DiskState}
-use Rattle.base_disk.specs.declared.fault.DiskFault.{DiskFault}
-use Rattle.base_disk.specs.declared.fault.DiskTrouble.{DiskTrouble}
+use Rattle.base_disk.specs.{State.DiskState, declared.fault.DiskFault.DiskFault, declared.fault.DiskTrouble.DiskTrouble}
 
 abbrev pub system_state : ℕ → DiskTrouble → DiskState
 system_state faults why = record {

@@ -3,7 +3,7 @@ ghost use Rattle.base_disk.specs.Image.{overwritten, with_bytes};
 ghost use Rattle.base_disk.specs.History.{file_after};
 ghost use Rattle.base_disk.specs.Memory.{image_of, held_file};
 
-use crate::call::{Held, Stored, CallMade};
+use crate::call::{CallMade, Held, Stored};
 use std::alloc::{AllocError, Global};
 
 /// The first of these files at a path.

@@ -6,7 +6,7 @@ ghost use Rattle.base_disk.specs.Left.{MayStand, MayMake};
 ghost use Rattle.base_disk.specs.Memory.{memory_state, held_file, image_of, kept_of};
 
 use crate::MemoryDisk;
-use crate::call::{DiskCall, Held, CallMade};
+use crate::call::{CallMade, DiskCall, Held};
 use crate::content::{after_call, copy_of, first_of, overwrite};
 use std::alloc::{AllocError, Global};
 

@@ -18,7 +18,7 @@ mod replacing;
 mod synced;
 mod system;
 
-pub use call::{DiskCall, FileDraft, Held, Stored, CallMade};
+pub use call::{CallMade, DiskCall, FileDraft, Held, Stored};
 pub use disk::{Disk, DiskStamp};
 pub use failing::Failing;
 pub use fault::{DiskFault, DiskTrouble};

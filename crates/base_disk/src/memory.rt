@@ -6,10 +6,10 @@ ghost use Rattle.base_disk.specs.MemoryLaws.{memory_lawful};
 ghost use Rattle.std.proofs.Common.{le_refl};
 ghost use Rattle.base_disk.specs.Memory.{IsFreshDisk, IsSame, EntersCall, image_of, calls_of_disk, memory_state, held_file, is_turn, next_turn};
 
-use crate::call::{DiskCall, FileDraft, Held, Stored, CallMade};
+use crate::call::{CallMade, DiskCall, FileDraft, Held, Stored};
 use crate::content::{after_call, first_of};
 use crate::failing::Failing;
-use crate::{Disk, DiskFault, Lock, DiskStamp, DiskTrouble};
+use crate::{Disk, DiskFault, DiskStamp, DiskTrouble, Lock};
 use base_moment::Text;
 use std::alloc::{AllocError, Global};
 
@@ -31,7 +31,12 @@ pub struct MemoryDisk {
 
 impl MemoryDisk {
     /// A disk with these files, all of them on it. Of two with one path the first is there. Calls that fail meet `fault`.
-    pub fn new(alloc: Global, files: Vec<Stored>, failing: Failing, fault: DiskTrouble) -> MemoryDisk
+    pub fn new(
+        alloc: Global,
+        files: Vec<Stored>,
+        failing: Failing,
+        fault: DiskTrouble,
+    ) -> MemoryDisk
         ensures first { IsFreshDisk (image_of files.items) (image_of files.items) fault (memory_state result) }
         ensures kept { (path : List ℕ) → DiskKeeps path (memory_state result) }
     {

@@ -3,7 +3,7 @@ ghost use Rattle.base_disk.specs.State.{IsNotTooLong, TellsFailure};
 ghost use Rattle.base_disk.specs.System.{system_state, refused};
 
 use crate::places::{beside_of, folder_of};
-use crate::{Disk, DiskFault, Lock, DiskStamp, DiskTrouble};
+use crate::{Disk, DiskFault, DiskStamp, DiskTrouble, Lock};
 use base_device::{Counted, InputFault, read_all};
 use base_moment::Text;
 use std::alloc::Global;

@@ -1,15 +1,10 @@
 -- What was acknowledged holds through kills and losses of power.
 use Rattle.std.proofs.Common.{◌≡◌, ◌⊎◌, inl, inr, ⊎_elim, ℕ, ◌≤◌, true, false, List, [], ◌∷◌, ◌++◌, Option, Some, None, Result, Ok, Err, refl, sym, ap, subst, ◌∙◌}
-use Rattle.base_disk.specs.Image.{File, Image}
-use Rattle.base_disk.specs.State.{DiskState}
-use Rattle.base_disk.specs.declared.fault.DiskFault.{DiskFault}
+use Rattle.base_disk.specs.{Image.File, Image.Image, State.DiskState, declared.fault.DiskFault.DiskFault}
+use Rattle.base_journal.specs.{Records.StandsFor, Records.lines_kept, declared.journal.Journal.Journal}
 use Rattle.base_journal.specs.Journals.{Exchanging, JournalIsWhole, bytes_of_file, lines_of_journal, path_of_journal}
 use Rattle.base_journal.specs.Lives.{Aim, AllHappen, Answered, AreMade, Call, CallsMake, Compact, Elsewhere, End, Event, Exchange, HoldsAll, IsCall, IsDone, IsEnd, LeavesAmid, LeftAtEnd, OverStarts, Put, Standing, answered, calls_at_end, lines_with, standing_after, standing_after_all}
-use Rattle.base_journal.specs.Records.{StandsFor, lines_kept}
-use Rattle.base_journal.specs.declared.journal.Journal.{Journal}
-use Rattle.base_journal.proofs.Readings.{stands_once}
-use Rattle.base_journal.proofs.Runs.{rest_has}
-use Rattle.base_journal.proofs.Steps.{at_end}
+use Rattle.base_journal.proofs.{Readings.stands_once, Runs.rest_has, Steps.at_end}
 
 -- ---- one call more
 

@@ -1,11 +1,9 @@
 -- What files of records stand for.
-use Rattle.std.proofs.Common.{◌≡◌, ◌≢◌, inl, inr, ℕ, zero, suc, ◌+◌, ◌≤◌, ◌-◌, Bool, true, false, if◌then◌else◌, slice_index, ◌<◌, List, [], ◌∷◌, ◌++◌, length, take, drop, get_or, refl, sym, ◌∙◌, ap, subst, arith, append_assoc, length-append, take-append-drop, length-drop}
-use Rattle.std.proofs.lemmas.Bool.{cases_eq}
+use Rattle.std.proofs.Common.{◌≡◌, ◌≢◌, inl, inr, ℕ, zero, suc, ◌+◌, ◌≤◌, ◌-◌, Bool, true, false, if◌then◌else◌, slice_index, ◌<◌, List, [], ◌∷◌, ◌++◌, length, take, drop, get_or, refl, sym, ◌∙◌, ap, subst, arith, append_assoc, length-append, take-append-drop}
+use Rattle.std.proofs.lemmas.Bool.{cases_eq, eq-eqb}
 use Rattle.std.proofs.lemmas.List.{append-nil, take_at, drop_at, drop_more, take_all, drop_all}
-use Rattle.std.proofs.lemmas.Bool.{eq-eqb}
 use Rattle.memchr.specs.Find.{Nowhere, Passes, NoneBefore, is_byte}
-use Rattle.base_disk.specs.Torn.{Torn}
-use Rattle.base_disk.specs.Image.{overwritten}
+use Rattle.base_disk.specs.{Torn.Torn, Image.overwritten}
 use Rattle.base_journal.specs.Records.{IsRecordLine, AreLines, block, blocks, at_rest, StandsFor, IsBeforeOrAfter, lines_kept, is_out, lines_taken_out}
 
 abbrev first_of : ℕ → List ℕ → ℕ
@@ -68,9 +66,6 @@ stands_once file xs ys s t = one_reading xs ys s.end t.end s.are_lines t.are_lin
 -- what begins with another byte than an open gate begins with no record
 pub shut : (gate : ℕ) (rest : List ℕ) → gate ≢ 43 → (line more : List ℕ) → IsRecordLine line → gate ∷ rest ≢ block line ++ more
 shut gate rest closed line more is_line is = closed (heads gate 43 rest (line ++ 10 ∷ more) (is ∙ block_then line more))
-
-pub nothing_in_nil : (line more : List ℕ) → IsRecordLine line → [] ≢ block line ++ more
-nothing_in_nil line more is_line is = not_nil 43 (line ++ 10 ∷ more) (is ∙ block_then line more)
 
 pub stands_closed : (lines : List (List ℕ)) (gate : ℕ) (rest : List ℕ) → AreLines lines → gate ≢ 43 → StandsFor (blocks lines ++ gate ∷ rest) lines
 stands_closed lines gate rest are closed = record { are_lines = are; end = gate ∷ rest; split = refl; nothing = shut gate rest closed }

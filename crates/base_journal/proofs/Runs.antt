@@ -1,5 +1,5 @@
 -- What runs of several steps leave, and what they keep.
-use Rattle.std.proofs.Common.{◌≡◌, inl, ℕ, ◌≤◌, List, [], ◌∷◌, ◌++◌, false, Some, ◌∙◌, ap}
+use Rattle.std.proofs.Common.{◌≡◌, inl, ℕ, ◌≤◌, List, false, Some, ◌∙◌, ap}
 use Rattle.std.specs.Str.{bytes_eq}
 use Rattle.base_disk.specs.Image.{File, Image, with_file_at}
 use Rattle.base_disk.specs.State.{DiskState, DiskKeeps, LeavesOnly}

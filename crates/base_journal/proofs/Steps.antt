@@ -1,14 +1,13 @@
 -- What each step of a journal leaves on its disk.
-use Rattle.std.proofs.Common.{◌≡◌, ◌⊎◌, inl, inr, ⊎_elim, ℕ, ◌≤◌, List, [], ◌∷◌, ◌++◌, Option, None, Some, Bool, true, false, if◌then◌else◌, Result, Ok, Err, OnOk, OnErr, refl, sym, ◌∙◌, ap, subst}
+use Rattle.std.proofs.Common.{◌≡◌, ◌⊎◌, inl, inr, ⊎_elim, ℕ, ◌≤◌, List, Option, None, Some, Bool, true, false, if◌then◌else◌, Result, Ok, Err, OnOk, OnErr, refl, sym, ◌∙◌, ap, subst}
 use Rattle.std.proofs.lemmas.Bool.{true≢false, cases_Bool}
 use Rattle.std.proofs.lemmas.Slice.Eq.{bytes_eq-Decides}
 use Rattle.std.specs.Str.{bytes_eq}
+use Rattle.base_disk.specs.declared.fault.DiskFault.{DiskFault}
 use Rattle.base_disk.specs.Image.{File, Image, SameElsewhere, image_changed, with_bytes}
 use Rattle.base_disk.specs.Torn.{Tears, MovesFile, IsTornFile}
 use Rattle.base_disk.specs.State.{DiskState, DiskKeeps, IsNotTooLong, OutcomesFollow, IsAfter, LeavesOnly}
-use Rattle.base_disk.specs.declared.fault.DiskFault.{DiskFault}
 use Rattle.base_disk.specs.declared.fault.DiskFault.TheVariants.{Failed, TooLong, OutOfMemory}
-use Rattle.base_journal.specs.Records.{StandsFor, IsBeforeOrAfter}
 use Rattle.base_journal.specs.Journals.{bytes_of_file, CrashLeaves, KeepsOthers, Exchanging, TellsLength}
 
 pub other_side : {X : Type 0} (b : Bool) (x y : X) → b ≡ false → (if b then x else y) ≡ y

@@ -1,9 +1,8 @@
 -- What the calls that write a journal's file make of it: a record that is added, a file that is made anew.
 use Rattle.std.proofs.Common.{◌≡◌, inl, ℕ, ◌+◌, ◌-◌, List, [], ◌∷◌, ◌++◌, length, length-append, Some, ◌∙◌, ap, refl, arith}
+use Rattle.base_disk.specs.{Torn.Torn, Torn.Tears, declared.fault.DiskFault.DiskFault}
 use Rattle.base_disk.specs.Image.{Image, image_changed, with_file_at, with_bytes, overwritten}
-use Rattle.base_disk.specs.Torn.{Torn, Tears}
 use Rattle.base_disk.specs.State.{DiskState, DiskKeeps, OutcomesFollow, IsAfter}
-use Rattle.base_disk.specs.declared.fault.DiskFault.{DiskFault}
 use Rattle.base_disk.specs.declared.fault.DiskFault.TheVariants.{Failed, TooLong, OutOfMemory}
 use Rattle.base_journal.specs.Records.{IsRecordLine, AreLines, block, blocks, at_rest, StandsFor, IsBeforeOrAfter}
 use Rattle.base_journal.specs.Journals.{JournalIsAtRest, CrashLeaves, TellsLength}

@@ -2,13 +2,11 @@
 -- Source: this project's own.
 use Rattle.std.specs.Prelude.{◌≡◌, ◌⊎◌, ◌<◌, ℕ, List, [], length, Bool, false, IsTrue, Option, None, Some}
 use Rattle.std.specs.Str.{bytes_eq}
+use Rattle.base_disk.specs.{State.DiskState, State.DiskKeeps, declared.fault.DiskFault.DiskFault}
 use Rattle.base_disk.specs.Image.{File, Image, SameElsewhere}
-use Rattle.base_disk.specs.State.{DiskState, DiskKeeps}
-use Rattle.base_disk.specs.declared.fault.DiskFault.{DiskFault}
 use Rattle.base_disk.specs.declared.fault.DiskFault.TheVariants.{Failed, TooLong, OutOfMemory}
-use Rattle.base_journal.specs.Records.{AreLines, blocks, at_rest, StandsFor}
-use Rattle.base_journal.specs.declared.journal.Journal.{Journal}
-use Rattle.base_journal.specs.declared.journal.TheConstants.{MOST_BYTES}
+use Rattle.base_journal.specs.{declared.journal.Journal.Journal, declared.journal.TheConstants.MOST_BYTES}
+use Rattle.base_journal.specs.Records.{AreLines, blocks, at_rest}
 
 -- the bytes at a path; none where there is no file
 abbrev pub bytes_of_file : Option File → List ℕ

@@ -2,12 +2,10 @@
 -- Source: this project's own.
 use Rattle.std.specs.Prelude.{◌≡◌, ◌⊎◌, ℕ, Bool, true, false, List, [], ◌∷◌, ◌++◌, Option, Some, None, Result, Ok, Err, OnOk, OnErr}
 use Rattle.std.proofs.Common.{inl, inr}
-use Rattle.base_disk.specs.Image.{File, Image}
-use Rattle.base_disk.specs.State.{DiskState, LeavesOnly}
-use Rattle.base_disk.specs.declared.fault.DiskFault.{DiskFault}
+use Rattle.base_disk.specs.{Image.File, Image.Image, State.DiskState, State.LeavesOnly, declared.fault.DiskFault.DiskFault}
+use Rattle.base_journal.specs.declared.journal.Journal.{Journal}
 use Rattle.base_journal.specs.Journals.{CrashLeaves, Exchanging, JournalIsWhole, bytes_of_file, lines_of_journal, path_of_journal}
 use Rattle.base_journal.specs.Records.{IsBeforeOrAfter, StandsFor, lines_kept}
-use Rattle.base_journal.specs.declared.journal.Journal.{Journal}
 
 -- ---- calls
 

@@ -2,13 +2,8 @@
 use Rattle.std.proofs.Common.{◌≡◌, ◌++◌, ◌∷◌, [], ℕ, List, refl, Some}
 use Rattle.std.specs.Prelude.{codes}
 use Rattle.base_moment.specs.Rfc3339.{IsDateText}
+use Rattle.base_log.specs.{Keys.key_name, Keys.key_of, declared.keys.Key.Key, declared.keys.Rest.Rest, declared.keys.Rest.TheVariants.One, declared.level.Level.Level, declared.line.LineWord.LineWord}
 use Rattle.base_log.specs.Forms.{IsLineJson, SayEach, SayJoined, SayMembers, SaysEvent, SaysInside, SaysMember, SaysMessage, SaysNames, SaysRest, SaysValue, json_level, json_text, member, quoted}
-use Rattle.base_log.specs.Keys.{key_name, key_of}
-use Rattle.base_log.specs.declared.keys.Key.{Key}
-use Rattle.base_log.specs.declared.keys.Rest.{Rest}
-use Rattle.base_log.specs.declared.keys.Rest.TheVariants.{One}
-use Rattle.base_log.specs.declared.level.Level.{Level}
-use Rattle.base_log.specs.declared.line.LineWord.{LineWord}
 use Rattle.base_log.specs.declared.line.LineWord.TheVariants as words
 use Rattle.base_log.proofs.Pieces.{two_pushed, three_pushed, four_pushed, five_pieces}
 

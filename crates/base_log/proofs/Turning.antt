@@ -1,11 +1,11 @@
 -- The tries of a turn, one after the other.
-use Rattle.std.proofs.Common.{◌≡◌, ◌⊎◌, ℕ, ◌+◌, ◌<◌, ◌≤◌, Bool, true, false, nat_lt, List, [], ◌∷◌, ◌++◌, length, take, arith, Option, Some, None, IfSome, append_assoc, subst, sym, refl, ap, ◌∙◌, inl, inr}
+use Rattle.std.proofs.Common.{◌≡◌, ◌⊎◌, ℕ, ◌+◌, ◌<◌, ◌≤◌, true, false, nat_lt, List, [], ◌∷◌, ◌++◌, length, take, arith, Option, Some, None, IfSome, append_assoc, subst, sym, refl, ap, ◌∙◌, inl, inr}
 use Rattle.std.proofs.lemmas.List.{append-nil, length-append, take_all, take-append-le}
 use Rattle.std.proofs.lemmas.Bool.{and_from, and_left, and_right, false≢true, cases_lt, lt-ltb, false_from_ne_true, ltb-true}
 use Rattle.base_device.specs.declared.tried.Tried.{Tried}
 use Rattle.base_device.specs.declared.tried.Tried.TheVariants.{Done, Waits, Failed}
-use Rattle.base_log.specs.Turns.{TryIsMade, TurnIsMade, all_done, any_failed, bytes_taken, goes_on}
 use Rattle.base_log.specs.declared.writing.TheConstants.{MOST_TRIES}
+use Rattle.base_log.specs.Turns.{TryIsMade, TurnIsMade, all_done, any_failed, bytes_taken, goes_on}
 
 -- what the tries before the last took, and what it took
 taken_push : (tries : List Tried) (t : Tried) → bytes_taken (tries ++ t ∷ []) ≡ bytes_taken tries + bytes_taken (t ∷ [])

@@ -1,9 +1,8 @@
 -- Following: the lines that one who follows the log is told.
 -- Source: docs/running.md, "What the operator sees"; the rest is this project's own.
 use Rattle.std.specs.Prelude.{ℕ, Bool, not, ◌||◌, if◌then◌else◌, List}
-use Rattle.base_log.specs.Lines.{is_alerted}
+use Rattle.base_log.specs.{Lines.is_alerted, declared.level.Level.Level}
 use Rattle.base_log.specs.Waiting.{Waiting, dropping, with_line}
-use Rattle.base_log.specs.declared.level.Level.{Level}
 
 -- one is told of a level, unless it wants warnings and alerts alone and the level is neither
 abbrev pub hears : Bool → Level → Bool

@@ -2,17 +2,12 @@
 -- Source: docs/running.md, "What the operator sees"; RFC 8259, section 7, for the strings of JSON: of the ways that it leaves,
 -- the one in which all is ASCII.
 use Rattle.std.specs.Prelude.{◌≡◌, ℕ, ◌+◌, ◌/◌, ◌%◌, ◌==◌, ◌&&◌, ◌||◌, if◌then◌else◌, List, [], ◌∷◌, ◌++◌, flat_map, length, nat_le, chars, codes, decimal, Option, Some, None}
-use Rattle.std.specs.Char.Escape.{encode_utf16}
-use Rattle.std.specs.Str.Lossy.{utf8_lossy}
+use Rattle.std.specs.{Char.Escape.encode_utf16, Str.Lossy.utf8_lossy}
 use Rattle.base_moment.specs.Rfc3339.{IsDateText}
 use Rattle.base_words.specs.Texts.{hex_digit}
-use Rattle.base_log.specs.Lines.{level_mark, level_name}
+use Rattle.base_log.specs.{Lines.level_mark, Lines.level_name, declared.keys.Key.Key, declared.keys.Rest.Rest, declared.level.Level.Level, declared.line.LineWord.LineWord}
 use Rattle.base_log.specs.Keys.{key_name, key_of, shape_of}
-use Rattle.base_log.specs.declared.keys.Key.{Key}
-use Rattle.base_log.specs.declared.keys.Rest.{Rest}
 use Rattle.base_log.specs.declared.keys.Rest.TheVariants.{Names, Message, One}
-use Rattle.base_log.specs.declared.level.Level.{Level}
-use Rattle.base_log.specs.declared.line.LineWord.{LineWord}
 use Rattle.base_log.specs.declared.line.LineWord.TheVariants as words
 
 -- ---- for people

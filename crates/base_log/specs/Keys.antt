@@ -2,12 +2,9 @@
 -- Source: docs/commands/serve.md, "The log as JSON", whose table this is.
 use Rattle.std.specs.Prelude.{ℕ, Bool, ◌&&◌, ◌||◌, if◌then◌else◌, List, [], ◌∷◌, codes, bytes_eq, nat_lt, Option, Some, None}
 use Rattle.std.specs.List.{list_any}
-use Rattle.base_log.specs.declared.keys.Key.{Key}
+use Rattle.base_log.specs.{declared.keys.Key.Key, declared.keys.Rest.Rest, declared.keys.Shape.Shape, declared.line.LineWord.LineWord}
 use Rattle.base_log.specs.declared.keys.Key.TheVariants.{At, Entry, End, Seconds, Until, Reason, Status, Margin}
-use Rattle.base_log.specs.declared.keys.Rest.{Rest}
 use Rattle.base_log.specs.declared.keys.Rest.TheVariants.{Names, Message, One}
-use Rattle.base_log.specs.declared.keys.Shape.{Shape}
-use Rattle.base_log.specs.declared.line.LineWord.{LineWord}
 use Rattle.base_log.specs.declared.line.LineWord.TheVariants as words
 
 abbrev pub key_name : Key → List ℕ

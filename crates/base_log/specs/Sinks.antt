@@ -1,8 +1,7 @@
 -- Sinks: what a try at one comes to, and one in memory.
 -- Source: this project's own.
-use Rattle.std.specs.Prelude.{◌≡◌, ℕ, ◌-◌, ◌∷◌, [], List, ◌++◌, take, drop, length, min, max, Option, Some, None}
-use Rattle.base_device.specs.Failures.{one_more}
-use Rattle.base_device.specs.declared.tried.Tried.{Tried}
+use Rattle.std.specs.Prelude.{◌≡◌, ℕ, ◌∷◌, [], List, length, min, max, Option, Some, None}
+use Rattle.base_device.specs.{Failures.one_more, declared.tried.Tried.Tried}
 use Rattle.base_device.specs.declared.tried.Tried.TheVariants as tries
 use Rattle.base_log.specs.declared.memory.SinkAnswer.{SinkAnswer}
 use Rattle.base_log.specs.declared.memory.SinkAnswer.TheVariants as answers

@@ -3,7 +3,7 @@ ghost use Rattle.base_words.specs.Texts.{hex_digit};
 ghost use Rattle.base_log.specs.Forms.{IsLineJson, SayEach, SayJoined, SayMembers, SaysEvent, SaysInside, SaysMember, SaysMessage, SaysNames, SaysRest, SaysValue, escaped, json_char, json_event, json_level, json_text, quoted, six_characters};
 
 use crate::keys::{Key, Rest, shape_of};
-use crate::line::{LogLine, LineWord};
+use crate::line::{LineWord, LogLine};
 use crate::text_form::push_date;
 use base_words::push_number;
 use std::alloc::{AllocError, Global};
@@ -104,7 +104,12 @@ fn push_rest(
 
 // Appends a member of one word.
 #[tactic(auto, using(crate::proofs::Members::member_said))]
-fn push_member(alloc: Global, key: Key, word: &LineWord, text: &mut Vec<u8>) -> Result<(), AllocError>
+fn push_member(
+    alloc: Global,
+    key: Key,
+    word: &LineWord,
+    text: &mut Vec<u8>,
+) -> Result<(), AllocError>
     ensures { OnOk result ((said : List ℕ) × SaysMember key word.now said × (text.new.items ≡ text.old.items ++ said)) }
 {
     text.extend_from_slice(b", \"")?;

@@ -1,7 +1,7 @@
 ghost use Rattle.std.specs.Prelude.{◌≡◌, ◌++◌, List, ℕ, IfOk, OnOk};
 ghost use Rattle.base_log.specs.Forms.{IsLineText, SayWords, SaysWord};
 
-use crate::line::{LogLine, LineWord};
+use crate::line::{LineWord, LogLine};
 use base_moment::{Moment, date_text};
 use base_words::push_number;
 use std::alloc::{AllocError, Global};

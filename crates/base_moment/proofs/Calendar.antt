@@ -1,18 +1,10 @@
 -- The tests of the calendar and the clock against the facts that they decide, and years of days from 1970 on.
 use Rattle.std.proofs.Common.{◌≡◌, ℕ, ◌≤◌, true, pos, ◌≤ℤ◌, inl, arith, rules, refl, nat_le, nat_lt, ◌&&◌}
-use Rattle.std.proofs.lemmas.Bool.{and_parts, and_from, leb-true, ltb-true, le-leb, lt-ltb}
-use Rattle.std.proofs.lemmas.Int.{by_lt_z}
-use Rattle.jiff_core.specs.declared.civil.date.Date.{Date}
-use Rattle.jiff_core.specs.Calendar.{days_in_month, IsCivilDate}
-use Rattle.jiff_core.specs.Date.{epoch_day}
-use Rattle.jiff_core.proofs.SignedLemmas.{signed_arith}
-use Rattle.jiff_core.proofs.CalendarLemmas.{days_from_civil-day_count, day_count-epoch}
-use Rattle.jiff_core.proofs.DateLemmas.{epoch_day-lt}
-use Rattle.base_moment.specs.declared.stamp.Stamp.{Stamp}
-use Rattle.base_moment.specs.declared.stamp.Zone.{Zone}
-use Rattle.base_moment.specs.declared.stamp.Zone.TheVariants.{Utc, Ahead, Behind}
-use Rattle.base_moment.specs.Rfc3339.{IsDateTime, IsOffset}
-use Rattle.base_moment.specs.MomentOf.{is_date, is_time, is_date_time, is_offset}
+use Rattle.std.proofs.lemmas.{Bool.and_parts, Bool.and_from, Bool.leb-true, Bool.ltb-true, Bool.le-leb, Bool.lt-ltb, Int.by_lt_z}
+use Rattle.jiff_core.specs.{declared.civil.date.Date.Date, Calendar.days_in_month, Calendar.IsCivilDate, Date.epoch_day}
+use Rattle.jiff_core.proofs.{SignedLemmas.signed_arith, CalendarLemmas.days_from_civil-day_count, CalendarLemmas.day_count-epoch, DateLemmas.epoch_day-lt}
+use Rattle.base_moment.specs.{declared.stamp.Stamp.Stamp, declared.stamp.Zone.Zone, declared.stamp.Zone.TheVariants.Utc, declared.stamp.Zone.TheVariants.Ahead, declared.stamp.Zone.TheVariants.Behind, Rfc3339.IsDateTime, Rfc3339.IsOffset}
+use Rattle.base_moment.specs.{MomentOf.is_date, MomentOf.is_time, MomentOf.is_date_time, MomentOf.is_offset}
 
 first_of_1970 : Date
 first_of_1970 = record { year = pos 1970; month = 1; day = 1; year_in = search rules; month_in = search rules; day_in = search rules }

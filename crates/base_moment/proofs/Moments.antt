@@ -1,20 +1,13 @@
 -- The moment of a text against what the text writes: found, only and refused, and a date's text read back.
 use Rattle.std.proofs.Common.{◌≡◌, ℕ, ◌<◌, ◌≤◌, ◌⊎◌, inl, inr, List, [], ◌∷◌, ◌++◌, Option, Some, None, Result, Ok, Err, IfOk, ℤ, pos, negsuc, ◌*ℤ◌, ◌+ℤ◌, ◌-ℤ◌, nat_le, refl, sym, ap, ◌∙◌, arith, subst}
 use Rattle.std.proofs.lemmas.Bool.{cases_Bool, cond-true, cond-false, le-leb}
-use Rattle.jiff_core.specs.declared.civil.date.Date.{Date}
-use Rattle.jiff_core.specs.Calendar.{days_from_civil}
-use Rattle.jiff_core.proofs.SignedLemmas.{signed_arith}
-use Rattle.jiff_core.proofs.DateLemmas.{epoch_day_injective}
-use Rattle.base_moment.specs.declared.stamp.Stamp.{Stamp}
-use Rattle.base_moment.specs.declared.stamp.Zone.{Zone}
-use Rattle.base_moment.specs.declared.stamp.Zone.TheVariants.{Utc}
-use Rattle.base_moment.specs.declared.fault.TimeFault.{TimeFault}
-use Rattle.base_moment.specs.declared.fault.TimeFault.TheVariants.{BadTime, OutOfRange, OutOfMemory}
-use Rattle.base_moment.specs.declared.moment.TheConstants.{LAST}
-use Rattle.base_moment.specs.Rfc3339.{IsDateTime, WritesDate, IsDateText, IsZoneText, face, clock_of, seconds_of}
-use Rattle.base_moment.specs.MomentOf.{in_range, is_date_time, moment_at, moment_of, stamp_of}
-use Rattle.base_moment.proofs.Calendar.{date_time_tells, date_time_holds}
-use Rattle.base_moment.proofs.Stamps.{stamp_reads, stamp_tells}
+use Rattle.jiff_core.specs.{declared.civil.date.Date.Date, Calendar.days_from_civil}
+use Rattle.jiff_core.proofs.{SignedLemmas.signed_arith, DateLemmas.epoch_day_injective}
+use Rattle.base_moment.specs.{declared.stamp.Stamp.Stamp, declared.stamp.Zone.Zone, declared.stamp.Zone.TheVariants.Utc, declared.fault.TimeFault.TimeFault}
+use Rattle.base_moment.specs.{declared.fault.TimeFault.TheVariants.BadTime, declared.fault.TimeFault.TheVariants.OutOfRange, declared.fault.TimeFault.TheVariants.OutOfMemory, declared.moment.TheConstants.LAST}
+use Rattle.base_moment.specs.{Rfc3339.IsDateTime, Rfc3339.WritesDate, Rfc3339.IsDateText, Rfc3339.IsZoneText, Rfc3339.face, Rfc3339.clock_of, Rfc3339.seconds_of}
+use Rattle.base_moment.specs.{MomentOf.in_range, MomentOf.is_date_time, MomentOf.moment_at, MomentOf.moment_of, MomentOf.stamp_of}
+use Rattle.base_moment.proofs.{Calendar.date_time_tells, Calendar.date_time_holds, Stamps.stamp_reads, Stamps.stamp_tells}
 
 -- a text that writes a date and time has its moment
 pub moment_reads : (text : List ℕ) (s : Stamp) → IsDateTime s → WritesDate text s → moment_of text ≡ in_range (seconds_of s)

@@ -1,13 +1,9 @@
 -- Digits, marks and fractions: what a place of a text tells, and what is read where a piece is written.
 use Rattle.std.proofs.Common.{◌≡◌, ℕ, ◌+◌, ◌-◌, ◌*◌, ◌/◌, ◌%◌, ◌<◌, ◌≤◌, ◌⊎◌, zero, suc, inl, inr, true, false, ◌&&◌, ◌||◌, ◌==◌, nat_eq, List, [], ◌∷◌, ◌++◌, length, drop, slice_index, Some, None, refl, sym, ap, ◌∙◌, arith}
 use Rattle.std.proofs.Math.Seq.{drop-cons}
-use Rattle.std.proofs.lemmas.Bool.{and_parts, and_from, or_cases, cases_Bool, leb-true, le-leb, eqb-true, cond-true, cond-false}
-use Rattle.std.proofs.lemmas.Option.{cond_some, option_and_then_some}
-use Rattle.std.specs.Option.{option_and_then}
-use Rattle.std.specs.Char.{is_ascii_digit}
-use Rattle.std.specs.Str.{all_ascii_digits}
-use Rattle.base_moment.specs.Rfc3339.{IsFraction}
-use Rattle.base_moment.specs.MomentOf.{two_of, two_at, four_at, either_byte_at, after_digits, after_fraction}
+use Rattle.std.proofs.lemmas.{Bool.and_parts, Bool.and_from, Bool.or_cases, Bool.cases_Bool, Bool.leb-true, Bool.le-leb, Bool.eqb-true, Bool.cond-true, Bool.cond-false, Option.cond_some, Option.option_and_then_some}
+use Rattle.std.specs.{Option.option_and_then, Char.is_ascii_digit, Str.all_ascii_digits}
+use Rattle.base_moment.specs.{Rfc3339.IsFraction, MomentOf.two_of, MomentOf.two_at, MomentOf.four_at, MomentOf.either_byte_at, MomentOf.after_digits, MomentOf.after_fraction}
 
 digit_bounds : (b : ℕ) → is_ascii_digit b ≡ true → (48 ≤ b) × (b ≤ 57)
 digit_bounds b t = let p = and_parts _ _ t in (leb-true 48 b p.0, leb-true b 57 p.1)

@@ -2,11 +2,9 @@
 use Rattle.std.proofs.Common.{◌≡◌, ℕ, ◌+◌, ◌/◌, ◌%◌, ◌<◌, ◌⊎◌, inl, inr, List, ◌∷◌, ◌++◌, length, drop, slice_index, Some, pos, refl, sym, ap, ◌∙◌, arith, subst}
 use Rattle.std.proofs.Math.Seq.{drop-cons}
 use Rattle.std.proofs.lemmas.Option.{option_and_then_some, same_Some}
-use Rattle.jiff_core.proofs.SignedLemmas.{signed_arith}
-use Rattle.jiff_core.proofs.CalendarLemmas.{days_in_month_bounds}
-use Rattle.base_moment.specs.declared.stamp.Stamp.{Stamp}
-use Rattle.base_moment.specs.Rfc3339.{IsDateTime, WritesDate, IsZoneText, face}
-use Rattle.base_moment.specs.MomentOf.{two_at, four_at, either_byte_at, after_fraction, zone_of, stamp_of}
+use Rattle.jiff_core.proofs.{SignedLemmas.signed_arith, CalendarLemmas.days_in_month_bounds}
+use Rattle.base_moment.specs.{declared.stamp.Stamp.Stamp, Rfc3339.IsDateTime, Rfc3339.WritesDate, Rfc3339.IsZoneText, Rfc3339.face}
+use Rattle.base_moment.specs.{MomentOf.two_at, MomentOf.four_at, MomentOf.either_byte_at, MomentOf.after_fraction, MomentOf.zone_of, MomentOf.stamp_of}
 use Rattle.base_moment.proofs.Pieces.{two_reads, two_tells, four_reads, four_tells, IsFour, mark_tells, same_mark, within, fraction_skipped, fraction_split}
 use Rattle.base_moment.proofs.Zones.{zone_reads, zone_bare, zone_tells}
 

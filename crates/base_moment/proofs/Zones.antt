@@ -1,12 +1,9 @@
 -- The text of a zone against its reading, both ways.
 use Rattle.std.proofs.Common.{◌≡◌, ℕ, ◌⊎◌, inl, inr, ◌==◌, if◌then◌else◌, List, [], ◌∷◌, length, slice_index, Some, None, refl, sym, ap, ◌∙◌, arith, subst}
-use Rattle.std.proofs.lemmas.Bool.{cases_Bool, eqb-true, cond-true, cond-false}
-use Rattle.std.proofs.lemmas.Option.{cond_some, option_and_then_some, same_Some, none-some}
+use Rattle.std.proofs.lemmas.{Bool.cases_Bool, Bool.eqb-true, Bool.cond-true, Bool.cond-false, Option.cond_some, Option.option_and_then_some, Option.same_Some, Option.none-some}
 use Rattle.std.specs.Option.{option_and_then}
-use Rattle.base_moment.specs.declared.stamp.Zone.{Zone}
-use Rattle.base_moment.specs.declared.stamp.Zone.TheVariants.{Utc, Ahead, Behind}
-use Rattle.base_moment.specs.Rfc3339.{IsZoneText, IsOffset}
-use Rattle.base_moment.specs.MomentOf.{two_at, either_byte_at, signed, numeric_zone, zone_of}
+use Rattle.base_moment.specs.{declared.stamp.Zone.Zone, declared.stamp.Zone.TheVariants.Utc, declared.stamp.Zone.TheVariants.Ahead, declared.stamp.Zone.TheVariants.Behind, Rfc3339.IsZoneText, Rfc3339.IsOffset}
+use Rattle.base_moment.specs.{MomentOf.two_at, MomentOf.either_byte_at, MomentOf.signed, MomentOf.numeric_zone, MomentOf.zone_of}
 use Rattle.base_moment.proofs.Pieces.{two_reads, two_tells, mark_tells, same_mark, IsBare}
 
 -- a zone as it is written is read

@@ -3,13 +3,8 @@
 use Rattle.std.specs.Prelude.{ℕ, ◌+◌, ◌-◌, ◌*◌, Bool, true, ◌&&◌, ◌||◌, List, [], ◌∷◌, length, drop, slice_index, ℤ, pos, negsuc, Option, Some, None, option_and_then, Result, Ok, Err, ◌==◌, nat_le, nat_lt, if◌then◌else◌}
 use Rattle.std.specs.Char.{is_ascii_digit}
 use Rattle.jiff_core.specs.Calendar.{days_in_month}
-use Rattle.base_moment.specs.declared.stamp.Stamp.{Stamp}
-use Rattle.base_moment.specs.declared.stamp.Zone.{Zone}
-use Rattle.base_moment.specs.declared.stamp.Zone.TheVariants.{Utc, Ahead, Behind}
-use Rattle.base_moment.specs.declared.fault.TimeFault.{TimeFault}
-use Rattle.base_moment.specs.declared.fault.TimeFault.TheVariants.{BadTime, OutOfRange}
-use Rattle.base_moment.specs.declared.moment.TheConstants.{LAST}
-use Rattle.base_moment.specs.Rfc3339.{seconds_of}
+use Rattle.base_moment.specs.{declared.stamp.Stamp.Stamp, declared.stamp.Zone.Zone, declared.stamp.Zone.TheVariants.Utc, declared.stamp.Zone.TheVariants.Ahead, declared.stamp.Zone.TheVariants.Behind, declared.fault.TimeFault.TimeFault}
+use Rattle.base_moment.specs.{declared.fault.TimeFault.TheVariants.BadTime, declared.fault.TimeFault.TheVariants.OutOfRange, declared.moment.TheConstants.LAST, Rfc3339.seconds_of}
 
 infixl 10 ◌>>=◌
 abbrev pub ◌>>=◌ : {A B : Type 0} → Option A → (A → Option B) → Option B

@@ -5,9 +5,7 @@
 use Rattle.std.specs.Prelude.{◌≡◌, ℕ, ◌+◌, ◌*◌, ◌/◌, ◌%◌, ◌<◌, ◌⊎◌, List, [], ◌∷◌, ◌++◌, ℤ, pos, neg_ℤ, ◌+ℤ◌, ◌-ℤ◌, ◌*ℤ◌, length, true}
 use Rattle.std.specs.Str.{all_ascii_digits}
 use Rattle.jiff_core.specs.Calendar.{IsCivilDate, days_from_civil}
-use Rattle.base_moment.specs.declared.stamp.Stamp.{Stamp}
-use Rattle.base_moment.specs.declared.stamp.Zone.{Zone}
-use Rattle.base_moment.specs.declared.stamp.Zone.TheVariants.{Utc, Ahead, Behind}
+use Rattle.base_moment.specs.{declared.stamp.Stamp.Stamp, declared.stamp.Zone.Zone, declared.stamp.Zone.TheVariants.Utc, declared.stamp.Zone.TheVariants.Ahead, declared.stamp.Zone.TheVariants.Behind}
 
 -- the two digits of a number below 100: 48 is `0`
 abbrev pub two_digits_of : ℕ → List ℕ

@@ -1,11 +1,8 @@
 -- The pieces of a text: what the code that cuts it finds, in the words of `pieces`.
 use Rattle.std.proofs.Common.{◌≡◌, ◌≢◌, ℕ, ◌+◌, ◌≤◌, Bool, true, false, cond, List, [], ◌∷◌, length, take, drop, Some, None, refl, ap, subst, arith, ◌==◌, ltb-true, ltb-false}
-use Rattle.std.proofs.lemmas.List.Splits.{slice_split_first, slice_split_none, length-slice_split}
-use Rattle.std.proofs.lemmas.List.Sums.{fails_before_first}
-use Rattle.std.specs.List.{position_or_len, slice_split}
-use Rattle.std.specs.Option.{option_map}
-use Rattle.base_words.specs.code.Cutting.{first_place}
-use Rattle.base_words.specs.Pieces.{pieces, two, three, four, six}
+use Rattle.std.proofs.lemmas.{List.Splits.slice_split_first, List.Splits.slice_split_none, List.Splits.length-slice_split, List.Sums.fails_before_first}
+use Rattle.std.specs.{List.position_or_len, List.slice_split, Option.option_map}
+use Rattle.base_words.specs.{code.Cutting.first_place, Pieces.pieces, Pieces.two, Pieces.three, Pieces.four, Pieces.six}
 
 chosen : (b : Bool) (m n : ℕ) → cond b (Some m) None ≡ Some n → (b ≡ true) × (m ≡ n)
 chosen true m n e = (refl, cc)

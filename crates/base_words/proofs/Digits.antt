@@ -1,12 +1,7 @@
 -- The value of digits, one digit after the other.
 use Rattle.std.proofs.Common.{◌≡◌, ℕ, ◌+◌, ◌-◌, ◌*◌, ◌<◌, ◌≤◌, true, List, length, get_or, take, ap, ◌∙◌, arith, rules}
-use Rattle.std.proofs.lemmas.Bool.{and_parts}
-use Rattle.std.proofs.lemmas.Int.Digits.{digits_value_more}
-use Rattle.std.proofs.lemmas.Str.{digit_value_digit}
-use Rattle.std.proofs.lemmas.Str.Parse.{IsNumeralModel, numerals_by_value, digit_at}
-use Rattle.std.specs.Char.{digit_value, is_ascii_digit}
-use Rattle.std.specs.List.{list_all}
-use Rattle.std.specs.Str.Parse.{digits_value}
+use Rattle.std.proofs.lemmas.{Bool.and_parts, Int.Digits.digits_value_more, Str.digit_value_digit, Str.Parse.IsNumeralModel, Str.Parse.numerals_by_value, Str.Parse.digit_at}
+use Rattle.std.specs.{Char.digit_value, Char.is_ascii_digit, List.list_all, Str.Parse.digits_value}
 use Rattle.base_words.specs.Numbers.{is_spelled}
 
 pub own : IsNumeralModel (λ ds. list_all is_ascii_digit ds ≡ true) (digits_value 10)

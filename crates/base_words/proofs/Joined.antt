@@ -1,13 +1,9 @@
 -- Joined pieces are cut into the same pieces; and the bytes that do not stand in a number.
 use Rattle.std.proofs.Common.{◌≡◌, ℕ, ◌+◌, ◌%◌, ◌^◌, ◌<◌, ◌⊎◌, true, false, not, ◌==◌, List, [], ◌∷◌, ◌++◌, decimal, refl, ap, ◌∙◌, arith, All}
-use Rattle.std.proofs.lemmas.Bool.{and_from, eq-eqb, ne_eqb, not-true, not_from_false}
-use Rattle.std.proofs.lemmas.Fmt.{decimal_by_steps}
-use Rattle.std.proofs.lemmas.List.Folds.{list_all-append}
-use Rattle.std.proofs.lemmas.List.Splits.{join_with_byte-slice_split, slice_split_at, slice_split_none}
-use Rattle.std.proofs.lemmas.List.Sums.{AllPass-from_list_all}
+use Rattle.std.proofs.lemmas.{Bool.and_from, Bool.eq-eqb, Bool.ne_eqb, Bool.not-true, Bool.not_from_false, Fmt.decimal_by_steps, List.Folds.list_all-append}
+use Rattle.std.proofs.lemmas.{List.Splits.join_with_byte-slice_split, List.Splits.slice_split_at, List.Splits.slice_split_none, List.Sums.AllPass-from_list_all}
 use Rattle.std.specs.List.{join_with_byte}
-use Rattle.base_words.specs.Laws.{CutBack, JoinedBack, Lacks}
-use Rattle.base_words.specs.Pieces.{pieces}
+use Rattle.base_words.specs.{Laws.CutBack, Laws.JoinedBack, Laws.Lacks, Pieces.pieces}
 
 pub lacks_each : (b : ℕ) (text : List ℕ) → Lacks b text → All (λ x. (x == b) ≡ false) text
 lacks_each b text h = λ k d l. not-true _ (AllPass-from_list_all (λ x. not (x == b)) text h k d l)

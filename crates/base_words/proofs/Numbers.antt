@@ -2,9 +2,7 @@
 use Rattle.std.proofs.Common.{◌≡◌, ℕ, ◌^◌, ◌<◌, ◌≤◌, Bool, true, false, not, ◌||◌, ◌==◌, if◌then◌else◌, List, decimal, get_or, length, nat_le, nat_lt, IfSome, Option, Some, None, refl, sym, ap, ◌∙◌, subst, arith, inl, inr, ltb-true, lt-ltb, ⊎_elim}
 use Rattle.std.proofs.lemmas.Bool.{and_from, and_parts, cases_eq, cond-true, eq-eqb, eqb-true, le-leb, leb-true, ne_eqb, not_from_false, or_cases, or_left, or_right}
 use Rattle.std.proofs.lemmas.Fmt.{decimal-digits_value, decimal_digit, decimal_nonempty, digits_decimal, digits_value-decimal, first_decimal}
-use Rattle.std.specs.Char.{is_ascii_digit}
-use Rattle.std.specs.List.{list_all}
-use Rattle.std.specs.Str.Parse.{digits_value}
+use Rattle.std.specs.{Char.is_ascii_digit, List.list_all, Str.Parse.digits_value}
 use Rattle.base_words.specs.Numbers.{is_spelled, number_up_to}
 use Rattle.base_words.proofs.Digits.{own}
 

@@ -1,9 +1,7 @@
 -- Numbers: decimal digits, without a sign and without zeros in front; the number 0 is `0`.
 -- Source: this project's own.
 use Rattle.std.specs.Prelude.{ℕ, Bool, not, ◌&&◌, ◌||◌, ◌==◌, if◌then◌else◌, List, Option, Some, None, length, nat_lt, nat_le, slice_index}
-use Rattle.std.specs.Char.{is_ascii_digit}
-use Rattle.std.specs.List.{list_all}
-use Rattle.std.specs.Str.Parse.{digits_value}
+use Rattle.std.specs.{Char.is_ascii_digit, List.list_all, Str.Parse.digits_value}
 
 -- one digit or more, the first of which is 0 (the byte 48) only where it is alone
 unfoldable pub is_spelled : List ℕ → Bool

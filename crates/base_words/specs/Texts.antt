@@ -1,8 +1,7 @@
 -- Texts: small parts of the texts that several crates read and write.
 -- Source: this project's own; the digits are those of base 16.
 use Rattle.std.specs.Prelude.{ℕ, ◌+◌, ◌-◌, Bool, if◌then◌else◌, List, codes, drop, length, nat_lt, take}
-use Rattle.std.specs.Char.{is_ascii_whitespace}
-use Rattle.std.specs.List.{prefix_len, suffix_len}
+use Rattle.std.specs.{Char.is_ascii_whitespace, List.prefix_len, List.suffix_len}
 
 abbrev pub yes_or_no : Bool → List ℕ
 yes_or_no is = if is then codes "yes" else codes "no"

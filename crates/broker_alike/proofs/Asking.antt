@@ -1,16 +1,12 @@
 -- Asking: the request for an entry asks the broker for its renewal.
 use Rattle.std.proofs.Common.{◌≡◌, ℕ, ◌<◌, ◌≤◌, true, List, Some, None, IsUtf8, length, refl, ap, ◌∙◌, arith}
-use Rattle.std.proofs.lemmas.Bool.{cond-true}
-use Rattle.std.proofs.lemmas.Str.{is_utf8-from_IsUtf8}
+use Rattle.std.proofs.lemmas.{Bool.cond-true, Str.is_utf8-from_IsUtf8}
 use Rattle.std.specs.Str.{is_utf8}
-use Rattle.plan_forest.specs.declared.entry.Entry.{Entry}
-use Rattle.plan_forest.specs.declared.entry.Kind.{Kind}
+use Rattle.plan_forest.specs.{declared.entry.Entry.Entry, declared.entry.Kind.Kind, Forest.entry_at}
 use Rattle.plan_forest.specs.declared.entry.Kind.TheVariants.{Token, Lease}
-use Rattle.plan_forest.specs.Forest.{entry_at}
 use Rattle.vault_inventory.specs.Inventories.{IsInventory, Inventory, credential_at}
 use Rattle.vault_inventory.proofs.Inventories.{credential_text}
-use Rattle.vault_json.specs.Request.{increment_answer}
-use Rattle.vault_json.specs.Written.{lease_text, renew_text}
+use Rattle.vault_json.specs.{Request.increment_answer, Written.lease_text, Written.renew_text}
 use Rattle.vault_json.proofs.ReadBack.{lease_body_is_read, renew_body_is_read}
 use Rattle.broker_rule.specs.declared.call.ApiCall.TheVariants.{RenewSelf, RenewLease}
 use Rattle.broker_rule.specs.Granted.{AsksRenewal, asked_for, bearer_for, call_for}

@@ -3,22 +3,15 @@ use Rattle.std.proofs.Common.{ℕ, ◌≤◌, Bool, true, false, cond, List, [],
 use Rattle.std.proofs.lemmas.List.Elements.{All-filter, All-head, All-map, All-tail, All-weaker}
 use Rattle.std.specs.List.{find}
 use Rattle.base_moment.specs.declared.moment.TheConstants.{LAST}
-use Rattle.broker_rule.specs.declared.asked.AskedBody.{AskedBody}
-use Rattle.broker_rule.specs.declared.call.ApiCall.{ApiCall}
-use Rattle.broker_rule.specs.declared.fault.Fault.{Fault}
-use Rattle.broker_rule.specs.declared.refusal.Refusal.{Refusal}
+use Rattle.broker_rule.specs.{declared.asked.AskedBody.AskedBody, declared.call.ApiCall.ApiCall, declared.fault.Fault.Fault, declared.refusal.Refusal.Refusal, declared.row.BrokerRow.BrokerRow, Faults.fault_at, Faults.next_number}
+use Rattle.broker_rule.specs.{Sweep.lives, Sweep.swept, Table.BrokerTable}
 use Rattle.broker_rule.specs.declared.refusal.Refusal.TheVariants.{NotRenewable, PermissionDenied, UnsupportedMethod}
-use Rattle.broker_rule.specs.declared.row.BrokerRow.{BrokerRow}
-use Rattle.broker_rule.specs.Faults.{fault_at, next_number}
 use Rattle.broker_rule.specs.Renewing.{granted_row, is_deny, new_end, renewal_by_broker, rows_after, with_row}
 use Rattle.broker_rule.specs.Request.{allows, asked, call_of, is_renewal}
 use Rattle.broker_rule.specs.Step.{BrokerOutcome, after_sweep, broker_step, by_call, drops, is_drop, lookup_answer, refuses, renewal_answer, renewal_outcome, tells}
 use Rattle.broker_rule.specs.Subject.{Subject, bearer, belongs, is_lease_with, is_token_with, lease_with, named_subject, owned, subject, token_with, with_asked, with_bearer}
-use Rattle.broker_rule.specs.Sweep.{lives, swept}
-use Rattle.broker_rule.specs.Table.{BrokerTable}
 use Rattle.vault_http.specs.declared.request.Request.{Request}
-use Rattle.broker_alike.specs.Alike.{AreDated}
-use Rattle.broker_alike.specs.Answers.{Speaks}
+use Rattle.broker_alike.specs.{Alike.AreDated, Answers.Speaks}
 
 -- what holds of both branches holds of the whole
 pub if_both : {X : Type 0} (P : X → Type 0) (b : Bool) (x y : X) → P x → P y → P (cond b x y)

@@ -1,23 +1,15 @@
 -- Kept: what a forest keeps when one entry is written anew; and that two brokers whose tables differ in credentials alone say the
 -- same to the renewal that such a forest asks.
 use Rattle.std.proofs.Common.{◌≡◌, ◌∙◌, ℕ, ◌<◌, List, length, set, refl, sym, ap, ap₂, subst, inl, inr}
-use Rattle.std.proofs.lemmas.Bool.{cases_eq}
-use Rattle.std.proofs.lemmas.List.{length-set}
+use Rattle.std.proofs.lemmas.{Bool.cases_eq, List.length-set}
 use Rattle.vault_exchange.specs.Requests.{asked_as, renewal_request, token_renewal}
-use Rattle.vault_inventory.specs.Inventories.{IsInventory, credential_at}
-use Rattle.vault_inventory.specs.declared.terms.Terms.{Terms}
-use Rattle.broker_alike.specs.Alike.{AreTablesAlike, KeepsSupplied}
-use Rattle.broker_alike.proofs.Looks.{token_renewals_both}
-use Rattle.broker_alike.specs.Answers.{OutcomesOf}
-use Rattle.broker_alike.proofs.Steps.{by_kind, steps_both}
-use Rattle.plan_forest.specs.declared.entry.Entry.{Entry}
-use Rattle.plan_forest.specs.declared.entry.Kind.{Kind}
+use Rattle.vault_inventory.specs.{Inventories.IsInventory, Inventories.credential_at, declared.terms.Terms.Terms}
+use Rattle.broker_alike.specs.{Alike.AreTablesAlike, Alike.KeepsSupplied, Answers.OutcomesOf}
+use Rattle.broker_alike.proofs.{Looks.token_renewals_both, Steps.by_kind, Steps.steps_both}
+use Rattle.plan_forest.specs.{declared.entry.Entry.Entry, declared.entry.Kind.Kind, Forest.Forest, Forest.entry_at}
 use Rattle.plan_forest.specs.declared.entry.Kind.TheVariants.{Token, Lease}
-use Rattle.plan_forest.specs.Forest.{Forest, entry_at}
 use Rattle.plan_forest.proofs.Entries.{entry_at_set_other, entry_at_set_same}
-use Rattle.broker_rule.specs.Granted.{call_for}
-use Rattle.broker_rule.specs.Step.{broker_step}
-use Rattle.broker_rule.specs.Table.{BrokerTable}
+use Rattle.broker_rule.specs.{Granted.call_for, Step.broker_step, Table.BrokerTable}
 use Rattle.vault_http.specs.declared.request.Request.{Request}
 
 -- ---- what is kept

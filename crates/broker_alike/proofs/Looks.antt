@@ -1,32 +1,26 @@
 -- Looks: two brokers whose tables differ in credentials alone say the same to the lookup of an entry, and to a token's renewal
 -- by any step, and their tables differ in no more after it.
 use Rattle.std.proofs.Common.{◌≡◌, ◌∙◌, ℕ, ◌<◌, List, Option, Some, None, Result, Ok, Err, IsUtf8, length, option_map, refl, sym, ap, subst, arith}
-use Rattle.std.proofs.lemmas.Bool.{cond-true}
-use Rattle.std.proofs.lemmas.Str.{is_utf8-from_IsUtf8}
-use Rattle.std.specs.List.{AllZip}
-use Rattle.std.specs.Str.{is_utf8}
-use Rattle.plan_forest.specs.declared.entry.Kind.TheVariants.{Token, Lease}
+use Rattle.std.proofs.lemmas.{Bool.cond-true, Str.is_utf8-from_IsUtf8}
+use Rattle.std.specs.{List.AllZip, Str.is_utf8}
 use Rattle.plan_forest.specs.Forest.{Forest, entry_at}
-use Rattle.vault_inventory.specs.Inventories.{IsInventory, Inventory, credential_at}
+use Rattle.plan_forest.specs.declared.entry.Kind.TheVariants.{Token, Lease}
 use Rattle.vault_inventory.specs.declared.terms.Terms.{Terms}
+use Rattle.vault_inventory.specs.Inventories.{IsInventory, Inventory, credential_at}
 use Rattle.vault_inventory.proofs.Inventories.{credential_text}
 use Rattle.vault_http.specs.declared.request.Request.{Request}
 use Rattle.vault_json.specs.Written.{lookup_text, renew_text}
 use Rattle.vault_json.proofs.ReadBack.{lookup_body_is_read}
-use Rattle.broker_rule.specs.declared.row.BrokerRow.{BrokerRow}
-use Rattle.broker_rule.specs.declared.call.ApiCall.{ApiCall}
+use Rattle.broker_rule.specs.{declared.row.BrokerRow.BrokerRow, declared.call.ApiCall.ApiCall, declared.refusal.Refusal.Refusal, Granted.call_for, Table.BrokerTable}
 use Rattle.broker_rule.specs.declared.call.ApiCall.TheVariants.{RenewSelf, LookupSelf, LookupLease}
-use Rattle.broker_rule.specs.declared.refusal.Refusal.{Refusal}
 use Rattle.broker_rule.specs.declared.refusal.Refusal.TheVariants.{BadRequest, PermissionDenied}
-use Rattle.broker_rule.specs.Granted.{call_for}
 use Rattle.broker_rule.specs.Request.{read_or_none, asked, call_of, increment_in, is_write, lease_id_in, asked_of_lease, asked_of_token, a_text}
 use Rattle.broker_rule.specs.Step.{after_sweep, broker_step, lookup_answer, renewal_outcome}
 use Rattle.broker_rule.specs.Subject.{Subject, bearer, is_token_with, subject, token_with, with_bearer, with_asked}
-use Rattle.broker_rule.specs.Table.{BrokerTable}
 use Rattle.vault_exchange.specs.Requests.{lease_looked, looked_as, lookup_of, token_looked, token_renewal}
 use Rattle.broker_alike.specs.Alike.{AreRowsAlike, AreTablesAlike}
-use Rattle.broker_alike.proofs.Rows.{BothFound, lease_found_both, token_found_both}
 use Rattle.broker_alike.specs.Answers.{AnswersOf, OutcomesOf, look_for}
+use Rattle.broker_alike.proofs.Rows.{BothFound, lease_found_both, token_found_both}
 use Rattle.broker_alike.proofs.Steps.{SubjectsOf, as_both, by_kind, by_owner, by_token, lease_subject, owner_both, owner_of, renews_both, swept_tables, token_both, token_subject}
 
 -- ---- what a body asks

@@ -1,33 +1,22 @@
 -- Received: the reply to a lookup of a lease is received and read, and its own id is taken. For the laws that secrets change no answer.
 use Rattle.std.proofs.Common.{◌≡◌, ◌∙◌, ℕ, ◌<◌, ◌≤◌, ◌^◌, Bool, true, cond, List, [], ◌∷◌, ◌++◌, Some, None, Ok, Err, IsUtf8, bytes_eq, length, nat_le, refl, sym, ap, ap₂, subst, arith}
-use Rattle.std.proofs.lemmas.Bool.{cond-true}
-use Rattle.std.proofs.lemmas.Bool.Decides.{nat_tests}
+use Rattle.std.proofs.lemmas.{Bool.cond-true, Bool.Decides.nat_tests}
 use Rattle.std.specs.Cmp.Lexicographic.{bytes_decides}
-use Rattle.vault_exchange.specs.declared.fault.ExchangeFault.TheVariants.{Http}
-use Rattle.vault_exchange.specs.Exchanges.{received}
-use Rattle.vault_exchange.specs.Requests.{ReplyFits}
+use Rattle.vault_exchange.specs.{declared.fault.ExchangeFault.TheVariants.Http, Exchanges.received, Requests.ReplyFits}
 use Rattle.vault_exchange.proofs.Lengths.{looked_lease_short, ok_short, reply_short, status_short}
-use Rattle.vault_inventory.specs.Inventories.{IsInventory, Inventory, credential_at}
 use Rattle.vault_inventory.specs.Lookup.{lookup_fault}
+use Rattle.vault_inventory.specs.Inventories.{IsInventory, Inventory, credential_at}
 use Rattle.vault_inventory.specs.declared.lookup.LookupFault.TheVariants.{OtherEntry, OtherKind}
 use Rattle.vault_inventory.proofs.Inventories.{sendable_at}
-use Rattle.base_moment.specs.declared.moment.TheConstants.{LAST}
-use Rattle.base_moment.specs.Rfc3339.{face}
-use Rattle.plan_forest.specs.declared.entry.Kind.TheVariants.{Lease}
-use Rattle.plan_forest.specs.Forest.{entry_at}
-use Rattle.plan_forest.specs.Push.{is_lease}
-use Rattle.broker_rule.specs.declared.call.ApiCall.TheVariants.{LookupLease}
-use Rattle.broker_rule.specs.declared.row.BrokerRow.{BrokerRow}
-use Rattle.broker_rule.specs.declared.served.Served.TheVariants as served
+use Rattle.base_moment.specs.{declared.moment.TheConstants.LAST, Rfc3339.face}
+use Rattle.plan_forest.specs.{declared.entry.Kind.TheVariants.Lease, Forest.entry_at, Push.is_lease}
+use Rattle.broker_rule.specs.{declared.call.ApiCall.TheVariants.LookupLease, declared.row.BrokerRow.BrokerRow}
 use Rattle.broker_rule.specs.Step.{IsReplyBody, TellsRow, seconds_to}
+use Rattle.broker_rule.specs.declared.served.Served.TheVariants as served
 use Rattle.vault_http.specs.declared.http_fault.HttpFault.TheVariants as https
-use Rattle.vault_http.specs.declared.known.TheConstants.{MOST_MESSAGE}
-use Rattle.vault_http.specs.declared.reply.Reply.{Reply}
-use Rattle.vault_http.specs.Written.{reply_text}
-use Rattle.vault_json.specs.declared.lookup.Lookup.{Lookup}
+use Rattle.vault_http.specs.{declared.known.TheConstants.MOST_MESSAGE, declared.reply.Reply.Reply, Written.reply_text}
+use Rattle.vault_json.specs.{declared.lookup.Lookup.Lookup, Laws.LookedLeaseIsRead, Lookup.lookup_lease_answer}
 use Rattle.vault_json.specs.declared.lookup.Lookup.TheVariants as lookups
-use Rattle.vault_json.specs.Laws.{LookedLeaseIsRead}
-use Rattle.vault_json.specs.Lookup.{lookup_lease_answer}
 
 pub fits_received : (reply : Reply) → ReplyFits (served.Reply reply) → received (served.Reply reply) ≡ Ok reply
 fits_received reply fits =

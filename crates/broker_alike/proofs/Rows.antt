@@ -2,17 +2,11 @@
 use Rattle.std.specs.Prelude.{◌↔◌}
 use Rattle.std.proofs.Common.{◌≡◌, ◌∙◌, ℕ, zero, suc, ◌<◌, ◌&&◌, Bool, true, false, not, cond, List, [], ◌∷◌, Option, Some, None, bytes_eq, filter, length, map, nat_lt, refl, sym, ap, subst, inl, inr}
 use Rattle.std.proofs.lemmas.Bool.{cases_Bool}
-use Rattle.std.specs.Cmp.Lexicographic.{bytes_decides}
-use Rattle.std.specs.List.{AllZip, find}
-use Rattle.plan_forest.specs.declared.entry.Kind.{Kind}
+use Rattle.std.specs.{Cmp.Lexicographic.bytes_decides, List.AllZip, List.find}
+use Rattle.plan_forest.specs.{declared.entry.Kind.Kind, declared.forest.TheConstants.MAX_ENTRIES, Forest.Forest, Forest.entry_at, Push.is_lease}
 use Rattle.plan_forest.specs.declared.entry.Kind.TheVariants.{Token, Lease}
-use Rattle.plan_forest.specs.declared.forest.TheConstants.{MAX_ENTRIES}
-use Rattle.plan_forest.specs.Forest.{Forest, entry_at}
-use Rattle.plan_forest.specs.Push.{is_lease}
 use Rattle.vault_inventory.specs.Inventories.{credential_at}
-use Rattle.broker_rule.specs.declared.row.BrokerRow.{BrokerRow}
-use Rattle.broker_rule.specs.Renewing.{with_row}
-use Rattle.broker_rule.specs.Rows.{row_named}
+use Rattle.broker_rule.specs.{declared.row.BrokerRow.BrokerRow, Renewing.with_row, Rows.row_named}
 use Rattle.broker_rule.specs.Subject.{is_lease_with, is_token_with, lease_with, token_with}
 use Rattle.broker_rule.specs.Sweep.{lives, lives_of, parent_passes, passes, swept}
 use Rattle.broker_alike.specs.Alike.{AreRowsAlike}

@@ -2,36 +2,27 @@
 -- differ in no more after it.
 use Rattle.std.proofs.Common.{◌≡◌, ◌∙◌, ℕ, ◌<◌, ◌&&◌, Bool, true, false, not, List, Option, Some, None, is_none, Result, Ok, Err, bytes_eq, length, option_map, refl, sym, ap, subst, arith}
 use Rattle.std.proofs.lemmas.Bool.{cond-true}
-use Rattle.std.specs.Cmp.Lexicographic.{bytes_decides}
-use Rattle.std.specs.List.{AllZip}
-use Rattle.plan_forest.specs.declared.entry.Kind.{Kind}
+use Rattle.std.specs.{Cmp.Lexicographic.bytes_decides, List.AllZip}
+use Rattle.plan_forest.specs.{declared.entry.Kind.Kind, declared.entry.Entry.Entry, Forest.Forest, Forest.entry_at}
 use Rattle.plan_forest.specs.declared.entry.Kind.TheVariants.{Token, Lease}
-use Rattle.plan_forest.specs.declared.entry.Entry.{Entry}
-use Rattle.plan_forest.specs.Forest.{Forest, entry_at}
 use Rattle.plan_forest.specs.Push.{IsForest, is_lease, is_under_lease}
-use Rattle.plan_forest.proofs.Carrying.{and_right}
-use Rattle.plan_forest.proofs.Chains.{cases_Option}
-use Rattle.vault_inventory.specs.Inventories.{IsInventory, Inventory, credential_at}
+use Rattle.plan_forest.proofs.{Carrying.and_right, Chains.cases_Option}
 use Rattle.vault_inventory.specs.declared.terms.Terms.{Terms}
+use Rattle.vault_inventory.specs.Inventories.{IsInventory, Inventory, credential_at}
 use Rattle.vault_http.specs.declared.request.Request.{Request}
-use Rattle.broker_rule.specs.declared.row.BrokerRow.{BrokerRow}
-use Rattle.broker_rule.specs.declared.call.ApiCall.{ApiCall}
+use Rattle.broker_rule.specs.{declared.row.BrokerRow.BrokerRow, declared.call.ApiCall.ApiCall, declared.fault.Fault.Fault, declared.refusal.Refusal.Refusal, Table.BrokerTable, Request.asked, Request.is_write}
 use Rattle.broker_rule.specs.declared.call.ApiCall.TheVariants.{RenewSelf, RenewLease}
-use Rattle.broker_rule.specs.declared.fault.Fault.{Fault}
-use Rattle.broker_rule.specs.declared.refusal.Refusal.{Refusal}
 use Rattle.broker_rule.specs.declared.refusal.Refusal.TheVariants.{NotRenewable, PermissionDenied, UnsupportedMethod}
 use Rattle.broker_rule.specs.Faults.{fault_at, next_number, without_fault}
 use Rattle.broker_rule.specs.Granted.{AsksRenewal, asked_for, bearer_for, call_for}
-use Rattle.broker_rule.specs.Table.{BrokerTable}
 use Rattle.broker_rule.specs.Renewing.{granted_row, is_deny, new_end, renewal_by_broker, step_of_row}
-use Rattle.broker_rule.specs.Request.{asked, is_write}
 use Rattle.broker_rule.specs.Step.{after_sweep, broker_step, by_call, counted_renewal, drops, is_drop, refuses, renewal_outcome, tells}
 use Rattle.broker_rule.specs.Subject.{Subject, bearer, belongs, is_lease_with, is_token_with, lease_with, owned, subject, token_with, with_asked, with_bearer}
 use Rattle.vault_exchange.specs.Requests.{renewal_request}
 use Rattle.broker_alike.specs.Alike.{AreRowsAlike, AreTablesAlike}
 use Rattle.broker_alike.specs.Answers.{AnswersOf, OutcomesOf, RowsOf}
-use Rattle.broker_alike.proofs.Rows.{BothFound, by_test, lease_found_both, name_both, swept_both, token_found_both, with_both}
 use Rattle.broker_alike.proofs.Asking.{asks_renewal}
+use Rattle.broker_alike.proofs.Rows.{BothFound, by_test, lease_found_both, name_both, swept_both, token_found_both, with_both}
 
 pub as_both : {X Y : Type 0} (P : X → Y → Type 0) (a b : X) (c d : Y) → b ≡ a → d ≡ c → P a c → P b d
 as_both P a b c d left right is = subst (λ x. P x d) (sym left) (subst (P a) (sym right) is)

@@ -4,12 +4,10 @@
 use Rattle.std.specs.Prelude.{◌≡◌, ◌↔◌, ℕ, ◌<◌, ◌≤◌, All, List, Option, Some, length}
 use Rattle.std.specs.List.{AllZip}
 use Rattle.vault_exchange.specs.Exchanges.{Behind}
-use Rattle.plan_forest.specs.declared.entry.Kind.TheVariants.{Lease}
-use Rattle.plan_forest.specs.Forest.{Forest, entry_at}
+use Rattle.plan_forest.specs.{declared.entry.Kind.TheVariants.Lease, Forest.Forest, Forest.entry_at}
 use Rattle.vault_inventory.specs.Inventories.{credential_at}
 use Rattle.base_moment.specs.declared.moment.TheConstants.{LAST}
-use Rattle.broker_rule.specs.declared.row.BrokerRow.{BrokerRow}
-use Rattle.broker_rule.specs.Table.{BrokerTable}
+use Rattle.broker_rule.specs.{declared.row.BrokerRow.BrokerRow, Table.BrokerTable}
 
 -- what a forest keeps of the one that was supplied, whatever lookups and renewals tell: as many entries, each of its kind, and
 -- of a lease its token and its step

@@ -3,12 +3,10 @@
 use Rattle.std.specs.Prelude.{◌≡◌, ℕ, ◌≤◌, List}
 use Rattle.vault_inventory.specs.Inventories.{credential_at}
 use Rattle.base_moment.specs.declared.moment.TheConstants.{LAST}
-use Rattle.plan_forest.specs.declared.entry.Kind.{Kind}
+use Rattle.plan_forest.specs.{declared.entry.Kind.Kind, Forest.Forest}
 use Rattle.plan_forest.specs.declared.entry.Kind.TheVariants.{Token, Lease}
-use Rattle.plan_forest.specs.Forest.{Forest}
-use Rattle.broker_rule.specs.declared.call.ApiCall.{ApiCall}
+use Rattle.broker_rule.specs.{declared.call.ApiCall.ApiCall, declared.row.BrokerRow.BrokerRow}
 use Rattle.broker_rule.specs.declared.call.ApiCall.TheVariants.{LookupSelf, LookupLease}
-use Rattle.broker_rule.specs.declared.row.BrokerRow.{BrokerRow}
 use Rattle.broker_rule.specs.Step.{BrokerAnswer, BrokerOutcome, drops, refuses, tells}
 use Rattle.broker_alike.specs.Alike.{AreRowsAlike, AreTablesAlike}
 

@@ -2,12 +2,9 @@
 -- Source: this project's own.
 use Rattle.std.specs.Prelude.{ℕ, ◌<◌, List, length}
 use Rattle.vault_exchange.specs.Requests.{lookup_of, renewal_request}
-use Rattle.vault_inventory.specs.Inventories.{IsInventory, Inventory}
-use Rattle.vault_inventory.specs.declared.terms.Terms.{Terms}
+use Rattle.vault_inventory.specs.{Inventories.IsInventory, Inventories.Inventory, declared.terms.Terms.Terms}
 use Rattle.plan_forest.specs.Forest.{Forest, entry_at}
-use Rattle.broker_rule.specs.Granted.{call_for}
-use Rattle.broker_rule.specs.Step.{broker_step}
-use Rattle.broker_rule.specs.Table.{BrokerTable}
+use Rattle.broker_rule.specs.{Granted.call_for, Step.broker_step, Table.BrokerTable}
 use Rattle.vault_http.specs.declared.request.Request.{Request}
 use Rattle.broker_alike.specs.Alike.{AreDated, AreTablesAlike, KeepsSupplied}
 use Rattle.broker_alike.specs.Answers.{OutcomesOf, Speaks, look_for}

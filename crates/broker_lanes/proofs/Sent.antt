@@ -1,12 +1,7 @@
 -- What is sent in memory, and what is left where memory was wanting: for `MemoryLanes`.
 use Rattle.std.proofs.Common.{◌≡◌, ℕ, List, Option, Some, Result, Ok, Err, OnErr, refl, ap, subst, ◌∙◌}
-use Rattle.vault_lanes.specs.Out.{Out, OutIsPut}
+use Rattle.vault_lanes.specs.{Out.Out, Out.OutIsPut, declared.allowance.Allowance.Allowance, declared.coming.Coming.Coming, declared.fault.LaneFault.LaneFault, declared.fault.NumberedLaneFault.NumberedLaneFault, declared.lanes.Ask.Ask}
 use Rattle.vault_lanes.specs.Serving.{BehindLanes, BrokerIsLeft, ComesOfRequest, IsTableLeft, RequestIsSent, allowed, lane_fault_at, next_lane_number}
-use Rattle.vault_lanes.specs.declared.allowance.Allowance.{Allowance}
-use Rattle.vault_lanes.specs.declared.coming.Coming.{Coming}
-use Rattle.vault_lanes.specs.declared.fault.LaneFault.{LaneFault}
-use Rattle.vault_lanes.specs.declared.fault.NumberedLaneFault.{NumberedLaneFault}
-use Rattle.vault_lanes.specs.declared.lanes.Ask.{Ask}
 use Rattle.broker_rule.specs.Table.{BrokerTable}
 use Rattle.vault_http.specs.declared.request.Request.{Request}
 

@@ -2,11 +2,9 @@
 use Rattle.std.proofs.Common.{◌≡◌, ℕ, ◌<◌, List, [], ◌∷◌, Bool, true, false, cond, not, filter, map, nat_le, Option, None, Some, Result, Ok, Err, IfOk, OnOk, arith, refl, ap, subst, sym, ◌∙◌}
 use Rattle.std.proofs.lemmas.Bool.{false≢true, leb-false}
 use Rattle.base_device.specs.Moments.{earlier}
+use Rattle.vault_lanes.specs.{declared.coming.Coming.Coming, declared.lanes.Answered.Answered, declared.seats.Seat.Seat}
 use Rattle.vault_lanes.specs.Out.{AreThereAt, IsDueAfter, Out, first_at, is_there, is_there_at, sooner_at}
 use Rattle.vault_lanes.specs.Seats.{AreTakenOut, out_of_seat, outs}
-use Rattle.vault_lanes.specs.declared.coming.Coming.{Coming}
-use Rattle.vault_lanes.specs.declared.lanes.Answered.{Answered}
-use Rattle.vault_lanes.specs.declared.seats.Seat.{Seat}
 
 abbrev known : Seat Coming → Out
 known seat = out_of_seat (λ coming. Some coming) seat

@@ -3,9 +3,7 @@
 use Rattle.std.specs.Prelude.{◌≡◌, ℕ, List, Result, Ok, Err}
 use Rattle.vault_exchange.specs.declared.fault.ExchangeFault.{ExchangeFault}
 use Rattle.vault_exchange.specs.declared.fault.ExchangeFault.TheVariants as exchange
-use Rattle.vault_lanes.specs.Losses.{Answer}
-use Rattle.vault_lanes.specs.Out.{Out}
-use Rattle.vault_lanes.specs.Serving.{BehindLanes, answer_in}
+use Rattle.vault_lanes.specs.{Losses.Answer, Out.Out, Serving.BehindLanes, Serving.answer_in}
 use Rattle.vault_http.specs.declared.reply.Reply.{Reply}
 
 -- what stands in lanes in memory: what is behind them, what is out, how many lanes there are, and the time-out in seconds

@@ -64,7 +64,8 @@ impl MemoryLanes {
         ensures unchanged { OnErr result (self.new ≡ self.old) }
     {
         self.faults.reserve(1)?;
-        self.faults.push_reserved(NumberedLaneFault { number, fault });
+        self.faults
+            .push_reserved(NumberedLaneFault { number, fault });
         Ok(())
     }
 

@@ -1,22 +1,15 @@
 -- One exchange of messages over the broker's table: for `MemoryExchange`.
-use Rattle.std.proofs.Common.{◌≡◌, ℕ, inr, Bool, true, false, List, [], ◌++◌, length, refl, sym, subst, ap, ◌∙◌, nat_le, if◌then◌else◌, Option, Some, Result, Ok, Err, IsErr, IsErrAnd}
-use Rattle.vault_http.specs.declared.known.TheConstants.{MOST_MESSAGE}
+use Rattle.std.proofs.Common.{◌≡◌, ℕ, inr, Bool, true, false, List, [], length, refl, sym, subst, ap, ◌∙◌, nat_le, if◌then◌else◌, Option, Some, Result, Ok, Err, IsErr, IsErrAnd}
+use Rattle.vault_http.specs.{declared.known.TheConstants.MOST_MESSAGE, declared.reply.Reply.Reply, declared.request.Request.Request, RoundTripRequest.without_port, Written.reply_text}
 use Rattle.vault_exchange.specs.declared.fault.ExchangeFault.{ExchangeFault}
 use Rattle.vault_exchange.specs.declared.fault.ExchangeFault.TheVariants.{ConnectFailed, WriteFailed, Http, OutOfMemory}
 use Rattle.vault_exchange.specs.Exchanges.{Behind, Exchanges, IsExchanged, IsGivenUp, received, reply_that_came, wire_of}
-use Rattle.broker_rule.specs.declared.served.Served.{Served}
-use Rattle.broker_rule.specs.declared.served.Served.TheVariants as served
-use Rattle.broker_rule.specs.Table.{BrokerTable}
-use Rattle.broker_rule.specs.Renewing.{renewal_by_broker}
+use Rattle.broker_rule.specs.{declared.served.Served.Served, Table.BrokerTable, Renewing.renewal_by_broker, Subject.subject}
 use Rattle.broker_rule.specs.Step.{SaysAnswer, broker_step, renewal_outcome}
+use Rattle.broker_rule.specs.declared.served.Served.TheVariants as served
 use Rattle.broker_table.specs.Stream.{MaySend, bytes_sent_of}
-use Rattle.broker_rule.specs.Subject.{subject}
 use Rattle.broker_table.proofs.Streamed.{handled_sent}
 use Rattle.vault_http.specs.declared.http_fault.HttpFault.TheVariants as https
-use Rattle.vault_http.specs.declared.reply.Reply.{Reply}
-use Rattle.vault_http.specs.declared.request.Request.{Request}
-use Rattle.vault_http.specs.RoundTripRequest.{without_port}
-use Rattle.vault_http.specs.Written.{reply_text}
 
 port_unread : (l : BrokerTable) (t : ℕ) (r : Request) → broker_step l t (without_port r) ≡ broker_step l t r
 unfolding broker_step renewal_outcome renewal_by_broker subject

@@ -1,19 +1,13 @@
 -- What reading a text from a source in memory that never fails answers, where the text has one answer: for both texts.
 use Rattle.std.proofs.Common.{◌≡◌, ℕ, ◌+◌, ◌/◌, ◌≤◌, inl, inr, arith, List, [], length, ◌++◌, ◌<◌, ◌^◌, IsTrue, refl, ap, sym, subst, length-append, append-nil, ◌∙◌, Option, Some, Result, Ok, Err, IsErrAnd, IsOkUnless, le_refl}
-use Rattle.vault_exchange.specs.declared.fault.ExchangeFault.{ExchangeFault}
-use Rattle.vault_exchange.specs.declared.fault.ExchangeFault.TheVariants.{OutOfMemory}
-use Rattle.vault_exchange.specs.Exchanges.{exchange_fault}
-use Rattle.vault_http.specs.declared.http_fault.HttpFault.{HttpFault}
-use Rattle.vault_http.specs.declared.http_fault.HttpFault.TheVariants as https
-use Rattle.base_device.specs.Memory.{Supply, input_of, reads_needed, reads_of}
+use Rattle.vault_exchange.specs.{declared.fault.ExchangeFault.ExchangeFault, declared.fault.ExchangeFault.TheVariants.OutOfMemory, Exchanges.exchange_fault}
+use Rattle.vault_http.specs.{declared.http_fault.HttpFault.HttpFault, declared.reply.Reply.Reply, declared.request.Request.Request, Messages.IsHttpReply, Messages.IsHttpRequest, RoundTrip.ReadsBackReply, RoundTrip.is_sent}
+use Rattle.vault_http.specs.{Written.reply_text, Written.request_text}
 use Rattle.vault_http.specs.Reading.{CountsMessage, SettlesMessage, SettlesReply, SettlesRequest}
-use Rattle.base_device.specs.declared.limits.TheConstants.{MOST_READS}
-use Rattle.vault_http.specs.declared.reply.Reply.{Reply}
-use Rattle.vault_http.specs.declared.request.Request.{Request}
-use Rattle.vault_http.specs.Messages.{IsHttpReply, IsHttpRequest}
-use Rattle.vault_http.specs.RoundTrip.{ReadsBackReply, is_sent}
 use Rattle.vault_http.specs.RoundTripRequest.{IsSendableRequest, IsWritable, ReadsBackRequest, without_port}
-use Rattle.vault_http.specs.Written.{reply_text, request_text}
+use Rattle.vault_http.specs.declared.http_fault.HttpFault.TheVariants as https
+use Rattle.base_device.specs.declared.limits.TheConstants.{MOST_READS}
+use Rattle.base_device.specs.Memory.{Supply, input_of, reads_needed, reads_of}
 
 -- the message, or lack of memory
 abbrev pub Reads : {A : Type 0} → A → Result A HttpFault → Type 0

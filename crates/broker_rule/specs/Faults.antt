@@ -1,9 +1,7 @@
 -- Faults by number: what is to go wrong at which renewal request. Requests are counted from 1. This project's own.
 use Rattle.std.specs.Prelude.{ℕ, ◌+◌, ◌-◌, ◌^◌, ◌==◌, List, Option, Some, None, not, nat_lt, nat_le, is_some, option_map, if◌then◌else◌}
 use Rattle.std.specs.List.{find, filter}
-use Rattle.broker_rule.specs.declared.fault.Fault.{Fault}
-use Rattle.broker_rule.specs.declared.fault.NumberedFault.{NumberedFault}
-use Rattle.broker_rule.specs.declared.fault.SetFault.{SetFault}
+use Rattle.broker_rule.specs.{declared.fault.Fault.Fault, declared.fault.NumberedFault.NumberedFault, declared.fault.SetFault.SetFault}
 use Rattle.broker_rule.specs.declared.fault.SetFault.TheVariants.{BadNumber, Twice}
 
 -- the faults of the renewal requests to come, in the order in which they were given, and how many requests came

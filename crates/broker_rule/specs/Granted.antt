@@ -1,18 +1,13 @@
 -- Granted: which request asks for the renewal of an entry, and the row that a renewal by the rule leaves.
 -- Source: Vault, HTTP API: `auth/token`, "Renew a token (self)"; `sys/leases`, "Renew lease".
 use Rattle.std.specs.Prelude.{◌≡◌, ℕ, true, List, Option, Some, None, option_map}
-use Rattle.plan_forest.specs.declared.entry.Kind.{Kind}
+use Rattle.plan_forest.specs.{declared.entry.Kind.Kind, Forest.end_of, Forest.entry_at, Renewal.renewed}
 use Rattle.plan_forest.specs.declared.entry.Kind.TheVariants.{Token, Lease}
-use Rattle.plan_forest.specs.Forest.{end_of, entry_at}
-use Rattle.plan_forest.specs.Renewal.{renewed}
 use Rattle.vault_inventory.specs.Inventories.{Inventory, credential_at}
 use Rattle.vault_http.specs.declared.request.Request.{Request}
-use Rattle.broker_rule.specs.declared.row.BrokerRow.{BrokerRow}
-use Rattle.broker_rule.specs.declared.asked.AskedBody.{AskedBody}
-use Rattle.broker_rule.specs.declared.call.ApiCall.{ApiCall}
+use Rattle.broker_rule.specs.{declared.row.BrokerRow.BrokerRow, declared.asked.AskedBody.AskedBody, declared.call.ApiCall.ApiCall, Rows.broker_row}
 use Rattle.broker_rule.specs.declared.call.ApiCall.TheVariants.{RenewSelf, RenewLease}
 use Rattle.broker_rule.specs.Request.{asked, call_of, is_write}
-use Rattle.broker_rule.specs.Rows.{broker_row}
 
 -- the call that renews an entry of that kind
 abbrev pub call_for : Kind → ApiCall

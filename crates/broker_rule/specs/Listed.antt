@@ -2,11 +2,9 @@
 -- Source: Vault, "Tokens" (a token's end ends its children and leases); Vault, "Lease, renew, and revoke".
 use Rattle.std.specs.Prelude.{ℕ, ◌+◌, Bool, List, filter, length, map}
 use Rattle.std.specs.List.{range_with_len}
-use Rattle.plan_forest.specs.Forest.{Forest, end_of}
-use Rattle.plan_forest.specs.Renewal.{all_last}
+use Rattle.plan_forest.specs.{Forest.Forest, Forest.end_of, Renewal.all_last}
 use Rattle.vault_inventory.specs.Inventories.{Inventory}
-use Rattle.broker_rule.specs.declared.row.BrokerRow.{BrokerRow}
-use Rattle.broker_rule.specs.Rows.{broker_row}
+use Rattle.broker_rule.specs.{declared.row.BrokerRow.BrokerRow, Rows.broker_row}
 
 -- each entry over i (itself included) ends after t
 unfoldable pub is_entry_alive : Forest → ℕ → ℕ → Bool

@@ -5,13 +5,9 @@
 use Rattle.std.specs.Prelude.{ℕ, ◌+◌, ◌==◌, min, Bool, true, false, List, map, Option, Some, None, Result, Ok, Err, bytes_eq, if◌then◌else◌}
 use Rattle.plan_forest.specs.Renewal.{capped}
 use Rattle.vault_http.specs.declared.request.Request.{Request}
-use Rattle.broker_rule.specs.declared.row.BrokerRow.{BrokerRow}
-use Rattle.broker_rule.specs.declared.call.ApiCall.{ApiCall}
-use Rattle.broker_rule.specs.declared.fault.Fault.{Fault}
+use Rattle.broker_rule.specs.{declared.row.BrokerRow.BrokerRow, declared.call.ApiCall.ApiCall, declared.fault.Fault.Fault, declared.refusal.Refusal.Refusal, Subject.Subject, Subject.subject}
 use Rattle.broker_rule.specs.declared.fault.Fault.TheVariants.{Short, Drop, Deny}
-use Rattle.broker_rule.specs.declared.refusal.Refusal.{Refusal}
 use Rattle.broker_rule.specs.declared.refusal.Refusal.TheVariants.{PermissionDenied, NotRenewable}
-use Rattle.broker_rule.specs.Subject.{Subject, subject}
 
 -- the increment that is asked for where it is there and not 0, else the row's own step
 abbrev pub asked_or : ℕ → Option ℕ → ℕ

@@ -3,13 +3,10 @@
 -- and "Read lease".
 use Rattle.std.specs.Prelude.{ℕ, Bool, true, false, ◌||◌, List, Option, Some, None, Result, Ok, Err, codes, bytes_eq, if◌then◌else◌}
 use Rattle.std.specs.Str.{is_utf8}
-use Rattle.vault_json.specs.Request.{increment_answer, lease_id_answer}
-use Rattle.vault_json.specs.declared.fault.ReplyFault.{ReplyFault}
+use Rattle.vault_json.specs.{Request.increment_answer, Request.lease_id_answer, declared.fault.ReplyFault.ReplyFault}
 use Rattle.vault_http.specs.Written.{is_get}
-use Rattle.broker_rule.specs.declared.call.ApiCall.{ApiCall}
+use Rattle.broker_rule.specs.{declared.call.ApiCall.ApiCall, declared.asked.AskedBody.AskedBody, declared.refusal.Refusal.Refusal}
 use Rattle.broker_rule.specs.declared.call.ApiCall.TheVariants.{RenewSelf, RenewLease, LookupSelf, LookupLease}
-use Rattle.broker_rule.specs.declared.asked.AskedBody.{AskedBody}
-use Rattle.broker_rule.specs.declared.refusal.Refusal.{Refusal}
 use Rattle.broker_rule.specs.declared.refusal.Refusal.TheVariants.{UnsupportedPath, UnsupportedMethod, PermissionDenied, BadRequest, UnknownLease, NotRenewable}
 
 -- ---- the path and the method

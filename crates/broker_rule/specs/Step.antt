@@ -5,21 +5,14 @@ use Rattle.std.specs.Prelude.{◌≡◌, ℕ, ◌-◌, min, Bool, true, false, L
 use Rattle.vault_inventory.specs.declared.limits.TheConstants.{SPAN_MAX}
 use Rattle.vault_http.specs.declared.request.Request.{Request}
 use Rattle.vault_json.specs.Written.{renewed_self_text, renewed_lease_text, looked_self_text, errors_text, IsLookedLease}
-use Rattle.broker_rule.specs.declared.row.BrokerRow.{BrokerRow}
-use Rattle.broker_rule.specs.declared.call.ApiCall.{ApiCall}
+use Rattle.broker_rule.specs.{declared.row.BrokerRow.BrokerRow, declared.call.ApiCall.ApiCall, declared.fault.Fault.Fault, declared.refusal.Refusal.Refusal, declared.served.Served.Served, Table.BrokerTable}
+use Rattle.broker_rule.specs.{Renewing.renewal_by_broker, Renewing.rows_after, Subject.Subject, Subject.subject, Sweep.swept}
 use Rattle.broker_rule.specs.declared.call.ApiCall.TheVariants.{RenewSelf, RenewLease, LookupSelf, LookupLease}
-use Rattle.broker_rule.specs.declared.fault.Fault.{Fault}
-use Rattle.broker_rule.specs.declared.fault.Fault.TheVariants as faults
-use Rattle.broker_rule.specs.declared.refusal.Refusal.{Refusal}
 use Rattle.broker_rule.specs.declared.refusal.Refusal.TheVariants.{UnsupportedPath, UnsupportedMethod}
-use Rattle.broker_rule.specs.declared.served.Served.{Served}
-use Rattle.broker_rule.specs.declared.served.Served.TheVariants as served
 use Rattle.broker_rule.specs.Faults.{fault_at, next_number, without_fault}
-use Rattle.broker_rule.specs.Table.{BrokerTable}
-use Rattle.broker_rule.specs.Renewing.{renewal_by_broker, rows_after}
 use Rattle.broker_rule.specs.Request.{allows, call_of, is_renewal, status_of_refusal, text_of_refusal}
-use Rattle.broker_rule.specs.Subject.{Subject, subject}
-use Rattle.broker_rule.specs.Sweep.{swept}
+use Rattle.broker_rule.specs.declared.fault.Fault.TheVariants as faults
+use Rattle.broker_rule.specs.declared.served.Served.TheVariants as served
 
 -- what is answered: a refusal, what a call says of a row, or nothing
 pub data BrokerAnswer : Type 0 where

@@ -4,12 +4,8 @@ use Rattle.std.specs.Prelude.{ℕ, Bool, false, not, ◌&&◌, List, Option, Som
 use Rattle.std.specs.List.{find}
 use Rattle.plan_forest.specs.Push.{is_lease}
 use Rattle.vault_http.specs.declared.request.Request.{Request}
-use Rattle.broker_rule.specs.declared.row.BrokerRow.{BrokerRow}
-use Rattle.broker_rule.specs.declared.asked.AskedBody.{AskedBody}
-use Rattle.broker_rule.specs.declared.call.ApiCall.{ApiCall}
-use Rattle.broker_rule.specs.declared.refusal.Refusal.{Refusal}
+use Rattle.broker_rule.specs.{declared.row.BrokerRow.BrokerRow, declared.asked.AskedBody.AskedBody, declared.call.ApiCall.ApiCall, declared.refusal.Refusal.Refusal, Request.asked}
 use Rattle.broker_rule.specs.declared.refusal.Refusal.TheVariants.{PermissionDenied, BadRequest, UnknownLease}
-use Rattle.broker_rule.specs.Request.{asked}
 
 -- a row, and the increment that is asked for it
 pub record Subject : Type 0 where

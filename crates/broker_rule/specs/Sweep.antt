@@ -3,8 +3,7 @@
 use Rattle.std.specs.Prelude.{ℕ, zero, suc, Bool, true, false, ◌&&◌, List, Option, Some, None, nat_lt}
 use Rattle.std.specs.List.{filter}
 use Rattle.plan_forest.specs.declared.forest.TheConstants.{MAX_ENTRIES}
-use Rattle.broker_rule.specs.declared.row.BrokerRow.{BrokerRow}
-use Rattle.broker_rule.specs.Rows.{row_named}
+use Rattle.broker_rule.specs.{declared.row.BrokerRow.BrokerRow, Rows.row_named}
 
 -- a row that is listed and passes
 abbrev pub passes : (BrokerRow → Bool) → Option BrokerRow → Bool

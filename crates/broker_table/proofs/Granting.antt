@@ -3,35 +3,25 @@
 use Rattle.std.proofs.Common.{◌≡◌, ◌==◌, ℕ, ◌+◌, ◌<◌, ◌&&◌, Bool, true, false, not, cond, List, Option, Some, None, is_none, Result, Ok, Err, bytes_eq, length, option_map, refl, sym, ap, ◌∙◌, arith, inl, inr}
 use Rattle.std.proofs.lemmas.Bool.{cases_Bool, cond-true, cond-false}
 use Rattle.std.specs.Cmp.Lexicographic.{bytes_decides}
-use Rattle.plan_forest.specs.declared.entry.Entry.{Entry}
-use Rattle.plan_forest.specs.declared.entry.Kind.{Kind}
+use Rattle.plan_forest.specs.{declared.entry.Entry.Entry, declared.entry.Kind.Kind}
 use Rattle.plan_forest.specs.declared.entry.Kind.TheVariants.{Token, Lease}
 use Rattle.plan_forest.specs.Forest.{Forest, end_of, entry_at}
 use Rattle.plan_forest.specs.Push.{IsForest, is_lease, is_under_lease}
 use Rattle.plan_forest.specs.Renewal.{capped, is_granted, renewal, renewed}
-use Rattle.plan_forest.proofs.Carrying.{and_left, and_right}
-use Rattle.plan_forest.proofs.Chains.{cases_Option}
+use Rattle.plan_forest.proofs.{Carrying.and_left, Carrying.and_right, Chains.cases_Option}
 use Rattle.vault_inventory.specs.Inventories.{IsInventory, Inventory, credential_at, terms_at}
 use Rattle.vault_inventory.proofs.Inventories.{period_is}
 use Rattle.vault_http.specs.declared.request.Request.{Request}
-use Rattle.broker_rule.specs.declared.row.BrokerRow.{BrokerRow}
-use Rattle.broker_rule.specs.declared.call.ApiCall.{ApiCall}
+use Rattle.broker_rule.specs.{declared.row.BrokerRow.BrokerRow, declared.call.ApiCall.ApiCall, declared.refusal.Refusal.Refusal, Faults.fault_at, Faults.next_number, Table.BrokerTable, Listed.is_entry_alive, Listed.rows_listed}
+use Rattle.broker_rule.specs.{Request.asked, Request.is_write, Rows.broker_row, Sweep.swept}
 use Rattle.broker_rule.specs.declared.call.ApiCall.TheVariants.{RenewSelf, RenewLease}
-use Rattle.broker_rule.specs.declared.refusal.Refusal.{Refusal}
 use Rattle.broker_rule.specs.declared.refusal.Refusal.TheVariants.{NotRenewable, PermissionDenied, UnknownLease, UnsupportedMethod}
-use Rattle.broker_rule.specs.Faults.{fault_at, next_number}
 use Rattle.broker_rule.specs.Granted.{AsksRenewal, asked_for, bearer_for, call_for, renewed_row}
-use Rattle.broker_table.specs.Laws.{RenewalIsByTheRule, UngrantedIsRefused}
-use Rattle.broker_rule.specs.Table.{BrokerTable}
-use Rattle.broker_rule.specs.Listed.{is_entry_alive, rows_listed}
 use Rattle.broker_rule.specs.Renewing.{granted_row, new_end, renewal_by_broker as renewal_served, step_of_row}
-use Rattle.broker_rule.specs.Request.{asked, is_write}
-use Rattle.broker_rule.specs.Rows.{broker_row}
 use Rattle.broker_rule.specs.Step.{after_sweep, broker_step, by_call, counted_renewal, refuses as refused, renewal_outcome}
 use Rattle.broker_rule.specs.Subject.{bearer, is_lease_with, is_token_with, lease_with, belongs, owned, subject, token_with, with_asked, with_bearer}
-use Rattle.broker_rule.specs.Sweep.{swept}
-use Rattle.broker_table.proofs.Ranges.{found_lone, found_none}
-use Rattle.broker_table.proofs.Sweeping.{alive_up}
+use Rattle.broker_table.specs.Laws.{RenewalIsByTheRule, UngrantedIsRefused}
+use Rattle.broker_table.proofs.{Ranges.found_lone, Ranges.found_none, Sweeping.alive_up}
 
 cases_Kind : (k : Kind) (P : Type 0) → (k ≡ Token → P) → (k ≡ Lease → P) → P
 cases_Kind Token P token lease = token refl

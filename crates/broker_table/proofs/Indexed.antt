@@ -1,26 +1,17 @@
 -- An index finds what a walk over the slots finds: when a slot more is entered, in the look-ups, and after a change that
 -- leaves each slot its kind and its credential.
-use Rattle.std.proofs.Common.{◌≡◌, ℕ, ◌+◌, ◌<◌, Bool, true, false, cond, not, ◌&&◌, List, ◌∷◌, ◌++◌, [], Option, Some, None, Result, Ok, Err, OnOk, IfSome, Vec, Global, length, get_or, map, option_map, bytes_eq, refl, sym, ap, ◌∙◌, subst, arith, ⊎_elim}
-use Rattle.std.proofs.lemmas.Bool.{cases_lt, cond-true, cond-false, false_from_ne_true}
+use Rattle.std.proofs.Common.{◌≡◌, ℕ, ◌+◌, ◌<◌, Bool, true, false, cond, not, ◌&&◌, List, ◌∷◌, [], Option, Some, None, Result, Ok, Err, OnOk, IfSome, Vec, Global, length, get_or, map, option_map, bytes_eq, refl, sym, ap, ◌∙◌, subst, arith, ⊎_elim}
 use Rattle.std.proofs.lemmas.List.{get_or-map, length-map}
+use Rattle.std.proofs.lemmas.Bool.{cases_lt, cond-true, cond-false, false_from_ne_true}
 use Rattle.std.proofs.Math.Seq.{map-set_same}
-use Rattle.std.specs.BTreeMap.{BTreeMap, IsEmpty}
-use Rattle.std.specs.Cmp.Lexicographic.{slice_cmp, bytes_decides}
-use Rattle.std.specs.List.{find}
-use Rattle.std.specs.Map.{lookup}
-use Rattle.std.specs.Ordering.{nat_cmp, is_eq}
-use Rattle.plan_forest.specs.declared.entry.Kind.{Kind}
+use Rattle.std.specs.{BTreeMap.BTreeMap, BTreeMap.IsEmpty, Cmp.Lexicographic.slice_cmp, Cmp.Lexicographic.bytes_decides, List.find, Map.lookup, Ordering.nat_cmp, Ordering.is_eq}
+use Rattle.plan_forest.specs.{declared.entry.Kind.Kind, Push.is_lease}
 use Rattle.plan_forest.specs.declared.entry.Kind.TheVariants.{Token, Lease}
-use Rattle.plan_forest.specs.Push.{is_lease}
-use Rattle.broker_rule.specs.declared.row.BrokerRow.{BrokerRow}
-use Rattle.broker_table.specs.declared.slot.Slot.{Slot}
-use Rattle.broker_table.specs.declared.index.Index.{Index}
+use Rattle.broker_rule.specs.{declared.row.BrokerRow.BrokerRow, Subject.is_lease_with, Subject.is_token_with, Sweep.lives}
+use Rattle.broker_table.specs.{declared.slot.Slot.Slot, declared.index.Index.Index}
 use Rattle.broker_table.specs.Index.{AreUnlike, EntersRow, FindsSlots, IsFresh, IsIndexOf, IsIndexOfNone, IsIndexed, credentials_of, if_listed, place_in}
 use Rattle.broker_table.specs.Slots.{listed_rows, no_slot, relisted, slot_at, swept_slots}
-use Rattle.broker_rule.specs.Subject.{is_lease_with, is_token_with}
-use Rattle.broker_rule.specs.Sweep.{lives}
-use Rattle.broker_table.proofs.Listed.{found_listed, none_listed}
-use Rattle.broker_table.proofs.Replaced.{ended}
+use Rattle.broker_table.proofs.{Listed.found_listed, Listed.none_listed, Replaced.ended}
 
 -- ---- a credential more in the map
 

@@ -1,18 +1,17 @@
 -- What the slots of a table keep between two sweeps: with it a sweep before the soonest end does nothing; a sweep, a renewal
 -- and an inventory give it.
 use Rattle.std.proofs.Common.{◌≡◌, ℕ, zero, suc, ◌+◌, ◌<◌, ◌≤◌, ◌-◌, ◌^◌, min, Bool, true, false, ◌&&◌, List, [], ◌∷◌, Option, Some, None, length, get_or, map, set, nat_lt, refl, sym, ap, ◌∙◌, subst, arith, inl, inr}
-use Rattle.std.proofs.lemmas.Bool.{and_from, cases_eq, cond-true}
 use Rattle.std.proofs.lemmas.Bool.Decides.{nat_tests}
+use Rattle.std.proofs.lemmas.Bool.{and_from, cases_eq, cond-true}
 use Rattle.std.proofs.lemmas.List.{get_or-map, get_or-set_same, get_or-set_other, length-map, length-set}
 use Rattle.std.proofs.Math.Nat.{min-le_left, min-le_right}
 use Rattle.plan_forest.proofs.Carrying.{and_right}
 use Rattle.vault_inventory.specs.Inventories.{Inventory}
-use Rattle.broker_rule.specs.declared.row.BrokerRow.{BrokerRow}
+use Rattle.broker_rule.specs.{declared.row.BrokerRow.BrokerRow, Sweep.lives}
 use Rattle.broker_table.specs.declared.slot.Slot.{Slot}
-use Rattle.broker_rule.specs.Sweep.{lives}
 use Rattle.broker_table.specs.Slots.{AreKept, AreSlots, EndFrom, end_in_slot, is_listed, listed_rows, no_slot, relisted, slot_at, slot_of, slots_of, swept_slots}
-use Rattle.broker_table.proofs.Living.{lives_step, over_below, over_passes, swept_sound}
 use Rattle.broker_table.proofs.Loaded.{count_of_slots, slot_of_place}
+use Rattle.broker_table.proofs.Living.{lives_step, over_below, over_passes, swept_sound}
 use Rattle.broker_table.proofs.Replaced.{ended, ended_sound, kept_field}
 
 -- ---- before the soonest end

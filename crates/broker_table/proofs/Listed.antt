@@ -1,16 +1,11 @@
 -- What is read at a place, and what a look-up finds among the rows that are listed: for the look-ups and the sweep.
 use Rattle.std.proofs.Common.{◌≡◌, ℕ, zero, suc, ◌<◌, Bool, true, false, cond, ◌&&◌, List, [], ◌∷◌, nat_lt, IfSome, Option, Some, None, length, get_or, map, option_map, bytes_eq, refl, sym, ap, ◌∙◌, arith, ⊎_elim}
+use Rattle.std.proofs.lemmas.{List.get_or_read, Bool.Decides.nat_tests, List.Folds.find_at, List.Quantifiers.position-Some, Option.slice_get-get_or, Option.slice_get_cases}
 use Rattle.std.proofs.lemmas.Bool.{cond-true, cond-false, false_from_ne_true}
-use Rattle.std.proofs.lemmas.List.{get_or_read}
 use Rattle.std.specs.Cmp.Lexicographic.{bytes_decides}
-use Rattle.std.proofs.lemmas.Bool.Decides.{nat_tests}
-use Rattle.std.proofs.lemmas.List.Folds.{find_at}
-use Rattle.std.proofs.lemmas.List.Quantifiers.{position-Some}
-use Rattle.std.proofs.lemmas.Option.{slice_get-get_or, slice_get_cases}
 use Rattle.std.specs.List.{find, filter, position, position_or_len, slice_get}
-use Rattle.broker_rule.specs.declared.row.BrokerRow.{BrokerRow}
+use Rattle.broker_rule.specs.{declared.row.BrokerRow.BrokerRow, Rows.row_named}
 use Rattle.broker_table.specs.declared.slot.Slot.{Slot}
-use Rattle.broker_rule.specs.Rows.{row_named}
 use Rattle.broker_table.specs.Slots.{AreSlots, listed_rows, no_slot, relisted, slot_at}
 
 -- what `&slots[i]` gives

@@ -4,8 +4,8 @@ use Rattle.std.proofs.lemmas.List.{drop_all, get_or-append_right, get_or_append_
 use Rattle.std.proofs.lemmas.List.Edits.{map_over_more}
 use Rattle.plan_forest.specs.declared.forest.TheConstants.{MAX_ENTRIES}
 use Rattle.broker_rule.specs.declared.row.BrokerRow.{BrokerRow}
-use Rattle.broker_table.specs.declared.slot.Slot.{Slot}
 use Rattle.broker_rule.specs.Sweep.{lives, lives_of, parent_passes, passes, swept}
+use Rattle.broker_table.specs.declared.slot.Slot.{Slot}
 use Rattle.broker_table.specs.Slots.{AreSlots, IsTied, is_listed, listed_rows, no_slot, relisted, slot_at, stands, swept_slots}
 use Rattle.broker_table.proofs.Listed.{listed_passing, named_listed}
 

@@ -1,16 +1,14 @@
 -- The slots of an inventory are slots of a table, and their rows are the inventory's: for `load`.
 use Rattle.std.proofs.Common.{◌≡◌, ℕ, ◌+◌, ◌<◌, false, List, [], ◌∷◌, ◌++◌, Option, Some, None, length, map, option_map, refl, sym, ap, ◌∙◌, subst, arith}
+use Rattle.std.proofs.lemmas.Bool.Decides.{nat_tests}
 use Rattle.std.proofs.lemmas.List.FromFn.{get_or-map-range_with_len, length-map-range_with_len, map-range_with_len_more}
 use Rattle.std.specs.List.{range_with_len}
-use Rattle.std.proofs.lemmas.Bool.Decides.{nat_tests}
-use Rattle.plan_forest.specs.declared.entry.Entry.{Entry}
+use Rattle.plan_forest.specs.{declared.entry.Entry.Entry, Push.IsForest, Push.lacks_parent}
 use Rattle.plan_forest.specs.Forest.{Forest, entry_at, index_named}
-use Rattle.plan_forest.specs.Push.{IsForest, lacks_parent}
 use Rattle.vault_inventory.specs.Inventories.{CredentialsAreApart, Inventory}
-use Rattle.broker_table.specs.declared.slot.Slot.{Slot}
-use Rattle.broker_table.specs.Index.{AreUnlike}
-use Rattle.broker_rule.specs.Rows.{broker_row, broker_rows}
+use Rattle.broker_table.specs.{declared.slot.Slot.Slot, Index.AreUnlike}
 use Rattle.broker_table.specs.Slots.{AreSlots, IsTied, listed_rows, no_slot, slot_at, slot_of, slots_of}
+use Rattle.broker_rule.specs.Rows.{broker_row, broker_rows}
 
 pub slot_of_place : (s : Inventory) (i : ℕ) → i < length s.forest.entries → slot_at (slots_of s) i ≡ slot_of s i
 unfolding slot_at slots_of

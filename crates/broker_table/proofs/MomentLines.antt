@@ -1,16 +1,9 @@
 -- Lines: what is read up to a line feed, and that a line of a moment stands in front of an input in one way alone.
 use Rattle.std.proofs.Common.{◌≡◌, ◌==◌, ℕ, ◌<◌, ◌≤◌, not, true, false, ◌&&◌, List, [], ◌∷◌, ◌++◌, Option, Some, None, IfSome, length, refl, sym, ap, ◌∙◌, arith, rules, inl, inr}
-use Rattle.std.specs.Char.{is_ascii_digit}
-use Rattle.std.specs.Io.KnownBytes.{Consumes}
-use Rattle.std.specs.List.{list_all}
+use Rattle.std.specs.{Char.is_ascii_digit, Io.KnownBytes.Consumes, List.list_all, Str.Parse.digits_value}
 use Rattle.std.specs.Prelude.{decimal}
-use Rattle.std.specs.Str.Parse.{digits_value}
+use Rattle.std.proofs.lemmas.{Bool.Decides.nat_tests, Fmt.digits_decimal, List.append_assoc, List.Folds.list_all-append, Str.Parse.IsNumeralModel, Str.Parse.numerals_by_value}
 use Rattle.std.proofs.lemmas.Bool.{and_from, and_parts, cases_Bool}
-use Rattle.std.proofs.lemmas.Bool.Decides.{nat_tests}
-use Rattle.std.proofs.lemmas.Fmt.{digits_decimal}
-use Rattle.std.proofs.lemmas.List.{append_assoc}
-use Rattle.std.proofs.lemmas.List.Folds.{list_all-append}
-use Rattle.std.proofs.lemmas.Str.Parse.{IsNumeralModel, numerals_by_value}
 use Rattle.std.proofs.Math.ListN.{length-append}
 use Rattle.base_moment.specs.declared.moment.TheConstants.{LAST}
 use Rattle.broker_table.specs.declared.moment_line.TheConstants.{MOST_LINE}

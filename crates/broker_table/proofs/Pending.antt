@@ -1,19 +1,11 @@
 -- The faults of the requests to come, of all that were given: the map by number finds what a walk finds, also after a fault
 -- more, and a request that is counted takes away its own fault alone. For `Faults`.
 use Rattle.std.proofs.Common.{◌≡◌, ℕ, ◌+◌, ◌-◌, ◌^◌, ◌<◌, ◌≤◌, ◌==◌, Bool, true, false, cond, not, ◌&&◌, nat_lt, nat_le, List, ◌∷◌, ◌++◌, [], Option, Some, None, option_map, refl, sym, ap, ◌∙◌, subst, arith, ⊎_elim, Ordering, Less, Equal, Greater}
+use Rattle.std.proofs.lemmas.{Bool.Decides.nat_tests, Cmp.ranked, List.Elements.filter-append, List.Elements.filter_agree, List.Folds.find-append}
 use Rattle.std.proofs.lemmas.Bool.{cases_eq, cases_lt, cond-false, cond-true, eq-eqb, eqb-true, false_from_ne_true, le-leb, le-ltb, lt-leb, lt-ltb, ne_eqb}
-use Rattle.std.proofs.lemmas.Bool.Decides.{nat_tests}
-use Rattle.std.proofs.lemmas.Cmp.{ranked}
-use Rattle.std.proofs.lemmas.List.Elements.{filter-append, filter_agree}
-use Rattle.std.proofs.lemmas.List.Folds.{find-append}
+use Rattle.std.specs.{List.filter, List.find, Map.lookup, Option.is_some, Option.option_or, Ordering.is_eq, Ordering.nat_cmp}
 use Rattle.std.specs.BTreeMap.{BTreeMap, IsEmpty, Updates, get}
-use Rattle.std.specs.List.{filter, find}
-use Rattle.std.specs.Map.{lookup}
-use Rattle.std.specs.Option.{is_some, option_or}
-use Rattle.std.specs.Ordering.{is_eq, nat_cmp}
-use Rattle.broker_rule.specs.declared.fault.Fault.{Fault}
-use Rattle.broker_rule.specs.declared.fault.NumberedFault.{NumberedFault}
-use Rattle.broker_rule.specs.declared.fault.SetFault.{SetFault}
+use Rattle.broker_rule.specs.{declared.fault.Fault.Fault, declared.fault.NumberedFault.NumberedFault, declared.fault.SetFault.SetFault}
 use Rattle.broker_rule.specs.declared.fault.SetFault.TheVariants.{BadNumber, Twice}
 use Rattle.broker_rule.specs.Faults.{Faults, fault_at, fault_refusal, next_number, pending, without_fault}
 

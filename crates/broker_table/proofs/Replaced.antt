@@ -3,9 +3,8 @@ use Rattle.std.proofs.Common.{◌≡◌, ℕ, zero, suc, ◌<◌, Bool, true, fa
 use Rattle.std.proofs.lemmas.Bool.{cases_eq, cond-true, cond-false, false_from_ne_true}
 use Rattle.std.proofs.lemmas.List.{get_or-set_same, get_or-set_other, length-set}
 use Rattle.std.specs.Cmp.Lexicographic.{bytes_decides}
-use Rattle.broker_rule.specs.declared.row.BrokerRow.{BrokerRow}
+use Rattle.broker_rule.specs.{declared.row.BrokerRow.BrokerRow, Renewing.with_row}
 use Rattle.broker_table.specs.declared.slot.Slot.{Slot}
-use Rattle.broker_rule.specs.Renewing.{with_row}
 use Rattle.broker_table.specs.Slots.{AreSlots, listed_rows, no_slot, slot_at}
 use Rattle.broker_table.proofs.Living.{like_sound}
 

@@ -1,23 +1,15 @@
 -- What was sent after what was read: for `serve_stream`.
 use Rattle.std.proofs.Common.{◌≡◌, ℕ, IsTrue, refl, sym, subst, Result, Ok, Err, IfErr, OnOk, OnErr, inl, inr}
 use Rattle.std.specs.Io.KnownBytes.{Keeps}
-use Rattle.base_device.specs.Front.{AppendsFront}
-use Rattle.base_device.specs.Seen.{Change}
+use Rattle.base_device.specs.{Front.AppendsFront, Seen.Change}
 use Rattle.broker_table.specs.declared.stream.StreamFault.{StreamFault}
 use Rattle.broker_table.specs.declared.stream.StreamFault.TheVariants as streams
-use Rattle.broker_rule.specs.Table.{BrokerTable}
-use Rattle.vault_http.specs.declared.http_fault.HttpFault.{HttpFault}
-use Rattle.vault_http.specs.declared.http_fault.HttpFault.TheVariants as https
-use Rattle.vault_http.specs.declared.request.Request.{Request}
-use Rattle.vault_http.specs.Reading.{SettlesRequest}
-use Rattle.vault_http.specs.RoundTrip.{is_sent}
-use Rattle.vault_http.specs.declared.known.TheConstants.{MOST_MESSAGE}
-use Rattle.broker_rule.specs.declared.refusal.Refusal.{Refusal}
-use Rattle.broker_rule.specs.declared.refusal.Refusal.TheVariants as refusals
-use Rattle.broker_rule.specs.declared.served.Served.{Served}
-use Rattle.broker_rule.specs.declared.served.Served.TheVariants as served
-use Rattle.broker_rule.specs.Request.{status_of_refusal}
+use Rattle.broker_rule.specs.{Table.BrokerTable, declared.refusal.Refusal.Refusal, declared.served.Served.Served, Request.status_of_refusal}
 use Rattle.broker_rule.specs.Step.{BrokerAnswer, refuses, tells, drops, Refuses, SaysAnswer, broker_step}
+use Rattle.vault_http.specs.{declared.http_fault.HttpFault.HttpFault, declared.request.Request.Request, Reading.SettlesRequest, RoundTrip.is_sent, declared.known.TheConstants.MOST_MESSAGE}
+use Rattle.vault_http.specs.declared.http_fault.HttpFault.TheVariants as https
+use Rattle.broker_rule.specs.declared.refusal.Refusal.TheVariants as refusals
+use Rattle.broker_rule.specs.declared.served.Served.TheVariants as served
 use Rattle.broker_table.specs.Stream.{CountsSending, FaultLeaves, Handles, IsHandled, IsUnserved, MaySend, StreamFails, WantsMemory, bytes_sent_of}
 
 pub of_both : {X E : Type 0} (P Q R : Type 0) (r : Result X E) → (P → Q → R) → OnOk r P → OnOk r Q → OnOk r R

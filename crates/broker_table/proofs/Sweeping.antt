@@ -1,22 +1,17 @@
 -- A sweep of the rows of an inventory leaves those of the entries that are alive.
 use Rattle.std.proofs.Common.{◌≡◌, ℕ, zero, suc, ◌+◌, ◌<◌, ◌&&◌, Bool, true, false, List, Some, None, bytes_eq, filter, length, map, nat_le, nat_lt, option_map, refl, sym, ap, ◌∙◌, arith, inl, inr}
-use Rattle.std.proofs.lemmas.Bool.{cases_lt}
-use Rattle.std.proofs.lemmas.Bool.Decides.{nat_tests}
-use Rattle.std.specs.Cmp.Lexicographic.{bytes_decides}
-use Rattle.std.specs.List.{range_with_len}
+use Rattle.std.proofs.lemmas.{Bool.cases_lt, Bool.Decides.nat_tests}
+use Rattle.std.specs.{Cmp.Lexicographic.bytes_decides, List.range_with_len}
 use Rattle.std.proofs.Math.Bool.{and-true}
-use Rattle.plan_forest.specs.declared.forest.TheConstants.{MAX_ENTRIES}
+use Rattle.plan_forest.specs.{declared.forest.TheConstants.MAX_ENTRIES, Push.IsForest}
 use Rattle.plan_forest.specs.Forest.{Forest, end_of, entry_at, index_named}
-use Rattle.plan_forest.specs.Push.{IsForest}
-use Rattle.plan_forest.proofs.Carrying.{and_right}
+use Rattle.plan_forest.proofs.{Carrying.and_right, Placed.parents_first}
 use Rattle.plan_forest.proofs.Chains.{all_last_child, all_last_root, cases_Option}
-use Rattle.plan_forest.proofs.Placed.{parents_first}
 use Rattle.vault_inventory.specs.Inventories.{Inventory}
-use Rattle.broker_rule.specs.declared.row.BrokerRow.{BrokerRow}
+use Rattle.broker_rule.specs.{declared.row.BrokerRow.BrokerRow, Listed.is_entry_alive, Listed.rows_listed}
 use Rattle.broker_rule.specs.Rows.{broker_row, broker_rows, row_named}
 use Rattle.broker_rule.specs.Sweep.{lives, lives_of, parent_passes, passes, swept}
 use Rattle.broker_table.specs.Laws.{SweptInventory}
-use Rattle.broker_rule.specs.Listed.{is_entry_alive, rows_listed}
 use Rattle.broker_table.proofs.Ranges.{filter_all, filter_of_map, filter_range, found_lone}
 
 pub lt_is_le : (t e : ℕ) → nat_lt t e ≡ nat_le (t + 1) e
@@ -101,10 +96,6 @@ named_among s forest p i within there =
     found_lone (λ r. bytes_eq r.name name) (broker_row s) p i (length s.forest.entries) 0
     (ap (λ n. bytes_eq n name) (name_in s i) ∙ (bytes_decides name name).1 refl) there (omega arith) (omega arith)
     (λ j low high hit. lone_name s.forest forest i j within (omega arith) (sym (name_in s j) ∙ (bytes_decides (broker_row s j).name name).0 hit))
-
-all_rows : (s : Inventory) → broker_rows s ≡ map (broker_row s) (filter (λ i. true) (range_with_len 0 (length s.forest.entries)))
-unfolding broker_rows
-all_rows s = ap (map (broker_row s)) (sym (filter_all (range_with_len 0 (length s.forest.entries))))
 
 -- an inventory's rows mirror its forest
 pub swept_inventory : SweptInventory

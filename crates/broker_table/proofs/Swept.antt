@@ -4,10 +4,9 @@ use Rattle.std.proofs.lemmas.Bool.Decides.{nat_tests}
 use Rattle.std.proofs.lemmas.Bool.{and_from, cases_Bool, cond-true, cond-false}
 use Rattle.std.specs.List.{filter, find, list_all}
 use Rattle.plan_forest.specs.declared.forest.TheConstants.{MAX_ENTRIES}
-use Rattle.broker_rule.specs.declared.row.BrokerRow.{BrokerRow}
-use Rattle.broker_table.specs.Laws.{SweptLater, SweptRowsLive}
-use Rattle.broker_rule.specs.Rows.{row_named}
+use Rattle.broker_rule.specs.{declared.row.BrokerRow.BrokerRow, Rows.row_named}
 use Rattle.broker_rule.specs.Sweep.{lives, lives_of, parent_passes, passes, swept}
+use Rattle.broker_table.specs.Laws.{SweptLater, SweptRowsLive}
 
 first : (a b : Bool) → a && b ≡ true → a ≡ true
 first true b e = refl

@@ -1,21 +1,15 @@
 -- The id of a lease that a request names is a text, and so is the credential of the lease that it finds: for the replies.
-use Rattle.std.proofs.Common.{◌≡◌, ℕ, Bool, true, false, cond, ◌&&◌, List, [], ◌∷◌, Option, Some, None, IfSome, IsUtf8, bytes_eq, refl, sym, subst}
-use Rattle.std.proofs.Common.{Result, Ok, Err}
+use Rattle.std.proofs.Common.{◌≡◌, ℕ, Bool, true, false, cond, ◌&&◌, List, [], ◌∷◌, Option, Some, None, IfSome, IsUtf8, bytes_eq, refl, sym, subst, Result, Ok, Err}
 use Rattle.std.proofs.lemmas.Str.{IsUtf8-from_is_utf8}
-use Rattle.std.specs.Cmp.Lexicographic.{bytes_decides}
-use Rattle.std.specs.List.{find}
-use Rattle.std.specs.Str.{is_utf8}
+use Rattle.std.specs.{Cmp.Lexicographic.bytes_decides, List.find, Str.is_utf8}
 use Rattle.plan_forest.specs.Push.{is_lease}
 use Rattle.vault_http.specs.declared.request.Request.{Request}
-use Rattle.broker_rule.specs.declared.row.BrokerRow.{BrokerRow}
-use Rattle.broker_rule.specs.declared.call.ApiCall.{ApiCall}
+use Rattle.broker_rule.specs.{declared.row.BrokerRow.BrokerRow, declared.call.ApiCall.ApiCall, declared.fault.Fault.Fault, declared.refusal.Refusal.Refusal}
 use Rattle.broker_rule.specs.declared.call.ApiCall.TheVariants.{RenewSelf, RenewLease, LookupSelf, LookupLease}
-use Rattle.broker_rule.specs.declared.fault.Fault.{Fault}
-use Rattle.broker_rule.specs.declared.refusal.Refusal.{Refusal}
-use Rattle.broker_table.specs.Found.{GrantNamesText, SubjectNamesText}
 use Rattle.broker_rule.specs.Renewing.{granted_row, is_deny, new_end, renewal_by_broker}
 use Rattle.broker_rule.specs.Request.{a_text, asked, asked_of_lease, increment_in, lease_id_in}
 use Rattle.broker_rule.specs.Subject.{Subject, bearer, belongs, is_lease_with, lease_with, owned, subject, with_asked, with_bearer}
+use Rattle.broker_table.specs.Found.{GrantNamesText, SubjectNamesText}
 
 text_if : (b : Bool) (id : List ℕ) → b ≡ is_utf8 id → IfSome (cond b (Some id) None) IsUtf8
 text_if true id e = IsUtf8-from_is_utf8 id (sym e)

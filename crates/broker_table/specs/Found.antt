@@ -1,14 +1,8 @@
 -- How a row that a request speaks of is named in the code: by its slot.
 use Rattle.std.specs.Prelude.{ℕ, ◌<◌, List, length, Result, Ok, Err, IsUtf8}
-use Rattle.broker_rule.specs.declared.row.BrokerRow.{BrokerRow}
-use Rattle.broker_table.specs.declared.slot.Slot.{Slot}
-use Rattle.broker_rule.specs.declared.call.ApiCall.{ApiCall}
+use Rattle.broker_rule.specs.{declared.row.BrokerRow.BrokerRow, declared.call.ApiCall.ApiCall, declared.refusal.Refusal.Refusal, Subject.Subject}
 use Rattle.broker_rule.specs.declared.call.ApiCall.TheVariants.{RenewSelf, RenewLease, LookupSelf, LookupLease}
-use Rattle.broker_table.specs.declared.subject.Found.{Found}
-use Rattle.broker_table.specs.declared.grant.RenewedRow.{RenewedRow}
-use Rattle.broker_rule.specs.declared.refusal.Refusal.{Refusal}
-use Rattle.broker_table.specs.Slots.{slot_at}
-use Rattle.broker_rule.specs.Subject.{Subject}
+use Rattle.broker_table.specs.{declared.slot.Slot.Slot, declared.subject.Found.Found, declared.grant.RenewedRow.RenewedRow, Slots.slot_at}
 
 abbrev pub subject_at : List Slot → Result Found Refusal → Result Subject Refusal
 subject_at slots (Ok f) = Ok (record { row = (slot_at slots f.place).row; increment = f.increment })

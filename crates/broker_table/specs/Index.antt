@@ -1,15 +1,9 @@
 -- An index: for each credential the place of the slot whose row has it, listed or not.
 use Rattle.std.specs.Prelude.{◌≡◌, ◌≢◌, ℕ, ◌+◌, ◌<◌, Bool, true, List, Option, Some, None, IfSome, Vec, length, map, if◌then◌else◌}
-use Rattle.std.specs.BTreeMap.{BTreeMap, get_by}
-use Rattle.std.specs.Cmp.Lexicographic.{slice_cmp}
-use Rattle.std.specs.Ordering.{nat_cmp}
-use Rattle.std.specs.declared.alloc.Global.{Global}
+use Rattle.std.specs.{BTreeMap.BTreeMap, BTreeMap.get_by, Cmp.Lexicographic.slice_cmp, Ordering.nat_cmp, declared.alloc.Global.Global}
 use Rattle.plan_forest.specs.declared.entry.Kind.{Kind}
-use Rattle.broker_rule.specs.declared.row.BrokerRow.{BrokerRow}
-use Rattle.broker_table.specs.declared.slot.Slot.{Slot}
-use Rattle.broker_table.specs.declared.index.Index.{Index}
-use Rattle.broker_table.specs.Slots.{slot_at}
-use Rattle.broker_rule.specs.Subject.{is_lease_with, is_token_with}
+use Rattle.broker_rule.specs.{declared.row.BrokerRow.BrokerRow, Subject.is_lease_with, Subject.is_token_with}
+use Rattle.broker_table.specs.{declared.slot.Slot.Slot, declared.index.Index.Index, Slots.slot_at}
 
 -- the place that a map has for a credential
 abbrev pub place_in : BTreeMap (Vec ℕ Global) ℕ → List ℕ → Option ℕ

@@ -1,21 +1,13 @@
 -- Laws of the definitions alone.
 use Rattle.std.specs.Prelude.{◌≡◌, ℕ, ◌<◌, ◌≤◌, true, false, List, None, length}
 use Rattle.std.specs.List.{list_all}
-use Rattle.plan_forest.specs.Forest.{end_of, entry_at}
-use Rattle.plan_forest.specs.Push.{IsForest}
-use Rattle.plan_forest.specs.Renewal.{is_granted}
+use Rattle.plan_forest.specs.{Forest.end_of, Forest.entry_at, Push.IsForest, Renewal.is_granted}
 use Rattle.vault_inventory.specs.Inventories.{IsInventory, Inventory}
 use Rattle.vault_http.specs.declared.request.Request.{Request}
-use Rattle.broker_rule.specs.declared.row.BrokerRow.{BrokerRow}
-use Rattle.broker_rule.specs.declared.refusal.Refusal.{Refusal}
+use Rattle.broker_rule.specs.{declared.row.BrokerRow.BrokerRow, declared.refusal.Refusal.Refusal, Table.BrokerTable, Listed.rows_listed, Renewing.with_row, Rows.broker_rows, Sweep.lives, Sweep.swept}
 use Rattle.broker_rule.specs.Faults.{fault_at, next_number, without_fault}
 use Rattle.broker_rule.specs.Granted.{AsksRenewal, call_for, renewed_row}
-use Rattle.broker_rule.specs.Table.{BrokerTable}
-use Rattle.broker_rule.specs.Listed.{rows_listed}
-use Rattle.broker_rule.specs.Renewing.{with_row}
-use Rattle.broker_rule.specs.Rows.{broker_rows}
 use Rattle.broker_rule.specs.Step.{broker_step, refuses, tells}
-use Rattle.broker_rule.specs.Sweep.{lives, swept}
 
 -- every row that a sweep has kept lives among those that it has kept: each row over it is listed and ends later, which is
 -- what the renewal rule asks with a margin of one second

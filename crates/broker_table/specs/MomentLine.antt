@@ -1,15 +1,11 @@
 -- Lines of moments: by which whoever drives a broker says when each connection is served. This project's own.
 use Rattle.std.specs.Prelude.{◌≡◌, ℕ, ◌<◌, ◌≤◌, ◌⊎◌, not, ◌==◌, true, List, [], ◌∷◌, ◌++◌, decimal, length, Option, IfSome, Result, Ok, Err}
-use Rattle.std.specs.List.{list_all}
+use Rattle.std.specs.{List.list_all, Io.KnownBytes.Consumes, Io.KnownBytes.IsAtEnd}
 use Rattle.base_moment.specs.declared.moment.TheConstants.{LAST}
-use Rattle.base_device.specs.Failures.{one_more}
-use Rattle.base_device.specs.Seen.{Input, Seen}
-use Rattle.broker_table.specs.declared.moment_line.LineFault.{LineFault}
+use Rattle.base_device.specs.{Failures.one_more, Seen.Input, Seen.Seen}
+use Rattle.broker_table.specs.{declared.moment_line.LineFault.LineFault, declared.moment_line.Moments.Moments, declared.moment_line.TheConstants.MOST_LINE}
 use Rattle.broker_table.specs.declared.moment_line.LineFault.TheVariants as lines
-use Rattle.broker_table.specs.declared.moment_line.Moments.{Moments}
 use Rattle.broker_table.specs.declared.moment_line.Moments.TheVariants as moments
-use Rattle.broker_table.specs.declared.moment_line.TheConstants.{MOST_LINE}
-use Rattle.std.specs.Io.KnownBytes.{Consumes, IsAtEnd}
 
 -- the seconds since 1970-01-01T00:00:00Z in decimal digits, without zeros in front, and a line feed
 abbrev pub moment_line : ℕ → List ℕ

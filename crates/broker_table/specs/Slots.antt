@@ -1,14 +1,10 @@
 -- Slots: how the rows lie in memory. Each keeps its place, knows the place of the row over it, and is listed or not.
 use Rattle.std.specs.Prelude.{◌≡◌, ℕ, ◌<◌, ◌≤◌, ◌-◌, ◌^◌, Bool, true, false, ◌&&◌, List, [], ◌∷◌, Option, Some, None, length, map, nat_lt, slice_index_or, if◌then◌else◌}
 use Rattle.std.specs.List.{range_with_len}
-use Rattle.plan_forest.specs.Forest.{entry_at}
-use Rattle.plan_forest.specs.declared.entry.Kind.TheVariants.{Token}
-use Rattle.plan_forest.specs.declared.forest.TheConstants.{MAX_ENTRIES}
+use Rattle.plan_forest.specs.{Forest.entry_at, declared.entry.Kind.TheVariants.Token, declared.forest.TheConstants.MAX_ENTRIES}
 use Rattle.vault_inventory.specs.Inventories.{Inventory}
-use Rattle.broker_rule.specs.declared.row.BrokerRow.{BrokerRow}
+use Rattle.broker_rule.specs.{declared.row.BrokerRow.BrokerRow, Rows.broker_row, Sweep.lives}
 use Rattle.broker_table.specs.declared.slot.Slot.{Slot}
-use Rattle.broker_rule.specs.Rows.{broker_row}
-use Rattle.broker_rule.specs.Sweep.{lives}
 
 -- what is read past the last slot
 unfoldable pub no_slot : Slot

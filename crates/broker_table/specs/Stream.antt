@@ -3,24 +3,17 @@
 -- project's own.
 use Rattle.std.specs.Prelude.{◌≡◌, ℕ, ◌⊎◌, List, [], Bool, IsTrue, Result, Ok, Err}
 use Rattle.std.specs.Io.KnownBytes.{Keeps}
-use Rattle.vault_http.specs.declared.http_fault.HttpFault.{HttpFault}
+use Rattle.vault_http.specs.{declared.http_fault.HttpFault.HttpFault, declared.request.Request.Request, declared.writing.SendFault.SendFault, Reading.SettlesRequest, RoundTrip.is_sent, Written.reply_text}
+use Rattle.vault_http.specs.{declared.known.TheConstants.MOST_MESSAGE}
 use Rattle.vault_http.specs.declared.http_fault.HttpFault.TheVariants as https
-use Rattle.vault_http.specs.declared.request.Request.{Request}
-use Rattle.vault_http.specs.declared.writing.SendFault.{SendFault}
 use Rattle.vault_http.specs.declared.writing.SendFault.TheVariants as sends
 use Rattle.base_device.specs.Failures.{one_more}
 use Rattle.base_device.specs.Seen.{Change, Receives, ReceivesFront}
-use Rattle.vault_http.specs.Reading.{SettlesRequest}
-use Rattle.vault_http.specs.RoundTrip.{is_sent}
-use Rattle.vault_http.specs.Written.{reply_text}
-use Rattle.broker_rule.specs.declared.refusal.Refusal.TheVariants.{BadRequest}
-use Rattle.broker_rule.specs.declared.served.Served.{Served}
+use Rattle.broker_rule.specs.{declared.refusal.Refusal.TheVariants.BadRequest, declared.served.Served.Served, Table.BrokerTable}
+use Rattle.broker_rule.specs.Step.{Refuses, SaysAnswer, after_sweep, broker_step}
 use Rattle.broker_rule.specs.declared.served.Served.TheVariants as served
 use Rattle.broker_table.specs.declared.stream.StreamFault.{StreamFault}
 use Rattle.broker_table.specs.declared.stream.StreamFault.TheVariants as streams
-use Rattle.vault_http.specs.declared.known.TheConstants.{MOST_MESSAGE}
-use Rattle.broker_rule.specs.Table.{BrokerTable}
-use Rattle.broker_rule.specs.Step.{Refuses, SaysAnswer, after_sweep, broker_step}
 
 -- the bytes that are sent
 abbrev pub bytes_sent_of : Served → List ℕ

@@ -3,7 +3,7 @@ ghost use Rattle.std.specs.Str.{is_utf8};
 ghost use Rattle.broker_rule.specs.Request.{increment_in, lease_id_in, asked};
 
 use base_moment::{Span, Text};
-use broker_rule::{AskedBody, ApiCall};
+use broker_rule::{ApiCall, AskedBody};
 use std::alloc::{AllocError, Global};
 use vault_json::{ReplyFault, read_increment, read_lease_id};
 

@@ -7,7 +7,7 @@ use crate::slot::slot_in;
 use crate::slots::Slots;
 use crate::subject::{Found, subject};
 use base_moment::{Moment, Span};
-use broker_rule::{ApiCall, Fault, Refusal, BrokerRow};
+use broker_rule::{ApiCall, BrokerRow, Fault, Refusal};
 use plan_forest::capped;
 use std::alloc::{AllocError, Global};
 use vault_http::Request;

@@ -21,7 +21,7 @@ mod stream;
 mod subject;
 mod table;
 
-pub use broker_rule::{Fault, NumberedFault, BrokerRow, ServeFault, Served, SetFault};
+pub use broker_rule::{BrokerRow, Fault, NumberedFault, ServeFault, Served, SetFault};
 pub use moment_line::{LineFault, MOST_LINE, Moments, next_moment};
 pub use stream::StreamFault;
 pub use table::Table;

@@ -7,7 +7,7 @@ use crate::asked::read_asked;
 use crate::slot::slot_in;
 use crate::slots::Slots;
 use base_moment::{Name, Span, Text};
-use broker_rule::{AskedBody, ApiCall, Refusal};
+use broker_rule::{ApiCall, AskedBody, Refusal};
 use std::alloc::{AllocError, Global};
 use vault_http::Request;
 

@@ -10,15 +10,11 @@ use Rattle.agent_house.specs.declared.house.House.{House}
 use Rattle.program_report.specs.declared.exit.Exit.{Exit}
 use Rattle.program_report.specs.declared.exit.Exit.TheVariants as exits
 use Rattle.state_secrets.specs.Stamps.{FileCall}
-use Rattle.agent_turns.specs.Neighbours.{NeighbourCall}
-use Rattle.agent_turns.specs.declared.change.AgentChange.{AgentChange}
-use Rattle.agent_turns.specs.declared.day.EarlyDay.{EarlyDay}
+use Rattle.agent_turns.specs.{Neighbours.NeighbourCall, declared.change.AgentChange.AgentChange, declared.day.EarlyDay.EarlyDay}
 use Rattle.program_commands.specs.declared.job.ServeWords.{ServeWords}
 use Rattle.agent_words.specs.declared.demands.Demands.{Demands}
-use Rattle.agent_start.specs.Alone.{IsServedAlone}
-use Rattle.agent_start.specs.declared.start.Start.{Start}
-use Rattle.agent_run.specs.Doors.{DoorCall}
-use Rattle.agent_run.specs.Run.{HasRun}
+use Rattle.agent_start.specs.{Alone.IsServedAlone, declared.start.Start.Start}
+use Rattle.agent_run.specs.{Doors.DoorCall, Run.HasRun}
 
 pub ran_if : {A E X : Type 0} → (ran : Result A E) (exit : Exit) → OnOk ran X → OnErr ran (exit ≡ exits.Memory) → exit ≡ exits.Done → X
 ran_if (Ok a) exit runs wanting done = runs

@@ -192,7 +192,11 @@ where
 }
 
 /// A lane of its own for whoever looks a credential up.
-fn own_lane<'a, R>(rt: &'a R, served: &ServeWords<'a>, clock: &SystemClock<'_, R>) -> SocketLanes<'a, R>
+fn own_lane<'a, R>(
+    rt: &'a R,
+    served: &ServeWords<'a>,
+    clock: &SystemClock<'_, R>,
+) -> SocketLanes<'a, R>
 where
     R: Files<File = File> + AllocGlobal + Net + Clock,
     ensures { IsOwnLane (⟦<SocketLanes<'a, R> as Lanes>⟧.out) (⟦<SocketLanes<'a, R> as Lanes>⟧.seconds) (⟦<SocketLanes<'a, R> as Lanes>⟧.width) served.now result }

@@ -2,15 +2,11 @@
 -- Source: this project's own; what is served is broker_table's `Stream`, and the moment its `MomentLine`.
 use Rattle.std.specs.Prelude.{◌≡◌, ℕ, ◌<◌, ◌⊎◌, Bool, true, false, List, [], ◌∷◌, ◌++◌, codes, decimal, length, map, Option, Some, IfSome, Result, Ok, Err}
 use Rattle.base_device.specs.Seen.{Change, Seen}
-use Rattle.program_report.specs.declared.stop.Stop.{Stop}
+use Rattle.program_report.specs.{declared.stop.Stop.Stop, Sent.IsUntouched, Sent.SendsText}
 use Rattle.program_report.specs.declared.stop.Stop.TheVariants as stops
-use Rattle.program_report.specs.Sent.{IsUntouched, SendsText}
-use Rattle.broker_table.specs.declared.moment_line.LineFault.{LineFault}
+use Rattle.broker_table.specs.{declared.moment_line.LineFault.LineFault, declared.moment_line.Moments.Moments, MomentLine.TellsMoment, Stream.FaultLeaves, Stream.IsStreamed}
 use Rattle.broker_table.specs.declared.moment_line.LineFault.TheVariants as line_faults
-use Rattle.broker_table.specs.declared.moment_line.Moments.{Moments}
 use Rattle.broker_table.specs.declared.stream.StreamFault.TheVariants as stream_faults
-use Rattle.broker_table.specs.MomentLine.{TellsMoment}
-use Rattle.broker_table.specs.Stream.{FaultLeaves, IsStreamed}
 use Rattle.broker_rule.specs.Table.{BrokerTable}
 
 -- nothing was read of the connection or written to it, and the table is as it was

@@ -2,8 +2,8 @@
 use Rattle.std.proofs.Common.{◌≡◌, ◌≢◌, ℕ, List, [], ◌∷◌, length, Ok, Err, refl, arith}
 use Rattle.base_words.specs.Pieces.{pieces}
 use Rattle.base_words.proofs.Cutting.{has_piece}
-use Rattle.plan_certificate.specs.declared.fault.CertFault.TheVariants.{BadLine, Truncated}
 use Rattle.plan_certificate.specs.Lines.{cut_off, line_at}
+use Rattle.plan_certificate.specs.declared.fault.CertFault.TheVariants.{BadLine, Truncated}
 
 whole : (n : ℕ) (line : List ℕ) (ls : List (List ℕ)) → ls ≢ [] → line_at n (line ∷ ls) ≡ Ok (line, ls)
 unfolding line_at

@@ -4,21 +4,16 @@ use Rattle.std.proofs.Common.{◌≡◌, ◌≢◌, ℕ, ◌+◌, ◌≤◌, tru
 use Rattle.std.proofs.lemmas.Bool.{cases_Bool, cond-false, cond-true}
 use Rattle.base_moment.specs.declared.moment.TheConstants.{LAST}
 use Rattle.plan_forest.specs.declared.entry.Entry.{Entry}
-use Rattle.plan_certificate.specs.declared.cert.Body.{Body}
-use Rattle.plan_certificate.specs.declared.cert.Body.TheVariants.{Runs}
-use Rattle.plan_certificate.specs.declared.cert.Cert.{Cert}
-use Rattle.plan_certificate.specs.declared.cert.Version.{Version}
-use Rattle.plan_certificate.specs.declared.cert.Version.TheVariants.{Two}
-use Rattle.plan_certificate.specs.declared.fault.CertFault.{CertFault}
+use Rattle.plan_certificate.specs.{declared.cert.Body.Body, declared.cert.Body.TheVariants.Runs, declared.cert.Cert.Cert, declared.cert.Version.Version, declared.cert.Version.TheVariants.Two, declared.fault.CertFault.CertFault}
+use Rattle.plan_certificate.specs.{FirstFault.whole_lines}
 use Rattle.plan_certificate.specs.declared.fault.CertFault.TheVariants.{BadHeader, BadLine, UnknownName, BadNumber, Truncated, Trailing, OutOfMemory}
-use Rattle.plan_certificate.specs.Answers.{◌>>=◌}
 use Rattle.plan_certificate.specs.CertificateText.{IsCertificate, IsCertificateBody, body_text, certificate_text, header_text, start_text}
-use Rattle.plan_certificate.specs.FirstFault.{whole_lines}
 use Rattle.plan_certificate.specs.Lines.{cut_off, line_at, lines}
 use Rattle.plan_certificate.specs.Reading.{body_of, certificate_of, header_of, nothing_behind, runs_of, start_of, unkeepable_of, version_of}
+use Rattle.plan_certificate.specs.Answers.{◌>>=◌}
 use Rattle.base_words.specs.Pieces.{keyword}
-use Rattle.plan_certificate.proofs.FoundRuns.{few_at_last, none_are_few, start_found, unkeepable_found, version_found}
 use Rattle.plan_certificate.proofs.Turns.{fault_on, value_on}
+use Rattle.plan_certificate.proofs.FoundRuns.{few_at_last, none_are_few, start_found, unkeepable_found, version_found}
 use Rattle.plan_certificate.proofs.LineFaults.{IsAt, err_same, header_fault, not_err, pair_fault, start_fault, step_err}
 use Rattle.plan_certificate.proofs.ReadingLevels.{Faulty, HasText, Starts, StopsAt, cut_here, one_line_more, some_lines, stops_here, with_feed}
 use Rattle.plan_certificate.proofs.FaultyRuns.{RunsText, no_line_is_none, no_runs_more, runs_faulty, trails}

@@ -1,21 +1,15 @@
 -- The inmost level of reading: the lines of runs. Where it stops, the lines before are those of runs. For the law of the first fault.
 use Rattle.std.proofs.Common.{◌≡◌, ◌≢◌, ℕ, suc, ◌+◌, ◌≤◌, false, ◌&&◌, List, [], ◌∷◌, ◌++◌, append_assoc, bytes_eq, codes, decimal, flat_map, length, length-append, nat_lt, Result, Ok, Err, refl, sym, ap, ◌∙◌, subst, arith, inl, inr, ltb-true}
-use Rattle.std.proofs.lemmas.Bool.{and_parts, cases_Bool, cond-false, cond-true}
 use Rattle.std.proofs.lemmas.List.{append-nil}
+use Rattle.std.proofs.lemmas.Bool.{and_parts, cases_Bool, cond-false, cond-true}
 use Rattle.std.specs.List.{join_with_byte}
 use Rattle.plan_forest.specs.declared.entry.Entry.{Entry}
-use Rattle.plan_rule.specs.declared.run.Run.{Run}
-use Rattle.plan_rule.specs.Runs.{wake_count}
-use Rattle.plan_certificate.specs.declared.cert.TheConstants.{MAX_LINES}
-use Rattle.plan_certificate.specs.declared.cert.Version.{Version}
-use Rattle.plan_certificate.specs.declared.fault.CertFault.{CertFault}
+use Rattle.plan_rule.specs.{declared.run.Run.Run, Runs.wake_count}
+use Rattle.plan_certificate.specs.{declared.cert.TheConstants.MAX_LINES, declared.cert.Version.Version, declared.fault.CertFault.CertFault, FirstFault.whole_lines, Lines.cut_off}
 use Rattle.plan_certificate.specs.CertificateText.{AreRunsOf, IsRunOf, end_line_text, line_text, run_text}
-use Rattle.plan_certificate.specs.FirstFault.{whole_lines}
-use Rattle.plan_certificate.specs.Lines.{cut_off}
 use Rattle.plan_certificate.specs.Reading.{end_of_runs, ending, nothing_behind, run_in_line, run_keyword, runs_of}
 use Rattle.base_words.specs.Pieces.{keyword}
-use Rattle.plan_certificate.proofs.FoundLines.{end_found, run_line_found}
-use Rattle.plan_certificate.proofs.FoundRuns.{AreFew, few_more}
+use Rattle.plan_certificate.proofs.{FoundLines.end_found, FoundLines.run_line_found, FoundRuns.AreFew, FoundRuns.few_more}
 use Rattle.plan_certificate.proofs.Turns.{fault_on, turn, value_on}
 use Rattle.plan_certificate.proofs.LineFaults.{end_fault, err_same, not_err, run_line_fault, step_err, trailing_fault}
 use Rattle.plan_certificate.proofs.ReadingLevels.{Faulty, HasText, cut_here, one_line_more, stops_here, with_feed}

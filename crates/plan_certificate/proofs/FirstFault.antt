@@ -1,27 +1,17 @@
 -- The first fault: what the fault of reading says of a text, in the words of the law.
 use Rattle.std.proofs.Common.{◌≡◌, ◌≢◌, ℕ, suc, ◌+◌, ◌<◌, false, ◌==◌, List, [], ◌∷◌, ◌++◌, append_assoc, length, length-append, Ok, Err, refl, sym, ap, ◌∙◌, subst, arith, inl, inr}
-use Rattle.std.proofs.lemmas.Bool.{and_from, cases_Bool, cases_lt, not_from_false}
 use Rattle.std.proofs.lemmas.List.{append-nil}
+use Rattle.std.proofs.lemmas.Bool.{and_from, cases_Bool, cases_lt, not_from_false}
 use Rattle.std.proofs.lemmas.List.Splits.{join_with_byte-slice_split, slice_split-cons_no, slice_split-cons_yes}
 use Rattle.std.specs.List.{onto_first}
-use Rattle.plan_forest.specs.declared.entry.Entry.{Entry}
-use Rattle.plan_forest.specs.Forest.{Forest}
-use Rattle.plan_forest.specs.Push.{IsForest}
-use Rattle.plan_certificate.specs.declared.fault.CertFault.{CertFault}
+use Rattle.plan_forest.specs.{declared.entry.Entry.Entry, Forest.Forest, Push.IsForest}
+use Rattle.plan_certificate.specs.{declared.fault.CertFault.CertFault, CertificateText.certificate_text, Lines.lines, Reading.certificate_of}
 use Rattle.plan_certificate.specs.declared.fault.CertFault.TheVariants.{BadHeader, BadLine, UnknownName, BadNumber, Truncated, Trailing, OutOfMemory}
-use Rattle.plan_certificate.specs.CertificateText.{certificate_text}
 use Rattle.plan_certificate.specs.FirstFault.{BeginsCertificate, HasFeed, IsFirstAtFault, SaysFault, whole_lines}
-use Rattle.plan_certificate.specs.Lines.{lines}
-use Rattle.plan_certificate.specs.Reading.{certificate_of}
-use Rattle.base_words.specs.Laws.{AllLack}
-use Rattle.base_words.specs.Pieces.{pieces}
+use Rattle.base_words.specs.{Laws.AllLack, Pieces.pieces}
 use Rattle.base_words.proofs.Cutting.{has_piece}
-use Rattle.plan_certificate.proofs.FoundRuns.{joined}
-use Rattle.plan_certificate.proofs.ReadBackAll.{written_is_read}
-use Rattle.plan_certificate.proofs.Words.{feed_back}
-use Rattle.plan_certificate.proofs.LineFaults.{not_err}
+use Rattle.plan_certificate.proofs.{FoundRuns.joined, ReadBackAll.written_is_read, Words.feed_back, LineFaults.not_err, FaultyRuns.no_line_is_none}
 use Rattle.plan_certificate.proofs.ReadingLevels.{Faulty, Starts, StopsAt}
-use Rattle.plan_certificate.proofs.FaultyRuns.{no_line_is_none}
 use Rattle.plan_certificate.proofs.FaultyLevels.{AllText, all_faulty, all_of, read_by_lines}
 
 onto_first_lacks : (b x : ℕ) (ws : List (List ℕ)) → (x == b) ≡ false → AllLack b ws → AllLack b (onto_first x ws)

@@ -1,22 +1,16 @@
 -- What is read is written: each line that the definition of reading takes is the line that the grammar writes.
 use Rattle.std.proofs.Common.{◌≡◌, ℕ, suc, ◌<◌, ◌≤◌, true, List, [], ◌∷◌, ◌++◌, bytes_eq, decimal, length, Option, Some, None, Result, Ok, Err, refl, sym, ap, ◌∙◌, subst, arith, inl, inr}
-use Rattle.std.proofs.lemmas.Bool.{cases_Bool, cond-false, cond-true}
 use Rattle.std.proofs.lemmas.List.Splits.{join_with_byte-slice_split}
-use Rattle.std.specs.Cmp.Lexicographic.{bytes_decides}
-use Rattle.std.specs.List.{join_with_byte}
-use Rattle.std.specs.Option.{ok_or, option_map}
+use Rattle.std.proofs.lemmas.Bool.{cases_Bool, cond-false, cond-true}
+use Rattle.std.specs.{Cmp.Lexicographic.bytes_decides, List.join_with_byte, Option.ok_or, Option.option_map}
 use Rattle.base_moment.specs.declared.moment.TheConstants.{LAST}
-use Rattle.plan_forest.specs.declared.entry.Entry.{Entry}
-use Rattle.plan_forest.specs.Forest.{entry_at, index_named}
+use Rattle.plan_forest.specs.{declared.entry.Entry.Entry, Forest.entry_at, Forest.index_named}
 use Rattle.plan_forest.proofs.Entries.{index_named_within}
-use Rattle.plan_certificate.specs.declared.fault.CertFault.{CertFault}
+use Rattle.plan_certificate.specs.{declared.fault.CertFault.CertFault, CertificateText.line_text, CertificateText.name_of_entry, Lines.number_at, Reading.entry_named}
 use Rattle.plan_certificate.specs.Answers.{◌>>=◌}
-use Rattle.plan_certificate.specs.CertificateText.{line_text, name_of_entry}
-use Rattle.plan_certificate.specs.Lines.{number_at}
 use Rattle.base_words.specs.Numbers.{number_up_to}
-use Rattle.base_words.proofs.Numbers as numbers
 use Rattle.base_words.specs.Pieces.{keyword, pieces, two, three, four, six}
-use Rattle.plan_certificate.specs.Reading.{entry_named}
+use Rattle.base_words.proofs.Numbers as numbers
 
 -- a step that gives a value had one from the step before
 pub step_ok : {A B P : Type 0} (r : Result A CertFault) (f : A → Result B CertFault) (y : B) → (r >>= f) ≡ Ok y → ((x : A) → r ≡ Ok x → f x ≡ Ok y → P) → P

@@ -3,17 +3,15 @@ use Rattle.std.proofs.Common.{◌≡◌, ℕ, ◌+◌, ◌≤◌, ◌↔◌, Boo
 use Rattle.std.proofs.lemmas.Bool.{and_parts, eq-eqb, eqb-true, leb-true}
 use Rattle.std.specs.Bool.{beq}
 use Rattle.plan_forest.specs.declared.entry.Entry.{Entry}
-use Rattle.plan_rule.specs.declared.run.Run.{Run}
-use Rattle.plan_certificate.specs.declared.cert.Version.{Version}
+use Rattle.plan_rule.specs.{declared.run.Run.Run, declared.limit.TheConstants.LIMIT}
+use Rattle.plan_certificate.specs.{declared.cert.Version.Version, declared.fault.CertFault.CertFault}
 use Rattle.plan_certificate.specs.declared.cert.Version.TheVariants.{One, Two}
-use Rattle.plan_rule.specs.declared.limit.TheConstants.{LIMIT}
-use Rattle.plan_certificate.specs.declared.fault.CertFault.{CertFault}
 use Rattle.plan_certificate.specs.CertificateText.{IsRunOf, end_line_text, name_of_entry, run_text}
 use Rattle.plan_certificate.specs.Lines.{four_words, number_at, six_words, two_words}
-use Rattle.base_words.specs.Pieces.{four, keyword, pieces, six, two}
 use Rattle.plan_certificate.specs.Reading.{end_of_runs, ending, entry_named, is_run, nothing_behind, right, run_in_line, run_keyword, run_of, wake_of}
-use Rattle.plan_certificate.proofs.Found.{entry_found, four_is, keyword_is, line_from_words, number_spelled, six_is, some_from_ok, step_ok, two_is}
+use Rattle.base_words.specs.Pieces.{four, keyword, pieces, six, two}
 use Rattle.plan_certificate.proofs.Turns.{ok_same}
+use Rattle.plan_certificate.proofs.Found.{entry_found, four_is, keyword_is, line_from_words, number_spelled, six_is, some_from_ok, step_ok, two_is}
 
 -- in version 2 the wake-ups before a run leave room for it
 abbrev pub RoomFor : Version → ℕ → Run → Type 0

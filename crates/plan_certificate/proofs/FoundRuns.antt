@@ -1,32 +1,22 @@
 -- What is read is written: all lines of a certificate.
 use Rattle.std.proofs.Common.{◌≡◌, ℕ, ◌+◌, ◌≤◌, true, ◌&&◌, List, [], ◌∷◌, ◌++◌, append_assoc, bytes_eq, codes, flat_map, length, length-append, nat_lt, Result, Ok, Err, refl, sym, ap, ◌∙◌, subst, arith, ltb-true, inl, inr, All, IfOk}
+use Rattle.std.proofs.lemmas.{List.append-nil, List.Elements.All-cons, List.Elements.All-nil, List.Splits.join_with_byte-slice_split}
 use Rattle.std.proofs.lemmas.Bool.{and_parts, cases_Bool, cond-false, cond-true}
-use Rattle.std.proofs.lemmas.List.{append-nil}
-use Rattle.std.proofs.lemmas.List.Elements.{All-cons, All-nil}
-use Rattle.std.proofs.lemmas.List.Splits.{join_with_byte-slice_split}
-use Rattle.std.specs.Cmp.Lexicographic.{bytes_decides}
-use Rattle.std.specs.List.{AllByRecursion, join_with_byte}
+use Rattle.std.specs.{Cmp.Lexicographic.bytes_decides, List.AllByRecursion, List.join_with_byte}
 use Rattle.base_moment.specs.declared.moment.TheConstants.{LAST}
 use Rattle.plan_forest.specs.declared.entry.Entry.{Entry}
-use Rattle.plan_rule.specs.declared.run.Run.{Run}
-use Rattle.plan_certificate.specs.declared.cert.Body.{Body}
+use Rattle.plan_rule.specs.{declared.run.Run.Run, declared.limit.TheConstants.LIMIT, Runs.IsAmong, Runs.wake_count}
+use Rattle.plan_certificate.specs.{declared.cert.Body.Body, declared.cert.Cert.Cert, declared.cert.Version.Version, declared.cert.TheConstants.MAX_LINES, declared.fault.CertFault.CertFault, declared.fault.CertFault.TheVariants.BadHeader}
+use Rattle.plan_certificate.specs.{Answers.GivesOrCertFault}
 use Rattle.plan_certificate.specs.declared.cert.Body.TheVariants.{Runs, Unkeepable}
-use Rattle.plan_certificate.specs.declared.cert.Cert.{Cert}
-use Rattle.plan_certificate.specs.declared.cert.Version.{Version}
 use Rattle.plan_certificate.specs.declared.cert.Version.TheVariants.{One, Two}
-use Rattle.plan_rule.specs.declared.limit.TheConstants.{LIMIT}
-use Rattle.plan_certificate.specs.declared.cert.TheConstants.{MAX_LINES}
-use Rattle.plan_certificate.specs.declared.fault.CertFault.{CertFault}
-use Rattle.plan_certificate.specs.declared.fault.CertFault.TheVariants.{BadHeader}
-use Rattle.plan_certificate.specs.Answers.{GivesOrCertFault}
-use Rattle.plan_rule.specs.Runs.{IsAmong, wake_count}
 use Rattle.plan_certificate.specs.CertificateText.{AreRunsOf, CanBeWritten, IsCertificateBody, IsRunOf, WritesCertificate, body_text, certificate_text, end_line_text, header_text, name_of_entry, run_text, start_text, unkeepable_text}
-use Rattle.base_words.specs.Pieces.{keyword, pieces, three, two}
 use Rattle.plan_certificate.specs.Lines.{line_at, lines, three_words, two_words}
 use Rattle.plan_certificate.specs.Reading.{body_of, certificate_of, ending, entry_named, header_of, nothing_behind, run_in_line, run_keyword, runs_of, start_of, unkeepable_of, version_of}
+use Rattle.base_words.specs.Pieces.{keyword, pieces, three, two}
+use Rattle.plan_certificate.proofs.Turns.{counted_push, ok_same}
 use Rattle.plan_certificate.proofs.Found.{entry_found, keyword_is, line_from_words, number_spelled, some_from_ok, step_ok, three_is, two_is}
 use Rattle.plan_certificate.proofs.FoundLines.{RoomFor, end_found, if_ok, nothing_found, run_line_found}
-use Rattle.plan_certificate.proofs.Turns.{counted_push, ok_same}
 
 -- the text whose lines these are
 abbrev pub joined : List (List ℕ) → List ℕ

@@ -3,13 +3,12 @@ use Rattle.std.proofs.Common.{◌≡◌, ◌≢◌, ℕ, Bool, true, false, if�
 use Rattle.std.proofs.lemmas.Bool.{cases_Bool, cond-false, cond-true}
 use Rattle.std.specs.Option.{ok_or}
 use Rattle.plan_forest.specs.declared.entry.Entry.{Entry}
-use Rattle.plan_certificate.specs.declared.cert.Version.{Version}
+use Rattle.plan_certificate.specs.{declared.cert.Version.Version, declared.fault.CertFault.CertFault}
 use Rattle.plan_certificate.specs.declared.cert.Version.TheVariants.{One, Two}
-use Rattle.plan_certificate.specs.declared.fault.CertFault.{CertFault}
 use Rattle.plan_certificate.specs.declared.fault.CertFault.TheVariants.{BadHeader, BadLine, UnknownName, BadNumber, Trailing}
-use Rattle.plan_certificate.specs.Answers.{◌>>=◌}
 use Rattle.plan_certificate.specs.Lines.{four_words, number_at, six_words, three_words, two_words}
 use Rattle.plan_certificate.specs.Reading.{end_of_runs, entry_named, is_run, nothing_behind, right, run_in_line, run_of, start_of, unkeepable_of, version_of, wake_of}
+use Rattle.plan_certificate.specs.Answers.{◌>>=◌}
 use Rattle.base_words.specs.Pieces.{keyword}
 
 -- a fault of the nth line

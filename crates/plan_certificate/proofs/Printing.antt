@@ -1,32 +1,21 @@
 -- What a decision for a forest holds: it can be printed, and what is printed is read back.
 use Rattle.std.proofs.Common.{◌≡◌, ℕ, zero, suc, ◌<◌, ◌≤◌, ◌++◌, List, [], ◌∷◌, Option, Some, None, length, refl, ap, subst, arith, inl, inr}
 use Rattle.std.proofs.lemmas.Bool.{cases_lt}
-use Rattle.plan_forest.specs.declared.entry.Entry.{Entry}
+use Rattle.plan_forest.specs.{declared.entry.Entry.Entry, Over.Over, Push.IsForest}
 use Rattle.plan_forest.specs.Forest.{Forest, end_of, entry_at}
-use Rattle.plan_forest.specs.Over.{Over}
-use Rattle.plan_forest.specs.Push.{IsForest}
-use Rattle.plan_forest.proofs.Entries.{entry_at_past}
-use Rattle.plan_forest.proofs.Placed.{parents_first}
-use Rattle.plan_rule.specs.declared.force.Force.{Force}
-use Rattle.plan_rule.specs.declared.limit.TheConstants.{LIMIT}
-use Rattle.plan_rule.specs.declared.run.Run.{Run}
-use Rattle.plan_schedule.specs.Forces.{AreForces, IsForce}
+use Rattle.plan_forest.proofs.{Entries.entry_at_past, Placed.parents_first}
+use Rattle.plan_rule.specs.{declared.force.Force.Force, declared.limit.TheConstants.LIMIT, declared.run.Run.Run}
 use Rattle.plan_rule.specs.Runs.{all_wakes, wake_count, wakes, wakes_of}
-use Rattle.plan_search.specs.declared.decision.Decision.{Decision}
+use Rattle.plan_schedule.specs.Forces.{AreForces, IsForce}
+use Rattle.plan_search.specs.{declared.decision.Decision.Decision, Decides.Decides, Planned.IsPlanned, Planned.Planned}
 use Rattle.plan_search.specs.declared.decision.Decision.TheVariants as decision
-use Rattle.plan_search.specs.Decides.{Decides}
 use Rattle.plan_rule.specs.Runs as of_rule
-use Rattle.plan_search.specs.Planned.{IsPlanned, Planned}
 use Rattle.plan_schedule.proofs.Bridge.{over_at_most}
 use Rattle.plan_search.proofs.Walking.{length_all_cons}
-use Rattle.plan_certificate.specs.declared.cert.Body.{Body}
+use Rattle.plan_certificate.specs.{declared.cert.Body.Body, declared.cert.Version.TheVariants.Two, Laws.DecidedIsOf, Laws.PrintedIsRead, Printing.certified, Printing.claim}
 use Rattle.plan_certificate.specs.declared.cert.Body.TheVariants.{Runs, Unkeepable}
-use Rattle.plan_certificate.specs.declared.cert.Version.TheVariants.{Two}
 use Rattle.plan_certificate.specs.CertificateText.{AreRunsOf, IsCertificateBody, certificate_text}
-use Rattle.plan_certificate.specs.Laws.{DecidedIsOf, PrintedIsRead}
-use Rattle.plan_certificate.specs.Printing.{certified, claim}
-use Rattle.plan_certificate.proofs.FoundRuns.{all_among, among}
-use Rattle.plan_certificate.proofs.ReadBackAll.{written_is_read}
+use Rattle.plan_certificate.proofs.{FoundRuns.all_among, FoundRuns.among, ReadBackAll.written_is_read}
 
 -- the wake-ups of runs are counted by their lines
 pub counted_wakes : (rs : List Run) → wake_count rs ≡ length (all_wakes rs)

@@ -2,23 +2,18 @@
 use Rattle.std.proofs.Common.{◌≡◌, ℕ, ◌+◌, ◌-◌, ◌*◌, ◌<◌, ◌≤◌, ◌↔◌, Bool, true, false, ◌==◌, List, [], ◌∷◌, bytes_eq, codes, decimal, length, Ok, refl, sym, ap, ◌∙◌, arith, inl, inr, lt-ltb}
 use Rattle.std.proofs.Math.Nat.{mul-le-mul_right}
 use Rattle.std.proofs.lemmas.Bool.{and_from, cases_eq, eq-eqb, eqb-true, le-leb}
-use Rattle.std.specs.Bool.{beq}
-use Rattle.std.specs.List.{join_with_byte}
-use Rattle.std.specs.Option.{ok_or}
+use Rattle.std.specs.{Bool.beq, List.join_with_byte, Option.ok_or}
 use Rattle.base_moment.specs.declared.moment.TheConstants.{LAST}
-use Rattle.plan_forest.specs.declared.entry.Entry.{Entry}
-use Rattle.plan_forest.specs.Forest.{Forest}
-use Rattle.plan_forest.specs.Push.{IsForest}
-use Rattle.plan_rule.specs.declared.run.Run.{Run}
+use Rattle.plan_forest.specs.{declared.entry.Entry.Entry, Forest.Forest, Push.IsForest}
+use Rattle.plan_rule.specs.{declared.run.Run.Run, declared.limit.TheConstants.LIMIT}
 use Rattle.plan_certificate.specs.declared.cert.Version.{Version}
 use Rattle.plan_certificate.specs.declared.cert.Version.TheVariants.{One, Two}
-use Rattle.plan_rule.specs.declared.limit.TheConstants.{LIMIT}
 use Rattle.plan_certificate.specs.declared.fault.CertFault.TheVariants.{BadLine, BadNumber, UnknownName}
 use Rattle.plan_certificate.specs.CertificateText.{IsRunOf, line_text, name_of_entry, run_text}
 use Rattle.plan_certificate.specs.Lines.{four_words, number_at, six_words}
+use Rattle.plan_certificate.specs.Reading.{entry_named, is_run, right, run_in_line, run_keyword, run_of, wake_of}
 use Rattle.base_words.proofs.Numbers as numbers
 use Rattle.base_words.specs.Pieces.{four, keyword, six}
-use Rattle.plan_certificate.specs.Reading.{entry_named, is_run, right, run_in_line, run_keyword, run_of, wake_of}
 use Rattle.plan_certificate.proofs.Turns.{value_on}
 use Rattle.plan_certificate.proofs.Words.{AreWords, IsWord, decimal_is_word, keyword_back, keyword_test, name_is_word, words_back}
 

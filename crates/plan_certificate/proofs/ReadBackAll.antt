@@ -1,27 +1,18 @@
 -- What is written is read: all lines of a certificate.
 use Rattle.std.proofs.Common.{◌≡◌, ℕ, ◌+◌, ◌<◌, ◌≤◌, false, List, [], ◌∷◌, ◌++◌, append_assoc, bytes_eq, codes, decimal, flat_map, length, length-append, Ok, refl, sym, ap, ◌∙◌, subst, arith}
-use Rattle.std.proofs.lemmas.Bool.{cond-false, cond-true, eq-eqb}
 use Rattle.std.proofs.lemmas.List.{append-nil}
-use Rattle.std.specs.Option.{ok_or}
-use Rattle.std.specs.List.{join_with_byte}
+use Rattle.std.proofs.lemmas.Bool.{cond-false, cond-true, eq-eqb}
+use Rattle.std.specs.{Option.ok_or, List.join_with_byte}
 use Rattle.base_moment.specs.declared.moment.TheConstants.{LAST}
-use Rattle.plan_forest.specs.declared.entry.Entry.{Entry}
-use Rattle.plan_forest.specs.Forest.{Forest}
-use Rattle.plan_forest.specs.Push.{IsForest}
-use Rattle.plan_rule.specs.declared.run.Run.{Run}
-use Rattle.plan_certificate.specs.declared.cert.Body.{Body}
+use Rattle.plan_forest.specs.{declared.entry.Entry.Entry, Forest.Forest, Push.IsForest}
+use Rattle.plan_rule.specs.{declared.run.Run.Run, declared.limit.TheConstants.LIMIT, Runs.wake_count}
+use Rattle.plan_certificate.specs.{declared.cert.Body.Body, declared.cert.Cert.Cert, declared.cert.Version.Version, declared.cert.TheConstants.MAX_LINES, declared.fault.CertFault.TheVariants.BadLine}
 use Rattle.plan_certificate.specs.declared.cert.Body.TheVariants.{Runs, Unkeepable}
-use Rattle.plan_certificate.specs.declared.cert.Cert.{Cert}
-use Rattle.plan_certificate.specs.declared.cert.Version.{Version}
 use Rattle.plan_certificate.specs.declared.cert.Version.TheVariants.{One, Two}
-use Rattle.plan_rule.specs.declared.limit.TheConstants.{LIMIT}
-use Rattle.plan_certificate.specs.declared.cert.TheConstants.{MAX_LINES}
-use Rattle.plan_certificate.specs.declared.fault.CertFault.TheVariants.{BadLine}
-use Rattle.plan_rule.specs.Runs.{wake_count}
 use Rattle.plan_certificate.specs.CertificateText.{AreRunsOf, IsCertificateBody, IsRunOf, WritesCertificate, body_text, certificate_text, end_line_text, header_text, line_text, name_of_entry, run_text, start_text, unkeepable_text}
 use Rattle.plan_certificate.specs.Lines.{line_at, number_at, three_words, two_words}
-use Rattle.base_words.specs.Pieces.{keyword, pieces, three, two}
 use Rattle.plan_certificate.specs.Reading.{body_of, certificate_of, end_of_runs, ending, entry_named, header_of, nothing_behind, right, run_keyword, runs_of, start_of, unkeepable_of, version_of}
+use Rattle.base_words.specs.Pieces.{keyword, pieces, three, two}
 use Rattle.plan_certificate.proofs.Cutting.{whole_line}
 use Rattle.plan_certificate.proofs.ReadBack.{entry_back, name_word, number_back, run_as_line, run_is_not, run_keyword_back, run_line_back, run_text_is, run_words, run_words_are}
 use Rattle.plan_certificate.proofs.Turns.{Behind, behind_nothing, header_line, other_done, run_more, value_on}

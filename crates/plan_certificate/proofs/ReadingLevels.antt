@@ -1,12 +1,9 @@
 -- A level of reading: the lines from the nth on, and the texts that they may write. With which of them it stops, whatever
 -- follows; and what that says of the level around it, which has one line more in front. For the law of the first fault.
 use Rattle.std.proofs.Common.{◌≡◌, ◌≢◌, ℕ, suc, ◌+◌, List, [], ◌∷◌, ◌++◌, append_assoc, length, Result, Err, refl, sym, ap, ◌∙◌, subst, arith}
-use Rattle.plan_certificate.specs.declared.fault.CertFault.{CertFault}
+use Rattle.plan_certificate.specs.{declared.fault.CertFault.CertFault, FirstFault.whole_lines, Lines.cut_off}
 use Rattle.plan_certificate.specs.declared.fault.CertFault.TheVariants.{BadHeader, BadLine, UnknownName, BadNumber, Truncated, Trailing, OutOfMemory}
-use Rattle.plan_certificate.specs.FirstFault.{whole_lines}
-use Rattle.plan_certificate.specs.Lines.{cut_off}
-use Rattle.plan_certificate.proofs.FoundRuns.{front_line}
-use Rattle.plan_certificate.proofs.LineFaults.{IsAt}
+use Rattle.plan_certificate.proofs.{FoundRuns.front_line, LineFaults.IsAt}
 
 -- a fault other than that of a missing line feed comes of a line that has its own
 abbrev pub NeedsFeed : CertFault → List (List ℕ) → Type 0

@@ -1,11 +1,8 @@
 -- Stated: the start of a certificate is the one that its text states.
 use Rattle.std.proofs.Common.{◌≡◌, ℕ, Result, Ok, ap, ◌∙◌}
-use Rattle.plan_certificate.specs.declared.cert.Cert.{Cert}
-use Rattle.plan_certificate.specs.declared.fault.CertFault.{CertFault}
-use Rattle.plan_certificate.specs.Answers.{◌>>=◌}
-use Rattle.plan_certificate.specs.Laws.{StartIsStated}
-use Rattle.plan_certificate.specs.Lines.{line_at, lines}
+use Rattle.plan_certificate.specs.{declared.cert.Cert.Cert, declared.fault.CertFault.CertFault, Laws.StartIsStated, Lines.line_at, Lines.lines}
 use Rattle.plan_certificate.specs.Reading.{body_of, certificate_of, header_of, start_of, text_start}
+use Rattle.plan_certificate.specs.Answers.{◌>>=◌}
 use Rattle.plan_certificate.proofs.Found.{step_ok}
 
 follow : {A B : Type 0} (r : Result A CertFault) (x : A) (f : A → Result B CertFault) (y : Result B CertFault) → r ≡ Ok x → f x ≡ y → (r >>= f) ≡ y

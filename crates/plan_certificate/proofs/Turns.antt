@@ -1,20 +1,15 @@
 -- The lines that follow each other: for the code that reads the first line and the lines of runs.
 use Rattle.std.proofs.Common.{◌≡◌, ◌≢◌, ℕ, ◌+◌, ◌<◌, ◌≤◌, true, false, ◌&&◌, if◌then◌else◌, List, [], ◌∷◌, ◌++◌, length, Result, Ok, Err, bytes_eq, nat_le, nat_lt, refl, sym, ap, ◌∙◌, subst, arith}
-use Rattle.std.proofs.lemmas.Bool.{and_from, and_left, and_parts, and_right, cond-false, cond-true, le-ltb, leb-true, lt-ltb}
 use Rattle.std.proofs.lemmas.List.Splits.{join_with_byte-slice_split}
+use Rattle.std.proofs.lemmas.Bool.{and_from, and_left, and_parts, and_right, cond-false, cond-true, le-ltb, leb-true, lt-ltb}
 use Rattle.std.specs.List.{join_with_byte}
 use Rattle.plan_forest.specs.declared.entry.Entry.{Entry}
-use Rattle.plan_rule.specs.declared.run.Run.{Run}
-use Rattle.plan_rule.specs.declared.limit.TheConstants.{LIMIT}
-use Rattle.plan_certificate.specs.declared.cert.TheConstants.{MAX_LINES}
-use Rattle.plan_certificate.specs.declared.cert.Version.{Version}
-use Rattle.plan_certificate.specs.declared.fault.CertFault.{CertFault}
+use Rattle.plan_rule.specs.{declared.run.Run.Run, declared.limit.TheConstants.LIMIT, Runs.wake_count}
+use Rattle.plan_certificate.specs.{declared.cert.TheConstants.MAX_LINES, declared.cert.Version.Version, declared.fault.CertFault.CertFault, Lines.line_at}
 use Rattle.plan_certificate.specs.declared.fault.CertFault.TheVariants.{BadHeader, Trailing}
-use Rattle.plan_certificate.specs.Answers.{◌>>=◌}
-use Rattle.plan_rule.specs.Runs.{wake_count}
-use Rattle.base_words.specs.Pieces.{keyword, pieces}
-use Rattle.plan_certificate.specs.Lines.{line_at}
 use Rattle.plan_certificate.specs.Reading.{ending, header_of, is_run, nothing_behind, run_in_line, run_keyword, runs_of, version_of}
+use Rattle.plan_certificate.specs.Answers.{◌>>=◌}
+use Rattle.base_words.specs.Pieces.{keyword, pieces}
 use Rattle.base_words.proofs.Cutting.{has_piece}
 
 -- ---- the first line and what follows the last

@@ -1,14 +1,13 @@
 -- Words without spaces and line feeds: what is joined is cut into the same pieces.
 use Rattle.std.proofs.Common.{◌≡◌, ℕ, ◌+◌, ◌^◌, ◌<◌, Bool, true, false, not, ◌==◌, List, [], ◌∷◌, ◌++◌, append_assoc, bytes_eq, decimal, refl, sym, ap, ◌∙◌, arith, inl}
-use Rattle.std.proofs.lemmas.Bool.{and_from, and_parts, ne_eqb, not_from_false}
 use Rattle.std.proofs.lemmas.List.Splits.{slice_split_at}
-use Rattle.std.specs.Cmp.Lexicographic.{bytes_decides}
-use Rattle.std.specs.List.{join_with_byte, list_all}
+use Rattle.std.proofs.lemmas.Bool.{and_from, and_parts, ne_eqb, not_from_false}
+use Rattle.std.specs.{Cmp.Lexicographic.bytes_decides, List.join_with_byte, List.list_all}
 use Rattle.base_words.specs.Laws.{AllLack, Lacks}
+use Rattle.base_words.specs.Pieces.{first, keyword, pieces}
 use Rattle.base_words.proofs.Joined.{cut_back, decimal_lacks, lacks_append, lacks_each}
 use Rattle.plan_forest.specs.Push.{is_name, is_name_byte}
 use Rattle.plan_certificate.specs.CertificateText.{line_text}
-use Rattle.base_words.specs.Pieces.{first, keyword, pieces}
 
 pub record IsWord (w : List ℕ) : Type 0 where
   pub spaces : Lacks 32 w

@@ -3,17 +3,12 @@
 use Rattle.std.specs.Prelude.{◌≡◌, ℕ, ◌<◌, ◌≤◌, List, [], ◌∷◌, ◌++◌, codes, decimal, flat_map, length}
 use Rattle.std.specs.List.{AllByRecursion, join_with_byte}
 use Rattle.base_moment.specs.declared.moment.TheConstants.{LAST}
-use Rattle.plan_forest.specs.declared.entry.Entry.{Entry}
-use Rattle.plan_forest.specs.Forest.{entry_at}
-use Rattle.plan_rule.specs.declared.run.Run.{Run}
+use Rattle.plan_forest.specs.{declared.entry.Entry.Entry, Forest.entry_at}
+use Rattle.plan_rule.specs.{declared.run.Run.Run, declared.limit.TheConstants.LIMIT}
 use Rattle.plan_rule.specs.Runs.{IsAmong, IsRun, wake_count}
-use Rattle.plan_certificate.specs.declared.cert.Body.{Body}
+use Rattle.plan_certificate.specs.{declared.cert.Body.Body, declared.cert.Cert.Cert, declared.cert.Version.Version, declared.cert.TheConstants.MAX_LINES}
 use Rattle.plan_certificate.specs.declared.cert.Body.TheVariants.{Runs, Unkeepable}
-use Rattle.plan_certificate.specs.declared.cert.Cert.{Cert}
-use Rattle.plan_certificate.specs.declared.cert.Version.{Version}
 use Rattle.plan_certificate.specs.declared.cert.Version.TheVariants.{One, Two}
-use Rattle.plan_rule.specs.declared.limit.TheConstants.{LIMIT}
-use Rattle.plan_certificate.specs.declared.cert.TheConstants.{MAX_LINES}
 
 -- ---- the text
 

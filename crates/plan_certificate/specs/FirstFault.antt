@@ -1,15 +1,9 @@
 -- First fault: what a fault says of a text, by the lines with which the text of some certificate begins.
 -- Source: this project's own.
 use Rattle.std.specs.Prelude.{◌≡◌, ◌≢◌, ℕ, ◌+◌, ◌<◌, List, [], ◌∷◌, ◌++◌, Err, length}
-use Rattle.plan_forest.specs.declared.entry.Entry.{Entry}
-use Rattle.plan_forest.specs.Forest.{Forest}
-use Rattle.plan_forest.specs.Push.{IsForest}
-use Rattle.plan_certificate.specs.declared.cert.Cert.{Cert}
-use Rattle.plan_certificate.specs.declared.fault.CertFault.{CertFault}
+use Rattle.plan_forest.specs.{declared.entry.Entry.Entry, Forest.Forest, Push.IsForest}
+use Rattle.plan_certificate.specs.{declared.cert.Cert.Cert, declared.fault.CertFault.CertFault, CertificateText.IsCertificate, CertificateText.certificate_text, Lines.lines, Reading.certificate_of}
 use Rattle.plan_certificate.specs.declared.fault.CertFault.TheVariants.{BadHeader, BadLine, UnknownName, BadNumber, Truncated, Trailing, OutOfMemory}
-use Rattle.plan_certificate.specs.CertificateText.{IsCertificate, certificate_text}
-use Rattle.plan_certificate.specs.Lines.{lines}
-use Rattle.plan_certificate.specs.Reading.{certificate_of}
 
 -- lines, each with its line feed
 abbrev pub whole_lines : List (List ℕ) → List ℕ

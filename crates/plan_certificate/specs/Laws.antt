@@ -1,16 +1,10 @@
 -- Laws of the text: what is read is what was written, and each certificate is read from its text.
 use Rattle.std.specs.Prelude.{◌≡◌, ℕ, ◌≤◌, List, Some, Ok}
 use Rattle.base_moment.specs.declared.moment.TheConstants.{LAST}
-use Rattle.plan_forest.specs.declared.entry.Entry.{Entry}
-use Rattle.plan_forest.specs.Forest.{Forest}
-use Rattle.plan_forest.specs.Push.{IsForest}
-use Rattle.plan_search.specs.declared.decision.Decision.{Decision}
-use Rattle.plan_search.specs.Decides.{Decides}
-use Rattle.plan_certificate.specs.declared.cert.Body.{Body}
-use Rattle.plan_certificate.specs.declared.cert.Cert.{Cert}
-use Rattle.plan_certificate.specs.CertificateText.{WritesCertificate, certificate_text}
+use Rattle.plan_forest.specs.{declared.entry.Entry.Entry, Forest.Forest, Push.IsForest}
+use Rattle.plan_search.specs.{declared.decision.Decision.Decision, Decides.Decides}
+use Rattle.plan_certificate.specs.{declared.cert.Body.Body, declared.cert.Cert.Cert, CertificateText.WritesCertificate, CertificateText.certificate_text, Reading.certificate_of, Reading.text_start}
 use Rattle.plan_certificate.specs.Printing.{IsDecisionOver, certified, claim}
-use Rattle.plan_certificate.specs.Reading.{certificate_of, text_start}
 
 -- a text that is read writes the certificate
 abbrev pub CertificateReadIsWritten : Type 0

@@ -6,13 +6,9 @@ use Rattle.plan_forest.specs.declared.entry.Entry.{Entry}
 use Rattle.plan_rule.specs.Runs.{IsAmong}
 use Rattle.plan_search.specs.declared.decision.Decision.{Decision}
 use Rattle.plan_search.specs.declared.decision.Decision.TheVariants as decision
-use Rattle.plan_certificate.specs.declared.cert.Body.{Body}
+use Rattle.plan_certificate.specs.{declared.cert.Body.Body, declared.cert.Cert.Cert, declared.cert.Version.TheVariants.Two, declared.printer.PrintFault.PrintFault, CertificateText.certificate_text}
 use Rattle.plan_certificate.specs.declared.cert.Body.TheVariants.{Runs, Unkeepable}
-use Rattle.plan_certificate.specs.declared.cert.Cert.{Cert}
-use Rattle.plan_certificate.specs.declared.cert.Version.TheVariants.{Two}
-use Rattle.plan_certificate.specs.declared.printer.PrintFault.{PrintFault}
 use Rattle.plan_certificate.specs.declared.printer.PrintFault.TheVariants.{NoCertificate, OutOfMemory}
-use Rattle.plan_certificate.specs.CertificateText.{certificate_text}
 
 -- what a decision claims: its runs, or its pair; None where it is too long
 abbrev pub claim : Decision → Option Body

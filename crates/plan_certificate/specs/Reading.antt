@@ -1,24 +1,16 @@
 -- The certificate of a text, or the first fault: what each of its lines says, in order.
 -- Source: this project's own.
 use Rattle.std.specs.Prelude.{ℕ, ◌+◌, ◌-◌, ◌*◌, Bool, true, false, ◌&&◌, ◌==◌, if◌then◌else◌, List, [], ◌∷◌, ◌++◌, Result, Ok, Err, bytes_eq, codes, length, nat_le, nat_lt}
-use Rattle.std.specs.Bool.{beq}
-use Rattle.std.specs.Option.{ok_or}
+use Rattle.std.specs.{Bool.beq, Option.ok_or}
 use Rattle.base_moment.specs.declared.moment.TheConstants.{LAST}
-use Rattle.plan_forest.specs.declared.entry.Entry.{Entry}
-use Rattle.plan_forest.specs.Forest.{index_named}
-use Rattle.plan_rule.specs.declared.run.Run.{Run}
-use Rattle.plan_certificate.specs.declared.cert.Body.{Body}
+use Rattle.plan_forest.specs.{declared.entry.Entry.Entry, Forest.index_named}
+use Rattle.plan_rule.specs.{declared.run.Run.Run, declared.limit.TheConstants.LIMIT, Runs.wake_count}
+use Rattle.plan_certificate.specs.{declared.cert.Body.Body, declared.cert.Cert.Cert, declared.cert.Version.Version, declared.cert.TheConstants.MAX_LINES, declared.fault.CertFault.CertFault}
 use Rattle.plan_certificate.specs.declared.cert.Body.TheVariants.{Runs, Unkeepable}
-use Rattle.plan_certificate.specs.declared.cert.Cert.{Cert}
-use Rattle.plan_certificate.specs.declared.cert.Version.{Version}
 use Rattle.plan_certificate.specs.declared.cert.Version.TheVariants.{One, Two}
-use Rattle.plan_rule.specs.declared.limit.TheConstants.{LIMIT}
-use Rattle.plan_certificate.specs.declared.cert.TheConstants.{MAX_LINES}
-use Rattle.plan_certificate.specs.declared.fault.CertFault.{CertFault}
 use Rattle.plan_certificate.specs.declared.fault.CertFault.TheVariants.{BadHeader, BadLine, UnknownName, BadNumber, Truncated, Trailing}
-use Rattle.plan_certificate.specs.Answers.{◌>>=◌}
-use Rattle.plan_rule.specs.Runs.{wake_count}
 use Rattle.plan_certificate.specs.Lines.{cut_off, four_words, line_at, lines, number_at, six_words, three_words, two_words}
+use Rattle.plan_certificate.specs.Answers.{◌>>=◌}
 use Rattle.base_words.specs.Pieces.{keyword}
 
 -- the entry that a word of the nth line names

@@ -1,32 +1,20 @@
 -- The laws of answers: the test of a wake-up's force is Forced, there is one answer, and what gets Yes holds.
 use Rattle.std.proofs.Common.{◌≡◌, ℕ, suc, zero, ◌+◌, ◌-◌, ◌*◌, ◌<◌, ◌≤◌, ◌⊎◌, ◌&&◌, ◌++◌, Bool, true, false, cond, List, [], ◌∷◌, Option, Some, None, length, nat_le, nat_lt, refl, sym, ap, ◌∙◌, subst, arith, inl, inr}
-use Rattle.std.proofs.lemmas.Bool.{and_from, and_parts, cases_lt}
 use Rattle.std.proofs.lemmas.Bool.Decides.{nat_tests}
+use Rattle.std.proofs.lemmas.Bool.{and_from, and_parts, cases_lt}
 use Rattle.base_moment.specs.declared.moment.TheConstants.{LAST}
-use Rattle.plan_forest.specs.declared.entry.Entry.{Entry}
+use Rattle.plan_forest.specs.{declared.entry.Entry.Entry, Over.is_over}
 use Rattle.plan_forest.specs.Forest.{Forest, end_of, entry_at}
-use Rattle.plan_forest.specs.Over.{is_over}
-use Rattle.plan_rule.specs.Asks.{with_asks}
+use Rattle.plan_rule.specs.{Asks.with_asks, Least.IsLeastAndLatest, Plans.IsPlan, Schedule.RisesStrictly, Unkeepable.Unkeepable, declared.force.Force.Force, declared.run.Run.Run}
 use Rattle.plan_rule.specs.Forced.{AllForced, Forced, bound}
-use Rattle.plan_rule.specs.Least.{IsLeastAndLatest}
-use Rattle.plan_rule.specs.Plans.{IsPlan}
-use Rattle.plan_rule.specs.Schedule.{RisesStrictly}
-use Rattle.plan_rule.specs.Unkeepable.{Unkeepable}
-use Rattle.plan_rule.proofs.Joining.{InOrder, order_plan}
-use Rattle.plan_rule.proofs.Keeping.{forced_is_least, unkeepable}
-use Rattle.plan_rule.proofs.Tail.{moments_with_asks}
-use Rattle.plan_rule.specs.declared.force.Force.{Force}
-use Rattle.plan_rule.specs.declared.run.Run.{Run}
 use Rattle.plan_rule.specs.Runs.{all_wakes, moments_of, wakes_of}
+use Rattle.plan_rule.proofs.{Joining.InOrder, Joining.order_plan, Keeping.forced_is_least, Keeping.unkeepable, Tail.moments_with_asks}
 use Rattle.plan_certificate.specs.declared.cert.Body.{Body}
 use Rattle.plan_certificate.specs.declared.cert.Body.TheVariants as body
-use Rattle.plan_check.specs.declared.answer.Answer.{Answer}
+use Rattle.plan_check.specs.{declared.answer.Answer.Answer, declared.answer.Cause.Cause, code.Steps.AllFit, Fit.CanBeJudged}
 use Rattle.plan_check.specs.declared.answer.Answer.TheVariants.{No, Yes}
-use Rattle.plan_check.specs.declared.answer.Cause.{Cause}
 use Rattle.plan_check.specs.declared.answer.Cause.TheVariants.{NotForced, NotKept, NotRising, NotUnkeepable}
 use Rattle.plan_check.specs.Answer.{EntryIsKept, IsBodyAnswer, IsPairAnswer, IsWalkAnswer, first_fault}
-use Rattle.plan_check.specs.code.Steps.{AllFit}
-use Rattle.plan_check.specs.Fit.{CanBeJudged}
 use Rattle.plan_check.specs.Laws.{AnswerLaw, ClaimHolds, ForcedTestLaw, YesLaw}
 use Rattle.plan_check.specs.Walk.{fault, is_forced, rises}
 

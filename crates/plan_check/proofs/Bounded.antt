@@ -1,19 +1,11 @@
 -- No plan at some moments leads an end past that of the entry asked by itself at each of them.
 use Rattle.std.proofs.Common.{◌≡◌, ℕ, ◌+◌, ◌<◌, ◌≤◌, true, List, [], ◌∷◌, Option, max, sym, ap, ◌∙◌, subst, arith, inl, inr}
 use Rattle.std.proofs.lemmas.Bool.{cases_Bool, cases_lt, cond-false}
-use Rattle.plan_forest.specs.declared.entry.Entry.{Entry}
-use Rattle.plan_forest.specs.Forest.{entry_at}
-use Rattle.plan_forest.specs.Over.{Over}
+use Rattle.plan_forest.specs.{declared.entry.Entry.Entry, Forest.entry_at, Over.Over}
 use Rattle.plan_forest.specs.Renewal.{is_granted, renewal, renewed}
+use Rattle.plan_rule.specs.{Ends.ends_after, Ends.ends_after_wake_up, Keeps.ends_at}
 use Rattle.plan_rule.specs.Asks.{asking, first_of, is_to_be_asked, with_asks}
-use Rattle.plan_rule.specs.Ends.{ends_after, ends_after_wake_up}
-use Rattle.plan_rule.specs.Keeps.{ends_at}
-use Rattle.plan_rule.proofs.Asking.{asked_end}
-use Rattle.plan_rule.proofs.Keeping.{IsRising}
-use Rattle.plan_rule.proofs.Stuck.{IsStuck, granted_parts}
-use Rattle.plan_rule.proofs.Covering.{after_unwanted, after_wanted}
-use Rattle.plan_rule.proofs.Timely.{asks_rise}
-use Rattle.plan_rule.proofs.Walk.{ends_from, ends_unchanged}
+use Rattle.plan_rule.proofs.{Asking.asked_end, Keeping.IsRising, Stuck.IsStuck, Stuck.granted_parts, Covering.after_unwanted, Covering.after_wanted, Timely.asks_rise, Walk.ends_from, Walk.ends_unchanged}
 use Rattle.plan_check.specs.Kept.{KeptTo, own_after, own_end}
 use Rattle.plan_check.proofs.OwnEnds.{own_late, own_least, own_stuck, own_yes}
 

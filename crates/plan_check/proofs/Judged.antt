@@ -1,25 +1,17 @@
 -- What the steps of the check find, as its answer.
 use Rattle.std.proofs.Common.{◌≡◌, ℕ, ◌+◌, ◌-◌, ◌<◌, ◌≤◌, Bool, true, false, cond, List, [], ◌∷◌, Option, Some, None, length, sym, ap, subst, arith, inl, inr}
 use Rattle.std.proofs.lemmas.Bool.{cases_lt}
-use Rattle.plan_forest.specs.declared.entry.Entry.{Entry}
+use Rattle.plan_forest.specs.{declared.entry.Entry.Entry, Push.IsForest, Renewal.all_last}
 use Rattle.plan_forest.specs.Forest.{Forest, end_of, entry_at}
-use Rattle.plan_forest.specs.Push.{IsForest}
-use Rattle.plan_forest.specs.Renewal.{all_last}
 use Rattle.plan_forest.proofs.Entries.{entry_at_past}
-use Rattle.plan_rule.proofs.Alive.{alive_from_last}
-use Rattle.plan_rule.proofs.Asking.{short_over}
-use Rattle.plan_rule.specs.Schedule.{RisesStrictly}
-use Rattle.plan_rule.specs.declared.force.Force.{Force}
-use Rattle.plan_rule.specs.Runs.{moments_of}
+use Rattle.plan_rule.proofs.{Alive.alive_from_last, Asking.short_over}
+use Rattle.plan_rule.specs.{Schedule.RisesStrictly, declared.force.Force.Force, Runs.moments_of}
+use Rattle.plan_check.specs.{declared.answer.Cause.Cause, Kept.own, code.Steps.FirstShort}
 use Rattle.plan_check.specs.declared.answer.Answer.TheVariants.{No, Yes}
-use Rattle.plan_check.specs.declared.answer.Cause.{Cause}
-use Rattle.plan_check.specs.declared.answer.Cause.TheVariants.{NotForced, NotKept, NotRising, NotUnkeepable}
+use Rattle.plan_check.specs.declared.answer.Cause.TheVariants.{NotForced, NotKept, NotRising}
 use Rattle.plan_check.specs.Answer.{EntryIsKept, IsWalkAnswer, first_fault}
-use Rattle.plan_check.specs.Kept.{own}
-use Rattle.plan_check.specs.code.Steps.{FirstShort}
 use Rattle.plan_check.specs.Walk.{fault, is_forced, rises}
-use Rattle.plan_check.proofs.Answers.{faultless}
-use Rattle.plan_check.proofs.Keeping.{kept_law}
+use Rattle.plan_check.proofs.{Answers.faultless, Keeping.kept_law}
 
 -- the walk itself names no entry
 no_entry : (es : List Entry) (margin s : ℕ) (ends : ℕ → ℕ) (prev : Option ℕ) (k i : ℕ) (ws : List Force) → fault es margin s ends prev k ws ≡ Some (NotKept i) → ⊥

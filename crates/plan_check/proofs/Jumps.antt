@@ -1,23 +1,18 @@
 -- Runs that an entry, asked by itself, passes at once: those before any moment gains, and those whose gaps its step bridges.
 use Rattle.std.proofs.Common.{◌≡◌, ℕ, suc, zero, ◌+◌, ◌-◌, ◌<◌, ◌≤◌, ◌⊎◌, ◌++◌, true, List, [], ◌∷◌, max, get_or, drop, take, length, append_assoc, refl, sym, ap, ◌∙◌, subst, arith, inl, inr}
-use Rattle.std.proofs.lemmas.Bool.{cases_Bool, cases_eq, cases_lt}
 use Rattle.std.proofs.lemmas.Bool.Decides.{nat_tests}
+use Rattle.std.proofs.lemmas.Bool.{cases_Bool, cases_eq, cases_lt}
 use Rattle.std.proofs.lemmas.List.{drop_more, drop-drop, get_or-drop}
 use Rattle.std.specs.List.Sorted.{IsNonDecreasingBy}
-use Rattle.plan_forest.specs.declared.entry.Entry.{Entry}
-use Rattle.plan_forest.specs.Renewal.{renewal}
+use Rattle.plan_forest.specs.{declared.entry.Entry.Entry, Renewal.renewal}
 use Rattle.plan_rule.proofs.Keeping.{IsRising}
-use Rattle.plan_rule.specs.declared.force.Force.{Force}
-use Rattle.plan_rule.specs.declared.run.Run.{Run}
+use Rattle.plan_rule.specs.{declared.force.Force.Force, declared.run.Run.Run}
 use Rattle.plan_rule.specs.Runs.{all_wakes, moments_of, wakes, wakes_of}
-use Rattle.plan_check.specs.code.Steps.{AllFit, last_behind}
-use Rattle.plan_check.specs.Fit.{RunIsFit}
+use Rattle.plan_check.specs.{code.Steps.AllFit, code.Steps.last_behind, Fit.RunIsFit, Kept.own_after, Kept.own_end}
 use Rattle.plan_check.specs.code.Gaps.{AllNarrow, gap_of, gap_within, gaps_of, last_moment}
-use Rattle.plan_check.specs.Kept.{own_after, own_end}
+use Rattle.plan_check.proofs.{Run.run_first, Spans.bridged_spaced, Spans.last_run}
 use Rattle.plan_check.proofs.OwnEnds.{own_bridged, own_fixed, own_late, own_yes}
 use Rattle.plan_check.proofs.OwnRuns.{blank, own_append, renewal_most, rising_turn}
-use Rattle.plan_check.proofs.Run.{run_first}
-use Rattle.plan_check.proofs.Spans.{bridged_spaced, last_run}
 
 -- what holds of the runs holds from a place on
 

@@ -1,22 +1,13 @@
 -- The law of keeping entry by entry: an entry is kept with the Asks exactly where each entry over it, asked by itself,
 -- lasts until its need.
 use Rattle.std.proofs.Common.{ℕ, ◌+◌, ◌<◌, ◌≤◌, List, arith}
-use Rattle.plan_forest.specs.declared.entry.Entry.{Entry}
-use Rattle.plan_forest.specs.Forest.{Forest, entry_at}
-use Rattle.plan_forest.specs.Over.{Over}
-use Rattle.plan_forest.specs.Push.{IsForest}
-use Rattle.plan_forest.proofs.Carrying.{carried_at_least, over_up}
-use Rattle.plan_forest.proofs.Chains.{ParentsFirst}
-use Rattle.plan_forest.proofs.Placed.{parents_first}
+use Rattle.plan_forest.specs.{declared.entry.Entry.Entry, Forest.Forest, Forest.entry_at, Over.Over, Push.IsForest}
+use Rattle.plan_forest.proofs.{Carrying.carried_at_least, Carrying.over_up, Chains.ParentsFirst, Placed.parents_first}
 use Rattle.plan_rule.specs.Asks.{with_asks}
-use Rattle.plan_rule.proofs.Keeping.{IsRising}
-use Rattle.plan_rule.proofs.Covering.{IsNeeded}
-use Rattle.plan_rule.proofs.Schedule.{rising_strictly}
-use Rattle.plan_rule.proofs.Timely.{timely_lasts}
-use Rattle.plan_check.specs.Kept.{KeptTo, own, own_end}
+use Rattle.plan_rule.proofs.{Keeping.IsRising, Covering.IsNeeded, Schedule.rising_strictly, Timely.timely_lasts}
 use Rattle.plan_check.specs.Laws.{KeptToLaw}
-use Rattle.plan_check.proofs.OwnEnds.{own_timely_first}
-use Rattle.plan_check.proofs.Bounded.{kept_lasts}
+use Rattle.plan_check.specs.Kept.{KeptTo, own, own_end}
+use Rattle.plan_check.proofs.{OwnEnds.own_timely_first, Bounded.kept_lasts}
 
 -- the entries over i, each with the need of i
 over_needed : (es : List Entry) → ParentsFirst es → (s i : ℕ) → s < (entry_at es i).need → IsNeeded es s (λ a. Over es a i) (λ a. (entry_at es i).need)

@@ -1,13 +1,8 @@
 -- The least own end over each entry, and what it says of being kept.
 use Rattle.std.proofs.Common.{◌≡◌, ℕ, ◌+◌, ◌<◌, ◌≤◌, ◌&&◌, ◌++◌, true, false, List, [], ◌∷◌, Option, Some, None, get_or, length, nat_le, refl, sym, ap, ◌∙◌, subst, arith, inl, inr}
-use Rattle.std.proofs.lemmas.Bool.{cases_eq}
-use Rattle.std.proofs.lemmas.Bool.Decides.{nat_tests}
-use Rattle.std.proofs.lemmas.List.{get_or_append_left, get_or_push}
-use Rattle.plan_forest.specs.Forest.{Forest, entry_at}
-use Rattle.plan_forest.specs.Push.{IsForest}
-use Rattle.plan_forest.specs.Renewal.{all_last}
-use Rattle.plan_forest.proofs.Chains.{all_last_child, all_last_root}
-use Rattle.plan_forest.proofs.Placed.{parents_first}
+use Rattle.std.proofs.lemmas.{Bool.cases_eq, Bool.Decides.nat_tests, List.get_or_append_left, List.get_or_push}
+use Rattle.plan_forest.specs.{Forest.Forest, Forest.entry_at, Push.IsForest, Renewal.all_last}
+use Rattle.plan_forest.proofs.{Chains.all_last_child, Chains.all_last_root, Placed.parents_first}
 use Rattle.plan_rule.proofs.Rounds.{LastsBelow, le_min}
 use Rattle.plan_check.specs.code.Steps.{AllLast, least_with}
 

@@ -1,8 +1,7 @@
 -- From which moment on a wake-up leads an entry up to a need.
 use Rattle.std.proofs.Common.{◌≡◌, ℕ, ◌+◌, ◌-◌, ◌<◌, ◌≤◌, true, false, Some, None, max, min, ap, ◌∙◌, arith}
 use Rattle.std.proofs.lemmas.Bool.{cond-true, cond-false}
-use Rattle.plan_forest.specs.declared.entry.Entry.{Entry}
-use Rattle.plan_forest.specs.Renewal.{capped, renewal}
+use Rattle.plan_forest.specs.{declared.entry.Entry.Entry, Renewal.capped, Renewal.renewal}
 use Rattle.plan_rule.specs.Forced.{latest_end}
 use Rattle.plan_check.specs.code.Steps.{LongFrom}
 

@@ -1,15 +1,12 @@
 -- The end of an entry that is asked by itself: how it grows, where it stays, and that it is the bound of the last moment
 -- that came in time.
 use Rattle.std.proofs.Common.{◌≡◌, ℕ, ◌+◌, ◌<◌, ◌≤◌, ◌&&◌, true, false, cond, List, [], ◌∷◌, Option, Some, None, max, nat_le, refl, sym, ap, ◌∙◌, subst, arith, inl, inr}
-use Rattle.std.proofs.lemmas.Bool.{and_from, and_right, cases_Bool, cases_lt, cond-true, cond-false}
 use Rattle.std.proofs.lemmas.Bool.Decides.{nat_tests}
-use Rattle.plan_forest.specs.declared.entry.Entry.{Entry}
-use Rattle.plan_forest.specs.Renewal.{capped, renewal}
+use Rattle.std.proofs.lemmas.Bool.{and_from, and_right, cases_Bool, cases_lt, cond-true, cond-false}
+use Rattle.plan_forest.specs.{declared.entry.Entry.Entry, Renewal.capped, Renewal.renewal}
 use Rattle.plan_rule.specs.Forced.{latest_end}
-use Rattle.plan_rule.proofs.Keeping.{IsRising, renewal_later}
-use Rattle.plan_rule.proofs.Timely.{IsTimely}
-use Rattle.plan_check.specs.Kept.{own_after, own_end}
-use Rattle.plan_check.specs.code.Steps.{AllBridged, last_behind}
+use Rattle.plan_rule.proofs.{Keeping.IsRising, Keeping.renewal_later, Timely.IsTimely}
+use Rattle.plan_check.specs.{Kept.own_after, Kept.own_end, code.Steps.AllBridged, code.Steps.last_behind}
 
 pub own_yes : (e : Entry) (margin end t : ℕ) → e.renewable ≡ true → t + margin ≤ end → own_after e margin end t ≡ max end (renewal e t)
 unfolding own_after

@@ -1,16 +1,11 @@
 -- The end of an entry that is asked by itself, over the moments of a run and of a list of runs.
 use Rattle.std.proofs.Common.{◌≡◌, ℕ, suc, zero, ◌+◌, ◌-◌, ◌*◌, ◌<◌, ◌≤◌, ◌⊎◌, ◌++◌, true, List, [], ◌∷◌, Option, Some, None, max, refl, sym, ap, ◌∙◌, subst, arith, inl, inr}
-use Rattle.plan_forest.specs.declared.entry.Entry.{Entry}
-use Rattle.plan_forest.specs.Renewal.{capped, renewal}
+use Rattle.plan_forest.specs.{declared.entry.Entry.Entry, Renewal.capped, Renewal.renewal}
 use Rattle.plan_rule.proofs.Keeping.{IsRising, renewal_later}
-use Rattle.plan_rule.specs.declared.force.Force.{Force}
-use Rattle.plan_rule.specs.declared.run.Run.{Run}
+use Rattle.plan_rule.specs.{declared.force.Force.Force, declared.run.Run.Run}
 use Rattle.plan_rule.specs.Runs.{all_wakes, moments_of, wakes, wakes_of}
-use Rattle.plan_check.specs.Kept.{own_after, own_end}
-use Rattle.plan_check.specs.code.Steps.{Stops}
-use Rattle.plan_check.proofs.OwnEnds.{own_stuck, own_yes}
-use Rattle.plan_check.proofs.Longs.{new_capped, new_free}
-use Rattle.plan_check.proofs.Run.{run_first}
+use Rattle.plan_check.specs.{Kept.own_after, Kept.own_end, code.Steps.Stops}
+use Rattle.plan_check.proofs.{OwnEnds.own_stuck, OwnEnds.own_yes, Longs.new_capped, Longs.new_free, Run.run_first}
 
 -- where the step does not bridge the gap, the end decides; where it does, the ceiling, if there is one
 

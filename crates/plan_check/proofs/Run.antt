@@ -1,17 +1,13 @@
 -- A walk over the wake-ups of one run, after its first: how far it goes, and where it stops.
 use Rattle.std.proofs.Common.{◌≡◌, ℕ, suc, zero, ◌+◌, ◌-◌, ◌*◌, ◌<◌, ◌≤◌, ◌⊎◌, ◌++◌, Bool, true, false, cond, List, [], ◌∷◌, Option, Some, None, max, nat_le, nat_lt, refl, sym, ap, ◌∙◌, subst, arith, inl, inr}
-use Rattle.std.proofs.lemmas.Bool.{and_from, and_right, false_from_ne_true}
 use Rattle.std.proofs.lemmas.Bool.Decides.{nat_tests}
-use Rattle.plan_forest.specs.declared.entry.Entry.{Entry}
+use Rattle.std.proofs.lemmas.Bool.{and_from, and_right, false_from_ne_true}
+use Rattle.plan_forest.specs.{declared.entry.Entry.Entry, Over.Over, Renewal.capped, Renewal.renewal}
 use Rattle.plan_forest.specs.Forest.{Forest, end_of, entry_at}
-use Rattle.plan_forest.specs.Over.{Over}
-use Rattle.plan_forest.specs.Renewal.{capped, renewal}
+use Rattle.plan_rule.specs.{declared.force.Force.Force, Runs.wakes_of}
 use Rattle.plan_rule.specs.Forced.{Forced, bound, latest_end}
-use Rattle.plan_rule.specs.declared.force.Force.{Force}
-use Rattle.plan_rule.specs.Runs.{wakes_of}
-use Rattle.plan_check.specs.declared.answer.Cause.{Cause}
+use Rattle.plan_check.specs.{declared.answer.Cause.Cause, code.Steps.WalkFinds}
 use Rattle.plan_check.specs.declared.answer.Cause.TheVariants.{NotForced, NotRising}
-use Rattle.plan_check.specs.code.Steps.{WalkFinds}
 use Rattle.plan_check.specs.Walk.{fault, is_forced, rises}
 use Rattle.plan_check.proofs.Answers.{forced_parts, forced_tests}
 

@@ -1,15 +1,10 @@
 -- What a text writes can be judged.
 use Rattle.std.proofs.Common.{List, [], ◌∷◌, length}
-use Rattle.plan_forest.specs.declared.entry.Entry.{Entry}
-use Rattle.plan_forest.specs.Forest.{Forest}
+use Rattle.plan_forest.specs.{declared.entry.Entry.Entry, Forest.Forest}
 use Rattle.plan_rule.specs.declared.run.Run.{Run}
-use Rattle.plan_certificate.specs.declared.cert.Body.{Body}
+use Rattle.plan_certificate.specs.{declared.cert.Body.Body, declared.cert.Version.Version, CertificateText.AreRunsOf, CertificateText.IsCertificateBody}
 use Rattle.plan_certificate.specs.declared.cert.Body.TheVariants as body
-use Rattle.plan_certificate.specs.declared.cert.Version.{Version}
-use Rattle.plan_certificate.specs.CertificateText.{AreRunsOf, IsCertificateBody}
-use Rattle.plan_check.specs.code.Steps.{AllFit}
-use Rattle.plan_check.specs.Fit.{CanBeJudged}
-use Rattle.plan_check.specs.Laws.{WrittenIsJudgedLaw}
+use Rattle.plan_check.specs.{code.Steps.AllFit, Fit.CanBeJudged, Laws.WrittenIsJudgedLaw}
 
 all_fit : (v : Version) (es : List Entry) (rs : List Run) → AreRunsOf v es rs → AllFit (length es) rs
 all_fit v es [] each = tt

@@ -2,19 +2,12 @@
 -- Source: this project's own.
 use Rattle.std.specs.Prelude.{◌≡◌, ℕ, ◌<◌, List, Option, Some, None}
 use Rattle.plan_forest.specs.Forest.{Forest, end_of, entry_at}
-use Rattle.plan_rule.specs.Asks.{with_asks}
-use Rattle.plan_rule.specs.Unkeepable.{Unkeepable}
-use Rattle.plan_rule.specs.declared.force.Force.{Force}
-use Rattle.plan_rule.specs.Runs.{all_wakes, moments_of}
-use Rattle.plan_certificate.specs.declared.cert.Body.{Body}
+use Rattle.plan_rule.specs.{Asks.with_asks, Unkeepable.Unkeepable, declared.force.Force.Force, Runs.all_wakes, Runs.moments_of}
+use Rattle.plan_certificate.specs.{declared.cert.Body.Body, declared.cert.Cert.Cert}
 use Rattle.plan_certificate.specs.declared.cert.Body.TheVariants as body
-use Rattle.plan_certificate.specs.declared.cert.Cert.{Cert}
-use Rattle.plan_check.specs.declared.answer.Answer.{Answer}
+use Rattle.plan_check.specs.{declared.answer.Answer.Answer, declared.answer.Cause.Cause, Kept.KeptTo, Walk.fault}
 use Rattle.plan_check.specs.declared.answer.Answer.TheVariants.{No, Yes}
-use Rattle.plan_check.specs.declared.answer.Cause.{Cause}
 use Rattle.plan_check.specs.declared.answer.Cause.TheVariants.{NotKept, NotUnkeepable}
-use Rattle.plan_check.specs.Kept.{KeptTo}
-use Rattle.plan_check.specs.Walk.{fault}
 
 -- i is kept to its need when each of these wake-ups asks its Asks
 abbrev pub EntryIsKept : Forest → ℕ → List Force → ℕ → Type 0

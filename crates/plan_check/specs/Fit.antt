@@ -2,10 +2,8 @@
 -- Source: this project's own.
 use Rattle.std.specs.Prelude.{ℕ, length}
 use Rattle.plan_forest.specs.Forest.{Forest}
-use Rattle.plan_rule.specs.declared.run.Run.{Run}
-use Rattle.plan_certificate.specs.declared.cert.Body.{Body}
-use Rattle.plan_rule.specs.Runs.{HasMoments, IsAmong}
-use Rattle.plan_certificate.specs.CertificateText.{IsMadeOf}
+use Rattle.plan_rule.specs.{declared.run.Run.Run, Runs.HasMoments, Runs.IsAmong}
+use Rattle.plan_certificate.specs.{declared.cert.Body.Body, CertificateText.IsMadeOf}
 
 -- a run whose indices are those of n entries, with a wake-up or more, none of them after LAST
 pub record RunIsFit (n : ℕ) (r : Run) : Type 0 where

@@ -2,11 +2,8 @@
 -- Source: Vault, "Tokens" (a token's end ends its children and its leases); Vault, "Lease, renew, and revoke". Needs and
 -- margin are this project's own.
 use Rattle.std.specs.Prelude.{ℕ, ◌+◌, ◌≤◌, ◌<◌, max, ◌&&◌, if◌then◌else◌, List, [], ◌∷◌, nat_le}
-use Rattle.plan_forest.specs.declared.entry.Entry.{Entry}
-use Rattle.plan_forest.specs.Forest.{entry_at}
-use Rattle.plan_forest.specs.Renewal.{renewal}
-use Rattle.plan_rule.specs.declared.wake.Wake.{Wake}
-use Rattle.plan_rule.specs.Keeps.{Alive, ends_at}
+use Rattle.plan_forest.specs.{declared.entry.Entry.Entry, Forest.entry_at, Renewal.renewal}
+use Rattle.plan_rule.specs.{declared.wake.Wake.Wake, Keeps.Alive, Keeps.ends_at}
 
 -- i is kept to n: it is alive at each moment from s on and before n
 abbrev pub KeptTo : List Entry → ℕ → ℕ → (ℕ → ℕ) → List Wake → ℕ → ℕ → Type 0

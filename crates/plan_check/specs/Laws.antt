@@ -1,27 +1,11 @@
 -- Laws of the checker. Each is the contract of a public function without a body.
 use Rattle.std.specs.Prelude.{◌≡◌, ◌↔◌, ℕ, ◌≤◌, ◌<◌, List, Option, true}
-use Rattle.plan_forest.specs.declared.entry.Entry.{Entry}
+use Rattle.plan_forest.specs.{declared.entry.Entry.Entry, Over.Over, Push.IsForest}
 use Rattle.plan_forest.specs.Forest.{Forest, end_of, entry_at}
-use Rattle.plan_forest.specs.Over.{Over}
-use Rattle.plan_forest.specs.Push.{IsForest}
-use Rattle.plan_rule.specs.declared.wake.Wake.{Wake}
-use Rattle.plan_rule.specs.Asks.{with_asks}
-use Rattle.plan_rule.specs.Forced.{Forced}
-use Rattle.plan_rule.specs.Keeps.{Keeps}
-use Rattle.plan_rule.specs.Least.{IsLeastAndLatest}
-use Rattle.plan_rule.specs.Plans.{IsPlan}
-use Rattle.plan_rule.specs.Schedule.{RisesStrictly}
-use Rattle.plan_rule.specs.Runs.{all_wakes, moments_of}
-use Rattle.plan_certificate.specs.declared.cert.Body.{Body}
+use Rattle.plan_rule.specs.{declared.wake.Wake.Wake, Asks.with_asks, Forced.Forced, Keeps.Keeps, Least.IsLeastAndLatest, Plans.IsPlan, Schedule.RisesStrictly, Runs.all_wakes, Runs.moments_of}
+use Rattle.plan_certificate.specs.{declared.cert.Body.Body, declared.cert.Cert.Cert, CertificateText.WritesCertificate}
 use Rattle.plan_certificate.specs.declared.cert.Body.TheVariants as body
-use Rattle.plan_certificate.specs.declared.cert.Cert.{Cert}
-use Rattle.plan_certificate.specs.CertificateText.{WritesCertificate}
-use Rattle.plan_check.specs.declared.answer.Answer.{Answer}
-use Rattle.plan_check.specs.declared.answer.Answer.TheVariants.{Yes}
-use Rattle.plan_check.specs.Answer.{IsCertificateAnswer}
-use Rattle.plan_check.specs.Fit.{CanBeJudged}
-use Rattle.plan_check.specs.Kept.{KeptTo, own}
-use Rattle.plan_check.specs.Walk.{is_forced}
+use Rattle.plan_check.specs.{declared.answer.Answer.Answer, declared.answer.Answer.TheVariants.Yes, Answer.IsCertificateAnswer, Fit.CanBeJudged, Kept.KeptTo, Kept.own, Walk.is_forced}
 
 -- moments with their Asks keep an entry exactly where each entry over it, asked by itself, lasts until its need
 abbrev pub KeptToLaw : Type 0

@@ -1,11 +1,8 @@
 -- Walk: wake-up by wake-up, the first that does not rise or is not forced by its pair.
 -- Source: this project's own.
 use Rattle.std.specs.Prelude.{ℕ, ◌+◌, Bool, ◌&&◌, if◌then◌else◌, List, [], ◌∷◌, Option, Some, None, nat_le, nat_lt}
-use Rattle.plan_forest.specs.declared.entry.Entry.{Entry}
-use Rattle.plan_forest.specs.Forest.{entry_at}
-use Rattle.plan_forest.specs.Over.{is_over}
-use Rattle.plan_rule.specs.Forced.{bound}
-use Rattle.plan_rule.specs.declared.force.Force.{Force}
+use Rattle.plan_forest.specs.{declared.entry.Entry.Entry, Forest.entry_at, Over.is_over}
+use Rattle.plan_rule.specs.{Forced.bound, declared.force.Force.Force}
 use Rattle.plan_check.specs.declared.answer.Cause.{Cause}
 use Rattle.plan_check.specs.declared.answer.Cause.TheVariants.{NotForced, NotRising}
 

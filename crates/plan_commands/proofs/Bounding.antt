@@ -1,19 +1,15 @@
 -- Bounding: whom `reach` names, for `bound_law`.
 use Rattle.std.proofs.Common.{◌≡◌, ◌≢◌, ◌∙◌, ◌==◌, ℕ, zero, suc, ◌<◌, ◌≤◌, Bool, true, false, cond, Option, Some, None, map, min, nat_le, refl, sym, ap, subst, arith, inl, inr, ◌⊎◌}
-use Rattle.std.proofs.lemmas.Bool.{or_cases, or_right}
-use Rattle.std.proofs.lemmas.Bool.Decides.{nat_tests}
-use Rattle.plan_forest.specs.Forest.{Forest, end_of, entry_at}
+use Rattle.std.proofs.lemmas.{Bool.or_cases, Bool.or_right, Bool.Decides.nat_tests}
 use Rattle.plan_forest.specs.Over.{Over, is_over}
-use Rattle.plan_forest.proofs.Chains.{ParentsFirst, cases_Option, chain_child, chain_root, over_child, over_root, over_self}
+use Rattle.plan_forest.specs.Forest.{Forest, end_of, entry_at}
 use Rattle.plan_forest.proofs.Placed.{parents_first}
+use Rattle.plan_forest.proofs.Chains.{ParentsFirst, cases_Option, chain_child, chain_root, over_child, over_root, over_self}
 use Rattle.tick_keeper.specs.Shorten.{least_of, least_reach, lesser}
 use Rattle.plan_rule.specs.Reach.{reach}
-use Rattle.plan_commands.specs.declared.bound.Bound.{Bound}
-use Rattle.plan_commands.specs.ReachLaws.{Binds, BoundLaw}
-use Rattle.plan_commands.specs.ReachText.{binding_reach, nearer}
+use Rattle.plan_commands.specs.{declared.bound.Bound.Bound, ReachLaws.Binds, ReachLaws.BoundLaw, ReachText.binding_reach, ReachText.nearer}
 use Rattle.tick_keeper.proofs.Shortening.{least_reach_most}
-use Rattle.plan_commands.proofs.Reaching.{bound_child, bound_root}
-use Rattle.plan_commands.proofs.Until.{is_same}
+use Rattle.plan_commands.proofs.{Reaching.bound_child, Reaching.bound_root, Until.is_same}
 
 -- ---- of two reaches
 

@@ -2,21 +2,17 @@
 use Rattle.std.proofs.Common.{◌≡◌, ◌∙◌, ℕ, ◌+◌, ◌<◌, ◌≤◌, ◌++◌, true, List, [], ◌∷◌, Ok, Err, codes, decimal, get_or, length, take, refl, sym, ap, subst}
 use Rattle.std.proofs.lemmas.List.{append_assoc, append-nil, take_all, take_more}
 use Rattle.base_moment.specs.declared.text.Text.{Text}
-use Rattle.plan_forest.specs.declared.entry.Entry.{Entry}
-use Rattle.plan_forest.specs.Forest.{Forest}
-use Rattle.plan_rule.specs.declared.run.Run.{Run}
-use Rattle.plan_rule.specs.Runs.{wake_count}
-use Rattle.plan_search.specs.declared.decision.Decision.{Decision}
+use Rattle.plan_forest.specs.{declared.entry.Entry.Entry, Forest.Forest}
+use Rattle.plan_rule.specs.{declared.run.Run.Run, Runs.wake_count}
+use Rattle.plan_search.specs.{declared.decision.Decision.Decision, Decides.Decides}
 use Rattle.plan_search.specs.declared.decision.Decision.TheVariants as decision
-use Rattle.plan_search.specs.Decides.{Decides}
 use Rattle.plan_certificate.specs.CertificateText.{end_line_text, line_text, name_of_entry, unkeepable_text}
 use Rattle.program_report.specs.declared.exit.Exit.TheVariants as exits
 use Rattle.program_report.specs.declared.stop.Stop.{Stop}
 use Rattle.program_report.specs.declared.stop.Stop.TheVariants as stops
+use Rattle.plan_commands.specs.{PlanRun.PlanHalts, ReachText.IsMomentWord}
 use Rattle.plan_commands.specs.code.Making.{DatesOf, MakesOf, decided_exit}
 use Rattle.plan_commands.specs.PlanDates.{AreRunLines, AreRunsInDates, IsInDates, IsNoneInDates, IsPairInDates, IsPlanInDates, IsRunLine, OnePlanInDates, PlanDatesTexts, run_line, start_line}
-use Rattle.plan_commands.specs.PlanRun.{PlanHalts}
-use Rattle.plan_commands.specs.ReachText.{IsMomentWord}
 use Rattle.plan_commands.proofs.Reaching.{one_moment}
 use Rattle.plan_commands.proofs.OneText.{best_or_none, one_best, one_shortfall}
 

@@ -2,19 +2,14 @@
 use Rattle.std.proofs.Common.{ℕ, List, Result, Ok, Err, inl, inr, refl, subst, sym}
 use Rattle.base_device.specs.Seen.{Change}
 use Rattle.plan_forest.specs.Forest.{Forest}
-use Rattle.plan_search.specs.declared.decision.Decision.{Decision}
+use Rattle.plan_search.specs.{declared.decision.Decision.Decision, Decides.Decides}
 use Rattle.plan_search.specs.declared.decision.Decision.TheVariants as decision
-use Rattle.plan_search.specs.Decides.{Decides}
-use Rattle.plan_certificate.specs.declared.printer.PrintFault.TheVariants.{NoCertificate}
-use Rattle.plan_certificate.specs.Printing.{PrintsClaim, claim}
-use Rattle.vault_inventory.specs.declared.fault.InvFault.{InvFault}
-use Rattle.vault_inventory.specs.Inventories.{Inventory}
-use Rattle.program_report.specs.declared.exit.Exit.{Exit}
-use Rattle.program_report.specs.declared.stop.Stop.{Stop}
+use Rattle.plan_certificate.specs.{declared.printer.PrintFault.TheVariants.NoCertificate, Printing.PrintsClaim, Printing.claim}
+use Rattle.vault_inventory.specs.{declared.fault.InvFault.InvFault, Inventories.Inventory}
+use Rattle.program_report.specs.{declared.exit.Exit.Exit, declared.stop.Stop.Stop}
 use Rattle.program_report.specs.declared.stop.Stop.TheVariants as stops
-use Rattle.plan_commands.specs.declared.outcome.Outcome.{Outcome}
+use Rattle.plan_commands.specs.{declared.outcome.Outcome.Outcome, PlanRun.IsCertified, PlanRun.PlanHalts}
 use Rattle.plan_commands.specs.code.Making.{Delivers, MakesOutcome, decided_exit}
-use Rattle.plan_commands.specs.PlanRun.{IsCertified, PlanHalts}
 use Rattle.plan_commands.specs.Running.{Halted, Halts, RunOf, Texts}
 
 -- ---- any command

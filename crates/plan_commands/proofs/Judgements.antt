@@ -3,29 +3,18 @@ use Rattle.std.proofs.Common.{◌≡◌, ℕ, List, Option, Some, Result, Ok, Er
 use Rattle.std.proofs.lemmas.Bool.{cases_lt}
 use Rattle.plan_forest.specs.Forest.{Forest}
 use Rattle.plan_rule.specs.Runs.{all_wakes}
-use Rattle.plan_certificate.specs.declared.cert.Body.{Body}
+use Rattle.plan_certificate.specs.{declared.cert.Body.Body, declared.cert.Cert.Cert, declared.fault.CertFault.CertFault, Answers.FailsWithCertFault, CertificateText.WritesCertificate, Reading.certificate_of}
 use Rattle.plan_certificate.specs.declared.cert.Body.TheVariants as body
-use Rattle.plan_certificate.specs.declared.cert.Cert.{Cert}
-use Rattle.plan_certificate.specs.declared.fault.CertFault.{CertFault}
 use Rattle.plan_certificate.specs.declared.fault.CertFault.TheVariants as certs
-use Rattle.plan_certificate.specs.Answers.{FailsWithCertFault}
-use Rattle.plan_certificate.specs.CertificateText.{WritesCertificate}
-use Rattle.plan_certificate.specs.Reading.{certificate_of}
-use Rattle.plan_check.specs.declared.answer.Answer.TheVariants.{No}
-use Rattle.plan_check.specs.declared.answer.Cause.{Cause}
+use Rattle.plan_check.specs.{declared.answer.Answer.TheVariants.No, declared.answer.Cause.Cause, Answer.IsBodyAnswer, Answer.IsCertificateAnswer}
 use Rattle.plan_check.specs.declared.answer.Cause.TheVariants as cause
-use Rattle.plan_check.specs.Answer.{IsBodyAnswer, IsCertificateAnswer}
 use Rattle.plan_check.proofs.Judged.{kept_past}
-use Rattle.program_report.specs.declared.exit.Exit.{Exit}
+use Rattle.program_report.specs.{declared.exit.Exit.Exit, declared.stop.Stop.Stop}
 use Rattle.program_report.specs.declared.exit.Exit.TheVariants as exits
-use Rattle.plan_commands.specs.declared.outcome.Outcome.{Outcome}
-use Rattle.program_report.specs.declared.stop.Stop.{Stop}
-use Rattle.program_report.specs.declared.stop.Stop.TheVariants as stops
+use Rattle.plan_commands.specs.{declared.outcome.Outcome.Outcome, Running.NoHalts, CheckText.unreadable_line, code.Making.MakesOf}
 use Rattle.plan_commands.specs.code.CheckAnswers.{CauseIsNamed, IsStartVerdict, IsVerdict, StartTexts, VerdictTexts}
 use Rattle.plan_commands.specs.CheckRun.{CertificateIsUnreadable, CheckTexts, IsJudged, StartsAsAsked}
-use Rattle.plan_commands.specs.Running.{NoHalts}
-use Rattle.plan_commands.specs.CheckText.{unreadable_line}
-use Rattle.plan_commands.specs.code.Making.{MakesOf}
+use Rattle.program_report.specs.declared.stop.Stop.TheVariants as stops
 
 -- ---- an entry that is not kept is one of the forest
 

@@ -1,29 +1,20 @@
 -- Margins: what `margin` writes is a function of the forest and the question; and from the parts of its text to the run.
 use Rattle.std.proofs.Common.{◌≡◌, ◌∙◌, ℕ, ◌++◌, min, IfOk, List, MatchOption, Option, Some, None, Result, Ok, Err, refl, sym, ap, subst, arith, inl, inr}
-use Rattle.std.specs.Option.{IsSome}
-use Rattle.std.specs.Result.{IfErr}
-use Rattle.plan_forest.specs.Carried.{IsFrom}
-use Rattle.plan_forest.specs.Forest.{Forest, end_of}
-use Rattle.plan_forest.specs.Push.{IsForest}
+use Rattle.std.specs.{Option.IsSome, Result.IfErr}
+use Rattle.plan_forest.specs.{Carried.IsFrom, Forest.Forest, Forest.end_of, Push.IsForest}
 use Rattle.plan_forest.proofs.Margins.{own_allowed}
-use Rattle.plan_rule.specs.declared.limit.TheConstants.{LIMIT}
-use Rattle.plan_rule.specs.Unkeepable.{AllKeepable}
+use Rattle.plan_rule.specs.{declared.limit.TheConstants.LIMIT, Unkeepable.AllKeepable}
 use Rattle.plan_schedule.proofs.Bridge.{one_from}
 use Rattle.plan_search.specs.declared.decision.Decision.TheVariants as decision
-use Rattle.plan_search.specs.declared.pair.Shortfall.{Shortfall}
-use Rattle.plan_search.specs.declared.widest.Widest.{Widest}
+use Rattle.plan_search.specs.{declared.pair.Shortfall.Shortfall, declared.widest.Widest.Widest, Shortfall.IsShortfall}
 use Rattle.plan_search.specs.Decides.{NoneKeeps, PlanIsTooLong, SomeKeeps}
-use Rattle.plan_search.specs.Shortfall.{IsShortfall}
 use Rattle.plan_search.specs.Widest.{IsFewest, IsWidest, NoneIsEnough}
 use Rattle.plan_certificate.specs.CertificateText.{unkeepable_text}
 use Rattle.plan_certificate.proofs.Printing.{decided_is_of}
-use Rattle.program_report.specs.declared.exit.Exit.{Exit}
+use Rattle.program_report.specs.{declared.exit.Exit.Exit, declared.stop.Stop.Stop}
 use Rattle.program_report.specs.declared.exit.Exit.TheVariants as exits
-use Rattle.program_report.specs.declared.stop.Stop.{Stop}
 use Rattle.program_report.specs.declared.stop.Stop.TheVariants as stops
-use Rattle.plan_commands.specs.declared.margin.MarginQuery.{MarginQuery}
-use Rattle.plan_commands.specs.declared.outcome.Outcome.{Outcome}
-use Rattle.plan_commands.specs.code.Making.{MakesOf}
+use Rattle.plan_commands.specs.{declared.margin.MarginQuery.MarginQuery, declared.outcome.Outcome.Outcome, code.Making.MakesOf}
 use Rattle.plan_commands.specs.code.MarginMaking.{HaltsFrom, IsPair, IsRefusal, TextsFrom}
 use Rattle.plan_commands.specs.MarginRun.{HasNoCount, MarginHalts, MarginTexts}
 use Rattle.plan_commands.specs.MarginText.{AreOwnAndWidest, IsMarginText, IsNoMargin, IsNone, IsPairLine, IsWidestLine, OneMarginText, asked_about, margin_line, with_least}

@@ -1,14 +1,11 @@
 -- Obeying: from a run over the bytes of a file to one over the file, for `obey`.
 use Rattle.std.proofs.Common.{◌≡◌, ℕ, List, Option, Ok, String, Global, string_bytes, subst, sym, inl}
 use Rattle.base_device.specs.Seen.{Change}
-use Rattle.plan_commands.specs.declared.command.PlanCommand.{PlanCommand}
+use Rattle.plan_commands.specs.{declared.command.PlanCommand.PlanCommand, CheckRun.CheckRun, From.RunFrom, Obeys.ObeysOver}
 use Rattle.plan_commands.specs.declared.command.PlanCommand.TheVariants as commands
 use Rattle.plan_certificate.specs.declared.cert.TheConstants.{MOST_CERTIFICATE}
 use Rattle.program_report.specs.declared.exit.Exit.{Exit}
-use Rattle.plan_commands.specs.CheckRun.{CheckRun}
-use Rattle.plan_commands.specs.From.{RunFrom}
 use Rattle.base_files.specs.Files.{FileIsRead, Files}
-use Rattle.plan_commands.specs.Obeys.{ObeysOver}
 
 pub run_read : (known : Option (List ℕ)) (max : ℕ) (Over : List ℕ → Exit → Change → Change → Type 0) (exit : Exit) (out errors : Change) (read bytes : List ℕ) → FileIsRead known max (Ok read) → bytes ≡ read → Over bytes exit out errors → RunFrom known max Over exit out errors
 run_read known max Over exit out errors read bytes is same run = inl (read, is, subst (λ (b : List ℕ). Over b exit out errors) same run)

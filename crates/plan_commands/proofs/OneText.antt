@@ -1,33 +1,23 @@
 -- One text: what `ends`, `plan` and `check` write is a function of the forest, the start, the moments and the certificate.
 use Rattle.std.proofs.Common.{◌≡◌, ◌∙◌, ◌↔◌, Bool, true, false, IsTrue, ℕ, zero, suc, ◌+◌, ◌-◌, ◌<◌, ◌≤◌, ◌++◌, List, [], ◌∷◌, Option, Some, None, length, refl, sym, ap, subst, arith, inl, inr}
-use Rattle.std.proofs.lemmas.Bool.{cases_lt}
-use Rattle.std.proofs.lemmas.List.{append_cancel_left}
-use Rattle.plan_forest.specs.Carried.{IsFrom}
-use Rattle.plan_forest.specs.Forest.{Forest, end_of}
-use Rattle.plan_forest.specs.Push.{IsForest}
-use Rattle.plan_rule.specs.Ends.{ends_after}
-use Rattle.plan_rule.specs.declared.force.Force.{Force}
-use Rattle.plan_rule.specs.declared.run.Run.{Run}
+use Rattle.std.proofs.lemmas.{Bool.cases_lt, List.append_cancel_left}
+use Rattle.plan_forest.specs.{Carried.IsFrom, Forest.Forest, Forest.end_of, Push.IsForest}
+use Rattle.plan_rule.specs.{Ends.ends_after, declared.force.Force.Force, declared.run.Run.Run}
 use Rattle.plan_rule.specs.Runs.{AreRuns, IsRun, all_wakes, wakes, wakes_of}
-use Rattle.plan_schedule.proofs.Bridge.{one_from}
-use Rattle.plan_schedule.proofs.Forces.{one_list}
-use Rattle.plan_search.specs.Decides.{AreBest, AreLongest, NoneKeeps}
+use Rattle.plan_schedule.proofs.{Bridge.one_from, Forces.one_list}
 use Rattle.plan_search.specs.Shortfall.{IsShortfall}
+use Rattle.plan_search.specs.Decides.{AreBest, AreLongest, NoneKeeps}
 use Rattle.plan_search.proofs.Walking.{length_all_cons}
 use Rattle.plan_certificate.specs.declared.cert.Body.TheVariants as body
-use Rattle.plan_certificate.specs.declared.cert.Cert.{Cert}
-use Rattle.plan_certificate.specs.CertificateText.{WritesCertificate, certificate_text}
-use Rattle.plan_certificate.specs.Printing.{certified}
+use Rattle.plan_certificate.specs.{declared.cert.Cert.Cert, CertificateText.WritesCertificate, CertificateText.certificate_text, Printing.certified}
 use Rattle.plan_certificate.proofs.ReadBackAll.{written_is_read}
-use Rattle.plan_check.specs.declared.answer.Answer.TheVariants.{No, Yes}
 use Rattle.plan_check.specs.Answer.{IsCertificateAnswer}
+use Rattle.plan_check.specs.declared.answer.Answer.TheVariants.{No, Yes}
 use Rattle.plan_check.proofs.Answers.{one_answer}
 use Rattle.program_report.specs.declared.exit.Exit.TheVariants as exits
+use Rattle.plan_commands.specs.{CheckText.no_line, CheckText.unreadable_line, Laws.OneCheckText, Laws.OnePlanText, PlanRun.IsPairText, PlanRun.IsPlanText}
 use Rattle.plan_commands.specs.CheckRun.{CertificateIsUnreadable, IsAccepted, IsJudged, IsRefused, StartsAsAsked, StartsElsewhere}
-use Rattle.plan_commands.specs.CheckText.{no_line, unreadable_line}
 use Rattle.plan_commands.specs.EndsText.{IsEndsText, all_asked, end_lines, keeps_line}
-use Rattle.plan_commands.specs.Laws.{OneCheckText, OnePlanText}
-use Rattle.plan_commands.specs.PlanRun.{IsPairText, IsPlanText}
 
 -- ---- wake-ups have one list of longest runs
 

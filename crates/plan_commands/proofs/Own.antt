@@ -1,33 +1,21 @@
 -- Own certificates: a walk over forces finds no fault, so what is printed of a decision gets Yes.
 use Rattle.std.proofs.Common.{◌≡◌, ◌∙◌, ℕ, ◌+◌, ◌<◌, ◌≤◌, ◌&&◌, true, List, [], ◌∷◌, Option, Some, None, Ok, nat_le, nat_lt, refl, sym, ap, subst, arith}
-use Rattle.std.proofs.lemmas.Bool.{cond-true}
-use Rattle.std.proofs.lemmas.Bool.Decides.{nat_tests}
-use Rattle.plan_forest.specs.declared.entry.Entry.{Entry}
-use Rattle.plan_forest.specs.Forest.{Forest, end_of}
-use Rattle.plan_forest.specs.Push.{IsForest}
-use Rattle.plan_rule.specs.Schedule.{RisesStrictly}
-use Rattle.plan_rule.specs.Unkeepable.{AllKeepable}
+use Rattle.std.proofs.lemmas.{Bool.cond-true, Bool.Decides.nat_tests}
+use Rattle.plan_forest.specs.{declared.entry.Entry.Entry, Forest.Forest, Forest.end_of, Push.IsForest}
+use Rattle.plan_rule.specs.{Schedule.RisesStrictly, Unkeepable.AllKeepable, declared.force.Force.Force, declared.run.Run.Run, Runs.all_wakes, Runs.moments_of}
 use Rattle.plan_rule.proofs.Keeping.{unkeepable}
-use Rattle.plan_rule.specs.declared.force.Force.{Force}
-use Rattle.plan_rule.specs.declared.run.Run.{Run}
-use Rattle.plan_rule.specs.Runs.{all_wakes, moments_of}
 use Rattle.plan_schedule.specs.Forces.{AreForced}
 use Rattle.plan_schedule.proofs.Forces.{forces_are_best}
-use Rattle.plan_search.specs.declared.decision.Decision.{Decision}
+use Rattle.plan_search.specs.{declared.decision.Decision.Decision, Decides.AreBest, Decides.Decides}
 use Rattle.plan_search.specs.declared.decision.Decision.TheVariants as decision
-use Rattle.plan_search.specs.Decides.{AreBest, Decides}
-use Rattle.plan_certificate.specs.declared.cert.Body.{Body}
-use Rattle.plan_certificate.specs.declared.cert.Body.TheVariants as body
-use Rattle.plan_certificate.specs.declared.cert.Version.TheVariants.{Two}
-use Rattle.plan_certificate.specs.CertificateText.{certificate_text}
+use Rattle.plan_certificate.specs.{declared.cert.Body.Body, declared.cert.Version.TheVariants.Two, CertificateText.certificate_text, Reading.certificate_of}
 use Rattle.plan_certificate.specs.Printing.{PrintsClaim, certified, claim}
-use Rattle.plan_certificate.specs.Reading.{certificate_of}
+use Rattle.plan_certificate.specs.declared.cert.Body.TheVariants as body
 use Rattle.plan_certificate.proofs.Printing.{claim_is_body, printed_is_read}
-use Rattle.plan_check.specs.declared.answer.Answer.TheVariants.{Yes}
-use Rattle.plan_check.specs.Answer.{IsCertificateAnswer, IsWalkAnswer}
+use Rattle.plan_check.specs.{declared.answer.Answer.TheVariants.Yes, Answer.IsCertificateAnswer, Answer.IsWalkAnswer}
 use Rattle.plan_check.specs.Walk.{fault, is_forced, rises}
-use Rattle.plan_check.proofs.Answers.{forced_tests, from_behind, one_answer}
 use Rattle.plan_check.proofs.Written.{body_fits}
+use Rattle.plan_check.proofs.Answers.{forced_tests, from_behind, one_answer}
 use Rattle.plan_commands.specs.Laws.{OwnCertificateLaw}
 
 rises_behind : (s : ℕ) (prev : Option ℕ) (t : ℕ) → s ≤ t → from_behind s prev ≤ t → rises s prev t ≡ true

@@ -1,35 +1,23 @@
 -- Own texts: what `plan` writes is a certificate that gets Yes, and short enough to be read, so that `check` says `yes`.
 use Rattle.std.proofs.Common.{◌≡◌, ◌⊎◌, inl, inr, ℕ, ◌≤◌, List, Option, None, Some, Ok, ap, codes, length, refl, sym, subst, arith}
 use Rattle.base_moment.specs.declared.moment.TheConstants.{LAST}
-use Rattle.plan_forest.specs.Forest.{Forest}
-use Rattle.plan_forest.specs.Push.{IsForest}
+use Rattle.plan_forest.specs.{Forest.Forest, Push.IsForest}
 use Rattle.plan_rule.specs.declared.run.Run.{Run}
 use Rattle.plan_search.specs.declared.decision.Decision.TheVariants as decision
 use Rattle.plan_search.specs.Decides.{AreBest}
-use Rattle.plan_certificate.specs.declared.cert.Body.{Body}
+use Rattle.plan_certificate.specs.{declared.cert.Body.Body, declared.cert.Cert.Cert, declared.cert.Version.TheVariants.Two, CertificateText.IsCertificateBody, CertificateText.certificate_text, Printing.certified, Reading.certificate_of}
+use Rattle.plan_certificate.specs.{declared.cert.TheConstants.MOST_CERTIFICATE}
 use Rattle.plan_certificate.specs.declared.cert.Body.TheVariants as body
-use Rattle.plan_certificate.specs.declared.cert.Cert.{Cert}
-use Rattle.plan_certificate.specs.declared.cert.Version.TheVariants.{Two}
-use Rattle.plan_certificate.specs.CertificateText.{IsCertificateBody, certificate_text}
-use Rattle.plan_certificate.specs.Printing.{certified}
-use Rattle.plan_certificate.specs.Reading.{certificate_of}
+use Rattle.plan_certificate.proofs.{ReadBackAll.written_is_read, Stated.start_stated}
 use Rattle.plan_certificate.proofs.Printing.{claim_is_body, counted_wakes, runs_within}
-use Rattle.plan_certificate.proofs.ReadBackAll.{written_is_read}
-use Rattle.plan_certificate.proofs.Stated.{start_stated}
-use Rattle.plan_check.specs.declared.answer.Answer.TheVariants.{Yes}
-use Rattle.plan_check.specs.Answer.{IsCertificateAnswer}
-use Rattle.plan_check.proofs.Answers.{yes_holds}
-use Rattle.plan_check.proofs.Written.{body_fits}
+use Rattle.plan_check.specs.{declared.answer.Answer.TheVariants.Yes, Answer.IsCertificateAnswer}
+use Rattle.plan_check.proofs.{Answers.yes_holds, Written.body_fits}
 use Rattle.vault_start.proofs.Started.{start_law}
 use Rattle.program_report.specs.declared.exit.Exit.{Exit}
 use Rattle.program_report.specs.declared.exit.Exit.TheVariants as exits
-use Rattle.plan_certificate.specs.declared.cert.TheConstants.{MOST_CERTIFICATE}
+use Rattle.plan_commands.specs.{Laws.IsOwnText, Laws.OwnTextLaw, PlanRun.IsCertified}
 use Rattle.plan_commands.specs.CheckRun.{IsAccepted, StartsAsAsked, or_zero, stated_start}
-use Rattle.plan_commands.specs.Laws.{IsOwnText, OwnTextLaw}
-use Rattle.plan_commands.specs.PlanRun.{IsCertified}
-use Rattle.plan_commands.proofs.OneText.{one_check_text}
-use Rattle.plan_commands.proofs.Own.{best_gets_yes}
-use Rattle.plan_commands.proofs.Sizes.{HasFewRuns, certificate_size}
+use Rattle.plan_commands.proofs.{OneText.one_check_text, Own.best_gets_yes, Sizes.HasFewRuns, Sizes.certificate_size}
 
 -- the runs of a plan are those of a certificate
 best_is_body : (g : Forest) (s : ℕ) (rs : List Run) → IsForest g → AreBest g s rs → IsCertificateBody Two g.entries (body.Runs rs)

@@ -6,8 +6,7 @@ use Rattle.plan_forest.specs.declared.entry.Entry.{Entry}
 use Rattle.plan_forest.specs.Forest.{Forest, end_of, entry_at}
 use Rattle.plan_forest.proofs.Chains.{ParentsFirst, chain_child, chain_root}
 use Rattle.plan_rule.specs.Reach.{reach}
-use Rattle.plan_commands.specs.declared.bound.Bound.{Bound}
-use Rattle.plan_commands.specs.EndsText.{keeps_line}
+use Rattle.plan_commands.specs.{declared.bound.Bound.Bound, EndsText.keeps_line}
 use Rattle.plan_commands.specs.ReachText.{AreReachLines, IsMomentWord, IsNeedWord, IsReachLine, IsReachText, IsUntilWord, OneReachText, SaysWhetherKept, binding, binding_reach, column, columns, head, is_short, nearer, short_at, widest, word_line}
 
 -- ---- what binds an entry

@@ -1,18 +1,13 @@
 -- Renewals: every entry renewed, by falling index, while what is over it has its old end; for `renew_all`.
 use Rattle.std.proofs.Common.{◌≡◌, ◌&&◌, ◌∙◌, ℕ, zero, suc, ◌+◌, ◌<◌, ◌≤◌, ◌^◌, true, false, cond, List, Option, Some, None, length, map, nat_le, set, refl, sym, ap, subst, arith, inl, inr}
-use Rattle.std.proofs.lemmas.Bool.{cases_eq}
-use Rattle.std.proofs.lemmas.List.{ext_get_or, length-set}
-use Rattle.std.proofs.lemmas.List.FromFn.{get_or-map-range_with_len, length-map-range_with_len}
+use Rattle.std.proofs.lemmas.{Bool.cases_eq, List.ext_get_or, List.length-set, List.FromFn.get_or-map-range_with_len, List.FromFn.length-map-range_with_len}
 use Rattle.std.specs.List.{list_all, range_with_len}
-use Rattle.plan_forest.specs.declared.entry.Entry.{Entry}
+use Rattle.plan_forest.specs.{declared.entry.Entry.Entry, declared.forest.TheConstants.END_MAX, Push.IsForest}
 use Rattle.plan_forest.specs.Forest.{Forest, end_of, entry_at, no_entry}
-use Rattle.base_moment.specs.declared.moment.TheConstants.{LAST}
-use Rattle.plan_forest.specs.declared.forest.TheConstants.{END_MAX}
-use Rattle.plan_forest.specs.Push.{IsForest}
 use Rattle.plan_forest.specs.Renewal.{all_last, capped, is_granted, renewal, renewed}
+use Rattle.base_moment.specs.declared.moment.TheConstants.{LAST}
+use Rattle.plan_forest.proofs.{Placed.read_range, Entries.entry_at_set_other, Entries.entry_at_set_same}
 use Rattle.plan_forest.proofs.Chains.{ParentsFirst, SameParents, all_last_child, all_last_root, cases_Option, chain_same}
-use Rattle.plan_forest.proofs.Placed.{read_range}
-use Rattle.plan_forest.proofs.Entries.{entry_at_set_other, entry_at_set_same}
 use Rattle.plan_commands.specs.Renewed.{all_renewed, renewed_entry}
 
 -- ---- what is over an entry tells what it is granted

@@ -4,41 +4,24 @@ use Rattle.std.proofs.Common.{◌≡◌, ◌∙◌, ℕ, Bool, List, [], Option,
 use Rattle.std.specs.Io.KnownBytes.{Appends, Keeps}
 use Rattle.std.proofs.lemmas.List.{length-map}
 use Rattle.std.proofs.KnownBytes.{Appends-nil, Keeps-refl}
-use Rattle.base_device.specs.Seen.{Change, Seen}
-use Rattle.base_device.specs.Front.{AppendsFront}
-use Rattle.plan_forest.specs.Forest.{Forest}
-use Rattle.plan_forest.specs.Push.{IsForest}
-use Rattle.plan_rule.specs.declared.wake.Wake.{Wake}
-use Rattle.plan_rule.specs.Plans.{moments}
-use Rattle.plan_rule.specs.declared.run.Run.{Run}
-use Rattle.plan_rule.specs.Runs.{all_wakes, moments_of}
+use Rattle.base_device.specs.{Seen.Change, Seen.Seen, Front.AppendsFront}
+use Rattle.plan_forest.specs.{Forest.Forest, Push.IsForest}
+use Rattle.plan_rule.specs.{declared.wake.Wake.Wake, Plans.moments, declared.run.Run.Run, Runs.all_wakes, Runs.moments_of}
 use Rattle.plan_search.specs.Decides.{AreBest, NoneKeeps, PlanIsTooLong}
-use Rattle.vault_inventory.specs.declared.fault.InvFault.{InvFault}
-use Rattle.vault_inventory.specs.Inventories.{Inventory}
+use Rattle.vault_inventory.specs.{declared.fault.InvFault.InvFault, Inventories.Inventory}
 use Rattle.vault_served.specs.ForGood.{marks}
 use Rattle.vault_start.specs.Start.{from_start, inventory_at}
 use Rattle.vault_start.proofs.Started.{known_at, secrecy_law, start_law}
-use Rattle.program_report.specs.declared.exit.Exit.{Exit}
+use Rattle.program_report.specs.{declared.exit.Exit.Exit, declared.stop.Stop.Stop, Exits.exit_of, Sent.IsUntouched, Sent.SendsText, Told.Reports, FaultLine.line_of_stop}
 use Rattle.program_report.specs.declared.exit.Exit.TheVariants as exits
-use Rattle.program_report.specs.declared.stop.Stop.{Stop}
 use Rattle.program_report.specs.declared.stop.Stop.TheVariants as stops
-use Rattle.program_report.specs.Exits.{exit_of}
-use Rattle.program_report.specs.Sent.{IsUntouched, SendsText}
-use Rattle.program_report.specs.Told.{Reports}
 use Rattle.program_report.proofs.Fronts.{whole_front}
-use Rattle.plan_commands.specs.CheckRun.{CheckTexts, stated_start}
-use Rattle.plan_commands.specs.EndsRun.{EndsHalts, EndsTexts}
-use Rattle.plan_commands.specs.declared.margin.MarginQuery.{MarginQuery}
-use Rattle.plan_commands.specs.MarginRun.{MarginHalts, MarginTexts}
-use Rattle.plan_commands.specs.MarginText.{asked_about}
-use Rattle.plan_commands.specs.PlanDates.{IsInDates, PlanDatesTexts}
+use Rattle.plan_commands.specs.{CheckRun.CheckTexts, CheckRun.stated_start, EndsRun.EndsHalts, EndsRun.EndsTexts, declared.margin.MarginQuery.MarginQuery, MarginRun.MarginHalts, MarginRun.MarginTexts, MarginText.asked_about}
+use Rattle.plan_commands.specs.{PlanDates.IsInDates, PlanDates.PlanDatesTexts, ReachRun.ReachTexts}
 use Rattle.plan_commands.specs.PlanRun.{IsCertified, PlanHalts, PlanTexts}
 use Rattle.plan_commands.specs.Running.{Halted, Halts, NoHalts, RunOf, Texts}
-use Rattle.program_report.specs.FaultLine.{line_of_stop}
 use Rattle.plan_commands.specs.Secrecy.{CheckSecrecy, DifferInSecrets, EndsSecrecy, MarginSecrecy, PlanDatesSecrecy, PlanSecrecy, ReachSecrecy, RunAlike, RunIsWhole, TellSame, WriteFronts, WriteSame}
-use Rattle.plan_commands.proofs.Dated.{one_plan_in_dates}
-use Rattle.plan_commands.proofs.Reaching.{one_reach_text}
-use Rattle.plan_commands.specs.ReachRun.{ReachTexts}
+use Rattle.plan_commands.proofs.{Dated.one_plan_in_dates, Reaching.one_reach_text}
 use Rattle.plan_commands.proofs.Margins.{one_margin_text, one_reason, text_or_reason}
 use Rattle.plan_commands.proofs.OneText.{one_check_text, one_ends_text, one_plan_text}
 use Rattle.plan_search.proofs.Deciding.{length_moments}

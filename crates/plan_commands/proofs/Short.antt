@@ -1,13 +1,9 @@
 -- Short: no plan keeps exactly where some entry ends before its need at the latest.
 use Rattle.std.proofs.Common.{◌≡◌, ◌∙◌, ◌&&◌, ℕ, ◌<◌, true, false, Option, length, nat_lt, sym, ap, subst, arith, inl, inr}
-use Rattle.std.proofs.lemmas.Bool.{cases_lt}
-use Rattle.std.proofs.lemmas.Bool.Decides.{nat_tests}
-use Rattle.plan_forest.specs.declared.entry.Entry.{Entry}
+use Rattle.std.proofs.lemmas.{Bool.cases_lt, Bool.Decides.nat_tests}
+use Rattle.plan_forest.specs.{declared.entry.Entry.Entry, Over.chain, Over.is_over, Push.IsForest}
 use Rattle.plan_forest.specs.Forest.{Forest, end_of, entry_at}
-use Rattle.plan_forest.specs.Over.{chain, is_over}
-use Rattle.plan_forest.specs.Push.{IsForest}
-use Rattle.plan_forest.proofs.Chains.{cases_Option}
-use Rattle.plan_forest.proofs.Entries.{entry_at_past}
+use Rattle.plan_forest.proofs.{Chains.cases_Option, Entries.entry_at_past}
 use Rattle.plan_rule.specs.Reach.{reach}
 use Rattle.plan_search.specs.Decides.{NoneKeeps, SomeKeeps}
 use Rattle.plan_search.proofs.Deciding.{none_keeps, some_keeps}

@@ -1,23 +1,15 @@
 -- Sizes: the certificate of few runs, or of a pair, over a forest is short, so that a file of it is read.
 use Rattle.std.proofs.Common.{◌≡◌, ◌↔◌, ℕ, ◌+◌, ◌-◌, ◌*◌, ◌<◌, ◌≤◌, ◌++◌, List, [], ◌∷◌, codes, decimal, flat_map, length, nat_le, arith, inl, inr}
 use Rattle.std.specs.List.{join_with_byte, list_all}
-use Rattle.std.proofs.lemmas.Bool.{and_parts, cases_lt}
-use Rattle.std.proofs.lemmas.Fmt.{length-decimal-le}
-use Rattle.std.proofs.lemmas.List.{length-append}
+use Rattle.std.proofs.lemmas.{Bool.and_parts, Bool.cases_lt, Fmt.length-decimal-le, List.length-append}
 use Rattle.std.proofs.Math.Nat.{mul-le-mul_right}
 use Rattle.base_moment.specs.declared.moment.TheConstants.{LAST}
-use Rattle.plan_forest.specs.Forest.{Forest, entry_at}
+use Rattle.plan_forest.specs.{Forest.Forest, Forest.entry_at, declared.forest.TheConstants.NAME_MAX}
 use Rattle.plan_forest.specs.Push.{IsForest, is_name, is_name_byte}
-use Rattle.plan_forest.specs.declared.forest.TheConstants.{NAME_MAX}
-use Rattle.plan_rule.specs.declared.limit.TheConstants.{LIMIT}
-use Rattle.plan_rule.specs.declared.run.Run.{Run}
-use Rattle.plan_certificate.specs.declared.cert.Body.{Body}
+use Rattle.plan_rule.specs.{declared.limit.TheConstants.LIMIT, declared.run.Run.Run, Runs.wake_count}
+use Rattle.plan_certificate.specs.{declared.cert.Body.Body, declared.cert.Version.TheVariants.Two, Printing.certified, declared.cert.TheConstants.MOST_CERTIFICATE}
 use Rattle.plan_certificate.specs.declared.cert.Body.TheVariants.{Runs, Unkeepable}
-use Rattle.plan_certificate.specs.declared.cert.Version.TheVariants.{Two}
-use Rattle.plan_rule.specs.Runs.{wake_count}
 use Rattle.plan_certificate.specs.CertificateText.{AreRunsOf, IsCertificateBody, IsRunOf, body_text, certificate_text, end_line_text, header_text, line_text, name_of_entry, run_text, start_text, unkeepable_text}
-use Rattle.plan_certificate.specs.Printing.{certified}
-use Rattle.plan_certificate.specs.declared.cert.TheConstants.{MOST_CERTIFICATE}
 use Rattle.vault_inventory.proofs.Entered.{within_test}
 
 -- the sizes of words, each with the byte after it

@@ -1,14 +1,13 @@
 -- Until: what binds an entry is the least reach over it, so some plan keeps it that long where it alone is needed, and none
 -- longer.
 use Rattle.std.proofs.Common.{◌≡◌, ◌∙◌, ◌==◌, ◌||◌, ℕ, suc, ◌<◌, ◌≤◌, Bool, true, false, cond, List, [], ◌∷◌, Option, Some, None, nat_le, refl, sym, ap, subst, arith, inl, inr, ◌⊎◌}
-use Rattle.std.proofs.lemmas.Bool.{cases_lt, or_cases, or_right}
 use Rattle.std.proofs.lemmas.Bool.Decides.{nat_tests}
+use Rattle.std.proofs.lemmas.Bool.{cases_lt, or_cases, or_right}
 use Rattle.std.specs.List.{list_any}
 use Rattle.plan_forest.specs.declared.entry.Entry.{Entry}
 use Rattle.plan_forest.specs.Forest.{Forest, end_of, entry_at}
 use Rattle.plan_forest.specs.Over.{Over, chain, is_over}
-use Rattle.plan_forest.proofs.Chains.{cases_Option, chain_same}
-use Rattle.plan_forest.proofs.Placed.{parents_first}
+use Rattle.plan_forest.proofs.{Chains.cases_Option, Chains.chain_same, Placed.parents_first}
 use Rattle.plan_rule.specs.Reach.{reach, reach_of}
 use Rattle.plan_search.specs.Decides.{NoneKeeps}
 use Rattle.plan_search.proofs.Deciding.{none_keeps, some_keeps}

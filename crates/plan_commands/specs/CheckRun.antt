@@ -3,19 +3,14 @@
 use Rattle.std.specs.Prelude.{◌≡◌, ℕ, ◌⊎◌, List, Option, Some, IfSome, Result, Ok, Err, codes}
 use Rattle.base_device.specs.Seen.{Change}
 use Rattle.plan_forest.specs.Forest.{Forest}
-use Rattle.plan_certificate.specs.declared.cert.Cert.{Cert}
-use Rattle.plan_certificate.specs.declared.fault.CertFault.{CertFault}
-use Rattle.plan_certificate.specs.CertificateText.{WritesCertificate}
-use Rattle.plan_certificate.specs.Reading.{certificate_of, text_start}
+use Rattle.plan_certificate.specs.{declared.cert.Cert.Cert, declared.fault.CertFault.CertFault, CertificateText.WritesCertificate, Reading.certificate_of, Reading.text_start}
+use Rattle.plan_check.specs.{declared.answer.Cause.Cause, Answer.IsCertificateAnswer, Laws.ClaimHolds}
 use Rattle.plan_check.specs.declared.answer.Answer.TheVariants.{No, Yes}
-use Rattle.plan_check.specs.declared.answer.Cause.{Cause}
-use Rattle.plan_check.specs.Answer.{IsCertificateAnswer}
-use Rattle.plan_check.specs.Laws.{ClaimHolds}
 use Rattle.program_report.specs.declared.exit.Exit.{Exit}
 use Rattle.program_report.specs.declared.exit.Exit.TheVariants as exits
 use Rattle.plan_commands.specs.CheckText.{no_line, unreadable_line}
-use Rattle.vault_start.specs.Start.{inventory_at}
 use Rattle.plan_commands.specs.Running.{NoHalts, RunOf, Texts}
+use Rattle.vault_start.specs.Start.{inventory_at}
 
 abbrev pub or_zero : Result ℕ CertFault → ℕ
 or_zero (Ok s) = s

@@ -1,8 +1,7 @@
 -- Check: what the command `check` writes about a certificate.
 -- Source: this project's own.
 use Rattle.std.specs.Prelude.{ℕ, List, [], ◌∷◌, ◌++◌, Option, Some, None, codes, decimal}
-use Rattle.plan_forest.specs.declared.entry.Entry.{Entry}
-use Rattle.plan_forest.specs.Forest.{entry_at}
+use Rattle.plan_forest.specs.{declared.entry.Entry.Entry, Forest.entry_at}
 use Rattle.plan_certificate.specs.declared.fault.CertFault.{CertFault}
 use Rattle.plan_certificate.specs.declared.fault.CertFault.TheVariants.{BadHeader, BadLine, UnknownName, BadNumber, Truncated, Trailing, OutOfMemory}
 use Rattle.plan_check.specs.declared.answer.Cause.{Cause}

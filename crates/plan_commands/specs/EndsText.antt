@@ -4,10 +4,7 @@ use Rattle.std.specs.Prelude.{◌≡◌, ◌↔◌, ℕ, Bool, true, false, IsTr
 use Rattle.std.specs.List.{range_with_len}
 use Rattle.plan_forest.specs.declared.entry.Entry.{Entry}
 use Rattle.plan_forest.specs.Forest.{Forest, end_of, entry_at}
-use Rattle.plan_rule.specs.declared.wake.Wake.{Wake}
-use Rattle.plan_rule.specs.Ends.{ends_after}
-use Rattle.plan_rule.specs.Keeps.{Keeps}
-use Rattle.plan_rule.specs.Plans.{wake_fault}
+use Rattle.plan_rule.specs.{declared.wake.Wake.Wake, Ends.ends_after, Keeps.Keeps, Plans.wake_fault}
 
 -- wake-ups at these moments, each of which asks every one of n entries
 unfoldable pub all_asked : ℕ → List ℕ → List Wake

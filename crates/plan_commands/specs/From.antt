@@ -1,14 +1,9 @@
 -- From: a run over files, by their paths.
 -- Source: this project's own.
 use Rattle.std.specs.Prelude.{◌≡◌, ◌⊎◌, ℕ, List, Option, Ok, Err}
-use Rattle.base_device.specs.Seen.{Change}
-use Rattle.base_device.specs.declared.fault.InputFault.{InputFault}
+use Rattle.base_device.specs.{Seen.Change, declared.fault.InputFault.InputFault}
 use Rattle.base_files.specs.Files.{FileIsRead}
-use Rattle.program_report.specs.declared.exit.Exit.{Exit}
-use Rattle.program_report.specs.Exits.{exit_of, stop_of_input}
-use Rattle.program_report.specs.Sent.{IsUntouched}
-use Rattle.program_report.specs.Told.{Reports}
-use Rattle.program_report.specs.FaultLine.{line_of_stop}
+use Rattle.program_report.specs.{declared.exit.Exit.Exit, Exits.exit_of, Exits.stop_of_input, Sent.IsUntouched, Told.Reports, FaultLine.line_of_stop}
 
 -- a run over a file: one over its bytes; or it was not read, which was told, and nothing was written
 abbrev pub RunFrom : Option (List ℕ) → ℕ → (List ℕ → Exit → Change → Change → Type 0) → Exit → Change → Change → Type 0

@@ -1,24 +1,16 @@
 -- Laws of the runs. Each is the contract of a public function without a body.
 use Rattle.std.specs.Prelude.{◌≡◌, ◌⊎◌, ℕ, ◌≤◌, List, Option, None, Some, Ok, codes, length}
 use Rattle.base_moment.specs.declared.moment.TheConstants.{LAST}
-use Rattle.plan_forest.specs.Forest.{Forest}
-use Rattle.plan_forest.specs.Push.{IsForest}
-use Rattle.plan_search.specs.declared.decision.Decision.{Decision}
-use Rattle.plan_search.specs.Decides.{Decides}
-use Rattle.plan_certificate.specs.declared.cert.Cert.{Cert}
-use Rattle.plan_certificate.specs.Printing.{PrintsClaim, claim}
-use Rattle.plan_certificate.specs.Reading.{certificate_of}
-use Rattle.plan_check.specs.declared.answer.Answer.{Answer}
-use Rattle.plan_check.specs.declared.answer.Answer.TheVariants.{Yes}
-use Rattle.plan_check.specs.Answer.{IsCertificateAnswer}
-use Rattle.plan_check.specs.Fit.{CanBeJudged}
+use Rattle.plan_forest.specs.{Forest.Forest, Push.IsForest}
+use Rattle.plan_search.specs.{declared.decision.Decision.Decision, Decides.Decides}
+use Rattle.plan_certificate.specs.{declared.cert.Cert.Cert, Printing.PrintsClaim, Printing.claim, Reading.certificate_of, declared.cert.TheConstants.MOST_CERTIFICATE}
+use Rattle.plan_check.specs.{declared.answer.Answer.Answer, declared.answer.Answer.TheVariants.Yes, Answer.IsCertificateAnswer, Fit.CanBeJudged}
 use Rattle.vault_inventory.specs.Inventories.{Inventory}
 use Rattle.program_report.specs.declared.exit.Exit.{Exit}
 use Rattle.program_report.specs.declared.exit.Exit.TheVariants as exits
-use Rattle.plan_certificate.specs.declared.cert.TheConstants.{MOST_CERTIFICATE}
 use Rattle.vault_start.specs.Start.{inventory_at}
-use Rattle.plan_commands.specs.CheckRun.{IsAccepted, IsJudged, stated_start}
 use Rattle.plan_commands.specs.PlanRun.{IsCertified}
+use Rattle.plan_commands.specs.CheckRun.{IsAccepted, IsJudged, stated_start}
 
 -- what is printed of a decision for a forest is read back over it as a certificate that can be judged, and each right
 -- answer to that is Yes

@@ -4,13 +4,11 @@ use Rattle.std.specs.Prelude.{◌≡◌, ℕ, List, Option, Some, None}
 use Rattle.base_device.specs.Seen.{Change}
 use Rattle.plan_forest.specs.Forest.{Forest}
 use Rattle.plan_search.specs.Decides.{PlanIsTooLong}
-use Rattle.program_report.specs.declared.exit.Exit.{Exit}
-use Rattle.program_report.specs.declared.stop.Stop.{Stop}
+use Rattle.program_report.specs.{declared.exit.Exit.Exit, declared.stop.Stop.Stop}
 use Rattle.program_report.specs.declared.stop.Stop.TheVariants as stops
-use Rattle.plan_commands.specs.declared.margin.MarginQuery.{MarginQuery}
-use Rattle.plan_commands.specs.MarginText.{IsMarginText, asked_about}
-use Rattle.vault_start.specs.Start.{inventory_at}
+use Rattle.plan_commands.specs.{declared.margin.MarginQuery.MarginQuery, MarginText.IsMarginText, MarginText.asked_about}
 use Rattle.plan_commands.specs.Running.{Halts, RunOf, Texts}
+use Rattle.vault_start.specs.Start.{inventory_at}
 
 abbrev pub MarginTexts : MarginQuery → Texts
 MarginTexts q g exit text = IsMarginText (asked_about q g) q.start q.most_wakes exit text

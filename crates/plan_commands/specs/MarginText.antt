@@ -3,15 +3,12 @@
 use Rattle.std.specs.Prelude.{◌≡◌, ◌⊎◌, ℕ, ◌≤◌, min, if◌then◌else◌, List, [], ◌∷◌, ◌++◌, Option, Some, None, codes, decimal}
 use Rattle.plan_forest.specs.Forest.{Forest}
 use Rattle.plan_rule.specs.declared.limit.TheConstants.{LIMIT}
-use Rattle.plan_search.specs.declared.widest.Widest.{Widest}
-use Rattle.plan_search.specs.Decides.{NoneKeeps, SomeKeeps}
-use Rattle.plan_search.specs.Shortfall.{IsShortfall}
+use Rattle.plan_search.specs.{declared.widest.Widest.Widest, Decides.NoneKeeps, Decides.SomeKeeps, Shortfall.IsShortfall}
 use Rattle.plan_search.specs.Widest.{IsFewest, IsWidest, NoneIsEnough}
 use Rattle.plan_certificate.specs.CertificateText.{unkeepable_text}
 use Rattle.program_report.specs.declared.exit.Exit.{Exit}
 use Rattle.program_report.specs.declared.exit.Exit.TheVariants as exits
-use Rattle.plan_commands.specs.declared.margin.MarginQuery.{MarginQuery}
-use Rattle.plan_commands.specs.Renewed.{all_renewed}
+use Rattle.plan_commands.specs.{declared.margin.MarginQuery.MarginQuery, Renewed.all_renewed}
 
 -- the forest that is asked about: as it stands, or as one wake-up at the start leaves it which asks every entry
 abbrev pub asked_about : MarginQuery → Forest → Forest

@@ -3,18 +3,11 @@
 use Rattle.std.specs.Prelude.{ℕ, Bool, true, false, List, string_bytes}
 use Rattle.base_device.specs.Seen.{Change}
 use Rattle.program_report.specs.declared.exit.Exit.{Exit}
-use Rattle.plan_commands.specs.declared.command.PlanCommand.{PlanCommand}
+use Rattle.plan_commands.specs.{declared.command.PlanCommand.PlanCommand, CheckRun.CheckRun, EndsRun.EndsRun, From.RunFrom, MarginRun.MarginRun, PlanDates.PlanDatesRun, PlanRun.PlanRun, ReachRun.ReachRun}
 use Rattle.plan_commands.specs.declared.command.PlanCommand.TheVariants as commands
 use Rattle.vault_inventory.specs.declared.limits.TheConstants.{MOST_INVENTORY}
 use Rattle.plan_certificate.specs.declared.cert.TheConstants.{MOST_CERTIFICATE}
-use Rattle.plan_commands.specs.CheckRun.{CheckRun}
-use Rattle.plan_commands.specs.EndsRun.{EndsRun}
-use Rattle.plan_commands.specs.From.{RunFrom}
 use Rattle.base_files.specs.Files.{Files}
-use Rattle.plan_commands.specs.MarginRun.{MarginRun}
-use Rattle.plan_commands.specs.PlanDates.{PlanDatesRun}
-use Rattle.plan_commands.specs.PlanRun.{PlanRun}
-use Rattle.plan_commands.specs.ReachRun.{ReachRun}
 
 -- the path of a command's inventory
 abbrev pub path_of_command : PlanCommand → List ℕ

@@ -3,19 +3,14 @@
 -- Source: this project's own, over Vault, "Lease, renew, and revoke", and Vault, "Tokens"; a date is that of RFC 3339, section 5.6.
 use Rattle.std.specs.Prelude.{◌≡◌, ℕ, true, List, [], ◌∷◌, ◌++◌, codes, decimal}
 use Rattle.base_device.specs.Seen.{Change}
-use Rattle.plan_forest.specs.declared.entry.Entry.{Entry}
-use Rattle.plan_forest.specs.Forest.{Forest}
-use Rattle.plan_rule.specs.declared.run.Run.{Run}
-use Rattle.plan_rule.specs.Runs.{wake_count}
-use Rattle.plan_search.specs.Decides.{AreBest, NoneKeeps}
-use Rattle.plan_search.specs.Shortfall.{IsShortfall}
+use Rattle.plan_forest.specs.{declared.entry.Entry.Entry, Forest.Forest}
+use Rattle.plan_rule.specs.{declared.run.Run.Run, Runs.wake_count}
+use Rattle.plan_search.specs.{Decides.AreBest, Decides.NoneKeeps, Shortfall.IsShortfall}
 use Rattle.plan_certificate.specs.CertificateText.{end_line_text, line_text, name_of_entry, unkeepable_text}
 use Rattle.program_report.specs.declared.exit.Exit.{Exit}
 use Rattle.program_report.specs.declared.exit.Exit.TheVariants as exits
 use Rattle.vault_start.specs.Start.{inventory_at}
-use Rattle.plan_commands.specs.PlanRun.{PlanHalts}
-use Rattle.plan_commands.specs.ReachText.{IsMomentWord}
-use Rattle.plan_commands.specs.Running.{RunOf, Texts}
+use Rattle.plan_commands.specs.{PlanRun.PlanHalts, ReachText.IsMomentWord, Running.RunOf, Running.Texts}
 
 -- `start DATE`
 unfoldable pub start_line : List ℕ → List ℕ

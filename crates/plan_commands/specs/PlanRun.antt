@@ -4,11 +4,10 @@ use Rattle.std.specs.Prelude.{◌≡◌, ℕ, List}
 use Rattle.base_device.specs.Seen.{Change}
 use Rattle.plan_forest.specs.Forest.{Forest}
 use Rattle.plan_rule.specs.declared.run.Run.{Run}
-use Rattle.plan_search.specs.Decides.{AreBest, NoneKeeps, PlanIsTooLong}
 use Rattle.plan_search.specs.Shortfall.{IsShortfall}
+use Rattle.plan_search.specs.Decides.{AreBest, NoneKeeps, PlanIsTooLong}
 use Rattle.plan_certificate.specs.declared.cert.Body.TheVariants as body
-use Rattle.plan_certificate.specs.CertificateText.{certificate_text}
-use Rattle.plan_certificate.specs.Printing.{certified}
+use Rattle.plan_certificate.specs.{CertificateText.certificate_text, Printing.certified}
 use Rattle.program_report.specs.declared.exit.Exit.{Exit}
 use Rattle.program_report.specs.declared.exit.Exit.TheVariants as exits
 use Rattle.program_report.specs.declared.stop.Stop.TheVariants as stops

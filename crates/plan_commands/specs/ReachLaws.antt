@@ -1,13 +1,11 @@
 -- Laws of what binds an entry: which entry it is, until when some plan keeps it, and that no need plays a part in it; and of what is short.
 use Rattle.std.specs.Prelude.{◌≡◌, ◌≢◌, ℕ, ◌<◌, ◌≤◌, Option, Some, None, true, false, length}
+use Rattle.plan_forest.specs.{Over.Over, Push.IsForest}
 use Rattle.plan_forest.specs.Forest.{Forest, end_of, entry_at}
-use Rattle.plan_forest.specs.Over.{Over}
-use Rattle.plan_forest.specs.Push.{IsForest}
 use Rattle.tick_keeper.specs.Shorten.{least_reach}
 use Rattle.plan_rule.specs.Reach.{reach}
-use Rattle.plan_commands.specs.declared.bound.Bound.{Bound}
+use Rattle.plan_commands.specs.{declared.bound.Bound.Bound, ReachText.binding_reach, ReachText.short_at}
 use Rattle.plan_search.specs.Decides.{NoneKeeps, SomeKeeps}
-use Rattle.plan_commands.specs.ReachText.{binding_reach, short_at}
 
 -- the entry `by` is over i, its reach from s is the least reach of i, and none nearer the root has that reach; where nothing
 -- limits i, it is i itself

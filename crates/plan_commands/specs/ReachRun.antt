@@ -4,8 +4,8 @@ use Rattle.base_device.specs.Seen.{Change}
 use Rattle.program_report.specs.declared.exit.Exit.{Exit}
 use Rattle.program_report.specs.declared.exit.Exit.TheVariants as exits
 use Rattle.plan_commands.specs.ReachText.{IsReachText}
-use Rattle.vault_start.specs.Start.{inventory_at}
 use Rattle.plan_commands.specs.Running.{NoHalts, RunOf, Texts}
+use Rattle.vault_start.specs.Start.{inventory_at}
 
 abbrev pub ReachTexts : ℕ → Bool → Texts
 ReachTexts s dates g exit text = (exit ≡ exits.Done) × IsReachText g s dates text

@@ -2,15 +2,12 @@
 -- Source: this project's own; how far renewals lead is Vault, "Lease, renew, and revoke" (maximum TTL), and an entry ends with
 -- what it stands under by Vault, "Tokens".
 use Rattle.std.specs.Prelude.{◌≡◌, ◌⊎◌, ℕ, zero, suc, ◌-◌, ◌≤◌, ◌<◌, Bool, true, false, if◌then◌else◌, ◌&&◌, nat_le, nat_lt, List, [], ◌∷◌, ◌++◌, Option, Some, None, codes, decimal, length, max, replicate}
-use Rattle.base_moment.specs.declared.moment.TheConstants.{LAST}
-use Rattle.base_moment.specs.Rfc3339.{IsDateText}
-use Rattle.plan_forest.specs.declared.entry.Entry.{Entry}
+use Rattle.base_moment.specs.{declared.moment.TheConstants.LAST, Rfc3339.IsDateText}
+use Rattle.plan_forest.specs.{declared.entry.Entry.Entry, Over.chain}
 use Rattle.plan_forest.specs.Forest.{Forest, end_of, entry_at}
-use Rattle.plan_forest.specs.Over.{chain}
 use Rattle.plan_rule.specs.Reach.{reach}
 use Rattle.plan_search.specs.Decides.{NoneKeeps, SomeKeeps}
-use Rattle.plan_commands.specs.declared.bound.Bound.{Bound}
-use Rattle.plan_commands.specs.EndsText.{keeps_line}
+use Rattle.plan_commands.specs.{declared.bound.Bound.Bound, EndsText.keeps_line}
 
 -- of an entry's own reach and what binds its parent, what binds the entry: the lesser, of equals the parent's; None is
 -- without limit

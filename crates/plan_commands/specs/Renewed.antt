@@ -2,9 +2,8 @@
 -- Source: Vault, "Lease, renew, and revoke" (a renewal counts from its own moment); Vault, "Tokens".
 use Rattle.std.specs.Prelude.{ℕ, length, map}
 use Rattle.std.specs.List.{range_with_len}
-use Rattle.plan_forest.specs.declared.entry.Entry.{Entry}
+use Rattle.plan_forest.specs.{declared.entry.Entry.Entry, Renewal.renewed}
 use Rattle.plan_forest.specs.Forest.{Forest, end_of, entry_at}
-use Rattle.plan_forest.specs.Renewal.{renewed}
 
 -- the entry i with the end that a request for it at t leaves, which is judged by the ends before
 abbrev pub renewed_entry : Forest → ℕ → ℕ → Entry

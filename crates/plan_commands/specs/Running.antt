@@ -4,15 +4,10 @@
 use Rattle.std.specs.Prelude.{◌≡◌, ◌⊎◌, ℕ, List, Result, Ok, Err}
 use Rattle.base_device.specs.Seen.{Change}
 use Rattle.plan_forest.specs.Forest.{Forest}
-use Rattle.vault_inventory.specs.declared.fault.InvFault.{InvFault}
-use Rattle.vault_inventory.specs.Inventories.{Inventory}
-use Rattle.program_report.specs.declared.exit.Exit.{Exit}
-use Rattle.program_report.specs.declared.stop.Stop.{Stop}
-use Rattle.program_report.specs.declared.stop.Stop.TheVariants as stops
-use Rattle.program_report.specs.Exits.{exit_of}
-use Rattle.program_report.specs.FaultLine.{line_of_stop}
+use Rattle.vault_inventory.specs.{declared.fault.InvFault.InvFault, Inventories.Inventory}
+use Rattle.program_report.specs.{declared.exit.Exit.Exit, declared.stop.Stop.Stop, Exits.exit_of, FaultLine.line_of_stop, Told.Reports}
 use Rattle.program_report.specs.Sent.{IsAll, IsUntouched, SendsText}
-use Rattle.program_report.specs.Told.{Reports}
+use Rattle.program_report.specs.declared.stop.Stop.TheVariants as stops
 
 -- the texts that a command may write about a forest, each with its exit
 abbrev pub Texts : Type 1

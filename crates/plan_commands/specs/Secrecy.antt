@@ -1,20 +1,10 @@
 -- Secrecy: of two inventories that differ in their credentials alone a run writes the same.
 use Rattle.std.specs.Prelude.{◌≡◌, ◌⊎◌, ℕ, Bool, List, Option, Ok}
 use Rattle.base_device.specs.Seen.{Change, Receives, ReceivesFront}
-use Rattle.vault_inventory.specs.Bare.{DocumentsAreAlike}
-use Rattle.vault_inventory.specs.Inventory.{read_known}
-use Rattle.vault_inventory.specs.Served.{Served}
-use Rattle.program_report.specs.declared.exit.Exit.{Exit}
+use Rattle.vault_inventory.specs.{Bare.DocumentsAreAlike, Inventory.read_known, Served.Served}
+use Rattle.program_report.specs.{declared.exit.Exit.Exit, Told.Reports, Sent.IsUntouched}
 use Rattle.program_report.specs.declared.exit.Exit.TheVariants as exits
-use Rattle.plan_commands.specs.CheckRun.{CheckRun}
-use Rattle.plan_commands.specs.EndsRun.{EndsRun}
-use Rattle.plan_commands.specs.declared.margin.MarginQuery.{MarginQuery}
-use Rattle.plan_commands.specs.MarginRun.{MarginRun}
-use Rattle.program_report.specs.Told.{Reports}
-use Rattle.program_report.specs.Sent.{IsUntouched}
-use Rattle.plan_commands.specs.PlanDates.{PlanDatesRun}
-use Rattle.plan_commands.specs.PlanRun.{PlanRun}
-use Rattle.plan_commands.specs.ReachRun.{ReachRun}
+use Rattle.plan_commands.specs.{CheckRun.CheckRun, EndsRun.EndsRun, declared.margin.MarginQuery.MarginQuery, MarginRun.MarginRun, PlanDates.PlanDatesRun, PlanRun.PlanRun, ReachRun.ReachRun}
 
 -- two good inventories, each of whose tables writes its end, whose documents differ in the keys `secret` and `lease_id` and their
 -- values alone

@@ -1,14 +1,9 @@
 -- The carried need: it is at least each need that it carries, it is one of them, and it grows up the tree.
 use Rattle.std.proofs.Common.{◌≡◌, ℕ, zero, suc, ◌<◌, ◌≤◌, ◌&&◌, ◌||◌, ◌==◌, Bool, true, false, List, length, max, nat_lt, refl, sym, ap, ◌∙◌, subst, arith, inl, inr}
-use Rattle.std.proofs.lemmas.Bool.{and_from, and_parts, cases_Bool, cases_eq, cases_lt, cond-true, cond-false}
+use Rattle.std.proofs.lemmas.{Bool.and_from, Bool.and_parts, Bool.cases_Bool, Bool.cases_eq, Bool.cases_lt, Bool.cond-true, Bool.cond-false, Bool.Decides.nat_tests}
 pub use Rattle.std.proofs.lemmas.Bool.{or_left, or_right}
-use Rattle.std.proofs.lemmas.Bool.Decides.{nat_tests}
-use Rattle.plan_forest.specs.declared.entry.Entry.{Entry}
-use Rattle.plan_forest.specs.Forest.{entry_at}
-use Rattle.plan_forest.specs.Over.{Over, is_over}
-use Rattle.plan_forest.specs.Carried.{carried, carried_of}
-use Rattle.plan_forest.proofs.Chains.{ParentsFirst, cases_Option, over_child, over_root}
-use Rattle.plan_forest.proofs.Entries.{entry_at_past}
+use Rattle.plan_forest.specs.{declared.entry.Entry.Entry, Forest.entry_at, Over.Over, Over.is_over, Carried.carried, Carried.carried_of}
+use Rattle.plan_forest.proofs.{Chains.ParentsFirst, Chains.cases_Option, Chains.over_child, Chains.over_root, Entries.entry_at_past}
 
 pub or_parts : (a b : Bool) (P : Type 0) → a || b ≡ true → (a ≡ true → P) → (b ≡ true → P) → P
 or_parts true b P e left right = left refl

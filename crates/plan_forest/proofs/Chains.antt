@@ -1,13 +1,9 @@
 -- The chain of an entry: its two laws, and that it stays where the parents stay.
 use Rattle.std.proofs.Common.{◌≡◌, ◌==◌, ◌||◌, ◌&&◌, nat_le, ℕ, suc, zero, ◌<◌, true, false, List, [], ◌∷◌, Option, Some, None, length, ◌≤◌, refl, sym, ap, ◌∙◌, arith}
-use Rattle.std.proofs.lemmas.Bool.{and_left, or_left}
-use Rattle.std.proofs.lemmas.Bool.Decides.{nat_tests}
+use Rattle.std.proofs.lemmas.{Bool.and_left, Bool.or_left, Bool.Decides.nat_tests}
 use Rattle.std.proofs.Math.Bool.{and-true, or-false}
 use Rattle.std.specs.List.{list_all, list_any}
-use Rattle.plan_forest.specs.declared.entry.Entry.{Entry}
-use Rattle.plan_forest.specs.Forest.{entry_at}
-use Rattle.plan_forest.specs.Over.{chain_of, chain, is_over}
-use Rattle.plan_forest.specs.Renewal.{all_last}
+use Rattle.plan_forest.specs.{declared.entry.Entry.Entry, Forest.entry_at, Over.chain_of, Over.chain, Over.is_over, Renewal.all_last}
 
 -- each parent stands before its child
 abbrev pub ParentsFirst : List Entry → Type 0

@@ -1,8 +1,7 @@
 -- What is at an index and under a name, after one entry more and after an entry was changed: for `push` and the setters.
 use Rattle.std.proofs.Common.{◌≡◌, ℕ, suc, zero, ◌<◌, ◌≤◌, ◌≢◌, Bool, true, false, cond, List, [], ◌∷◌, ◌++◌, Option, Some, None, length, get_or, set, bytes_eq, option_map, IfSome, refl, sym, ap, ◌∙◌, arith}
 use Rattle.std.proofs.lemmas.List.{get_or_append_left, get_or_push, get_or-set_same, get_or-set_other, get_or_past, get_or_read}
-use Rattle.plan_forest.specs.declared.entry.Entry.{Entry}
-use Rattle.plan_forest.specs.Forest.{entry_at, index_named, no_entry}
+use Rattle.plan_forest.specs.{declared.entry.Entry.Entry, Forest.entry_at, Forest.index_named, Forest.no_entry}
 
 -- what `&entries[i]` gives
 pub entry_read : (es : List Entry) (i : ℕ) (x : Entry) → i < length es → x ≡ get_or es i x → x ≡ entry_at es i

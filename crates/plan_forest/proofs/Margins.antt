@@ -1,11 +1,7 @@
 -- The entries of a forest with another margin that they allow: for `set_margin` and `most_margin`.
 use Rattle.std.proofs.Common.{◌≡◌, ℕ, ◌+◌, ◌-◌, ◌<◌, ◌≤◌, List, min, arith, subst, sym, inl, inr}
 use Rattle.std.proofs.lemmas.Bool.{cases_lt}
-use Rattle.plan_forest.specs.declared.entry.Entry.{Entry}
-use Rattle.plan_forest.specs.declared.forest.TheConstants.{MARGIN_MAX}
-use Rattle.plan_forest.specs.Forest.{Forest, entry_at}
-use Rattle.plan_forest.specs.Margins.{IsMargin}
-use Rattle.plan_forest.specs.Push.{IsForest, IsPlaced}
+use Rattle.plan_forest.specs.{declared.entry.Entry.Entry, declared.forest.TheConstants.MARGIN_MAX, Forest.Forest, Forest.entry_at, Margins.IsMargin, Push.IsForest, Push.IsPlaced}
 
 -- what is said of each entry does not speak of the margin, but that it is less than each step
 placed_with : (g : Forest) (margin i : ℕ) → margin < (entry_at g.entries i).step → IsPlaced g i → IsPlaced (record g { margin = margin }) i

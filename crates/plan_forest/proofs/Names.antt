@@ -1,20 +1,11 @@
 -- The look-up by name: a map from bytes to indices finds what the walk over the entries finds, also after one name more.
 use Rattle.std.proofs.Common.{◌≡◌, ℕ, Bool, true, false, cond, List, ◌++◌, ◌∷◌, [], Option, Some, None, length, bytes_eq, refl, sym, ap, ◌∙◌, subst, ⊎_elim, Vec, Global}
-use Rattle.std.proofs.lemmas.Bool.{cases_Bool, cond-true, cond-false}
-use Rattle.std.proofs.lemmas.Map.Text.{is_eq-slice_cmp}
-use Rattle.std.proofs.lemmas.Map.Entries.{lookup_clone}
-use Rattle.std.specs.List.{AllZip}
-use Rattle.std.specs.Option.{IsSomeAnd, MatchOption}
-use Rattle.std.specs.BTreeMap.{BTreeMap, IsEmpty, get_by, Updates}
-use Rattle.std.specs.Cmp.{eq_by_cmp_equiv}
-use Rattle.std.specs.Cmp.Lexicographic.{slice_cmp, nat_list_eq_equiv, nat_list_cmp_total, bytes_decides}
-use Rattle.std.specs.Map.{KeepsOthers, IsKeyTest, AreApart, lookup}
-use Rattle.std.specs.Ordering.{nat_cmp, is_eq}
-use Rattle.plan_forest.specs.declared.entry.Entry.{Entry}
-use Rattle.plan_forest.specs.Forest.{Forest, index_named}
-use Rattle.plan_forest.specs.Push.{entry_refusal}
-use Rattle.plan_forest.proofs.Entries.{index_named_push, later_index}
-use Rattle.plan_forest.proofs.Placed.{none_from_is_some, taken_from_refusal}
+use Rattle.std.proofs.lemmas.{Bool.cases_Bool, Bool.cond-true, Bool.cond-false, Map.Text.is_eq-slice_cmp, Map.Entries.lookup_clone}
+use Rattle.std.specs.{List.AllZip, Option.IsSomeAnd, Option.MatchOption, BTreeMap.BTreeMap, BTreeMap.IsEmpty, BTreeMap.get_by, BTreeMap.Updates, Cmp.eq_by_cmp_equiv}
+use Rattle.std.specs.{Cmp.Lexicographic.slice_cmp, Cmp.Lexicographic.nat_list_eq_equiv, Cmp.Lexicographic.nat_list_cmp_total, Cmp.Lexicographic.bytes_decides, Map.KeepsOthers, Map.IsKeyTest, Map.AreApart, Map.lookup}
+use Rattle.std.specs.{Ordering.nat_cmp, Ordering.is_eq}
+use Rattle.plan_forest.specs.{declared.entry.Entry.Entry, Forest.Forest, Forest.index_named, Push.entry_refusal}
+use Rattle.plan_forest.proofs.{Entries.index_named_push, Entries.later_index, Placed.none_from_is_some, Placed.taken_from_refusal}
 
 -- what the map has at these bytes
 abbrev pub at_bytes : BTreeMap (Vec ℕ Global) ℕ → List ℕ → Option ℕ

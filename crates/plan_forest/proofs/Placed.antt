@@ -1,18 +1,14 @@
 -- What holds of every forest holds of the empty one, of one with an entry more that was not refused, and of one with a
 -- field of an entry changed within its range: for `with_margin`, `push` and the setters.
 use Rattle.std.proofs.Common.{◌≡◌, ℕ, ◌+◌, ◌<◌, ◌≤◌, Bool, true, false, cond, ◌&&◌, ◌||◌, List, [], ◌∷◌, ◌++◌, Option, Some, None, length, set, nat_lt, nat_le, bytes_eq, is_some, is_none, IfSome, refl, sym, ap, ◌∙◌, arith, subst, inl, inr}
-use Rattle.std.proofs.lemmas.Bool.Decides.{nat_tests}
-use Rattle.std.proofs.lemmas.List.{length_push, length-set}
-use Rattle.std.proofs.lemmas.Bool.{cases_lt, cases_eq, not-false}
+use Rattle.std.proofs.lemmas.{Bool.Decides.nat_tests, List.length_push, List.length-set, Bool.cases_lt, Bool.cases_eq, Bool.not-false}
 use Rattle.std.proofs.Math.Bool.{or-true}
 use Rattle.std.specs.Cmp.Lexicographic.{nat_list_eq_equiv}
 use Rattle.base_moment.specs.declared.moment.TheConstants.{LAST}
-use Rattle.plan_forest.specs.declared.entry.Entry.{Entry}
-use Rattle.plan_forest.specs.declared.fault.TreeFault.{TreeFault}
-use Rattle.plan_forest.specs.declared.forest.TheConstants.{END_MAX, MARGIN_MAX, MAX_DEPTH, MAX_ENTRIES}
-use Rattle.plan_forest.specs.Forest.{Forest, entry_at, index_named}
-use Rattle.plan_forest.specs.Over.{chain}
-use Rattle.plan_forest.specs.Push.{IsForest, IsPlaced, depth_under, entry_refusal, is_lease, is_name, is_out_of_range, is_too_high, is_under_lease, lacks_parent}
+use Rattle.plan_forest.specs.{declared.entry.Entry.Entry, declared.fault.TreeFault.TreeFault}
+use Rattle.plan_forest.specs.{declared.forest.TheConstants.END_MAX, declared.forest.TheConstants.MARGIN_MAX, declared.forest.TheConstants.MAX_DEPTH, declared.forest.TheConstants.MAX_ENTRIES}
+use Rattle.plan_forest.specs.{Forest.Forest, Forest.entry_at, Forest.index_named, Over.chain}
+use Rattle.plan_forest.specs.{Push.IsForest, Push.IsPlaced, Push.depth_under, Push.entry_refusal, Push.is_lease, Push.is_name, Push.is_out_of_range, Push.is_too_high, Push.is_under_lease, Push.lacks_parent}
 use Rattle.plan_forest.proofs.Entries.{entry_at_past, entry_at_push_new, entry_at_push_old, entry_at_set_other, entry_at_set_same, index_named_push, index_named_set, later_index, later_index_found, later_index_new}
 use Rattle.plan_forest.proofs.Chains.{FewerParents, ParentsFirst, SameParents, cases_Option, chain_child, chain_fewer, chain_root, chain_same}
 

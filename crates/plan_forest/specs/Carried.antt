@@ -1,9 +1,7 @@
 -- Carried need: the greatest need of an entry that one is over, and which entry has it.
 -- Source: Vault, "Tokens" (a token's end ends its children and its leases); needs are this project's own.
 use Rattle.std.specs.Prelude.{◌≡◌, ℕ, ◌≤◌, zero, suc, max, ◌&&◌, if◌then◌else◌, List, length, nat_lt}
-use Rattle.plan_forest.specs.declared.entry.Entry.{Entry}
-use Rattle.plan_forest.specs.Forest.{entry_at}
-use Rattle.plan_forest.specs.Over.{Over, is_over}
+use Rattle.plan_forest.specs.{declared.entry.Entry.Entry, Forest.entry_at, Over.Over, Over.is_over}
 
 -- the greatest need after s of those of the first n entries that i is over, 0 where there is none
 unfoldable pub carried_of : List Entry → ℕ → ℕ → ℕ → ℕ

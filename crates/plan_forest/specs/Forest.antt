@@ -1,8 +1,7 @@
 -- Forest: the entries that an agent keeps, and the margin within which it renews them.
 -- Source: Vault, "Tokens"; Vault, "Lease, renew, and revoke". The margin is this project's own.
 use Rattle.std.specs.Prelude.{ℕ, suc, false, if◌then◌else◌, List, [], ◌∷◌, Option, Some, None, option_map, slice_index_or, bytes_eq}
-use Rattle.plan_forest.specs.declared.entry.Entry.{Entry}
-use Rattle.plan_forest.specs.declared.entry.Kind.TheVariants.{Token}
+use Rattle.plan_forest.specs.{declared.entry.Entry.Entry, declared.entry.Kind.TheVariants.Token}
 
 -- a forest: its entries in the order of their indices, and its margin in seconds
 pub record Forest : Type 0 where

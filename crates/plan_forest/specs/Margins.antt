@@ -1,9 +1,7 @@
 -- Margins: which margins the entries of a forest allow.
 -- Source: this project's own.
 use Rattle.std.specs.Prelude.{ℕ, ◌<◌, ◌≤◌, List, length}
-use Rattle.plan_forest.specs.declared.entry.Entry.{Entry}
-use Rattle.plan_forest.specs.declared.forest.TheConstants.{MARGIN_MAX}
-use Rattle.plan_forest.specs.Forest.{entry_at}
+use Rattle.plan_forest.specs.{declared.entry.Entry.Entry, declared.forest.TheConstants.MARGIN_MAX, Forest.entry_at}
 
 -- a second or more, an hour at most, and less than each step
 pub record IsMargin (es : List Entry) (margin : ℕ) : Type 0 where

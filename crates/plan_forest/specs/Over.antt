@@ -2,8 +2,7 @@
 -- Source: Vault, "Tokens" (child tokens and orphans); Vault, "Lease, renew, and revoke" (a lease ends with its token).
 use Rattle.std.specs.Prelude.{◌≡◌, ℕ, zero, suc, Bool, true, List, [], ◌∷◌, Some, None, ◌==◌}
 use Rattle.std.specs.List.{list_any}
-use Rattle.plan_forest.specs.declared.entry.Entry.{Entry}
-use Rattle.plan_forest.specs.Forest.{entry_at}
+use Rattle.plan_forest.specs.{declared.entry.Entry.Entry, Forest.entry_at}
 
 -- i, its parent, the parent of that and so on: n entries at most
 unfoldable pub chain_of : ℕ → List Entry → ℕ → List ℕ

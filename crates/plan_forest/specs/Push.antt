@@ -1,17 +1,12 @@
 -- Push: what a forest takes, and what each of its entries therefore keeps.
 -- Source: this project's own, over Vault, "Tokens" (a child token has a parent, an orphan none; a lease has a token).
 use Rattle.std.specs.Prelude.{◌≡◌, ℕ, ◌+◌, ◌<◌, ◌≤◌, Bool, true, false, not, ◌&&◌, ◌||◌, if◌then◌else◌, List, [], ◌∷◌, Option, Some, None, is_some, is_none, length, nat_lt, nat_le, ◌==◌}
-use Rattle.std.specs.Char.{is_ascii_alphanumeric}
-use Rattle.std.specs.List.{list_all}
+use Rattle.std.specs.{Char.is_ascii_alphanumeric, List.list_all}
 use Rattle.base_moment.specs.declared.moment.TheConstants.{LAST}
-use Rattle.plan_forest.specs.declared.entry.Entry.{Entry}
-use Rattle.plan_forest.specs.declared.entry.Kind.{Kind}
-use Rattle.plan_forest.specs.declared.entry.Kind.TheVariants.{Token, Lease}
-use Rattle.plan_forest.specs.declared.fault.TreeFault.{TreeFault}
-use Rattle.plan_forest.specs.declared.fault.TreeFault.TheVariants.{BadName, NameTwice, NoParent, ParentIsLease, LeaseWithoutToken, StepTooSmall, OutOfRange, TooDeep, Full}
-use Rattle.plan_forest.specs.declared.forest.TheConstants.{END_MAX, MARGIN_MAX, MAX_DEPTH, MAX_ENTRIES, NAME_MAX}
-use Rattle.plan_forest.specs.Forest.{Forest, entry_at, index_named}
-use Rattle.plan_forest.specs.Over.{chain}
+use Rattle.plan_forest.specs.{declared.entry.Entry.Entry, declared.entry.Kind.Kind, declared.entry.Kind.TheVariants.Token, declared.entry.Kind.TheVariants.Lease, declared.fault.TreeFault.TreeFault}
+use Rattle.plan_forest.specs.{declared.fault.TreeFault.TheVariants.BadName, declared.fault.TreeFault.TheVariants.NameTwice, declared.fault.TreeFault.TheVariants.NoParent, declared.fault.TreeFault.TheVariants.ParentIsLease, declared.fault.TreeFault.TheVariants.LeaseWithoutToken, declared.fault.TreeFault.TheVariants.StepTooSmall, declared.fault.TreeFault.TheVariants.OutOfRange, declared.fault.TreeFault.TheVariants.TooDeep, declared.fault.TreeFault.TheVariants.Full}
+use Rattle.plan_forest.specs.{declared.forest.TheConstants.END_MAX, declared.forest.TheConstants.MARGIN_MAX, declared.forest.TheConstants.MAX_DEPTH, declared.forest.TheConstants.MAX_ENTRIES, declared.forest.TheConstants.NAME_MAX}
+use Rattle.plan_forest.specs.{Forest.Forest, Forest.entry_at, Forest.index_named, Over.chain}
 
 -- an ASCII letter or digit, or one of - _ . /
 abbrev pub is_name_byte : ℕ → Bool

@@ -3,9 +3,7 @@
 -- goes past the maximum TTL); Vault, "Tokens" (period, explicit max TTL). The margin is this project's own.
 use Rattle.std.specs.Prelude.{ℕ, ◌+◌, min, Bool, ◌&&◌, if◌then◌else◌, List, Option, Some, None, nat_le}
 use Rattle.std.specs.List.{list_all}
-use Rattle.plan_forest.specs.declared.entry.Entry.{Entry}
-use Rattle.plan_forest.specs.Forest.{entry_at}
-use Rattle.plan_forest.specs.Over.{chain}
+use Rattle.plan_forest.specs.{declared.entry.Entry.Entry, Forest.entry_at, Over.chain}
 
 -- a moment that is no later than the ceiling, where there is one
 unfoldable pub capped : Option ℕ → ℕ → ℕ

@@ -1,18 +1,11 @@
 -- Loads that are handed up: the own ones to begin with, one index less a turn, and in the end the carried needs.
 use Rattle.std.proofs.Common.{◌≡◌, ◌≢◌, ◌==◌, ℕ, zero, suc, ◌+◌, ◌<◌, ◌≤◌, true, false, cond, List, length, length-set, map, set, Some, None, sym, ap, ◌∙◌, subst, arith, inl, inr}
-use Rattle.std.proofs.lemmas.Bool.{cases_eq, cases_lt}
-use Rattle.std.proofs.lemmas.Bool.Decides.{nat_tests}
-use Rattle.std.proofs.lemmas.List.{length-map}
-use Rattle.plan_forest.specs.declared.entry.Entry.{Entry}
-use Rattle.plan_forest.specs.Forest.{Forest, entry_at}
-use Rattle.plan_forest.specs.Over.{Over, is_over}
-use Rattle.plan_forest.specs.Carried.{IsFrom, carried}
-use Rattle.plan_forest.proofs.Carrying.{carried_at_least, carried_is_of, or_parts, or_right, over_up}
-use Rattle.plan_forest.proofs.Chains.{ParentsFirst, cases_Option, over_child, over_root, over_self}
-use Rattle.plan_forest.proofs.Entries.{entry_at_past}
-use Rattle.plan_needs.specs.declared.load.Load.{Load}
-use Rattle.plan_needs.specs.Carried.{IsCarried, NamesFrom}
-use Rattle.plan_needs.specs.code.Loads.{AllOwn, IsAtMost, IsHandedUp, IsHeavier, need_after, nth, own_load, seen_load}
+use Rattle.std.proofs.lemmas.{Bool.cases_eq, Bool.cases_lt, Bool.Decides.nat_tests, List.length-map}
+use Rattle.plan_forest.specs.{declared.entry.Entry.Entry, Forest.Forest, Forest.entry_at, Over.Over, Over.is_over, Carried.IsFrom, Carried.carried}
+use Rattle.plan_forest.proofs.{Carrying.carried_at_least, Carrying.carried_is_of, Carrying.or_parts, Carrying.or_right, Carrying.over_up, Chains.ParentsFirst, Chains.cases_Option, Chains.over_child, Chains.over_root, Chains.over_self}
+use Rattle.plan_forest.proofs.{Entries.entry_at_past}
+use Rattle.plan_needs.specs.{declared.load.Load.Load, Carried.IsCarried, Carried.NamesFrom}
+use Rattle.plan_needs.specs.{code.Loads.AllOwn, code.Loads.IsAtMost, code.Loads.IsHandedUp, code.Loads.IsHeavier, code.Loads.need_after, code.Loads.nth, code.Loads.own_load, code.Loads.seen_load}
 use Rattle.plan_needs.proofs.Loads.{at_most_self, at_most_trans, load_seen, nth_set_other, nth_set_same}
 
 -- a need after s is the own load's; an own load above 0 is a need after s

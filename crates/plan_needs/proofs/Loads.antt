@@ -1,9 +1,7 @@
 -- Loads: what is read at an index, as callers see it and after a load was set, and the order of weights.
 use Rattle.std.proofs.Common.{◌≡◌, ◌≢◌, ℕ, ◌<◌, List, get_or, length, map, set, ap, sym, subst, ◌∙◌, arith}
 use Rattle.std.proofs.lemmas.List.{get_or_read, get_or-map, get_or-set_other, get_or-set_same, length-map}
-use Rattle.plan_needs.specs.declared.load.Load.{Load}
-use Rattle.plan_needs.specs.Carried.{CarriedNeed, load_at}
-use Rattle.plan_needs.specs.code.Loads.{IsAtMost, nth, seen_load}
+use Rattle.plan_needs.specs.{declared.load.Load.Load, Carried.CarriedNeed, Carried.load_at, code.Loads.IsAtMost, code.Loads.nth, code.Loads.seen_load}
 
 pub load_seen : (loads : List Load) (i : ℕ) → i < length loads → load_at (map seen_load loads) i ≡ seen_load (nth loads i)
 unfolding load_at nth

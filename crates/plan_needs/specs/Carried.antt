@@ -1,9 +1,7 @@
 -- Carried: what each entry of a forest carries from a start on, in the order of the indices.
 -- Source: Vault, "Tokens" (a token's end ends its children and its leases); needs are this project's own.
 use Rattle.std.specs.Prelude.{◌≡◌, ℕ, ◌<◌, List, Option, Some, None, length, slice_index_or}
-use Rattle.plan_forest.specs.declared.entry.Entry.{Entry}
-use Rattle.plan_forest.specs.Forest.{Forest}
-use Rattle.plan_forest.specs.Carried.{IsFrom, carried}
+use Rattle.plan_forest.specs.{declared.entry.Entry.Entry, Forest.Forest, Carried.IsFrom, Carried.carried}
 
 -- a carried need, 0 for none, and the entry that has it, None where there is none
 pub record CarriedNeed : Type 0 where

@@ -1,11 +1,8 @@
 -- Being alive is lasting: over the chain of an entry, "each end is after m" and "each end is m + 1 or later" are one.
 use Rattle.std.proofs.Common.{◌≡◌, ◌==◌, ℕ, ◌+◌, ◌<◌, ◌&&◌, ◌||◌, Bool, true, List, [], ◌∷◌, nat_le, refl, sym, ap, ◌∙◌, subst, arith, inl, inr}
-use Rattle.std.proofs.lemmas.Bool.{cases_Bool}
-use Rattle.std.proofs.lemmas.Bool.Decides.{nat_tests}
+use Rattle.std.proofs.lemmas.{Bool.cases_Bool, Bool.Decides.nat_tests}
 use Rattle.std.specs.List.{list_all, list_any}
-use Rattle.plan_forest.specs.declared.entry.Entry.{Entry}
-use Rattle.plan_forest.specs.Over.{chain, is_over}
-use Rattle.plan_forest.specs.Renewal.{all_last}
+use Rattle.plan_forest.specs.{declared.entry.Entry.Entry, Over.chain, Over.is_over, Renewal.all_last}
 use Rattle.plan_forest.proofs.Carrying.{and_left, and_right, or_right}
 use Rattle.plan_rule.specs.Keeps.{Alive}
 

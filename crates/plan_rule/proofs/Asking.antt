@@ -1,18 +1,10 @@
 -- The Asks: which entries are asked, what an entry that is asked gets, and when an end covers what its entry carries.
 use Rattle.std.proofs.Common.{◌≡◌, ◌==◌, ℕ, zero, suc, ◌+◌, ◌<◌, ◌≤◌, ◌⊎◌, ◌&&◌, ◌||◌, Bool, true, false, cond, List, [], ◌∷◌, Option, Some, None, filter, length, nat_le, nat_lt, refl, sym, ap, ◌∙◌, subst, arith, inl, inr}
-use Rattle.std.proofs.lemmas.Bool.{cases_Bool, cases_eq, cases_lt, cond-true, cond-false}
-use Rattle.std.proofs.lemmas.Bool.Decides.{nat_tests}
+use Rattle.std.proofs.lemmas.{Bool.cases_Bool, Bool.cases_eq, Bool.cases_lt, Bool.cond-true, Bool.cond-false, Bool.Decides.nat_tests}
 use Rattle.std.specs.List.{list_all, list_any, range_with_len}
-use Rattle.plan_forest.specs.declared.entry.Entry.{Entry}
-use Rattle.plan_forest.specs.Forest.{entry_at}
-use Rattle.plan_forest.specs.Over.{Over, chain, is_over}
-use Rattle.plan_forest.specs.Renewal.{all_last, is_granted, renewal, renewed}
-use Rattle.plan_forest.proofs.Entries.{entry_at_past}
-use Rattle.plan_rule.specs.Asks.{asking, asks, is_end_due, is_to_be_asked}
-use Rattle.plan_forest.specs.Carried.{carried}
-use Rattle.plan_rule.specs.Ends.{is_asked}
-use Rattle.plan_rule.specs.Plans.{asks_past}
-use Rattle.plan_forest.proofs.Carrying.{and_left, and_right, or_left, or_parts, or_right}
+use Rattle.plan_forest.specs.{declared.entry.Entry.Entry, Forest.entry_at, Over.Over, Over.chain, Over.is_over, Renewal.all_last, Renewal.is_granted, Renewal.renewal, Renewal.renewed, Carried.carried}
+use Rattle.plan_forest.proofs.{Entries.entry_at_past, Carrying.and_left, Carrying.and_right, Carrying.or_left, Carrying.or_parts, Carrying.or_right}
+use Rattle.plan_rule.specs.{Asks.asking, Asks.asks, Asks.is_end_due, Asks.is_to_be_asked, Ends.is_asked, Plans.asks_past}
 
 -- where not all last, one does not
 fails_somewhere : (p : ℕ → Bool) (xs : List ℕ) → list_all p xs ≡ false → (a : ℕ) × (list_any (λ b. b == a) xs ≡ true) × (p a ≡ false)

@@ -1,16 +1,9 @@
 -- What the Asks of a wake-up hand on: over entries with all that are over them, and a need for each, ends that cover the needs
 -- until a moment cover them, after its Asks, until the next.
 use Rattle.std.proofs.Common.{◌≡◌, ℕ, ◌+◌, ◌<◌, ◌≤◌, ◌⊎◌, ◌&&◌, Bool, true, false, cond, List, Option, Some, max, nat_lt, refl, sym, ap, ◌∙◌, subst, arith, inl, inr}
-use Rattle.std.proofs.lemmas.Bool.{cases_Bool, cond-true, cond-false}
-use Rattle.std.proofs.lemmas.Bool.Decides.{nat_tests}
-use Rattle.plan_forest.specs.declared.entry.Entry.{Entry}
-use Rattle.plan_forest.specs.Carried.{carried}
-use Rattle.plan_forest.specs.Forest.{entry_at}
-use Rattle.plan_forest.specs.Over.{Over}
-use Rattle.plan_forest.specs.Renewal.{all_last, is_granted, renewal, renewed}
-use Rattle.plan_rule.specs.Asks.{asking, is_end_due, is_to_be_asked}
-use Rattle.plan_rule.specs.Ends.{ends_after_wake_up, is_asked}
-use Rattle.plan_rule.specs.Forced.{bound, latest_end}
+use Rattle.std.proofs.lemmas.{Bool.cases_Bool, Bool.cond-true, Bool.cond-false, Bool.Decides.nat_tests}
+use Rattle.plan_forest.specs.{declared.entry.Entry.Entry, Carried.carried, Forest.entry_at, Over.Over, Renewal.all_last, Renewal.is_granted, Renewal.renewal, Renewal.renewed}
+use Rattle.plan_rule.specs.{Asks.asking, Asks.is_end_due, Asks.is_to_be_asked, Ends.ends_after_wake_up, Ends.is_asked, Forced.bound, Forced.latest_end}
 use Rattle.plan_rule.proofs.Asking.{Covers, asked_end, asks_wanted, covers_more, covers_need, covers_not_due, short_over}
 
 pub bound_at_most : (es : List Entry) (ends : ℕ → ℕ) (t i m : ℕ) → ends i ≤ m → renewal (entry_at es i) t ≤ m → bound es ends (Some t) i ≤ m

@@ -1,18 +1,10 @@
 -- The law of enough: where any requests keep at given moments, the Asks do, since a plan that keeps comes in time.
 use Rattle.std.proofs.Common.{◌≡◌, ℕ, ◌+◌, ◌<◌, ◌≤◌, ◌++◌, List, [], ◌∷◌, Option, Some, None, sym, subst, arith, inl, inr}
-use Rattle.std.proofs.lemmas.Bool.{cases_lt}
-use Rattle.std.proofs.lemmas.List.{append_assoc}
-use Rattle.plan_forest.specs.declared.entry.Entry.{Entry}
-use Rattle.plan_forest.specs.Carried.{carried}
+use Rattle.std.proofs.lemmas.{Bool.cases_lt, List.append_assoc}
+use Rattle.plan_forest.specs.{declared.entry.Entry.Entry, Carried.carried}
 use Rattle.plan_forest.proofs.Carrying.{carried_is_of}
-use Rattle.plan_rule.specs.declared.wake.Wake.{Wake}
-use Rattle.plan_rule.specs.Forced.{bound}
-use Rattle.plan_rule.specs.Keeps.{Keeps}
-use Rattle.plan_rule.specs.Laws.{EnoughLaw}
-use Rattle.plan_rule.specs.Plans.{IsPlan, moments}
-use Rattle.plan_rule.proofs.Keeping.{DoneBy, append_stuck, done_more, done_stuck, end_below_bound, plan_rises, stuck_from}
-use Rattle.plan_rule.proofs.Stuck.{AllStuck, gone}
-use Rattle.plan_rule.proofs.Timely.{AllTimely, timely_keeps}
+use Rattle.plan_rule.specs.{declared.wake.Wake.Wake, Forced.bound, Keeps.Keeps, Laws.EnoughLaw, Plans.IsPlan, Plans.moments}
+use Rattle.plan_rule.proofs.{Keeping.DoneBy, Keeping.append_stuck, Keeping.done_more, Keeping.done_stuck, Keeping.end_below_bound, Keeping.plan_rises, Keeping.stuck_from, Stuck.AllStuck, Stuck.gone, Timely.AllTimely, Timely.timely_keeps}
 
 -- an entry whose bound falls short of what it carries is gone before it, where all that comes is stuck
 short_gone :

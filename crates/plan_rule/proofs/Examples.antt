@@ -1,17 +1,9 @@
 -- Worked examples: what the definitions give on small forests, computed by the definitions themselves.
 -- All start at 1000 with margin 1, and every maximum TTL ends at 10000.
 use Rattle.std.proofs.Common.{◌≡◌, ℕ, ◌+◌, true, List, [], ◌∷◌, Option, Some, None, refl}
-use Rattle.plan_forest.specs.declared.entry.Entry.{Entry}
-use Rattle.plan_forest.specs.declared.entry.Kind.TheVariants.{Lease, Token}
-use Rattle.plan_forest.specs.Carried.{carried, carried_of}
-use Rattle.plan_forest.specs.Forest.{end_of, entry_at}
-use Rattle.plan_forest.specs.Over.{chain, chain_of, is_over}
-use Rattle.plan_forest.specs.Renewal.{all_last, capped, is_granted, renewal, renewed}
-use Rattle.plan_rule.specs.declared.wake.Wake.{Wake}
-use Rattle.plan_rule.specs.Asks.{asks, is_to_be_asked, with_asks}
-use Rattle.plan_rule.specs.Ends.{ends_after, ends_after_wake_up, ends_listed, is_asked}
-use Rattle.plan_rule.specs.Forced.{bound, latest_end}
-use Rattle.plan_rule.specs.Reach.{reach, reach_of}
+use Rattle.plan_forest.specs.{declared.entry.Entry.Entry, declared.entry.Kind.TheVariants.Lease, declared.entry.Kind.TheVariants.Token, Carried.carried, Carried.carried_of, Forest.end_of, Forest.entry_at}
+use Rattle.plan_forest.specs.{Over.chain, Over.chain_of, Over.is_over, Renewal.all_last, Renewal.capped, Renewal.is_granted, Renewal.renewal, Renewal.renewed}
+use Rattle.plan_rule.specs.{declared.wake.Wake.Wake, Asks.asks, Asks.is_to_be_asked, Asks.with_asks, Ends.ends_after, Ends.ends_after_wake_up, Ends.ends_listed, Ends.is_asked, Forced.bound, Forced.latest_end, Reach.reach, Reach.reach_of}
 
 token : Option ℕ → ℕ → ℕ → ℕ → Entry
 token parent end step need = record { name = []; kind = Token; parent = parent; end = end; renewable = true; step = step; ceiling = Some 10000; need = need }

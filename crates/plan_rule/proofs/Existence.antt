@@ -2,15 +2,9 @@
 use Rattle.std.proofs.Common.{ℕ, zero, suc, ◌+◌, ◌-◌, ◌<◌, ◌≤◌, ◌⊎◌, List, [], ◌∷◌, Option, Some, None, length, refl, sym, subst, arith, inl, inr}
 use Rattle.std.proofs.lemmas.Bool.{cases_eq, cases_lt}
 use Rattle.base_moment.specs.declared.moment.TheConstants.{LAST}
-use Rattle.plan_forest.specs.Carried.{carried}
-use Rattle.plan_forest.specs.Forest.{Forest}
-use Rattle.plan_forest.specs.Push.{IsForest}
-use Rattle.plan_rule.specs.Forced.{bound}
-use Rattle.plan_rule.specs.Laws.{ExistenceLaw}
-use Rattle.plan_rule.specs.Unkeepable.{AllKeepable}
-use Rattle.plan_rule.specs.Schedule.{IsNextMoment, IsSchedule}
-use Rattle.plan_rule.proofs.Keeping.{end_below_bound}
-use Rattle.plan_rule.proofs.Next.{Comes, can_be_led, next_comes, renewable_within}
+use Rattle.plan_forest.specs.{Carried.carried, Forest.Forest, Push.IsForest}
+use Rattle.plan_rule.specs.{Forced.bound, Laws.ExistenceLaw, Unkeepable.AllKeepable, Schedule.IsNextMoment, Schedule.IsSchedule}
+use Rattle.plan_rule.proofs.{Keeping.end_below_bound, Next.Comes, Next.can_be_led, Next.next_comes, Next.renewable_within}
 
 -- the earliest of the ends that fall short among the first n
 record Earliest (need end : ℕ → ℕ) (n : ℕ) : Type 0 where

@@ -1,18 +1,11 @@
 -- The Asks make the fewest requests: what holds of each entry holds of the sum over the entries.
 use Rattle.std.proofs.Common.{◌≡◌, ◌==◌, ℕ, zero, suc, ◌+◌, ◌<◌, ◌≤◌, ◌||◌, Bool, true, false, cond, List, [], ◌∷◌, Option, length, refl, sym, ap, ◌∙◌, subst, arith, inl, inr}
-use Rattle.std.proofs.lemmas.Bool.{cases_eq}
-use Rattle.std.proofs.lemmas.Bool.Decides.{nat_tests}
-use Rattle.std.proofs.lemmas.List.Sums.{length-filter, sum_by-cons}
+use Rattle.std.proofs.lemmas.{Bool.cases_eq, Bool.Decides.nat_tests, List.Sums.length-filter, List.Sums.sum_by-cons}
 use Rattle.std.specs.List.{list_any, range_with_len, sum_by}
 use Rattle.plan_forest.specs.declared.entry.Entry.{Entry}
-use Rattle.plan_rule.specs.declared.wake.Wake.{Wake}
-use Rattle.plan_rule.specs.Asks.{asking, asks, first_of, is_to_be_asked, with_asks}
-use Rattle.plan_rule.specs.Ends.{ends_after_wake_up, is_asked}
-use Rattle.plan_rule.specs.LawsOfRounds.{FewestRequestsLaw}
-use Rattle.plan_rule.specs.Plans.{moments}
-use Rattle.plan_rule.specs.Requests.{requests, times_asked}
-use Rattle.plan_rule.proofs.Asking.{asks_wanted}
-use Rattle.plan_rule.proofs.FewestTimes.{fewest_times, times_cons}
+use Rattle.plan_rule.specs.{declared.wake.Wake.Wake, Asks.asking, Asks.asks, Asks.first_of, Asks.is_to_be_asked, Asks.with_asks, Ends.ends_after_wake_up, Ends.is_asked, LawsOfRounds.FewestRequestsLaw, Plans.moments}
+use Rattle.plan_rule.specs.{Requests.requests, Requests.times_asked}
+use Rattle.plan_rule.proofs.{Asking.asks_wanted, FewestTimes.fewest_times, FewestTimes.times_cons}
 
 nothing_more : (n : ℕ) → 0 + n ≡ n
 nothing_more n = omega arith

@@ -1,27 +1,12 @@
 -- No plan that keeps asks an entry less often than the Asks: asking later never gives an earlier end.
 use Rattle.std.proofs.Common.{◌≡◌, ℕ, ◌+◌, ◌<◌, ◌≤◌, ◌⊎◌, Bool, true, false, cond, List, [], ◌∷◌, Option, max, nat_lt, refl, ap, ◌∙◌, arith, inl, inr}
-use Rattle.std.proofs.lemmas.Bool.{cond-false}
-use Rattle.std.proofs.lemmas.Bool.Decides.{nat_tests}
-use Rattle.std.proofs.lemmas.List.Sums.{sum_by-cons}
-use Rattle.plan_forest.specs.declared.entry.Entry.{Entry}
-use Rattle.plan_forest.specs.Carried.{carried}
-use Rattle.plan_forest.specs.Forest.{entry_at}
-use Rattle.plan_forest.specs.Renewal.{all_last, is_granted, renewal, renewed}
-use Rattle.plan_forest.proofs.Carrying.{and_left, and_right, carried_is_of}
-use Rattle.plan_forest.proofs.Chains.{over_self}
-use Rattle.plan_rule.specs.declared.wake.Wake.{Wake}
-use Rattle.plan_rule.specs.Asks.{asking, first_of, is_end_due, is_to_be_asked, with_asks}
-use Rattle.plan_rule.specs.Ends.{ends_after_wake_up, is_asked}
-use Rattle.plan_rule.specs.Keeps.{Keeps}
-use Rattle.plan_rule.specs.LawsOfRounds.{FewestTimesLaw}
-use Rattle.plan_rule.specs.Plans.{IsPlan, moments}
-use Rattle.plan_rule.specs.Requests.{times_asked}
-use Rattle.plan_rule.proofs.Alive.{alive_from_last}
-use Rattle.plan_rule.proofs.Asking.{asked_end, asks_wanted}
-use Rattle.plan_rule.proofs.Joining.{keeps_joined}
-use Rattle.plan_rule.proofs.Keeping.{renewal_later, stuck_from}
-use Rattle.plan_rule.proofs.Stuck.{AllStuck, gone}
-use Rattle.plan_rule.proofs.Covering.{after_unwanted, after_wanted, asks_grow}
+use Rattle.std.proofs.lemmas.{Bool.cond-false, Bool.Decides.nat_tests, List.Sums.sum_by-cons}
+use Rattle.plan_forest.specs.{declared.entry.Entry.Entry, Carried.carried, Forest.entry_at, Renewal.all_last, Renewal.is_granted, Renewal.renewal, Renewal.renewed}
+use Rattle.plan_forest.proofs.{Carrying.and_left, Carrying.and_right, Carrying.carried_is_of, Chains.over_self}
+use Rattle.plan_rule.specs.{declared.wake.Wake.Wake, Asks.asking, Asks.first_of, Asks.is_end_due, Asks.is_to_be_asked, Asks.with_asks, Ends.ends_after_wake_up, Ends.is_asked, Keeps.Keeps, LawsOfRounds.FewestTimesLaw}
+use Rattle.plan_rule.specs.{Plans.IsPlan, Plans.moments, Requests.times_asked}
+use Rattle.plan_rule.proofs.{Alive.alive_from_last, Asking.asked_end, Asking.asks_wanted, Joining.keeps_joined, Keeping.renewal_later, Keeping.stuck_from, Stuck.AllStuck, Stuck.gone}
+use Rattle.plan_rule.proofs.{Covering.after_unwanted, Covering.after_wanted, Covering.asks_grow}
 
 pub times_cons : (w : Wake) (ws : List Wake) (i : ℕ) → times_asked (w ∷ ws) i ≡ cond (is_asked w i) 1 0 + times_asked ws i
 times_cons w ws i = sum_by-cons (λ v. cond (is_asked v i) 1 0) w ws

@@ -1,16 +1,11 @@
 -- A plan and what comes before it: a plan keeps from an earlier start on where its entries live until it begins, and so
 -- does a wake-up with a plan after it. For laws over plans, which may ask any index.
 use Rattle.std.proofs.Common.{◌≡◌, ℕ, ◌<◌, ◌≤◌, ◌↔◌, cond, false, List, [], ◌∷◌, filter, nat_le, refl, sym, ap, ◌∙◌, subst, arith, inl, inr}
-use Rattle.std.proofs.lemmas.Bool.{cases_lt}
-use Rattle.std.proofs.lemmas.Bool.Decides.{nat_tests}
+use Rattle.std.proofs.lemmas.{Bool.cases_lt, Bool.Decides.nat_tests}
 use Rattle.std.specs.List.{All}
 use Rattle.base_moment.specs.declared.moment.TheConstants.{LAST}
 use Rattle.plan_forest.specs.declared.entry.Entry.{Entry}
-use Rattle.plan_rule.specs.declared.wake.Wake.{Wake}
-use Rattle.plan_rule.specs.Ends.{ends_after, ends_after_wake_up}
-use Rattle.plan_rule.specs.Keeps.{Keeps, ends_at}
-use Rattle.plan_rule.specs.Plans.{IsPlan, moments}
-use Rattle.plan_rule.specs.code.Replay.{KeptBetween}
+use Rattle.plan_rule.specs.{declared.wake.Wake.Wake, Ends.ends_after, Ends.ends_after_wake_up, Keeps.Keeps, Keeps.ends_at, Plans.IsPlan, Plans.moments, code.Replay.KeptBetween}
 use Rattle.plan_rule.proofs.Walk.{ends_from}
 
 -- the moments of a plan from s

@@ -1,17 +1,8 @@
 -- The laws of keeping: what cannot be kept, what cannot be put off, and that there is one least list of moments.
 use Rattle.std.proofs.Common.{◌≡◌, ℕ, zero, suc, ◌+◌, ◌<◌, ◌≤◌, ◌&&◌, ◌++◌, Bool, true, false, cond, List, [], ◌∷◌, Option, Some, None, length, max, nat_le, get_or, option_map, refl, sym, ap, ◌∙◌, subst, arith, inl, inr}
-use Rattle.std.proofs.lemmas.Bool.{cases_Bool, cases_lt, cond-true}
-use Rattle.std.proofs.lemmas.Bool.Decides.{nat_tests}
-use Rattle.std.proofs.lemmas.List.{append_assoc, ext_get_or, length-map}
-use Rattle.plan_forest.specs.declared.entry.Entry.{Entry}
-use Rattle.plan_forest.specs.Forest.{entry_at}
-use Rattle.plan_forest.specs.Renewal.{capped, renewal}
-use Rattle.plan_rule.specs.declared.wake.Wake.{Wake}
-use Rattle.plan_rule.specs.Forced.{AllForced, bound, latest_end}
-use Rattle.plan_rule.specs.Keeps.{Keeps}
-use Rattle.plan_rule.specs.Laws.{ForcedLaw, UniqueLaw, UnkeepableLaw}
-use Rattle.plan_rule.specs.Plans.{IsPlan, moments}
-use Rattle.plan_rule.specs.Reach.{reach, reach_of}
+use Rattle.std.proofs.lemmas.{Bool.cases_Bool, Bool.cases_lt, Bool.cond-true, Bool.Decides.nat_tests, List.append_assoc, List.ext_get_or, List.length-map}
+use Rattle.plan_forest.specs.{declared.entry.Entry.Entry, Forest.entry_at, Renewal.capped, Renewal.renewal}
+use Rattle.plan_rule.specs.{declared.wake.Wake.Wake, Forced.AllForced, Forced.bound, Forced.latest_end, Keeps.Keeps, Laws.ForcedLaw, Laws.UniqueLaw, Laws.UnkeepableLaw, Plans.IsPlan, Plans.moments, Reach.reach, Reach.reach_of}
 use Rattle.plan_rule.proofs.Stuck.{AllStuck, IsStuck, gone}
 
 -- each wake-up from s on is stuck where that holds of each moment from s on

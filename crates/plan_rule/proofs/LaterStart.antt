@@ -1,20 +1,12 @@
 -- Waiting changes nothing: until the first moment of a least and latest list, the list stays so, and its Asks stay.
 use Rattle.std.proofs.Common.{◌≡◌, ℕ, suc, ◌+◌, ◌<◌, ◌≤◌, ◌&&◌, List, [], ◌∷◌, Option, filter, length, nat_lt, refl, sym, ap, ◌∙◌, subst, arith, inl, inr}
-use Rattle.std.proofs.lemmas.Bool.{cases_Bool, cases_lt}
-use Rattle.std.proofs.lemmas.Bool.Decides.{nat_tests}
+use Rattle.std.proofs.lemmas.{Bool.cases_Bool, Bool.cases_lt, Bool.Decides.nat_tests}
 use Rattle.std.proofs.Math.Path.{fun_ext}
 use Rattle.std.specs.List.{All, range_with_len}
-use Rattle.plan_forest.specs.declared.entry.Entry.{Entry}
-use Rattle.plan_forest.specs.Carried.{carried}
-use Rattle.plan_forest.specs.Forest.{entry_at}
-use Rattle.plan_forest.specs.Renewal.{all_last, renewed}
-use Rattle.plan_forest.proofs.Carrying.{carried_at_least, carried_is_of}
-use Rattle.plan_forest.proofs.Chains.{over_self}
-use Rattle.plan_rule.specs.Asks.{asking, asks, first_of, is_end_due, is_to_be_asked, with_asks}
-use Rattle.plan_rule.specs.Ends.{ends_after_wake_up}
-use Rattle.plan_rule.specs.LawsOfRounds.{LaterStartLaw, SameAsksLaw, SameRequestsLaw}
-use Rattle.plan_rule.proofs.Alive.{alive_from_last}
-use Rattle.plan_rule.proofs.Joining.{keeps_sooner, kept_before, plan_later, plan_sooner}
+use Rattle.plan_forest.specs.{declared.entry.Entry.Entry, Carried.carried, Forest.entry_at, Renewal.all_last, Renewal.renewed}
+use Rattle.plan_forest.proofs.{Carrying.carried_at_least, Carrying.carried_is_of, Chains.over_self}
+use Rattle.plan_rule.specs.{Asks.asking, Asks.asks, Asks.first_of, Asks.is_end_due, Asks.is_to_be_asked, Asks.with_asks, Ends.ends_after_wake_up, LawsOfRounds.LaterStartLaw, LawsOfRounds.SameAsksLaw, LawsOfRounds.SameRequestsLaw}
+use Rattle.plan_rule.proofs.{Alive.alive_from_last, Joining.keeps_sooner, Joining.kept_before, Joining.plan_later, Joining.plan_sooner}
 
 pub later_start : LaterStartLaw
 later_start es margin s t ends ts h after_none best =

@@ -1,20 +1,12 @@
 -- Lists as functions of the index, and one element more at a loop's turn: for the replay's loops.
 use Rattle.std.proofs.Common.{◌≡◌, ℕ, zero, suc, ◌+◌, nat_le, ◌<◌, ◌≤◌, false, List, [], ◌∷◌, ◌++◌, length, get_or, drop, map, take, subst, sym, ap, ◌∙◌, arith, inl, inr}
-use Rattle.std.proofs.lemmas.Bool.{cases_lt, or_parts}
-use Rattle.std.proofs.lemmas.List.{drop_more, ext_get_or, get_or_past, take_at}
-use Rattle.std.proofs.lemmas.List.FromFn.{get_or-map-range_with_len, length-map-range_with_len}
-use Rattle.std.proofs.lemmas.Bool.Decides.{nat_tests}
+use Rattle.std.proofs.lemmas.{Bool.cases_lt, Bool.or_parts, List.drop_more, List.ext_get_or, List.get_or_past, List.take_at, List.FromFn.get_or-map-range_with_len, List.FromFn.length-map-range_with_len, Bool.Decides.nat_tests}
 use Rattle.std.proofs.Math.Path.{fun_ext}
 use Rattle.std.specs.List.{list_any, range_with_len}
 use Rattle.base_moment.specs.declared.moment.TheConstants.{LAST}
-use Rattle.plan_forest.specs.declared.entry.Entry.{Entry}
-use Rattle.plan_forest.specs.Forest.{Forest, end_of, entry_at}
-use Rattle.plan_forest.specs.Push.{IsForest}
-use Rattle.plan_forest.proofs.Entries.{entry_at_past}
-use Rattle.plan_forest.proofs.Placed.{range_parts}
-use Rattle.plan_rule.specs.Ends.{ends_listed}
-use Rattle.plan_rule.specs.Plans.{asks_past}
-use Rattle.plan_rule.specs.code.Replay.{shown_ends}
+use Rattle.plan_forest.specs.{declared.entry.Entry.Entry, Forest.Forest, Forest.end_of, Forest.entry_at, Push.IsForest}
+use Rattle.plan_forest.proofs.{Entries.entry_at_past, Placed.range_parts}
+use Rattle.plan_rule.specs.{Ends.ends_listed, Plans.asks_past, code.Replay.shown_ends}
 
 -- a list from an index on begins with what is read there
 pub unrolled : {X : Type 0} (xs : List X) (i : ℕ) (x : X) → i < length xs → x ≡ get_or xs i x → drop i xs ≡ x ∷ drop (i + 1) xs

@@ -1,20 +1,10 @@
 -- The law of the margin: moments that come in time do so by each smaller margin too, so the Asks by that margin keep at them.
-use Rattle.std.proofs.Common.{◌≡◌, ℕ, ◌+◌, ◌<◌, ◌≤◌, List, [], ◌∷◌, Option, Some, None, get_or, length, sym, ap, ◌∙◌, subst, arith, inl, inr}
+use Rattle.std.proofs.Common.{◌≡◌, ℕ, ◌≤◌, List, [], ◌∷◌, Option, Some, None, get_or, length, sym, ap, ◌∙◌, subst, arith, inl, inr}
 use Rattle.std.proofs.lemmas.List.{length-map}
-use Rattle.plan_forest.specs.declared.entry.Entry.{Entry}
-use Rattle.plan_forest.specs.Forest.{Forest}
+use Rattle.plan_forest.specs.{declared.entry.Entry.Entry, Forest.Forest}
 use Rattle.plan_forest.proofs.Margins.{forest_with, less_allowed, own_allowed}
-use Rattle.plan_rule.specs.declared.wake.Wake.{Wake}
-use Rattle.plan_rule.specs.Asks.{with_asks}
-use Rattle.plan_rule.specs.Keeps.{Keeps}
-use Rattle.plan_rule.specs.Laws.{LeastMarginLaw, MarginLaw}
-use Rattle.plan_rule.specs.Plans.{IsPlan, moments}
-use Rattle.plan_rule.proofs.Asking.{Covers}
-use Rattle.plan_rule.proofs.Enough.{kept_is_timely}
-use Rattle.plan_rule.proofs.Joining.{plan_order}
-use Rattle.plan_rule.proofs.Keeping.{plan_rises}
-use Rattle.plan_rule.proofs.Tail.{moments_with_asks, with_asks_plan}
-use Rattle.plan_rule.proofs.Timely.{AllTimely, timely_keeps}
+use Rattle.plan_rule.specs.{Asks.with_asks, Keeps.Keeps, Laws.LeastMarginLaw, Laws.MarginLaw, Plans.IsPlan, Plans.moments}
+use Rattle.plan_rule.proofs.{Asking.Covers, Enough.kept_is_timely, Joining.plan_order, Keeping.plan_rises, Tail.moments_with_asks, Tail.with_asks_plan, Timely.AllTimely, Timely.timely_keeps}
 
 less_covers : (margin less : ℕ) (next : Option ℕ) (need end : ℕ) → less ≤ margin → Covers margin next need end → Covers less next need end
 less_covers margin less None need end small c = c

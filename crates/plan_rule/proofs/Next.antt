@@ -1,22 +1,12 @@
 -- The next moment after a wake-up, where no pair is Unkeepable: it comes late enough, lies before LAST, comes in time for
 -- every entry, and is forced.
 use Rattle.std.proofs.Common.{◌≡◌, ℕ, ◌+◌, ◌-◌, ◌<◌, ◌≤◌, ◌⊎◌, ◌&&◌, true, false, List, Option, Some, None, length, max, min, nat_le, option_map, refl, sym, ap, ◌∙◌, subst, arith, inl, inr}
-use Rattle.std.proofs.lemmas.Bool.{cases_Bool, cases_lt, cond-true, cond-false}
-use Rattle.std.proofs.lemmas.Bool.Decides.{nat_tests}
+use Rattle.std.proofs.lemmas.{Bool.cases_Bool, Bool.cases_lt, Bool.cond-true, Bool.cond-false, Bool.Decides.nat_tests}
 use Rattle.base_moment.specs.declared.moment.TheConstants.{LAST}
-use Rattle.plan_forest.specs.declared.entry.Entry.{Entry}
-use Rattle.plan_forest.specs.Carried.{carried}
-use Rattle.plan_forest.specs.Forest.{Forest, entry_at}
-use Rattle.plan_forest.specs.Push.{IsForest}
-use Rattle.plan_forest.specs.Renewal.{capped, renewal}
-use Rattle.plan_forest.proofs.Carrying.{and_left, and_right, carried_is_of}
-use Rattle.plan_forest.proofs.Entries.{entry_at_past}
-use Rattle.plan_rule.specs.Forced.{Forced, bound, latest_end}
-use Rattle.plan_rule.specs.Unkeepable.{AllKeepable}
-use Rattle.plan_rule.specs.Reach.{reach, reach_of}
-use Rattle.plan_rule.specs.Schedule.{IsNextMoment}
-use Rattle.plan_rule.proofs.Keeping.{end_below_bound}
-use Rattle.plan_rule.proofs.Lists.{need_within}
+use Rattle.plan_forest.specs.{declared.entry.Entry.Entry, Carried.carried, Forest.Forest, Forest.entry_at, Push.IsForest, Renewal.capped, Renewal.renewal}
+use Rattle.plan_forest.proofs.{Carrying.and_left, Carrying.and_right, Carrying.carried_is_of, Entries.entry_at_past}
+use Rattle.plan_rule.specs.{Forced.Forced, Forced.bound, Forced.latest_end, Unkeepable.AllKeepable, Reach.reach, Reach.reach_of, Schedule.IsNextMoment}
+use Rattle.plan_rule.proofs.{Keeping.end_below_bound, Lists.need_within}
 
 -- an entry that can be led to what it carries: it is renewable, its end leaves room for a renewal, and its ceiling lies
 -- no lower than that

@@ -1,19 +1,11 @@
 -- One wake-up over a list of ends: what lasts over an entry is carried down, and each asked entry gets its end.
 use Rattle.std.proofs.Common.{◌≡◌, ◌==◌, ℕ, ◌+◌, ◌<◌, ◌&&◌, ◌||◌, Bool, true, false, cond, List, length, get_or, set, take, min, nat_le, Some, None, refl, sym, ap, ◌∙◌, subst, arith, inl, inr}
-use Rattle.std.proofs.lemmas.Bool.{cases_Bool, cases_eq, cond-true, cond-false, or_right}
-use Rattle.std.proofs.lemmas.Bool.Decides.{nat_tests}
-use Rattle.std.proofs.lemmas.List.{get_or-set_same, get_or-set_other}
-use Rattle.std.proofs.lemmas.List.Folds.{list_any_more}
-use Rattle.std.proofs.Math.Bool.{or-false}
-use Rattle.std.proofs.Math.Path.{fun_ext}
+use Rattle.std.proofs.lemmas.{Bool.cases_Bool, Bool.cases_eq, Bool.cond-true, Bool.cond-false, Bool.or_right, Bool.Decides.nat_tests, List.get_or-set_same, List.get_or-set_other, List.Folds.list_any_more}
+use Rattle.std.proofs.{Math.Bool.or-false, Math.Path.fun_ext}
 use Rattle.std.specs.List.{list_any}
-use Rattle.plan_forest.specs.declared.entry.Entry.{Entry}
-use Rattle.plan_forest.specs.Forest.{entry_at}
-use Rattle.plan_forest.specs.Renewal.{all_last, is_granted, renewal, renewed}
+use Rattle.plan_forest.specs.{declared.entry.Entry.Entry, Forest.entry_at, Renewal.all_last, Renewal.is_granted, Renewal.renewal, Renewal.renewed}
 use Rattle.plan_forest.proofs.Chains.{ParentsFirst, all_last_child, all_last_root}
-use Rattle.plan_rule.specs.declared.wake.Wake.{Wake}
-use Rattle.plan_rule.specs.Ends.{ends_after_wake_up, is_asked}
-use Rattle.plan_rule.specs.code.Replay.{Lasts, end_renewed_by, shown_ends}
+use Rattle.plan_rule.specs.{declared.wake.Wake.Wake, Ends.ends_after_wake_up, Ends.is_asked, code.Replay.Lasts, code.Replay.end_renewed_by, code.Replay.shown_ends}
 
 -- each of the first n of lasts is the least end over its entry
 abbrev pub LastsBelow : List Entry → (ℕ → ℕ) → List ℕ → ℕ → Type 0

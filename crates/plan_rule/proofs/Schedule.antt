@@ -2,20 +2,10 @@
 -- Asks, and are least and latest.
 use Rattle.std.proofs.Common.{◌≡◌, ℕ, ◌+◌, ◌<◌, ◌≤◌, List, [], ◌∷◌, Option, Some, None, refl, sym, ap, subst, arith}
 use Rattle.base_moment.specs.declared.moment.TheConstants.{LAST}
-use Rattle.plan_forest.specs.declared.entry.Entry.{Entry}
-use Rattle.plan_forest.specs.Forest.{Forest}
-use Rattle.plan_forest.specs.Push.{IsForest}
-use Rattle.plan_rule.specs.Asks.{asking, first_of, with_asks}
-use Rattle.plan_rule.specs.Ends.{ends_after_wake_up}
-use Rattle.plan_rule.specs.Forced.{AllForced}
-use Rattle.plan_rule.specs.Laws.{ScheduleLaw}
-use Rattle.plan_rule.specs.Unkeepable.{AllKeepable}
-use Rattle.plan_rule.specs.Least.{IsLeastAndLatest}
-use Rattle.plan_rule.specs.Plans.{IsPlan, moments}
-use Rattle.plan_rule.specs.Schedule.{IsSchedule, RisesStrictly}
-use Rattle.plan_rule.proofs.Keeping.{IsRising, forced_is_least}
-use Rattle.plan_rule.proofs.Next.{Comes, next_comes}
-use Rattle.plan_rule.proofs.Timely.{AllTimely, timely_keeps}
+use Rattle.plan_forest.specs.{declared.entry.Entry.Entry, Forest.Forest, Push.IsForest}
+use Rattle.plan_rule.specs.{Asks.asking, Asks.first_of, Asks.with_asks, Ends.ends_after_wake_up, Forced.AllForced, Laws.ScheduleLaw, Unkeepable.AllKeepable, Least.IsLeastAndLatest, Plans.IsPlan, Plans.moments}
+use Rattle.plan_rule.specs.{Schedule.IsSchedule, Schedule.RisesStrictly}
+use Rattle.plan_rule.proofs.{Keeping.IsRising, Keeping.forced_is_least, Next.Comes, Next.next_comes, Timely.AllTimely, Timely.timely_keeps}
 
 -- the moments of a schedule come in time
 pub schedule_timely :

@@ -1,15 +1,9 @@
 -- An end that cannot pass a bound: under wake-ups that come too late for it, or give no more than it, it stays below.
 use Rattle.std.proofs.Common.{◌≡◌, ℕ, ◌+◌, ◌<◌, ◌≤◌, ◌⊎◌, Bool, true, false, cond, List, [], ◌∷◌, filter, max, nat_le, sym, subst, arith, inl, inr}
-use Rattle.std.proofs.lemmas.Bool.{and_parts, cases_Bool, cases_lt, cond-true, cond-false}
-use Rattle.std.proofs.lemmas.Bool.Decides.{nat_tests}
-use Rattle.plan_forest.specs.declared.entry.Entry.{Entry}
-use Rattle.plan_forest.specs.Forest.{entry_at}
-use Rattle.plan_forest.specs.Over.{Over}
-use Rattle.plan_forest.specs.Renewal.{all_last, is_granted, renewal, renewed}
+use Rattle.std.proofs.lemmas.{Bool.and_parts, Bool.cases_Bool, Bool.cases_lt, Bool.cond-true, Bool.cond-false, Bool.Decides.nat_tests}
+use Rattle.plan_forest.specs.{declared.entry.Entry.Entry, Forest.entry_at, Over.Over, Renewal.all_last, Renewal.is_granted, Renewal.renewal, Renewal.renewed}
 use Rattle.plan_forest.proofs.Chains.{all_last_head}
-use Rattle.plan_rule.specs.declared.wake.Wake.{Wake}
-use Rattle.plan_rule.specs.Ends.{ends_after, ends_after_wake_up, is_asked}
-use Rattle.plan_rule.specs.Keeps.{Keeps, ends_at}
+use Rattle.plan_rule.specs.{declared.wake.Wake.Wake, Ends.ends_after, Ends.ends_after_wake_up, Ends.is_asked, Keeps.Keeps, Keeps.ends_at}
 
 -- a wake-up at t leads no end of i that is at most b past b
 abbrev pub IsStuck : List Entry → ℕ → ℕ → ℕ → ℕ → Type 0

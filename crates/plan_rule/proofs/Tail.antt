@@ -1,12 +1,7 @@
 -- The law of the tail: after a round with its Asks, the moments that are left are least and latest.
 use Rattle.std.proofs.Common.{◌≡◌, ℕ, suc, List, [], ◌∷◌, refl, sym, ap, subst, arith}
 use Rattle.plan_forest.specs.declared.entry.Entry.{Entry}
-use Rattle.plan_rule.specs.Asks.{asking, first_of, with_asks}
-use Rattle.plan_rule.specs.Ends.{ends_after_wake_up}
-use Rattle.plan_rule.specs.Keeps.{Keeps}
-use Rattle.plan_rule.specs.Laws.{EnoughLaw}
-use Rattle.plan_rule.specs.LawsOfRounds.{TailLaw}
-use Rattle.plan_rule.specs.Plans.{IsPlan, moments}
+use Rattle.plan_rule.specs.{Asks.asking, Asks.first_of, Asks.with_asks, Ends.ends_after_wake_up, Keeps.Keeps, Laws.EnoughLaw, LawsOfRounds.TailLaw, Plans.IsPlan, Plans.moments}
 use Rattle.plan_rule.proofs.Joining.{InOrder, keeps_joined, order_plan, plan_order}
 
 -- a list of moments with its Asks has these moments

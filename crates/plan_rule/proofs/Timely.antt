@@ -1,23 +1,10 @@
 -- Timely moments: bounds alone tell that entries, with all that are over them, last under the Asks until the need of each.
 use Rattle.std.proofs.Common.{ℕ, ◌<◌, ◌≤◌, List, [], ◌∷◌, Option, Some, None, sym, subst, arith, inl, inr}
 use Rattle.std.proofs.lemmas.Bool.{cases_lt}
-use Rattle.plan_forest.specs.declared.entry.Entry.{Entry}
-use Rattle.plan_forest.specs.Carried.{carried}
-use Rattle.plan_forest.specs.Forest.{Forest, entry_at}
-use Rattle.plan_forest.specs.Push.{IsForest}
-use Rattle.plan_forest.proofs.Carrying.{carried_at_least, carried_up}
-use Rattle.plan_forest.proofs.Chains.{ParentsFirst}
-use Rattle.plan_forest.proofs.Placed.{parents_first}
-use Rattle.plan_rule.specs.Asks.{asking, first_of, with_asks}
-use Rattle.plan_rule.specs.Ends.{ends_after, ends_after_wake_up}
-use Rattle.plan_rule.specs.Forced.{bound, latest_end}
-use Rattle.plan_rule.specs.Keeps.{Keeps, ends_at}
-use Rattle.plan_rule.specs.Plans.{moments}
-use Rattle.plan_rule.proofs.Asking.{Covers, IsSafe}
-use Rattle.plan_rule.proofs.Covering.{CoversAll, IsNeeded, asks_grow, round_covers}
-use Rattle.plan_rule.proofs.Keeping.{IsRising}
-use Rattle.plan_rule.proofs.Tail.{moments_with_asks}
-use Rattle.plan_rule.proofs.Walk.{ends_from, ends_unchanged}
+use Rattle.plan_forest.specs.{declared.entry.Entry.Entry, Carried.carried, Forest.Forest, Forest.entry_at, Push.IsForest}
+use Rattle.plan_forest.proofs.{Carrying.carried_at_least, Carrying.carried_up, Chains.ParentsFirst, Placed.parents_first}
+use Rattle.plan_rule.specs.{Asks.asking, Asks.first_of, Asks.with_asks, Ends.ends_after, Ends.ends_after_wake_up, Forced.bound, Forced.latest_end, Keeps.Keeps, Keeps.ends_at, Plans.moments}
+use Rattle.plan_rule.proofs.{Asking.Covers, Asking.IsSafe, Covering.CoversAll, Covering.IsNeeded, Covering.asks_grow, Covering.round_covers, Keeping.IsRising, Tail.moments_with_asks, Walk.ends_from, Walk.ends_unchanged}
 
 -- a list of moments with its Asks rises as the moments do
 pub asks_rise :

@@ -1,17 +1,10 @@
 -- A walk over the wake-ups: what is left to keep goes wake-up by wake-up.
 use Rattle.std.proofs.Common.{◌≡◌, ℕ, ◌+◌, ◌<◌, ◌≤◌, ◌↔◌, ◌&&◌, Bool, true, false, cond, List, [], ◌∷◌, Option, Some, None, length, filter, is_some, nat_le, nat_lt, refl, sym, ap, ◌∙◌, subst, arith, inl, inr, IsTrue}
-use Rattle.std.proofs.lemmas.Bool.{and_from, and_parts, cases_lt}
-use Rattle.std.proofs.lemmas.Bool.Decides.{nat_tests}
+use Rattle.std.proofs.lemmas.{Bool.and_from, Bool.and_parts, Bool.cases_lt, Bool.Decides.nat_tests}
 use Rattle.base_moment.specs.declared.moment.TheConstants.{LAST}
-use Rattle.plan_forest.specs.declared.entry.Entry.{Entry}
-use Rattle.plan_forest.specs.Forest.{entry_at}
-use Rattle.plan_rule.specs.declared.wake.Wake.{Wake}
-use Rattle.plan_rule.specs.declared.wake.WakeFault.{WakeFault}
-use Rattle.plan_rule.specs.declared.wake.WakeFault.TheVariants.{BeforeStart, Unordered, BadIndex}
-use Rattle.plan_rule.specs.Ends.{ends_after, ends_after_wake_up}
-use Rattle.plan_rule.specs.Keeps.{Keeps, ends_at}
-use Rattle.plan_rule.specs.Plans.{asks_past, fault_from, first_some, moments, wake_fault, wake_fault_at}
-use Rattle.plan_rule.specs.code.Replay.{KeptBetween}
+use Rattle.plan_forest.specs.{declared.entry.Entry.Entry, Forest.entry_at}
+use Rattle.plan_rule.specs.{declared.wake.Wake.Wake, declared.wake.WakeFault.WakeFault, declared.wake.WakeFault.TheVariants.BeforeStart, declared.wake.WakeFault.TheVariants.Unordered, declared.wake.WakeFault.TheVariants.BadIndex}
+use Rattle.plan_rule.specs.{Ends.ends_after, Ends.ends_after_wake_up, Keeps.Keeps, Keeps.ends_at, Plans.asks_past, Plans.fault_from, Plans.first_some, Plans.moments, Plans.wake_fault, Plans.wake_fault_at, code.Replay.KeptBetween}
 use Rattle.plan_rule.proofs.Keeping.{IsRising}
 
 -- wake-ups in order from s on, that ask no index past n entries

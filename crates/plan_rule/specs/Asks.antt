@@ -2,12 +2,8 @@
 -- Source: this project's own, over Vault, "Lease, renew, and revoke".
 use Rattle.std.specs.Prelude.{ℕ, ◌+◌, Bool, true, ◌&&◌, List, [], ◌∷◌, Option, Some, None, filter, length, nat_lt}
 use Rattle.std.specs.List.{range_with_len}
-use Rattle.plan_forest.specs.declared.entry.Entry.{Entry}
-use Rattle.plan_forest.specs.Forest.{entry_at}
-use Rattle.plan_forest.specs.Renewal.{all_last, renewed}
-use Rattle.plan_rule.specs.declared.wake.Wake.{Wake}
-use Rattle.plan_forest.specs.Carried.{carried}
-use Rattle.plan_rule.specs.Ends.{ends_after_wake_up}
+use Rattle.plan_forest.specs.{declared.entry.Entry.Entry, Forest.entry_at, Renewal.all_last, Renewal.renewed, Carried.carried}
+use Rattle.plan_rule.specs.{declared.wake.Wake.Wake, Ends.ends_after_wake_up}
 
 -- an end that cannot wait for the next moment, or the wake-up is the last
 abbrev pub is_end_due : ℕ → Option ℕ → ℕ → Bool

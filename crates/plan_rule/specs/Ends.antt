@@ -2,8 +2,7 @@
 -- Source: this project's own; the fold of the Renewal rule.
 use Rattle.std.specs.Prelude.{ℕ, Bool, if◌then◌else◌, List, [], ◌∷◌, length, map, ◌==◌}
 use Rattle.std.specs.List.{list_any, range_with_len}
-use Rattle.plan_forest.specs.declared.entry.Entry.{Entry}
-use Rattle.plan_forest.specs.Renewal.{renewed}
+use Rattle.plan_forest.specs.{declared.entry.Entry.Entry, Renewal.renewed}
 use Rattle.plan_rule.specs.declared.wake.Wake.{Wake}
 
 unfoldable pub is_asked : Wake → ℕ → Bool

@@ -1,10 +1,7 @@
 -- Forced: a wake-up that no plan can put off.
 -- Source: this project's own, over Vault, "Lease, renew, and revoke" (the increment counts from the renewal; maximum TTL).
 use Rattle.std.specs.Prelude.{ℕ, ◌+◌, ◌≤◌, ◌<◌, max, List, [], ◌∷◌, Option, Some, None, if◌then◌else◌}
-use Rattle.plan_forest.specs.declared.entry.Entry.{Entry}
-use Rattle.plan_forest.specs.Forest.{entry_at}
-use Rattle.plan_forest.specs.Over.{Over}
-use Rattle.plan_forest.specs.Renewal.{renewal}
+use Rattle.plan_forest.specs.{declared.entry.Entry.Entry, Forest.entry_at, Over.Over, Renewal.renewal}
 
 -- the latest end that an entry with this end can have after a wake-up at prev, or before any where that is None
 unfoldable pub latest_end : Entry → ℕ → Option ℕ → ℕ

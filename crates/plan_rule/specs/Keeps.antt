@@ -1,11 +1,8 @@
 -- Alive and Keeps: what a plan does for the entries that are needed.
 -- Source: Vault, "Tokens" (a token's end ends its children and its leases); needs are this project's own.
 use Rattle.std.specs.Prelude.{ℕ, ◌≤◌, ◌<◌, List, filter, nat_le}
-use Rattle.plan_forest.specs.declared.entry.Entry.{Entry}
-use Rattle.plan_forest.specs.Forest.{entry_at}
-use Rattle.plan_forest.specs.Over.{Over}
-use Rattle.plan_rule.specs.declared.wake.Wake.{Wake}
-use Rattle.plan_rule.specs.Ends.{ends_after}
+use Rattle.plan_forest.specs.{declared.entry.Entry.Entry, Forest.entry_at, Over.Over}
+use Rattle.plan_rule.specs.{declared.wake.Wake.Wake, Ends.ends_after}
 
 -- the ends at a moment: those after the wake-ups at that moment or before
 unfoldable pub ends_at : List Entry → ℕ → (ℕ → ℕ) → List Wake → ℕ → ℕ → ℕ

@@ -1,16 +1,8 @@
 -- Laws: what no plan can do, and what a least one is. Each is the contract of a public function without a body.
 use Rattle.std.specs.Prelude.{◌≡◌, ◌<◌, ◌≤◌, ℕ, List, None, length, slice_index}
-use Rattle.plan_forest.specs.declared.entry.Entry.{Entry}
-use Rattle.plan_rule.specs.declared.wake.Wake.{Wake}
-use Rattle.plan_forest.specs.Forest.{Forest}
-use Rattle.plan_forest.specs.Push.{IsForest}
-use Rattle.plan_rule.specs.Asks.{with_asks}
-use Rattle.plan_rule.specs.Forced.{AllForced}
-use Rattle.plan_rule.specs.Keeps.{Keeps}
-use Rattle.plan_rule.specs.Least.{IsLeastAndLatest}
-use Rattle.plan_rule.specs.Plans.{IsPlan, moments}
-use Rattle.plan_rule.specs.Schedule.{IsSchedule, RisesStrictly}
-use Rattle.plan_rule.specs.Unkeepable.{AllKeepable, Unkeepable}
+use Rattle.plan_forest.specs.{declared.entry.Entry.Entry, Forest.Forest, Push.IsForest}
+use Rattle.plan_rule.specs.{declared.wake.Wake.Wake, Asks.with_asks, Forced.AllForced, Keeps.Keeps, Least.IsLeastAndLatest, Plans.IsPlan, Plans.moments, Schedule.IsSchedule, Schedule.RisesStrictly}
+use Rattle.plan_rule.specs.{Unkeepable.AllKeepable, Unkeepable.Unkeepable}
 
 -- where a pair is Unkeepable, no plan keeps
 abbrev pub UnkeepableLaw : Type 0

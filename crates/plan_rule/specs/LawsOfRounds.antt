@@ -2,16 +2,8 @@
 -- Each is the contract of a public function without a body.
 use Rattle.std.specs.Prelude.{◌≡◌, ℕ, ◌≤◌, List, ◌∷◌, Option}
 use Rattle.std.specs.List.{All}
-use Rattle.plan_forest.specs.declared.entry.Entry.{Entry}
-use Rattle.plan_forest.specs.Forest.{Forest}
-use Rattle.plan_forest.specs.Push.{IsForest}
-use Rattle.plan_rule.specs.declared.wake.Wake.{Wake}
-use Rattle.plan_rule.specs.Asks.{asking, asks, first_of, with_asks}
-use Rattle.plan_rule.specs.Ends.{ends_after_wake_up}
-use Rattle.plan_rule.specs.Keeps.{Keeps}
-use Rattle.plan_rule.specs.Least.{IsLeastAndLatest}
-use Rattle.plan_rule.specs.Plans.{IsPlan, moments}
-use Rattle.plan_rule.specs.Requests.{requests, times_asked}
+use Rattle.plan_forest.specs.{declared.entry.Entry.Entry, Forest.Forest, Push.IsForest}
+use Rattle.plan_rule.specs.{declared.wake.Wake.Wake, Asks.asking, Asks.asks, Asks.first_of, Asks.with_asks, Ends.ends_after_wake_up, Keeps.Keeps, Least.IsLeastAndLatest, Plans.IsPlan, Plans.moments, Requests.requests, Requests.times_asked}
 
 -- moments that are least and latest from s are so from each later start that comes after none of them
 abbrev pub LaterStartLaw : Type 0

@@ -2,9 +2,7 @@
 -- Source: this project's own.
 use Rattle.std.specs.Prelude.{◌≡◌, ℕ, ◌≤◌, ◌<◌, List, length, slice_index}
 use Rattle.plan_forest.specs.declared.entry.Entry.{Entry}
-use Rattle.plan_rule.specs.declared.wake.Wake.{Wake}
-use Rattle.plan_rule.specs.Keeps.{Keeps}
-use Rattle.plan_rule.specs.Plans.{IsPlan, moments}
+use Rattle.plan_rule.specs.{declared.wake.Wake.Wake, Keeps.Keeps, Plans.IsPlan, Plans.moments}
 
 -- some plan with these moments keeps; each plan that keeps has at least as many wake-ups, and its k-th is no later than
 -- the k-th of these

@@ -4,9 +4,7 @@ use Rattle.std.specs.Prelude.{ℕ, ◌+◌, ◌≤◌, Bool, if◌then◌else◌
 use Rattle.std.specs.List.{list_any}
 use Rattle.base_moment.specs.declared.moment.TheConstants.{LAST}
 use Rattle.plan_forest.specs.declared.entry.Entry.{Entry}
-use Rattle.plan_rule.specs.declared.wake.Wake.{Wake}
-use Rattle.plan_rule.specs.declared.wake.WakeFault.{WakeFault}
-use Rattle.plan_rule.specs.declared.wake.WakeFault.TheVariants.{BeforeStart, Unordered, BadIndex}
+use Rattle.plan_rule.specs.{declared.wake.Wake.Wake, declared.wake.WakeFault.WakeFault, declared.wake.WakeFault.TheVariants.BeforeStart, declared.wake.WakeFault.TheVariants.Unordered, declared.wake.WakeFault.TheVariants.BadIndex}
 
 abbrev pub moments : List Wake → List ℕ
 moments ws = map (λ w. w.at) ws

@@ -2,8 +2,7 @@
 -- Source: Vault, "Lease, renew, and revoke" (maximum TTL); Vault, "Tokens" (explicit max TTL, period). The margin is
 -- this project's own.
 use Rattle.std.specs.Prelude.{ℕ, ◌+◌, max, ◌&&◌, if◌then◌else◌, List, Option, Some, option_map, nat_le}
-use Rattle.plan_forest.specs.declared.entry.Entry.{Entry}
-use Rattle.plan_forest.specs.Forest.{entry_at}
+use Rattle.plan_forest.specs.{declared.entry.Entry.Entry, Forest.entry_at}
 
 -- the reach from s of an entry with this end: the end, where it cannot be renewed or ends before s + margin; else the
 -- greater of the end and the ceiling, None (no limit) without a ceiling

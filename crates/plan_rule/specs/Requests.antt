@@ -2,8 +2,7 @@
 -- Source: this project's own.
 use Rattle.std.specs.Prelude.{ℕ, List, length}
 use Rattle.std.specs.List.{count_by, sum_by}
-use Rattle.plan_rule.specs.declared.wake.Wake.{Wake}
-use Rattle.plan_rule.specs.Ends.{is_asked}
+use Rattle.plan_rule.specs.{declared.wake.Wake.Wake, Ends.is_asked}
 
 -- how many indices a plan asks, over all its wake-ups
 abbrev pub requests : List Wake → ℕ

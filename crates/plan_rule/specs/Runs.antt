@@ -3,8 +3,7 @@
 use Rattle.std.specs.Prelude.{◌≡◌, ℕ, zero, suc, ◌+◌, ◌-◌, ◌*◌, ◌<◌, ◌≤◌, ◌↔◌, List, [], ◌∷◌, ◌++◌}
 use Rattle.std.specs.List.{AllByRecursion}
 use Rattle.base_moment.specs.declared.moment.TheConstants.{LAST}
-use Rattle.plan_rule.specs.declared.force.Force.{Force}
-use Rattle.plan_rule.specs.declared.run.Run.{Run}
+use Rattle.plan_rule.specs.{declared.force.Force.Force, declared.run.Run.Run}
 
 -- count wake-ups at `first`, first + step and so on, each forced by entry for needed
 unfoldable pub wakes_of : ℕ → ℕ → ℕ → ℕ → ℕ → List Force

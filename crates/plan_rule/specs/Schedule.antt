@@ -1,8 +1,7 @@
 -- Schedule: the moments each as late as the earliest bound that falls short allows.
 -- Source: this project's own, over Vault, "Lease, renew, and revoke" (the increment counts from the renewal; maximum TTL).
 use Rattle.std.specs.Prelude.{◌≡◌, ℕ, ◌+◌, ◌-◌, ◌≤◌, ◌<◌, List, [], ◌∷◌, Option, Some}
-use Rattle.plan_forest.specs.declared.entry.Entry.{Entry}
-use Rattle.plan_forest.specs.Carried.{carried}
+use Rattle.plan_forest.specs.{declared.entry.Entry.Entry, Carried.carried}
 use Rattle.plan_rule.specs.Forced.{bound}
 
 -- after a wake-up at prev, t is the next moment: some entry's bound falls short of its carried need, none that does has

@@ -1,9 +1,7 @@
 -- Unkeepable: a pair of entries that no plan can keep.
 -- Source: this project's own, over Vault, "Lease, renew, and revoke" (maximum TTL).
 use Rattle.std.specs.Prelude.{◌≡◌, ℕ, ◌<◌, List, Some}
-use Rattle.plan_forest.specs.declared.entry.Entry.{Entry}
-use Rattle.plan_forest.specs.Forest.{Forest, entry_at}
-use Rattle.plan_forest.specs.Over.{Over}
+use Rattle.plan_forest.specs.{declared.entry.Entry.Entry, Forest.Forest, Forest.entry_at, Over.Over}
 use Rattle.plan_rule.specs.Reach.{reach}
 
 -- entry is over needed, whose need comes after s, and cannot be led that far

@@ -1,32 +1,13 @@
 -- From a forest to its terms: where no pair is unkeepable, the forces of the forest are those that lead by its terms.
 use Rattle.std.proofs.Common.{◌≡◌, ◌==◌, ℕ, zero, suc, ◌+◌, ◌-◌, ◌<◌, ◌≤◌, true, List, [], ◌∷◌, length, max, Option, Some, None, refl, sym, ap, ◌∙◌, subst, arith, inl, inr}
 use Rattle.std.specs.Option.{unwrap_or}
-use Rattle.std.proofs.lemmas.Bool.{cases_lt, cond-true}
-use Rattle.std.proofs.lemmas.Bool.Decides.{nat_tests}
-use Rattle.std.proofs.lemmas.List.{get_or_past}
-use Rattle.plan_forest.specs.declared.entry.Entry.{Entry}
-use Rattle.plan_forest.specs.Carried.{IsFrom, carried}
-use Rattle.plan_forest.specs.Forest.{Forest, end_of, entry_at}
-use Rattle.plan_forest.specs.Over.{Over, is_over}
-use Rattle.plan_forest.specs.Push.{IsForest}
-use Rattle.plan_forest.specs.Renewal.{capped, renewal}
-use Rattle.plan_forest.proofs.Carrying.{carried_at_least, carried_is_of, or_parts}
-use Rattle.plan_forest.proofs.Chains.{ParentsFirst, cases_Option, over_child, over_root}
-use Rattle.plan_forest.proofs.Entries.{entry_at_past}
-use Rattle.plan_forest.proofs.Placed.{parents_first}
-use Rattle.plan_rule.specs.Forced.{bound, latest_end}
-use Rattle.plan_rule.specs.Unkeepable.{AllKeepable}
-use Rattle.plan_rule.specs.Schedule.{IsSchedule}
-use Rattle.plan_rule.proofs.Keeping.{end_below_bound}
-use Rattle.plan_rule.proofs.Lists.{need_within}
-use Rattle.plan_rule.proofs.Next.{can_be_led}
+use Rattle.std.proofs.lemmas.{Bool.cases_lt, Bool.cond-true, Bool.Decides.nat_tests, List.get_or_past}
+use Rattle.plan_forest.specs.{declared.entry.Entry.Entry, Carried.IsFrom, Carried.carried, Forest.Forest, Forest.end_of, Forest.entry_at, Over.Over, Over.is_over, Push.IsForest, Renewal.capped, Renewal.renewal}
+use Rattle.plan_forest.proofs.{Carrying.carried_at_least, Carrying.carried_is_of, Carrying.or_parts, Chains.ParentsFirst, Chains.cases_Option, Chains.over_child, Chains.over_root, Entries.entry_at_past, Placed.parents_first}
+use Rattle.plan_rule.specs.{Forced.bound, Forced.latest_end, Unkeepable.AllKeepable, Schedule.IsSchedule, declared.force.Force.Force, Runs.moments_of}
+use Rattle.plan_rule.proofs.{Keeping.end_below_bound, Lists.need_within, Next.can_be_led}
 use Rattle.plan_needs.specs.Carried.{CarriedNeed, IsCarried, NamesFrom, load_at}
-use Rattle.plan_rule.specs.declared.force.Force.{Force}
-use Rattle.plan_rule.specs.Runs.{moments_of}
-use Rattle.plan_schedule.specs.Forces.{AreForces}
-use Rattle.plan_schedule.specs.code.Sound.{IsInSight, TermsAreSound}
-use Rattle.plan_schedule.specs.Prospect.{Prospect, terms_of}
-use Rattle.plan_schedule.specs.Terms.{AreLed, Terms, lasts_until}
+use Rattle.plan_schedule.specs.{Forces.AreForces, code.Sound.IsInSight, code.Sound.TermsAreSound, Prospect.Prospect, Prospect.terms_of, Terms.AreLed, Terms.Terms, Terms.lasts_until}
 use Rattle.plan_schedule.proofs.Leading.{ahead}
 
 -- the entry whose need is carried

@@ -3,17 +3,9 @@ use Rattle.std.proofs.Common.{◌≡◌, ℕ, zero, suc, ◌+◌, ◌-◌, ◌*�
 use Rattle.std.proofs.Math.Nat.{div-mul-le_self, mul-le-mul_right}
 use Rattle.std.proofs.lemmas.Bool.{cases_lt}
 use Rattle.base_moment.specs.declared.moment.TheConstants.{LAST}
-use Rattle.plan_schedule.specs.declared.groups.Groups.{Groups}
-use Rattle.plan_schedule.specs.declared.groups.Next.{Next}
-use Rattle.plan_schedule.specs.code.Groups.{IsGrouped, IsHeadOfJoined, Joins, SettlesGroups, StandsWaiting}
-use Rattle.plan_schedule.specs.code.Line.{FirstOf}
-use Rattle.plan_schedule.specs.code.Stretches.{Stretches}
-use Rattle.plan_schedule.specs.Prospect.{Prospect, terms_of}
-use Rattle.plan_schedule.specs.Terms.{Ahead, Leads, Terms}
-use Rattle.plan_schedule.specs.code.Sound.{TermsAreSound}
-use Rattle.plan_schedule.proofs.Grouping.{join_leads, later}
-use Rattle.plan_schedule.proofs.Leading.{ahead}
-use Rattle.plan_schedule.proofs.Moves.{first_key, none_ahead}
+use Rattle.plan_schedule.specs.{declared.groups.Groups.Groups, declared.groups.Next.Next, code.Groups.IsGrouped, code.Groups.IsHeadOfJoined, code.Groups.Joins, code.Groups.SettlesGroups, code.Groups.StandsWaiting, code.Line.FirstOf}
+use Rattle.plan_schedule.specs.{code.Stretches.Stretches, Prospect.Prospect, Prospect.terms_of, Terms.Ahead, Terms.Leads, Terms.Terms, code.Sound.TermsAreSound}
+use Rattle.plan_schedule.proofs.{Grouping.join_leads, Grouping.later, Leading.ahead, Moves.first_key, Moves.none_ahead}
 
 pub in_reach : (j u last d : ℕ) → last < u → 0 < d → j < (u - last - 1) / d + 1 → last + j * d < u
 in_reach j u last d later gains within =

@@ -1,25 +1,12 @@
 -- The list of forces: there is one where there is a schedule, and no other.
 use Rattle.std.proofs.Common.{◌≡◌, ◌==◌, ℕ, zero, suc, ◌+◌, ◌-◌, ◌<◌, ◌≤◌, ◌&&◌, Bool, true, false, List, [], ◌∷◌, Option, Some, None, nat_lt, refl, sym, ap, ◌∙◌, subst, arith, inl, inr}
-use Rattle.std.proofs.lemmas.Bool.{and_from, cases_Bool, cases_eq, cases_lt}
-use Rattle.std.proofs.lemmas.Bool.Decides.{nat_tests}
-use Rattle.plan_forest.specs.declared.entry.Entry.{Entry}
-use Rattle.plan_forest.specs.Carried.{IsFrom, carried}
-use Rattle.plan_forest.specs.Forest.{Forest, end_of, entry_at}
-use Rattle.plan_forest.specs.Over.{is_over}
+use Rattle.std.proofs.lemmas.{Bool.and_from, Bool.cases_Bool, Bool.cases_eq, Bool.cases_lt, Bool.Decides.nat_tests}
+use Rattle.plan_forest.specs.{declared.entry.Entry.Entry, Carried.IsFrom, Carried.carried, Forest.Forest, Forest.end_of, Forest.entry_at, Over.is_over}
 use Rattle.plan_forest.proofs.Carrying.{and_left, and_right, carried_at_least}
-use Rattle.plan_rule.specs.Forced.{bound}
-use Rattle.plan_rule.specs.Schedule.{IsNextMoment, IsSchedule}
-use Rattle.plan_rule.specs.Unkeepable.{AllKeepable}
-use Rattle.plan_rule.proofs.Existence.{there_is_one}
-use Rattle.plan_rule.proofs.Keeping.{end_below_bound}
-use Rattle.plan_rule.proofs.Next.{can_be_led}
-use Rattle.plan_rule.proofs.Schedule.{schedule_is_best}
-use Rattle.plan_rule.specs.declared.force.Force.{Force}
-use Rattle.plan_rule.specs.Runs.{moments_of}
-use Rattle.plan_schedule.specs.Forces.{AreForced, AreForces, AreLowest, IsForce}
-use Rattle.plan_schedule.specs.Laws.{ForcesLaw, LowestLaw}
-use Rattle.plan_schedule.proofs.Bridge.{carrier, forces_schedule, one_from}
-use Rattle.plan_schedule.proofs.Leading.{same_force}
+use Rattle.plan_rule.specs.{Forced.bound, Schedule.IsNextMoment, Schedule.IsSchedule, Unkeepable.AllKeepable, declared.force.Force.Force, Runs.moments_of}
+use Rattle.plan_rule.proofs.{Existence.there_is_one, Keeping.end_below_bound, Next.can_be_led, Schedule.schedule_is_best}
+use Rattle.plan_schedule.specs.{Forces.AreForced, Forces.AreForces, Forces.AreLowest, Forces.IsForce, Laws.ForcesLaw, Laws.LowestLaw}
+use Rattle.plan_schedule.proofs.{Bridge.carrier, Bridge.forces_schedule, Bridge.one_from, Leading.same_force}
 
 pub one_force : (es : List Entry) (margin s : ℕ) (ends : ℕ → ℕ) (prev : Option ℕ) (x y : Force) → IsForce es margin s ends prev x → IsForce es margin s ends prev y → x ≡ y
 one_force es margin s ends prev x y a b =

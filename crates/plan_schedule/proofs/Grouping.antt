@@ -1,8 +1,7 @@
 -- The groups of a queue: those bound by their present end wait, those bound by their step have joined.
 use Rattle.std.proofs.Common.{ℕ, ◌+◌, ◌<◌, ◌≤◌, Option, Some, None, arith, inl, inr}
 use Rattle.std.proofs.lemmas.Bool.{cases_lt}
-use Rattle.plan_schedule.specs.Terms.{Ahead, Leads, Terms, lasts_until}
-use Rattle.plan_schedule.specs.code.Groups.{Grouped}
+use Rattle.plan_schedule.specs.{Terms.Ahead, Terms.Leads, Terms.Terms, Terms.lasts_until, code.Groups.Grouped}
 use Rattle.plan_schedule.proofs.Leading.{ahead}
 
 -- what is grouped stays so at a later wake-up

@@ -1,7 +1,6 @@
 -- Lists of wake-ups: where two runs begin one list, and one of them ends for good, the other is no longer.
 use Rattle.std.proofs.Common.{◌≡◌, ℕ, zero, suc, ◌+◌, ◌<◌, ◌≤◌, ◌++◌, List, [], ◌∷◌, sym, ap, ◌∙◌, arith}
-use Rattle.plan_rule.specs.declared.force.Force.{Force}
-use Rattle.plan_rule.specs.Runs.{wakes_of}
+use Rattle.plan_rule.specs.{declared.force.Force.Force, Runs.wakes_of}
 
 -- the list does not begin with a wake-up of this entry
 abbrev pub IsEnded : ℕ → List Force → Type 0

@@ -1,16 +1,11 @@
 -- Moves between the groups: one that has reached its need leaves, one whose end a wake-up reaches joins.
 use Rattle.std.proofs.Common.{◌≡◌, ◌≢◌, ℕ, ◌+◌, ◌<◌, ◌≤◌, ◌⊎◌, List, ◌∷◌, length, Some, refl, sym, ap, subst, arith, inl, inr}
-use Rattle.std.proofs.lemmas.Bool.{cases_eq}
-use Rattle.std.proofs.lemmas.List.Elements.{All-cons, All-contains, All-tail}
-use Rattle.std.proofs.lemmas.List.Sorted.{All-permutation, Contains-permutation, IsPermutation-sym, length_permutation}
-use Rattle.std.specs.List.{Contains}
-use Rattle.std.specs.List.Sorted.{IsPermutation}
-use Rattle.plan_schedule.specs.declared.groups.Groups.{Groups}
-use Rattle.plan_schedule.specs.declared.groups.Turn.TheVariants.{Comes, Leaves}
-use Rattle.plan_schedule.specs.code.Groups.{IsGrouped, IsKeyed, IsTurnOfGroups, Shrinks, size_of_groups}
-use Rattle.plan_schedule.specs.code.Line.{FirstOf, IsFirstInLine, Lined, Spot, spot}
-use Rattle.plan_schedule.specs.Prospect.{Prospect, terms_of}
-use Rattle.plan_schedule.specs.Terms.{Ahead, Terms}
+use Rattle.std.proofs.lemmas.{Bool.cases_eq, List.Elements.All-cons, List.Elements.All-contains, List.Elements.All-tail}
+use Rattle.std.proofs.lemmas.{List.Sorted.All-permutation, List.Sorted.Contains-permutation, List.Sorted.IsPermutation-sym, List.Sorted.length_permutation}
+use Rattle.std.specs.{List.Contains, List.Sorted.IsPermutation}
+use Rattle.plan_schedule.specs.{declared.groups.Groups.Groups, declared.groups.Turn.TheVariants.Comes, declared.groups.Turn.TheVariants.Leaves}
+use Rattle.plan_schedule.specs.{code.Groups.IsGrouped, code.Groups.IsKeyed, code.Groups.IsTurnOfGroups, code.Groups.Shrinks, code.Groups.size_of_groups}
+use Rattle.plan_schedule.specs.{code.Line.FirstOf, code.Line.IsFirstInLine, code.Line.Lined, code.Line.Spot, code.Line.spot, Prospect.Prospect, Prospect.terms_of, Terms.Ahead, Terms.Terms}
 use Rattle.plan_schedule.proofs.Lines.{contains_cons, contains_head, contains_more}
 
 -- what stays in a line that another leaves

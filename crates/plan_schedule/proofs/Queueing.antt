@@ -1,33 +1,16 @@
 -- A queue of deadlines: how it begins, what it keeps, and what taking a run from it gives.
 use Rattle.std.proofs.Common.{◌≡◌, ℕ, suc, ◌+◌, ◌-◌, ◌*◌, ◌<◌, ◌≤◌, ◌⊎◌, ◌++◌, List, [], ◌∷◌, length, Option, Some, None, refl, sym, ap, ◌∙◌, subst, arith, inl, inr, add-one}
-use Rattle.std.proofs.lemmas.Bool.{cases_eq, cases_lt}
-use Rattle.std.proofs.lemmas.List.Elements.{All-cons, All-nil}
-use Rattle.std.proofs.lemmas.List.Sorted.{All-permutation, Contains-permutation, IsPermutation-sym}
-use Rattle.std.specs.List.{Contains}
-use Rattle.std.specs.List.Sorted.{IsPermutation}
+use Rattle.std.proofs.lemmas.{Bool.cases_eq, Bool.cases_lt, List.Elements.All-cons, List.Elements.All-nil, List.Sorted.All-permutation, List.Sorted.Contains-permutation, List.Sorted.IsPermutation-sym}
+use Rattle.std.specs.{List.Contains, List.Sorted.IsPermutation}
 use Rattle.base_moment.specs.declared.moment.TheConstants.{LAST}
-use Rattle.plan_rule.specs.declared.force.Force.{Force}
-use Rattle.plan_schedule.specs.declared.groups.Groups.{Groups}
-use Rattle.plan_schedule.specs.declared.groups.Next.{Next}
-use Rattle.plan_schedule.specs.declared.groups.Next.TheVariants.{Done, Joined, Waiting}
-use Rattle.plan_rule.specs.declared.run.Run.{Run}
-use Rattle.plan_schedule.specs.Courses.{IsToCome}
-use Rattle.plan_schedule.specs.code.Groups.{IsGrouped, IsKeyed, Joins, SettlesGroups, StandsWaiting}
-use Rattle.plan_schedule.specs.code.Line.{FirstOf, Lined, Spot, spot}
-use Rattle.plan_schedule.specs.Prospect.{Prospect, terms_of}
-use Rattle.plan_schedule.specs.code.Queueing.{FillsLine, GroupsAreReady, RunIsBegun, WaiterIsDue}
-use Rattle.plan_rule.specs.Runs.{wakes, wakes_of}
-use Rattle.plan_schedule.specs.Given.{GivesHead, GivesRun, IsFirstRun}
-use Rattle.plan_schedule.specs.code.Stretches.{IsOtherEntry, Stretches}
-use Rattle.plan_schedule.specs.Terms.{Ahead, AreLed, Leads, Terms, lasts_until}
-use Rattle.plan_schedule.specs.code.Sound.{TermsAreSound}
-use Rattle.plan_schedule.proofs.Bridge.{need_past}
-use Rattle.plan_schedule.proofs.Grouping.{first_leads, join_leads, later, none_lacks, wait_leads}
-use Rattle.plan_schedule.proofs.Leading.{end_below_deadline, one_leads, one_led, same_force, short_before}
-use Rattle.plan_schedule.proofs.Lines.{contains_cons, contains_head, contains_more}
-use Rattle.plan_schedule.proofs.Lists.{IsEnded, no_longer}
-use Rattle.plan_schedule.proofs.Moves.{first_key, first_within, joined, joins_was, none_ahead}
-use Rattle.plan_schedule.proofs.Stretches.{led_run, run_led}
+use Rattle.plan_rule.specs.{declared.force.Force.Force, declared.run.Run.Run, Runs.wakes, Runs.wakes_of}
+use Rattle.plan_schedule.specs.{declared.groups.Groups.Groups, declared.groups.Next.Next, declared.groups.Next.TheVariants.Done, declared.groups.Next.TheVariants.Joined, declared.groups.Next.TheVariants.Waiting, Courses.IsToCome}
+use Rattle.plan_schedule.specs.{code.Groups.IsGrouped, code.Groups.IsKeyed, code.Groups.Joins, code.Groups.SettlesGroups, code.Groups.StandsWaiting, code.Line.FirstOf, code.Line.Lined, code.Line.Spot, code.Line.spot}
+use Rattle.plan_schedule.specs.{Prospect.Prospect, Prospect.terms_of, code.Queueing.FillsLine, code.Queueing.GroupsAreReady, code.Queueing.RunIsBegun, code.Queueing.WaiterIsDue, Given.GivesHead, Given.GivesRun, Given.IsFirstRun}
+use Rattle.plan_schedule.specs.{code.Stretches.IsOtherEntry, code.Stretches.Stretches, Terms.Ahead, Terms.AreLed, Terms.Leads, Terms.Terms, Terms.lasts_until, code.Sound.TermsAreSound}
+use Rattle.plan_schedule.proofs.{Bridge.need_past, Grouping.first_leads, Grouping.join_leads, Grouping.later, Grouping.none_lacks, Grouping.wait_leads}
+use Rattle.plan_schedule.proofs.{Leading.end_below_deadline, Leading.one_leads, Leading.one_led, Leading.same_force, Leading.short_before, Lines.contains_cons, Lines.contains_head, Lines.contains_more, Lists.IsEnded, Lists.no_longer}
+use Rattle.plan_schedule.proofs.{Moves.first_key, Moves.first_within, Moves.joined, Moves.joins_was, Moves.none_ahead, Stretches.led_run, Stretches.run_led}
 
 pub fills_added : (o : Prospect) (k : ℕ) (old new : Lined) → FillsLine o k old → k < length o.loads → (terms_of o).end k < (terms_of o).need k → IsPermutation (spot ((terms_of o).end k) k ∷ old.spots) new.spots → old.room ≤ new.room → length new.spots ≡ length old.spots + 1 → FillsLine o (k + 1) new
 fills_added o k old new fills within short added room longer =

@@ -1,9 +1,7 @@
 -- Runs of wake-ups: while one entry leads, its wake-ups are its step less the margin apart.
 use Rattle.std.proofs.Common.{◌≡◌, ℕ, zero, suc, ◌+◌, ◌-◌, ◌*◌, ◌<◌, ◌≤◌, ◌++◌, max, List, [], ◌∷◌, Some, refl, ap, ◌∙◌, subst, arith}
-use Rattle.plan_rule.specs.declared.force.Force.{Force}
-use Rattle.plan_schedule.specs.Terms.{AreLed, Leads, Terms}
-use Rattle.plan_rule.specs.Runs.{wakes_of}
-use Rattle.plan_schedule.specs.code.Stretches.{LeadsAll}
+use Rattle.plan_rule.specs.{declared.force.Force.Force, Runs.wakes_of}
+use Rattle.plan_schedule.specs.{Terms.AreLed, Terms.Leads, Terms.Terms, code.Stretches.LeadsAll}
 use Rattle.plan_schedule.proofs.Leading.{one_leads, same_force}
 
 tail_leads : (t : Terms) (w d f n : ℕ) → LeadsAll t w d f (suc n) → LeadsAll t (w + d) d f n

@@ -1,19 +1,11 @@
 -- Taking wake-ups from the list to come: who leads of the first n, and what taking the head leaves.
 use Rattle.std.proofs.Common.{◌≡◌, ℕ, ◌-◌, List, [], ◌∷◌, length, Option, Some, None, sym, ap, ◌∙◌, subst, arith, inl, inr}
 use Rattle.std.proofs.lemmas.Bool.{cases_lt}
-use Rattle.plan_rule.specs.declared.force.Force.{Force}
-use Rattle.plan_schedule.specs.code.Scanning.{IsLeader, LeadsBelow}
-use Rattle.plan_schedule.specs.Courses.{IsToCome}
-use Rattle.plan_schedule.specs.Prospect.{Prospect, terms_of}
-use Rattle.plan_schedule.specs.Given.{GivesHead}
-use Rattle.plan_schedule.specs.Terms.{AreLed, Leads, lasts_until}
-use Rattle.plan_forest.specs.Forest.{Forest, end_of}
-use Rattle.plan_forest.specs.Push.{IsForest}
-use Rattle.plan_rule.specs.Unkeepable.{AllKeepable}
+use Rattle.plan_rule.specs.{declared.force.Force.Force, Unkeepable.AllKeepable}
+use Rattle.plan_schedule.specs.{code.Scanning.IsLeader, code.Scanning.LeadsBelow, Courses.IsToCome, Prospect.Prospect, Prospect.terms_of, Given.GivesHead, Terms.AreLed, Terms.Leads, Terms.lasts_until, Forces.AreForces}
+use Rattle.plan_forest.specs.{Forest.Forest, Forest.end_of, Push.IsForest}
 use Rattle.plan_needs.specs.Carried.{CarriedNeed, IsCarried}
-use Rattle.plan_schedule.specs.Forces.{AreForces}
-use Rattle.plan_schedule.proofs.Bridge.{Shows, forces_led, led_forces, need_past, shows_of}
-use Rattle.plan_schedule.proofs.Leading.{one_leads, one_led, same_force}
+use Rattle.plan_schedule.proofs.{Bridge.Shows, Bridge.forces_led, Bridge.led_forces, Bridge.need_past, Bridge.shows_of, Leading.one_leads, Leading.one_led, Leading.same_force}
 
 pub leader_of : (o : Prospect) (prev : Option ℕ) (best : Option ℕ) → LeadsBelow (terms_of o) prev (length o.loads) best → IsLeader (terms_of o) prev best
 leader_of o prev None below = λ i. elim (cases_lt i (length o.loads)) [ inl within ↦ below i within | inr past ↦ let z = need_past o i past in omega arith ]

@@ -3,8 +3,7 @@
 use Rattle.std.specs.Prelude.{ℕ, ◌≤◌, List, Option, Some, None}
 use Rattle.base_moment.specs.declared.moment.TheConstants.{LAST}
 use Rattle.plan_rule.specs.declared.force.Force.{Force}
-use Rattle.plan_schedule.specs.Prospect.{Prospect, terms_of}
-use Rattle.plan_schedule.specs.Terms.{AreLed}
+use Rattle.plan_schedule.specs.{Prospect.Prospect, Prospect.terms_of, Terms.AreLed}
 
 -- what the schedule looks at, and the moment of the last wake-up that was taken
 pub record Course : Type 0 where

@@ -1,10 +1,8 @@
 -- Force: which entry forces the next wake-up, and the list of wake-ups that are forced one after the other.
 -- Source: this project's own, over Vault, "Lease, renew, and revoke" (the increment counts from the renewal; maximum TTL).
 use Rattle.std.specs.Prelude.{◌≡◌, ℕ, ◌-◌, ◌≤◌, ◌<◌, List, [], ◌∷◌, Option, Some}
-use Rattle.plan_forest.specs.declared.entry.Entry.{Entry}
-use Rattle.plan_forest.specs.Carried.{IsFrom, carried}
-use Rattle.plan_rule.specs.Forced.{Forced, bound}
-use Rattle.plan_rule.specs.declared.force.Force.{Force}
+use Rattle.plan_forest.specs.{declared.entry.Entry.Entry, Carried.IsFrom, Carried.carried}
+use Rattle.plan_rule.specs.{Forced.Forced, Forced.bound, declared.force.Force.Force}
 
 -- after a wake-up at prev, x is the next: of all entries whose bound falls short of their carried need, its entry has the
 -- least bound, of several the lowest index; it comes the margin before that bound, for the entry that has the need

@@ -1,9 +1,7 @@
 -- Given: what it means to give the head, or a run, of a list of wake-ups to come.
 -- Source: this project's own.
 use Rattle.std.specs.Prelude.{◌≡◌, ℕ, ◌≤◌, ◌<◌, List, [], ◌∷◌, ◌++◌, Option, Some, None}
-use Rattle.plan_rule.specs.declared.force.Force.{Force}
-use Rattle.plan_rule.specs.declared.run.Run.{Run}
-use Rattle.plan_rule.specs.Runs.{IsRun, wakes}
+use Rattle.plan_rule.specs.{declared.force.Force.Force, declared.run.Run.Run, Runs.IsRun, Runs.wakes}
 
 -- what stood for the list that begins with the answer stands for its tail now; with no answer it stood for the empty list
 -- alone, and still stands for that

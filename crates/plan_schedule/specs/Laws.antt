@@ -1,12 +1,7 @@
 -- Laws: that there is one list of forces, and that its moments are least and latest.
 use Rattle.std.specs.Prelude.{◌≡◌, ℕ, List, None}
-use Rattle.plan_forest.specs.Forest.{Forest, end_of}
-use Rattle.plan_forest.specs.Push.{IsForest}
-use Rattle.plan_rule.specs.Unkeepable.{AllKeepable}
-use Rattle.plan_rule.specs.Least.{IsLeastAndLatest}
-use Rattle.plan_rule.specs.Schedule.{RisesStrictly}
-use Rattle.plan_rule.specs.declared.force.Force.{Force}
-use Rattle.plan_rule.specs.Runs.{moments_of}
+use Rattle.plan_forest.specs.{Forest.Forest, Forest.end_of, Push.IsForest}
+use Rattle.plan_rule.specs.{Unkeepable.AllKeepable, Least.IsLeastAndLatest, Schedule.RisesStrictly, declared.force.Force.Force, Runs.moments_of}
 use Rattle.plan_schedule.specs.Forces.{AreForced, AreForces, AreLowest}
 
 -- where no pair is Unkeepable, there is a list of forces, and only one; each of its wake-ups is Forced by the pair that it

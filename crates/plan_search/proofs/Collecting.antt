@@ -1,12 +1,9 @@
 -- Runs that are taken from a schedule one by one: what they are together; for `collect`.
 use Rattle.std.proofs.Common.{◌≡◌, ◌∙◌, ℕ, ◌+◌, ◌-◌, ◌<◌, ◌≤◌, ◌++◌, List, [], ◌∷◌, length, sym, ap, subst, arith}
 use Rattle.std.proofs.lemmas.List.{append-nil, append_assoc, length-append}
-use Rattle.plan_rule.specs.declared.force.Force.{Force}
-use Rattle.plan_rule.specs.declared.run.Run.{Run}
-use Rattle.plan_rule.specs.Runs.{AreRuns, IsRun, all_wakes, wakes}
+use Rattle.plan_rule.specs.{declared.force.Force.Force, declared.run.Run.Run, Runs.AreRuns, Runs.IsRun, Runs.all_wakes, Runs.wakes}
 use Rattle.plan_schedule.specs.Given.{IsFirstRun}
-use Rattle.plan_search.specs.code.Collecting.{AreLongestBefore, ListIsOverlong, RunsAreTaken, RunsAreWhole}
-use Rattle.plan_search.specs.Decides.{AreLongest}
+use Rattle.plan_search.specs.{code.Collecting.AreLongestBefore, code.Collecting.ListIsOverlong, code.Collecting.RunsAreTaken, code.Collecting.RunsAreWhole, Decides.AreLongest}
 use Rattle.plan_search.proofs.Walking.{length_wakes_of}
 
 -- the wake-ups of one run more

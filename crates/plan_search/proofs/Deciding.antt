@@ -2,23 +2,12 @@
 -- Unkeepable; for `shortfall` and `plan`.
 use Rattle.std.proofs.Common.{◌≡◌, ℕ, ◌≤◌, List, [], ◌∷◌, Option, Some, None, length, refl, suc, ap, subst, arith, ◌-◌, ◌*◌}
 use Rattle.std.specs.Option.{MatchOption}
-use Rattle.plan_forest.specs.Forest.{Forest, end_of}
-use Rattle.plan_forest.specs.Push.{IsForest}
-use Rattle.plan_rule.specs.Asks.{with_asks}
-use Rattle.plan_rule.specs.Requests.{requests}
-use Rattle.plan_rule.specs.Unkeepable.{AllKeepable, Unkeepable}
-use Rattle.plan_rule.proofs.Existence.{there_is_one}
-use Rattle.plan_rule.proofs.FewestRequests.{fewest_requests}
-use Rattle.plan_rule.proofs.Keeping.{unkeepable}
-use Rattle.plan_rule.proofs.Schedule.{schedule_is_best}
-use Rattle.plan_rule.specs.declared.force.Force.{Force}
-use Rattle.plan_rule.specs.declared.run.Run.{Run}
-use Rattle.plan_rule.specs.Runs.{all_wakes, moments_of}
+use Rattle.plan_forest.specs.{Forest.Forest, Forest.end_of, Push.IsForest}
+use Rattle.plan_rule.specs.{Asks.with_asks, Requests.requests, Unkeepable.AllKeepable, Unkeepable.Unkeepable, declared.force.Force.Force, declared.run.Run.Run, Runs.all_wakes, Runs.moments_of}
+use Rattle.plan_rule.proofs.{Existence.there_is_one, FewestRequests.fewest_requests, Keeping.unkeepable, Schedule.schedule_is_best}
 use Rattle.plan_schedule.specs.Forces.{AreForces}
-use Rattle.plan_schedule.proofs.Bridge.{forces_schedule}
-use Rattle.plan_schedule.proofs.Forces.{forces_are_best}
-use Rattle.plan_search.specs.code.Collecting.{ListIsOverlong, RunsAreWhole}
-use Rattle.plan_search.specs.Decides.{AreBest, NoneKeeps, PlanIsTooLong, SomeKeeps}
+use Rattle.plan_schedule.proofs.{Bridge.forces_schedule, Forces.forces_are_best}
+use Rattle.plan_search.specs.{code.Collecting.ListIsOverlong, code.Collecting.RunsAreWhole, Decides.AreBest, Decides.NoneKeeps, Decides.PlanIsTooLong, Decides.SomeKeeps}
 
 pub none_keeps : (g : Forest) (s i f : ℕ) → Unkeepable g.entries g.margin s (end_of g.entries) i f → NoneKeeps g s
 none_keeps g s i f pair = λ plan in_order keeps. unkeepable g.entries g.margin s (end_of g.entries) i f pair plan in_order keeps

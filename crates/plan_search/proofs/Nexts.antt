@@ -1,12 +1,10 @@
 -- The next moment: the first of the wake-ups of runs that comes after a moment; for `next_after`.
 use Rattle.std.proofs.Common.{◌≡◌, ◌∙◌, ℕ, zero, suc, ◌+◌, ◌-◌, ◌*◌, ◌/◌, ◌<◌, ◌≤◌, ◌↔◌, ◌++◌, List, [], ◌∷◌, Bool, true, false, cond, Option, Some, None, is_some, nat_lt, refl, ap, arith}
 use Rattle.std.proofs.Math.Nat.{div-mul-le_self, lt-div-mul-add, mul-le-mul_right}
-use Rattle.std.proofs.lemmas.Bool.{cond-true, cond-false}
-use Rattle.std.proofs.lemmas.Bool.Decides.{nat_tests}
+use Rattle.std.proofs.lemmas.{Bool.cond-true, Bool.cond-false, Bool.Decides.nat_tests}
 use Rattle.std.specs.Option.{IfSome, IsSome}
 use Rattle.base_moment.specs.declared.moment.TheConstants.{LAST}
-use Rattle.plan_rule.specs.declared.force.Force.{Force}
-use Rattle.plan_rule.specs.Runs.{wakes_of}
+use Rattle.plan_rule.specs.{declared.force.Force.Force, Runs.wakes_of}
 use Rattle.plan_search.specs.Planned.{next_after}
 
 -- a wake-up that comes after the moment, and one that does not

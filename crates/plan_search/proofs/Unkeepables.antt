@@ -1,12 +1,9 @@
 -- Unkeepable: it holds of an entry and some other exactly where the reach falls short of the carried need; for `shortfall`.
 use Rattle.std.proofs.Common.{◌≡◌, ℕ, ◌<◌, ◌≤◌, true, false, List, Option, Some, None, nat_lt, refl, subst, arith}
 use Rattle.std.proofs.lemmas.Bool.Decides.{nat_tests}
-use Rattle.plan_forest.specs.declared.entry.Entry.{Entry}
-use Rattle.plan_forest.specs.Forest.{entry_at}
-use Rattle.plan_forest.specs.Carried.{IsFrom, carried}
+use Rattle.plan_forest.specs.{declared.entry.Entry.Entry, Forest.entry_at, Carried.IsFrom, Carried.carried}
 use Rattle.plan_forest.proofs.Carrying.{carried_at_least, carried_is_of}
-use Rattle.plan_rule.specs.Reach.{reach}
-use Rattle.plan_rule.specs.Unkeepable.{Unkeepable}
+use Rattle.plan_rule.specs.{Reach.reach, Unkeepable.Unkeepable}
 use Rattle.plan_search.specs.code.FallingShort.{falls_short}
 
 -- a need after s that is carried

@@ -1,11 +1,7 @@
 -- Runs without their first wake-up: what they stand for; for `drop_first` and `Wakes`.
 use Rattle.std.proofs.Common.{◌≡◌, ◌≢◌, ◌==◌, ◌∙◌, ℕ, zero, suc, ◌+◌, ◌-◌, ◌*◌, ◌<◌, ◌++◌, List, [], ◌∷◌, true, false, cond, Option, Some, None, length, drop, get_or, set, refl, sym, ap, subst, arith, inl, inr}
-use Rattle.std.proofs.lemmas.Bool.{cases_Bool, cases_lt, cond-true, cond-false}
-use Rattle.std.proofs.lemmas.Bool.Decides.{nat_tests}
-use Rattle.std.proofs.lemmas.List.{drop-set, drop_all, drop_more, length-append}
-use Rattle.plan_rule.specs.declared.force.Force.{Force}
-use Rattle.plan_rule.specs.declared.run.Run.{Run}
-use Rattle.plan_rule.specs.Runs.{AreRuns, IsRun, all_wakes, wakes, wakes_of}
+use Rattle.std.proofs.lemmas.{Bool.cases_Bool, Bool.cases_lt, Bool.cond-true, Bool.cond-false, Bool.Decides.nat_tests, List.drop-set, List.drop_all, List.drop_more, List.length-append}
+use Rattle.plan_rule.specs.{declared.force.Force.Force, declared.run.Run.Run, Runs.AreRuns, Runs.IsRun, Runs.all_wakes, Runs.wakes, Runs.wakes_of}
 use Rattle.plan_search.specs.Planned.{IsPlanned, IsTail, Planned, behind_first, in_front, to_come, without_first}
 
 -- the first wake-up of a run

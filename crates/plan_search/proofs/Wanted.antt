@@ -1,14 +1,8 @@
 -- The Asks: the question of the code is whether an entry is asked; and one entry more.
-use Rattle.std.proofs.Common.{◌≡◌, ◌∙◌, ℕ, zero, suc, ◌+◌, ◌<◌, ◌≤◌, ◌&&◌, ◌++◌, List, [], ◌∷◌, Bool, true, false, cond, Option, Some, None, filter, length, nat_le, nat_lt, refl, sym, ap, arith, inl, inr}
-use Rattle.std.proofs.lemmas.Bool.{and_from, and_parts, cases_Bool, cond-false}
-use Rattle.std.proofs.lemmas.Bool.Decides.{nat_tests}
-use Rattle.std.proofs.lemmas.List.Elements.{filter-append}
+use Rattle.std.proofs.Common.{◌≡◌, ◌∙◌, ℕ, ◌+◌, ◌<◌, ◌≤◌, ◌&&◌, ◌++◌, List, [], ◌∷◌, Bool, true, false, cond, Option, Some, None, filter, length, nat_le, nat_lt, refl, sym, ap, arith, inl, inr}
+use Rattle.std.proofs.lemmas.{Bool.and_from, Bool.and_parts, Bool.cases_Bool, Bool.cond-false, Bool.Decides.nat_tests, List.Elements.filter-append}
 use Rattle.std.specs.List.{list_all, range_with_len}
-use Rattle.plan_forest.specs.declared.entry.Entry.{Entry}
-use Rattle.plan_forest.specs.Carried.{carried}
-use Rattle.plan_forest.specs.Forest.{Forest, end_of, entry_at}
-use Rattle.plan_forest.specs.Over.{chain}
-use Rattle.plan_forest.specs.Renewal.{all_last, is_granted, renewal, renewed}
+use Rattle.plan_forest.specs.{declared.entry.Entry.Entry, Carried.carried, Forest.Forest, Forest.end_of, Forest.entry_at, Over.chain, Renewal.all_last, Renewal.is_granted, Renewal.renewal, Renewal.renewed}
 use Rattle.plan_forest.proofs.Ranges.{range_more}
 use Rattle.plan_rule.specs.Asks.{asks, is_end_due, is_to_be_asked}
 use Rattle.plan_needs.specs.Carried.{CarriedNeed, IsCarried}

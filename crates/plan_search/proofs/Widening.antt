@@ -1,17 +1,10 @@
 -- Widening: what a plan says of the number of wake-ups that are enough, and the turns of the bisection; for `widest_margin`.
 use Rattle.std.proofs.Common.{◌≡◌, ◌∙◌, ℕ, ◌-◌, ◌<◌, ◌≤◌, MatchOption, None, Option, Some, length, sym, ap, arith, inl, inr, subst}
-use Rattle.std.proofs.lemmas.Bool.{cases_lt}
-use Rattle.std.proofs.lemmas.List.{length-map}
-use Rattle.plan_forest.specs.Forest.{Forest, end_of}
-use Rattle.plan_forest.specs.Margins.{IsMostMargin}
-use Rattle.plan_forest.specs.Push.{IsForest}
+use Rattle.std.proofs.lemmas.{Bool.cases_lt, List.length-map}
+use Rattle.plan_forest.specs.{Forest.Forest, Forest.end_of, Margins.IsMostMargin, Push.IsForest}
 use Rattle.plan_forest.proofs.Margins.{forest_with, less_allowed}
 use Rattle.plan_rule.proofs.Margin.{margin}
-use Rattle.plan_search.specs.declared.widest.Widest.{Widest}
-use Rattle.plan_search.specs.code.Widening.{WidestIsBetween}
-use Rattle.plan_search.specs.Decides.{IsBestPlan}
-use Rattle.plan_search.specs.Planned.{Planned, to_come}
-use Rattle.plan_search.specs.Widest.{IsEnough, IsFewest, KeepsWithin}
+use Rattle.plan_search.specs.{declared.widest.Widest.Widest, code.Widening.WidestIsBetween, Decides.IsBestPlan, Planned.Planned, Planned.to_come, Widest.IsEnough, Widest.IsFewest, Widest.KeepsWithin}
 use Rattle.plan_search.proofs.Deciding.{length_moments}
 
 -- ---- what a decision says

@@ -2,22 +2,12 @@
 -- Source: this project's own, over Vault, "Lease, renew, and revoke" (maximum TTL); Vault, "Tokens".
 use Rattle.std.specs.Prelude.{◌≡◌, ℕ, ◌-◌, ◌*◌, ◌≤◌, ◌<◌, ◌++◌, List, [], ◌∷◌, None, length}
 use Rattle.plan_forest.specs.Forest.{Forest, end_of}
-use Rattle.plan_rule.specs.declared.wake.Wake.{Wake}
-use Rattle.plan_rule.specs.Asks.{with_asks}
-use Rattle.plan_rule.specs.Keeps.{Keeps}
-use Rattle.plan_rule.specs.Least.{IsLeastAndLatest}
-use Rattle.plan_rule.specs.Plans.{IsPlan, moments}
-use Rattle.plan_rule.specs.Requests.{requests}
+use Rattle.plan_rule.specs.{declared.wake.Wake.Wake, Asks.with_asks, Keeps.Keeps, Least.IsLeastAndLatest, Plans.IsPlan, Plans.moments, Requests.requests, declared.force.Force.Force, declared.run.Run.Run}
+use Rattle.plan_rule.specs.{Runs.AreRuns, Runs.all_wakes, Runs.moments_of, Runs.wakes, declared.limit.TheConstants.LIMIT}
 use Rattle.plan_needs.specs.Carried.{IsCarried}
-use Rattle.plan_rule.specs.declared.force.Force.{Force}
-use Rattle.plan_rule.specs.declared.run.Run.{Run}
-use Rattle.plan_rule.specs.Runs.{AreRuns, all_wakes, moments_of, wakes}
 use Rattle.plan_schedule.specs.Forces.{AreForces}
-use Rattle.plan_search.specs.declared.decision.Decision.{Decision}
-use Rattle.plan_search.specs.declared.decision.Decision.TheVariants.{Keep, TooLong, Unkeepable}
-use Rattle.plan_rule.specs.declared.limit.TheConstants.{LIMIT}
-use Rattle.plan_search.specs.Planned.{Planned}
-use Rattle.plan_search.specs.Shortfall.{IsShortfall}
+use Rattle.plan_search.specs.{declared.decision.Decision.Decision, declared.decision.Decision.TheVariants.Keep, declared.decision.Decision.TheVariants.TooLong, declared.decision.Decision.TheVariants.Unkeepable, Planned.Planned}
+use Rattle.plan_search.specs.{Shortfall.IsShortfall}
 
 -- each run goes from the left as long as it can: what follows begins with no longer one
 abbrev pub AreLongest : List Run → Type 0

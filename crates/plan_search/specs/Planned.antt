@@ -2,10 +2,7 @@
 -- Source: this project's own.
 use Rattle.std.specs.Prelude.{◌≡◌, ◌==◌, ℕ, ◌+◌, ◌-◌, ◌≤◌, if◌then◌else◌, List, [], ◌∷◌, Option, Some, None, length, nat_lt}
 use Rattle.plan_needs.specs.Carried.{CarriedNeed}
-use Rattle.plan_rule.specs.declared.force.Force.{Force}
-use Rattle.plan_rule.specs.declared.run.Run.{Run}
-use Rattle.plan_rule.specs.Runs.{AreRuns, all_wakes}
-use Rattle.plan_rule.specs.declared.limit.TheConstants.{LIMIT}
+use Rattle.plan_rule.specs.{declared.force.Force.Force, declared.run.Run.Run, Runs.AreRuns, Runs.all_wakes, declared.limit.TheConstants.LIMIT}
 
 -- the start and the carried needs that a plan was made by, and the runs of the wake-ups that are still to come
 pub record Planned : Type 0 where

@@ -1,8 +1,7 @@
 -- Shortfall: the pair that is named where no plan keeps.
 -- Source: this project's own, over Vault, "Lease, renew, and revoke" (maximum TTL).
 use Rattle.std.specs.Prelude.{ℕ, ◌≤◌}
-use Rattle.plan_forest.specs.Carried.{IsFrom}
-use Rattle.plan_forest.specs.Forest.{Forest, end_of}
+use Rattle.plan_forest.specs.{Carried.IsFrom, Forest.Forest, Forest.end_of}
 use Rattle.plan_rule.specs.Unkeepable.{Unkeepable}
 
 -- entry is the lowest that is Unkeepable with some entry, by the present ends; needed is the from of its carried need, and

@@ -1,11 +1,8 @@
 -- Widest margin: the greatest with which few wake-ups are enough, and how many it takes.
 -- Source: this project's own.
 use Rattle.std.specs.Prelude.{ℕ, ◌≤◌, List, length}
-use Rattle.plan_forest.specs.Forest.{Forest, end_of}
-use Rattle.plan_forest.specs.Margins.{IsMargin}
-use Rattle.plan_rule.specs.declared.wake.Wake.{Wake}
-use Rattle.plan_rule.specs.Keeps.{Keeps}
-use Rattle.plan_rule.specs.Plans.{IsPlan}
+use Rattle.plan_forest.specs.{Forest.Forest, Forest.end_of, Margins.IsMargin}
+use Rattle.plan_rule.specs.{declared.wake.Wake.Wake, Keeps.Keeps, Plans.IsPlan}
 use Rattle.plan_search.specs.declared.widest.Widest.{Widest}
 
 -- some plan from s keeps, by at most so many wake-ups

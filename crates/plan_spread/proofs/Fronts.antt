@@ -1,9 +1,7 @@
 -- Fronts: what entries allow the margin of an agent behind another, and of which margin it is. For `margin_behind` and `margin_in_front`.
 use Rattle.std.proofs.Common.{◌≡◌, ◌∙◌, ℕ, zero, suc, ◌-◌, ◌/◌, ◌<◌, ◌≤◌, ◌==◌, true, false, List, ap, arith, eqb-true, inl, inr}
-use Rattle.std.proofs.lemmas.Bool.{cases_Bool, cond-false, cond-true}
-use Rattle.std.proofs.lemmas.Bool.Decides.{nat_tests}
-use Rattle.plan_forest.specs.declared.entry.Entry.{Entry}
-use Rattle.plan_forest.specs.Margins.{IsMargin}
+use Rattle.std.proofs.lemmas.{Bool.cases_Bool, Bool.cond-false, Bool.cond-true, Bool.Decides.nat_tests}
+use Rattle.plan_forest.specs.{declared.entry.Entry.Entry, Margins.IsMargin}
 use Rattle.plan_forest.proofs.Margins.{less_allowed}
 use Rattle.plan_spread.specs.Behind.{in_front_up_to, margin_by}
 

@@ -1,11 +1,7 @@
 -- Rooms: the room of the entries from an index on. For `room_of`.
 use Rattle.std.proofs.Common.{◌≡◌, refl, ℕ, zero, suc, ◌+◌, ◌*◌, ◌/◌, ◌<◌, ◌≤◌, List, [], ◌∷◌, length, drop, min, arith}
 use native.Mathlib.Numerals.{unary_clauses}
-use Rattle.plan_forest.specs.declared.entry.Entry.{Entry}
-use Rattle.plan_forest.specs.declared.forest.TheConstants.{MARGIN_MAX}
-use Rattle.plan_forest.specs.Forest.{Forest, entry_at}
-use Rattle.plan_forest.specs.Margins.{IsMargin}
-use Rattle.plan_forest.specs.Push.{IsForest}
+use Rattle.plan_forest.specs.{declared.entry.Entry.Entry, declared.forest.TheConstants.MARGIN_MAX, Forest.Forest, Forest.entry_at, Margins.IsMargin, Push.IsForest}
 use Rattle.plan_forest.proofs.Margins.{own_allowed}
 use Rattle.plan_spread.specs.Margins.{room_of, wider}
 

@@ -1,8 +1,7 @@
 -- Margins: a margin that is wider by so many seconds, as far as each step has room for it.
 -- Source: this project's own.
 use Rattle.std.specs.Prelude.{ℕ, ◌+◌, ◌*◌, ◌/◌, List, [], ◌∷◌, min, max}
-use Rattle.plan_forest.specs.declared.entry.Entry.{Entry}
-use Rattle.plan_forest.specs.declared.forest.TheConstants.{MARGIN_MAX}
+use Rattle.plan_forest.specs.{declared.entry.Entry.Entry, declared.forest.TheConstants.MARGIN_MAX}
 
 -- three quarters of the shortest step, or the greatest margin: with more, a renewal would be due almost as soon as the last one came
 abbrev pub room_of : List Entry → ℕ

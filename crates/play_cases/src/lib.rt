@@ -15,6 +15,6 @@ pub use drawers::{Drawer, Stamping};
 pub use ending::Ending;
 pub use fault::CaseFault;
 pub use places::put;
-pub use settings::{BOOT, ENDS, FILE, Setting, DiskBefore, put_file};
+pub use settings::{BOOT, DiskBefore, ENDS, FILE, Setting, put_file};
 pub use steps::{Case, CaseStep, read_case};
 pub use words::{Stretch, answer, failing, lane_fault, number, readings, small};

@@ -6,8 +6,8 @@ use crate::places::put;
 use crate::steps::CaseStep;
 use crate::words::{answer, failing, lane_fault, number, readings, small};
 use base_clock::Reading;
-use base_disk::{Failing, Held, MemoryDisk, Stored, DiskTrouble};
-use base_log::{SinkAnswer, Form};
+use base_disk::{DiskTrouble, Failing, Held, MemoryDisk, Stored};
+use base_log::{Form, SinkAnswer};
 use std::alloc::{AllocError, Global};
 use std::mem;
 use vault_lanes::NumberedLaneFault;
@@ -273,7 +273,11 @@ impl Setting {
 }
 
 /// What goes wrong with the request of that number.
-fn numbered_fault(request: &str, fault: &[&str], unread: CaseFault) -> Result<NumberedLaneFault, CaseFault> {
+fn numbered_fault(
+    request: &str,
+    fault: &[&str],
+    unread: CaseFault,
+) -> Result<NumberedLaneFault, CaseFault> {
     Ok(NumberedLaneFault {
         number: number(request, unread)?,
         fault: lane_fault(fault, unread)?,

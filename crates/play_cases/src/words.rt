@@ -80,7 +80,12 @@ pub fn readings(word: &str, unread: CaseFault) -> Result<Stretch, CaseFault> {
 }
 
 /// What stands in front of a mark, and the number after it; `none` where there is no mark.
-fn with_number(word: &str, mark: char, none: u64, unread: CaseFault) -> Result<(&str, u64), CaseFault> {
+fn with_number(
+    word: &str,
+    mark: char,
+    none: u64,
+    unread: CaseFault,
+) -> Result<(&str, u64), CaseFault> {
     match word.split_once(mark) {
         None => Ok((word, none)),
         Some((front, after)) => Ok((front, number(after, unread)?)),

@@ -1,6 +1,6 @@
 //! The agent of a play ends, and is started again.
 use crate::play::Play;
-use play_cases::{Ending, CaseFault, Setting, CaseStep, number};
+use play_cases::{CaseFault, CaseStep, Ending, Setting, number};
 
 impl<'a> Play<'a> {
     /// The agent ends as these words of a step say, and is started again over the same disks, of which no call fails from now on.

@@ -1,11 +1,11 @@
 //! What happens in a play.
-use crate::guests::{Peer, guest_named};
+use crate::guests::{Peer, PlayedGuest, guest_named};
 use crate::play::{Play, PlayedText};
 use crate::running::Running;
 use agent_ledger::Late;
 use base_words::push_number;
 use plan_forest::Forest;
-use play_cases::{CaseFault, Setting, CaseStep, lane_fault, number, put_file};
+use play_cases::{CaseFault, CaseStep, Setting, lane_fault, number, put_file};
 use std::alloc::{AllocError, Global};
 use watch_machine::{Operation, Out};
 
@@ -53,7 +53,12 @@ impl<'a> Play<'a> {
     }
 
     // A request to come goes wrong.
-    fn goes_wrong(&mut self, request: &str, fault: &[&str], unread: CaseFault) -> Result<(), CaseFault> {
+    fn goes_wrong(
+        &mut self,
+        request: &str,
+        fault: &[&str],
+        unread: CaseFault,
+    ) -> Result<(), CaseFault> {
         let request = number(request, unread)?;
         let fault = lane_fault(fault, unread)?;
         self.running.set_fault(request, fault)?;
@@ -67,27 +72,30 @@ impl<'a> Play<'a> {
         }
     }
 
-    fn client_comes(&mut self, step: &CaseStep<'_>, name: &str, words: &[&str]) -> Result<(), CaseFault> {
-        let peer = self.peer(step, name, words)?;
+    fn client_comes(
+        &mut self,
+        step: &CaseStep<'_>,
+        name: &str,
+        words: &[&str],
+    ) -> Result<(), CaseFault> {
+        let peer = peer(self.alloc, self.guests, step, name, words)?;
         match &mut self.house.others.others.control {
             None => Err(step.refused()),
             Some(control) => control.door.bring(peer),
         }
     }
 
-    fn onlooker_comes(&mut self, step: &CaseStep<'_>, name: &str, words: &[&str]) -> Result<(), CaseFault> {
-        let peer = self.peer(step, name, words)?;
+    fn onlooker_comes(
+        &mut self,
+        step: &CaseStep<'_>,
+        name: &str,
+        words: &[&str],
+    ) -> Result<(), CaseFault> {
+        let peer = peer(self.alloc, self.guests, step, name, words)?;
         match &mut self.house.others.others.onlookers {
             None => Err(step.refused()),
             Some(onlookers) => onlookers.door.bring(peer),
         }
-    }
-
-    // The connection of a guest who comes.
-    fn peer(&self, step: &CaseStep<'_>, name: &str, words: &[&str]) -> Result<Peer<'a>, CaseFault> {
-        let guest = guest_named(self.guests, name, step.unread())?;
-        let text = step.bytes(self.alloc)?;
-        Peer::new(guest, text, words, step.unread())
     }
 
     fn turns(&mut self, count: &str, unread: CaseFault) -> Result<(), CaseFault> {
@@ -98,6 +106,19 @@ impl<'a> Play<'a> {
         }
         Ok(())
     }
+}
+
+// The connection of a guest who comes.
+fn peer<'a>(
+    alloc: Global,
+    guests: &'a [PlayedGuest<'a>],
+    step: &CaseStep<'_>,
+    name: &str,
+    words: &[&str],
+) -> Result<Peer<'a>, CaseFault> {
+    let guest = guest_named(guests, name, step.unread())?;
+    let text = step.bytes(alloc)?;
+    Peer::new(guest, text, words, step.unread())
 }
 
 // Keeps the requests that are out and were not after the turn before, each under the name that its entry has.

@@ -4,7 +4,7 @@ use agent_ledger::{OpenedLedger, Opening};
 use agent_start::later_with;
 use agent_words::Demands;
 use base_disk::{Failing, MemoryDisk};
-use play_cases::{Drawer, CaseFault, Setting};
+use play_cases::{CaseFault, Drawer, Setting};
 use state_keeping::{Paths, State};
 use std::alloc::Global;
 use std::mem;

@@ -87,10 +87,7 @@ fn line_of(alloc: Global, number: u64) -> Result<Vec<u8>, CaseFault> {
 
 // These bytes.
 fn copy_of(alloc: Global, bytes: &[u8]) -> Result<Vec<u8>, CaseFault> {
-    match Vec::from_slice(alloc, bytes) {
-        Ok(bytes) => Ok(bytes),
-        Err(_) => Err(CaseFault::Memory),
-    }
+    Vec::from_slice(alloc, bytes).map_err(|_| CaseFault::Memory)
 }
 
 // The bytes after so many, which are told with that.
@@ -101,7 +98,11 @@ fn part_after(alloc: Global, bytes: &[u8], before: &mut usize) -> Result<Vec<u8>
 }
 
 // How long each wait after so many calls of the clock took, in milliseconds, in one line; they are told with that.
-fn pauses_after(alloc: Global, calls: &[ClockCall], before: &mut usize) -> Result<Vec<u8>, CaseFault> {
+fn pauses_after(
+    alloc: Global,
+    calls: &[ClockCall],
+    before: &mut usize,
+) -> Result<Vec<u8>, CaseFault> {
     let mut line = Vec::new(alloc);
     for call in calls.get(*before..).unwrap_or(&[]) {
         if let ClockCall::Wait { millis } = call {

@@ -9,7 +9,7 @@ use agent_pages::{FileReading, Standby};
 use agent_turns::EarlyDay;
 use base_clock::MemoryClock;
 use base_log::MemoryLogSink;
-use play_cases::{FILE, CaseFault, Setting, CaseStep};
+use play_cases::{CaseFault, CaseStep, FILE, Setting};
 use state_keeping::Paths;
 use std::alloc::Global;
 use std::mem;

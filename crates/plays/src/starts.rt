@@ -19,7 +19,7 @@ use base_device::Place;
 use base_disk::{Failing, MemoryDisk};
 use base_log::MemoryLogSink;
 use broker_table::Table;
-use play_cases::{BOOT, Drawer, ENDS, FILE, CaseFault, Setting, put};
+use play_cases::{BOOT, CaseFault, Drawer, ENDS, FILE, Setting, put};
 use program_commands::{ServeWords, Socket};
 use state_keeping::{OpenedState, Paths, State};
 use std::alloc::{AllocError, Global};
@@ -64,10 +64,7 @@ fn table_of(alloc: Global, text: &[u8], refused: CaseFault) -> Result<Table, Cas
 
 /// The inventory of this text.
 fn read_or(alloc: Global, text: &[u8], refused: CaseFault) -> Result<Inventory, CaseFault> {
-    match read(alloc, text) {
-        Ok(inventory) => Ok(inventory),
-        Err(_) => Err(refused),
-    }
+    read(alloc, text).map_err(|_| refused)
 }
 
 impl<'a> Play<'a> {
@@ -111,7 +108,7 @@ impl<'a> Play<'a> {
         ensures one { IfOk result (λ parts. parts.lane.width ≡ 1) }
     {
         let alloc = self.alloc;
-        let ends = ends_path(alloc, setting)?;
+        let ends = ends_path(alloc, setting.ends.failing)?;
         let lane = lane_of(alloc, setting, refused)?;
         let askers = askers_of(alloc, setting, refused)?;
         let ahead = lanes_ahead(alloc, setting, refused)?;
@@ -259,7 +256,11 @@ fn lane_of(alloc: Global, setting: &Setting, refused: CaseFault) -> Result<Memor
 }
 
 /// The lanes over which entries are looked up ahead.
-fn lanes_ahead(alloc: Global, setting: &Setting, refused: CaseFault) -> Result<MemoryLanes, CaseFault> {
+fn lanes_ahead(
+    alloc: Global,
+    setting: &Setting,
+    refused: CaseFault,
+) -> Result<MemoryLanes, CaseFault> {
     let mut lanes = lanes_of(alloc, setting, &setting.ahead, setting.width, refused)?;
     if let Some(NumberedLaneFault { number, fault }) = setting.ahead_fault {
         lanes.set_fault(number, fault)?;
@@ -282,8 +283,8 @@ fn askers_of(
 }
 
 /// The path of the file of the ends, where they are kept.
-fn ends_path(alloc: Global, setting: &Setting) -> Result<Option<String>, AllocError> {
-    match setting.ends.failing {
+fn ends_path(alloc: Global, failing: Option<Failing>) -> Result<Option<String>, AllocError> {
+    match failing {
         None => Ok(None),
         Some(_) => Ok(Some(String::from_str(alloc, ENDS)?)),
     }
@@ -303,12 +304,23 @@ fn leave(
     setting: &mut Setting,
     refused: CaseFault,
 ) -> Result<(), CaseFault> {
+    setting.drawer = mem::replace(&mut ledger.inputs, Drawer::new(alloc));
+    keep_state(alloc, paths, ledger.state.disk(), setting, refused)
+}
+
+/// What stands on the disk of a state folder.
+fn keep_state(
+    alloc: Global,
+    paths: &Paths,
+    disk: &MemoryDisk,
+    setting: &mut Setting,
+    refused: CaseFault,
+) -> Result<(), CaseFault> {
     let places = [FILE, paths.journal(), paths.copy(), paths.aside()];
-    setting.state.keep(alloc, ledger.state.disk(), &places)?;
+    setting.state.keep(alloc, disk, &places)?;
     let Some(file) = setting.state.bytes_at(alloc, FILE)? else {
         return Err(refused);
     };
     setting.file = file;
-    setting.drawer = mem::replace(&mut ledger.inputs, Drawer::new(alloc));
     Ok(())
 }

@@ -26,14 +26,23 @@ impl Disturbance {
     /// Makes it part of what the play begins with.
     pub fn disturb(self, setting: &mut Setting) -> Result<(), AllocError> {
         match self {
-            Disturbance::Nothing => {}
+            Disturbance::Reader(call, answer) => setting.answer_at(call, answer),
+            Disturbance::Clock(number) => setting.fail_reading(number),
+            unlisted => {
+                unlisted.note(setting);
+                Ok(())
+            }
+        }
+    }
+
+    // One that no list has.
+    fn note(self, setting: &mut Setting) {
+        match self {
             Disturbance::State(failing) => setting.state.failing = Some(failing),
             Disturbance::Ends(failing) => setting.ends.failing = Some(failing),
-            Disturbance::Reader(call, answer) => setting.answer_at(call, answer)?,
-            Disturbance::Clock(number) => setting.fail_reading(number)?,
             Disturbance::Guest(call) => setting.guest_fails = call,
+            Disturbance::Nothing | Disturbance::Reader(_, _) | Disturbance::Clock(_) => {}
         }
-        Ok(())
     }
 }
 

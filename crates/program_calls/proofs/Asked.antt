@@ -1,28 +1,21 @@
 -- Asked: what a call sends is read as what its words ask for, and nothing is sent of words that are refused.
 use Rattle.std.proofs.Common.{◌≡◌, ◌⊎◌, inl, inr, ℕ, ◌≤◌, Bool, true, false, cond, List, [], ◌∷◌, ◌++◌, Some, option_and_then, Result, Ok, Err, length, nat_lt, refl, sym, ap, ◌∙◌, subst, ltb-false, ⊎_elim}
-use Rattle.std.proofs.lemmas.Bool.{cond-false, cond-true, ltb-true}
 use Rattle.std.proofs.lemmas.Str.{IsUtf8-from_is_utf8}
-use Rattle.serde_json.specs.Data.{Data}
-use Rattle.serde_json.specs.Written.{compact_text}
+use Rattle.std.proofs.lemmas.Bool.{cond-false, cond-true, ltb-true}
+use Rattle.serde_json.specs.{Data.Data, Written.compact_text}
 use Rattle.json.proofs.Printed.Utf8.{IsUtf8-are_ascii}
-use Rattle.base_words.specs.Laws.{Lacks}
+use Rattle.base_words.specs.{Laws.Lacks, Texts.stripped}
 use Rattle.agent_control.specs.Answer.{◌>>=◌}
-use Rattle.agent_control.specs.Front.{IsLineFront}
+use Rattle.agent_control.specs.{Front.IsLineFront, declared.fault.RequestFault.RequestFault, declared.front.Front.TheVariants.Whole, declared.limits.TheConstants.LINE_MAX, declared.request.ControlRequest.ControlRequest}
 use Rattle.agent_control.specs.Requests.{asked_by_line, command_of, request_in_line}
 use Rattle.agent_control.specs.Words.{or_not_words, tree_of_words, words_in_tree, words_of}
-use Rattle.agent_control.specs.declared.fault.RequestFault.{RequestFault}
 use Rattle.agent_control.specs.declared.fault.RequestFault.TheVariants.{TooLong, NotWords}
-use Rattle.agent_control.specs.declared.fault.RequestFault.TheVariants as faults
-use Rattle.agent_control.specs.declared.front.Front.TheVariants.{Whole}
-use Rattle.agent_control.specs.declared.limits.TheConstants.{LINE_MAX}
-use Rattle.agent_control.specs.declared.request.ControlRequest.{ControlRequest}
-use Rattle.agent_control.proofs.Chosen.{granted, ok_same, refused, then_ok}
 use Rattle.agent_control.proofs.OneLine.{front_is, line_lacks}
+use Rattle.agent_control.proofs.Chosen.{granted, ok_same, refused, then_ok}
 use Rattle.agent_control.proofs.WordTrees.{AllUtf8, line_read, line_text, words_back}
-use Rattle.base_words.specs.Texts.{stripped}
+use Rattle.program_calls.specs.declared.ask.CallWords.{CallWords}
 use Rattle.program_calls.specs.Asking.{is_ask_text, line_for_ask, tree_for_ask, words_for_ask, words_line}
 use Rattle.program_calls.specs.Laws.{AreText, LineIsTooLong, SaysOnly, SentIsAsked, UnsentIsRefused}
-use Rattle.program_calls.specs.declared.ask.CallWords.{CallWords}
 use Rattle.program_calls.specs.declared.ask.CallWords.TheVariants.{Need, Replace, Add, Drop, Status, Health, Settle, Reload, Follow}
 
 -- ---- the words

@@ -1,29 +1,19 @@
 -- Beginning: how an answer begins, after the request. For `open`, `begin` and `follow`.
-use Rattle.std.proofs.Common.{◌≡◌, ◌∙◌, ◌≤◌, ◌⊎◌, ℕ, Bool, true, bytes_eq, length, IfOk, IsErr, IsErrAnd, IsTrue, List, [], ◌++◌, Option, Some, None, Result, Ok, Err, ap, inl, inr, refl, subst, sym}
+use Rattle.std.proofs.Common.{◌≡◌, ◌∙◌, ◌≤◌, ◌⊎◌, ℕ, Bool, true, bytes_eq, length, IfOk, IsErr, IsErrAnd, IsTrue, List, ◌++◌, Some, Result, Ok, Err, ap, inl, inr, refl, subst, sym}
 use Rattle.std.proofs.KnownBytes.{Consumes-trans}
 use Rattle.std.proofs.lemmas.Slice.Eq.{bytes_eq-Decides}
 use Rattle.std.specs.Io.KnownBytes.{Appends, Consumes, IsAtEnd}
 use Rattle.std.specs.Prelude.{codes}
-use Rattle.agent_control.specs.Replies.{reply_in_text}
-use Rattle.agent_control.specs.declared.reply.ControlReply.{ControlReply}
-use Rattle.base_device.specs.Failures.{CountsMore, one_more}
+use Rattle.agent_control.specs.{Replies.reply_in_text, declared.reply.ControlReply.ControlReply}
+use Rattle.base_device.specs.{Failures.CountsMore, Failures.one_more, Whole.MakesAtMost, Whole.input_fault, declared.fault.InputFault.InputFault, declared.one_read.MoreFault.MoreFault, declared.fault.SinkFault.SinkFault}
 use Rattle.base_device.specs.Seen.{Change, Input, Output, Seen, change}
-use Rattle.base_device.specs.Whole.{MakesAtMost, input_fault}
-use Rattle.base_device.specs.declared.fault.InputFault.{InputFault}
-use Rattle.base_device.specs.declared.one_read.MoreFault.{MoreFault}
-use Rattle.base_device.specs.declared.fault.SinkFault.{SinkFault}
 use Rattle.program_report.specs.Sent.{IsAll}
+use Rattle.program_calls.specs.{declared.call.AgentCall.AgentCall, declared.ended.Ended.Ended, declared.fault.CallFault.CallFault, declared.fault.CallFault.TheVariants.Memory, declared.following.Begun.Begun}
+use Rattle.program_calls.specs.{declared.following.Followed.Followed, declared.hearing.Heard.Heard}
 use Rattle.program_calls.specs.Following.{AnswerOpens, CallBegins, FollowingGoesOn, IsLost, ListensToAll, PassesBy, PassesOn, ReadsFront, ReadsOther, ReadsSaid, TellsHow}
 use Rattle.program_calls.specs.Hearing.{IsSentOrGivenUp, fault_of_read, fault_of_write, heard_of}
-use Rattle.program_calls.specs.declared.call.AgentCall.{AgentCall}
-use Rattle.program_calls.specs.declared.ended.Ended.{Ended}
-use Rattle.program_calls.specs.declared.fault.CallFault.{CallFault}
-use Rattle.program_calls.specs.declared.fault.CallFault.TheVariants.{Memory}
-use Rattle.program_calls.specs.declared.following.Begun.{Begun}
 use Rattle.program_calls.specs.declared.following.Begun.TheVariants.{Lines, Answer}
-use Rattle.program_calls.specs.declared.following.Followed.{Followed}
 use Rattle.program_calls.specs.declared.following.Followed.TheVariants as ways
-use Rattle.program_calls.specs.declared.hearing.Heard.{Heard}
 
 -- ---- what is read
 

@@ -2,24 +2,15 @@
 use Rattle.std.proofs.Common.{◌≡◌, ◌∙◌, ◌⊎◌, ap, ℕ, Bool, IsTrue, IfSome, IsErr, IsErrAnd, List, MatchResult, OnOk, Result, Ok, Err, refl, sym, subst, inl, inr}
 use Rattle.std.specs.Prelude.{IsErrOf}
 use Rattle.std.specs.Io.KnownBytes.{Appends, Keeps}
-use Rattle.base_device.specs.Failures.{Counts, CountsInput}
+use Rattle.base_device.specs.{Failures.Counts, Failures.CountsInput, Whole.IsReadToEnd, Whole.MakesAtMost, declared.fault.InputFault.InputFault, declared.fault.SinkFault.SinkFault, declared.limits.TheConstants.MOST_READS}
 use Rattle.base_device.specs.Seen.{Change, Output, ReceivesFront, Seen, change}
-use Rattle.base_device.specs.Whole.{IsReadToEnd, MakesAtMost}
-use Rattle.base_device.specs.declared.fault.InputFault.{InputFault}
-use Rattle.base_device.specs.declared.fault.SinkFault.{SinkFault}
 use Rattle.base_device.specs.declared.fault.SinkFault.TheVariants as sink
-use Rattle.base_device.specs.declared.limits.TheConstants.{MOST_READS}
 use Rattle.agent_control.specs.declared.reply.ControlReply.{ControlReply}
 use Rattle.std.proofs.KnownBytes.{Appends-kept}
-use Rattle.program_report.proofs.Counting.{failed_once, later_once}
-use Rattle.program_report.proofs.Fronts.{whole_front}
+use Rattle.program_report.proofs.{Counting.failed_once, Counting.later_once, Fronts.whole_front}
 use Rattle.program_report.specs.Sent.{IsAll}
+use Rattle.program_calls.specs.{Requesting.ReadsDevice, declared.fault.CallFault.CallFault, declared.fault.CallFault.TheVariants.Memory, declared.hearing.Heard.Heard, declared.limits.TheConstants.ANSWER_MAX}
 use Rattle.program_calls.specs.Hearing.{HearsReply, IsSentOrGivenUp, ListensToEnd, fault_of_read, fault_of_write, heard_of}
-use Rattle.program_calls.specs.Requesting.{ReadsDevice}
-use Rattle.program_calls.specs.declared.fault.CallFault.{CallFault}
-use Rattle.program_calls.specs.declared.fault.CallFault.TheVariants.{Memory}
-use Rattle.program_calls.specs.declared.hearing.Heard.{Heard}
-use Rattle.program_calls.specs.declared.limits.TheConstants.{ANSWER_MAX}
 
 -- the connection gave up
 pub gave_up : (r : Result (Unit {0}) SinkFault) (fault : SinkFault) (request : List ℕ) (line : Change) → r ≡ Err fault → ReceivesFront request line

@@ -4,8 +4,8 @@ use Rattle.std.proofs.KnownBytes.{Appends-trans, Consumes-trans}
 use Rattle.std.specs.Io.KnownBytes.{Consumes}
 use Rattle.base_device.specs.Failures.{one_more as one_more_failed}
 use Rattle.base_device.specs.Seen.{Change, Seen, change}
-use Rattle.program_calls.specs.Following.{PassesOn, PassesOne, ReadsOn, ShowsAll, TakesBytes}
 use Rattle.program_calls.specs.declared.following.Followed.{Followed}
+use Rattle.program_calls.specs.Following.{PassesOn, PassesOne, ReadsOn, ShowsAll, TakesBytes}
 use Rattle.program_calls.specs.declared.following.Followed.TheVariants as ways
 
 -- what came so far is shown, in so many pieces, and no call failed
@@ -65,7 +65,3 @@ module _ (l0 l1 l2 o0 o1 o2 : Seen) (a b : Bool) (n : ℕ) where
       ),
     ),
   )
-
--- so many pieces came that they are counted no further
-pub endless : (line out : Change) → SoFar 18446744073709551615 line out → PassesOn ways.Lost line out
-endless line out s = (s.came, (s.taken, (inr (s.reads_on, s.many), s.shown)))

@@ -1,8 +1,7 @@
 -- Shown: the lines of an answer are what stands after its first line.
 use Rattle.std.proofs.Common.{◌≡◌, ℕ, List, Some, drop, length, min, ap, ◌∙◌, arith}
-use Rattle.agent_control.specs.Laws.{ReplyOnly}
+use Rattle.agent_control.specs.{Laws.ReplyOnly, declared.reply.ControlReply.ControlReply}
 use Rattle.agent_control.specs.Replies.{control_reply_text, lines_text, reply_in_text}
-use Rattle.agent_control.specs.declared.reply.ControlReply.{ControlReply}
 use Rattle.agent_control.specs.declared.reply.ControlReply.TheVariants as replies
 
 done_text : (text : List ℕ) (lines : List (List ℕ)) → text ≡ control_reply_text (replies.Done lines) → drop 3 text ≡ lines_text lines

@@ -2,12 +2,9 @@
 -- Source: this project's own; what a line asks for is agent_control's, and JSON is that of RFC 8259.
 use Rattle.std.specs.Prelude.{ℕ, List, [], ◌∷◌, ◌++◌, Bool, true, false, Result, Ok, codes}
 use Rattle.std.specs.Str.{is_utf8}
-use Rattle.serde_json.specs.Data.{Data}
-use Rattle.serde_json.specs.Written.{compact_text}
+use Rattle.serde_json.specs.{Data.Data, Written.compact_text}
 use Rattle.agent_control.specs.Answer.{◌>>=◌}
-use Rattle.agent_control.specs.Requests.{request_in_line}
-use Rattle.agent_control.specs.Words.{texted}
-use Rattle.agent_control.specs.declared.fault.RequestFault.{RequestFault}
+use Rattle.agent_control.specs.{Requests.request_in_line, Words.texted, declared.fault.RequestFault.RequestFault}
 use Rattle.base_words.specs.Texts.{stripped}
 use Rattle.program_calls.specs.declared.ask.CallWords.{CallWords}
 use Rattle.program_calls.specs.declared.ask.CallWords.TheVariants.{Need, Replace, Add, Drop, Status, Health, Settle, Reload, Follow}

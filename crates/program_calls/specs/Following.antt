@@ -2,34 +2,18 @@
 -- Source: this project's own.
 use Rattle.std.specs.Prelude.{◌≡◌, ◌⊎◌, ℕ, ◌-◌, ◌^◌, ◌<◌, ◌≤◌, IsTrue, List, [], ◌++◌, false, IfOk, Option, Some, None, Result, Ok, Err, bytes_eq, codes, length}
 use Rattle.std.specs.Io.KnownBytes.{Consumes, IsAtEnd}
-use Rattle.agent_control.specs.Replies.{reply_in_text}
-use Rattle.agent_control.specs.declared.reply.ControlReply.{ControlReply}
-use Rattle.base_device.specs.Failures.{CountsMore, one_more}
+use Rattle.agent_control.specs.{Replies.reply_in_text, declared.reply.ControlReply.ControlReply}
+use Rattle.base_device.specs.{Failures.CountsMore, Failures.one_more, Whole.MakesAtMost, Whole.input_fault, declared.fault.InputFault.InputFault, declared.limits.TheConstants.MOST_ROOM, declared.one_read.MoreFault.MoreFault}
 use Rattle.base_device.specs.Seen.{Change, Receives, Seen, change}
-use Rattle.base_device.specs.Whole.{MakesAtMost, input_fault}
-use Rattle.base_device.specs.declared.fault.InputFault.{InputFault}
-use Rattle.base_device.specs.declared.fault.SinkFault.{SinkFault}
-use Rattle.base_device.specs.declared.limits.TheConstants.{MOST_ROOM}
-use Rattle.base_device.specs.declared.one_read.MoreFault.{MoreFault}
-use Rattle.program_report.specs.FaultLine.{fault_line}
+use Rattle.program_report.specs.{FaultLine.fault_line, Told.Reports, declared.stop.Stop.Stop}
 use Rattle.program_report.specs.Sent.{IsAll, IsUntouched, SendsText}
-use Rattle.program_report.specs.Told.{Reports}
-use Rattle.program_report.specs.declared.stop.Stop.{Stop}
-use Rattle.program_calls.specs.Ending.{ended_of}
+use Rattle.program_calls.specs.{Ending.ended_of, Lines.TellsOf, Requesting.ReadsDevice, Showing.ShowsAnswer, Showing.fault_words, declared.call.AgentCall.AgentCall, declared.ended.Ended.Ended, declared.fault.CallFault.CallFault}
+use Rattle.program_calls.specs.{declared.following.Begun.Begun, declared.following.Followed.Followed, declared.limits.TheConstants.ANSWER_MAX}
 use Rattle.program_calls.specs.Hearing.{IsUnsent, fault_of_read, heard_of}
-use Rattle.program_calls.specs.Lines.{TellsOf}
-use Rattle.program_calls.specs.Requesting.{ReadsDevice}
-use Rattle.program_calls.specs.Showing.{ShowsAnswer, fault_words}
-use Rattle.program_calls.specs.declared.call.AgentCall.{AgentCall}
-use Rattle.program_calls.specs.declared.ended.Ended.{Ended}
-use Rattle.program_calls.specs.declared.ended.Ended.TheVariants as endings
-use Rattle.program_calls.specs.declared.fault.CallFault.{CallFault}
 use Rattle.program_calls.specs.declared.fault.CallFault.TheVariants.{Memory, NoAnswer}
-use Rattle.program_calls.specs.declared.following.Begun.{Begun}
 use Rattle.program_calls.specs.declared.following.Begun.TheVariants.{Lines, Answer}
-use Rattle.program_calls.specs.declared.following.Followed.{Followed}
+use Rattle.program_calls.specs.declared.ended.Ended.TheVariants as endings
 use Rattle.program_calls.specs.declared.following.Followed.TheVariants as ways
-use Rattle.program_calls.specs.declared.limits.TheConstants.{ANSWER_MAX}
 
 -- these bytes were read, and nothing was written
 abbrev pub TakesBytes : List ℕ → Change → Type 0

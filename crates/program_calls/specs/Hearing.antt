@@ -1,19 +1,13 @@
 -- Hearing: what is sent over a connection, and what is made of the bytes that come.
 -- Source: this project's own; what an answer is is agent_control's.
 use Rattle.std.specs.Prelude.{◌≡◌, ◌⊎◌, ℕ, IsTrue, List, [], ◌∷◌, Option, Some, None, Result, Ok, Err}
-use Rattle.base_device.specs.Failures.{HasFailed}
-use Rattle.base_device.specs.Seen.{Change, ReceivesFront}
-use Rattle.base_device.specs.declared.fault.InputFault.{InputFault}
+use Rattle.base_device.specs.{Failures.HasFailed, Seen.Change, Seen.ReceivesFront, declared.fault.InputFault.InputFault, declared.fault.SinkFault.SinkFault}
 use Rattle.base_device.specs.declared.fault.InputFault.TheVariants as inputs
-use Rattle.base_device.specs.declared.fault.SinkFault.{SinkFault}
 use Rattle.base_device.specs.declared.fault.SinkFault.TheVariants as sink
-use Rattle.agent_control.specs.Replies.{reply_in_text}
-use Rattle.agent_control.specs.declared.reply.ControlReply.{ControlReply}
+use Rattle.agent_control.specs.{Replies.reply_in_text, declared.reply.ControlReply.ControlReply}
 use Rattle.program_report.specs.Sent.{IsAll}
-use Rattle.program_calls.specs.Requesting.{ReadsDevice}
-use Rattle.program_calls.specs.declared.fault.CallFault.{CallFault}
+use Rattle.program_calls.specs.{Requesting.ReadsDevice, declared.fault.CallFault.CallFault, declared.limits.TheConstants.ANSWER_MAX}
 use Rattle.program_calls.specs.declared.fault.CallFault.TheVariants as faults
-use Rattle.program_calls.specs.declared.limits.TheConstants.{ANSWER_MAX}
 
 -- ---- sending
 

@@ -1,15 +1,11 @@
 -- Laws of calls. Each is the contract of a public function without a body.
 use Rattle.std.specs.Prelude.{◌≡◌, ◌⊎◌, ℕ, ◌<◌, List, [], ◌∷◌, ◌++◌, false, Ok, Err, length}
 use Rattle.std.specs.Str.{IsUtf8}
-use Rattle.agent_control.specs.Front.{IsLineFront}
-use Rattle.agent_control.specs.Requests.{command_of, request_in_line}
-use Rattle.agent_control.specs.declared.fault.RequestFault.{RequestFault}
+use Rattle.agent_control.specs.{Front.IsLineFront, Requests.command_of, Requests.request_in_line, declared.fault.RequestFault.RequestFault, declared.front.Front.TheVariants.Whole, declared.limits.TheConstants.LINE_MAX}
+use Rattle.agent_control.specs.{declared.request.ControlRequest.ControlRequest}
 use Rattle.agent_control.specs.declared.fault.RequestFault.TheVariants.{TooLong, NotWords}
-use Rattle.agent_control.specs.declared.front.Front.TheVariants.{Whole}
-use Rattle.agent_control.specs.declared.limits.TheConstants.{LINE_MAX}
-use Rattle.agent_control.specs.declared.request.ControlRequest.{ControlRequest}
-use Rattle.program_calls.specs.Asking.{is_ask_text, line_for_ask, words_for_ask, words_line}
 use Rattle.program_calls.specs.declared.ask.CallWords.{CallWords}
+use Rattle.program_calls.specs.Asking.{is_ask_text, line_for_ask, words_for_ask, words_line}
 use Rattle.program_calls.specs.declared.ask.CallWords.TheVariants.{Need, Replace, Drop}
 
 -- the words of the command line are text

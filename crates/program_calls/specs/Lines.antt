@@ -2,12 +2,9 @@
 -- Source: this project's own.
 use Rattle.std.specs.Prelude.{◌≡◌, ℕ, List, [], ◌∷◌, ◌++◌, Option, Some, None}
 use Rattle.base_device.specs.Seen.{Change}
-use Rattle.program_report.specs.FaultLine.{before_colon, fault_line}
-use Rattle.program_report.specs.Told.{Reports}
+use Rattle.program_report.specs.{FaultLine.before_colon, FaultLine.fault_line, Told.Reports}
 use Rattle.program_report.specs.declared.stop.Stop.TheVariants as stops
-use Rattle.program_calls.specs.Asking.{command_word}
-use Rattle.program_calls.specs.declared.call.AgentCall.{AgentCall}
-use Rattle.program_calls.specs.declared.ended.Ended.{Ended}
+use Rattle.program_calls.specs.{Asking.command_word, declared.call.AgentCall.AgentCall, declared.ended.Ended.Ended}
 use Rattle.program_calls.specs.declared.ended.Ended.TheVariants as endings
 
 -- the program and the command

@@ -2,26 +2,13 @@
 -- Source: this project's own.
 use Rattle.std.specs.Prelude.{◌≡◌, ℕ, ◌≤◌, List, [], Bool, true, false, IfOk, IfSome, OnOk, Result, Ok, Err, length}
 use Rattle.std.specs.Io.KnownBytes.{IsAtEnd}
-use Rattle.base_device.specs.Failures.{CountsInput}
-use Rattle.base_device.specs.Seen.{Change}
-use Rattle.base_device.specs.Whole.{IsReadToEnd, MakesAtMost}
-use Rattle.base_device.specs.declared.fault.InputFault.{InputFault}
-use Rattle.base_device.specs.declared.limits.TheConstants.{MOST_READS}
-use Rattle.agent_control.specs.Replies.{request_fault_text}
-use Rattle.agent_control.specs.declared.fault.RequestFault.{RequestFault}
-use Rattle.program_report.specs.Exits.{stop_of_input}
-use Rattle.program_report.specs.FaultLine.{fault_line}
-use Rattle.program_report.specs.Sent.{IsUntouched}
-use Rattle.program_report.specs.Told.{Reports}
+use Rattle.base_device.specs.{Failures.CountsInput, Seen.Change, Whole.IsReadToEnd, Whole.MakesAtMost, declared.fault.InputFault.InputFault, declared.limits.TheConstants.MOST_READS}
+use Rattle.agent_control.specs.{Replies.request_fault_text, declared.fault.RequestFault.RequestFault}
+use Rattle.program_report.specs.{Exits.stop_of_input, FaultLine.fault_line, Sent.IsUntouched, Told.Reports}
 use Rattle.program_report.specs.declared.stop.Stop.TheVariants as stops
-use Rattle.program_calls.specs.Asking.{line_for_ask, takes_input}
-use Rattle.program_calls.specs.Ending.{ended_of}
-use Rattle.program_calls.specs.Lines.{call_line}
-use Rattle.program_calls.specs.declared.ask.CallWords.{CallWords}
-use Rattle.program_calls.specs.declared.call.AgentCall.{AgentCall}
-use Rattle.program_calls.specs.declared.ended.Ended.{Ended}
+use Rattle.program_calls.specs.{Asking.line_for_ask, Asking.takes_input, Ending.ended_of, Lines.call_line, declared.ask.CallWords.CallWords, declared.call.AgentCall.AgentCall, declared.ended.Ended.Ended}
+use Rattle.program_calls.specs.{declared.limits.TheConstants.INPUT_MAX}
 use Rattle.program_calls.specs.declared.ended.Ended.TheVariants as endings
-use Rattle.program_calls.specs.declared.limits.TheConstants.{INPUT_MAX}
 
 -- a device was read to its end, up to so many bytes and reads, and gave these bytes, or failed so
 pub record ReadsDevice (max : ℕ) (read : Result (List ℕ) InputFault) (device : Change) : Type 0 where

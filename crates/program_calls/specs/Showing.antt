@@ -1,23 +1,14 @@
 -- Showing: what a call shows of an answer, and what it tells where there is none.
 -- Source: this project's own; docs/commands/calls.md, "What it says".
 use Rattle.std.specs.Prelude.{◌≡◌, ◌⊎◌, ℕ, ◌==◌, List, ◌∷◌, Bool, not, ◌&&◌, ◌||◌, if◌then◌else◌, Option, Some, None, Result, Ok, Err, bytes_eq, codes, length}
-use Rattle.agent_control.specs.Replies.{lines_text}
-use Rattle.agent_control.specs.declared.reply.ControlReply.{ControlReply}
+use Rattle.agent_control.specs.{Replies.lines_text, declared.reply.ControlReply.ControlReply}
 use Rattle.agent_control.specs.declared.reply.ControlReply.TheVariants as replies
 use Rattle.base_device.specs.Seen.{Change}
-use Rattle.program_report.specs.FaultLine.{fault_line}
+use Rattle.program_report.specs.{FaultLine.fault_line, Told.Reports, declared.stop.Stop.Stop}
 use Rattle.program_report.specs.Sent.{IsAll, IsUntouched, SendsText}
-use Rattle.program_report.specs.Told.{Reports}
-use Rattle.program_report.specs.declared.stop.Stop.{Stop}
-use Rattle.program_calls.specs.Asking.{is_health}
-use Rattle.program_calls.specs.Ending.{ended_of}
-use Rattle.program_calls.specs.Hearing.{HearsReply}
-use Rattle.program_calls.specs.Lines.{TellsOf, call_lines}
-use Rattle.program_calls.specs.declared.ask.CallWords.{CallWords}
-use Rattle.program_calls.specs.declared.call.AgentCall.{AgentCall}
-use Rattle.program_calls.specs.declared.ended.Ended.{Ended}
+use Rattle.program_calls.specs.{Asking.is_health, Ending.ended_of, Hearing.HearsReply, Lines.TellsOf, Lines.call_lines, declared.ask.CallWords.CallWords, declared.call.AgentCall.AgentCall, declared.ended.Ended.Ended}
+use Rattle.program_calls.specs.{declared.fault.CallFault.CallFault}
 use Rattle.program_calls.specs.declared.ended.Ended.TheVariants as endings
-use Rattle.program_calls.specs.declared.fault.CallFault.{CallFault}
 use Rattle.program_calls.specs.declared.fault.CallFault.TheVariants as faults
 
 -- ---- an answer

@@ -22,7 +22,10 @@ const MOST_TRIES: u64 = PATIENCE * 1000 / PAUSE;
 /// # Errors
 ///
 /// Why there is no connection.
-pub fn connect<R: Net + Clock>(rt: &R, call: &AgentCall<'_>) -> Result<Counted<UnixStream>, Unreached> {
+pub fn connect<R: Net + Clock>(
+    rt: &R,
+    call: &AgentCall<'_>,
+) -> Result<Counted<UnixStream>, Unreached> {
     match open(rt, call) {
         Ok(stream) => Ok(Counted::new(stream)),
         Err(error) => Err(Unreached::of(error.kind())),

@@ -19,7 +19,12 @@ pub(crate) fn tell_of_call<E: Sink>(errors: &mut E, call: &AgentCall<'_>, words:
 }
 
 /// Tells why an agent refused a call, a line for each reason.
-pub(crate) fn tell_of_refusal<E: Sink>(errors: &mut E, call: &AgentCall<'_>, why: &[u8], more: &[Text])
+pub(crate) fn tell_of_refusal<E: Sink>(
+    errors: &mut E,
+    call: &AgentCall<'_>,
+    why: &[u8],
+    more: &[Text],
+)
     ensures { Reports (call_lines call.now (why.now ∷ more.now)) (⟦<E as Watched>⟧.change errors.old errors.new) }
 {
     let _ = put_reasons(errors, call, why, more);
@@ -27,7 +32,11 @@ pub(crate) fn tell_of_refusal<E: Sink>(errors: &mut E, call: &AgentCall<'_>, why
 }
 
 /// Tells what went wrong at the socket of a call, `None` being lack of memory.
-pub(crate) fn tell_of_socket<E: Sink>(call: &AgentCall<'_>, words: Option<&str>, errors: &mut E) -> Ended
+pub(crate) fn tell_of_socket<E: Sink>(
+    call: &AgentCall<'_>,
+    words: Option<&str>,
+    errors: &mut E,
+) -> Ended
     ensures { TellsOf call.now (option_map (λ w. w.now) words.entry) result (⟦<E as Watched>⟧.change errors.old errors.new) }
 {
     match words {
@@ -63,7 +72,11 @@ fn put_reasons<E: Sink>(
 }
 
 // A line for each of these reasons.
-fn put_call_lines<E: Sink>(errors: &mut E, call: &AgentCall<'_>, whys: &[Text]) -> Result<(), SinkFault>
+fn put_call_lines<E: Sink>(
+    errors: &mut E,
+    call: &AgentCall<'_>,
+    whys: &[Text],
+) -> Result<(), SinkFault>
     ensures { Puts result (call_lines call.now whys.now) (⟦<E as Watched>⟧.change errors.old errors.new) }
 {
     for why in whys {
@@ -79,7 +92,11 @@ fn put_reason<E: Sink>(errors: &mut E, call: &AgentCall<'_>, why: &Text) -> Resu
 }
 
 #[tactic(auto, using(program_report::proofs::Pieces::piece_cut, program_report::proofs::Pieces::piece_more), unfolding(crate::specs::Lines::call_line))]
-fn put_call_line<E: Sink>(errors: &mut E, call: &AgentCall<'_>, words: &[u8]) -> Result<(), SinkFault>
+fn put_call_line<E: Sink>(
+    errors: &mut E,
+    call: &AgentCall<'_>,
+    words: &[u8],
+) -> Result<(), SinkFault>
     ensures { Puts result (call_line call.now words.now) (⟦<E as Watched>⟧.change errors.old errors.new) }
 {
     put_front(errors, call)?;
@@ -87,7 +104,11 @@ fn put_call_line<E: Sink>(errors: &mut E, call: &AgentCall<'_>, words: &[u8]) ->
 }
 
 #[tactic(auto, using(program_report::proofs::Pieces::piece_cut, program_report::proofs::Pieces::piece_more), unfolding(crate::specs::Lines::socket_line))]
-fn put_socket_line<E: Sink>(errors: &mut E, call: &AgentCall<'_>, words: &[u8]) -> Result<(), SinkFault>
+fn put_socket_line<E: Sink>(
+    errors: &mut E,
+    call: &AgentCall<'_>,
+    words: &[u8],
+) -> Result<(), SinkFault>
     ensures { Puts result (socket_line call.now words.now) (⟦<E as Watched>⟧.change errors.old errors.new) }
 {
     put_front(errors, call)?;

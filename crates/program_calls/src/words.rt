@@ -16,7 +16,11 @@ use std::alloc::{AllocError, Global};
 
 /// The line that asks for it, with its line feed, where an agent reads it as a request; else why it does not.
 #[tactic(auto, unfolding(crate::specs::Asking::line_for_ask))]
-pub(crate) fn line_for(alloc: Global, ask: &CallWords<'_>, input: &[u8]) -> Result<Text, RequestFault>
+pub(crate) fn line_for(
+    alloc: Global,
+    ask: &CallWords<'_>,
+    input: &[u8],
+) -> Result<Text, RequestFault>
     ensures { GivesOrRequestFault (λ text. text) result (line_for_ask ask.now input.now) }
 {
     let mut line = words_line(alloc, ask, input)?;

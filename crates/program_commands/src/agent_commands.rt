@@ -1,5 +1,5 @@
 //! The commands that keep entries alive, with their help.
-use crate::described::{Described, FILE, Takes, Value, DescribedWord};
+use crate::described::{Described, DescribedWord, FILE, Takes, Value};
 use watch_machine::WIDTH_MAX;
 
 /// `run FILE PORT|SOCKET START [--timeout SECONDS]`

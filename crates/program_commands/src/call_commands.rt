@@ -1,5 +1,5 @@
 //! The commands of a running agent: how the command line has them, and what its words ask.
-use crate::described::{Described, Takes, Value, DescribedWord};
+use crate::described::{Described, DescribedWord, Takes, Value};
 use crate::job::Called;
 use clap::ArgMatches;
 use program_calls::CallWords;

@@ -1,5 +1,5 @@
 //! The commands over files alone, with their help.
-use crate::described::{Described, FILE, START, Takes, Value, DescribedWord};
+use crate::described::{Described, DescribedWord, FILE, START, Takes, Value};
 use plan_commands::LIMIT;
 
 /// `ends FILE START [MOMENT..]`

@@ -14,5 +14,5 @@ mod parser;
 mod words;
 
 pub use groups::overview;
-pub use job::{Called, Job, LintWords, Live, Rehearsed, EndsRoom, ServeWords, Socket};
+pub use job::{Called, EndsRoom, Job, LintWords, Live, Rehearsed, ServeWords, Socket};
 pub use words::read_command;

@@ -1,7 +1,7 @@
 //! What the words of the command line ask.
 use crate::agent_commands::BROKER;
 use crate::call_commands::called;
-use crate::job::{Called, Job, LintWords, Live, Rehearsed, EndsRoom, ServeWords, Socket};
+use crate::job::{Called, EndsRoom, Job, LintWords, Live, Rehearsed, ServeWords, Socket};
 use crate::parser::{mistake, parse};
 use base_clients::{Entrance, entrance_of};
 use base_device::{Counted, Place, Sink};
@@ -9,7 +9,7 @@ use base_log::Form;
 use base_moment::{Moment, Text};
 use clap::error::ErrorKind;
 use clap::{ArgMatches, Error};
-use plan_commands::{PlanCommand, MarginQuery};
+use plan_commands::{MarginQuery, PlanCommand};
 use program_report::{Exit, PROGRAM, Stop, tell};
 use program_words::{number_or, place_to_ask, show};
 use std::alloc::{AllocError, AllocFailed, Global};
@@ -301,7 +301,11 @@ fn place<'a>(matches: &ArgMatches<'a>) -> Result<Place<'a>, Unread> {
 }
 
 /// The command about plans of this name, with all its values. After this nothing asks for a value by its name.
-fn command_of(alloc: Global, command: &str, matches: &ArgMatches<'_>) -> Result<PlanCommand, Unread> {
+fn command_of(
+    alloc: Global,
+    command: &str,
+    matches: &ArgMatches<'_>,
+) -> Result<PlanCommand, Unread> {
     match command {
         "ends" => ends(alloc, matches),
         "plan" => plan(alloc, matches),

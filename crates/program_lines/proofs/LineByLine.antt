@@ -1,19 +1,14 @@
 -- LineByLine: lines after lines, and a stop after lines.
 use Rattle.std.proofs.Common.{◌≡◌, ℕ, ◌+◌, ◌-◌, ◌<◌, ◌≤◌, min, inl, inr, IsTrue, List, [], ◌∷◌, ◌++◌, Result, Ok, Err, drop, length, length-append, refl, sym, ap, ◌∙◌, subst, arith}
-use Rattle.std.proofs.KnownBytes.{Appends-nil, Appends-trans}
-use Rattle.std.proofs.Math.Seq.{drop-append_seam}
+use Rattle.std.proofs.{KnownBytes.Appends-nil, KnownBytes.Appends-trans, Math.Seq.drop-append_seam}
 use Rattle.std.proofs.lemmas.List.{append-nil, append_assoc, drop-drop}
-use Rattle.std.specs.Io.KnownBytes.{Appends}
-use Rattle.std.specs.Result.{IsErr, IsErrAnd}
+use Rattle.std.specs.{Io.KnownBytes.Appends, Result.IsErr, Result.IsErrAnd}
 use Rattle.base_device.specs.Seen.{Change, Seen}
-use Rattle.program_report.specs.declared.stop.Stop.{Stop}
+use Rattle.program_report.specs.{declared.stop.Stop.Stop, Sent.IsAll, Sent.IsUntouched}
 use Rattle.program_report.specs.declared.stop.Stop.TheVariants as stops
-use Rattle.program_report.specs.Sent.{IsAll, IsUntouched}
+use Rattle.program_lines.specs.{code.LineByLine.HaltsWithin, code.LineByLine.HearsUpTo, declared.limits.InputLimits.InputLimits, declared.limits.TheConstants.MOST_LINE}
 use Rattle.program_lines.specs.Hearing.{Hearing, HearsLine, IsSaidWhole, StopsAfter, TextIsSaid, counted_line, joined_changes}
 use Rattle.program_lines.specs.Listening.{AreHeard, HasEnded, HearerIsStopped, IsNoLine, ListeningHalts, ListensTo}
-use Rattle.program_lines.specs.code.LineByLine.{HaltsWithin, HearsUpTo}
-use Rattle.program_lines.specs.declared.limits.InputLimits.{InputLimits}
-use Rattle.program_lines.specs.declared.limits.TheConstants.{MOST_LINE}
 use Rattle.program_lines.proofs.Cut.{cut_back, first_piece}
 use Rattle.base_words.specs.Pieces.{pieces}
 
@@ -148,15 +143,6 @@ module _ (S : Type 0) (h : Hearing S) where
         count = omega (arith, before, then', longer);
         sent = sent_then a b same one.text other.text one.sent other.sent;
       }
-
-  -- what stands after the last line is as long as a line may be
-  pub long_rest :
-      (first : ℕ) (old : S) (bytes rest : List ℕ) (mid : S) (last : ℕ) (a : Change) → HearsUpTo S h first old bytes (rest ∷ []) mid last a → MOST_LINE ≤ length rest →
-      HaltsWithin S h first old bytes (stops.Line (counted_line (last + 1))) mid a
-  long_rest first old bytes rest mid last a before long =
-      let count : last ≡ min (first + length before.lines) 18446744073709551615 = before.count in
-      let number : counted_line (last + 1) ≡ counted_line (first + length before.lines + 1) = omega (arith, count) in
-      record { lines = before.lines; behind = rest ∷ []; mid = mid; text = before.text; heard = before.heard; halts = (number, (inl long, (refl, before.sent.0))) }
 
   -- by the names that the loop over lines has
   pub heard_on :

@@ -1,22 +1,19 @@
 -- LinesRead: what was read so far is heard line by line, and how that goes on and ends: for `listen`.
 use Rattle.std.proofs.Common.{◌≡◌, ℕ, ◌+◌, ◌-◌, ◌^◌, ◌<◌, ◌≤◌, ◌⊎◌, inl, inr, Bool, true, false, cond, min, nat_lt, List, [], ◌∷◌, ◌++◌, Option, Some, None, IfSome, OnOk, Result, Ok, Err, drop, length, length-append, take, take-append-drop, refl, sym, ap, ◌∙◌, subst, arith}
-use Rattle.std.proofs.KnownBytes.{Appends-nil, Consumes-kept, Consumes-nil, Consumes-trans}
-use Rattle.std.proofs.lemmas.List.{append-nil, length-take-le, take-append-le, take_all}
-use Rattle.std.proofs.lemmas.Bool.{cases_lt}
 use Rattle.std.proofs.Math.Seq.{take-append-add}
-use Rattle.std.proofs.lemmas.Bool.Decides.{nat_tests}
+use Rattle.std.proofs.KnownBytes.{Appends-nil, Consumes-kept, Consumes-nil, Consumes-trans}
+use Rattle.std.proofs.lemmas.{Bool.cases_lt, Bool.Decides.nat_tests}
+use Rattle.std.proofs.lemmas.List.{append-nil, length-take-le, take-append-le, take_all}
 use Rattle.std.specs.Result.{IfErr}
 use Rattle.std.specs.Io.KnownBytes.{Consumes, IsAtEnd, Keeps}
+use Rattle.base_device.specs.{Failures.one_more, Whole.MakesAtMost}
 use Rattle.base_device.specs.Seen.{Change, Input, Seen, change}
-use Rattle.base_device.specs.Failures.{one_more}
-use Rattle.base_device.specs.Whole.{MakesAtMost}
 use Rattle.program_report.specs.declared.stop.Stop.{Stop}
 use Rattle.program_report.specs.declared.stop.Stop.TheVariants as stops
+use Rattle.program_lines.specs.{declared.limits.InputLimits.InputLimits, declared.limits.TheConstants.MOST_LINE, declared.limits.TheConstants.ROOM}
 use Rattle.program_lines.specs.Hearing.{Hearing, IsSaidWhole, StopsAfter, counted_line, joined_changes}
 use Rattle.program_lines.specs.Listening.{HasEnded, IsHeardFirst, IsOver, IsPrompt, IsReadWithin, ListeningHalts, Listens, ListensTo, MakesAtLeast, part_to_hear}
 use Rattle.program_lines.specs.code.LineByLine.{HaltsWithin, HearsUpTo, IsListening, SoManyAreLeft, left_after, part_left_to_hear}
-use Rattle.program_lines.specs.declared.limits.InputLimits.{InputLimits}
-use Rattle.program_lines.specs.declared.limits.TheConstants.{MOST_LINE, ROOM}
 use Rattle.program_lines.proofs.Cut.{pieces_more}
 use Rattle.program_lines.proofs.LineByLine.{halts_behind, halts_where, said_appends, up_to_first, up_to_then}
 use Rattle.base_words.specs.Pieces.{pieces}

@@ -2,12 +2,10 @@
 -- Source: this project's own: `tick T` and `need NAME T`, words parted by one space, T a moment spelled in decimal.
 use Rattle.std.specs.Prelude.{ℕ, ◌==◌, ◌<◌, List, [], ◌∷◌, Option, Some, None, codes, bytes_eq, length, nat_lt, option_map, if◌then◌else◌}
 use Rattle.base_moment.specs.declared.moment.TheConstants.{LAST}
-use Rattle.program_lines.specs.declared.event_line.HeardLine.{HeardLine}
+use Rattle.program_lines.specs.{declared.event_line.HeardLine.HeardLine, declared.limits.TheConstants.MOST_LINE}
 use Rattle.program_lines.specs.declared.event_line.HeardLine.TheVariants.{Tick, Need, Unknown}
-use Rattle.program_lines.specs.declared.limits.TheConstants.{MOST_LINE}
 use Rattle.plan_forest.specs.Forest.{Forest, index_named}
-use Rattle.base_words.specs.Numbers.{number_up_to}
-use Rattle.base_words.specs.Pieces.{words}
+use Rattle.base_words.specs.{Numbers.number_up_to, Pieces.words}
 
 -- `tick T`
 abbrev pub tick_in : List ℕ → List ℕ → Option HeardLine

@@ -2,9 +2,8 @@
 -- Source: this project's own.
 use Rattle.std.specs.Prelude.{◌≡◌, ℕ, ◌⊎◌, ◌++◌, List, [], Result, Ok, Err, min}
 use Rattle.base_device.specs.Seen.{Change}
-use Rattle.program_report.specs.declared.stop.Stop.{Stop}
+use Rattle.program_report.specs.{declared.stop.Stop.Stop, Sent.IsAll, Sent.IsUntouched}
 use Rattle.program_report.specs.declared.stop.Stop.TheVariants as stops
-use Rattle.program_report.specs.Sent.{IsAll, IsUntouched}
 
 -- a line is none at a state; it is heard at a state, leads to another, and is answered by this text; or it stops the program, at a
 -- state, after this text, for this reason, and leaves this state and this output

@@ -2,14 +2,12 @@
 -- Source: this project's own.
 use Rattle.std.specs.Prelude.{◌≡◌, ℕ, ◌+◌, ◌-◌, ◌^◌, ◌<◌, ◌≤◌, ◌⊎◌, ◌++◌, List, [], ◌∷◌, Option, None, Some, Result, Ok, Err, IfSome, length, take}
 use Rattle.std.specs.Io.KnownBytes.{Consumes, IsAtEnd}
+use Rattle.base_device.specs.{Failures.one_more, Whole.MakesAtMost}
 use Rattle.base_device.specs.Seen.{Change, Input, Receives}
-use Rattle.base_device.specs.Failures.{one_more}
-use Rattle.base_device.specs.Whole.{MakesAtMost}
 use Rattle.program_report.specs.declared.stop.Stop.{Stop}
 use Rattle.program_report.specs.declared.stop.Stop.TheVariants as stops
+use Rattle.program_lines.specs.{declared.limits.InputLimits.InputLimits, declared.limits.TheConstants.MOST_LINE, declared.limits.TheConstants.ROOM}
 use Rattle.program_lines.specs.Hearing.{Hearing, TextIsSaid, counted_line}
-use Rattle.program_lines.specs.declared.limits.InputLimits.{InputLimits}
-use Rattle.program_lines.specs.declared.limits.TheConstants.{MOST_LINE, ROOM}
 use Rattle.base_words.specs.Pieces.{pieces}
 
 -- ---- lines

@@ -1,11 +1,9 @@
 -- Ended: a run that ends by its faults ends by what a start would say. For `lint_bytes`.
-use Rattle.std.proofs.Common.{◌≡◌, ◌⊎◌, ℕ, Bool, true, false, List, [], ◌∷◌, inl, inr, refl}
+use Rattle.std.proofs.Common.{◌≡◌, ℕ, Bool, true, false, List, [], ◌∷◌, inl, inr, refl}
 use Rattle.base_files.specs.Files.{Files}
 use Rattle.program_report.specs.declared.exit.Exit.{Exit}
-use Rattle.program_report.specs.declared.exit.Exit.TheVariants.{Done, Inventory, CommandLine, Unkeepable, No, TooLong, Device, Memory}
-use Rattle.agent_words.specs.Reading.{AreFaults, FirstIsWhy}
-use Rattle.agent_words.specs.declared.demands.Demands.{Demands}
-use Rattle.agent_words.specs.declared.fault.StartFault.{StartFault}
+use Rattle.program_report.specs.declared.exit.Exit.TheVariants.{Done, Inventory, Device, Memory}
+use Rattle.agent_words.specs.{Reading.AreFaults, Reading.FirstIsWhy, declared.demands.Demands.Demands, declared.fault.StartFault.StartFault}
 use Rattle.program_lint.specs.Ends.{EndsBy, ends_by, is_faulty}
 
 -- where memory was refused

@@ -1,8 +1,6 @@
 -- NoInventory: a text with a fault that is not lack of memory is none. For `doubted_of`.
 use Rattle.std.proofs.Common.{◌≡◌, ℕ, List, Err, refl}
-use Rattle.vault_inventory.specs.Answers.{FailsWithInvFault}
-use Rattle.vault_inventory.specs.Inventory.{read_served}
-use Rattle.vault_inventory.specs.declared.fault.InvFault.{InvFault}
+use Rattle.vault_inventory.specs.{Answers.FailsWithInvFault, Inventory.read_served, declared.fault.InvFault.InvFault}
 use Rattle.vault_inventory.specs.declared.fault.InvFault.TheVariants.{NotToml, MissingKey, UnknownKey, BadValue, Tree, OutOfMemory}
 
 pub none_of : (text : List ℕ) (fault : InvFault) → (fault ≡ OutOfMemory → ⊥) → FailsWithInvFault fault (read_served text) → (why : InvFault) × (read_served text ≡ Err why)

@@ -5,9 +5,7 @@ use Rattle.base_files.specs.Files.{Files}
 use Rattle.vault_inventory.specs.Inventories.{Inventory}
 use Rattle.program_report.specs.declared.exit.Exit.{Exit}
 use Rattle.program_report.specs.declared.exit.Exit.TheVariants as exits
-use Rattle.agent_words.specs.Reading.{AreFaults, IsToServe}
-use Rattle.agent_words.specs.declared.demands.Demands.{Demands}
-use Rattle.agent_words.specs.declared.fault.StartFault.{StartFault}
+use Rattle.agent_words.specs.{Reading.AreFaults, Reading.IsToServe, declared.demands.Demands.Demands, declared.fault.StartFault.StartFault}
 
 -- with 1 only where it is refused, whatever it holds or because it has faults, and with 0 only where it is served; else a write failed, or
 -- memory was refused

@@ -1,10 +1,8 @@
 -- Judged: what is doubted of the text of an inventory.
 -- Source: this project's own; docs/commands/lint.md.
 use Rattle.std.specs.Prelude.{◌≡◌, ℕ, Bool, List, Option, Some, None, Err}
-use Rattle.vault_inventory.specs.Inventory.{read_served}
-use Rattle.vault_inventory.specs.declared.fault.InvFault.{InvFault}
-use Rattle.vault_lint.specs.Doubts.{doubts}
-use Rattle.vault_lint.specs.Subjects.{IsSubject}
+use Rattle.vault_inventory.specs.{Inventory.read_served, declared.fault.InvFault.InvFault}
+use Rattle.vault_lint.specs.{Doubts.doubts, Subjects.IsSubject}
 use Rattle.program_lint.specs.declared.judged.Doubted.{Doubted}
 
 -- those of what the text writes; or it is no inventory

@@ -5,7 +5,7 @@ use std::fs::{self, Metadata};
 use std::io::ErrorKind;
 use std::os::unix::fs::MetadataExt;
 use std::rt::Files;
-use vault_inventory::{InvFault, EntryNote, read_served};
+use vault_inventory::{EntryNote, InvFault, read_served};
 
 /// Of each entry of an inventory with these bytes whether others may read or write its file, which starts at `folder`; of none, where
 /// the bytes are no inventory. The only error is lack of memory.

@@ -1,8 +1,8 @@
 -- Counting: a call that failed shows in the count, also after a further call.
 use Rattle.std.proofs.Common.{◌≡◌, ◌∙◌, ap, ℕ, ◌+◌, ◌-◌, ◌^◌, Bool, true, false, cond, Result, Ok, Err, nat_lt, refl, sym, subst, arith, inl, inr}
 use Rattle.std.proofs.lemmas.Bool.Decides.{nat_tests}
-use Rattle.base_device.specs.Failures.{Counts, HasFailed, one_more}
 use Rattle.base_device.specs.declared.fault.SinkFault.{SinkFault}
+use Rattle.base_device.specs.Failures.{Counts, HasFailed, one_more}
 use Rattle.base_device.specs.declared.fault.SinkFault.TheVariants as sink
 
 risen : (b : Bool) (n : ℕ) → b ≡ nat_lt n (2 ^ 64 - 1) → HasFailed n (cond b (n + 1) n)

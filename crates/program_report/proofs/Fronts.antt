@@ -1,18 +1,12 @@
 -- Fronts: a text that was not sent whole, for `send`.
 use Rattle.std.proofs.Common.{◌≡◌, ◌∙◌, ℕ, List, Option, Result, Ok, Err, IsTrue, ap, arith, length, refl, subst, sym}
 use Rattle.std.specs.Prelude.{IsErrOf}
-use Rattle.std.specs.Result.{IsErr, IsErrAnd}
+use Rattle.std.specs.{Result.IsErr, Result.IsErrAnd, Io.KnownBytes.Appends, Io.KnownBytes.Keeps}
 use Rattle.std.proofs.KnownBytes.{Appends-kept}
 use Rattle.std.proofs.lemmas.List.{take_all}
-use Rattle.std.specs.Io.KnownBytes.{Appends, Keeps}
-use Rattle.base_device.specs.Failures.{Counts, one_more}
-use Rattle.base_device.specs.Front.{AppendsFront}
-use Rattle.base_device.specs.Seen.{Change}
-use Rattle.base_device.specs.declared.fault.SinkFault.{SinkFault}
+use Rattle.base_device.specs.{Failures.Counts, Failures.one_more, Front.AppendsFront, Seen.Change, declared.fault.SinkFault.SinkFault}
 use Rattle.base_device.specs.declared.fault.SinkFault.TheVariants as sink
-use Rattle.program_report.specs.declared.stop.Stop.{Stop}
-use Rattle.program_report.specs.Exits.{stop_of_sink}
-use Rattle.program_report.specs.Sent.{SendsText}
+use Rattle.program_report.specs.{declared.stop.Stop.Stop, Exits.stop_of_sink, Sent.SendsText}
 use Rattle.program_report.proofs.Counting.{failed_once}
 
 -- all of it went out, and then the flush failed

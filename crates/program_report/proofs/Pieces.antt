@@ -1,15 +1,10 @@
 -- Pieces: a text that was written piece by piece, for the fault line.
-use Rattle.std.proofs.Common.{◌≡◌, ◌∙◌, ℕ, ◌+◌, ◌≤◌, ◌<◌, List, ◌++◌, Option, Bool, Result, Ok, Err, IsTrue, ◌⊎◌, ⊎_elim, ap, arith, length, take, subst, sym}
-use Rattle.std.proofs.KnownBytes.{Appends-trans}
-use Rattle.std.proofs.lemmas.Bool.{cases_lt}
-use Rattle.std.proofs.lemmas.List.{take_all, take-append-le}
-use Rattle.std.proofs.Math.Seq.{take-append-add, take-append_seam}
-use Rattle.std.specs.Io.KnownBytes.{Appends}
-use Rattle.std.specs.Result.{IsErr, IsErrAnd}
-use Rattle.base_device.specs.Failures.{one_more}
-use Rattle.base_device.specs.Front.{AppendsFront}
+use Rattle.std.proofs.Common.{◌≡◌, ◌∙◌, ℕ, ◌+◌, ◌≤◌, ◌<◌, List, ◌++◌, Option, Bool, Result, Ok, Err, ◌⊎◌, ⊎_elim, ap, arith, length, take, subst, sym}
+use Rattle.std.proofs.{KnownBytes.Appends-trans, Math.Seq.take-append-add, Math.Seq.take-append_seam}
+use Rattle.std.proofs.lemmas.{Bool.cases_lt, List.take_all, List.take-append-le}
+use Rattle.std.specs.{Io.KnownBytes.Appends, Result.IsErr, Result.IsErrAnd}
+use Rattle.base_device.specs.{Failures.one_more, Front.AppendsFront, declared.fault.SinkFault.SinkFault}
 use Rattle.base_device.specs.Seen.{Change, Seen, change}
-use Rattle.base_device.specs.declared.fault.SinkFault.{SinkFault}
 use Rattle.base_device.specs.declared.fault.SinkFault.TheVariants as sink
 use Rattle.program_report.specs.Sent.{Puts}
 

@@ -1,14 +1,11 @@
 -- Reporting: what was told once a fault line was written and flushed, for `tell` and `Stop::report`.
-use Rattle.std.proofs.Common.{◌≡◌, ℕ, Bool, IsTrue, List, Option, Result, Ok, Err, OnOk, refl, inl, inr, ◌⊎◌}
+use Rattle.std.proofs.Common.{◌≡◌, ℕ, Bool, IsTrue, List, Result, Ok, Err, OnOk, refl, inl, inr, ◌⊎◌}
 use Rattle.std.specs.Prelude.{IsErrOf}
 use Rattle.std.specs.Io.KnownBytes.{Appends, Keeps}
 use Rattle.std.proofs.KnownBytes.{Appends-kept}
-use Rattle.base_device.specs.Failures.{Counts}
-use Rattle.base_device.specs.Seen.{Seen, change}
-use Rattle.base_device.specs.declared.fault.SinkFault.{SinkFault}
+use Rattle.base_device.specs.{Failures.Counts, Seen.Seen, Seen.change, declared.fault.SinkFault.SinkFault}
 use Rattle.base_device.specs.declared.fault.SinkFault.TheVariants as sink
-use Rattle.program_report.specs.Sent.{GaveUp, Puts}
-use Rattle.program_report.specs.Told.{Reports}
+use Rattle.program_report.specs.{Sent.GaveUp, Sent.Puts, Told.Reports}
 use Rattle.program_report.proofs.Counting.{failed_once, still, later_once}
 
 module _ (line : List ℕ) (old mid new : Seen) (in_memory : Bool) where

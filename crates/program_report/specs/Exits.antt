@@ -5,13 +5,11 @@ use Rattle.vault_inventory.specs.declared.fault.InvFault.{InvFault}
 use Rattle.vault_inventory.specs.declared.fault.InvFault.TheVariants as inventory
 use Rattle.plan_rule.specs.declared.wake.WakeFault.{WakeFault}
 use Rattle.plan_rule.specs.declared.wake.WakeFault.TheVariants as wakes
-use Rattle.base_device.specs.declared.fault.InputFault.{InputFault}
+use Rattle.base_device.specs.{declared.fault.InputFault.InputFault, declared.fault.SinkFault.SinkFault}
 use Rattle.base_device.specs.declared.fault.InputFault.TheVariants as inputs
-use Rattle.base_device.specs.declared.fault.SinkFault.{SinkFault}
 use Rattle.base_device.specs.declared.fault.SinkFault.TheVariants as sink
-use Rattle.program_report.specs.declared.exit.Exit.{Exit}
+use Rattle.program_report.specs.{declared.exit.Exit.Exit, declared.stop.Stop.Stop}
 use Rattle.program_report.specs.declared.exit.Exit.TheVariants as exits
-use Rattle.program_report.specs.declared.stop.Stop.{Stop}
 use Rattle.program_report.specs.declared.stop.Stop.TheVariants as stops
 
 abbrev pub exit_code : Exit → ℕ

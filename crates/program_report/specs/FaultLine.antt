@@ -5,9 +5,8 @@ use Rattle.plan_forest.specs.declared.fault.TreeFault.{TreeFault}
 use Rattle.plan_forest.specs.declared.fault.TreeFault.TheVariants as trees
 use Rattle.plan_rule.specs.declared.wake.WakeFault.{WakeFault}
 use Rattle.plan_rule.specs.declared.wake.WakeFault.TheVariants as wakes
-use Rattle.vault_inventory.specs.declared.fault.InvFault.{InvFault}
+use Rattle.vault_inventory.specs.{declared.fault.InvFault.InvFault, Keys.key_text}
 use Rattle.vault_inventory.specs.declared.fault.InvFault.TheVariants as inventories
-use Rattle.vault_inventory.specs.Keys.{key_text}
 use Rattle.program_report.specs.declared.stop.Stop.{Stop}
 use Rattle.program_report.specs.declared.stop.Stop.TheVariants as stops
 

@@ -1,8 +1,7 @@
 -- Sent: what a device was sent between two of its states.
 use Rattle.std.specs.Prelude.{◌≡◌, ℕ, IsTrue, ◌⊎◌, List, Result, Ok, Err}
-use Rattle.base_device.specs.Failures.{HasFailed, one_more}
+use Rattle.base_device.specs.{Failures.HasFailed, Failures.one_more, declared.fault.SinkFault.SinkFault}
 use Rattle.base_device.specs.Seen.{Change, Receives, ReceivesFront}
-use Rattle.base_device.specs.declared.fault.SinkFault.{SinkFault}
 use Rattle.base_device.specs.declared.fault.SinkFault.TheVariants as sink
 use Rattle.program_report.specs.declared.stop.Stop.{Stop}
 use Rattle.program_report.specs.declared.stop.Stop.TheVariants as stops

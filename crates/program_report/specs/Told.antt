@@ -1,14 +1,11 @@
 -- Told: what the device for fault lines was sent by a run.
 -- Source: this project's own.
 use Rattle.std.specs.Prelude.{◌≡◌, ℕ, IsTrue, ◌⊎◌, List, Result, Err}
-use Rattle.vault_inventory.specs.declared.fault.InvFault.{InvFault}
-use Rattle.vault_inventory.specs.Inventories.{Inventory}
+use Rattle.vault_inventory.specs.{declared.fault.InvFault.InvFault, Inventories.Inventory}
 use Rattle.base_device.specs.Seen.{Change, Receives, ReceivesFront}
-use Rattle.program_report.specs.declared.exit.Exit.{Exit}
+use Rattle.program_report.specs.{declared.exit.Exit.Exit, FaultLine.fault_line, Sent.GaveUp, Sent.IsUntouched}
 use Rattle.program_report.specs.declared.exit.Exit.TheVariants as exits
 use Rattle.program_report.specs.declared.stop.Stop.TheVariants as stops
-use Rattle.program_report.specs.FaultLine.{fault_line}
-use Rattle.program_report.specs.Sent.{GaveUp, IsUntouched}
 
 -- the line, and nothing else, was written and flushed; or, where the device gave up, a front of the line was written
 abbrev pub Reports : List ℕ → Change → Type 0

@@ -1,9 +1,8 @@
 -- Ports: a word that is no path has no slash, and one that is no number of 16 bits says no port.
 use Rattle.std.proofs.Common.{◌≡◌, ℕ, ◌^◌, ◌<◌, ◌≤◌, ◌∙◌, Bool, true, false, List, None, Some, Result, Err, MatchBool, arith, length, subst, sym}
-use Rattle.std.proofs.lemmas.List.{get_or_default}
-use Rattle.std.proofs.lemmas.Str.Pattern.{contains_char}
-use Rattle.std.specs.Str.Parse.{IsNumeral, ParsesUnsigned, digits_value, without_leading_plus}
+use Rattle.std.proofs.lemmas.{List.get_or_default, Str.Pattern.contains_char}
 use Rattle.std.specs.Str.Pattern.{FindsChar}
+use Rattle.std.specs.Str.Parse.{IsNumeral, ParsesUnsigned, digits_value, without_leading_plus}
 use Rattle.base_device.specs.Places.{IsPath}
 use Rattle.program_words.specs.Places.{IsPortFrom}
 

@@ -6,15 +6,10 @@ use Rattle.std.specs.declared.io.ErrorKind.{ErrorKind}
 use Rattle.std.specs.declared.io.ErrorKind.TheVariants as kinds
 use Rattle.base_device.specs.Seen.{Change}
 use Rattle.plan_forest.specs.Forest.{entry_at}
-use Rattle.vault_inventory.specs.declared.fault.InvFault.{InvFault}
+use Rattle.vault_inventory.specs.{declared.fault.InvFault.InvFault, declared.key.Key.Key, Keys.key_text, Served.Served, Served.first_untold}
 use Rattle.vault_inventory.specs.declared.fault.InvFault.TheVariants as inventories
-use Rattle.vault_inventory.specs.declared.key.Key.{Key}
 use Rattle.vault_inventory.specs.declared.key.Key.TheVariants as keys
-use Rattle.vault_inventory.specs.Keys.{key_text}
-use Rattle.vault_inventory.specs.Served.{Served, first_untold}
-use Rattle.program_report.specs.FaultLine.{before_colon}
-use Rattle.program_report.specs.Sent.{IsUntouched}
-use Rattle.program_report.specs.Told.{Reports}
+use Rattle.program_report.specs.{FaultLine.before_colon, Sent.IsUntouched, Told.Reports}
 use Rattle.program_words.specs.declared.unread.Unread.{Unread}
 use Rattle.program_words.specs.declared.unread.Unread.TheVariants as unread
 

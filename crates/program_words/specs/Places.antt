@@ -2,9 +2,8 @@
 -- Source: this project's own; decimal digits are as std reads them.
 use Rattle.std.specs.Prelude.{◌≡◌, ℕ, ◌≤◌, List, Option, Some, None}
 use Rattle.std.specs.Str.Parse.{IsNumeral, digits_value, without_leading_plus}
-use Rattle.base_device.specs.declared.place.Place.{Place}
+use Rattle.base_device.specs.{declared.place.Place.Place, Places.IsPath}
 use Rattle.base_device.specs.declared.place.Place.TheVariants as places
-use Rattle.base_device.specs.Places.{IsPath}
 
 -- the word is decimal digits, of which a plus may stand in front, and their number is from `least` to 65535
 pub record IsPortFrom (least : ℕ) (word : List ℕ) (port : ℕ) : Type 0 where

@@ -4,12 +4,10 @@ use Rattle.std.specs.Prelude.{◌≡◌, ◌⊎◌, ℕ, List, Result, Ok, Err, 
 use Rattle.clap.specs.declared.error.kind.ErrorKind.{ErrorKind}
 use Rattle.clap.specs.declared.error.kind.ErrorKind.TheVariants as kinds
 use Rattle.base_device.specs.Seen.{Change}
-use Rattle.program_report.specs.declared.exit.Exit.{Exit}
+use Rattle.program_report.specs.{declared.exit.Exit.Exit, FaultLine.fault_line, Told.Reports}
+use Rattle.program_report.specs.Sent.{IsAll, IsUntouched, SendsText}
 use Rattle.program_report.specs.declared.exit.Exit.TheVariants as exits
 use Rattle.program_report.specs.declared.stop.Stop.TheVariants as stops
-use Rattle.program_report.specs.FaultLine.{fault_line}
-use Rattle.program_report.specs.Sent.{IsAll, IsUntouched, SendsText}
-use Rattle.program_report.specs.Told.{Reports}
 
 -- the words are there, and nothing is told; or one is not UTF-8, or memory was refused, and the line of that is told
 abbrev pub GivesWords : {X : Type 0} → List ℕ → Result X Exit → Change → Type 0

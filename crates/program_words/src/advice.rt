@@ -3,13 +3,13 @@
 ghost use Rattle.std.specs.Prelude.{◌≡◌, ◌<◌, ◌++◌, codes, length, option_map};
 ghost use Rattle.program_report.specs.Sent.{Puts};
 ghost use Rattle.program_report.specs.Told.{Reports};
-ghost use Rattle.vault_inventory.specs.ServedInventory.{first_untold};
+ghost use Rattle.vault_inventory.specs.Served.{first_untold};
 ghost use Rattle.program_words.specs.Advice.{Advises, advice_line, fault_advice, key_line, missing_words, open_line, unread_reason, value_words};
 
 use crate::unread::Unread;
 use base_device::{Sink, SinkFault, Watched};
 use program_report::{put_before_colon, put_both};
-use vault_inventory::{InvFault, Key, EntryNote, ServedInventory};
+use vault_inventory::{EntryNote, InvFault, Key, ServedInventory};
 
 /// Tells that the file at a path was not read, and why.
 pub fn advise_on_file<E: Sink>(program: &str, path: &str, why: Unread, errors: &mut E)

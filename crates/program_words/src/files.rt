@@ -2,7 +2,7 @@
 use crate::advice::{advise_on_fault, advise_on_file, advise_on_open};
 use crate::unread::Unread;
 use base_device::{InputFault, Sink};
-use base_files::{SystemInputs, Inputs};
+use base_files::{Inputs, SystemInputs};
 use base_moment::Text;
 use program_report::Exit;
 use std::alloc::Global;

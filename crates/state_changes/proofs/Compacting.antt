@@ -1,29 +1,19 @@
 -- A need counts for nothing but itself: so the rows of a replay in which one is left out that is given again differ, up to there,
 -- in that need alone, and from there on in nothing.
-use Rattle.std.proofs.Common.{◌≡◌, ℕ, zero, suc, ◌+◌, ◌⊎◌, inl, inr, Bool, true, false, cond, ◌&&◌, ◌||◌, not, List, [], ◌∷◌, ◌++◌, length, Option, Some, None, option_map, is_some, is_none, bytes_eq, codes, unwrap_or, refl, sym, ap, ◌∙◌, subst}
+use Rattle.std.proofs.Common.{◌≡◌, ℕ, zero, suc, ◌+◌, inl, inr, Bool, true, false, cond, ◌&&◌, ◌||◌, not, List, [], ◌∷◌, ◌++◌, length, Option, Some, None, option_map, is_some, is_none, bytes_eq, unwrap_or, refl, sym, ap, ◌∙◌, subst}
 use Rattle.std.proofs.lemmas.Bool.{and_parts, cases_Bool, cond-true, cond-false}
-use Rattle.std.specs.Bool.{beq}
-use Rattle.std.specs.Cmp.Lexicographic.{bytes_decides}
-use Rattle.std.specs.List.{find, list_any}
-use Rattle.plan_forest.specs.declared.forest.TheConstants.{MAX_DEPTH}
-use Rattle.plan_forest.specs.Push.{is_lease}
-use Rattle.vault_inventory.specs.declared.need.Need.{Need}
-use Rattle.vault_inventory.specs.declared.need.Need.TheVariants.{Always}
-use Rattle.state_changes.specs.declared.change.Change.{Change}
-use Rattle.state_changes.specs.declared.change.Record.{Record}
+use Rattle.std.specs.{Bool.beq, Cmp.Lexicographic.bytes_decides, List.find, List.list_any}
+use Rattle.plan_forest.specs.{declared.forest.TheConstants.MAX_DEPTH, Push.is_lease}
+use Rattle.vault_inventory.specs.{declared.need.Need.Need, declared.need.Need.TheVariants.Always}
+use Rattle.state_changes.specs.{declared.change.Change.Change, declared.change.Record.Record, declared.change.ChangeKind.ChangeKind, declared.fault.ChangeFault.ChangeFault, declared.row.Row.Row, declared.replaying.File.File}
+use Rattle.state_changes.specs.{Laws.CompactedLaw, Said.said}
 use Rattle.state_changes.specs.declared.change.Record.TheVariants.{Made, Settling}
-use Rattle.state_changes.specs.declared.change.ChangeKind.{ChangeKind}
-use Rattle.state_changes.specs.declared.change.ChangeKind.TheVariants as what
-use Rattle.state_changes.specs.declared.fault.ChangeFault.{ChangeFault}
 use Rattle.state_changes.specs.declared.fault.ChangeFault.TheVariants.{NoEntry, CredentialTwice, InFile, HasUnder}
-use Rattle.state_changes.specs.declared.row.Row.{Row}
-use Rattle.state_changes.specs.declared.replaying.File.{File}
 use Rattle.state_changes.specs.Changes.{change_refusal, never_refuses, refusal_of_entry, refused_credential, refused_drop, refused_row, rows_changed, rows_unless, rows_with_change}
 use Rattle.state_changes.specs.Compaction.{compacted, is_need, is_need_of, is_void, records_kept, voids}
-use Rattle.state_changes.specs.Laws.{CompactedLaw}
 use Rattle.state_changes.specs.Replay.{ReplayState, is_as_then, made, made_with, overruled, replay_begun, replay_from, replay_step, replayed}
 use Rattle.state_changes.specs.Rows.{has_under, holds_of_parent, is_deep, is_lease_if, is_row_named, is_row_under_lease, is_taken, is_under, named, row_lacks_parent, with_named, without_row}
-use Rattle.state_changes.specs.Said.{said}
+use Rattle.state_changes.specs.declared.change.ChangeKind.TheVariants as what
 
 -- ---- the rows of a replay, apart from its notes
 

@@ -1,12 +1,9 @@
 -- A line cut at its first space, and rows written and read word by word.
-use Rattle.std.proofs.Common.{◌≡◌, ◌≢◌, ◌==◌, ℕ, true, List, [], ◌∷◌, ◌++◌, Option, Some, None, refl, sym, ap, ◌∙◌}
-use Rattle.std.proofs.lemmas.Bool.{eq-eqb}
-use Rattle.std.proofs.lemmas.List.Splits.{slice_split_at, slice_split_none}
+use Rattle.std.proofs.Common.{◌≡◌, ◌≢◌, ◌==◌, ℕ, List, [], ◌∷◌, ◌++◌, Option, Some, None, refl, sym, ap, ◌∙◌}
+use Rattle.std.proofs.lemmas.{Bool.eq-eqb, List.Splits.slice_split_at, List.Splits.slice_split_none}
 use Rattle.std.specs.List.{join_with_byte}
-use Rattle.base_words.specs.Laws.{Lacks}
-use Rattle.base_words.specs.Pieces.{parted, pieces}
-use Rattle.base_words.proofs.Cutting.{has_piece}
-use Rattle.base_words.proofs.Joined.{joined_back, lacks_each}
+use Rattle.base_words.specs.{Laws.Lacks, Pieces.parted, Pieces.pieces}
+use Rattle.base_words.proofs.{Cutting.has_piece, Joined.joined_back, Joined.lacks_each}
 use Rattle.state_changes.specs.RowText.{one_and_rest, parts}
 
 rest_joined : (w : List ℕ) (ws : List (List ℕ)) → ws ≢ [] → parts (w ∷ ws) ≡ Some (w, join_with_byte 32 ws)

@@ -1,13 +1,10 @@
 -- The look-up by name: a row is found by going back from where it stood, since rows before it may have been taken out since.
-use Rattle.std.proofs.Common.{◌≡◌, ℕ, zero, suc, ◌+◌, ◌<◌, ◌≤◌, Bool, true, false, not, cond, ◌&&◌, List, [], ◌∷◌, ◌++◌, Option, Some, None, is_none, is_some, length, take, drop, get_or, IfSome, bytes_eq, nat_le, nat_lt, refl, sym, ap, ◌∙◌, subst, arith, inl, inr, Vec, Global, ltb-true, ltb-false, lt-ltb}
-use Rattle.std.proofs.lemmas.Bool.{and_from, and_parts, cases_Bool, cond-true, cond-false, leb-true, le-leb}
+use Rattle.std.proofs.Common.{◌≡◌, ℕ, zero, suc, ◌+◌, ◌<◌, ◌≤◌, Bool, true, false, not, cond, ◌&&◌, List, [], ◌∷◌, ◌++◌, Option, Some, None, is_none, is_some, length, take, drop, get_or, IfSome, bytes_eq, nat_lt, refl, sym, ap, ◌∙◌, subst, arith, inl, inr, Vec, Global, lt-ltb}
 use Rattle.std.proofs.lemmas.Bool.Decides.{nat_tests}
+use Rattle.std.proofs.lemmas.Bool.{and_from, and_parts, cases_Bool, cond-true, cond-false, leb-true, le-leb}
 use Rattle.std.proofs.Math.Seq.{drop-cons}
-use Rattle.std.specs.BTreeMap.{BTreeMap, Updates}
-use Rattle.std.specs.Cmp.Lexicographic.{bytes_decides, slice_cmp}
+use Rattle.std.specs.{BTreeMap.BTreeMap, BTreeMap.Updates, Cmp.Lexicographic.bytes_decides, Cmp.Lexicographic.slice_cmp, Map.lookup, Ordering.nat_cmp, Ordering.is_eq}
 use Rattle.std.specs.List.{find, position, position_or_len}
-use Rattle.std.specs.Map.{lookup}
-use Rattle.std.specs.Ordering.{nat_cmp, is_eq}
 use Rattle.plan_forest.proofs.Names.{at_bytes-insert}
 use Rattle.state_changes.specs.declared.row.Row.{Row}
 use Rattle.state_changes.specs.Rows.{is_row_named, named, with_named, without_row}

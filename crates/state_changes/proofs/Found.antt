@@ -1,26 +1,18 @@
 -- A text that is read as a record is the text of that record.
-use Rattle.std.proofs.Common.{◌≡◌, ℕ, Bool, true, false, cond, ◌&&◌, List, [], ◌∷◌, ◌++◌, Option, Some, None, bytes_eq, codes, refl, sym, ap, ◌∙◌, ◌⊎◌, inl, inr}
-use Rattle.std.proofs.lemmas.Bool.{and_parts, cases_Bool, cond-true, cond-false}
-use Rattle.std.specs.Cmp.Lexicographic.{bytes_decides}
-use Rattle.std.specs.List.{join_with_byte}
-use Rattle.base_words.specs.Pieces.{first, four, keyword, pieces, three, two, words}
+use Rattle.std.proofs.Common.{◌≡◌, ℕ, true, cond, ◌&&◌, List, [], ◌∷◌, ◌++◌, Option, Some, None, bytes_eq, codes, refl, sym, ap, ◌∙◌, inl, inr}
+use Rattle.std.proofs.lemmas.Bool.{and_parts}
+use Rattle.std.specs.{Cmp.Lexicographic.bytes_decides, List.join_with_byte}
+use Rattle.base_words.specs.Pieces.{first, four, keyword, pieces, three, two}
 use Rattle.base_words.proofs.Joined.{joined_back}
 use Rattle.plan_forest.specs.Push.{is_name}
-use Rattle.vault_inventory.specs.declared.need.Need.{Need}
-use Rattle.vault_inventory.specs.Needs.{need_word}
-use Rattle.state_changes.specs.declared.change.Record.{Record}
+use Rattle.vault_inventory.specs.{declared.need.Need.Need, Needs.need_word}
+use Rattle.state_changes.specs.{declared.change.Record.Record, declared.change.ChangeKind.ChangeKind, Laws.RecordReadIsWritten, declared.row.Row.Row, Words.need_in_word, Words.row_text}
 use Rattle.state_changes.specs.declared.change.Record.TheVariants.{Made, Settling}
-use Rattle.state_changes.specs.declared.change.ChangeKind.{ChangeKind}
-use Rattle.state_changes.specs.declared.change.ChangeKind.TheVariants as what
-use Rattle.state_changes.specs.Laws.{RecordReadIsWritten}
-use Rattle.state_changes.specs.declared.row.Row.{Row}
 use Rattle.state_changes.specs.RowText.{is_word, one_and_rest, parts, row_of_line}
 use Rattle.state_changes.specs.Records.{IsRecord, IsWhat, add_line, added_of, change_words, drop_line, made_of, need_line, record_of, record_text, record_with_need, replace_line, settling_line}
-use Rattle.state_changes.specs.Words.{need_in_word, row_text}
-use Rattle.state_changes.proofs.Cuts.{cut_only}
-use Rattle.state_changes.proofs.RowBack.{row_only}
+use Rattle.state_changes.specs.declared.change.ChangeKind.TheVariants as what
+use Rattle.state_changes.proofs.{Cuts.cut_only, RowBack.row_only, Spelling.keyword_back, Spelling.need_only}
 use Rattle.state_changes.proofs.RowWords.{bound, branch, passed, some_same}
-use Rattle.state_changes.proofs.Spelling.{keyword_back, need_only}
 
 two_is : (ws : List (List ℕ)) (w : List ℕ × List ℕ) → two ws ≡ Some w → ws ≡ w.0 ∷ w.1 ∷ []
 two_is [] w e = cc

@@ -1,20 +1,14 @@
 -- The answers of the records from a place on, by the needs that come after it.
 use Rattle.std.proofs.Common.{◌≡◌, ℕ, zero, suc, ◌+◌, ◌<◌, ◌≤◌, Bool, true, false, not, cond, ◌&&◌, ◌||◌, List, [], ◌∷◌, ◌++◌, bytes_eq, length, get_or, drop, reverse, refl, sym, ap, subst, ◌∙◌, arith}
 use Rattle.std.proofs.Math.Seq.{drop-cons}
-use Rattle.std.proofs.lemmas.List.{reverse-append}
-use Rattle.std.proofs.lemmas.Map.Text.{is_eq-slice_cmp}
+use Rattle.std.proofs.lemmas.{List.reverse-append, Map.Text.is_eq-slice_cmp}
+use Rattle.std.specs.{Cmp.Lexicographic.slice_cmp, List.list_any, declared.cmp.Ordering.Ordering}
 use Rattle.std.specs.BTreeSet.{BTreeSet, Updates, contains}
-use Rattle.std.specs.Cmp.Lexicographic.{slice_cmp}
-use Rattle.std.specs.List.{list_any}
 use Rattle.std.specs.Ordering.{is_eq, nat_cmp, ordering_then}
-use Rattle.std.specs.declared.cmp.Ordering.{Ordering}
 use Rattle.std.specs.declared.cmp.Ordering.TheVariants.{Less, Equal, Greater}
-use Rattle.state_changes.specs.declared.change.Change.{Change}
-use Rattle.state_changes.specs.declared.change.Record.{Record}
+use Rattle.state_changes.specs.{declared.change.Change.Change, declared.change.Record.Record, declared.compaction.Needed.Needed, code.Needed.AreNeedsOf, code.Needed.needed_cmp}
 use Rattle.state_changes.specs.declared.change.Record.TheVariants.{Made, Settling}
-use Rattle.state_changes.specs.declared.compaction.Needed.{Needed}
 use Rattle.state_changes.specs.Compaction.{is_need, is_need_of, is_void, voids}
-use Rattle.state_changes.specs.code.Needed.{AreNeedsOf, needed_cmp}
 
 pub voids_next : (rs : List Record) (i : ℕ) (x : Record) → i < length rs → x ≡ get_or rs i x → voids (drop i rs) ≡ is_void x (drop (i + 1) rs) ∷ voids (drop (i + 1) rs)
 unfolding voids

@@ -1,9 +1,6 @@
 -- A change that is refused leaves a note of its refusal.
-use Rattle.std.proofs.Common.{◌≡◌, ◌≢◌, ◌∙◌, ◌++◌, ℕ, Option, Some, ap, inl, inr}
-use Rattle.state_changes.specs.declared.change.Change.{Change}
-use Rattle.state_changes.specs.declared.change.ChangeKind.{ChangeKind}
-use Rattle.state_changes.specs.declared.fault.ChangeFault.{ChangeFault}
-use Rattle.state_changes.specs.declared.fault.ChangeFault.TheVariants.{OutOfMemory}
+use Rattle.std.proofs.Common.{◌≡◌, ◌≢◌, ◌++◌, ℕ, Option, Some, ap, inl, inr}
+use Rattle.state_changes.specs.{declared.change.Change.Change, declared.change.ChangeKind.ChangeKind, declared.fault.ChangeFault.ChangeFault, declared.fault.ChangeFault.TheVariants.OutOfMemory}
 use Rattle.state_changes.specs.Changes.{IsWhy, change_refusal, rows_changed, rows_unless, rows_with_change}
 use Rattle.state_changes.specs.Replay.{ReplayState, made, made_with, refused_note}
 

@@ -1,20 +1,14 @@
 -- The first entry of a name: what is done at its place is done to the entry of that name.
-use Rattle.std.proofs.Common.{◌≡◌, ℕ, suc, ◌+◌, ◌<◌, ◌≤◌, Bool, true, false, not, cond, List, [], ◌∷◌, ◌++◌, Option, Some, None, is_some, length, get_or, set, take, drop, refl, sym, ap, ◌∙◌, subst, arith, ltb-true, ltb-false, Vec, Global}
+use Rattle.std.proofs.Common.{◌≡◌, ℕ, suc, ◌+◌, ◌<◌, ◌≤◌, Bool, true, false, not, cond, List, [], ◌∷◌, Option, Some, None, is_some, length, get_or, set, refl, sym, ap, ◌∙◌, subst, arith, ltb-true, ltb-false, Vec, Global}
 use Rattle.std.proofs.lemmas.Bool.{cond-false}
-use Rattle.std.specs.BTreeMap.{BTreeMap, Updates}
-use Rattle.std.specs.Cmp.Lexicographic.{slice_cmp}
-use Rattle.std.specs.Ordering.{nat_cmp}
+use Rattle.std.specs.{BTreeMap.BTreeMap, BTreeMap.Updates, Cmp.Lexicographic.slice_cmp, Ordering.nat_cmp}
 use Rattle.std.specs.List.{find, position, position_or_len, remove}
 use Rattle.vault_inventory.specs.declared.need.Need.{Need}
 use Rattle.state_changes.specs.declared.change.ChangeKind.TheVariants as what
-use Rattle.state_changes.specs.declared.fault.ChangeFault.{ChangeFault}
-use Rattle.state_changes.specs.declared.fault.ChangeFault.TheVariants.{NameTwice}
-use Rattle.state_changes.specs.declared.row.Row.{Row}
-use Rattle.state_changes.specs.Changes.{change_refusal, refused_row}
-use Rattle.state_changes.specs.code.Index.{has_seen, is_index}
+use Rattle.state_changes.specs.{declared.fault.ChangeFault.ChangeFault, declared.fault.ChangeFault.TheVariants.NameTwice, declared.row.Row.Row, Changes.change_refusal, Changes.refused_row, code.Index.has_seen, code.Index.is_index}
+use Rattle.state_changes.specs.Rows.{is_row_named, named, with_named, without_row}
 use Rattle.state_changes.proofs.Seen.{seen_credential, seen_need, seen_without}
 use Rattle.state_changes.proofs.Finding.{index_with, index_without, no_row}
-use Rattle.state_changes.specs.Rows.{is_row_named, named, with_named, without_row}
 
 chosen : (b : Bool) (m n : ℕ) → cond b (Some m) None ≡ Some n → (b ≡ true) × (m ≡ n)
 chosen true m n e = (refl, cc)

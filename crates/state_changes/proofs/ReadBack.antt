@@ -1,24 +1,17 @@
 -- The text of a record is one line, and is read as that record.
-use Rattle.std.proofs.Common.{◌≡◌, ℕ, true, cond, List, [], ◌∷◌, ◌++◌, Option, Some, None, bytes_eq, codes, refl, sym, ap, ◌∙◌}
+use Rattle.std.proofs.Common.{◌≡◌, ℕ, true, cond, List, [], ◌∷◌, ◌++◌, Option, Some, None, bytes_eq, codes, refl, ap, ◌∙◌}
 use Rattle.std.proofs.lemmas.Bool.{and_from, cond-true}
 use Rattle.std.specs.List.{join_with_byte}
 use Rattle.base_words.specs.Laws.{Lacks}
 use Rattle.base_words.specs.Pieces.{four, keyword, pieces, three, two}
 use Rattle.base_words.proofs.Joined.{lacks_append}
 use Rattle.plan_forest.specs.Push.{is_name}
-use Rattle.vault_inventory.specs.declared.need.Need.{Need}
-use Rattle.vault_inventory.specs.Needs.{IsNeed, need_word}
-use Rattle.state_changes.specs.declared.change.Record.{Record}
+use Rattle.vault_inventory.specs.{declared.need.Need.Need, Needs.IsNeed, Needs.need_word}
+use Rattle.state_changes.specs.{declared.change.Record.Record, declared.change.ChangeKind.ChangeKind, Laws.RecordLineLaw, Laws.RecordWrittenIsRead, declared.row.Row.Row, RowText.IsRow, RowText.is_word, Words.need_in_word, Words.row_text}
 use Rattle.state_changes.specs.declared.change.Record.TheVariants.{Made, Settling}
-use Rattle.state_changes.specs.declared.change.ChangeKind.{ChangeKind}
+use Rattle.state_changes.specs.Records.{IsWhat, add_line, change_words, drop_line, made_of, need_line, record_of, record_text, record_with_need, record_words, replace_line, settling_line}
 use Rattle.state_changes.specs.declared.change.ChangeKind.TheVariants as what
-use Rattle.state_changes.specs.Laws.{RecordLineLaw, RecordWrittenIsRead}
-use Rattle.state_changes.specs.declared.row.Row.{Row}
-use Rattle.state_changes.specs.RowText.{IsRow, is_word, one_and_rest, row_of_line}
-use Rattle.state_changes.specs.Records.{IsRecord, IsWhat, add_line, added_of, change_words, drop_line, made_of, need_line, record_of, record_text, record_with_need, record_words, replace_line, settling_line}
-use Rattle.state_changes.specs.Words.{need_in_word, row_text}
-use Rattle.state_changes.proofs.Cuts.{cut_back, pieces_of}
-use Rattle.state_changes.proofs.RowBack.{row_back, row_lacks}
+use Rattle.state_changes.proofs.{Cuts.cut_back, Cuts.pieces_of, RowBack.row_back, RowBack.row_lacks}
 use Rattle.state_changes.proofs.Spelling.{ArePlain, keyword_back, line_lacks, name_is_plain, need_back, need_is_plain, word_is_plain, words_back}
 
 -- what is read of a line by its keyword

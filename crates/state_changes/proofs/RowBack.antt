@@ -2,26 +2,14 @@
 use Rattle.std.proofs.Common.{◌≡◌, ℕ, ◌^◌, ◌<◌, ◌≤◌, Bool, true, false, cond, not, ◌==◌, ◌&&◌, nat_le, List, [], ◌∷◌, ◌++◌, append_assoc, bytes_eq, Option, Some, None, codes, decimal, IfSome, refl, sym, ap, ◌∙◌, subst, arith, inl, inr}
 use Rattle.std.proofs.lemmas.Bool.{and_parts, cond-true, cond-false}
 use Rattle.std.specs.Cmp.Lexicographic.{bytes_decides}
-use Rattle.std.specs.List.{list_all}
 use Rattle.base_moment.specs.declared.moment.TheConstants.{LAST}
-use Rattle.base_words.specs.Laws.{Lacks}
-use Rattle.base_words.specs.Numbers.{number_up_to}
-use Rattle.base_words.proofs.Joined.{decimal_lacks, lacks_append}
-use Rattle.base_words.proofs.Numbers.{number_back, number_spelled}
-use Rattle.plan_forest.specs.declared.entry.Kind.{Kind}
+use Rattle.base_words.specs.{Laws.Lacks, Numbers.number_up_to}
+use Rattle.base_words.proofs.{Joined.decimal_lacks, Joined.lacks_append, Numbers.number_back, Numbers.number_spelled}
+use Rattle.plan_forest.specs.{declared.entry.Kind.Kind, declared.forest.TheConstants.END_MAX, Push.is_name}
 use Rattle.plan_forest.specs.declared.entry.Kind.TheVariants.{Token, Lease}
-use Rattle.plan_forest.specs.declared.forest.TheConstants.{END_MAX}
-use Rattle.plan_forest.specs.Push.{is_name}
-use Rattle.vault_inventory.specs.declared.limits.TheConstants.{SPAN_MAX}
-use Rattle.vault_inventory.specs.declared.need.Need.{Need}
-use Rattle.vault_inventory.specs.Values.{is_path}
-use Rattle.vault_inventory.specs.Needs.{IsNeed, need_word}
-use Rattle.vault_inventory.specs.Kinds.{kind_word}
-use Rattle.state_changes.specs.declared.row.Row.{Row}
-use Rattle.state_changes.specs.declared.row_text.Who.{Who}
-use Rattle.state_changes.specs.declared.row_text.Life.{Life}
-use Rattle.state_changes.specs.declared.row_text.Limits.{Limits}
-use Rattle.state_changes.specs.RowText.{IsRow, either, four_and_rest, if_written, is_file, is_written, kind_of, life_of, limits_of, name_or_star, one_and_rest, row_of_line, row_of_words, row_with, sent_of, span_or_star, who_of}
+use Rattle.vault_inventory.specs.{declared.limits.TheConstants.SPAN_MAX, Values.is_path, Needs.IsNeed, Needs.need_word, Kinds.kind_word}
+use Rattle.state_changes.specs.{declared.row.Row.Row, declared.row_text.Who.Who, declared.row_text.Life.Life, declared.row_text.Limits.Limits}
+use Rattle.state_changes.specs.RowText.{IsRow, either, four_and_rest, is_file, is_written, kind_of, life_of, limits_of, name_or_star, one_and_rest, row_of_line, row_of_words, row_with, sent_of, span_or_star, who_of}
 use Rattle.state_changes.specs.Words.{file_end, life_words, mark_text, name_word, need_in_word, number_word, plain_text, renewable_word, row_text, spaced, terms_words, told_word, who_words}
 use Rattle.state_changes.proofs.Cuts.{cut_back, cut_only}
 use Rattle.state_changes.proofs.RowWords.{bound, branch, kind_back, kind_only, name_or_star_back, name_or_star_only, passed, renewable_back, renewable_only, sent_back, sent_only, some_same, span_or_star_back, span_or_star_only, told_back, told_only}

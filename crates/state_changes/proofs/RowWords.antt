@@ -1,18 +1,15 @@
 -- The words of a row: each is read as what it writes, and no other word is.
-use Rattle.std.proofs.Common.{◌≡◌, ℕ, ◌^◌, ◌<◌, ◌≤◌, Bool, true, false, cond, ◌&&◌, List, [], ◌∷◌, ◌++◌, append-nil, Option, Some, None, option_map, bytes_eq, codes, decimal, IfSome, refl, sym, ap, ◌∙◌, subst, arith, ◌⊎◌, inl, inr}
+use Rattle.std.proofs.Common.{◌≡◌, ℕ, ◌≤◌, Bool, true, false, cond, ◌&&◌, List, ◌∷◌, ◌++◌, append-nil, Option, Some, None, option_map, bytes_eq, codes, decimal, IfSome, refl, sym, ap, ◌∙◌, subst, arith, ◌⊎◌, inl, inr}
 use Rattle.std.proofs.lemmas.Bool.{and_from, and_parts, cond-true, cond-false}
 use Rattle.std.specs.Cmp.Lexicographic.{bytes_decides}
-use Rattle.base_words.specs.Laws.{Lacks}
-use Rattle.base_words.specs.Numbers.{is_spelled, number_up_to}
+use Rattle.base_words.specs.{Laws.Lacks, Numbers.is_spelled, Numbers.number_up_to}
 use Rattle.base_words.proofs.Numbers.{number_back, number_spelled}
-use Rattle.plan_forest.specs.declared.entry.Kind.{Kind}
+use Rattle.plan_forest.specs.{declared.entry.Kind.Kind, Push.is_name}
 use Rattle.plan_forest.specs.declared.entry.Kind.TheVariants.{Token, Lease}
-use Rattle.plan_forest.specs.Push.{is_name}
-use Rattle.vault_inventory.specs.declared.limits.TheConstants.{SPAN_MAX}
-use Rattle.vault_inventory.specs.Kinds.{kind_word}
+use Rattle.vault_inventory.specs.{declared.limits.TheConstants.SPAN_MAX, Kinds.kind_word}
 use Rattle.state_changes.specs.declared.row_text.Sent.{Sent}
-use Rattle.state_changes.specs.RowText.{◌>>=◌, either, is_file, is_word, kind_of, name_or_star, one_and_rest, sent_alone, sent_beside, sent_of, span_or_star}
 use Rattle.state_changes.specs.Words.{file_end, name_word, number_word, renewable_word, told_word}
+use Rattle.state_changes.specs.RowText.{◌>>=◌, either, is_file, is_word, kind_of, name_or_star, one_and_rest, sent_alone, sent_beside, sent_of, span_or_star}
 use Rattle.state_changes.proofs.Cuts.{cut_back, cut_only, not_cut}
 
 pub some_same : {A : Type 0} (x y : A) → Some x ≡ Some y → x ≡ y

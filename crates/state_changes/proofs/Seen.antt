@@ -1,12 +1,7 @@
 -- Credentials: one that no row has had is no other's.
 use Rattle.std.proofs.Common.{◌≡◌, ℕ, ◌+◌, ◌<◌, length, take, get_or, subst, Bool, true, false, not, cond, ◌&&◌, ◌||◌, List, [], ◌∷◌, ◌++◌, Option, Some, None, is_some, bytes_eq, refl, sym, ap, ◌∙◌, Vec, Global}
-use Rattle.std.proofs.lemmas.Bool.{and_from, and_parts}
-use Rattle.std.proofs.lemmas.List.{take_more}
-use Rattle.std.specs.Bool.{beq}
-use Rattle.std.specs.BTreeMap.{BTreeMap, Updates}
-use Rattle.std.specs.Cmp.Lexicographic.{bytes_decides, slice_cmp}
-use Rattle.std.specs.List.{list_any}
-use Rattle.std.specs.Ordering.{nat_cmp}
+use Rattle.std.proofs.lemmas.{Bool.and_from, Bool.and_parts, List.take_more}
+use Rattle.std.specs.{Bool.beq, BTreeMap.BTreeMap, BTreeMap.Updates, Cmp.Lexicographic.bytes_decides, Cmp.Lexicographic.slice_cmp, List.list_any, Ordering.nat_cmp}
 use Rattle.plan_forest.specs.Push.{is_lease}
 use Rattle.plan_forest.proofs.Names.{at_bytes-insert}
 use Rattle.vault_inventory.specs.declared.need.Need.{Need}

@@ -2,10 +2,7 @@
 use Rattle.std.proofs.Common.{◌≡◌, ℕ, ◌+◌, cond, false, List, [], ◌∷◌, ◌++◌, bytes_eq, refl, ◌∙◌}
 use Rattle.std.proofs.lemmas.Bool.{cond-true, cond-false}
 use Rattle.std.specs.Cmp.Lexicographic.{bytes_decides}
-use Rattle.state_changes.specs.declared.change.Record.{Record}
-use Rattle.state_changes.specs.declared.change.Record.TheVariants.{Settling}
-use Rattle.state_changes.specs.Laws.{SettledLaw, UnsettledLaw}
-use Rattle.state_changes.specs.declared.replaying.File.{File}
+use Rattle.state_changes.specs.{declared.change.Record.Record, declared.change.Record.TheVariants.Settling, Laws.SettledLaw, Laws.UnsettledLaw, declared.replaying.File.File}
 use Rattle.state_changes.specs.Replay.{ReplayState, replay_begun, replay_from, replay_step, replayed}
 
 settling_last : (f : File) (mark : List ℕ) (rs : List Record) (at : ℕ) (s : ReplayState) → replay_from f at s (rs ++ Settling mark ∷ []) ≡ cond (bytes_eq mark f.mark) (replay_begun f) (replay_from f at s rs)

@@ -1,20 +1,15 @@
 -- The words of a record: no space and no line feed stands in them, and each is read as what it writes.
-use Rattle.std.proofs.Common.{◌≡◌, ℕ, ◌^◌, ◌<◌, ◌≤◌, Bool, true, false, not, cond, ◌==◌, List, [], ◌∷◌, ◌++◌, Option, Some, None, option_map, bytes_eq, codes, decimal, nat_le, length, refl, sym, ap, ◌∙◌, arith, inl, inr}
-use Rattle.std.proofs.lemmas.Bool.{and_from, and_parts, cases_Bool, cond-true, cond-false, leb-true, ne_eqb, not_from_false}
-use Rattle.std.specs.Cmp.Lexicographic.{bytes_decides}
-use Rattle.std.specs.Int.{is_in_range}
-use Rattle.std.specs.List.{join_with_byte, list_all}
+use Rattle.std.proofs.Common.{◌≡◌, ℕ, ◌≤◌, Bool, true, false, not, cond, ◌==◌, List, [], ◌∷◌, Option, Some, None, option_map, bytes_eq, codes, decimal, refl, sym, ap, ◌∙◌, arith, inl, inr}
+use Rattle.std.proofs.lemmas.Bool.{and_from, and_parts, cases_Bool, cond-true, cond-false, ne_eqb, not_from_false}
+use Rattle.std.specs.{Cmp.Lexicographic.bytes_decides, Int.is_in_range, List.join_with_byte, List.list_all}
 use Rattle.base_moment.specs.declared.moment.TheConstants.{LAST}
-use Rattle.base_words.specs.Laws.{AllLack, Lacks}
-use Rattle.base_words.specs.Numbers.{is_spelled, number_up_to}
+use Rattle.base_words.specs.{Laws.AllLack, Laws.Lacks, Numbers.is_spelled, Numbers.number_up_to}
 use Rattle.base_words.specs.Pieces.{first, keyword, pieces}
-use Rattle.base_words.proofs.Joined.{cut_back, decimal_lacks, lacks_append}
 use Rattle.base_words.proofs.Numbers.{number_back, number_spelled}
+use Rattle.base_words.proofs.Joined.{cut_back, decimal_lacks, lacks_append}
 use Rattle.plan_forest.specs.Push.{is_name, is_name_byte}
-use Rattle.vault_inventory.specs.Values.{is_credential}
-use Rattle.vault_inventory.specs.declared.need.Need.{Need}
+use Rattle.vault_inventory.specs.{Values.is_credential, declared.need.Need.Need, Needs.IsNeed, Needs.need_word}
 use Rattle.vault_inventory.specs.declared.need.Need.TheVariants.{Until, Always}
-use Rattle.vault_inventory.specs.Needs.{IsNeed, need_word}
 use Rattle.state_changes.specs.Words.{need_in_word}
 
 pub record IsPlain (w : List ℕ) : Type 0 where

@@ -1,15 +1,12 @@
 -- Changes: what a change makes of an inventory, or why it cannot be made.
 -- Source: this project's own.
 use Rattle.std.specs.Prelude.{◌≡◌, ◌⊎◌, ℕ, ◌+◌, Bool, true, false, if◌then◌else◌, List, [], ◌∷◌, ◌++◌, Option, Some, None, is_some, length, nat_le, nat_lt, Result, Ok, Err}
-use Rattle.plan_forest.specs.declared.forest.TheConstants.{MAX_DEPTH, MAX_ENTRIES}
+use Rattle.plan_forest.specs.{declared.forest.TheConstants.MAX_DEPTH, declared.forest.TheConstants.MAX_ENTRIES, Push.first_met}
 use Rattle.vault_inventory.specs.Terms.{step_of}
-use Rattle.plan_forest.specs.Push.{first_met}
-use Rattle.state_changes.specs.declared.change.ChangeKind.{ChangeKind}
-use Rattle.state_changes.specs.declared.change.ChangeKind.TheVariants as what
-use Rattle.state_changes.specs.declared.fault.ChangeFault.{ChangeFault}
+use Rattle.state_changes.specs.{declared.change.ChangeKind.ChangeKind, declared.fault.ChangeFault.ChangeFault, declared.row.Row.Row}
 use Rattle.state_changes.specs.declared.fault.ChangeFault.TheVariants.{NoEntry, NameTwice, NoParent, ParentIsLease, StepTooSmall, TooDeep, Full, CredentialTwice, InFile, HasUnder, OutOfMemory}
-use Rattle.state_changes.specs.declared.row.Row.{Row}
 use Rattle.state_changes.specs.Rows.{named, row_lacks_parent, is_row_under_lease, is_deep, has_under, is_taken, with_named, without_row}
+use Rattle.state_changes.specs.declared.change.ChangeKind.TheVariants as what
 
 -- why an entry cannot be added, None where it can
 unfoldable pub refused_row : ℕ → List Row → Row → Option ChangeFault

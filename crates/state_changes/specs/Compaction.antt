@@ -2,9 +2,8 @@
 -- Source: this project's own.
 use Rattle.std.specs.Prelude.{ℕ, Bool, true, false, ◌&&◌, if◌then◌else◌, List, [], ◌∷◌, bytes_eq}
 use Rattle.std.specs.List.{list_any}
-use Rattle.state_changes.specs.declared.change.Record.{Record}
+use Rattle.state_changes.specs.{declared.change.Record.Record, declared.change.ChangeKind.ChangeKind}
 use Rattle.state_changes.specs.declared.change.Record.TheVariants.{Made, Settling}
-use Rattle.state_changes.specs.declared.change.ChangeKind.{ChangeKind}
 use Rattle.state_changes.specs.declared.change.ChangeKind.TheVariants as what
 
 abbrev pub is_need : ChangeKind → Bool

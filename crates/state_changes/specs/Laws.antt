@@ -1,13 +1,8 @@
 -- Laws of changes and their records. Each is the contract of a public function without a body.
-use Rattle.std.specs.Prelude.{◌≡◌, ℕ, false, List, [], ◌∷◌, ◌++◌, Option, Some, bytes_eq}
+use Rattle.std.specs.Prelude.{◌≡◌, ℕ, false, List, [], ◌∷◌, ◌++◌, Some, bytes_eq}
 use Rattle.base_words.specs.Laws.{Lacks}
-use Rattle.state_changes.specs.declared.change.Record.{Record}
-use Rattle.state_changes.specs.declared.change.Record.TheVariants.{Settling}
-use Rattle.state_changes.specs.declared.row.Row.{Row}
-use Rattle.state_changes.specs.Compaction.{compacted}
+use Rattle.state_changes.specs.{declared.change.Record.Record, declared.change.Record.TheVariants.Settling, Compaction.compacted, declared.replaying.File.File, Replay.replay_begun, Replay.replayed}
 use Rattle.state_changes.specs.Records.{IsRecord, record_of, record_text}
-use Rattle.state_changes.specs.declared.replaying.File.{File}
-use Rattle.state_changes.specs.Replay.{replay_begun, replayed}
 
 -- the text of a record is read as that record
 abbrev pub RecordWrittenIsRead : Type 0

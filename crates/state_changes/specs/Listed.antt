@@ -1,14 +1,9 @@
 -- Listed: the rows of what is served, one for each entry.
 -- Source: this project's own.
-use Rattle.std.specs.Prelude.{ℕ, zero, suc, Bool, true, false, if◌then◌else◌, List, [], ◌∷◌, ◌++◌, Option, Some, None, length, option_map}
-use Rattle.plan_forest.specs.declared.entry.Entry.{Entry}
-use Rattle.plan_forest.specs.Forest.{entry_at}
-use Rattle.vault_inventory.specs.declared.need.Need.{Need}
+use Rattle.std.specs.Prelude.{ℕ, zero, suc, Bool, true, false, List, [], ◌∷◌, ◌++◌, length, option_map}
+use Rattle.plan_forest.specs.{declared.entry.Entry.Entry, Forest.entry_at}
+use Rattle.vault_inventory.specs.{declared.need.Need.Need, declared.note.EntryNote.EntryNote, declared.terms.Terms.Terms, Inventories.credential_at, Inventories.terms_at, Served.Served, Served.note_at}
 use Rattle.vault_inventory.specs.declared.need.Need.TheVariants.{Until, Always}
-use Rattle.vault_inventory.specs.declared.note.EntryNote.{EntryNote}
-use Rattle.vault_inventory.specs.declared.terms.Terms.{Terms}
-use Rattle.vault_inventory.specs.Inventories.{credential_at, terms_at}
-use Rattle.vault_inventory.specs.Served.{Served, note_at}
 use Rattle.state_changes.specs.declared.row.Row.{Row}
 
 -- a need that is `always` has no moment of its own

@@ -1,18 +1,14 @@
 -- Records: the one line that writes a record, and the record that a line writes.
 -- Source: this project's own.
-use Rattle.std.specs.Prelude.{◌≡◌, ℕ, Bool, true, ◌&&◌, if◌then◌else◌, List, [], ◌∷◌, Option, Some, None, bytes_eq, codes}
+use Rattle.std.specs.Prelude.{◌≡◌, ℕ, true, ◌&&◌, if◌then◌else◌, List, [], ◌∷◌, Option, Some, None, bytes_eq, codes}
 use Rattle.std.specs.List.{join_with_byte}
 use Rattle.base_words.specs.Pieces.{four, keyword, three, two, words}
 use Rattle.plan_forest.specs.Push.{is_name}
-use Rattle.vault_inventory.specs.declared.need.Need.{Need}
-use Rattle.vault_inventory.specs.Needs.{IsNeed, need_word}
-use Rattle.state_changes.specs.declared.change.Record.{Record}
+use Rattle.vault_inventory.specs.{declared.need.Need.Need, Needs.IsNeed, Needs.need_word}
+use Rattle.state_changes.specs.{declared.change.Record.Record, declared.change.ChangeKind.ChangeKind, declared.row.Row.Row, Words.need_in_word, Words.row_text}
 use Rattle.state_changes.specs.declared.change.Record.TheVariants.{Made, Settling}
-use Rattle.state_changes.specs.declared.change.ChangeKind.{ChangeKind}
-use Rattle.state_changes.specs.declared.change.ChangeKind.TheVariants as what
-use Rattle.state_changes.specs.declared.row.Row.{Row}
 use Rattle.state_changes.specs.RowText.{◌>>=◌, IsRow, is_word, one_and_rest, row_of_line}
-use Rattle.state_changes.specs.Words.{need_in_word, row_text}
+use Rattle.state_changes.specs.declared.change.ChangeKind.TheVariants as what
 
 -- ---- as it is written
 

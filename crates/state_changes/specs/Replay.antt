@@ -1,24 +1,14 @@
 -- Replay: the inventory that a file and the records of a journal give together. Where the file says something else of a word than
 -- it did when a change was made, the file wins.
 -- Source: this project's own.
-use Rattle.std.specs.Prelude.{ℕ, ◌+◌, Bool, true, false, not, if◌then◌else◌, ◌==◌, List, [], ◌∷◌, ◌++◌, Option, Some, None, Result, Ok, Err, bytes_eq}
-use Rattle.vault_inventory.specs.declared.need.Need.{Need}
+use Rattle.std.specs.Prelude.{ℕ, ◌+◌, Bool, true, false, not, if◌then◌else◌, ◌==◌, List, [], ◌∷◌, ◌++◌, Some, None, Result, Ok, Err, bytes_eq}
+use Rattle.vault_inventory.specs.{declared.need.Need.Need, Needs.has_always}
 use Rattle.vault_inventory.specs.declared.need.Need.TheVariants.{Until, Always}
-use Rattle.vault_inventory.specs.Needs.{has_always}
-use Rattle.state_changes.specs.declared.change.Change.{Change}
-use Rattle.state_changes.specs.declared.change.Record.{Record}
+use Rattle.state_changes.specs.{declared.change.Change.Change, declared.change.Record.Record, declared.change.ChangeKind.ChangeKind, declared.fault.ChangeFault.ChangeFault, declared.fault.ChangeFault.TheVariants.NoEntry}
+use Rattle.state_changes.specs.{declared.replaying.File.File, declared.replaying.JournalNote.JournalNote, declared.row.Row.Row, Changes.is_added, Changes.rows_changed, Rows.named, Said.said}
 use Rattle.state_changes.specs.declared.change.Record.TheVariants.{Made, Settling}
-use Rattle.state_changes.specs.declared.change.ChangeKind.{ChangeKind}
-use Rattle.state_changes.specs.declared.change.ChangeKind.TheVariants as what
-use Rattle.state_changes.specs.declared.fault.ChangeFault.{ChangeFault}
-use Rattle.state_changes.specs.declared.fault.ChangeFault.TheVariants.{NoEntry}
-use Rattle.state_changes.specs.declared.replaying.File.{File}
-use Rattle.state_changes.specs.declared.replaying.JournalNote.{JournalNote}
 use Rattle.state_changes.specs.declared.replaying.NotMadeReason.TheVariants.{FileWins, Refused}
-use Rattle.state_changes.specs.declared.row.Row.{Row}
-use Rattle.state_changes.specs.Changes.{is_added, rows_changed}
-use Rattle.state_changes.specs.Rows.{named}
-use Rattle.state_changes.specs.Said.{said}
+use Rattle.state_changes.specs.declared.change.ChangeKind.TheVariants as what
 
 -- the rows so far, and notes on the changes so far that were not made
 pub record ReplayState : Type 0 where

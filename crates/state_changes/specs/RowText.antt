@@ -1,24 +1,13 @@
 -- Row text: the row that a line writes as `row_text` writes it, and which rows a table can write.
 -- Source: this project's own.
 use Rattle.std.specs.Prelude.{◌≡◌, ℕ, ◌≤◌, Bool, true, false, ◌&&◌, ◌||◌, not, ◌==◌, if◌then◌else◌, List, [], ◌∷◌, Option, Some, None, is_some, option_map, nat_lt, IfSome, bytes_eq, codes}
-use Rattle.std.specs.List.{join_with_byte}
-use Rattle.std.specs.Str.{is_utf8}
+use Rattle.std.specs.{List.join_with_byte, Str.is_utf8}
 use Rattle.base_moment.specs.declared.moment.TheConstants.{LAST}
-use Rattle.base_words.specs.Numbers.{number_up_to}
-use Rattle.base_words.specs.Pieces.{words}
-use Rattle.plan_forest.specs.declared.entry.Kind.{Kind}
+use Rattle.base_words.specs.{Numbers.number_up_to, Pieces.words}
+use Rattle.plan_forest.specs.{declared.entry.Kind.Kind, declared.forest.TheConstants.END_MAX, Push.is_name}
 use Rattle.plan_forest.specs.declared.entry.Kind.TheVariants.{Token, Lease}
-use Rattle.plan_forest.specs.declared.forest.TheConstants.{END_MAX}
-use Rattle.plan_forest.specs.Push.{is_name}
-use Rattle.vault_inventory.specs.declared.limits.TheConstants.{SPAN_MAX}
-use Rattle.vault_inventory.specs.Values.{is_credential, is_path}
-use Rattle.vault_inventory.specs.Needs.{IsNeed}
-use Rattle.state_changes.specs.declared.row.Row.{Row}
-use Rattle.state_changes.specs.declared.row_text.Who.{Who}
-use Rattle.state_changes.specs.declared.row_text.Life.{Life}
-use Rattle.state_changes.specs.declared.row_text.Limits.{Limits}
-use Rattle.state_changes.specs.declared.row_text.Sent.{Sent}
-use Rattle.state_changes.specs.Words.{need_in_word}
+use Rattle.vault_inventory.specs.{declared.limits.TheConstants.SPAN_MAX, Values.is_credential, Values.is_path, Needs.IsNeed}
+use Rattle.state_changes.specs.{declared.row.Row.Row, declared.row_text.Who.Who, declared.row_text.Life.Life, declared.row_text.Limits.Limits, declared.row_text.Sent.Sent, Words.need_in_word}
 
 -- the next step, where there was one
 infixl 10 ◌>>=◌

@@ -1,8 +1,7 @@
 -- Rows: an inventory as its tables write it, entry by entry.
 -- Source: this project's own.
 use Rattle.std.specs.Prelude.{ℕ, zero, suc, Bool, true, false, ◌&&◌, not, if◌then◌else◌, List, [], ◌∷◌, Option, Some, None, is_none, bytes_eq}
-use Rattle.std.specs.Bool.{beq}
-use Rattle.std.specs.List.{find, list_any}
+use Rattle.std.specs.{Bool.beq, List.find, List.list_any}
 use Rattle.plan_forest.specs.Push.{is_lease}
 use Rattle.state_changes.specs.declared.row.Row.{Row}
 

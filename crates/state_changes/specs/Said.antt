@@ -1,11 +1,8 @@
 -- Said: what an inventory says of the word that a change is about.
 -- Source: this project's own.
-use Rattle.std.specs.Prelude.{ℕ, List, Option, Some, None, codes}
-use Rattle.state_changes.specs.declared.change.ChangeKind.{ChangeKind}
+use Rattle.std.specs.Prelude.{ℕ, List, Some, None, codes}
+use Rattle.state_changes.specs.{declared.change.ChangeKind.ChangeKind, declared.row.Row.Row, Rows.named, Words.fingerprint, Words.row_text}
 use Rattle.state_changes.specs.declared.change.ChangeKind.TheVariants as what
-use Rattle.state_changes.specs.declared.row.Row.{Row}
-use Rattle.state_changes.specs.Rows.{named}
-use Rattle.state_changes.specs.Words.{fingerprint, row_text}
 use Rattle.vault_inventory.specs.Needs.{need_word}
 
 -- the need, the fingerprint of the credential, or that of the whole entry

@@ -5,10 +5,8 @@ use Rattle.hex.specs.Hex.{encode_lower}
 use Rattle.sha2.specs.Sha256.{sha256}
 use Rattle.base_moment.specs.declared.moment.TheConstants.{LAST}
 use Rattle.base_words.specs.Numbers.{number_up_to}
-use Rattle.vault_inventory.specs.declared.need.Need.{Need}
+use Rattle.vault_inventory.specs.{declared.need.Need.Need, Needs.need_word, Kinds.kind_word}
 use Rattle.vault_inventory.specs.declared.need.Need.TheVariants.{Until, Always}
-use Rattle.vault_inventory.specs.Needs.{need_word}
-use Rattle.vault_inventory.specs.Kinds.{kind_word}
 use Rattle.state_changes.specs.declared.row.Row.{Row}
 
 -- the need of a word

@@ -4,7 +4,7 @@ ghost use Rattle.state_changes.specs.declared.change.Record.TheVariants.{Made};
 ghost use Rattle.state_changes.specs.Compaction.{is_need, is_void, voids};
 ghost use Rattle.state_changes.specs.code.Needed.{AreNeedsOf};
 
-use crate::change::{Change, Record, ChangeKind};
+use crate::change::{Change, ChangeKind, Record};
 use base_moment::{Name, Text};
 use std::alloc::{AllocError, Global};
 use std::collections::BTreeSet;

@@ -22,13 +22,13 @@ mod secret;
 mod words;
 mod writer;
 
-pub use change::{Change, Record, ChangeKind};
+pub use change::{Change, ChangeKind, Record};
 pub use compaction::voids;
 pub use fault::ChangeFault;
 pub use laws::{compaction_changes_nothing, records_are_read_back, settling_changes_nothing};
 pub use listed::{listed_rows, rows_of};
 pub use reader::read_record;
-pub use replaying::{File, JournalNote, Replayed, NotMadeReason, replay};
+pub use replaying::{File, JournalNote, NotMadeReason, Replayed, replay};
 pub use row::Row;
 pub use rows::Rows;
 pub use saying::said;

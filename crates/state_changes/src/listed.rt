@@ -1,6 +1,6 @@
 ghost use Rattle.std.specs.Prelude.{◌≡◌, ◌<◌, IfOk, length, option_map};
 ghost use Rattle.plan_forest.specs.Forest.{entry_at};
-ghost use Rattle.vault_inventory.specs.ServedInventory.{note_at};
+ghost use Rattle.vault_inventory.specs.Served.{note_at};
 ghost use Rattle.state_changes.specs.Listed.{name_at, need_with, row_at, rows_before, rows_of_served};
 
 use crate::row::{Row, copy_if};
@@ -8,7 +8,7 @@ use crate::rows::Rows;
 use base_moment::{Moment, Name, Text};
 use plan_forest::Forest;
 use std::alloc::{AllocError, Global};
-use vault_inventory::{Need, EntryNote, ServedInventory};
+use vault_inventory::{EntryNote, Need, ServedInventory};
 
 /// The rows of what is served, one for each entry, in order. The only error is out of memory.
 pub fn rows_of(alloc: Global, served: &ServedInventory) -> Result<Rows, AllocError>

@@ -1,7 +1,7 @@
 ghost use Rattle.std.specs.Prelude.{◌≡◌, IfOk};
 ghost use Rattle.state_changes.specs.Records.{add_line, added_of, drop_line, made_of, need_line, record_of, replace_line, settling_line};
 
-use crate::change::{Change, Record, ChangeKind};
+use crate::change::{Change, ChangeKind, Record};
 use crate::row::Row;
 use crate::row_text::{is_name, is_word, one_and_rest, read_row};
 use crate::words::need_of;
@@ -113,7 +113,12 @@ fn settling_line(alloc: Global, text: &[u8]) -> Result<Option<Record>, AllocErro
 
 // A change of the entry of that name, where these can be its words.
 #[tactic(auto, unfolding(crate::specs::Records::made_of))]
-fn made_of(alloc: Global, name: &[u8], was: &[u8], what: ChangeKind) -> Result<Option<Record>, AllocError>
+fn made_of(
+    alloc: Global,
+    name: &[u8],
+    was: &[u8],
+    what: ChangeKind,
+) -> Result<Option<Record>, AllocError>
     ensures { IfOk result (λ read. read ≡ made_of name.now was.now what) }
 {
     if !is_name(name) || !is_word(was) {

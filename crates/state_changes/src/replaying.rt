@@ -3,7 +3,7 @@ ghost use Rattle.vault_inventory.specs.Needs.{has_always};
 ghost use Rattle.state_changes.specs.Changes.{is_added};
 ghost use Rattle.state_changes.specs.Replay.{holds, holds_of, is_as_then, is_until, made, overruled, refused_note, replay_begun, replay_step, replayed, same_need};
 
-use crate::change::{Change, Record, ChangeKind};
+use crate::change::{Change, ChangeKind, Record};
 use crate::fault::ChangeFault;
 use crate::row::Row;
 use crate::rows::Rows;

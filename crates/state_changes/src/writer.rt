@@ -2,7 +2,7 @@ ghost use Rattle.std.specs.Prelude.{◌≡◌, ◌++◌, IfOk, OnOk};
 ghost use Rattle.std.specs.List.{join_with_byte};
 ghost use Rattle.state_changes.specs.Records.{change_words, record_text};
 
-use crate::change::{Change, Record, ChangeKind};
+use crate::change::{Change, ChangeKind, Record};
 use crate::words::{push_need, push_row, push_word};
 use base_moment::Text;
 use std::alloc::{AllocError, Global};

@@ -1,5 +1,5 @@
 -- Two rows with the same fields are the same.
-use Rattle.std.proofs.Common.{◌≡◌, ℕ, ◌<◌, Bool, true, List, [], ◌∷◌, Option, length, take, bytes_eq, refl, sym, ◌∙◌, ap, arith}
+use Rattle.std.proofs.Common.{◌≡◌, ℕ, true, List, length, take, bytes_eq, sym, ◌∙◌, arith}
 use Rattle.std.proofs.lemmas.List.{take_all}
 use Rattle.std.specs.Cmp.Lexicographic.{bytes_decides}
 use Rattle.vault_inventory.specs.declared.terms.Terms.{Terms}

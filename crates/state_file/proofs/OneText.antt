@@ -1,10 +1,8 @@
 -- Rows have one text in each form.
-use Rattle.std.proofs.Common.{◌≡◌, ℕ, Bool, false, List, [], ◌∷◌, ◌++◌, codes, sym, ap, ◌∙◌, subst}
+use Rattle.std.proofs.Common.{◌≡◌, ℕ, false, List, [], ◌∷◌, ◌++◌, codes, sym, ap, ◌∙◌, subst}
 use Rattle.base_moment.proofs.Moments.{one_date_text}
-use Rattle.toml.specs.Data.{Data, string}
-use Rattle.toml.specs.Text.{IsValueText}
-use Rattle.vault_inventory.specs.Keys.{key_text}
-use Rattle.vault_inventory.specs.declared.key.Key.{Key}
+use Rattle.toml.specs.{Data.string, Text.IsValueText}
+use Rattle.vault_inventory.specs.{Keys.key_text, declared.key.Key.Key}
 use Rattle.state_file.specs.FileText.{Said, quoted, number, flag, Line, header, field, dated, Adds, AddsField, AddsLine, IsFileText, data_of, file_lines}
 use Rattle.state_file.specs.Laws.{OneFileText}
 

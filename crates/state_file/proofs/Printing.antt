@@ -1,12 +1,10 @@
 -- Lines that are added one after the other.
 use Rattle.std.proofs.Common.{◌≡◌, ℕ, pos, Bool, ◌+◌, ◌<◌, List, [], ◌∷◌, ◌++◌, append-nil, length, take, get_or, refl, sym, ap, ◌∙◌, subst, codes}
-use Rattle.std.proofs.lemmas.Grind.{flat_map-append}
-use Rattle.std.proofs.lemmas.List.{take_more}
+use Rattle.std.proofs.lemmas.{Grind.flat_map-append, List.take_more}
 use Rattle.std.specs.List.{flat_map}
 use Rattle.base_moment.specs.Rfc3339.{IsDateText}
 use Rattle.toml.specs.Data.{Data, string, integer, boolean}
-use Rattle.vault_inventory.specs.Keys.{key_text}
-use Rattle.vault_inventory.specs.declared.key.Key.{Key}
+use Rattle.vault_inventory.specs.{Keys.key_text, declared.key.Key.Key}
 use Rattle.state_changes.specs.declared.row.Row.{Row}
 use Rattle.state_file.specs.declared.text.Form.{Form}
 use Rattle.state_file.specs.FileText.{Line, header, field, dated, quoted, number, flag, Adds, AddsField, gap, row_lines}

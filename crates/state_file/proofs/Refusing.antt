@@ -1,18 +1,12 @@
 -- Why what rows say cannot be written, from the steps.
-use Rattle.std.proofs.Common.{◌≡◌, ℕ, ◌<◌, ◌≤◌, List, Option, Ok, Err, length, inl, inr}
-use Rattle.vault_inventory.specs.Inventory.{read_served}
-use Rattle.vault_inventory.specs.Served.{Served}
-use Rattle.vault_inventory.specs.declared.limits.TheConstants.{MOST_INVENTORY}
-use Rattle.state_changes.specs.declared.row.Row.{Row}
-use Rattle.state_changes.specs.Listed.{rows_of_served}
-use Rattle.state_file.specs.declared.fault.SettleFault.{SettleFault}
+use Rattle.std.proofs.Common.{◌≡◌, ℕ, ◌<◌, ◌≤◌, List, Option, Ok, length, inl, inr}
+use Rattle.vault_inventory.specs.{Inventory.read_served, Served.Served, declared.limits.TheConstants.MOST_INVENTORY}
+use Rattle.state_changes.specs.{declared.row.Row.Row, Listed.rows_of_served}
+use Rattle.state_file.specs.{declared.fault.SettleFault.SettleFault, declared.text.Form.Form, Order.in_order}
 use Rattle.state_file.specs.declared.fault.SettleFault.TheVariants.{Differs, OutOfMemory, Refused, TooLong}
-use Rattle.state_file.specs.declared.text.Form.{Form}
 use Rattle.state_file.specs.declared.text.Form.TheVariants.{Words, Seconds}
 use Rattle.state_file.specs.FileText.{IsFileText, IsPrinted, IsTooLong}
-use Rattle.state_file.specs.Order.{in_order}
-use Rattle.state_file.specs.Settled.{TextIsSettled}
-use Rattle.state_file.specs.Unwritten.{IsWhyNoInventory, IsWhyUnprinted, IsWhyUnread, IsWhyUnwritten}
+use Rattle.state_file.specs.Unwritten.{IsWhyUnprinted, IsWhyUnread, IsWhyUnwritten}
 
 module _ (margin most : Option ℕ) (rows : List Row) where
   pub too_long : (form : Form) (text : List ℕ) → IsFileText form margin most rows text → MOST_INVENTORY < length text → IsTooLong form margin most rows

@@ -1,15 +1,8 @@
 -- A journal over the file that was settled.
-use Rattle.std.proofs.Common.{◌≡◌, ℕ, List, [], ◌∷◌, ◌++◌, Option, refl, sym, ap, ◌∙◌, subst}
-use Rattle.vault_inventory.specs.Served.{Served}
-use Rattle.state_changes.specs.declared.change.Record.{Record}
-use Rattle.state_changes.specs.declared.change.Record.TheVariants.{Settling}
-use Rattle.state_changes.specs.declared.replaying.File.{File}
-use Rattle.state_changes.specs.declared.row.Row.{Row}
-use Rattle.state_changes.specs.Replay.{ReplayState, replayed}
+use Rattle.std.proofs.Common.{◌≡◌, List, [], ◌∷◌, ◌++◌, sym, ap, ◌∙◌}
+use Rattle.state_changes.specs.{declared.change.Record.TheVariants.Settling, declared.row.Row.Row, Replay.ReplayState, Replay.replayed}
 use Rattle.state_changes.proofs.Settling.{settled}
-use Rattle.state_file.specs.Order.{in_order}
-use Rattle.state_file.specs.Settled.{TextIsSettled}
-use Rattle.state_file.specs.Laws.{SettledRowsLaw}
+use Rattle.state_file.specs.{Order.in_order, Laws.SettledRowsLaw}
 
 begins : List Row → ReplayState
 begins rows = record { rows = rows; notes = [] }

@@ -1,14 +1,12 @@
 -- What is written at a key, and what is left out.
-use Rattle.std.proofs.Common.{◌≡◌, ℕ, pos, ◌+◌, ◌/◌, ◌%◌, ◌<◌, ◌≤◌, Bool, true, false, nat_le, le-leb, List, [], ◌∷◌, ◌++◌, Option, Some, None, IsSome, slice_index, length, zero, suc, refl, sym, ap, ◌∙◌, subst, arith, rules}
+use Rattle.std.proofs.Common.{◌≡◌, ℕ, pos, ◌+◌, ◌/◌, ◌%◌, ◌<◌, ◌≤◌, true, false, nat_le, le-leb, List, [], ◌∷◌, ◌++◌, sym, subst, arith}
+use Rattle.std.proofs.lemmas.{Int.ints, Str.Ascii.IsAscii-cons, Str.Ascii.IsAscii-nil}
 use Rattle.std.proofs.lemmas.Bool.{cond-true, cond-false, false_from_ne_true, leb-true}
-use Rattle.std.proofs.lemmas.Int.{ints}
 use Rattle.std.proofs.lemmas.Str.{IsUtf8-from_ascii, IsUtf8-from_is_utf8, is_utf8-from_IsUtf8}
-use Rattle.std.proofs.lemmas.Str.Ascii.{IsAscii-cons, IsAscii-nil}
 use Rattle.std.specs.Str.{IsAscii, IsUtf8, is_utf8}
-use Rattle.base_moment.specs.declared.moment.TheConstants.{LAST}
-use Rattle.base_moment.specs.declared.stamp.Stamp.{Stamp}
+use Rattle.base_moment.specs.{declared.moment.TheConstants.LAST, declared.stamp.Stamp.Stamp}
 use Rattle.base_moment.specs.Rfc3339.{IsDateText, IsDateTime, face, two_digits_of}
-use Rattle.toml.specs.Data.{integer, string}
+use Rattle.toml.specs.Data.{integer}
 use Rattle.vault_inventory.specs.declared.key.Key.{Key}
 use Rattle.state_file.specs.declared.text.Form.{Form}
 use Rattle.state_file.specs.declared.text.Form.TheVariants.{Words, Seconds}

@@ -1,21 +1,15 @@
 -- FileText: the text of a file that says what rows say, line by line.
 -- Source: TOML 1.1, "Key/Value Pair" and "Array of Tables"; the keys and their order are this project's own.
 use Rattle.std.specs.Prelude.{◌≡◌, ℕ, ◌+◌, ◌/◌, ◌%◌, ◌<◌, ◌≤◌, ◌⊎◌, Bool, true, false, not, ◌||◌, ◌==◌, nat_le, if◌then◌else◌, List, [], ◌∷◌, ◌++◌, Option, Some, None, pos, length, codes}
-use Rattle.std.specs.Fmt.{decimal}
-use Rattle.std.specs.List.{flat_map}
-use Rattle.std.specs.Str.{is_utf8}
-use Rattle.base_moment.specs.declared.moment.TheConstants.{LAST}
-use Rattle.base_moment.specs.Rfc3339.{IsDateText}
+use Rattle.std.specs.{Fmt.decimal, List.flat_map, Str.is_utf8}
+use Rattle.base_moment.specs.{declared.moment.TheConstants.LAST, Rfc3339.IsDateText}
 use Rattle.plan_forest.specs.Push.{is_lease}
-use Rattle.toml.specs.Data.{Data, string, integer, boolean}
 use Rattle.toml.specs.Text.{IsValueText}
-use Rattle.vault_inventory.specs.Keys.{key_text}
-use Rattle.vault_inventory.specs.declared.key.Key.{Key}
-use Rattle.vault_inventory.specs.declared.key.Key.TheVariants as keys
-use Rattle.vault_inventory.specs.declared.limits.TheConstants.{MOST_INVENTORY}
-use Rattle.vault_inventory.specs.declared.need.Need as needs
+use Rattle.toml.specs.Data.{Data, string, integer, boolean}
+use Rattle.vault_inventory.specs.{Keys.key_text, declared.key.Key.Key, declared.limits.TheConstants.MOST_INVENTORY, declared.terms.Terms.Terms}
 use Rattle.vault_inventory.specs.declared.need.Need.TheVariants.{Always, Until}
-use Rattle.vault_inventory.specs.declared.terms.Terms.{Terms}
+use Rattle.vault_inventory.specs.declared.key.Key.TheVariants as keys
+use Rattle.vault_inventory.specs.declared.need.Need as needs
 use Rattle.state_changes.specs.declared.row.Row.{Row}
 use Rattle.state_file.specs.declared.text.Form.{Form}
 use Rattle.state_file.specs.declared.text.Form.TheVariants.{Words, Seconds}

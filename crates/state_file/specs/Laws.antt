@@ -1,17 +1,8 @@
 -- Laws of settling. Each is the contract of a public function without a body.
 use Rattle.std.specs.Prelude.{◌≡◌, ℕ, List, [], ◌∷◌, ◌++◌, Option}
 use Rattle.vault_inventory.specs.Served.{Served}
-use Rattle.state_changes.specs.declared.change.Record.{Record}
-use Rattle.state_changes.specs.declared.change.Record.TheVariants.{Settling}
-use Rattle.state_changes.specs.declared.replaying.File.{File}
-use Rattle.state_changes.specs.declared.row.Row.{Row}
-use Rattle.state_changes.specs.Listed.{rows_of_served}
-use Rattle.state_changes.specs.Replay.{replayed}
-use Rattle.state_changes.specs.Words.{fingerprint}
-use Rattle.state_file.specs.declared.text.Form.{Form}
-use Rattle.state_file.specs.FileText.{IsFileText}
-use Rattle.state_file.specs.Order.{in_order}
-use Rattle.state_file.specs.Settled.{TextIsSettled}
+use Rattle.state_changes.specs.{declared.change.Record.Record, declared.change.Record.TheVariants.Settling, declared.replaying.File.File, declared.row.Row.Row, Listed.rows_of_served, Replay.replayed, Words.fingerprint}
+use Rattle.state_file.specs.{declared.text.Form.Form, FileText.IsFileText, Order.in_order, Settled.TextIsSettled}
 
 -- a file with a settled text, and what the records of a journal make of it: these rows in order, and no note
 abbrev pub GivesRows : File → List Row → List Record → Type 0

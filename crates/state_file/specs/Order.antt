@@ -1,6 +1,6 @@
 -- Order: rows as the tables of a file stand, tokens before leases, and each kind in its order.
 -- Source: this project's own.
-use Rattle.std.specs.Prelude.{ℕ, Bool, true, false, not, if◌then◌else◌, List, [], ◌∷◌, ◌++◌}
+use Rattle.std.specs.Prelude.{Bool, not, List, ◌++◌}
 use Rattle.std.specs.List.{filter}
 use Rattle.plan_forest.specs.Push.{is_lease}
 use Rattle.state_changes.specs.declared.row.Row.{Row}

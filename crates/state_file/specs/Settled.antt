@@ -1,11 +1,8 @@
 -- Settled: a text that says what rows, a margin and a maximum TTL of the system say.
 -- Source: this project's own.
 use Rattle.std.specs.Prelude.{◌≡◌, ℕ, ◌≤◌, List, Option, is_some, Ok, length, unwrap_or}
-use Rattle.vault_inventory.specs.declared.limits.TheConstants.{MOST_INVENTORY}
-use Rattle.vault_inventory.specs.Inventory.{read_served}
-use Rattle.vault_inventory.specs.Served.{Served}
-use Rattle.state_changes.specs.declared.row.Row.{Row}
-use Rattle.state_changes.specs.Listed.{rows_of_served}
+use Rattle.vault_inventory.specs.{declared.limits.TheConstants.MOST_INVENTORY, Inventory.read_served, Served.Served}
+use Rattle.state_changes.specs.{declared.row.Row.Row, Listed.rows_of_served}
 use Rattle.state_file.specs.Order.{in_order}
 
 -- the text is read as that inventory, whose rows are these in order, with the margin and the maximum TTL of the system that are written,

@@ -1,15 +1,11 @@
 -- Unwritten: why what rows say cannot be written as one file.
 -- Source: this project's own.
 use Rattle.std.specs.Prelude.{◌≡◌, ℕ, List, Option, Ok, Err, is_some, unwrap_or}
-use Rattle.vault_inventory.specs.Inventory.{read_served}
-use Rattle.vault_inventory.specs.Served.{Served}
+use Rattle.vault_inventory.specs.{Inventory.read_served, Served.Served}
 use Rattle.state_changes.specs.declared.row.Row.{Row}
-use Rattle.state_file.specs.declared.fault.SettleFault.{SettleFault}
+use Rattle.state_file.specs.{declared.fault.SettleFault.SettleFault, FileText.IsPrinted, FileText.IsTooLong, Order.in_order, Settled.TextIsSettled}
 use Rattle.state_file.specs.declared.fault.SettleFault.TheVariants.{Differs, OutOfMemory, Refused, TooLong}
 use Rattle.state_file.specs.declared.text.Form.TheVariants.{Words, Seconds}
-use Rattle.state_file.specs.FileText.{IsPrinted, IsTooLong}
-use Rattle.state_file.specs.Order.{in_order}
-use Rattle.state_file.specs.Settled.{TextIsSettled}
 
 -- ---- the steps
 

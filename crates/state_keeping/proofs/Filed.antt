@@ -8,14 +8,9 @@ use Rattle.base_journal.specs.declared.journal.Journal.{Journal}
 use Rattle.base_journal.specs.Journals.{CrashLeaves, Exchanging, JournalHolds, KeepsOthers, lines_of_journal, path_of_journal}
 use Rattle.state_store.specs.declared.store.Store.{Store}
 use Rattle.state_store.specs.Stores.{FileHolds, IsKeptOrNone, IsReplayed, is_kept, journal_of, path_of_store}
-use Rattle.state_store.proofs.Kept.{holds_past}
-use Rattle.state_store.proofs.Marking.{rest_alone}
-use Rattle.state_keeping.specs.declared.keeper.StateKeeper.{StateKeeper}
-use Rattle.state_keeping.specs.Keepers.{store_of}
-use Rattle.state_keeping.specs.Places.{Places, PlacesAreApart}
-use Rattle.state_keeping.specs.States.{IsKeeping}
-use Rattle.state_keeping.proofs.Others.{apart_back, at_end}
-use Rattle.state_keeping.proofs.Renewed.{file_is_no_journal, file_is_other}
+use Rattle.state_store.proofs.{Kept.holds_past, Marking.rest_alone}
+use Rattle.state_keeping.specs.{declared.keeper.StateKeeper.StateKeeper, Keepers.store_of, Places.Places, Places.PlacesAreApart, States.IsKeeping}
+use Rattle.state_keeping.proofs.{Others.apart_back, Others.at_end, Renewed.file_is_no_journal, Renewed.file_is_other}
 
 pub journal_is_other : (p : Places) → PlacesAreApart p → bytes_eq p.journal p.file ≡ false
 journal_is_other p apart = apart_back p.file p.journal (file_is_no_journal p apart)

@@ -3,49 +3,27 @@ use Rattle.std.proofs.Common.{◌≡◌, ◌⊎◌, inl, inr, ⊎_elim, ℕ, ◌
 use Rattle.std.proofs.lemmas.Bool.{cases_Bool, cond-false, cond-true, or_parts}
 use Rattle.std.specs.Str.{bytes_eq}
 use Rattle.state_changes.specs.declared.change.Change as taken
-use Rattle.state_changes.specs.declared.change.Record.{Record}
+use Rattle.state_changes.specs.{declared.change.Record.Record, declared.fault.ChangeFault.ChangeFault, declared.row.Row.Row, Changes.rows_changed, Records.record_of, Words.fingerprint}
 use Rattle.state_changes.specs.declared.change.Record.TheVariants.{Made, Settling}
-use Rattle.state_changes.specs.declared.fault.ChangeFault.{ChangeFault}
-use Rattle.state_changes.specs.declared.replaying.File as replays
-use Rattle.state_changes.specs.declared.row.Row.{Row}
-use Rattle.state_changes.specs.Changes.{rows_changed}
-use Rattle.state_changes.specs.Records.{record_of}
 use Rattle.state_changes.specs.Replay.{ReplayState, is_as_then, made, made_with, overruled, replay_begun, replay_step, replayed}
-use Rattle.state_changes.specs.Words.{fingerprint}
+use Rattle.state_changes.specs.declared.replaying.File as replays
 use Rattle.state_changes.proofs.Compacting.{compaction}
-use Rattle.base_disk.specs.Image.{File, Image, SameElsewhere, with_file_at}
 use Rattle.base_disk.specs.State.{DiskState}
-use Rattle.vault_inventory.specs.declared.fault.InvFault.{InvFault}
-use Rattle.vault_inventory.specs.Inventory.{read_served}
-use Rattle.vault_inventory.specs.Served.{Served}
-use Rattle.base_journal.specs.Journals.{CrashLeaves, bytes_of_file}
-use Rattle.base_journal.specs.Laws.{OneReading}
-use Rattle.base_journal.specs.Records.{IsBeforeOrAfter, StandsFor}
+use Rattle.base_disk.specs.Image.{File, Image, SameElsewhere, with_file_at}
+use Rattle.vault_inventory.specs.{declared.fault.InvFault.InvFault, Inventory.read_served, Served.Served}
+use Rattle.base_journal.specs.{Journals.CrashLeaves, Journals.bytes_of_file, Laws.OneReading, Records.IsBeforeOrAfter, Records.StandsFor}
 use Rattle.base_journal.proofs.Runs.{rest_has}
 use Rattle.state_file.specs.Order.{in_order}
-use Rattle.state_file.specs.Settled.{TextIsSettled}
-use Rattle.state_store.specs.declared.fault.FileFault.{FileFault}
+use Rattle.state_store.specs.{declared.fault.FileFault.FileFault, Moved.SaysAllKept, Moved.mark_line, Records.records_in}
 use Rattle.state_store.specs.Books.{Book, IsFileOf, file_of}
 use Rattle.state_store.specs.Compacted.{compacted_lines, damaged, is_worth}
-use Rattle.state_store.specs.Moved.{SaysAllKept, mark_line}
-use Rattle.state_store.specs.Records.{records_in}
 use Rattle.state_store.specs.Stores.{BookIsFrom, is_sure, journal_of, lines_in, path_of_store}
-use Rattle.state_store.proofs.Copied.{at_path, moves_elsewhere}
-use Rattle.state_store.proofs.Staying.{damaged_records}
-use Rattle.state_store.proofs.Lists.{records_push}
+use Rattle.state_store.proofs.{Copied.at_path, Copied.moves_elsewhere, Staying.damaged_records, Lists.records_push, Replayed.replayed_last, Undamaged.compacted_records, Undamaged.worth_records}
 use Rattle.state_store.proofs.Marked.{mark_read, marked_gives, same_texts}
-use Rattle.state_store.proofs.Replayed.{replayed_last}
-use Rattle.state_store.proofs.Undamaged.{compacted_records, worth_records}
-use Rattle.state_keeping.specs.Lives.{Aim, AllHappen, AllHold, Alone, Answered, AreCutShort, Call, Change, Changed, Compact, Deed, DeedsMake, End, Event, HandOver, HasNoTwin, IsAllInFile, IsCall, IsDone, IsEnd, IsIn, IsLeft, IsOnDisk, IsReady, LeavesAmid, LeftAtEnd, Mark, MayBeDone, OverStarts, Place, Reload, Settled, Standing, deeds_at_end, deeds_with, file_by, last_of, rows_after, rows_by, rows_if, rows_or, rows_with, standing_after, standing_after_all}
-use Rattle.state_keeping.specs.Opens.{IsOpenedState}
-use Rattle.state_keeping.specs.Places.{Places, PlacesAreApart}
-use Rattle.state_keeping.specs.Recovers.{IsAside, LeftByStart}
-use Rattle.state_keeping.specs.Settles.{copy_with}
+use Rattle.state_keeping.specs.{Opens.IsOpenedState, Places.Places, Places.PlacesAreApart, Recovers.LeftByStart, Settles.copy_with}
+use Rattle.state_keeping.specs.Lives.{Aim, AllHappen, AllHold, Alone, Answered, AreCutShort, Call, Change, Changed, Compact, DeedsMake, End, Event, HandOver, HasNoTwin, IsAllInFile, IsCall, IsDone, IsEnd, IsIn, IsLeft, IsOnDisk, IsReady, LeavesAmid, LeftAtEnd, Mark, MayBeDone, OverStarts, Place, Reload, Settled, Standing, deeds_at_end, deeds_with, file_by, last_of, rows_after, rows_by, rows_if, rows_or, rows_with, standing_after, standing_after_all}
 use Rattle.state_keeping.specs.States.{IsKeeping, Kept, book_in, store_in}
-use Rattle.state_keeping.proofs.Filed.{journal_is_other}
-use Rattle.state_keeping.proofs.Others.{apart_back, at_end}
-use Rattle.state_keeping.proofs.Renewed.{file_is_other}
-use Rattle.state_keeping.proofs.Served.{aside_records}
+use Rattle.state_keeping.proofs.{Filed.journal_is_other, Others.apart_back, Others.at_end, Renewed.file_is_other, Served.aside_records}
 
 -- ---- one record more
 

@@ -1,8 +1,7 @@
 -- The lines of one note more.
-use Rattle.std.proofs.Common.{◌≡◌, ℕ, ◌+◌, ◌<◌, ◌≤◌, List, [], ◌∷◌, ◌++◌, length, take, get_or, refl, sym, ap, ◌∙◌}
+use Rattle.std.proofs.Common.{◌≡◌, ℕ, ◌+◌, ◌<◌, ◌≤◌, List, [], ◌++◌, length, take, get_or, refl, sym, ap, ◌∙◌}
 use Rattle.std.proofs.lemmas.List.{flat_map_more, take_all, take_more}
-use Rattle.state_changes.specs.declared.change.Record.{Record}
-use Rattle.state_changes.specs.declared.replaying.JournalNote.{JournalNote}
+use Rattle.state_changes.specs.{declared.change.Record.Record, declared.replaying.JournalNote.JournalNote}
 use Rattle.state_keeping.specs.Noted.{lines_in_note, note_lines}
 
 pub lines_none : (margin : ℕ) (records : List Record) → note_lines margin records [] ≡ []

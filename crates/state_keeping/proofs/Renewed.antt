@@ -1,19 +1,16 @@
 -- FILE becomes what is kept, and then the copy is FILE and the journal without its records: what a crash leaves meanwhile, and what is there then.
 use Rattle.std.proofs.Common.{◌≡◌, ◌⊎◌, inl, inr, ⊎_elim, ℕ, ◌≤◌, Bool, false, ◌||◌, IsTrue, List, [], ◌∷◌, ◌++◌, Option, Some, Result, Ok, Err, OnOk, OnErr, refl, sym, ap, subst, ◌∙◌}
-use Rattle.std.specs.Str.{bytes_eq}
+use Rattle.std.specs.{Str.bytes_eq, Result.result_err}
 use Rattle.std.proofs.lemmas.Bool.{or_parts}
-use Rattle.std.specs.Result.{result_err}
-use Rattle.base_disk.specs.declared.fault.DiskFault.{DiskFault}
-use Rattle.base_disk.specs.Image.{File, Image}
+use Rattle.base_disk.specs.{declared.fault.DiskFault.DiskFault, Image.File, Image.Image}
 use Rattle.base_disk.specs.State.{DiskState, LeavesAlone, LeavesOnly}
 use Rattle.base_disk.proofs.Moments.{and_then, weaker}
-use Rattle.base_journal.specs.Journals.{Exchanging, FileIsThere, JournalIsAtRest, JournalIsWhole, bytes_of_file}
 use Rattle.base_journal.specs.Records.{StandsFor}
+use Rattle.base_journal.specs.Journals.{Exchanging, FileIsThere, JournalIsAtRest, JournalIsWhole, bytes_of_file}
 use Rattle.base_journal.proofs.Runs.{rest_has}
 use Rattle.state_keeping.proofs.Others.{apart_back, at_end}
 use Rattle.vault_inventory.specs.Served.{Served}
-use Rattle.state_store.specs.declared.store.Store.{Store}
-use Rattle.state_store.specs.Compacted.{damaged}
+use Rattle.state_store.specs.{declared.store.Store.Store, Compacted.damaged}
 use Rattle.state_store.specs.Moved.{LeftByMove, SaysAllKept, mark_line}
 use Rattle.state_store.specs.Stores.{book_of, journal_of, lines_in, path_of_store}
 use Rattle.state_keeping.specs.Places.{Places, PlacesAreApart}

@@ -1,21 +1,16 @@
 -- A start: whose fault it is that nothing is kept, and the copy of the file that is served.
 use Rattle.std.proofs.Common.{◌≡◌, ◌≤◌, List, ℕ, Bool, false, Option, Some, None, refl, sym, ap, ◌∙◌}
 use Rattle.std.specs.Str.{bytes_eq}
+use Rattle.base_disk.specs.{Torn.MovesFile, declared.fault.DiskFault.DiskFault}
 use Rattle.base_disk.specs.Image.{File, Image, SameElsewhere}
 use Rattle.base_disk.specs.State.{DiskState, IsAfter, LeavesOnly}
-use Rattle.base_disk.specs.Torn.{MovesFile}
-use Rattle.base_disk.specs.declared.fault.DiskFault.{DiskFault}
 use Rattle.base_disk.specs.declared.fault.DiskFault.TheVariants.{Failed, TooLong}
 use Rattle.base_disk.specs.declared.fault.DiskFault.TheVariants as disks
 use Rattle.base_disk.proofs.Moments.{started, weaker}
 use Rattle.base_journal.specs.Journals.{FileIsThere, KeepsOthers}
 use Rattle.state_store.specs.Records.{records_in}
-use Rattle.state_store.proofs.Copied.{moves_elsewhere}
-use Rattle.state_store.proofs.Undamaged.{same_records}
-use Rattle.state_keeping.specs.declared.fault.OpenFault.TheVariants.{OutOfMemory}
-use Rattle.state_keeping.specs.Opens.{IsOfFolder, unheld}
-use Rattle.state_keeping.specs.Places.{Places}
-use Rattle.state_keeping.specs.Recovers.{IsAside}
+use Rattle.state_store.proofs.{Copied.moves_elsewhere, Undamaged.same_records}
+use Rattle.state_keeping.specs.{declared.fault.OpenFault.TheVariants.OutOfMemory, Opens.IsOfFolder, Opens.unheld, Places.Places, Recovers.IsAside}
 use Rattle.state_keeping.proofs.Others.{at_end}
 
 pub of_folder : (known : Bool) (places : Places) (s : DiskState) (fault : DiskFault) → IsOfFolder known places s (unheld fault)

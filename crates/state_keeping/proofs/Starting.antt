@@ -1,19 +1,15 @@
 -- What a crash leaves while the journal of a folder is opened, and what stands on the disk then.
-use Rattle.std.proofs.Common.{◌≡◌, ◌≢◌, ◌⊎◌, inl, inr, ⊎_elim, ℕ, suc, ◌-◌, ◌≤◌, List, [], ◌∷◌, ◌++◌, Option, Some, None, IfSome, is_none, option_to_list, length, Bool, false, refl, sym, ap, subst, ◌∙◌, arith}
+use Rattle.std.proofs.Common.{◌≡◌, ◌⊎◌, inl, inr, ⊎_elim, ℕ, suc, ◌-◌, ◌≤◌, List, [], ◌∷◌, ◌++◌, Option, Some, None, IfSome, is_none, option_to_list, length, Bool, false, refl, sym, ap, subst, ◌∙◌, arith}
 use Rattle.std.specs.Str.{bytes_eq}
-use Rattle.state_changes.specs.declared.change.Record.{Record}
-use Rattle.state_changes.specs.Records.{record_of}
+use Rattle.state_changes.specs.{declared.change.Record.Record, Records.record_of}
 use Rattle.base_disk.specs.Image.{File, Image, SameElsewhere}
 use Rattle.base_disk.specs.State.{DiskState, Elapses, IsAfter, LeavesAlone, LeavesOnly}
 use Rattle.base_disk.proofs.Moments.{and_then, goes_on, started}
-use Rattle.base_journal.specs.Journals.{Exchanging, bytes_of_file}
-use Rattle.base_journal.specs.Records.{StandsFor, lines_kept}
-use Rattle.state_store.specs.Compacted.{damages, undamaged}
-use Rattle.state_store.specs.Records.{records_in}
+use Rattle.base_journal.specs.{Journals.Exchanging, Journals.bytes_of_file, Records.StandsFor, Records.lines_kept}
+use Rattle.state_store.specs.{Compacted.damages, Compacted.undamaged, Records.records_in}
 use Rattle.state_store.proofs.Undamaged.{same_records}
-use Rattle.state_keeping.specs.Places.{Places}
+use Rattle.state_keeping.specs.{Places.Places, Recovers.LeftByStart}
 use Rattle.state_keeping.proofs.Others.{apart_back, at_end}
-use Rattle.state_keeping.specs.Recovers.{LeftByStart}
 
 module _ (lines : List (List ℕ)) (places : Places) (s : DiskState) where
   -- the journal's file is as in an image that has P, and no other file is changed but those two

@@ -1,25 +1,17 @@
 -- A settling is calls one after the other: FILE is read, the mark is put, FILE is put in its place, and the journal is handed over.
-use Rattle.std.proofs.Common.{◌≡◌, ◌⊎◌, inl, inr, ⊎_elim, ℕ, ◌≤◌, Bool, true, false, IsTrue, List, [], ◌∷◌, ◌++◌, Option, Some, Result, Ok, Err, OnOk, OnErr, refl, sym, ap, subst, ◌∙◌}
+use Rattle.std.proofs.Common.{◌≡◌, ◌⊎◌, inl, inr, ⊎_elim, ℕ, Bool, true, false, IsTrue, List, Some, Result, Ok, Err, OnOk, OnErr, refl, sym, ap, subst, ◌∙◌}
 use Rattle.std.specs.Str.{bytes_eq}
-use Rattle.base_disk.specs.Image.{File, Image}
+use Rattle.base_disk.specs.{Image.File, Image.Image, declared.fault.DiskFault.DiskFault}
 use Rattle.base_disk.specs.State.{DiskState, LeavesAlone, LeavesOnly}
-use Rattle.base_disk.specs.declared.fault.DiskFault.{DiskFault}
 use Rattle.base_disk.proofs.Moments.{weaker}
 use Rattle.vault_inventory.specs.Served.{Served}
-use Rattle.base_journal.specs.declared.journal.Journal.{Journal}
-use Rattle.base_journal.specs.Journals.{Exchanging, FileIsThere, bytes_of_file, lines_of_journal}
 use Rattle.base_journal.specs.Records.{StandsFor}
-use Rattle.state_store.specs.declared.store.Store.{Store}
-use Rattle.state_store.specs.Books.{Book}
-use Rattle.state_store.specs.Compacted.{damaged}
-use Rattle.state_store.specs.Moved.{FailsInSteps, MovesInSteps, PutsFile, PutsMark, SaysAllKept, SaysByItself, mark_line}
-use Rattle.state_store.specs.Stores.{book_of, is_sure, journal_of, lines_in, path_of_store}
-use Rattle.state_keeping.specs.declared.keeper.StateKeeper.{StateKeeper}
-use Rattle.state_keeping.specs.Keepers.{store_of, waiting_in}
-use Rattle.state_keeping.specs.Lives.{Alone, HandOver, IsCall, IsOver, IsPlaced, IsReady, IsStill, LeavesAmid, Mark, MarksInSteps, Place, PlacesInSteps, SettlesInSteps}
-use Rattle.state_keeping.specs.Places.{Places}
-use Rattle.state_keeping.specs.Settles.{copy_with}
-use Rattle.state_keeping.specs.States.{IsKeeping, Kept, book_in, store_in}
+use Rattle.base_journal.specs.Journals.{Exchanging, FileIsThere, bytes_of_file, lines_of_journal}
+use Rattle.state_store.specs.{declared.store.Store.Store, Books.Book, Compacted.damaged}
+use Rattle.state_store.specs.Moved.{FailsInSteps, MovesInSteps, PutsFile, PutsMark, SaysAllKept, SaysByItself}
+use Rattle.state_store.specs.Stores.{book_of, is_sure, lines_in, path_of_store}
+use Rattle.state_keeping.specs.{declared.keeper.StateKeeper.StateKeeper, Keepers.store_of, Keepers.waiting_in, Places.Places, Settles.copy_with, States.IsKeeping, States.Kept}
+use Rattle.state_keeping.specs.Lives.{Alone, HandOver, IsCall, IsOver, IsReady, IsStill, LeavesAmid, Mark, Place, SettlesInSteps}
 use Rattle.state_keeping.proofs.Filed.{keeps_alone, keeps_store}
 
 -- of a disk of which contracts know

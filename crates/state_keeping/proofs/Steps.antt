@@ -1,5 +1,5 @@
 -- Calls of a disk that change nothing, one after the other.
-use Rattle.std.proofs.Common.{◌≡◌, ◌∙◌}
+use Rattle.std.proofs.Common.{◌∙◌}
 use Rattle.base_disk.specs.Image.{Image}
 use Rattle.base_disk.specs.State.{DiskState, Elapses, LeavesAlone, LeavesOnly}
 use Rattle.base_disk.proofs.Moments.{goes_on, started}

@@ -1,11 +1,8 @@
 -- What an array of one table gives, and any other.
 use Rattle.std.proofs.Common.{◌≡◌, ◌≢◌, ℕ, List, [], ◌∷◌, Option, Result, Err, get_or, length, refl, sym, ap, ◌∙◌, arith}
-use Rattle.toml.specs.View.{items_view, view}
-use Rattle.toml.specs.declared.value.Value.{Value}
+use Rattle.toml.specs.{View.items_view, View.view, declared.value.Value.Value}
 use Rattle.vault_inventory.specs.declared.key.Key.{Key}
-use Rattle.state_keeping.specs.declared.fault.TableFault.{TableFault}
-use Rattle.state_keeping.specs.declared.fault.TableFault.TheVariants.{NotOne}
-use Rattle.state_keeping.specs.Tables.{over_item, over_items}
+use Rattle.state_keeping.specs.{declared.fault.TableFault.TableFault, declared.fault.TableFault.TheVariants.NotOne, Tables.over_item, Tables.over_items}
 
 pub one_item : (key : Key) (items : List Value) (x : Value) (r : Result (Option (List ℕ)) TableFault) → length items ≡ 1 → x ≡ get_or items 0 x → over_item key (view x) ≡ r → over_items key (items_view items) ≡ r
 one_item key [] x r one is so = absurd (omega (arith, one))

@@ -2,33 +2,20 @@
 -- Source: this project's own.
 use Rattle.std.specs.Prelude.{◌≡◌, ◌⊎◌, ℕ, Bool, true, false, if◌then◌else◌, List, [], ◌∷◌, ◌++◌, Option, Some, None, Result, Ok, Err, bytes_eq}
 use Rattle.std.proofs.Common.{inl, inr}
-use Rattle.state_changes.specs.declared.change.Record.{Record}
+use Rattle.state_changes.specs.{declared.change.Record.Record, declared.fault.ChangeFault.ChangeFault, declared.row.Row.Row, Changes.rows_changed, Records.record_of, Replay.is_as_then, Replay.replayed, Words.fingerprint}
 use Rattle.state_changes.specs.declared.change.Record.TheVariants.{Made, Settling}
-use Rattle.state_changes.specs.declared.fault.ChangeFault.{ChangeFault}
 use Rattle.state_changes.specs.declared.replaying.File as replays
-use Rattle.state_changes.specs.declared.row.Row.{Row}
-use Rattle.state_changes.specs.Changes.{rows_changed}
-use Rattle.state_changes.specs.Records.{record_of}
-use Rattle.state_changes.specs.Replay.{is_as_then, replayed}
-use Rattle.state_changes.specs.Words.{fingerprint}
-use Rattle.base_disk.specs.Image.{File, Image}
+use Rattle.base_disk.specs.{Image.File, Image.Image, Torn.MovesFile}
 use Rattle.base_disk.specs.State.{DiskKeeps, DiskState, IsAfter, LeavesOnly}
-use Rattle.base_disk.specs.Torn.{MovesFile}
 use Rattle.vault_inventory.specs.Served.{Served}
-use Rattle.base_journal.specs.Journals.{CrashLeaves, Exchanging, FileIsThere, JournalIsWhole, bytes_of_file}
 use Rattle.base_journal.specs.Records.{IsBeforeOrAfter, StandsFor}
-use Rattle.state_file.specs.Order.{in_order}
-use Rattle.state_file.specs.Settled.{TextIsSettled}
-use Rattle.state_store.specs.Books.{IsFileOf, file_of}
+use Rattle.base_journal.specs.Journals.{CrashLeaves, Exchanging, FileIsThere, JournalIsWhole, bytes_of_file}
+use Rattle.state_file.specs.{Order.in_order, Settled.TextIsSettled}
+use Rattle.state_store.specs.{Books.IsFileOf, Books.file_of, Records.records_in}
 use Rattle.state_store.specs.Compacted.{compacted_lines, damaged, is_worth}
 use Rattle.state_store.specs.Moved.{SaysAllKept, SaysByItself, mark_line}
-use Rattle.state_store.specs.Records.{records_in}
 use Rattle.state_store.specs.Stores.{is_sure, journal_of, lines_in, path_of_store}
-use Rattle.state_keeping.specs.declared.opening.OpenedState.{OpenedState}
-use Rattle.state_keeping.specs.Opens.{IsOpenedState}
-use Rattle.state_keeping.specs.Places.{Places, PlacesAreApart}
-use Rattle.state_keeping.specs.Recovers.{LeftByStart}
-use Rattle.state_keeping.specs.Settles.{copy_with}
+use Rattle.state_keeping.specs.{declared.opening.OpenedState.OpenedState, Opens.IsOpenedState, Places.Places, Places.PlacesAreApart, Recovers.LeftByStart, Settles.copy_with}
 use Rattle.state_keeping.specs.States.{IsKeeping, Kept, book_in, store_in}
 
 -- ---- changes and settlings

@@ -2,10 +2,8 @@
 -- Source: this project's own.
 use Rattle.std.specs.Prelude.{ℕ, List, [], ◌∷◌, Option, Some, None, slice_get}
 use Rattle.std.specs.List.{flat_map}
-use Rattle.state_changes.specs.declared.change.Record.{Record}
+use Rattle.state_changes.specs.{declared.change.Record.Record, declared.replaying.JournalNote.JournalNote, declared.replaying.NotMadeReason.NotMadeReason}
 use Rattle.state_changes.specs.declared.change.Record.TheVariants.{Made, Settling}
-use Rattle.state_changes.specs.declared.replaying.JournalNote.{JournalNote}
-use Rattle.state_changes.specs.declared.replaying.NotMadeReason.{NotMadeReason}
 use Rattle.state_notes.specs.Lines.{note_line}
 
 -- the line about one, where its record is a change

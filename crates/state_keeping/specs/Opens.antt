@@ -2,24 +2,16 @@
 -- Source: this project's own.
 use Rattle.std.specs.Prelude.{◌≡◌, ◌≢◌, ℕ, List, Option, Some, None, is_none, Bool, true, false, ◌||◌, IsTrue}
 use Rattle.std.specs.Str.{bytes_eq}
-use Rattle.base_disk.specs.State.{DiskKeeps, DiskState, LeavesOnly}
 use Rattle.base_disk.specs.declared.fault.DiskFault.{DiskFault}
+use Rattle.base_disk.specs.State.{DiskKeeps, DiskState, LeavesOnly}
 use Rattle.base_disk.specs.declared.fault.DiskFault.TheVariants as disks
-use Rattle.base_journal.specs.Journals.{bytes_of_file}
-use Rattle.base_journal.specs.Records.{StandsFor}
-use Rattle.state_store.specs.declared.fault.FileFault.{FileFault}
-use Rattle.state_store.specs.declared.fault.FileFault.TheVariants as files
-use Rattle.state_store.specs.Books.{IsFileFaultOf}
-use Rattle.state_store.specs.Records.{records_in}
+use Rattle.base_journal.specs.{Journals.bytes_of_file, Records.StandsFor}
+use Rattle.state_store.specs.{declared.fault.FileFault.FileFault, Books.IsFileFaultOf, Records.records_in}
 use Rattle.state_store.specs.Stores.{BookIsFrom, is_sure, lines_in}
-use Rattle.state_keeping.specs.Keepers.{waiting_in}
-use Rattle.state_keeping.specs.declared.fault.OpenFault.{OpenFault}
+use Rattle.state_store.specs.declared.fault.FileFault.TheVariants as files
+use Rattle.state_keeping.specs.{Keepers.waiting_in, declared.fault.OpenFault.OpenFault, declared.opening.OpenedState.OpenedState, Places.Places, Settles.IsCopiedTo, States.book_in, States.store_in}
 use Rattle.state_keeping.specs.declared.fault.OpenFault.TheVariants.{Held, Disk, File, OutOfMemory}
-use Rattle.state_keeping.specs.declared.opening.OpenedState.{OpenedState}
-use Rattle.state_keeping.specs.Places.{Places}
 use Rattle.state_keeping.specs.Recovers.{IsAside, IsPutAside, LeftByStart, damage_of}
-use Rattle.state_keeping.specs.Settles.{IsCopiedTo}
-use Rattle.state_keeping.specs.States.{book_in, store_in}
 
 -- lack of memory is told as such
 abbrev pub unheld : DiskFault → OpenFault

@@ -1,8 +1,7 @@
 -- Reading: FILE as it may be served.
 -- Source: this project's own.
 use Rattle.std.specs.Prelude.{◌≡◌, ◌≢◌, ℕ, List, None, Some, bit_and}
-use Rattle.base_disk.specs.Image.{File}
-use Rattle.base_disk.specs.State.{DiskState}
+use Rattle.base_disk.specs.{Image.File, State.DiskState}
 use Rattle.state_file.specs.declared.fault.ReadFault.{ReadFault}
 use Rattle.state_file.specs.declared.fault.ReadFault.TheVariants.{Missing, NotRegular, ForOthers, Disk, OutOfMemory}
 use Rattle.state_keeping.specs.declared.reading.FileRead.{FileRead}

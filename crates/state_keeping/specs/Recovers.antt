@@ -2,15 +2,11 @@
 -- Source: this project's own.
 use Rattle.std.specs.Prelude.{◌≡◌, ◌≢◌, ◌⊎◌, ℕ, ◌-◌, List, ◌++◌, Option, Some, None, Bool, false, IsTrue, length}
 use Rattle.std.specs.Str.{bytes_eq}
-use Rattle.base_disk.specs.Image.{Image}
-use Rattle.base_disk.specs.State.{DiskState}
-use Rattle.base_disk.specs.declared.fault.DiskFault.{DiskFault}
-use Rattle.base_journal.specs.Journals.{FileIsThere, JournalHolds, bytes_of_file, lines_of_journal, path_of_journal}
+use Rattle.base_disk.specs.{Image.Image, State.DiskState, declared.fault.DiskFault.DiskFault}
 use Rattle.base_journal.specs.Records.{StandsFor, lines_taken_out}
-use Rattle.state_store.specs.Compacted.{damages, undamaged}
-use Rattle.state_store.specs.Records.{records_in}
-use Rattle.state_keeping.specs.declared.recovering.Recovered.{Recovered}
-use Rattle.state_keeping.specs.Places.{Places}
+use Rattle.base_journal.specs.Journals.{FileIsThere, JournalHolds, bytes_of_file, lines_of_journal, path_of_journal}
+use Rattle.state_store.specs.{Compacted.damages, Compacted.undamaged, Records.records_in}
+use Rattle.state_keeping.specs.{declared.recovering.Recovered.Recovered, Places.Places}
 
 -- how many of these lines write no record
 abbrev pub damage_of : List (List ℕ) → ℕ

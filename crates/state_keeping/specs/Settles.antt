@@ -3,25 +3,18 @@
 use Rattle.std.specs.Prelude.{◌≡◌, ◌⊎◌, ℕ, List, [], ◌∷◌, ◌++◌, Option, Some, None, Bool, true, false, IsTrue, bit_and}
 use Rattle.std.specs.Str.{bytes_eq}
 use Rattle.state_changes.specs.Words.{fingerprint}
-use Rattle.base_disk.specs.Image.{File, Image}
-use Rattle.base_disk.specs.State.{DiskState, LeavesAlone}
-use Rattle.base_disk.specs.declared.fault.DiskFault.{DiskFault}
+use Rattle.base_disk.specs.{Image.File, Image.Image, State.DiskState, State.LeavesAlone, declared.fault.DiskFault.DiskFault}
 use Rattle.vault_inventory.specs.Served.{Served}
-use Rattle.base_journal.specs.Journals.{FileIsThere, JournalIsWhole, bytes_of_file}
 use Rattle.base_journal.specs.Records.{StandsFor}
-use Rattle.state_store.specs.declared.fault.Unsettled.{Unsettled}
-use Rattle.state_store.specs.declared.fault.Unsettled.TheVariants as unsettles
-use Rattle.state_store.specs.declared.store.Store.{Store}
-use Rattle.state_store.specs.Compacted.{damaged}
+use Rattle.base_journal.specs.Journals.{FileIsThere, JournalIsWhole, bytes_of_file}
+use Rattle.state_store.specs.{declared.fault.Unsettled.Unsettled, declared.store.Store.Store, Compacted.damaged}
 use Rattle.state_store.specs.Moved.{IsMovedBook, LeftByMove, SaysAllKept, SaysAlready, SaysByItself, mark_line}
 use Rattle.state_store.specs.Stores.{book_of, is_sure, journal_of, lines_in}
+use Rattle.state_store.specs.declared.fault.Unsettled.TheVariants as unsettles
 use Rattle.state_file.specs.declared.fault.ReadFault.{ReadFault}
 use Rattle.state_file.specs.declared.fault.ReadFault.TheVariants as reads
-use Rattle.state_keeping.specs.declared.fault.SettleWhy.{SettleWhy}
+use Rattle.state_keeping.specs.{declared.fault.SettleWhy.SettleWhy, declared.reading.FileRead.FileRead, Places.Places, Reading.IsFileAt, Reading.IsWhyUnread}
 use Rattle.state_keeping.specs.declared.fault.SettleWhy.TheVariants.{Unread, Changed, Unwritten, Disk, OutOfMemory}
-use Rattle.state_keeping.specs.declared.reading.FileRead.{FileRead}
-use Rattle.state_keeping.specs.Places.{Places}
-use Rattle.state_keeping.specs.Reading.{IsFileAt, IsWhyUnread}
 use Rattle.state_keeping.specs.States.{Kept, book_in, store_in}
 
 -- a copy of these bytes, which nobody but its user may read

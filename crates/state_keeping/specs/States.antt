@@ -4,12 +4,9 @@ use Rattle.std.specs.Prelude.{◌≡◌, Bool, false}
 use Rattle.std.specs.Str.{bytes_eq}
 use Rattle.base_disk.specs.State.{DiskState}
 use Rattle.base_journal.specs.Journals.{JournalHolds}
-use Rattle.state_store.specs.declared.store.Store.{Store}
-use Rattle.state_store.specs.Books.{Book}
+use Rattle.state_store.specs.{declared.store.Store.Store, Books.Book}
 use Rattle.state_store.specs.Stores.{FileHolds, IsReplayed, book_of, journal_of, path_of_store}
-use Rattle.state_keeping.specs.declared.keeper.StateKeeper.{StateKeeper}
-use Rattle.state_keeping.specs.Keepers.{store_of}
-use Rattle.state_keeping.specs.Places.{Places}
+use Rattle.state_keeping.specs.{declared.keeper.StateKeeper.StateKeeper, Keepers.store_of, Places.Places}
 
 pub record Kept (D : Type 0) : Type 0 where
   pub keeper : StateKeeper

@@ -3,15 +3,11 @@
 use Rattle.std.specs.Prelude.{◌≡◌, ℕ, List, [], ◌∷◌, ◌++◌, Option, Some, None, Result, Ok, Err, codes, if◌then◌else◌, slice_get, decimal}
 use Rattle.toml.specs.Data.{Data, string, table, array, item, no_items, Items, Members, get_member}
 use Rattle.plan_forest.specs.Push.{is_name}
-use Rattle.vault_inventory.specs.declared.fault.InvFault.{InvFault}
-use Rattle.vault_inventory.specs.declared.fault.InvFault.TheVariants as inventories
-use Rattle.vault_inventory.specs.declared.key.Key.{Key}
+use Rattle.vault_inventory.specs.{declared.fault.InvFault.InvFault, declared.key.Key.Key, Inventory.document_tree, Inventory.read_served, Served.Served}
 use Rattle.vault_inventory.specs.declared.key.Key.TheVariants.{Lease, Parent, Token}
-use Rattle.vault_inventory.specs.Inventory.{document_tree, read_served}
 use Rattle.vault_inventory.specs.Keys.{all_keys, is_one_of, key_text}
-use Rattle.vault_inventory.specs.Served.{Served}
-use Rattle.state_changes.specs.declared.row.Row.{Row}
-use Rattle.state_changes.specs.Listed.{rows_of_served}
+use Rattle.vault_inventory.specs.declared.fault.InvFault.TheVariants as inventories
+use Rattle.state_changes.specs.{declared.row.Row.Row, Listed.rows_of_served}
 use Rattle.state_keeping.specs.declared.fault.TableFault.{TableFault}
 use Rattle.state_keeping.specs.declared.fault.TableFault.TheVariants.{NotToml, NotOne, Missing, Unknown, Bad, Tree, OutOfMemory}
 

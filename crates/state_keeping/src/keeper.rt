@@ -1,7 +1,7 @@
 use agent_standing::Waiting;
 use base_disk::{Disk, DiskFault, FILE_MODE};
 use base_moment::Name;
-use state_changes::{JournalNote, Secret, ChangeKind};
+use state_changes::{ChangeKind, JournalNote, Secret};
 use state_file::SettleFault;
 use state_store::{FileFault, Store, TakeFault, Unsettled};
 use std::alloc::AllocError;
@@ -95,7 +95,11 @@ impl<'a> StateKeeper<'a> {
     }
 
     /// Serves what a file says from now on, as [`Store::reload`] does; that waits to be served from now on.
-    pub fn reload(&mut self, now: Millis, bytes: Option<&[u8]>) -> Result<Vec<JournalNote>, FileFault>
+    pub fn reload(
+        &mut self,
+        now: Millis,
+        bytes: Option<&[u8]>,
+    ) -> Result<Vec<JournalNote>, FileFault>
         requires { IsReplayed (store_of self.old) }
         ensures reloaded { IfOk result (λ notes. IsBookIf (option_copied bytes.entry) (records_in (lines_in (store_of self.old))) (book_of (store_of self.old)).secrets (book_of (store_of self.new)) notes.items) }
         ensures waiting { OnOk result (waiting_in self.new ≡ changed (waiting_in self.old) now) }

@@ -2,7 +2,7 @@ ghost use Rattle.std.specs.Prelude.{◌≡◌, ◌++◌, IfOk, OnOk, option_copi
 ghost use Rattle.state_keeping.specs.Noted.{line_about, lines_in_note, note_lines};
 
 use base_moment::Text;
-use state_changes::{JournalNote, Record, NotMadeReason};
+use state_changes::{JournalNote, NotMadeReason, Record};
 use state_notes::note_line;
 use std::alloc::{AllocError, Global};
 

@@ -6,7 +6,7 @@ use crate::paths::Paths;
 use crate::reading::{FileRead, read_file};
 use base_disk::{Disk, DiskFault};
 use base_moment::{Name, Text};
-use state_changes::{File, JournalNote, Record, Rows, Secret, ChangeKind};
+use state_changes::{ChangeKind, File, JournalNote, Record, Rows, Secret};
 use state_file::{ReadFault, SettleFault};
 use state_store::{FileFault, TakeFault};
 use std::alloc::{AllocError, Global};

@@ -1,11 +1,8 @@
 -- What is said of a change hangs on its name and on keys of what it changes, and not on its credential.
 use Rattle.std.proofs.Common.{◌≡◌, ℕ, List, refl, ap}
-use Rattle.state_changes.specs.declared.change.Change.{Change}
-use Rattle.state_changes.specs.declared.change.ChangeKind.{ChangeKind}
-use Rattle.state_changes.specs.declared.change.ChangeKind.TheVariants as what
-use Rattle.state_changes.specs.declared.fault.ChangeFault.{ChangeFault}
-use Rattle.state_changes.specs.declared.replaying.NotMadeReason.{NotMadeReason}
+use Rattle.state_changes.specs.{declared.change.Change.Change, declared.change.ChangeKind.ChangeKind, declared.fault.ChangeFault.ChangeFault, declared.replaying.NotMadeReason.NotMadeReason}
 use Rattle.state_changes.specs.declared.replaying.NotMadeReason.TheVariants.{FileWins, Refused}
+use Rattle.state_changes.specs.declared.change.ChangeKind.TheVariants as what
 use Rattle.state_notes.specs.Laws.{IsSameBut}
 use Rattle.state_notes.specs.Lines.{change_fault_text, change_word, note_line, over_words, reason_text, step_words, twice_words}
 

@@ -1,10 +1,7 @@
 -- Laws of secrecy. Each is the contract of a public function without a body.
 use Rattle.std.specs.Prelude.{◌≡◌, ℕ, List}
-use Rattle.state_changes.specs.declared.change.Change.{Change}
-use Rattle.state_changes.specs.declared.change.ChangeKind.{ChangeKind}
+use Rattle.state_changes.specs.{declared.change.Change.Change, declared.change.ChangeKind.ChangeKind, declared.fault.ChangeFault.ChangeFault, declared.replaying.NotMadeReason.NotMadeReason}
 use Rattle.state_changes.specs.declared.change.ChangeKind.TheVariants as what
-use Rattle.state_changes.specs.declared.fault.ChangeFault.{ChangeFault}
-use Rattle.state_changes.specs.declared.replaying.NotMadeReason.{NotMadeReason}
 use Rattle.state_notes.specs.Lines.{change_fault_text, note_line}
 
 -- the two make the same of an entry, but for its credential

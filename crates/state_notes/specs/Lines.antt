@@ -1,14 +1,11 @@
 -- Lines: what is said of a change that cannot be made, and of one of a journal that was not made again.
 -- Source: this project's own.
-use Rattle.std.specs.Prelude.{ℕ, ◌==◌, Bool, true, false, if◌then◌else◌, List, ◌++◌, codes, decimal}
+use Rattle.std.specs.Prelude.{ℕ, ◌==◌, if◌then◌else◌, List, ◌++◌, codes, decimal}
 use Rattle.plan_forest.specs.Push.{is_lease}
-use Rattle.state_changes.specs.declared.change.Change.{Change}
-use Rattle.state_changes.specs.declared.change.ChangeKind.{ChangeKind}
-use Rattle.state_changes.specs.declared.change.ChangeKind.TheVariants as what
-use Rattle.state_changes.specs.declared.fault.ChangeFault.{ChangeFault}
+use Rattle.state_changes.specs.{declared.change.Change.Change, declared.change.ChangeKind.ChangeKind, declared.fault.ChangeFault.ChangeFault, declared.replaying.NotMadeReason.NotMadeReason}
 use Rattle.state_changes.specs.declared.fault.ChangeFault.TheVariants.{NoEntry, NameTwice, NoParent, ParentIsLease, StepTooSmall, TooDeep, Full, CredentialTwice, InFile, HasUnder, OutOfMemory}
-use Rattle.state_changes.specs.declared.replaying.NotMadeReason.{NotMadeReason}
 use Rattle.state_changes.specs.declared.replaying.NotMadeReason.TheVariants.{FileWins, Refused}
+use Rattle.state_changes.specs.declared.change.ChangeKind.TheVariants as what
 
 -- the key by which an entry that is added names the token over it
 abbrev pub over_words : ChangeKind → List ℕ

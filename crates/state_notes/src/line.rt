@@ -9,7 +9,12 @@ use std::alloc::{AllocError, Global};
 /// The line about a change of a journal that was not made again, for that reason, in an inventory of that margin in seconds: what it
 /// would change, the name of its entry, and why it was not. The only error is out of memory.
 #[tactic(auto, unfolding(crate::specs::Lines::note_line))]
-pub fn note_line(alloc: Global, margin: u32, change: &Change, why: NotMadeReason) -> Result<Text, AllocError>
+pub fn note_line(
+    alloc: Global,
+    margin: u32,
+    change: &Change,
+    why: NotMadeReason,
+) -> Result<Text, AllocError>
     ensures { IfOk result (λ line. line ≡ note_line margin change.now why) }
 {
     let mut text = Vec::new(alloc);

@@ -3,7 +3,7 @@ ghost use Rattle.state_notes.specs.Lines.{change_fault_text, margin_text, over_w
 
 use base_moment::Text;
 use base_words::push_number;
-use state_changes::{ChangeFault, Row, ChangeKind};
+use state_changes::{ChangeFault, ChangeKind, Row};
 use std::alloc::{AllocError, Global};
 
 /// Why a change of the entry of that name cannot be made, in an inventory of that margin in seconds: words for the one who asked for
@@ -105,7 +105,8 @@ fn over_words(what: &ChangeKind) -> &'static [u8]
 {
     match what {
         ChangeKind::Add(row) if row.kind.is_lease() => b" token: ",
-        ChangeKind::Add(_) | ChangeKind::Need(_) | ChangeKind::Replace(_) | ChangeKind::Drop => b" parent: ",
+        ChangeKind::Add(_) | ChangeKind::Need(_) | ChangeKind::Replace(_) | ChangeKind::Drop =>
+            b" parent: ",
     }
 }
 
@@ -115,7 +116,8 @@ fn step_words(what: &ChangeKind) -> &'static [u8]
 {
     match what {
         ChangeKind::Add(row) if row.terms.period > 0 => b" period: ",
-        ChangeKind::Add(_) | ChangeKind::Need(_) | ChangeKind::Replace(_) | ChangeKind::Drop => b" increment: ",
+        ChangeKind::Add(_) | ChangeKind::Need(_) | ChangeKind::Replace(_) | ChangeKind::Drop =>
+            b" increment: ",
     }
 }
 

@@ -1,11 +1,7 @@
 -- Passing: how a pass goes on. For the loop of `Looking::pass`.
 use Rattle.std.proofs.Common.{ℕ, List, Option, drop}
-use Rattle.state_changes.specs.declared.row.Row.{Row}
-use Rattle.state_changes.specs.declared.secret.Secret.{Secret}
-use Rattle.state_secrets.specs.Looking.{Passes}
-use Rattle.state_secrets.specs.Stamps.{FileCall}
-use Rattle.state_secrets.specs.declared.looking.FileMark.{FileMark}
-use Rattle.state_secrets.specs.declared.looking.Pass.{Pass}
+use Rattle.state_changes.specs.{declared.row.Row.Row, declared.secret.Secret.Secret}
+use Rattle.state_secrets.specs.{Looking.Passes, Stamps.FileCall, declared.looking.FileMark.FileMark, declared.looking.Pass.Pass}
 
 module _ {I : Type 0} (calls : I → Option (List FileCall)) (marks : List FileMark) (secrets : List Secret) (folder : List ℕ) (now : ℕ) where
   -- where the pass from a row on ends so, it ends so from the start on

@@ -1,8 +1,7 @@
 -- Placing: the place of a mark is that of one. For `set_mark`.
-use Rattle.std.proofs.Common.{◌≡◌, ℕ, ◌<◌, Bool, true, false, cond, List, Option, Some, None, length, ltb-true, refl, subst}
+use Rattle.std.proofs.Common.{◌≡◌, ℕ, ◌<◌, Bool, true, false, cond, List, Some, None, length, ltb-true, refl, subst}
 use Rattle.std.specs.List.{position, position_or_len}
-use Rattle.state_secrets.specs.Looking.{is_mark_of}
-use Rattle.state_secrets.specs.declared.looking.FileMark.{FileMark}
+use Rattle.state_secrets.specs.{Looking.is_mark_of, declared.looking.FileMark.FileMark}
 
 chosen : (b : Bool) (m n : ℕ) → cond b (Some m) None ≡ Some n → (b ≡ true) × (m ≡ n)
 chosen true m n e = (refl, cc)

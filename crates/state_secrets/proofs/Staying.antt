@@ -1,11 +1,8 @@
 -- Staying: one more of a list that stays, or goes. For `others`.
-use Rattle.std.proofs.Common.{◌≡◌, ◌∙◌, ℕ, ◌+◌, ◌<◌, ◌≤◌, Bool, true, false, List, [], ◌∷◌, ◌++◌, append-nil, ap, get_or, length, sym, take}
-use Rattle.std.proofs.lemmas.Bool.{cond-true, cond-false}
-use Rattle.std.proofs.lemmas.List.{take_all, take_more}
-use Rattle.std.proofs.lemmas.List.Elements.{filter-append}
+use Rattle.std.proofs.Common.{◌≡◌, ◌∙◌, ℕ, ◌+◌, ◌<◌, ◌≤◌, true, false, List, [], ◌∷◌, ◌++◌, append-nil, ap, get_or, length, sym, take}
+use Rattle.std.proofs.lemmas.{Bool.cond-true, Bool.cond-false, List.take_all, List.take_more, List.Elements.filter-append}
 use Rattle.std.specs.List.{filter}
-use Rattle.state_changes.specs.declared.row.Row.{Row}
-use Rattle.state_changes.specs.declared.secret.Secret.{Secret}
+use Rattle.state_changes.specs.{declared.row.Row.Row, declared.secret.Secret.Secret}
 use Rattle.state_secrets.specs.Outcomes.{stays}
 
 module _ (rows : List Row) (name : List ℕ) (secrets : List Secret) (i : ℕ) where

@@ -1,6 +1,6 @@
 -- Credentials: where a file of a credential is, and what its text holds.
 -- Source: docs/inventory.md, "Secrets in files".
-use Rattle.std.specs.Prelude.{ℕ, ◌==◌, Bool, true, false, if◌then◌else◌, List, [], ◌∷◌, ◌++◌, Option, Some, None}
+use Rattle.std.specs.Prelude.{ℕ, ◌==◌, Bool, false, if◌then◌else◌, List, [], ◌∷◌, ◌++◌, Option, Some, None}
 use Rattle.vault_inventory.specs.Values.{is_credential}
 use Rattle.base_words.specs.Texts.{stripped}
 

@@ -2,21 +2,13 @@
 -- Source: docs/running.md, "Secrets by file"; the bounds are this project's own.
 use Rattle.std.specs.Prelude.{◌≡◌, ◌≢◌, ◌⊎◌, ℕ, ◌+◌, ◌-◌, Bool, true, false, not, ◌&&◌, ◌||◌, if◌then◌else◌, List, [], ◌∷◌, ◌++◌, Option, Some, None, bytes_eq, is_none, is_some, length, min, nat_le, nat_lt, option_map, slice_set}
 use Rattle.std.specs.List.{find, position}
-use Rattle.state_changes.specs.declared.row.Row.{Row}
-use Rattle.state_changes.specs.Secrets.{taken_from}
-use Rattle.state_changes.specs.declared.secret.Secret.{Secret}
-use Rattle.state_secrets.specs.Credentials.{placed}
+use Rattle.state_changes.specs.{declared.row.Row.Row, Secrets.taken_from, declared.secret.Secret.Secret}
+use Rattle.state_secrets.specs.{Credentials.placed, declared.looking.DueFile.DueFile, declared.looking.FileMark.FileMark, declared.looking.FileSeen.FileSeen, declared.looking.Looking.Looking, declared.looking.Pass.Pass}
+use Rattle.state_secrets.specs.{declared.looking.Step.Step, declared.secret_files.FileStamp.FileStamp}
 use Rattle.state_secrets.specs.Stamps.{FileCall, Made, Stamped, is_same_found}
-use Rattle.state_secrets.specs.declared.looking.DueFile.{DueFile}
-use Rattle.state_secrets.specs.declared.looking.FileMark.{FileMark}
-use Rattle.state_secrets.specs.declared.looking.FileSeen.{FileSeen}
-use Rattle.state_secrets.specs.declared.looking.Looking.{Looking}
-use Rattle.state_secrets.specs.declared.looking.Pass.{Pass}
 use Rattle.state_secrets.specs.declared.looking.Pass.TheVariants.{End, Later, Due, Want}
-use Rattle.state_secrets.specs.declared.looking.Step.{Step}
 use Rattle.state_secrets.specs.declared.looking.Step.TheVariants.{Bare, Same, Ends}
 use Rattle.state_secrets.specs.declared.looking.TheConstants.{LOOK_EVERY, MOST_MARKS, NEVER}
-use Rattle.state_secrets.specs.declared.secret_files.FileStamp.{FileStamp}
 
 -- ---- what is known of a file
 

@@ -2,29 +2,15 @@
 -- Source: docs/running.md, "Secrets by file".
 use Rattle.std.specs.Prelude.{◌≡◌, ◌⊎◌, ℕ, ◌+◌, ◌*◌, ◌==◌, Bool, true, false, not, ◌&&◌, if◌then◌else◌, List, [], ◌∷◌, ◌++◌, Option, Some, None, Result, Ok, Err, bytes_eq, is_none, is_some, min, nat_lt}
 use Rattle.std.specs.List.{filter}
-use Rattle.state_changes.specs.Rows.{named}
-use Rattle.state_changes.specs.declared.row.Row.{Row}
+use Rattle.state_changes.specs.{Rows.named, declared.row.Row.Row, Secrets.taken_from, declared.secret.Secret.Secret}
 use Rattle.base_device.specs.declared.fault.InputFault.{InputFault}
 use Rattle.base_device.specs.declared.fault.InputFault.TheVariants as inputs
-use Rattle.state_changes.specs.Secrets.{taken_from}
-use Rattle.state_changes.specs.declared.secret.Secret.{Secret}
-use Rattle.state_secrets.specs.Credentials.{credential_in}
-use Rattle.state_secrets.specs.Looking.{MaySet}
+use Rattle.state_secrets.specs.{Credentials.credential_in, Looking.MaySet, declared.credential.TheConstants.MOST_SECRET, declared.looking.DueFile.DueFile, declared.looking.FileMark.FileMark, declared.looking.FileSeen.FileSeen}
+use Rattle.state_secrets.specs.{declared.looking.Looking.Looking, declared.looking.SecretTrouble.SecretTrouble, declared.looking.TheConstants.LOOK_EVERY, declared.looking.TheConstants.NEVER, declared.outcome.TheConstants.LONGEST_PAUSE}
+use Rattle.state_secrets.specs.{declared.secret_files.FileStamp.FileStamp, declared.news.Became.Became, declared.news.SecretNews.SecretNews, declared.news.SecretWord.SecretWord}
 use Rattle.state_secrets.specs.Stamps.{FileCall, Made, Opened, is_same_found}
-use Rattle.state_secrets.specs.declared.credential.TheConstants.{MOST_SECRET}
-use Rattle.state_secrets.specs.declared.looking.DueFile.{DueFile}
-use Rattle.state_secrets.specs.declared.looking.FileMark.{FileMark}
-use Rattle.state_secrets.specs.declared.looking.FileSeen.{FileSeen}
-use Rattle.state_secrets.specs.declared.looking.Looking.{Looking}
-use Rattle.state_secrets.specs.declared.looking.SecretTrouble.{SecretTrouble}
 use Rattle.state_secrets.specs.declared.looking.SecretTrouble.TheVariants.{Unread, NotRegular, NoSecret, Another, TooLong, Endless, Refused}
-use Rattle.state_secrets.specs.declared.looking.TheConstants.{LOOK_EVERY, NEVER}
-use Rattle.state_secrets.specs.declared.outcome.TheConstants.{LONGEST_PAUSE}
-use Rattle.state_secrets.specs.declared.secret_files.FileStamp.{FileStamp}
-use Rattle.state_secrets.specs.declared.news.Became.{Became}
 use Rattle.state_secrets.specs.declared.news.Became.TheVariants.{Taken, Same, Troubled}
-use Rattle.state_secrets.specs.declared.news.SecretNews.{SecretNews}
-use Rattle.state_secrets.specs.declared.news.SecretWord.{SecretWord}
 use Rattle.state_secrets.specs.declared.news.SecretWord.TheVariants as words
 
 -- ---- what a file holds

@@ -1,11 +1,11 @@
 -- A copy that is put in its place, beside the file of a journal, which is left alone.
-use Rattle.std.proofs.Common.{◌≡◌, inl, inr, ⊎_elim, ℕ, List, Option, Some, Bool, true, false, if◌then◌else◌, Result, Ok, Err, OnOk, refl, sym, ◌∙◌, ap}
+use Rattle.std.proofs.Common.{◌≡◌, inl, inr, ⊎_elim, ℕ, List, Some, Bool, true, false, if◌then◌else◌, Result, Ok, Err, OnOk, refl, sym, ◌∙◌, ap}
 use Rattle.std.proofs.lemmas.Bool.{true≢false, cases_Bool, cond-false}
 use Rattle.std.proofs.lemmas.Slice.Eq.{bytes_eq-Decides}
 use Rattle.std.specs.Str.{bytes_eq}
+use Rattle.base_disk.specs.Torn.{MovesFile}
 use Rattle.base_disk.specs.Image.{File, Image, SameElsewhere, with_file_at}
 use Rattle.base_disk.specs.State.{DiskState, OutcomesFollow, DiskKeeps}
-use Rattle.base_disk.specs.Torn.{MovesFile}
 use Rattle.base_journal.specs.Journals.{FileIsThere, JournalIsAtRest}
 
 pub on_ok : {X E A B : Type 0} (r : Result X E) → (A → B) → OnOk r A → OnOk r B

@@ -1,5 +1,5 @@
 -- A fingerprint is a word: 64 hexadecimal digits.
-use Rattle.std.proofs.Common.{◌≡◌, ℕ, zero, suc, ◌*◌, ◌<◌, ◌/◌, ◌%◌, Bool, true, false, ◌&&◌, inl, inr, List, [], ◌∷◌, ◌++◌, length, nat_le, nat_lt, refl, sym, ap, ◌∙◌, arith}
+use Rattle.std.proofs.Common.{◌≡◌, ℕ, zero, suc, ◌*◌, ◌<◌, ◌/◌, ◌%◌, Bool, true, ◌&&◌, inl, inr, List, [], ◌∷◌, ◌++◌, length, nat_le, nat_lt, refl, ap, ◌∙◌, arith}
 use Rattle.std.specs.Prelude.{slice_index}
 use Rattle.std.proofs.lemmas.Bool.{and_from, and_parts, cases_lt}
 use Rattle.std.specs.List.{list_all}
@@ -9,8 +9,7 @@ use Rattle.hex.proofs.HexLemmas.{length-encode_with}
 use Rattle.sha2.specs.Sha256.{digest_bytes, final_hash, initial_hash_256, sha256}
 use Rattle.sha2.proofs.Facts256.{length-sha256}
 use Rattle.vault_inventory.specs.declared.limits.TheConstants.{CREDENTIAL_MAX}
-use Rattle.state_changes.specs.RowText.{is_word}
-use Rattle.state_changes.specs.Words.{fingerprint}
+use Rattle.state_changes.specs.{RowText.is_word, Words.fingerprint}
 
 -- ---- a digest is bytes
 

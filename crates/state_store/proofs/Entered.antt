@@ -1,35 +1,25 @@
 -- The line of a change, and why there is none.
-use Rattle.std.proofs.Common.{◌≡◌, ◌≢◌, ◌⊎◌, inl, inr, ℕ, Bool, true, false, not, ◌==◌, ◌&&◌, List, [], ◌∷◌, Option, Some, None, Result, Ok, Err, refl, sym, ap, ◌∙◌, subst}
+use Rattle.std.proofs.Common.{◌≡◌, ◌≢◌, inl, inr, ℕ, Bool, true, false, not, ◌==◌, List, [], ◌∷◌, Option, Some, None, Ok, refl, sym, ap, ◌∙◌, subst}
 use Rattle.std.proofs.lemmas.Bool.{and_parts, true≢false}
-use Rattle.std.specs.Cmp.Lexicographic.{bytes_decides}
-use Rattle.std.specs.List.{list_all}
-use Rattle.state_changes.specs.declared.change.Change.{Change}
-use Rattle.state_changes.specs.declared.change.Record.{Record}
+use Rattle.std.specs.{Cmp.Lexicographic.bytes_decides, List.list_all}
+use Rattle.state_changes.specs.{declared.change.Change.Change, declared.change.Record.Record, declared.change.ChangeKind.ChangeKind, declared.fault.ChangeFault.ChangeFault, declared.fault.ChangeFault.TheVariants.OutOfMemory}
+use Rattle.state_changes.specs.{declared.replaying.File.File, declared.row.Row.Row, Replay.is_as_then, Said.said}
 use Rattle.state_changes.specs.declared.change.Record.TheVariants.{Made, Settling}
-use Rattle.state_changes.specs.declared.change.ChangeKind.{ChangeKind}
-use Rattle.state_changes.specs.declared.fault.ChangeFault.{ChangeFault}
-use Rattle.state_changes.specs.declared.fault.ChangeFault.TheVariants.{OutOfMemory}
-use Rattle.state_changes.specs.declared.replaying.File.{File}
-use Rattle.state_changes.specs.declared.row.Row.{Row}
 use Rattle.state_changes.specs.Changes.{IsWhy, change_refusal, rows_changed, rows_unless, rows_with_change}
 use Rattle.state_changes.specs.Records.{IsRecord, record_of, record_text}
-use Rattle.state_changes.specs.Replay.{is_as_then}
-use Rattle.state_changes.specs.Said.{said}
-use Rattle.state_changes.proofs.Found.{read_is_written}
-use Rattle.state_changes.proofs.ReadBack.{line_law, written_is_read}
+use Rattle.state_changes.proofs.{Found.read_is_written, ReadBack.line_law, ReadBack.written_is_read}
 use Rattle.base_journal.specs.Records.{IsRecordLine}
 use Rattle.base_words.specs.Laws.{Lacks}
 use Rattle.base_disk.specs.declared.fault.DiskFault.{DiskFault}
 use Rattle.base_disk.specs.declared.fault.DiskFault.TheVariants as disks
 use Rattle.state_file.specs.declared.fault.SettleFault.{SettleFault}
 use Rattle.state_file.specs.declared.fault.SettleFault.TheVariants as settles
-use Rattle.state_store.specs.declared.fault.TakeFault.{TakeFault}
+use Rattle.state_store.specs.{declared.fault.TakeFault.TakeFault, Books.Book}
 use Rattle.state_store.specs.declared.fault.TakeFault.TheVariants.{Unread, NoRecord, Refused, Unwritten, Disk, Unsure}
-use Rattle.state_store.specs.declared.fault.TakeFault.TheVariants as takes
-use Rattle.state_store.specs.Books.{Book}
 use Rattle.state_store.specs.Entering.{IsReadAs, IsWhyNot, line_for_change, may_hold, record_for}
 use Rattle.state_store.specs.code.Entered.{IsRecorded, IsUnmade, IsUnrecorded}
 use Rattle.state_store.specs.code.Faults.{change_in, unkept, unmade, unwritten}
+use Rattle.state_store.specs.declared.fault.TakeFault.TheVariants as takes
 
 -- no line feed stands in a text that lacks it
 pub lacking : (text : List ℕ) → Lacks 10 text → IsRecordLine text

@@ -1,18 +1,13 @@
 -- Why a file is not served, by what the crates below say of it.
 use Rattle.std.proofs.Common.{◌≡◌, ℕ, List, sym, subst}
 use Rattle.state_changes.specs.declared.replaying.File.{File}
-use Rattle.vault_inventory.specs.declared.fault.InvFault.{InvFault}
+use Rattle.vault_inventory.specs.{declared.fault.InvFault.InvFault, Answers.FailsWithInvFault, Inventory.read_served}
 use Rattle.vault_inventory.specs.declared.fault.InvFault.TheVariants.{NotToml, MissingKey, UnknownKey, BadValue, Tree}
 use Rattle.vault_inventory.specs.declared.fault.InvFault.TheVariants as inventories
-use Rattle.vault_inventory.specs.Answers.{FailsWithInvFault}
-use Rattle.vault_inventory.specs.Inventory.{read_served}
 use Rattle.state_file.specs.declared.fault.SettleFault.{SettleFault}
 use Rattle.state_file.specs.declared.fault.SettleFault.TheVariants.{TooLong, Refused, Differs}
 use Rattle.state_file.specs.declared.fault.SettleFault.TheVariants as settles
-use Rattle.state_store.specs.declared.fault.FileFault.{FileFault}
-use Rattle.state_store.specs.declared.fault.FileFault.TheVariants.{OutOfMemory}
-use Rattle.state_store.specs.Books.{IsFault, IsFileOf}
-use Rattle.state_store.specs.code.Faults.{faulty, unhanded}
+use Rattle.state_store.specs.{declared.fault.FileFault.FileFault, declared.fault.FileFault.TheVariants.OutOfMemory, Books.IsFault, Books.IsFileOf, code.Faults.faulty, code.Faults.unhanded}
 
 -- memory may be wanting for any bytes
 pub memory_fault : (bytes : List ℕ) (fault : FileFault) → fault ≡ OutOfMemory → IsFault bytes fault

@@ -7,9 +7,7 @@ use Rattle.base_disk.proofs.Moments.{and_then, goes_on, started, weaker}
 use Rattle.base_journal.specs.declared.journal.Journal.{Journal}
 use Rattle.base_journal.specs.Journals.{CrashLeaves, JournalHolds, JournalIsAtRest, KeepsOthers, lines_of_journal, path_of_journal}
 use Rattle.base_journal.proofs.Steps.{at_end, leaves_past, still_leaves}
-use Rattle.state_store.specs.declared.fault.TakeFault.{TakeFault}
-use Rattle.state_store.specs.declared.store.Store.{Store}
-use Rattle.state_store.specs.Entering.{may_hold}
+use Rattle.state_store.specs.{declared.fault.TakeFault.TakeFault, declared.store.Store.Store, Entering.may_hold}
 use Rattle.state_store.specs.Stores.{FileHolds, KeepsAllBut, is_kept}
 
 pub not_begun : (s : DiskState) → ((c : Image) → s.left_since s.moment c → s.may_leave c) → LeavesOnly s s s.may_leave

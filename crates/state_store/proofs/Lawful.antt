@@ -1,17 +1,8 @@
 -- A change as it was given, and a start on the same file.
-use Rattle.std.proofs.Common.{◌≡◌, List, sym, ap, ◌∙◌}
-use Rattle.state_changes.specs.declared.replaying.File.{File}
-use Rattle.state_changes.specs.declared.change.Change.{Change}
-use Rattle.state_changes.specs.declared.change.Record.{Record}
-use Rattle.state_changes.specs.declared.change.Record.TheVariants.{Made}
-use Rattle.state_changes.specs.Replay.{ReplayState, replayed}
-use Rattle.state_changes.specs.Said.{said}
+use Rattle.std.proofs.Common.{sym, ap, ◌∙◌}
+use Rattle.state_changes.specs.{declared.replaying.File.File, declared.change.Change.Change, declared.change.Record.TheVariants.Made, Replay.ReplayState, Replay.replayed, Said.said}
 use Rattle.state_changes.proofs.ReadBack.{written_is_read}
-use Rattle.state_store.specs.Books.{IsBookOf}
-use Rattle.state_store.specs.Entering.{line_for_change, record_for}
-use Rattle.state_store.specs.Laws.{AsGivenLaw, RestartLaw}
-use Rattle.state_store.specs.Records.{records_in}
-use Rattle.state_store.specs.Stores.{lines_in}
+use Rattle.state_store.specs.{Entering.line_for_change, Entering.record_for, Laws.AsGivenLaw, Laws.RestartLaw, Records.records_in, Stores.lines_in}
 use Rattle.state_store.proofs.Entered.{same_change, same_record}
 
 pub as_given : AsGivenLaw

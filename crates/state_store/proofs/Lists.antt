@@ -1,16 +1,12 @@
 -- One element more of a list: its records, its filled rows, and its rows that are ready.
 use Rattle.std.proofs.Common.{◌≡◌, ℕ, ◌+◌, ◌<◌, ◌≤◌, Bool, true, false, List, [], ◌∷◌, ◌++◌, Option, Some, None, append-nil, length, take, get_or, option_to_list, refl, sym, ap, ◌∙◌}
-use Rattle.std.proofs.lemmas.Bool.{cond-true, cond-false}
+use Rattle.std.proofs.lemmas.{Bool.cond-true, Bool.cond-false, List.Elements.filter-append}
 use Rattle.std.proofs.lemmas.List.{flat_map_more, map_more, take_all, take_more}
-use Rattle.std.proofs.lemmas.List.Elements.{filter-append}
-use Rattle.std.specs.List.{filter, flat_map}
+use Rattle.std.specs.List.{filter}
 use Rattle.plan_forest.specs.declared.forest.TheConstants.{MAX_DEPTH}
-use Rattle.state_changes.specs.declared.change.Record.{Record}
-use Rattle.state_changes.specs.declared.row.Row.{Row}
-use Rattle.state_changes.specs.Records.{record_of}
-use Rattle.state_changes.specs.declared.secret.Secret.{Secret}
-use Rattle.state_store.specs.Handed.{all_filled, all_ready, filled, is_ready}
+use Rattle.state_changes.specs.{declared.change.Record.Record, declared.row.Row.Row, Records.record_of, declared.secret.Secret.Secret}
 use Rattle.state_store.specs.Records.{record_in, records_in}
+use Rattle.state_store.specs.Handed.{all_filled, filled, is_ready}
 
 -- ---- records
 

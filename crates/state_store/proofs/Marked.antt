@@ -1,28 +1,14 @@
 -- The line that says that a file holds every change, and what a journal with it gives.
-use Rattle.std.proofs.Common.{◌≡◌, ℕ, ◌<◌, Bool, true, false, List, [], ◌∷◌, ◌++◌, Option, Some, option_to_list, length, refl, sym, ap, ◌∙◌}
-use Rattle.std.specs.Cmp.Lexicographic.{bytes_decides}
-use Rattle.std.specs.Str.{bytes_eq}
-use Rattle.state_changes.specs.declared.change.Record.{Record}
-use Rattle.state_changes.specs.declared.change.Record.TheVariants.{Settling}
-use Rattle.state_changes.specs.declared.replaying.File.{File}
-use Rattle.state_changes.specs.Records.{record_of, record_text}
-use Rattle.state_changes.specs.Replay.{ReplayState, replayed}
-use Rattle.state_changes.specs.RowText.{is_word}
-use Rattle.state_changes.specs.Words.{fingerprint}
-use Rattle.state_changes.proofs.ReadBack.{line_law, written_is_read}
-use Rattle.state_changes.proofs.Settling.{unsettled}
+use Rattle.std.proofs.Common.{◌≡◌, ℕ, true, List, [], ◌∷◌, ◌++◌, Option, Some, option_to_list, refl, ap, ◌∙◌}
+use Rattle.std.specs.{Cmp.Lexicographic.bytes_decides, Str.bytes_eq}
+use Rattle.state_changes.specs.{declared.change.Record.Record, declared.change.Record.TheVariants.Settling, Records.record_of, Replay.ReplayState, Replay.replayed, Words.fingerprint}
+use Rattle.state_changes.proofs.{ReadBack.line_law, ReadBack.written_is_read, Settling.unsettled}
 use Rattle.base_journal.specs.Records.{IsRecordLine}
 use Rattle.vault_inventory.specs.Served.{Served}
 use Rattle.state_file.specs.Laws.{GivesRows}
 use Rattle.state_file.proofs.Staying.{stays}
-use Rattle.state_store.specs.Laws.{MovedLaw}
-use Rattle.state_store.specs.Moved.{SaysAllKept, mark_line}
-use Rattle.state_store.specs.Books.{Book, file_of}
-use Rattle.state_store.specs.Records.{records_in}
-use Rattle.state_store.specs.Stores.{book_of, lines_in}
-use Rattle.state_store.proofs.Entered.{lacking}
-use Rattle.state_store.proofs.Lists.{records_none, records_push}
-use Rattle.state_store.proofs.Digits.{mark_is_word}
+use Rattle.state_store.specs.{Laws.MovedLaw, Moved.SaysAllKept, Moved.mark_line, Books.Book, Books.file_of, Records.records_in, Stores.book_of, Stores.lines_in}
+use Rattle.state_store.proofs.{Entered.lacking, Lists.records_none, Lists.records_push, Digits.mark_is_word}
 
 pub mark_read : (text : List ℕ) → record_of (mark_line text) ≡ Some (Settling (fingerprint text))
 mark_read text = written_is_read (Settling (fingerprint text)) (mark_is_word text)

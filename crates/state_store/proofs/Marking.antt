@@ -1,14 +1,12 @@
 -- What a crash leaves while a file takes its place after a mark in the journal, and what stands on the disk then.
 use Rattle.std.proofs.Common.{◌≡◌, inl, inr, ℕ, ◌≤◌, List, [], ◌∷◌, ◌++◌, Bool, false, Option, sym, ◌∙◌, ap, subst}
 use Rattle.std.specs.Str.{bytes_eq}
-use Rattle.base_disk.specs.Image.{File, Image}
+use Rattle.base_disk.specs.{Image.File, Image.Image, Torn.MovesFile}
 use Rattle.base_disk.specs.State.{DiskState, IsAfter, LeavesAlone, LeavesOnly}
-use Rattle.base_disk.specs.Torn.{MovesFile}
 use Rattle.base_disk.proofs.Moments.{and_then, weaker}
-use Rattle.base_journal.specs.Journals.{CrashLeaves, JournalIsAtRest, bytes_of_file}
 use Rattle.base_journal.specs.Records.{IsBeforeOrAfter, StandsFor}
-use Rattle.base_journal.proofs.Runs.{rest_has}
-use Rattle.base_journal.proofs.Steps.{at_end}
+use Rattle.base_journal.specs.Journals.{CrashLeaves, JournalIsAtRest, bytes_of_file}
+use Rattle.base_journal.proofs.{Runs.rest_has, Steps.at_end}
 use Rattle.state_store.specs.Moved.{Marking}
 use Rattle.state_store.proofs.Copied.{apart_back, at_path, moves_elsewhere}
 

@@ -1,31 +1,19 @@
 -- A file that becomes what is kept, or not, beside its journal on a disk.
-use Rattle.std.proofs.Common.{◌≡◌, ◌⊎◌, inl, inr, ⊎_elim, ℕ, ◌≤◌, false, List, [], ◌∷◌, ◌++◌, Option, Some, Result, Ok, Err, OnOk, OnErr, sym, ap, subst, ◌∙◌}
+use Rattle.std.proofs.Common.{◌≡◌, ◌⊎◌, inl, inr, ℕ, ◌≤◌, false, List, [], ◌∷◌, ◌++◌, Result, Ok, Err, OnOk, OnErr, sym, ap, subst, ◌∙◌}
 use Rattle.std.specs.Prelude.{string_bytes}
 use Rattle.std.specs.Str.{bytes_eq}
-use Rattle.state_changes.specs.declared.change.Record.{Record}
-use Rattle.state_changes.specs.declared.replaying.File.{File}
-use Rattle.state_changes.specs.Replay.{ReplayState, replayed}
+use Rattle.state_changes.specs.{declared.change.Record.Record, declared.replaying.File.File, Replay.ReplayState, Replay.replayed}
 use Rattle.base_disk.specs.Image as images
-use Rattle.base_disk.specs.Image.{Image}
+use Rattle.base_disk.specs.{Image.Image, Torn.MovesFile}
 use Rattle.base_disk.specs.State as disks
-use Rattle.base_disk.specs.Torn.{MovesFile}
 use Rattle.base_disk.proofs.Moments.{weaker}
-use Rattle.base_journal.specs.declared.journal.Journal.{Journal}
+use Rattle.base_journal.specs.{declared.journal.Journal.Journal, Records.IsBeforeOrAfter, Records.IsRecordLine}
 use Rattle.vault_inventory.specs.Served.{Served}
 use Rattle.base_journal.specs.Journals as journals
-use Rattle.base_journal.specs.Records.{IsBeforeOrAfter, IsRecordLine}
-use Rattle.state_store.specs.declared.settling.Moving.{Moving}
-use Rattle.state_store.specs.declared.store.Store.{Store}
-use Rattle.state_store.specs.Books.{Book, file_of}
-use Rattle.state_store.specs.Compacted.{damaged}
+use Rattle.state_store.specs.{declared.settling.Moving.Moving, declared.store.Store.Store, Books.Book, Books.file_of, Compacted.damaged, Records.records_in, code.Moving.IsMoving}
 use Rattle.state_store.specs.Moved.{IsMovedBook, LeftByMove, Marking, SaysAllKept, SaysAlready, SaysByItself, mark_line}
-use Rattle.state_store.specs.Records.{records_in}
 use Rattle.state_store.specs.Stores.{IsReplayed, book_of, lines_in, path_of_store}
-use Rattle.state_store.specs.code.Moving.{IsMoving}
-use Rattle.state_store.proofs.Staying.{damaged_records}
-use Rattle.state_store.proofs.Lists.{records_none}
-use Rattle.state_store.proofs.Marked.{mark_is_line, moved_law}
-use Rattle.state_store.proofs.Marking.{marked_leaves}
+use Rattle.state_store.proofs.{Staying.damaged_records, Lists.records_none, Marked.mark_is_line, Marked.moved_law, Marking.marked_leaves}
 
 -- the text that is read of a book that says all is the one that the file has
 pub says_already : (b m : Book) (text : List ℕ) (v : Served) → SaysAllKept b text v → IsMovedBook b text v m → m.file.mark ≡ b.file.mark → SaysAlready b

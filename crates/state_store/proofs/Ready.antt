@@ -1,8 +1,7 @@
 -- Whether a row is ready, by the one over it.
-use Rattle.std.proofs.Common.{◌≡◌, ◌≢◌, ℕ, zero, suc, ◌-◌, Bool, true, false, ◌&&◌, List, Option, Some, None, is_none, is_some, refl, sym, ap, ◌∙◌, arith}
+use Rattle.std.proofs.Common.{◌≡◌, ◌≢◌, ℕ, zero, suc, ◌-◌, Bool, true, false, ◌&&◌, List, Option, Some, None, is_none, is_some, refl, ap, ◌∙◌, arith}
 use Rattle.state_changes.specs.declared.row.Row.{Row}
-use Rattle.state_changes.specs.Rows.{named}
-use Rattle.state_store.specs.Handed.{holds_if_parent, if_there, is_ready}
+use Rattle.state_store.specs.Handed.{holds_if_parent, is_ready}
 
 pub ready_never : (most : ℕ) (rows : List Row) (row : Row) → most ≡ 0 → is_ready most rows row ≡ false
 unfolding is_ready

@@ -1,16 +1,10 @@
 -- One record more of a journal.
-use Rattle.std.proofs.Common.{◌≡◌, ℕ, ◌+◌, Bool, true, List, [], ◌∷◌, ◌++◌, Option, Some, option_to_list, Result, Ok, length, refl, sym, ap, ◌∙◌, arith}
+use Rattle.std.proofs.Common.{◌≡◌, ℕ, ◌+◌, true, List, [], ◌∷◌, ◌++◌, Option, Some, option_to_list, Result, Ok, length, ap, ◌∙◌, arith}
 use Rattle.std.proofs.lemmas.Bool.{cond-true}
-use Rattle.state_changes.specs.declared.change.Change.{Change}
-use Rattle.state_changes.specs.declared.change.Record.{Record}
-use Rattle.state_changes.specs.declared.change.Record.TheVariants.{Made}
-use Rattle.state_changes.specs.declared.fault.ChangeFault.{ChangeFault}
-use Rattle.state_changes.specs.declared.replaying.File.{File}
-use Rattle.state_changes.specs.declared.row.Row.{Row}
-use Rattle.state_changes.specs.Changes.{rows_changed}
-use Rattle.state_changes.specs.Records.{record_of}
+use Rattle.state_changes.specs.{declared.change.Change.Change, declared.change.Record.Record, declared.change.Record.TheVariants.Made, declared.fault.ChangeFault.ChangeFault, declared.replaying.File.File, declared.row.Row.Row}
+use Rattle.state_changes.specs.{Changes.rows_changed, Records.record_of}
 use Rattle.state_changes.specs.Replay.{ReplayState, is_as_then, made, made_with, overruled, replay_begun, replay_from, replay_step, replayed}
-use Rattle.state_store.specs.Records.{record_in, records_in}
+use Rattle.state_store.specs.Records.{records_in}
 use Rattle.state_store.proofs.Lists.{records_push}
 
 -- the last record comes after all others

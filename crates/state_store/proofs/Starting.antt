@@ -1,15 +1,8 @@
 -- A start whose file is faulty, or for which memory was wanting; and the rows that it begins with.
-use Rattle.std.proofs.Common.{◌≡◌, ◌⊎◌, inl, inr, ⊎_elim, ℕ, List, [], Option, Some, None, refl, sym, ap, subst, ◌∙◌}
-use Rattle.state_changes.specs.declared.change.Record.{Record}
-use Rattle.state_changes.specs.declared.replaying.File.{File}
-use Rattle.state_changes.specs.declared.replaying.JournalNote.{JournalNote}
-use Rattle.state_changes.specs.declared.row.Row.{Row}
-use Rattle.state_changes.specs.Replay.{ReplayState, replayed}
-use Rattle.state_store.specs.declared.fault.FileFault.{FileFault}
-use Rattle.state_store.specs.declared.fault.FileFault.TheVariants.{OutOfMemory}
-use Rattle.state_changes.specs.declared.secret.Secret.{Secret}
+use Rattle.std.proofs.Common.{◌≡◌, ◌⊎◌, inl, inr, ℕ, List, [], Option, Some, None, sym, ap, subst}
+use Rattle.state_changes.specs.{declared.change.Record.Record, declared.replaying.JournalNote.JournalNote, Replay.ReplayState, Replay.replayed, declared.secret.Secret.Secret}
+use Rattle.state_store.specs.{declared.fault.FileFault.FileFault, declared.fault.FileFault.TheVariants.OutOfMemory, Stores.BookIsFrom}
 use Rattle.state_store.specs.Books.{Book, IsBookIf, IsBookOf, IsFileFaultOf}
-use Rattle.state_store.specs.Stores.{BookIsFrom}
 
 -- memory may be wanting for any file
 pub no_memory : (file : Option (List ℕ)) → IsFileFaultOf file OutOfMemory

@@ -1,17 +1,10 @@
 -- The lines that write no record are left of a journal whose records are handed over.
 use Rattle.std.proofs.Common.{◌≡◌, ℕ, ◌+◌, ◌<◌, ◌≤◌, Bool, not, List, [], ◌∷◌, ◌++◌, Option, Some, None, append-nil, if◌then◌else◌, is_none, is_some, length, take, get_or, option_to_list, refl, sym, ap, ◌∙◌}
-use Rattle.std.proofs.lemmas.List.{map_more, take_all}
-use Rattle.std.proofs.lemmas.List.Elements.{filter-append}
-use Rattle.state_changes.specs.declared.change.Record.{Record}
-use Rattle.state_changes.specs.Records.{record_of}
+use Rattle.std.proofs.lemmas.{List.map_more, List.take_all, List.Elements.filter-append}
+use Rattle.state_changes.specs.{declared.change.Record.Record, Records.record_of}
 use Rattle.base_journal.specs.Records.{lines_kept}
-use Rattle.state_store.specs.Compacted.{damaged}
-use Rattle.state_store.specs.Moved.{mark_line}
-use Rattle.state_store.specs.Records.{record_in, records_in}
-use Rattle.state_store.specs.code.Moving.{written}
-use Rattle.state_store.proofs.Lists.{records_none}
-use Rattle.state_store.proofs.Marked.{mark_read}
-use Rattle.state_store.proofs.Undamaged.{record_first}
+use Rattle.state_store.specs.{Compacted.damaged, Moved.mark_line, Records.records_in, code.Moving.written}
+use Rattle.state_store.proofs.{Lists.records_none, Marked.mark_read, Undamaged.record_first}
 
 -- ---- of each line, whether it writes a record
 

@@ -1,16 +1,13 @@
 -- A settling step by step: the mark in the journal, and then the file in its place.
 use Rattle.std.proofs.Common.{◌≡◌, ◌⊎◌, ℕ, Bool, List, [], ◌∷◌, ◌++◌, ap, subst, ◌∙◌}
 use Rattle.std.specs.Prelude.{string_bytes}
-use Rattle.base_disk.specs.Image.{File}
-use Rattle.base_disk.specs.State.{DiskState, IsAfter, LeavesOnly}
 use Rattle.base_disk.specs.Torn.{MovesFile}
-use Rattle.base_journal.specs.Journals.{CrashLeaves, JournalHolds, JournalIsWhole, KeepsOthers}
+use Rattle.base_disk.specs.State.{DiskState, IsAfter, LeavesOnly}
 use Rattle.base_journal.specs.Records.{IsBeforeOrAfter}
-use Rattle.state_store.specs.declared.settling.Moving.{Moving}
-use Rattle.state_store.specs.declared.store.Store.{Store}
+use Rattle.base_journal.specs.Journals.{CrashLeaves, JournalHolds, JournalIsWhole, KeepsOthers}
+use Rattle.state_store.specs.{declared.settling.Moving.Moving, declared.store.Store.Store, code.Moving.IsMoving}
 use Rattle.state_store.specs.Moved.{IsInPlace, IsNotInPlace, PutsFile, PutsMark}
 use Rattle.state_store.specs.Stores.{FileHolds, IsReplayed, book_of, is_sure, journal_of, lines_in, path_of_store}
-use Rattle.state_store.specs.code.Moving.{IsMoving}
 use Rattle.state_store.proofs.MovedOn.{marked_replays}
 
 module _ {D : Type 0} (known : Bool) (state : D → DiskState) (old : Store) (m : Moving) (is : IsMoving (book_of old) m) (target : List ℕ) (s t : D) where

@@ -1,26 +1,14 @@
 -- A change that was taken, or not, beside its journal on a disk.
-use Rattle.std.proofs.Common.{◌≡◌, ◌⊎◌, inr, ℕ, Bool, List, [], ◌∷◌, ◌++◌, true, false, Result, Ok, refl, sym, ap, subst, ◌∙◌}
+use Rattle.std.proofs.Common.{◌≡◌, ℕ, List, [], ◌∷◌, ◌++◌, true, false, Result, Ok, refl, sym, ap, subst, ◌∙◌}
 use Rattle.std.specs.Prelude.{string_bytes}
-use Rattle.state_changes.specs.declared.change.ChangeKind.{ChangeKind}
-use Rattle.state_changes.specs.declared.fault.ChangeFault.{ChangeFault}
-use Rattle.state_changes.specs.declared.row.Row.{Row}
-use Rattle.state_changes.specs.Records.{record_of}
-use Rattle.state_changes.specs.Replay.{ReplayState, replayed}
+use Rattle.state_changes.specs.{declared.change.ChangeKind.ChangeKind, declared.fault.ChangeFault.ChangeFault, declared.row.Row.Row, Records.record_of, Replay.replayed}
 use Rattle.base_disk.specs.State as disks
 use Rattle.base_journal.specs.Journals.{KeepsOthers}
-use Rattle.state_store.specs.declared.entering.Entered.{Entered}
-use Rattle.state_store.specs.declared.store.Store.{Store}
-use Rattle.state_store.specs.declared.fault.TakeFault.{TakeFault}
+use Rattle.state_store.specs.{declared.entering.Entered.Entered, declared.store.Store.Store, declared.fault.TakeFault.TakeFault, Books.Book, Entering.IsWhyNot, Records.records_in, code.Entered.IsEntered, code.Faults.IsUnkept}
 use Rattle.state_store.specs.declared.fault.TakeFault.TheVariants.{Unread, NoRecord, Refused, Unwritten, Disk, Unsure}
-use Rattle.state_store.specs.declared.fault.TakeFault.TheVariants as takes
-use Rattle.state_store.specs.Books.{Book}
-use Rattle.state_store.specs.Entering.{IsWhyNot}
-use Rattle.state_store.specs.Records.{records_in}
 use Rattle.state_store.specs.Stores.{IsReplayed, IsWhyUntaken, book_of, is_sure, lines_in}
-use Rattle.state_store.specs.code.Entered.{IsEntered}
-use Rattle.state_store.specs.code.Faults.{IsUnkept}
-use Rattle.state_store.proofs.Entered.{made_unrefused, unkept_why}
-use Rattle.state_store.proofs.Replayed.{taken_rows}
+use Rattle.state_store.specs.declared.fault.TakeFault.TheVariants as takes
+use Rattle.state_store.proofs.{Entered.made_unrefused, Entered.unkept_why, Replayed.taken_rows}
 
 pub others_stay : (path : List ℕ) (s : disks.DiskState) → KeepsOthers path s s
 others_stay path s = record { seen = λ other apart. refl; sound = λ other apart. refl }
@@ -37,9 +25,6 @@ why_untaken store name w takes.OutOfMemory sure why = (sure, why)
 
 pub unread_why : (store : Store) (name : List ℕ) (w : ChangeKind) (fault : TakeFault) → fault ≡ Unread → is_sure store ≡ false → IsWhyUntaken store name w fault
 unread_why store name w fault same unsure = subst (IsWhyUntaken store name w) (sym same) unsure
-
-abbrev rows_made : Book → Result (List Row) ChangeFault
-rows_made b = Ok b.rows
 
 -- the book has the rows and the text of the change, and the journal has its line
 module _ (old new : Store) (name : List ℕ) (w : ChangeKind) (e : Entered) (is : IsEntered (book_of old) name w e) (booked : book_of new ≡ record (book_of old) { rows = e.rows; text = string_bytes e.text })

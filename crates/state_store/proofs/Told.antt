@@ -1,17 +1,13 @@
 -- A change that is not taken tells exactly what the disk has met. For `take`.
 use Rattle.std.proofs.Common.{◌≡◌, ℕ, List, Bool, true, false, Err, refl, sym, ap, subst, ◌∙◌}
 use Rattle.base_device.specs.Failures.{one_more}
-use Rattle.base_disk.specs.State.{DiskState, IsNotTooLong, TellsFailure}
 use Rattle.base_disk.specs.declared.fault.DiskFault.{DiskFault}
+use Rattle.base_disk.specs.State.{DiskState, IsNotTooLong, TellsFailure}
 use Rattle.base_disk.specs.declared.fault.DiskFault.TheVariants.{Failed, TooLong}
 use Rattle.base_disk.specs.declared.fault.DiskFault.TheVariants as disks
-use Rattle.state_changes.specs.declared.change.Change.{Change}
-use Rattle.state_changes.specs.declared.change.ChangeKind.{ChangeKind}
-use Rattle.state_store.specs.declared.fault.TakeFault.{TakeFault}
+use Rattle.state_changes.specs.{declared.change.Change.Change, declared.change.ChangeKind.ChangeKind}
+use Rattle.state_store.specs.{declared.fault.TakeFault.TakeFault, Books.Book, Entering.FaultTellsDisk, Entering.FaultTellsLength, code.Entered.IsUnmade, code.Entered.IsUnrecorded}
 use Rattle.state_store.specs.declared.fault.TakeFault.TheVariants.{Unread, NoRecord, Refused, Unwritten, Disk, Unsure, OutOfMemory}
-use Rattle.state_store.specs.Books.{Book}
-use Rattle.state_store.specs.Entering.{FaultTellsDisk, FaultTellsLength}
-use Rattle.state_store.specs.code.Entered.{IsUnmade, IsUnrecorded}
 use Rattle.state_store.specs.code.Faults.{IsOfNoDisk, IsOfNoLength, unkept}
 use Rattle.base_journal.specs.Journals.{TellsLength}
 use Rattle.base_journal.proofs.Steps.{not_long}

@@ -1,17 +1,12 @@
 -- Lines that write no record, and lines whose records are void, are taken out of a journal.
-use Rattle.std.proofs.Common.{◌≡◌, ℕ, suc, ◌+◌, ◌<◌, ◌≤◌, Bool, true, false, ◌&&◌, nat_le, List, [], ◌∷◌, ◌++◌, Option, Some, None, is_none, length, map, take, get_or, option_to_list, refl, sym, ap, ◌∙◌, arith}
-use Rattle.std.proofs.lemmas.Bool.{and_parts, eqb-true}
-use Rattle.std.proofs.lemmas.List.{map_more, take_all}
-use Rattle.state_changes.specs.declared.change.Record.{Record}
+use Rattle.std.proofs.Common.{◌≡◌, ℕ, suc, ◌+◌, ◌<◌, ◌≤◌, Bool, true, false, ◌&&◌, nat_le, List, [], ◌∷◌, ◌++◌, Option, Some, None, is_none, length, take, get_or, option_to_list, refl, sym, ap, ◌∙◌, arith}
+use Rattle.std.proofs.lemmas.{Bool.and_parts, Bool.eqb-true, List.map_more, List.take_all}
+use Rattle.state_changes.specs.{declared.change.Record.Record, Records.record_of, Replay.replayed}
 use Rattle.state_changes.specs.Compaction as changes
-use Rattle.state_changes.specs.Records.{record_of}
-use Rattle.state_changes.specs.Replay.{replayed}
 use Rattle.state_changes.proofs.Compacting.{compaction}
 use Rattle.base_journal.specs.Records.{lines_kept}
-use Rattle.state_store.specs.declared.store.Store.{Store}
-use Rattle.state_store.specs.Books.{Book}
+use Rattle.state_store.specs.{declared.store.Store.Store, Books.Book, Records.record_in, Records.records_in}
 use Rattle.state_store.specs.Compacted.{are_records, compacted_lines, damages, is_time_to_look, is_worth, undamaged, void_count}
-use Rattle.state_store.specs.Records.{record_in, records_in}
 use Rattle.state_store.specs.Stores.{IsReplayed, book_of, lines_in}
 
 -- ---- of each line, whether it writes no record

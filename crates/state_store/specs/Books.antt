@@ -1,21 +1,12 @@
 -- Books: what FILE says, what the changes since have made of it, and the text of what is handed to a watch.
 -- Source: this project's own.
-use Rattle.std.specs.Prelude.{◌≡◌, ℕ, List, Option, Some, None, Result, Ok, Err}
-use Rattle.vault_inventory.specs.declared.fault.InvFault.{InvFault}
-use Rattle.vault_inventory.specs.Inventory.{read_served}
-use Rattle.vault_inventory.specs.Served.{Served}
-use Rattle.state_changes.specs.declared.change.Record.{Record}
-use Rattle.state_changes.specs.declared.replaying.File.{File}
-use Rattle.state_changes.specs.declared.replaying.JournalNote.{JournalNote}
-use Rattle.state_changes.specs.declared.row.Row.{Row}
-use Rattle.state_changes.specs.Listed.{rows_of_served}
-use Rattle.state_changes.specs.Replay.{replayed}
-use Rattle.state_changes.specs.Words.{fingerprint}
+use Rattle.std.specs.Prelude.{◌≡◌, ℕ, List, Option, Some, None, Ok, Err}
+use Rattle.vault_inventory.specs.{Inventory.read_served, Served.Served}
+use Rattle.state_changes.specs.{declared.change.Record.Record, declared.replaying.File.File, declared.replaying.JournalNote.JournalNote, declared.row.Row.Row, Listed.rows_of_served, Replay.replayed, Words.fingerprint}
+use Rattle.state_changes.specs.{declared.secret.Secret.Secret}
 use Rattle.state_file.specs.Settled.{TextIsSettled}
-use Rattle.state_store.specs.declared.fault.FileFault.{FileFault}
+use Rattle.state_store.specs.{declared.fault.FileFault.FileFault, Handed.handed}
 use Rattle.state_store.specs.declared.fault.FileFault.TheVariants.{Unread, Faulty, Unwritten, OutOfMemory}
-use Rattle.state_changes.specs.declared.secret.Secret.{Secret}
-use Rattle.state_store.specs.Handed.{handed}
 
 pub record Book : Type 0 where
   pub file : File

@@ -1,8 +1,7 @@
 -- Compacted: the lines of a journal without those whose records later ones make void; those that write no record, and those that do.
 -- Source: this project's own.
 use Rattle.std.specs.Prelude.{ℕ, ◌%◌, Bool, ◌&&◌, ◌==◌, List, filter, is_none, length, map, nat_le}
-use Rattle.state_changes.specs.Compaction.{voids}
-use Rattle.state_changes.specs.Records.{record_of}
+use Rattle.state_changes.specs.{Compaction.voids, Records.record_of}
 use Rattle.base_journal.specs.Records.{lines_kept}
 use Rattle.state_store.specs.Records.{records_in}
 

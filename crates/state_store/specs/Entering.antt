@@ -1,15 +1,9 @@
 -- Entering: a change that is taken, the line that keeps it, and what it makes of a book.
 -- Source: this project's own.
-use Rattle.std.specs.Prelude.{◌≡◌, ℕ, Bool, true, false, List, Option, Some, None, Result, Ok, Err}
-use Rattle.state_changes.specs.declared.change.Change.{Change}
-use Rattle.state_changes.specs.declared.change.Record.{Record}
-use Rattle.state_changes.specs.declared.change.Record.TheVariants.{Made}
-use Rattle.state_changes.specs.declared.change.ChangeKind.{ChangeKind}
-use Rattle.state_changes.specs.declared.replaying.File.{File}
-use Rattle.state_changes.specs.declared.row.Row.{Row}
-use Rattle.state_changes.specs.Changes.{change_refusal, rows_changed}
+use Rattle.std.specs.Prelude.{◌≡◌, ℕ, Bool, true, false, List, Some, None, Result, Ok, Err}
+use Rattle.state_changes.specs.{declared.change.Change.Change, declared.change.Record.Record, declared.change.Record.TheVariants.Made, declared.change.ChangeKind.ChangeKind, declared.replaying.File.File}
+use Rattle.state_changes.specs.{Changes.change_refusal, Changes.rows_changed, Said.said}
 use Rattle.state_changes.specs.Records.{IsRecord, record_of, record_text}
-use Rattle.state_changes.specs.Said.{said}
 use Rattle.base_disk.specs.State.{DiskState, TellsFailure}
 use Rattle.base_journal.specs.Journals.{TellsLength}
 use Rattle.state_store.specs.declared.fault.TakeFault.{TakeFault}

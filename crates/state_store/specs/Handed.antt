@@ -4,10 +4,7 @@
 use Rattle.std.specs.Prelude.{ℕ, zero, suc, Bool, true, false, ◌&&◌, List, Option, Some, None, is_none, map}
 use Rattle.std.specs.List.{filter}
 use Rattle.plan_forest.specs.declared.forest.TheConstants.{MAX_DEPTH}
-use Rattle.state_changes.specs.declared.row.Row.{Row}
-use Rattle.state_changes.specs.Rows.{named}
-use Rattle.state_changes.specs.Secrets.{taken_from}
-use Rattle.state_changes.specs.declared.secret.Secret.{Secret}
+use Rattle.state_changes.specs.{declared.row.Row.Row, Rows.named, Secrets.taken_from, declared.secret.Secret.Secret}
 
 abbrev pub filled_with : Row → Option Secret → Row
 filled_with row None = row

@@ -1,22 +1,12 @@
 -- Laws of what is kept. Each is the contract of a public function without a body.
 use Rattle.std.specs.Prelude.{◌≡◌, ℕ, false, List, [], ◌∷◌, ◌++◌}
 use Rattle.std.specs.Str.{bytes_eq}
-use Rattle.state_changes.specs.declared.change.Change.{Change}
-use Rattle.state_changes.specs.declared.change.ChangeKind.{ChangeKind}
-use Rattle.state_changes.specs.declared.replaying.File.{File}
-use Rattle.state_changes.specs.declared.replaying.JournalNote.{JournalNote}
-use Rattle.state_changes.specs.Records.{IsRecord}
-use Rattle.state_changes.specs.Replay.{replayed}
-use Rattle.state_changes.specs.Said.{said}
-use Rattle.state_changes.specs.Words.{fingerprint}
+use Rattle.state_changes.specs.{declared.change.Change.Change, declared.change.ChangeKind.ChangeKind, declared.replaying.File.File, declared.replaying.JournalNote.JournalNote, Records.IsRecord, Replay.replayed, Said.said, Words.fingerprint}
+use Rattle.state_changes.specs.{declared.secret.Secret.Secret}
 use Rattle.vault_inventory.specs.Served.{Served}
 use Rattle.state_file.specs.Laws.{GivesRows}
-use Rattle.state_changes.specs.declared.secret.Secret.{Secret}
-use Rattle.state_store.specs.declared.store.Store.{Store}
+use Rattle.state_store.specs.{declared.store.Store.Store, Entering.IsReadAs, Entering.record_for, Moved.SaysAllKept, Moved.mark_line, Records.records_in}
 use Rattle.state_store.specs.Books.{Book, IsBookOf, file_of}
-use Rattle.state_store.specs.Entering.{IsReadAs, record_for}
-use Rattle.state_store.specs.Moved.{SaysAllKept, mark_line}
-use Rattle.state_store.specs.Records.{records_in}
 use Rattle.state_store.specs.Stores.{IsReplayed, book_of, lines_in}
 
 -- the change that is made is the one that was given, beside what the file says of it, where a journal can write that

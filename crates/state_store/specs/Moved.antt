@@ -2,22 +2,15 @@
 -- Source: this project's own.
 use Rattle.std.specs.Prelude.{◌≡◌, ◌⊎◌, ℕ, List, [], ◌∷◌, ◌++◌, Bool, true, false, IsTrue, Option, Some, None}
 use Rattle.std.specs.Str.{bytes_eq}
-use Rattle.state_changes.specs.declared.change.Record.TheVariants.{Settling}
-use Rattle.state_changes.specs.Records.{record_text}
-use Rattle.state_changes.specs.Words.{fingerprint}
-use Rattle.base_disk.specs.Image.{File, Image}
+use Rattle.state_changes.specs.{declared.change.Record.TheVariants.Settling, Records.record_text, Words.fingerprint, Replay.replayed}
+use Rattle.base_disk.specs.{Image.File, Image.Image, Torn.MovesFile}
 use Rattle.base_disk.specs.State.{DiskState, IsAfter, LeavesOnly}
-use Rattle.base_disk.specs.Torn.{MovesFile}
 use Rattle.vault_inventory.specs.Served.{Served}
 use Rattle.base_journal.specs.Journals as journals
 use Rattle.base_journal.specs.Records.{IsBeforeOrAfter, StandsFor}
-use Rattle.state_file.specs.Order.{in_order}
-use Rattle.state_file.specs.Settled.{TextIsSettled}
-use Rattle.state_store.specs.declared.fault.Unsettled.{Unsettled}
+use Rattle.state_file.specs.{Order.in_order, Settled.TextIsSettled}
+use Rattle.state_store.specs.{declared.fault.Unsettled.Unsettled, declared.store.Store.Store, Books.Book, Books.file_of}
 use Rattle.state_store.specs.declared.fault.Unsettled.TheVariants.{Changed, Unwritten, Disk, OutOfMemory}
-use Rattle.state_store.specs.declared.store.Store.{Store}
-use Rattle.state_store.specs.Books.{Book, IsBook, file_of}
-use Rattle.state_changes.specs.Replay.{replayed}
 use Rattle.state_store.specs.Stores.{FileHolds, IsReplayed, book_of, is_sure, journal_of, lines_in, path_of_store}
 
 -- the text of a file that says all that is kept, with the margin and the maximum TTL of the system of the one that was read, and what is

@@ -2,8 +2,7 @@
 -- Source: this project's own.
 use Rattle.std.specs.Prelude.{ℕ, List, option_to_list}
 use Rattle.std.specs.List.{flat_map}
-use Rattle.state_changes.specs.declared.change.Record.{Record}
-use Rattle.state_changes.specs.Records.{record_of}
+use Rattle.state_changes.specs.{declared.change.Record.Record, Records.record_of}
 
 abbrev pub record_in : List ℕ → List Record
 record_in line = option_to_list (record_of line)

@@ -1,28 +1,13 @@
 -- Stores: a book beside the journal of its changes.
 -- Source: this project's own.
-use Rattle.std.specs.Prelude.{◌≡◌, ◌⊎◌, ℕ, List, ◌++◌, ◌∷◌, [], Bool, true, false, IsTrue, if◌then◌else◌, Option, Some, None, length, option_to_list}
-use Rattle.std.specs.List.{flat_map}
+use Rattle.std.specs.Prelude.{◌≡◌, ◌⊎◌, ℕ, List, ◌++◌, ◌∷◌, [], Bool, true, false, IsTrue, Option, Some, None, length}
 use Rattle.std.specs.Str.{bytes_eq}
-use Rattle.state_changes.specs.declared.change.Change.{Change}
-use Rattle.state_changes.specs.declared.change.Record.{Record}
-use Rattle.state_changes.specs.declared.change.ChangeKind.{ChangeKind}
-use Rattle.state_changes.specs.declared.replaying.JournalNote.{JournalNote}
-use Rattle.state_changes.specs.Compaction.{is_need}
-use Rattle.state_changes.specs.Records.{record_of}
-use Rattle.state_changes.specs.Replay.{replayed}
-use Rattle.base_disk.specs.Image.{Image, SameElsewhere}
-use Rattle.base_disk.specs.State.{DiskState}
-use Rattle.base_journal.specs.declared.journal.Journal.{Journal}
-use Rattle.base_journal.specs.Journals.{lines_of_journal, path_of_journal}
-use Rattle.base_journal.specs.Records.{at_rest}
-use Rattle.state_store.specs.declared.fault.FileFault.{FileFault}
-use Rattle.state_store.specs.declared.fault.TakeFault.{TakeFault}
-use Rattle.state_store.specs.declared.fault.TakeFault.TheVariants.{Unread}
-use Rattle.state_store.specs.declared.store.OpenedStore.{OpenedStore}
-use Rattle.state_store.specs.declared.store.Store.{Store}
+use Rattle.state_changes.specs.{declared.change.Change.Change, declared.change.Record.Record, declared.change.ChangeKind.ChangeKind, declared.replaying.JournalNote.JournalNote, Compaction.is_need, Replay.replayed}
+use Rattle.base_disk.specs.{Image.Image, Image.SameElsewhere, State.DiskState}
+use Rattle.base_journal.specs.{declared.journal.Journal.Journal, Journals.lines_of_journal, Journals.path_of_journal, Records.at_rest}
+use Rattle.state_store.specs.{declared.fault.FileFault.FileFault, declared.fault.TakeFault.TakeFault, declared.fault.TakeFault.TheVariants.Unread, declared.store.OpenedStore.OpenedStore, declared.store.Store.Store, Records.records_in}
 use Rattle.state_store.specs.Books.{Book, IsBookIf, IsFileFaultOf}
 use Rattle.state_store.specs.Entering.{IsChanged, IsWhyNot, line_for_change}
-use Rattle.state_store.specs.Records.{records_in}
 
 abbrev pub journal_of : Store → Journal
 journal_of store = store.journal

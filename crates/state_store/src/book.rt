@@ -5,7 +5,9 @@ ghost use Rattle.state_store.specs.Moved.{IsMovedBook, SaysAllKept};
 
 use crate::fault::{FileFault, faulty, unhanded};
 use crate::handing::handed;
-use state_changes::{File, JournalNote, Record, Rows, Secret, copy_secrets, fingerprint, replay, rows_of};
+use state_changes::{
+    File, JournalNote, Record, Rows, Secret, copy_secrets, fingerprint, replay, rows_of,
+};
 use state_file::{SettleFault, Settled, settle};
 use std::alloc::{AllocError, Global};
 use std::fmt;

@@ -11,7 +11,7 @@ ghost use Rattle.state_store.specs.code.Entered.{IsEntered, IsRecorded, IsUnmade
 use crate::book::{Book, text_of};
 use crate::fault::{TakeFault, unmade, unwritten};
 use base_moment::{Name, Text};
-use state_changes::{Change, File, Record, Rows, ChangeKind, read_record, said};
+use state_changes::{Change, ChangeKind, File, Record, Rows, read_record, said};
 use std::alloc::{AllocError, Global};
 
 /// A change that can be taken, once a journal has its line.
@@ -30,7 +30,12 @@ pub(crate) struct Entered {
 impl Book {
     /// What a change of the entry of that name comes to, where it can be taken.
     #[tactic(auto, using(crate::proofs::Entered::unrecorded_why, crate::proofs::Entered::unmade_why, crate::proofs::Told::unrecorded_alone, crate::proofs::Told::unmade_alone))]
-    pub(crate) fn enter(&self, alloc: Global, name: Name, what: ChangeKind) -> Result<Entered, TakeFault>
+    pub(crate) fn enter(
+        &self,
+        alloc: Global,
+        name: Name,
+        what: ChangeKind,
+    ) -> Result<Entered, TakeFault>
         ensures entered { IfOk result (IsEntered self.now name what) }
         ensures refused { IfErr result (IsWhyNot self.now name what) }
         ensures alone { IfErr result IsOfNoDisk }
@@ -48,7 +53,12 @@ impl Book {
 
     // The line that keeps a change, and the change as a later start reads it there.
     #[tactic(auto, using(crate::proofs::Entered::recorded_is, crate::proofs::Entered::not_read, crate::proofs::Entered::not_then))]
-    fn recorded(&self, alloc: Global, name: Name, what: ChangeKind) -> Result<(Text, Change), TakeFault>
+    fn recorded(
+        &self,
+        alloc: Global,
+        name: Name,
+        what: ChangeKind,
+    ) -> Result<(Text, Change), TakeFault>
         ensures recorded { IfOk result (λ r. IsRecorded self.now name what r.0 r.1) }
         ensures refused { IfErr result (IsUnrecorded self.now name what) }
     {

@@ -10,7 +10,7 @@ use crate::records::records_in;
 use base_disk::{Disk, DiskFault, FILE_MODE, replace};
 use base_journal::Journal;
 use base_moment::{Name, Text};
-use state_changes::{JournalNote, Record, Secret, ChangeKind};
+use state_changes::{ChangeKind, JournalNote, Record, Secret};
 use state_file::SettleFault;
 use std::alloc::{AllocError, Global};
 use vault_inventory::Inventory;

@@ -3,35 +3,25 @@
 use Rattle.std.proofs.Common.{◌≡◌, ◌∙◌, ℕ, List, [], Result, Ok, Err, refl, sym, ap, subst, inl, inr, ◌⊎◌}
 use Rattle.std.specs.Io.KnownBytes.{Appends, Keeps}
 use Rattle.std.proofs.KnownBytes.{Keeps-refl}
-use Rattle.base_device.specs.Seen.{Change}
-use Rattle.base_device.specs.Front.{AppendsFront}
+use Rattle.base_device.specs.{Seen.Change, Front.AppendsFront}
 use Rattle.plan_forest.specs.Forest.{Forest}
-use Rattle.tick_keeper.specs.Replan.{ReplanTooLong}
-use Rattle.tick_keeper.specs.State.{unplanned}
+use Rattle.tick_keeper.specs.{Replan.ReplanTooLong, State.unplanned}
 use Rattle.tick_keeper.proofs.Orders.{not_both}
-use Rattle.vault_inventory.specs.declared.fault.InvFault.{InvFault}
-use Rattle.vault_inventory.specs.declared.terms.Terms.{Terms}
-use Rattle.vault_inventory.specs.Inventories.{IsInventory, Inventory}
+use Rattle.vault_inventory.specs.{declared.fault.InvFault.InvFault, declared.terms.Terms.Terms, Inventories.IsInventory, Inventories.Inventory}
 use Rattle.vault_served.specs.ForGood.{marks}
 use Rattle.vault_start.specs.Start.{from_start, inventory_at}
 use Rattle.vault_start.proofs.Started.{known_at, secrecy_law, start_law}
 use Rattle.broker_rule.specs.declared.fault.NumberedFault.{NumberedFault}
 use Rattle.vault_exchange.specs.Exchanges.{Behind}
-use Rattle.program_report.specs.declared.exit.Exit.{Exit}
+use Rattle.program_report.specs.{declared.exit.Exit.Exit, Sent.IsUntouched, Told.Reports, FaultLine.line_of_stop}
 use Rattle.program_report.specs.declared.exit.Exit.TheVariants as exits
 use Rattle.program_report.specs.declared.stop.Stop.TheVariants as stops
-use Rattle.program_report.specs.Sent.{IsUntouched}
-use Rattle.program_report.specs.Told.{Reports}
-use Rattle.program_report.proofs.Fronts.{whole_front}
-use Rattle.program_report.proofs.Pieces.{front_cut}
+use Rattle.program_report.proofs.{Fronts.whole_front, Pieces.front_cut}
+use Rattle.tick_runs.specs.{FaultWords.faults_of, Stops.RunIsStopped, Text.course_text}
 use Rattle.tick_runs.specs.Closed.{IsClosedRun, RunCourse, World}
-use Rattle.tick_runs.specs.FaultWords.{faults_of}
 use Rattle.tick_runs.specs.Rehearse.{IsRunText, RehearseRun, RehearseTold}
-use Rattle.tick_runs.specs.Stops.{RunIsStopped}
-use Rattle.tick_runs.specs.Text.{course_text}
 use Rattle.tick_runs.proofs.AlikeCourses.{courses_both, not_stopped, stops_both}
 use Rattle.tick_runs.proofs.AlikeFronts.{fronts_both, run_of_course, run_of_stopped}
-use Rattle.program_report.specs.FaultLine.{line_of_stop}
 use Rattle.plan_commands.specs.Secrecy.{RunIsWhole, TellSame, WriteFronts, WriteSame}
 use Rattle.program_lines.proofs.LineByLine.{untouched_appends}
 use Rattle.tick_commands.specs.Secrecy.{RehearseSecrecy}

@@ -2,13 +2,8 @@
 use Rattle.std.proofs.Common.{◌≡◌, ◌∙◌, ℕ, List, [], ap, inl, subst, sym}
 use Rattle.base_device.specs.Seen.{Change}
 use Rattle.vault_exchange.specs.Exchanges.{Behind}
-use Rattle.program_report.specs.declared.exit.Exit.{Exit}
-use Rattle.program_report.specs.declared.stop.Stop.{Stop}
+use Rattle.program_report.specs.{declared.exit.Exit.Exit, declared.stop.Stop.Stop, Exits.exit_of, FaultLine.line_of_stop, Sent.IsUntouched, Told.Reports}
 use Rattle.program_report.specs.declared.stop.Stop.TheVariants as stops
-use Rattle.program_report.specs.Exits.{exit_of}
-use Rattle.program_report.specs.FaultLine.{line_of_stop}
-use Rattle.program_report.specs.Sent.{IsUntouched}
-use Rattle.program_report.specs.Told.{Reports}
 use Rattle.tick_commands.specs.RehearseFrom.{Rehearses}
 
 nobody : Behind

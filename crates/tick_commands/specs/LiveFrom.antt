@@ -1,17 +1,12 @@
 -- The command `run` over its file: a live run over the bytes of an inventory.
 -- Source: this project's own.
 use Rattle.std.specs.Prelude.{◌≡◌, ◌⊎◌, ℕ, List, Option, Ok, Err}
-use Rattle.base_device.specs.Seen.{Change}
-use Rattle.base_device.specs.declared.fault.InputFault.{InputFault}
+use Rattle.base_device.specs.{Seen.Change, declared.fault.InputFault.InputFault}
 use Rattle.vault_exchange.specs.Exchanges.{Behind}
 use Rattle.vault_inventory.specs.declared.limits.TheConstants.{MOST_INVENTORY}
-use Rattle.program_report.specs.declared.exit.Exit.{Exit}
-use Rattle.program_report.specs.Exits.{exit_of, stop_of_input}
-use Rattle.program_report.specs.Sent.{IsUntouched}
-use Rattle.program_report.specs.Told.{Reports}
+use Rattle.program_report.specs.{declared.exit.Exit.Exit, Exits.exit_of, Exits.stop_of_input, Sent.IsUntouched, Told.Reports, FaultLine.line_of_stop}
 use Rattle.tick_runs.specs.LiveRun.{LiveRun}
 use Rattle.base_files.specs.Files.{FileIsRead}
-use Rattle.program_report.specs.FaultLine.{line_of_stop}
 
 -- the live run over the bytes of the file at a path, by what is known of it, whatever exchange names this port; or the file was not
 -- read, which was told, and nothing was written, read of the events or asked

@@ -2,16 +2,11 @@
 use Rattle.std.proofs.Common.{◌≡◌, ◌==◌, ℕ, suc, ◌+◌, ◌<◌, ◌≤◌, ◌&&◌, cond, List, [], ◌∷◌, Some, filter, max, nat_le, option_map, refl, sym, ap, ◌∙◌, subst, arith}
 use Rattle.std.proofs.Math.Path.{fun_ext}
 use Rattle.std.specs.List.{list_all, list_any}
-use Rattle.plan_forest.specs.declared.entry.Entry.{Entry}
-use Rattle.plan_forest.specs.Forest.{entry_at}
-use Rattle.plan_forest.specs.Over.{chain, is_over}
+use Rattle.plan_forest.specs.{declared.entry.Entry.Entry, Forest.entry_at, Over.chain, Over.is_over}
 use Rattle.plan_forest.specs.Renewal.{all_last, capped, is_granted, renewal, renewed}
 use Rattle.plan_forest.proofs.Chains.{ParentsFirst, chain_same}
-use Rattle.plan_rule.specs.declared.wake.Wake.{Wake}
+use Rattle.plan_rule.specs.{declared.wake.Wake.Wake, Keeps.Keeps, Keeps.ends_at, Least.IsLeastAndLatest, Reach.reach, Reach.reach_of}
 use Rattle.plan_rule.specs.Ends.{ends_after, ends_after_wake_up, is_asked}
-use Rattle.plan_rule.specs.Keeps.{Keeps, ends_at}
-use Rattle.plan_rule.specs.Least.{IsLeastAndLatest}
-use Rattle.plan_rule.specs.Reach.{reach, reach_of}
 
 -- the fields by which a plan acts are the same
 pub record Alike (es fs : List Entry) : Type 0 where

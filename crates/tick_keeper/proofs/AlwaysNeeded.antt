@@ -1,25 +1,20 @@
 -- Always: needs that are always, as they are set and as they are kept.
 use Rattle.std.proofs.Common.{◌≡◌, ℕ, ◌<◌, ◌≤◌, Bool, true, false, cond, List, Option, Some, None, length, get_or, map, min, refl, sym, ap, ◌∙◌, subst, arith, inl, inr}
-use Rattle.std.proofs.lemmas.Bool.{cases_Bool, cases_lt, cond-true, cond-false}
 use Rattle.std.proofs.lemmas.List.FromFn.{get_or-map-range_with_len, length-map-range_with_len}
+use Rattle.std.proofs.lemmas.Bool.{cases_Bool, cases_lt, cond-true, cond-false}
 use Rattle.std.proofs.Math.Path.{fun_ext}
 use Rattle.std.specs.List.{range_with_len}
 use Rattle.base_moment.specs.declared.moment.TheConstants.{LAST}
-use Rattle.plan_forest.specs.declared.entry.Entry.{Entry}
+use Rattle.plan_forest.specs.{declared.entry.Entry.Entry, Over.Over, Push.IsForest}
 use Rattle.plan_forest.specs.Forest.{Forest, end_of, entry_at}
-use Rattle.plan_forest.specs.Over.{Over}
-use Rattle.plan_forest.specs.Push.{IsForest}
 use Rattle.plan_forest.proofs.Placed.{parents_first}
 use Rattle.plan_rule.proofs.Lists.{need_within}
-use Rattle.plan_rule.specs.Reach.{reach}
-use Rattle.plan_rule.specs.Unkeepable.{AllKeepable}
-use Rattle.tick_keeper.specs.LawsOfSteps.{IsShaped}
+use Rattle.plan_rule.specs.{Reach.reach, Unkeepable.AllKeepable}
+use Rattle.tick_keeper.specs.{LawsOfSteps.IsShaped, Shorten.is_short, Shorten.least_reach, code.Passes.needing}
 use Rattle.tick_keeper.specs.Always.{AlwaysLaw, NeverLaw, entry_from, forest_from, is_always_needed, need_from, needs_from, until_reach}
-use Rattle.tick_keeper.specs.Shorten.{is_short, least_reach}
-use Rattle.tick_keeper.specs.code.Passes.{needing}
+use Rattle.tick_keeper.proofs.Passing.{needing_same}
 use Rattle.tick_keeper.proofs.Alike.{Alike, over_alike, reach_alike}
 use Rattle.tick_keeper.proofs.Needing.{length_needing, needing_alike, needing_at, needing_end, needing_forest, needing_past}
-use Rattle.tick_keeper.proofs.Passing.{needing_same}
 use Rattle.tick_keeper.proofs.Shortening.{cut_parts, least_reach_is, least_reach_most, need_past}
 
 pub from_is : (g : Forest) (always : List Bool) (s : ℕ) → forest_from g always s ≡ record { entries = needing g.entries (need_from g always s); margin = g.margin }

@@ -1,34 +1,19 @@
 -- A round whose answers were the rule's so far: at its opening, with one answer more, and when it is answered.
 use Rattle.std.proofs.Common.{◌≡◌, ◌==◌, ◌∙◌, ℕ, ◌+◌, ◌<◌, ◌≤◌, ◌&&◌, Bool, true, false, cond, not, List, [], ◌∷◌, Option, Some, None, length, nat_lt, set, refl, sym, ap, subst, arith, inl, inr}
-use Rattle.std.proofs.lemmas.Bool.{cases_Bool, cases_eq}
-use Rattle.std.proofs.lemmas.Bool.Decides.{nat_tests}
+use Rattle.std.proofs.lemmas.{Bool.cases_Bool, Bool.cases_eq, Bool.Decides.nat_tests}
 use Rattle.std.proofs.lemmas.List.{get_or-set_other, get_or-set_same, length-set}
 use Rattle.std.specs.List.{list_any}
 use Rattle.std.proofs.Math.Bool.{and-true}
-use Rattle.plan_forest.specs.declared.entry.Entry.{Entry}
+use Rattle.plan_forest.specs.{declared.entry.Entry.Entry, Push.IsForest, Renewal.renewal}
 use Rattle.plan_forest.specs.Forest.{Forest, end_of, entry_at}
-use Rattle.plan_forest.specs.Push.{IsForest}
-use Rattle.plan_forest.specs.Renewal.{renewal}
-use Rattle.plan_forest.proofs.Carrying.{and_left}
-use Rattle.plan_forest.proofs.Entries.{entry_at_set_other, entry_at_set_same}
+use Rattle.plan_forest.proofs.{Carrying.and_left, Entries.entry_at_set_other, Entries.entry_at_set_same}
+use Rattle.plan_rule.specs.{Ends.is_asked, Schedule.RisesStrictly, declared.force.Force.Force, Runs.moments_of}
 use Rattle.plan_rule.specs.Asks.{asking, asks, first_of, is_to_be_asked}
-use Rattle.plan_rule.specs.Ends.{is_asked}
-use Rattle.plan_rule.specs.Schedule.{RisesStrictly}
-use Rattle.plan_rule.proofs.Asking.{asks_wanted}
-use Rattle.plan_rule.proofs.Existence.{there_is_one}
-use Rattle.plan_rule.proofs.Keeping.{one_least}
-use Rattle.plan_rule.proofs.Schedule.{schedule_is_best}
-use Rattle.plan_rule.specs.declared.force.Force.{Force}
-use Rattle.plan_rule.specs.Runs.{moments_of}
+use Rattle.plan_rule.proofs.{Asking.asks_wanted, Existence.there_is_one, Keeping.one_least, Schedule.schedule_is_best}
 use Rattle.plan_search.specs.Planned.{Planned, next_after, to_come}
-use Rattle.tick_keeper.specs.InForce.{AllForcedAs}
+use Rattle.tick_keeper.specs.{InForce.AllForcedAs, LawsOfPlans.IsAnsweredByRule, Replan.IsPlanOf, Shorten.pairs, Shorten.shorten}
 use Rattle.tick_keeper.specs.code.Keeping.{RoundIsByRule, flag_of, waited_for}
-use Rattle.tick_keeper.specs.LawsOfPlans.{IsAnsweredByRule}
-use Rattle.tick_keeper.specs.Replan.{IsPlanOf}
-use Rattle.tick_keeper.specs.Shorten.{pairs, shorten}
-use Rattle.tick_keeper.proofs.Forces.{still_forced}
-use Rattle.tick_keeper.proofs.Standing.{best_keepable, tail_kept}
-use Rattle.tick_keeper.proofs.Waiting.{waits_flag}
+use Rattle.tick_keeper.proofs.{Forces.still_forced, Standing.best_keepable, Standing.tail_kept, Waiting.waits_flag}
 
 -- the moments of a least and latest plan rise strictly
 pub rises_strictly : (g : Forest) → IsForest g → (s : ℕ) (ts : List ℕ) → IsPlanOf g s ts → RisesStrictly s ts

@@ -1,15 +1,10 @@
 -- A forest in which a need is set, or an answer changed an entry, is one.
 use Rattle.std.proofs.Common.{ℕ, ◌+◌, ◌<◌, ◌≤◌, Bool, false, length, refl, arith}
 use Rattle.base_moment.specs.declared.moment.TheConstants.{LAST}
-use Rattle.plan_forest.specs.declared.entry.Entry.{Entry}
-use Rattle.plan_forest.specs.declared.forest.TheConstants.{END_MAX}
-use Rattle.plan_forest.specs.Forest.{Forest, entry_at}
-use Rattle.plan_forest.specs.Push.{IsForest}
+use Rattle.plan_forest.specs.{declared.entry.Entry.Entry, declared.forest.TheConstants.END_MAX, Forest.Forest, Forest.entry_at, Push.IsForest}
 use Rattle.plan_forest.proofs.Placed.{read_range, read_step, replaced_is_forest, replaces_read}
-use Rattle.tick_keeper.specs.declared.event.Event.{Event}
+use Rattle.tick_keeper.specs.{declared.event.Event.Event, Refusal.TellsSpan, Step.entry_after_answer, Step.with_entry_changed}
 use Rattle.tick_keeper.specs.declared.event.Event.TheVariants.{Told, Refused}
-use Rattle.tick_keeper.specs.Refusal.{TellsSpan}
-use Rattle.tick_keeper.specs.Step.{entry_after_answer, with_entry_changed}
 
 -- a forest with an entry changed, in its end within the range, in its need, or in whether it is renewable
 changed_forest :

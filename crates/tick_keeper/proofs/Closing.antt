@@ -5,23 +5,17 @@ use Rattle.std.specs.List.{list_any}
 use Rattle.plan_forest.specs.Forest.{end_of, entry_at}
 use Rattle.plan_forest.proofs.Carrying.{and_left}
 use Rattle.plan_rule.specs.Asks.{first_of, is_to_be_asked}
-use Rattle.plan_rule.proofs.Asking.{asks_wanted}
-use Rattle.plan_rule.proofs.Next.{renewable_within}
-use Rattle.tick_keeper.specs.declared.event.Event.{Event}
+use Rattle.plan_rule.proofs.{Asking.asks_wanted, Next.renewable_within}
+use Rattle.tick_keeper.specs.{declared.event.Event.Event, declared.event.Output.Output, declared.fault.StepFault.StepFault, declared.refusal.TheConstants.LONGEST, History.CoreHistory, History.CoreTurn, State.CoreState, State.Round}
+use Rattle.tick_keeper.specs.{States.IsState, States.RoundIsOpened}
 use Rattle.tick_keeper.specs.declared.event.Event.TheVariants.{Tick, Told, Refused, Lost, Need}
-use Rattle.tick_keeper.specs.declared.event.Output.{Output}
-use Rattle.tick_keeper.specs.declared.event.Output.TheVariants as out
-use Rattle.tick_keeper.specs.declared.fault.StepFault.{StepFault}
 use Rattle.tick_keeper.specs.declared.fault.StepFault.TheVariants.{ClockBack, RoundOpen, NotAsked, BadIndex, OutOfRange, TooLong, OutOfMemory}
 use Rattle.tick_keeper.specs.LawsOfHistories.{AllTaken, AnswerEach, ClosesLaw, IsAnswerEvent, NoneWants, OrderLaw, unanswered_after}
-use Rattle.tick_keeper.specs.declared.refusal.TheConstants.{LONGEST}
 use Rattle.tick_keeper.specs.Refusal.{TellsSpan, step_refusal, waits_for}
-use Rattle.tick_keeper.specs.History.{CoreHistory, CoreTurn}
-use Rattle.tick_keeper.specs.State.{CoreState, Round}
-use Rattle.tick_keeper.specs.States.{IsState, RoundIsOpened}
 use Rattle.tick_keeper.specs.Step.{StepAnswer, StepTooLong, entry_of_event, left}
-use Rattle.tick_keeper.proofs.Orders.{AreAnswers, same_round, step_taken, taken_alike}
+use Rattle.tick_keeper.specs.declared.event.Output.TheVariants as out
 use Rattle.tick_keeper.proofs.States.{turn_state}
+use Rattle.tick_keeper.proofs.Orders.{AreAnswers, same_round, step_taken, taken_alike}
 
 -- who is waited for is an entry
 asked_within : (s : CoreState) (round : Round) (i : ℕ) → RoundIsOpened s.forest s.to_come round → waits_for (Some round) i ≡ true → i < length s.forest.entries

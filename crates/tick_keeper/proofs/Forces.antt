@@ -1,25 +1,14 @@
 -- Forces that stay forces, while a plan is kept: for the law of them.
 use Rattle.std.proofs.Common.{◌≡◌, ℕ, ◌-◌, ◌<◌, ◌≤◌, Bool, true, false, cond, List, [], ◌∷◌, Option, Some, None, max, refl, sym, ap, ◌∙◌, subst, arith, inl, inr}
-use Rattle.std.proofs.lemmas.Bool.{cases_Bool, cases_lt, cond-true}
 use Rattle.std.proofs.lemmas.List.Elements.{All-head, All-tail}
+use Rattle.std.proofs.lemmas.Bool.{cases_Bool, cases_lt, cond-true}
 use Rattle.std.specs.List.{All}
-use Rattle.plan_forest.specs.declared.entry.Entry.{Entry}
+use Rattle.plan_forest.specs.{declared.entry.Entry.Entry, Over.Over, Push.IsForest, Renewal.renewal}
 use Rattle.plan_forest.specs.Forest.{Forest, end_of, entry_at}
-use Rattle.plan_forest.specs.Over.{Over}
-use Rattle.plan_forest.specs.Push.{IsForest}
-use Rattle.plan_forest.specs.Renewal.{renewal}
+use Rattle.plan_rule.specs.{Ends.ends_after_wake_up, Forced.bound, Forced.latest_end, Runs.moments_of, declared.force.Force.Force}
 use Rattle.plan_rule.specs.Asks.{asking, first_of, is_to_be_asked}
-use Rattle.plan_rule.specs.Ends.{ends_after_wake_up}
-use Rattle.plan_rule.specs.Forced.{bound, latest_end}
-use Rattle.plan_rule.proofs.Asking.{wanted_renewable}
-use Rattle.plan_rule.proofs.Joining.{kept_before, plan_later}
-use Rattle.plan_rule.proofs.Keeping.{end_below_bound, renewal_later}
-use Rattle.plan_rule.proofs.Covering.{after_unwanted, after_wanted}
-use Rattle.plan_rule.specs.Runs.{moments_of}
-use Rattle.plan_rule.specs.declared.force.Force.{Force}
-use Rattle.tick_keeper.specs.InForce.{AllForcedAs}
-use Rattle.tick_keeper.specs.LawsOfPlans.{IsAnsweredByRule, StillForcedLaw}
-use Rattle.tick_keeper.specs.Replan.{IsPlanOf}
+use Rattle.plan_rule.proofs.{Asking.wanted_renewable, Joining.kept_before, Joining.plan_later, Keeping.end_below_bound, Keeping.renewal_later, Covering.after_unwanted, Covering.after_wanted}
+use Rattle.tick_keeper.specs.{InForce.AllForcedAs, LawsOfPlans.IsAnsweredByRule, LawsOfPlans.StillForcedLaw, Replan.IsPlanOf}
 use Rattle.tick_keeper.proofs.Alike.{over_alike, renewal_alike}
 use Rattle.tick_keeper.proofs.Standing.{after_answers, answered_alike, best_first}
 

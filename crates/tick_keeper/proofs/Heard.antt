@@ -1,40 +1,21 @@
 -- A keeper that has heard an answer: its invariant, and the plan that stands where the last answer is the rule's.
 use Rattle.std.proofs.Common.{◌≡◌, ◌≢◌, ◌==◌, ◌∙◌, ◌++◌, ℕ, ◌+◌, ◌<◌, ◌&&◌, Bool, true, false, List, [], ◌∷◌, Option, Some, None, Err, IfSome, length, nat_lt, set, refl, sym, ap, subst, arith, inl, inr}
-use Rattle.std.proofs.lemmas.Bool.{cases_lt}
-use Rattle.std.proofs.lemmas.Bool.Decides.{nat_tests}
-use Rattle.std.proofs.lemmas.List.{append-nil, length-set}
-use Rattle.plan_forest.specs.declared.entry.Entry.{Entry}
-use Rattle.plan_forest.specs.Forest.{Forest, entry_at}
-use Rattle.plan_forest.specs.Push.{IsForest}
-use Rattle.plan_forest.specs.Renewal.{renewal}
+use Rattle.std.proofs.lemmas.{Bool.cases_lt, Bool.Decides.nat_tests, List.append-nil, List.length-set}
+use Rattle.plan_forest.specs.{declared.entry.Entry.Entry, Forest.Forest, Forest.entry_at, Push.IsForest, Renewal.renewal}
 use Rattle.plan_forest.proofs.Carrying.{and_left, and_right}
 use Rattle.plan_needs.specs.Carried.{IsCarried}
 use Rattle.plan_rule.specs.Runs.{moments_of}
 use Rattle.plan_search.specs.Planned.{Planned, to_come}
-use Rattle.tick_keeper.specs.declared.event.Event.{Event}
+use Rattle.tick_keeper.specs.{declared.event.Event.Event, declared.event.Output.Output, declared.fault.StepFault.StepFault, declared.round.OpenRound.OpenRound, declared.shortened.ShortNeed.ShortNeed}
+use Rattle.tick_keeper.specs.{code.Hearing.is_rules, code.Hearing.others, LawsOfHistories.IsAnswerEvent, History.CoreTurn, Shorten.pairs, Shorten.shorten, State.CoreState, State.Round, States.RoundIsOpened}
 use Rattle.tick_keeper.specs.declared.event.Event.TheVariants.{Tick, Told, Need}
-use Rattle.tick_keeper.specs.declared.event.Output.{Output}
-use Rattle.tick_keeper.specs.declared.fault.StepFault.{StepFault}
 use Rattle.tick_keeper.specs.declared.fault.StepFault.TheVariants.{TooLong, OutOfMemory}
-use Rattle.tick_keeper.specs.declared.round.OpenRound.{OpenRound}
-use Rattle.tick_keeper.specs.declared.shortened.ShortNeed.{ShortNeed}
-use Rattle.tick_keeper.specs.code.Hearing.{is_rules, others}
 use Rattle.tick_keeper.specs.code.Keeping.{IsKeeper, IsOpen, RoundIsByRule, flag_of, seen_round, shown_round, waited_for}
-use Rattle.tick_keeper.specs.LawsOfHistories.{IsAnswerEvent}
 use Rattle.tick_keeper.specs.Replan.{IsPlanOf, PlanFails, Replan, ReplanTooLong}
 use Rattle.tick_keeper.specs.Refusal.{TellsSpan, step_refusal, waits_for}
-use Rattle.tick_keeper.specs.History.{CoreTurn}
-use Rattle.tick_keeper.specs.Shorten.{pairs, shorten}
-use Rattle.tick_keeper.specs.State.{CoreState, Round}
-use Rattle.tick_keeper.specs.States.{RoundIsOpened}
 use Rattle.tick_keeper.specs.Step.{CoreStep, IsLastAnswer, StepAnswer, StepMayWantMemory, entry_after_answer, entry_of_event, left, with_entry_changed, without_index}
-use Rattle.tick_keeper.proofs.Changed.{answered_forest}
-use Rattle.tick_keeper.proofs.Opened.{hears_more, last_fits}
-use Rattle.tick_keeper.proofs.ByRule.{closes_by_rule, more_by_rule}
+use Rattle.tick_keeper.proofs.{Changed.answered_forest, Opened.hears_more, Opened.last_fits, ByRule.closes_by_rule, ByRule.more_by_rule, Refusals.answer_taken, Made.count_moments, Waiting.waits_flag}
 use Rattle.tick_keeper.proofs.Hearing.{carried_heard, waited_less, waited_set}
-use Rattle.tick_keeper.proofs.Refusals.{answer_taken}
-use Rattle.tick_keeper.proofs.Made.{count_moments}
-use Rattle.tick_keeper.proofs.Waiting.{waits_flag}
 
 -- an answer that an round_is round takes
 pub record Takes (h : Forest) (r : OpenRound) (event : Event) : Type 0 where

@@ -1,21 +1,15 @@
 -- One answer: what the entries carry after it, whom the round then waits for, and a forest that is put back.
 use Rattle.std.proofs.Common.{◌≡◌, ◌≢◌, ◌==◌, ◌∙◌, ◌⊎◌, ℕ, zero, suc, ◌+◌, ◌<◌, ◌≤◌, ◌&&◌, Bool, true, false, cond, not, List, [], ◌∷◌, Option, Some, None, filter, length, max, nat_lt, set, refl, sym, ap, subst, arith, inl, inr}
-use Rattle.std.proofs.lemmas.Bool.{cases_Bool, cases_eq}
-use Rattle.std.proofs.lemmas.Bool.Decides.{nat_tests}
+use Rattle.std.proofs.lemmas.{Bool.cases_Bool, Bool.cases_eq, Bool.Decides.nat_tests}
 use Rattle.std.proofs.lemmas.List.{get_or-set_other, get_or-set_same, length-set, set-set}
 use Rattle.std.specs.List.{list_any, range_with_len}
 use Rattle.std.proofs.Math.Bool.{and-false, and-true}
-use Rattle.plan_forest.specs.declared.entry.Entry.{Entry}
-use Rattle.plan_forest.specs.Carried.{carried, carried_of}
-use Rattle.plan_forest.specs.Forest.{Forest, entry_at}
+use Rattle.plan_forest.specs.{declared.entry.Entry.Entry, Carried.carried, Carried.carried_of, Forest.Forest, Forest.entry_at}
 use Rattle.plan_forest.specs.Over.{chain, chain_of, is_over}
 use Rattle.plan_forest.proofs.Entries.{entry_at_set_other, entry_at_set_same}
 use Rattle.plan_needs.specs.Carried.{CarriedNeed, IsCarried, NamesFrom}
-use Rattle.tick_keeper.specs.declared.event.Event.{Event}
+use Rattle.tick_keeper.specs.{declared.event.Event.Event, code.Keeping.flag_of, code.Keeping.waited_for, Refusal.waits_for, State.Round}
 use Rattle.tick_keeper.specs.declared.event.Event.TheVariants.{Tick, Lost, Need}
-use Rattle.tick_keeper.specs.code.Keeping.{flag_of, waited_for}
-use Rattle.tick_keeper.specs.Refusal.{waits_for}
-use Rattle.tick_keeper.specs.State.{Round}
 use Rattle.tick_keeper.specs.Step.{entry_after_answer, with_entry_changed, without_index}
 use Rattle.tick_keeper.proofs.Taken.{set_back}
 

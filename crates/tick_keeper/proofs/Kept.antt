@@ -1,27 +1,16 @@
 -- Needs that are kept, and no longer than they can be: for the laws of needs.
 use Rattle.std.proofs.Common.{◌≡◌, ◌==◌, ℕ, zero, suc, ◌+◌, ◌<◌, ◌≤◌, ◌&&◌, Bool, true, false, cond, List, [], ◌∷◌, Option, Some, None, filter, length, map, max, nat_le, option_map, refl, sym, ap, ◌∙◌, subst, arith, inl, inr}
+use Rattle.std.proofs.lemmas.{Bool.Decides.nat_tests, List.ext_get_or, List.Elements.All-cons, List.Elements.All-nil}
 use Rattle.std.proofs.lemmas.Bool.{cases_Bool, cases_eq, cases_lt, cond-true, cond-false}
-use Rattle.std.proofs.lemmas.Bool.Decides.{nat_tests}
-use Rattle.std.proofs.lemmas.List.{ext_get_or}
-use Rattle.std.proofs.lemmas.List.Elements.{All-cons, All-nil}
 use Rattle.std.specs.List.{All, Contains, range_with_len}
-use Rattle.plan_forest.specs.declared.entry.Entry.{Entry}
+use Rattle.plan_forest.specs.{declared.entry.Entry.Entry, Over.Over, Push.IsForest}
 use Rattle.plan_forest.specs.Forest.{Forest, end_of, entry_at, no_entry}
-use Rattle.plan_forest.specs.Over.{Over}
-use Rattle.plan_forest.specs.Push.{IsForest}
-use Rattle.plan_forest.proofs.Entries.{entry_at_past}
-use Rattle.plan_forest.proofs.Placed.{parents_first}
-use Rattle.plan_rule.specs.declared.wake.Wake.{Wake}
-use Rattle.plan_rule.specs.Keeps.{Keeps}
-use Rattle.plan_rule.specs.Plans.{IsPlan}
-use Rattle.plan_rule.specs.Reach.{reach, reach_of}
-use Rattle.plan_rule.specs.Unkeepable.{AllKeepable}
-use Rattle.plan_rule.proofs.Existence.{there_is_one}
-use Rattle.plan_rule.proofs.Keeping.{unkeepable}
-use Rattle.plan_rule.proofs.Schedule.{schedule_is_best}
+use Rattle.plan_forest.proofs.{Entries.entry_at_past, Placed.parents_first}
+use Rattle.plan_rule.specs.{declared.wake.Wake.Wake, Keeps.Keeps, Plans.IsPlan, Reach.reach, Reach.reach_of, Unkeepable.AllKeepable}
+use Rattle.plan_rule.proofs.{Existence.there_is_one, Keeping.unkeepable, Schedule.schedule_is_best}
+use Rattle.tick_keeper.specs.code.Passes.{needing}
 use Rattle.tick_keeper.specs.LawsOfNeeds.{IsKeptTo, IsShortened, KeepableLaw, PlannableLaw, ShortenedLaw, UnchangedLaw}
 use Rattle.tick_keeper.specs.Shorten.{is_short, need_left, pair_of, pairs, shorten}
-use Rattle.tick_keeper.specs.code.Passes.{needing}
 use Rattle.tick_keeper.proofs.Alike.{ends_at_alike, over_alike, reach_alike}
 use Rattle.tick_keeper.proofs.Needing.{length_needing, needing_alike, needing_at}
 use Rattle.tick_keeper.proofs.Shortening.{cut_parts, least_reach_is, left_as_it_was, need_past, needed_within, shorten_alike, shorten_at, shorten_count, shorten_ends, shorten_entries, shorten_forest, shorten_is, shorten_keepable, shorten_margin}

@@ -1,25 +1,14 @@
 -- What planning anew made: a state that is planned anew, and parts of a keeper that belong together.
 use Rattle.std.proofs.Common.{◌≡◌, ◌∙◌, ℕ, suc, ◌<◌, ◌≤◌, ◌++◌, List, [], ◌∷◌, Option, Some, None, length, refl, sym, ap, subst, arith}
 use Rattle.base_moment.specs.declared.moment.TheConstants.{LAST}
-use Rattle.plan_forest.specs.declared.entry.Entry.{Entry}
-use Rattle.plan_forest.specs.Carried.{carried}
-use Rattle.plan_forest.specs.Forest.{Forest, end_of}
-use Rattle.plan_forest.specs.Push.{IsForest}
+use Rattle.plan_forest.specs.{declared.entry.Entry.Entry, Carried.carried, Forest.Forest, Forest.end_of, Push.IsForest}
 use Rattle.plan_forest.proofs.Carrying.{carried_at_least, carried_is_of}
-use Rattle.plan_rule.specs.Forced.{bound}
-use Rattle.plan_rule.specs.declared.force.Force.{Force}
-use Rattle.plan_rule.specs.Runs.{moments_of}
+use Rattle.plan_rule.specs.{Forced.bound, declared.force.Force.Force, Runs.moments_of}
 use Rattle.plan_schedule.specs.Forces.{AreForces}
-use Rattle.plan_search.specs.Decides.{IsBestPlan}
-use Rattle.plan_search.specs.Planned.{Planned, to_come}
-use Rattle.tick_keeper.specs.declared.round.OpenRound.{OpenRound}
-use Rattle.tick_keeper.specs.declared.shortened.ShortNeed.{ShortNeed}
-use Rattle.tick_keeper.specs.InForce.{AllForcedAs}
+use Rattle.plan_search.specs.{Decides.IsBestPlan, Planned.Planned, Planned.to_come}
+use Rattle.tick_keeper.specs.{declared.round.OpenRound.OpenRound, declared.shortened.ShortNeed.ShortNeed, InForce.AllForcedAs, Replan.IsPlanOf, Replan.Replan, Shorten.pairs, Shorten.shorten, State.CoreState, State.Round}
+use Rattle.tick_keeper.specs.{States.IsState, States.RoundIsOpened}
 use Rattle.tick_keeper.specs.code.Keeping.{IsKeeper, seen_round, shown_round, waited_for}
-use Rattle.tick_keeper.specs.Replan.{IsPlanOf, Replan}
-use Rattle.tick_keeper.specs.Shorten.{pairs, shorten}
-use Rattle.tick_keeper.specs.State.{CoreState, Round}
-use Rattle.tick_keeper.specs.States.{IsState, RoundIsOpened}
 
 pub count_moments : (xs : List Force) → length (moments_of xs) ≡ length xs
 count_moments [] = refl

@@ -1,14 +1,11 @@
 -- Entries with other needs: what is at an index, and that they are alike and a forest.
 use Rattle.std.proofs.Common.{◌≡◌, ℕ, suc, ◌<◌, ◌≤◌, ◌&&◌, cond, List, [], ◌∷◌, Option, Some, None, bytes_eq, get_or, length, option_map, is_none, refl, sym, ap, ◌∙◌, subst, arith, inl, inr}
-use Rattle.std.proofs.lemmas.Bool.{cases_lt}
-use Rattle.std.proofs.lemmas.List.FromFn.{get_or-map-range_with_len, length-map-range_with_len}
+use Rattle.std.proofs.lemmas.{Bool.cases_lt, List.FromFn.get_or-map-range_with_len, List.FromFn.length-map-range_with_len}
 use Rattle.base_moment.specs.declared.moment.TheConstants.{LAST}
-use Rattle.plan_forest.specs.declared.entry.Entry.{Entry}
-use Rattle.plan_forest.specs.declared.forest.TheConstants.{MAX_DEPTH}
+use Rattle.plan_forest.specs.{declared.entry.Entry.Entry, declared.forest.TheConstants.MAX_DEPTH}
 use Rattle.plan_forest.specs.Forest.{Forest, entry_at, index_named, no_entry}
 use Rattle.plan_forest.specs.Push.{IsForest, is_lease, is_name, is_under_lease}
-use Rattle.plan_forest.proofs.Chains.{ParentsFirst, chain_same}
-use Rattle.plan_forest.proofs.Entries.{entry_at_past}
+use Rattle.plan_forest.proofs.{Chains.ParentsFirst, Chains.chain_same, Entries.entry_at_past}
 use Rattle.plan_forest.proofs.Placed.{InRange, parents_first, range_from_parts, range_parts}
 use Rattle.tick_keeper.specs.code.Passes.{needing}
 use Rattle.tick_keeper.proofs.Alike.{Alike}

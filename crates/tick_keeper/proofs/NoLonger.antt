@@ -1,36 +1,21 @@
 -- Planning anew gives no more wake-ups than the plan in force has: the moment of planning, and the moments of the plan that
 -- come after it, come in time for the ends and needs as they then are.
 use Rattle.std.proofs.Common.{◌≡◌, ◌∙◌, ◌⊎◌, ℕ, ◌+◌, ◌<◌, ◌≤◌, Bool, true, false, cond, List, [], ◌∷◌, Option, Some, None, length, max, refl, sym, ap, subst, arith, inl, inr}
-use Rattle.std.proofs.lemmas.Bool.{cases_Bool, cases_lt, cond-true}
 use Rattle.std.proofs.lemmas.List.{length-map}
+use Rattle.std.proofs.lemmas.Bool.{cases_Bool, cases_lt, cond-true}
 use Rattle.std.specs.List.{All}
 use Rattle.base_moment.specs.declared.moment.TheConstants.{LAST}
-use Rattle.plan_forest.specs.declared.entry.Entry.{Entry}
-use Rattle.plan_forest.specs.Carried.{carried}
+use Rattle.plan_forest.specs.{declared.entry.Entry.Entry, Carried.carried, Over.is_over, Push.IsForest, Renewal.capped, Renewal.renewal}
 use Rattle.plan_forest.specs.Forest.{Forest, end_of, entry_at}
-use Rattle.plan_forest.specs.Over.{is_over}
-use Rattle.plan_forest.specs.Push.{IsForest}
-use Rattle.plan_forest.specs.Renewal.{capped, renewal}
 use Rattle.plan_forest.proofs.Carrying.{carried_at_least, carried_is_of}
-use Rattle.plan_rule.specs.declared.wake.Wake.{Wake}
+use Rattle.plan_rule.specs.{declared.wake.Wake.Wake, Forced.bound, Forced.latest_end, Plans.IsPlan, Plans.moments, Unkeepable.AllKeepable}
 use Rattle.plan_rule.specs.Asks.{first_of, is_to_be_asked, with_asks}
-use Rattle.plan_rule.specs.Forced.{bound, latest_end}
-use Rattle.plan_rule.specs.Plans.{IsPlan, moments}
-use Rattle.plan_rule.specs.Unkeepable.{AllKeepable}
+use Rattle.plan_rule.proofs.{Existence.there_is_one, Next.can_be_led, Schedule.schedule_is_best, Schedule.schedule_timely, Tail.moments_with_asks, Timely.AllTimely, Timely.timely_keeps}
 use Rattle.plan_rule.proofs.Asking.{Covers, IsSafe, asked_end, asks_wanted, covers_more, covers_need}
-use Rattle.plan_rule.proofs.Existence.{there_is_one}
 use Rattle.plan_rule.proofs.Joining.{InOrder, order_plan, plan_order}
 use Rattle.plan_rule.proofs.Keeping.{IsRising, end_below_bound, one_least, renewal_later}
-use Rattle.plan_rule.proofs.Next.{can_be_led}
-use Rattle.plan_rule.proofs.Schedule.{schedule_is_best, schedule_timely}
-use Rattle.plan_rule.proofs.Tail.{moments_with_asks}
-use Rattle.plan_rule.proofs.Timely.{AllTimely, timely_keeps}
-use Rattle.tick_keeper.specs.LawsOfPlans.{NoLongerLaw}
-use Rattle.tick_keeper.specs.Replan.{IsPlanOf}
-use Rattle.tick_keeper.specs.States.{ForestIsAnswered}
-use Rattle.tick_keeper.specs.Shorten.{shorten}
-use Rattle.tick_keeper.proofs.Hearing.{over_same}
-use Rattle.tick_keeper.proofs.Kept.{unchanged}
+use Rattle.tick_keeper.specs.{LawsOfPlans.NoLongerLaw, Replan.IsPlanOf, States.ForestIsAnswered, Shorten.shorten}
+use Rattle.tick_keeper.proofs.{Hearing.over_same, Kept.unchanged}
 use Rattle.tick_keeper.proofs.Shortening.{left_at_most, need_past, shorten_at, shorten_count, shorten_ends, shorten_forest, shorten_keepable, shorten_margin}
 use Rattle.tick_keeper.proofs.Standing.{best_first, best_keepable, tick}
 

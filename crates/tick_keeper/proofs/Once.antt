@@ -3,20 +3,14 @@ use Rattle.std.proofs.Common.{◌≡◌, ◌≢◌, ◌∙◌, ℕ, ◌<◌, ◌
 use Rattle.std.proofs.lemmas.Bool.Decides.{nat_tests}
 use Rattle.std.specs.List.{All}
 use Rattle.plan_rule.specs.Asks.{first_of}
-use Rattle.tick_keeper.specs.declared.event.Event.{Event}
+use Rattle.tick_keeper.specs.{declared.event.Event.Event, declared.event.Output.Output, declared.fault.StepFault.StepFault, LawsOfSteps.NextAsksLaw, LawsOfSteps.OneResultLaw, Refusal.step_refusal, History.CoreTurn}
+use Rattle.tick_keeper.specs.{State.CoreState, State.Round}
 use Rattle.tick_keeper.specs.declared.event.Event.TheVariants.{Tick, Told, Refused, Lost, Need}
-use Rattle.tick_keeper.specs.declared.event.Output.{Output}
-use Rattle.tick_keeper.specs.declared.event.Output.TheVariants as out
-use Rattle.tick_keeper.specs.declared.fault.StepFault.{StepFault}
 use Rattle.tick_keeper.specs.declared.fault.StepFault.TheVariants.{ClockBack, RoundOpen, NotAsked, BadIndex, OutOfRange, TooLong, OutOfMemory}
-use Rattle.tick_keeper.specs.LawsOfSteps.{NextAsksLaw, OneResultLaw}
-use Rattle.tick_keeper.specs.Refusal.{step_refusal}
 use Rattle.tick_keeper.specs.Replan.{IsPlanOf, ReplanTooLong, Replan}
-use Rattle.tick_keeper.specs.History.{CoreTurn}
-use Rattle.tick_keeper.specs.State.{CoreState, Round}
 use Rattle.tick_keeper.specs.Step.{StepAnswer, StepNeed, StepTick, entry_of_event, left, round_opened, state_after_answer, with_new_need}
-use Rattle.tick_keeper.proofs.Orders.{not_both, replan_once}
-use Rattle.tick_keeper.proofs.Standing.{best_first, kept_plan}
+use Rattle.tick_keeper.specs.declared.event.Output.TheVariants as out
+use Rattle.tick_keeper.proofs.{Orders.not_both, Orders.replan_once, Standing.best_first, Standing.kept_plan}
 
 abbrev Same : Result Output StepFault → CoreState → Result Output StepFault → CoreState → Type 0
 Same a x b y = (a ≡ b) × (x ≡ y)

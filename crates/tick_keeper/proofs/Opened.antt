@@ -1,24 +1,15 @@
 -- An open round: what it has left of its opening, at the opening and with one answer more; and that nothing in it is too long.
 use Rattle.std.proofs.Common.{◌≡◌, ◌∙◌, ◌==◌, ℕ, ◌<◌, ◌≤◌, true, false, List, ◌∷◌, Some, length, set, refl, sym, ap, subst, arith, inl, inr}
-use Rattle.std.proofs.lemmas.Bool.{cases_Bool, cases_eq}
-use Rattle.std.proofs.lemmas.List.{length-set}
+use Rattle.std.proofs.lemmas.{Bool.cases_Bool, Bool.cases_eq, List.length-set}
 use Rattle.std.specs.List.{list_any}
-use Rattle.plan_rule.specs.declared.limit.TheConstants.{LIMIT}
-use Rattle.plan_forest.specs.declared.entry.Entry.{Entry}
-use Rattle.plan_forest.specs.Forest.{Forest, end_of, entry_at}
-use Rattle.plan_forest.specs.Push.{IsForest}
-use Rattle.plan_forest.proofs.Entries.{entry_at_set_other, entry_at_set_same}
+use Rattle.plan_rule.specs.{declared.limit.TheConstants.LIMIT, Ends.is_asked}
 use Rattle.plan_rule.specs.Asks.{asking, asks, first_of}
-use Rattle.plan_rule.specs.Ends.{is_asked}
-use Rattle.tick_keeper.specs.declared.event.Event.{Event}
-use Rattle.tick_keeper.specs.declared.event.Event.TheVariants.{Tick}
-use Rattle.tick_keeper.specs.Refusal.{waits_for}
-use Rattle.tick_keeper.specs.Replan.{IsPlanOf, ReplanTooLong}
-use Rattle.tick_keeper.specs.State.{Round}
-use Rattle.tick_keeper.specs.States.{ForestIsAnswered, RoundIsOpened}
+use Rattle.plan_forest.specs.{declared.entry.Entry.Entry, Push.IsForest}
+use Rattle.plan_forest.specs.Forest.{Forest, end_of, entry_at}
+use Rattle.plan_forest.proofs.Entries.{entry_at_set_other, entry_at_set_same}
+use Rattle.tick_keeper.specs.{declared.event.Event.Event, declared.event.Event.TheVariants.Tick, Refusal.waits_for, Replan.IsPlanOf, Replan.ReplanTooLong, State.Round, States.ForestIsAnswered, States.RoundIsOpened}
 use Rattle.tick_keeper.specs.Step.{entry_after_answer, entry_of_event, left, with_entry_changed, without_index}
-use Rattle.tick_keeper.proofs.NoLonger.{no_longer}
-use Rattle.tick_keeper.proofs.Orders.{none_within}
+use Rattle.tick_keeper.proofs.{NoLonger.no_longer, Orders.none_within}
 
 unanswered_is : (g : Forest) (t : ℕ) (rest : List ℕ) → ForestIsAnswered g g t (first_of rest)
 unanswered_is g t rest = record { margin = refl; count = refl; each = λ i. refl; others = λ i _. refl }

@@ -1,31 +1,22 @@
 -- The order of answers: a history of answers leads to a state that the answers alone decide, entry by entry.
 use Rattle.std.proofs.Common.{◌≡◌, ◌≢◌, ◌==◌, ℕ, ◌<◌, ◌⊎◌, ◌||◌, Bool, true, false, cond, not, List, [], ◌∷◌, Option, Some, None, Result, Ok, Err, filter, is_none, length, map, nat_lt, refl, sym, ap, ◌∙◌, subst, arith, inl, inr}
+use Rattle.std.proofs.lemmas.{Bool.Decides.nat_tests, List.length-set, List.FromFn.get_or-map-range_with_len, List.FromFn.length-map-range_with_len}
 use Rattle.std.proofs.lemmas.Bool.{cases_eq, cases_lt, cond-true, cond-false}
-use Rattle.std.proofs.lemmas.Bool.Decides.{nat_tests}
-use Rattle.std.proofs.lemmas.List.{length-set}
-use Rattle.std.proofs.lemmas.List.FromFn.{get_or-map-range_with_len, length-map-range_with_len}
 use Rattle.std.proofs.Math.Path.{fun_ext}
 use Rattle.std.specs.List.{list_any, range_with_len}
 use Rattle.plan_forest.specs.declared.entry.Entry.{Entry}
 use Rattle.plan_forest.specs.Forest.{Forest, end_of, entry_at, no_entry}
 use Rattle.plan_forest.proofs.Entries.{entry_at_past, entry_at_set_other, entry_at_set_same}
 use Rattle.plan_rule.proofs.Keeping.{one_least}
-use Rattle.tick_keeper.specs.declared.event.Event.{Event}
+use Rattle.tick_keeper.specs.{declared.event.Event.Event, declared.event.Output.Output, declared.fault.StepFault.StepFault, declared.fault.StepFault.TheVariants.OutOfRange, declared.refusal.TheConstants.LONGEST, History.CoreHistory}
+use Rattle.tick_keeper.specs.{Shorten.shorten, State.CoreState, State.Round}
 use Rattle.tick_keeper.specs.declared.event.Event.TheVariants.{Tick, Told, Refused, Lost, Need}
-use Rattle.tick_keeper.specs.declared.event.Output.{Output}
-use Rattle.tick_keeper.specs.declared.event.Output.TheVariants as out
-use Rattle.tick_keeper.specs.declared.fault.StepFault.{StepFault}
-use Rattle.tick_keeper.specs.declared.fault.StepFault.TheVariants.{OutOfRange}
 use Rattle.tick_keeper.specs.LawsOfHistories.{AllTaken, IsAnswerEvent, answer_for}
-use Rattle.tick_keeper.specs.declared.refusal.TheConstants.{LONGEST}
 use Rattle.tick_keeper.specs.Refusal.{step_refusal, unless_waited_for, waits_for}
 use Rattle.tick_keeper.specs.Replan.{ReplanTooLong, Replan, state_planned}
-use Rattle.tick_keeper.specs.History.{CoreHistory}
-use Rattle.tick_keeper.specs.Shorten.{shorten}
-use Rattle.tick_keeper.specs.State.{CoreState, Round}
 use Rattle.tick_keeper.specs.Step.{CoreStep, StepAnswer, entry_after_answer, entry_of_event, left, state_after_answer, with_entry_changed, without_index}
-use Rattle.tick_keeper.proofs.Refusals.{asked_parts, first_none}
-use Rattle.tick_keeper.proofs.Kept.{same_entries}
+use Rattle.tick_keeper.specs.declared.event.Output.TheVariants as out
+use Rattle.tick_keeper.proofs.{Refusals.asked_parts, Refusals.first_none, Kept.same_entries}
 
 abbrev pub AreAnswers : List Event → Type 0
 AreAnswers [] = Unit {0}

@@ -1,27 +1,23 @@
 -- The passes over the entries: one entry more, for the loops of planning anew.
 use Rattle.std.proofs.Common.{◌≡◌, ℕ, ◌+◌, ◌<◌, ◌≤◌, ◌++◌, Bool, true, false, cond, List, [], ◌∷◌, Option, Some, None, filter, get_or, length, map, nat_lt, set, take, unwrap_or, refl, sym, ap, ◌∙◌, subst, arith, inl, inr}
-use Rattle.std.proofs.lemmas.Bool.{cases_eq, cases_lt, cond-true}
 use Rattle.std.proofs.lemmas.Bool.Decides.{nat_tests}
+use Rattle.std.proofs.lemmas.Bool.{cases_eq, cases_lt, cond-true}
 use Rattle.std.proofs.lemmas.List.{append-nil, get_or_append_left, get_or_push, length-map, length-set, length_push, map-append}
 use Rattle.std.proofs.Math.Seq.{take-append_seam}
 use Rattle.std.specs.List.{range_with_len}
 use Rattle.base_moment.specs.declared.moment.TheConstants.{LAST}
-use Rattle.plan_forest.specs.declared.entry.Entry.{Entry}
+use Rattle.plan_forest.specs.{declared.entry.Entry.Entry, Push.IsForest}
 use Rattle.plan_forest.specs.Forest.{Forest, end_of, entry_at}
-use Rattle.plan_forest.specs.Push.{IsForest}
 use Rattle.plan_forest.proofs.Chains.{ParentsFirst, chain_child, chain_root}
 use Rattle.plan_forest.proofs.Entries.{entry_at_past, entry_at_set_other, entry_at_set_same}
 use Rattle.plan_rule.specs.Reach.{reach}
 use Rattle.plan_rule.proofs.Lists.{need_within}
 use Rattle.plan_search.proofs.Wanted.{asked_more}
-use Rattle.tick_keeper.specs.declared.fault.StepFault.{StepFault}
+use Rattle.tick_keeper.specs.{declared.fault.StepFault.StepFault, declared.shortened.ShortNeed.ShortNeed, Replan.PlanFails}
 use Rattle.tick_keeper.specs.declared.fault.StepFault.TheVariants.{TooLong, OutOfMemory}
-use Rattle.tick_keeper.specs.declared.shortened.ShortNeed.{ShortNeed}
 use Rattle.tick_keeper.specs.code.Passes.{AreLeast, AreNeeds, ForestHasNeeds, PlanRefused, forest_with_needs, needing, shorter, so_far}
-use Rattle.tick_keeper.specs.Replan.{PlanFails}
 use Rattle.tick_keeper.specs.Shorten.{cut_to, exceeds, is_short, least_of, least_reach, lesser, need_left, pair_of, pairs, shorten}
-use Rattle.tick_keeper.proofs.Kept.{plannable, same_entries}
-use Rattle.tick_keeper.proofs.Needing.{length_needing, needing_at}
+use Rattle.tick_keeper.proofs.{Kept.plannable, Kept.same_entries, Needing.length_needing, Needing.needing_at}
 use Rattle.tick_keeper.proofs.Shortening.{left_at_most, shorten_at, shorten_count, shorten_is, shorten_margin}
 
 lesser_none : (o : Option ℕ) → lesser o None ≡ o

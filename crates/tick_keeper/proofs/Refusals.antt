@@ -2,14 +2,10 @@
 use Rattle.std.proofs.Common.{◌≡◌, ℕ, ◌<◌, ◌≤◌, Bool, true, false, cond, Option, Some, None, is_some, length, nat_le, nat_lt, refl, arith}
 use Rattle.std.proofs.lemmas.Bool.Decides.{nat_tests}
 use Rattle.base_moment.specs.declared.moment.TheConstants.{LAST}
-use Rattle.tick_keeper.specs.declared.event.Event.{Event}
+use Rattle.tick_keeper.specs.{declared.event.Event.Event, LawsOfHistories.IsAnswerEvent, declared.refusal.TheConstants.LONGEST, State.CoreState, State.Round, Step.entry_of_event}
 use Rattle.tick_keeper.specs.declared.event.Event.TheVariants.{Tick, Told, Refused, Lost, Need}
 use Rattle.tick_keeper.specs.declared.fault.StepFault.TheVariants.{BadIndex, ClockBack, NotAsked, OutOfRange, RoundOpen}
-use Rattle.tick_keeper.specs.LawsOfHistories.{IsAnswerEvent}
-use Rattle.tick_keeper.specs.declared.refusal.TheConstants.{LONGEST}
 use Rattle.tick_keeper.specs.Refusal.{TellsSpan, step_refusal, unless_closed, unless_waited_for, waits_for}
-use Rattle.tick_keeper.specs.State.{CoreState, Round}
-use Rattle.tick_keeper.specs.Step.{entry_of_event}
 
 -- the first test failed, and so did the others
 pub first_none : {X : Type 0} (b : Bool) (x : X) (o : Option X) → cond b (Some x) o ≡ None → (b ≡ false) × (o ≡ None)

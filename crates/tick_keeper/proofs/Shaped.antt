@@ -1,21 +1,15 @@
 -- No event changes an entry but for its end, its need and whether it can be renewed.
 use Rattle.std.proofs.Common.{◌≡◌, ℕ, None, Ok, Err, length, set, refl, sym, ap, ◌∙◌, subst, arith, inl, inr}
-use Rattle.std.proofs.lemmas.Bool.{cases_eq, cases_lt}
-use Rattle.std.proofs.lemmas.List.{length-set}
+use Rattle.std.proofs.lemmas.{Bool.cases_eq, Bool.cases_lt, List.length-set}
 use Rattle.plan_forest.specs.declared.entry.Entry.{Entry}
 use Rattle.plan_forest.specs.Forest.{Forest, entry_at, no_entry}
 use Rattle.plan_forest.proofs.Entries.{entry_at_past, entry_at_set_other, entry_at_set_same}
-use Rattle.tick_keeper.specs.declared.event.Event.{Event}
+use Rattle.tick_keeper.specs.{declared.event.Event.Event, declared.event.Output.Output, Replan.Replan, Shorten.shorten, State.CoreState, LawsOfSteps.IsShaped, LawsOfSteps.ShapeLaw}
 use Rattle.tick_keeper.specs.declared.event.Event.TheVariants.{Tick, Told, Refused, Lost, Need}
-use Rattle.tick_keeper.specs.declared.event.Output.{Output}
-use Rattle.tick_keeper.specs.declared.event.Output.TheVariants as out
 use Rattle.tick_keeper.specs.declared.fault.StepFault.TheVariants.{TooLong, OutOfMemory}
-use Rattle.tick_keeper.specs.Replan.{Replan}
-use Rattle.tick_keeper.specs.Shorten.{shorten}
-use Rattle.tick_keeper.specs.State.{CoreState}
 use Rattle.tick_keeper.specs.Step.{StepAnswer, StepNeed, StepTick, entry_after_answer, entry_of_event, state_after_answer, with_entry_changed, with_new_need}
+use Rattle.tick_keeper.specs.declared.event.Output.TheVariants as out
 use Rattle.tick_keeper.proofs.Shortening.{shorten_at, shorten_count, shorten_margin}
-use Rattle.tick_keeper.specs.LawsOfSteps.{IsShaped, ShapeLaw}
 
 abbrev Like : Entry → Entry → Type 0
 Like e f = f ≡ record e { end = f.end; renewable = f.renewable; need = f.need }

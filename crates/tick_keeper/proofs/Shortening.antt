@@ -1,22 +1,18 @@
 -- Shortening: what the least reach is, and what a need becomes.
 use Rattle.std.proofs.Common.{◌≡◌, ◌==◌, ℕ, ◌<◌, ◌≤◌, ◌&&◌, ◌||◌, true, false, List, [], ◌∷◌, Option, Some, None, length, map, min, nat_lt, refl, sym, ap, ◌∙◌, subst, arith, inl, inr}
-use Rattle.std.proofs.lemmas.Bool.{cases_Bool, cases_lt, cond-true, cond-false}
 use Rattle.std.proofs.lemmas.Bool.Decides.{nat_tests}
+use Rattle.std.proofs.lemmas.Bool.{cases_Bool, cases_lt, cond-true, cond-false}
 use Rattle.std.proofs.Math.Path.{fun_ext}
 use Rattle.std.specs.List.{list_any}
-use Rattle.plan_forest.specs.declared.entry.Entry.{Entry}
+use Rattle.plan_forest.specs.{declared.entry.Entry.Entry, Push.IsForest}
 use Rattle.plan_forest.specs.Forest.{Forest, end_of, entry_at}
 use Rattle.plan_forest.specs.Over.{Over, chain, is_over}
-use Rattle.plan_forest.specs.Push.{IsForest}
+use Rattle.plan_forest.proofs.{Chains.cases_Option, Entries.entry_at_past, Placed.parents_first}
 use Rattle.plan_forest.proofs.Carrying.{and_left, and_right, or_left, or_parts, or_right}
-use Rattle.plan_forest.proofs.Chains.{cases_Option}
-use Rattle.plan_forest.proofs.Entries.{entry_at_past}
-use Rattle.plan_forest.proofs.Placed.{parents_first}
-use Rattle.plan_rule.specs.Reach.{reach}
-use Rattle.plan_rule.specs.Unkeepable.{AllKeepable}
+use Rattle.plan_rule.specs.{Reach.reach, Unkeepable.AllKeepable}
 use Rattle.plan_rule.proofs.Lists.{need_within}
-use Rattle.tick_keeper.specs.Shorten.{cut_to, entry_shortened, exceeds, is_short, least_of, least_reach, lesser, need_left, shorten}
 use Rattle.tick_keeper.specs.code.Passes.{needing}
+use Rattle.tick_keeper.specs.Shorten.{cut_to, entry_shortened, exceeds, is_short, least_of, least_reach, lesser, need_left, shorten}
 use Rattle.tick_keeper.proofs.Alike.{Alike, over_alike, reach_alike}
 use Rattle.tick_keeper.proofs.Needing.{length_needing, needing_alike, needing_at, needing_end, needing_forest}
 

@@ -1,32 +1,18 @@
 -- Plans that stand: until the first moment, and after a round that was answered by the rule. For the laws of plans.
 use Rattle.std.proofs.Common.{◌≡◌, ◌==◌, ℕ, ◌<◌, ◌≤◌, ◌++◌, cond, List, [], ◌∷◌, Option, length, refl, sym, ap, ◌∙◌, subst, arith, inl, inr}
+use Rattle.std.proofs.lemmas.{List.append-nil, List.Elements.All-cons, List.Elements.All-nil}
 use Rattle.std.proofs.lemmas.Bool.{cases_Bool, cond-true, cond-false}
-use Rattle.std.proofs.lemmas.List.{append-nil}
-use Rattle.std.proofs.lemmas.List.Elements.{All-cons, All-nil}
 use Rattle.std.proofs.Math.Path.{fun_ext}
 use Rattle.std.specs.List.{All, list_any}
-use Rattle.plan_forest.specs.declared.entry.Entry.{Entry}
+use Rattle.plan_forest.specs.{declared.entry.Entry.Entry, Push.IsForest, Renewal.renewal, Renewal.renewed}
 use Rattle.plan_forest.specs.Forest.{Forest, end_of, entry_at}
-use Rattle.plan_forest.specs.Push.{IsForest}
-use Rattle.plan_forest.specs.Renewal.{renewal, renewed}
 use Rattle.plan_forest.proofs.Placed.{parents_first}
-use Rattle.plan_rule.specs.declared.wake.Wake.{Wake}
+use Rattle.plan_rule.specs.{declared.wake.Wake.Wake, Ends.ends_after_wake_up, Ends.is_asked, Least.IsLeastAndLatest, Plans.IsPlan, Plans.moments, Unkeepable.AllKeepable}
 use Rattle.plan_rule.specs.Asks.{asking, asks, first_of, is_to_be_asked}
-use Rattle.plan_rule.specs.Ends.{ends_after_wake_up, is_asked}
-use Rattle.plan_rule.specs.Least.{IsLeastAndLatest}
-use Rattle.plan_rule.specs.Plans.{IsPlan, moments}
-use Rattle.plan_rule.specs.Unkeepable.{AllKeepable}
-use Rattle.plan_rule.proofs.Asking.{asks_wanted}
-use Rattle.plan_rule.proofs.Enough.{enough}
-use Rattle.plan_rule.proofs.Keeping.{one_least, unkeepable}
-use Rattle.plan_rule.proofs.LaterStart.{later_start}
-use Rattle.plan_rule.proofs.Tail.{tail}
-use Rattle.plan_rule.proofs.Covering.{after_unwanted, after_wanted}
+use Rattle.plan_rule.proofs.{Asking.asks_wanted, Enough.enough, Keeping.one_least, Keeping.unkeepable, LaterStart.later_start, Tail.tail, Covering.after_unwanted, Covering.after_wanted}
+use Rattle.tick_keeper.specs.{Replan.IsPlanOf, Shorten.shorten}
 use Rattle.tick_keeper.specs.LawsOfPlans.{IsAnsweredByRule, KeptPlanLaw, SomeoneLaw, TailKeptLaw, TickLaw}
-use Rattle.tick_keeper.specs.Replan.{IsPlanOf}
-use Rattle.tick_keeper.specs.Shorten.{shorten}
-use Rattle.tick_keeper.proofs.Alike.{Alike, best_alike}
-use Rattle.tick_keeper.proofs.Kept.{keepable}
+use Rattle.tick_keeper.proofs.{Alike.Alike, Alike.best_alike, Kept.keepable}
 
 -- where there is a least and latest plan, some plan keeps, and so no pair is Unkeepable
 pub best_keepable : (g : Forest) (t : ℕ) (ts : List ℕ) → IsPlanOf g t ts → AllKeepable g t (end_of g.entries)

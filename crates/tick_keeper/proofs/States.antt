@@ -1,42 +1,24 @@
 -- The states that events lead to, what each event adds to the pairs, and when entries are asked: for the laws of steps.
 use Rattle.std.proofs.Common.{◌≡◌, ◌∙◌, ℕ, ◌<◌, ◌≤◌, ◌++◌, true, List, [], ◌∷◌, Some, None, Result, Ok, Err, length, set, refl, sym, ap, subst, arith, inl, inr}
-use Rattle.std.proofs.lemmas.Bool.{cases_eq}
-use Rattle.std.proofs.lemmas.List.{append-nil, length-set}
+use Rattle.std.proofs.lemmas.{Bool.cases_eq, List.append-nil, List.length-set}
 use Rattle.std.proofs.lemmas.List.Elements.{All-from_get_or, All-get_or, All-nil}
 use Rattle.std.specs.List.{All}
 use Rattle.base_moment.specs.declared.moment.TheConstants.{LAST}
-use Rattle.plan_forest.specs.declared.entry.Entry.{Entry}
+use Rattle.plan_forest.specs.{declared.entry.Entry.Entry, Push.IsForest}
 use Rattle.plan_forest.specs.Forest.{Forest, end_of, entry_at}
-use Rattle.plan_forest.specs.Push.{IsForest}
 use Rattle.plan_forest.proofs.Entries.{entry_at_set_other, entry_at_set_same}
-use Rattle.plan_rule.specs.Asks.{asks, first_of}
-use Rattle.plan_rule.specs.declared.limit.TheConstants.{LIMIT}
-use Rattle.tick_keeper.specs.declared.event.Event.{Event}
+use Rattle.plan_rule.specs.{Asks.asks, Asks.first_of, declared.limit.TheConstants.LIMIT}
+use Rattle.tick_keeper.specs.{declared.event.Event.Event, declared.event.Output.Output, declared.fault.StepFault.StepFault, declared.shortened.ShortNeed.ShortNeed, LawsOfHistories.IsAnswerEvent, LawsOfNeeds.IsShortened}
+use Rattle.tick_keeper.specs.{Refusal.step_refusal, Refusal.waits_for, Replan.IsPlanOf, Replan.Replan, History.CoreHistory, History.CoreTurn, Shorten.pairs, Shorten.shorten, States.IsState, States.RoundIsOpened}
 use Rattle.tick_keeper.specs.declared.event.Event.TheVariants.{Tick, Told, Refused, Lost, Need}
-use Rattle.tick_keeper.specs.declared.event.Output.{Output}
-use Rattle.tick_keeper.specs.declared.event.Output.TheVariants as out
-use Rattle.tick_keeper.specs.declared.fault.StepFault.{StepFault}
 use Rattle.tick_keeper.specs.declared.fault.StepFault.TheVariants.{TooLong, OutOfMemory}
-use Rattle.tick_keeper.specs.declared.shortened.ShortNeed.{ShortNeed}
-use Rattle.tick_keeper.specs.LawsOfHistories.{IsAnswerEvent}
-use Rattle.tick_keeper.specs.LawsOfNeeds.{IsShortened}
 use Rattle.tick_keeper.specs.LawsOfSteps.{Adds, AddsLaw, AskLaw, StateLaw, state_with_need}
-use Rattle.tick_keeper.specs.Refusal.{step_refusal, waits_for}
-use Rattle.tick_keeper.specs.Replan.{IsPlanOf, Replan}
-use Rattle.tick_keeper.specs.History.{CoreHistory, CoreTurn}
-use Rattle.tick_keeper.specs.Shorten.{pairs, shorten}
 use Rattle.tick_keeper.specs.State.{CoreState, Round, unplanned}
-use Rattle.tick_keeper.specs.States.{IsState, RoundIsOpened}
 use Rattle.tick_keeper.specs.Step.{StepAnswer, StepNeed, StepTick, entry_after_answer, entry_of_event, left, round_opened, state_after_answer, with_entry_changed, with_new_need}
-use Rattle.tick_keeper.proofs.Changed.{answered_forest, needed_forest}
-use Rattle.tick_keeper.proofs.Refusals.{answer_taken}
-use Rattle.tick_keeper.proofs.Kept.{shortened, unchanged}
+use Rattle.tick_keeper.specs.declared.event.Output.TheVariants as out
+use Rattle.tick_keeper.proofs.{Changed.answered_forest, Changed.needed_forest, Kept.shortened, Kept.unchanged, Orders.replan_once, Shortening.shorten_forest, Standing.kept_plan, Standing.someone, Turns.open_sound, Turns.replan_force}
+use Rattle.tick_keeper.proofs.Refusals.{answer_taken, need_taken, tick_taken}
 use Rattle.tick_keeper.proofs.Opened.{answered_only, hears_more, opens}
-use Rattle.tick_keeper.proofs.Orders.{replan_once}
-use Rattle.tick_keeper.proofs.Shortening.{shorten_forest}
-use Rattle.tick_keeper.proofs.Standing.{kept_plan, someone}
-use Rattle.tick_keeper.proofs.Refusals.{need_taken, tick_taken}
-use Rattle.tick_keeper.proofs.Turns.{open_sound, replan_force}
 
 -- an answer that is taken: its entry is one, and is waited for, and leaves a forest at whatever moment
 pub record Hears (s : CoreState) (event : Event) : Type 0 where

@@ -1,15 +1,10 @@
 -- One event after another: a refusal is a turn of its own, and a history goes on with one turn more.
 use Rattle.std.proofs.Common.{◌≡◌, ◌++◌, Bool, true, false, cond, List, [], ◌∷◌, Option, Some, None, IfSome, Result, Err, is_some, length, nat_le, nat_lt, refl, subst}
 use Rattle.base_moment.specs.declared.moment.TheConstants.{LAST}
-use Rattle.tick_keeper.specs.declared.event.Event.{Event}
+use Rattle.tick_keeper.specs.{declared.event.Event.Event, declared.event.Output.Output, declared.fault.StepFault.StepFault, declared.refusal.TheConstants.LONGEST, Refusal.step_refusal, Refusal.waits_for}
+use Rattle.tick_keeper.specs.{History.CoreHistory, History.CoreTurn, State.CoreState, State.Round}
 use Rattle.tick_keeper.specs.declared.event.Event.TheVariants.{Tick, Told, Refused, Lost, Need}
-use Rattle.tick_keeper.specs.declared.event.Output.{Output}
-use Rattle.tick_keeper.specs.declared.fault.StepFault.{StepFault}
 use Rattle.tick_keeper.specs.declared.fault.StepFault.TheVariants.{ClockBack, RoundOpen, NotAsked, BadIndex, OutOfRange, TooLong, OutOfMemory}
-use Rattle.tick_keeper.specs.declared.refusal.TheConstants.{LONGEST}
-use Rattle.tick_keeper.specs.Refusal.{step_refusal, waits_for}
-use Rattle.tick_keeper.specs.History.{CoreHistory, CoreTurn}
-use Rattle.tick_keeper.specs.State.{CoreState, Round}
 
 -- a fault that does not come of planning anew
 abbrev IsEarly : StepFault → Type 0

@@ -1,17 +1,11 @@
 -- Each turn leaves a plan in force: for the law of the plan in force.
 use Rattle.std.proofs.Common.{◌≡◌, ℕ, [], ◌∷◌, Some, None, Result, Ok, Err, sym, ap, ◌∙◌, subst}
-use Rattle.tick_keeper.specs.declared.event.Event.{Event}
+use Rattle.tick_keeper.specs.{declared.event.Event.Event, declared.event.Output.Output, declared.fault.StepFault.StepFault, InForce.InForce, InForce.InForceBetweenRounds, LawsOfHistories.InForceLaw, Replan.Replan, History.CoreTurn}
+use Rattle.tick_keeper.specs.{State.CoreState, State.Round}
 use Rattle.tick_keeper.specs.declared.event.Event.TheVariants.{Tick, Told, Refused, Lost, Need}
-use Rattle.tick_keeper.specs.declared.event.Output.{Output}
-use Rattle.tick_keeper.specs.declared.event.Output.TheVariants as out
-use Rattle.tick_keeper.specs.declared.fault.StepFault.{StepFault}
 use Rattle.tick_keeper.specs.declared.fault.StepFault.TheVariants.{TooLong, OutOfMemory}
-use Rattle.tick_keeper.specs.InForce.{InForce, InForceBetweenRounds}
-use Rattle.tick_keeper.specs.LawsOfHistories.{InForceLaw}
-use Rattle.tick_keeper.specs.Replan.{Replan}
-use Rattle.tick_keeper.specs.History.{CoreTurn}
-use Rattle.tick_keeper.specs.State.{CoreState, Round}
 use Rattle.tick_keeper.specs.Step.{StepAnswer, StepNeed, StepTick}
+use Rattle.tick_keeper.specs.declared.event.Output.TheVariants as out
 
 pub replan_force : (old : CoreState) (t : ℕ) (new : CoreState) → Replan old t new → InForce new
 replan_force old t new r = subst InForce (sym r.is) (r.best, r.few)

@@ -1,8 +1,7 @@
 -- The flags of an open round: who is waited for, and one answer more.
 use Rattle.std.proofs.Common.{◌≡◌, ◌==◌, ◌∙◌, ℕ, zero, suc, ◌+◌, ◌<◌, ◌≤◌, Bool, true, false, cond, List, ◌∷◌, filter, length, refl, sym, ap, subst, arith, inl, inr}
+use Rattle.std.proofs.lemmas.{Bool.Decides.nat_tests, List.get_or_past}
 use Rattle.std.proofs.lemmas.Bool.{cases_Bool, cases_eq, cases_lt}
-use Rattle.std.proofs.lemmas.Bool.Decides.{nat_tests}
-use Rattle.std.proofs.lemmas.List.{get_or_past}
 use Rattle.std.specs.List.{list_any, range_with_len}
 use Rattle.plan_forest.proofs.Carrying.{or_left, or_parts, or_right}
 use Rattle.tick_keeper.specs.code.Keeping.{flag_of, waited_for}

@@ -1,40 +1,24 @@
 -- What a tick finds: whose answers a round waits for that opens, the plan that stays or is made anew, and what it says.
 use Rattle.std.proofs.Common.{◌≡◌, ◌==◌, ◌∙◌, ℕ, zero, suc, ◌+◌, ◌<◌, ◌≤◌, ◌||◌, Bool, true, false, cond, List, [], ◌∷◌, Option, Some, None, filter, get_or, length, nat_lt, set, take, refl, sym, ap, subst, arith, inl, inr}
-use Rattle.std.proofs.lemmas.Bool.{cases_Bool, cases_eq}
-use Rattle.std.proofs.lemmas.Bool.Decides.{nat_tests}
+use Rattle.std.proofs.lemmas.{Bool.cases_Bool, Bool.cases_eq, Bool.Decides.nat_tests, List.Folds.list_any-append}
 use Rattle.std.proofs.lemmas.List.{get_or-set_other, get_or-set_same, length-set, take_more}
 use Rattle.std.proofs.lemmas.List.Elements.{All-from_get_or, All-get_or, All-nil}
-use Rattle.std.proofs.lemmas.List.Folds.{list_any-append}
 use Rattle.std.specs.List.{All, list_any, range_with_len}
 use Rattle.base_moment.specs.declared.moment.TheConstants.{LAST}
-use Rattle.plan_forest.specs.declared.entry.Entry.{Entry}
-use Rattle.plan_forest.specs.Forest.{Forest, end_of}
-use Rattle.plan_forest.specs.Push.{IsForest}
+use Rattle.plan_forest.specs.{declared.entry.Entry.Entry, Forest.Forest, Forest.end_of, Push.IsForest}
 use Rattle.plan_forest.proofs.Carrying.{or_left, or_right}
+use Rattle.plan_rule.specs.{Plans.asks_past, declared.force.Force.Force, Runs.moments_of}
 use Rattle.plan_rule.specs.Asks.{asks, first_of, is_to_be_asked}
-use Rattle.plan_rule.specs.Plans.{asks_past}
-use Rattle.plan_rule.proofs.Asking.{asks_within}
-use Rattle.plan_rule.proofs.LaterStart.{same_asks}
+use Rattle.plan_rule.proofs.{Asking.asks_within, LaterStart.same_asks}
 use Rattle.plan_needs.specs.Carried.{IsCarried}
-use Rattle.plan_rule.specs.declared.force.Force.{Force}
-use Rattle.plan_rule.specs.Runs.{moments_of}
 use Rattle.plan_search.specs.Planned.{IsTail, Planned, next_after, to_come}
-use Rattle.tick_keeper.specs.declared.event.Output.{Output}
-use Rattle.tick_keeper.specs.declared.event.Output.TheVariants as out
-use Rattle.tick_keeper.specs.declared.opening.Opening.{Opening}
-use Rattle.tick_keeper.specs.InForce.{AllForcedAs}
+use Rattle.tick_keeper.specs.{declared.event.Output.Output, declared.opening.Opening.Opening, InForce.AllForcedAs, Replan.IsPlanOf, Replan.Replan, State.CoreState, States.RoundIsOpened}
 use Rattle.tick_keeper.specs.code.Keeping.{IsKeeper, IsOpen, flag_of, waited_for}
-use Rattle.tick_keeper.specs.Replan.{IsPlanOf, Replan}
-use Rattle.tick_keeper.specs.State.{CoreState}
-use Rattle.tick_keeper.specs.States.{RoundIsOpened}
 use Rattle.tick_keeper.specs.Step.{IsDueBy, StepTick, round_opened}
 use Rattle.tick_keeper.specs.code.Waking.{AreFlags, CoreWakes, IsRoundOpening, is_late}
+use Rattle.tick_keeper.specs.declared.event.Output.TheVariants as out
+use Rattle.tick_keeper.proofs.{Forces.still_forced, Made.count_moments, Opened.opens as opens_whole, Standing.best_first, Standing.tick, Waiting.kept_test, Waiting.kept_there}
 use Rattle.tick_keeper.proofs.ByRule.{next_is, opens_by_rule, rises_strictly}
-use Rattle.tick_keeper.proofs.Forces.{still_forced}
-use Rattle.tick_keeper.proofs.Made.{count_moments}
-use Rattle.tick_keeper.proofs.Opened.{opens as opens_whole}
-use Rattle.tick_keeper.proofs.Standing.{best_first, tick}
-use Rattle.tick_keeper.proofs.Waiting.{kept_test, kept_there}
 
 -- tests that agree on a range keep the same of it
 agree_in : (p q : ℕ → Bool) (n a : ℕ) → ((i : ℕ) → a ≤ i → i < a + n → p i ≡ q i) → filter p (range_with_len a n) ≡ filter q (range_with_len a n)

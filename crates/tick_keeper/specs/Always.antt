@@ -3,12 +3,10 @@
 use Rattle.std.specs.Prelude.{◌≡◌, ℕ, ◌+◌, ◌≤◌, Bool, true, false, if◌then◌else◌, List, Option, Some, None, length, map, min, slice_index_or}
 use Rattle.std.specs.List.{range_with_len}
 use Rattle.base_moment.specs.declared.moment.TheConstants.{LAST}
-use Rattle.plan_forest.specs.declared.entry.Entry.{Entry}
+use Rattle.plan_forest.specs.{declared.entry.Entry.Entry, Push.IsForest}
 use Rattle.plan_forest.specs.Forest.{Forest, end_of, entry_at}
-use Rattle.plan_forest.specs.Push.{IsForest}
 use Rattle.plan_rule.specs.Unkeepable.{AllKeepable}
-use Rattle.tick_keeper.specs.declared.always.TheConstants.{YEAR}
-use Rattle.tick_keeper.specs.Shorten.{is_short, least_reach}
+use Rattle.tick_keeper.specs.{declared.always.TheConstants.YEAR, Shorten.is_short, Shorten.least_reach}
 
 -- as far as it reaches, or a year from s where nothing limits it; no later than the last moment
 abbrev pub until_reach : Option ℕ → ℕ → ℕ

@@ -1,12 +1,8 @@
 -- History: what every list of events gives.
 -- Source: this project's own.
 use Rattle.std.specs.Prelude.{◌≡◌, List, [], ◌∷◌, Some, None, Result, Ok, Err}
-use Rattle.tick_keeper.specs.declared.event.Event.{Event}
-use Rattle.tick_keeper.specs.declared.event.Output.{Output}
-use Rattle.tick_keeper.specs.declared.fault.StepFault.{StepFault}
+use Rattle.tick_keeper.specs.{declared.event.Event.Event, declared.event.Output.Output, declared.fault.StepFault.StepFault, Refusal.step_refusal, State.CoreState}
 use Rattle.tick_keeper.specs.declared.fault.StepFault.TheVariants.{TooLong, OutOfMemory}
-use Rattle.tick_keeper.specs.Refusal.{step_refusal}
-use Rattle.tick_keeper.specs.State.{CoreState}
 use Rattle.tick_keeper.specs.Step.{CoreStep, StepMayWantMemory, StepTooLong}
 
 -- what an event gives: a step; or a refusal, which leaves the state. Lack of memory may take the place of a step

@@ -2,11 +2,8 @@
 -- Source: this project's own.
 use Rattle.std.specs.Prelude.{◌≡◌, ℕ, ◌≤◌, List, [], ◌∷◌, Option, Some, None, length}
 use Rattle.plan_forest.specs.declared.entry.Entry.{Entry}
-use Rattle.plan_rule.specs.Forced.{Forced}
-use Rattle.plan_rule.specs.declared.force.Force.{Force}
-use Rattle.plan_rule.specs.declared.limit.TheConstants.{LIMIT}
-use Rattle.tick_keeper.specs.Replan.{IsPlanOf}
-use Rattle.tick_keeper.specs.State.{CoreState}
+use Rattle.plan_rule.specs.{Forced.Forced, declared.force.Force.Force, declared.limit.TheConstants.LIMIT}
+use Rattle.tick_keeper.specs.{Replan.IsPlanOf, State.CoreState}
 
 -- the moments to come are those of the least and latest plan for the ends as told and the needs in force, from the last
 -- moment

@@ -1,16 +1,8 @@
 -- Laws of histories: what holds over every list of events. Each is the contract of a public function without a body.
 use Rattle.std.specs.Prelude.{◌≡◌, ◌==◌, ◌≢◌, ℕ, true, if◌then◌else◌, List, [], ◌∷◌, Option, Some, None, Result, Ok, Err}
-use Rattle.tick_keeper.specs.declared.event.Event.{Event}
+use Rattle.tick_keeper.specs.{declared.event.Event.Event, declared.event.Output.Output, declared.fault.StepFault.StepFault, declared.fault.StepFault.TheVariants.OutOfMemory, InForce.InForceBetweenRounds}
+use Rattle.tick_keeper.specs.{Refusal.TellsSpan, Refusal.waits_for, History.CoreHistory, State.CoreState, State.Round, States.IsState, Step.entry_of_event, Step.left}
 use Rattle.tick_keeper.specs.declared.event.Event.TheVariants.{Tick, Told, Refused, Lost, Need}
-use Rattle.tick_keeper.specs.declared.event.Output.{Output}
-use Rattle.tick_keeper.specs.declared.fault.StepFault.{StepFault}
-use Rattle.tick_keeper.specs.declared.fault.StepFault.TheVariants.{OutOfMemory}
-use Rattle.tick_keeper.specs.InForce.{InForceBetweenRounds}
-use Rattle.tick_keeper.specs.Refusal.{TellsSpan, waits_for}
-use Rattle.tick_keeper.specs.History.{CoreHistory}
-use Rattle.tick_keeper.specs.State.{CoreState, Round}
-use Rattle.tick_keeper.specs.States.{IsState}
-use Rattle.tick_keeper.specs.Step.{entry_of_event, left}
 
 abbrev pub IsAnswerEvent : Event → Type 0
 IsAnswerEvent (Tick t) = ⊥

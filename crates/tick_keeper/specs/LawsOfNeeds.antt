@@ -2,15 +2,11 @@
 -- function without a body.
 use Rattle.std.specs.Prelude.{◌≡◌, ℕ, ◌+◌, ◌≤◌, ◌<◌, List, [], length}
 use Rattle.std.specs.List.{All, Contains}
-use Rattle.plan_forest.specs.Forest.{Forest, end_of, entry_at}
 use Rattle.plan_forest.specs.Push.{IsForest}
-use Rattle.plan_rule.specs.declared.wake.Wake.{Wake}
+use Rattle.plan_forest.specs.Forest.{Forest, end_of, entry_at}
+use Rattle.plan_rule.specs.{declared.wake.Wake.Wake, Plans.IsPlan, Unkeepable.AllKeepable}
 use Rattle.plan_rule.specs.Keeps.{Alive, Keeps, ends_at}
-use Rattle.plan_rule.specs.Plans.{IsPlan}
-use Rattle.plan_rule.specs.Unkeepable.{AllKeepable}
-use Rattle.tick_keeper.specs.declared.shortened.ShortNeed.{ShortNeed}
-use Rattle.tick_keeper.specs.Replan.{IsPlanOf}
-use Rattle.tick_keeper.specs.Shorten.{pairs, shorten}
+use Rattle.tick_keeper.specs.{declared.shortened.ShortNeed.ShortNeed, Replan.IsPlanOf, Shorten.pairs, Shorten.shorten}
 
 -- under a plan from t, i is kept to n: it is alive at each moment from t on and before n
 abbrev pub IsKeptTo : Forest → ℕ → List Wake → ℕ → ℕ → Type 0

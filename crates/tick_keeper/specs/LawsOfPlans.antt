@@ -2,18 +2,11 @@
 -- a body.
 use Rattle.std.specs.Prelude.{◌≡◌, ℕ, ◌≤◌, ◌<◌, if◌then◌else◌, List, [], ◌∷◌, Option, None, length}
 use Rattle.std.specs.List.{All}
+use Rattle.plan_forest.specs.{Push.IsForest, Renewal.renewal}
 use Rattle.plan_forest.specs.Forest.{Forest, end_of, entry_at}
-use Rattle.plan_forest.specs.Push.{IsForest}
-use Rattle.plan_forest.specs.Renewal.{renewal}
+use Rattle.plan_rule.specs.{Ends.is_asked, Runs.moments_of, declared.force.Force.Force}
 use Rattle.plan_rule.specs.Asks.{asking, asks, first_of}
-use Rattle.plan_rule.specs.Ends.{is_asked}
-use Rattle.plan_rule.specs.Runs.{moments_of}
-use Rattle.plan_rule.specs.declared.force.Force.{Force}
-use Rattle.tick_keeper.specs.InForce.{AllForcedAs, InForce}
-use Rattle.tick_keeper.specs.Replan.{IsPlanOf, Replan}
-use Rattle.tick_keeper.specs.Shorten.{pairs, shorten}
-use Rattle.tick_keeper.specs.State.{CoreState}
-use Rattle.tick_keeper.specs.States.{ForestIsAnswered}
+use Rattle.tick_keeper.specs.{InForce.AllForcedAs, InForce.InForce, Replan.IsPlanOf, Replan.Replan, Shorten.pairs, Shorten.shorten, State.CoreState, States.ForestIsAnswered}
 
 -- a tick that is not late: the plan in force is what planning anew gives, and no need is shortened
 abbrev pub TickLaw : Type 0

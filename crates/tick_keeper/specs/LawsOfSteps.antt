@@ -3,23 +3,13 @@
 use Rattle.std.specs.Prelude.{◌≡◌, ◌≢◌, ℕ, ◌≤◌, ◌<◌, List, ◌∷◌, ◌++◌, Some, Result, Ok, Err, length}
 use Rattle.std.specs.List.{All, Contains}
 use Rattle.base_moment.specs.declared.moment.TheConstants.{LAST}
-use Rattle.plan_forest.specs.Forest.{Forest, end_of, entry_at}
 use Rattle.plan_forest.specs.Push.{IsForest}
+use Rattle.plan_forest.specs.Forest.{Forest, end_of, entry_at}
 use Rattle.plan_rule.specs.Asks.{asks, first_of}
-use Rattle.tick_keeper.specs.declared.event.Event.{Event}
+use Rattle.tick_keeper.specs.{declared.event.Event.Event, declared.event.Output.Output, declared.fault.StepFault.StepFault, declared.fault.StepFault.TheVariants.OutOfMemory, declared.shortened.ShortNeed.ShortNeed, InForce.InForce}
+use Rattle.tick_keeper.specs.{LawsOfNeeds.IsShortened, Replan.Replan, History.CoreHistory, History.CoreTurn, State.CoreState, State.unplanned, States.IsState, Step.with_new_need}
 use Rattle.tick_keeper.specs.declared.event.Event.TheVariants.{Tick, Need}
-use Rattle.tick_keeper.specs.declared.event.Output.{Output}
 use Rattle.tick_keeper.specs.declared.event.Output.TheVariants as out
-use Rattle.tick_keeper.specs.declared.fault.StepFault.{StepFault}
-use Rattle.tick_keeper.specs.declared.fault.StepFault.TheVariants.{OutOfMemory}
-use Rattle.tick_keeper.specs.declared.shortened.ShortNeed.{ShortNeed}
-use Rattle.tick_keeper.specs.InForce.{InForce}
-use Rattle.tick_keeper.specs.LawsOfNeeds.{IsShortened}
-use Rattle.tick_keeper.specs.Replan.{Replan}
-use Rattle.tick_keeper.specs.History.{CoreHistory, CoreTurn}
-use Rattle.tick_keeper.specs.State.{CoreState, unplanned}
-use Rattle.tick_keeper.specs.States.{IsState}
-use Rattle.tick_keeper.specs.Step.{with_new_need}
 
 -- whatever events come after the opening, and whatever of them is refused, they lead to such a state
 abbrev pub StateLaw : Type 0

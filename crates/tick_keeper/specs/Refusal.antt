@@ -3,12 +3,9 @@
 use Rattle.std.specs.Prelude.{ℕ, ◌==◌, ◌≤◌, Bool, false, if◌then◌else◌, Option, Some, None, length, nat_lt, nat_le, is_some}
 use Rattle.std.specs.List.{list_any}
 use Rattle.base_moment.specs.declared.moment.TheConstants.{LAST}
-use Rattle.tick_keeper.specs.declared.event.Event.{Event}
+use Rattle.tick_keeper.specs.{declared.event.Event.Event, declared.fault.StepFault.StepFault, declared.refusal.TheConstants.LONGEST, State.CoreState, State.Round}
 use Rattle.tick_keeper.specs.declared.event.Event.TheVariants.{Tick, Told, Refused, Lost, Need}
-use Rattle.tick_keeper.specs.declared.fault.StepFault.{StepFault}
-use Rattle.tick_keeper.specs.declared.refusal.TheConstants.{LONGEST}
 use Rattle.tick_keeper.specs.declared.fault.StepFault.TheVariants.{ClockBack, RoundOpen, NotAsked, BadIndex, OutOfRange}
-use Rattle.tick_keeper.specs.State.{CoreState, Round}
 
 -- the seconds that are told, if any are, are a duration
 abbrev pub TellsSpan : Event → Type 0

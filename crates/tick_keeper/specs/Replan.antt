@@ -2,12 +2,9 @@
 -- Source: this project's own.
 use Rattle.std.specs.Prelude.{◌≡◌, ℕ, ◌≤◌, ◌<◌, List, ◌++◌, length}
 use Rattle.plan_forest.specs.Forest.{Forest, end_of}
-use Rattle.plan_rule.specs.Least.{IsLeastAndLatest}
-use Rattle.plan_rule.specs.declared.limit.TheConstants.{LIMIT}
-use Rattle.tick_keeper.specs.declared.fault.StepFault.{StepFault}
+use Rattle.plan_rule.specs.{Least.IsLeastAndLatest, declared.limit.TheConstants.LIMIT}
+use Rattle.tick_keeper.specs.{declared.fault.StepFault.StepFault, Shorten.pairs, Shorten.shorten, State.CoreState}
 use Rattle.tick_keeper.specs.declared.fault.StepFault.TheVariants.{OutOfMemory, TooLong}
-use Rattle.tick_keeper.specs.Shorten.{pairs, shorten}
-use Rattle.tick_keeper.specs.State.{CoreState}
 
 -- the moments are those of the one least and latest plan from t, for the ends and needs of a forest
 abbrev pub IsPlanOf : Forest → ℕ → List ℕ → Type 0

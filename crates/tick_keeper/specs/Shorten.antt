@@ -3,9 +3,8 @@
 -- renew, and revoke" (maximum TTL).
 use Rattle.std.specs.Prelude.{ℕ, Bool, false, ◌&&◌, if◌then◌else◌, List, [], ◌∷◌, Option, Some, None, filter, length, map, min, nat_lt}
 use Rattle.std.specs.List.{range_with_len}
-use Rattle.plan_forest.specs.declared.entry.Entry.{Entry}
+use Rattle.plan_forest.specs.{declared.entry.Entry.Entry, Over.chain}
 use Rattle.plan_forest.specs.Forest.{Forest, end_of, entry_at}
-use Rattle.plan_forest.specs.Over.{chain}
 use Rattle.plan_rule.specs.Reach.{reach}
 use Rattle.tick_keeper.specs.declared.shortened.ShortNeed.{ShortNeed}
 

@@ -2,15 +2,10 @@
 -- Source: this project's own.
 use Rattle.std.specs.Prelude.{◌≡◌, ◌≢◌, ℕ, ◌≤◌, true, false, List, [], ◌∷◌, Option, Some, length}
 use Rattle.base_moment.specs.declared.moment.TheConstants.{LAST}
-use Rattle.plan_forest.specs.Forest.{Forest, end_of, entry_at}
 use Rattle.plan_forest.specs.Push.{IsForest}
-use Rattle.plan_rule.specs.Asks.{asking, first_of}
-use Rattle.plan_rule.specs.Ends.{is_asked}
-use Rattle.plan_rule.specs.declared.limit.TheConstants.{LIMIT}
-use Rattle.tick_keeper.specs.InForce.{InForceBetweenRounds}
-use Rattle.tick_keeper.specs.Refusal.{waits_for}
-use Rattle.tick_keeper.specs.Replan.{IsPlanOf}
-use Rattle.tick_keeper.specs.State.{CoreState, Round}
+use Rattle.plan_forest.specs.Forest.{Forest, end_of, entry_at}
+use Rattle.plan_rule.specs.{Asks.asking, Asks.first_of, Ends.is_asked, declared.limit.TheConstants.LIMIT}
+use Rattle.tick_keeper.specs.{InForce.InForceBetweenRounds, Refusal.waits_for, Replan.IsPlanOf, State.CoreState, State.Round}
 
 -- h is g after answers to a round at t, whatever they were: an entry has changed in its end and in whether it is renewable
 -- alone, and only where it is among the Asks

@@ -4,12 +4,9 @@ use Rattle.std.specs.Prelude.{◌≡◌, ◌≢◌, ◌==◌, ℕ, ◌+◌, ◌<
 use Rattle.plan_forest.specs.declared.entry.Entry.{Entry}
 use Rattle.plan_forest.specs.Forest.{Forest, end_of, entry_at}
 use Rattle.plan_rule.specs.Asks.{asks, first_of}
-use Rattle.tick_keeper.specs.declared.event.Event.{Event}
+use Rattle.tick_keeper.specs.{declared.event.Event.Event, declared.event.Output.Output, Replan.ReplanTooLong, Replan.Replan, State.CoreState, State.Round}
 use Rattle.tick_keeper.specs.declared.event.Event.TheVariants.{Tick, Told, Refused, Lost, Need}
-use Rattle.tick_keeper.specs.declared.event.Output.{Output}
 use Rattle.tick_keeper.specs.declared.event.Output.TheVariants as out
-use Rattle.tick_keeper.specs.Replan.{ReplanTooLong, Replan}
-use Rattle.tick_keeper.specs.State.{CoreState, Round}
 
 -- the forest with the entry i changed
 abbrev pub with_entry_changed : Forest → ℕ → (Entry → Entry) → Forest

@@ -1,10 +1,6 @@
 -- Agents: whatever the keeper of an agent does, there is a credential for each of its entries.
 use Rattle.std.proofs.Common.{◌≡◌, ℕ, List, Result, ◌∙◌, subst, sym}
-use Rattle.tick_keeper.specs.declared.event.Event.{Event}
-use Rattle.tick_keeper.specs.declared.event.Output.{Output}
-use Rattle.tick_keeper.specs.declared.fault.StepFault.{StepFault}
-use Rattle.tick_keeper.specs.History.{CoreTurn}
-use Rattle.tick_keeper.specs.State.{CoreState}
+use Rattle.tick_keeper.specs.{declared.event.Event.Event, declared.event.Output.Output, declared.fault.StepFault.StepFault, History.CoreTurn, State.CoreState}
 use Rattle.tick_keeper.proofs.Shaped.{shape}
 use Rattle.tick_runs.specs.Agent.{AgentIsFit, RunAgent}
 

@@ -3,43 +3,28 @@
 use Rattle.std.proofs.Common.{◌≡◌, ◌∙◌, ◌==◌, ℕ, suc, ◌<◌, cond, List, [], ◌∷◌, ◌++◌, Option, Some, Result, Ok, codes, decimal, flat_map, length, map, refl, sym, ap, subst}
 use Rattle.std.proofs.lemmas.List.Elements.{All-head, All-tail}
 use Rattle.std.specs.List.{All}
-use Rattle.plan_forest.specs.declared.entry.Kind.{Kind}
-use Rattle.plan_forest.specs.Forest.{Forest, entry_at}
-use Rattle.vault_inventory.specs.Inventories.{IsInventory, Inventory, credential_at}
+use Rattle.plan_forest.specs.{declared.entry.Kind.Kind, Forest.Forest, Forest.entry_at}
 use Rattle.vault_inventory.specs.declared.terms.Terms.{Terms}
+use Rattle.vault_inventory.specs.Inventories.{IsInventory, Inventory, credential_at}
 use Rattle.vault_inventory.proofs.Inventories.{credential_text}
-use Rattle.vault_http.specs.declared.reply.Reply.{Reply}
-use Rattle.vault_http.specs.declared.request.Request.{Request}
-use Rattle.broker_rule.specs.declared.call.ApiCall.{ApiCall}
-use Rattle.broker_rule.specs.declared.refusal.Refusal.{Refusal}
-use Rattle.broker_rule.specs.declared.refusal.Refusal.TheVariants.{UnsupportedPath}
-use Rattle.broker_rule.specs.declared.row.BrokerRow.{BrokerRow}
-use Rattle.broker_rule.specs.declared.served.Served.{Served}
-use Rattle.broker_rule.specs.declared.served.Served.TheVariants as served
-use Rattle.broker_rule.specs.Granted.{call_for}
-use Rattle.broker_rule.specs.Request.{status_of_refusal}
+use Rattle.vault_http.specs.{declared.reply.Reply.Reply, declared.request.Request.Request}
+use Rattle.broker_rule.specs.{declared.call.ApiCall.ApiCall, declared.refusal.Refusal.Refusal, declared.refusal.Refusal.TheVariants.UnsupportedPath, declared.row.BrokerRow.BrokerRow, declared.served.Served.Served, Granted.call_for}
+use Rattle.broker_rule.specs.{Request.status_of_refusal}
 use Rattle.broker_rule.specs.Step.{BrokerAnswer, SaysAnswer, TellsRow, broker_step, drops, refuses as answer_refuses, seconds_to, tells}
-use Rattle.tick_keeper.specs.declared.event.Event.{Event}
+use Rattle.broker_rule.specs.declared.served.Served.TheVariants as served
+use Rattle.tick_keeper.specs.{declared.event.Event.Event, declared.event.Output.Output, declared.fault.StepFault.StepFault, History.CoreTurn, State.CoreState}
 use Rattle.tick_keeper.specs.declared.event.Event.TheVariants.{Told, Refused, Lost}
-use Rattle.tick_keeper.specs.declared.event.Output.{Output}
-use Rattle.tick_keeper.specs.declared.fault.StepFault.{StepFault}
-use Rattle.tick_keeper.specs.History.{CoreTurn}
-use Rattle.tick_keeper.specs.State.{CoreState}
-use Rattle.tick_keeper.proofs.Once.{once}
-use Rattle.tick_keeper.proofs.Shaped.{shape}
-use Rattle.vault_exchange.specs.Exchanges.{Behind}
-use Rattle.vault_exchange.specs.Requests.{renewal_request, reply_in_served}
+use Rattle.tick_keeper.proofs.{Once.once, Shaped.shape}
+use Rattle.vault_exchange.specs.{Exchanges.Behind, Requests.renewal_request, Requests.reply_in_served}
+use Rattle.broker_alike.specs.Answers.{AnswersOf, OutcomesOf}
 use Rattle.broker_alike.specs.Alike.{AreBrokersAlike, AreTablesAlike, KeepsSupplied}
+use Rattle.tick_runs.specs.Stops.{both}
 use Rattle.tick_runs.specs.Closed.{AreAnswered, Exchanged, RequestIsAnswered, World, closing, event_in, shorts_taken, told_next}
 use Rattle.tick_runs.specs.Replies.{event_if_refused, event_of, told_by_body}
-use Rattle.tick_runs.specs.Stops.{both}
-use Rattle.program_lines.specs.Text.{line, name_of}
 use Rattle.tick_runs.specs.Text.{answer_line, answer_text, short_need_lines, status_in}
-use Rattle.broker_alike.specs.Answers.{AnswersOf, OutcomesOf}
+use Rattle.program_lines.specs.Text.{line, name_of}
 use Rattle.broker_alike.proofs.Kept.{renewals_both}
-use Rattle.tick_runs.proofs.Shaped.{kept_shaped}
-use Rattle.tick_runs.proofs.OneAnswer.{asked_known, table_after}
-use Rattle.tick_runs.proofs.Replying.{sent_told}
+use Rattle.tick_runs.proofs.{Shaped.kept_shaped, OneAnswer.asked_known, OneAnswer.table_after, Replying.sent_told}
 
 -- ---- what is said of it
 

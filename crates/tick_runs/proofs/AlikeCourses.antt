@@ -3,30 +3,18 @@
 use Rattle.std.proofs.Common.{◌≡◌, ◌∙◌, ℕ, zero, suc, ◌+◌, ◌<◌, ◌≤◌, List, [], ◌∷◌, ◌++◌, Option, Some, None, Result, Ok, append-nil, arith, flat_map, inl, inr, length, map, refl, sym, ap, subst}
 use Rattle.std.specs.List.{AllZip, range_with_len}
 use Rattle.plan_forest.specs.Forest.{Forest}
-use Rattle.vault_inventory.specs.Inventories.{IsInventory, Inventory, credential_at}
 use Rattle.vault_inventory.specs.declared.terms.Terms.{Terms}
-use Rattle.broker_rule.specs.declared.fault.NumberedFault.{NumberedFault}
-use Rattle.broker_rule.specs.Rows.{broker_row, broker_rows}
-use Rattle.broker_rule.specs.Table.{BrokerTable}
-use Rattle.tick_keeper.specs.declared.event.Event.TheVariants.{Tick}
-use Rattle.tick_keeper.specs.declared.event.Output.{Output}
+use Rattle.vault_inventory.specs.Inventories.{IsInventory, Inventory, credential_at}
+use Rattle.broker_rule.specs.{declared.fault.NumberedFault.NumberedFault, Rows.broker_row, Rows.broker_rows, Table.BrokerTable}
+use Rattle.tick_keeper.specs.{declared.event.Event.TheVariants.Tick, declared.event.Output.Output, declared.fault.StepFault.StepFault, declared.shortened.ShortNeed.ShortNeed, History.CoreTurn, State.CoreState, State.unplanned}
 use Rattle.tick_keeper.specs.declared.event.Output.TheVariants as out
-use Rattle.tick_keeper.specs.declared.fault.StepFault.{StepFault}
-use Rattle.tick_keeper.specs.declared.shortened.ShortNeed.{ShortNeed}
-use Rattle.tick_keeper.specs.History.{CoreTurn}
-use Rattle.tick_keeper.specs.State.{CoreState, unplanned}
-use Rattle.tick_keeper.proofs.Once.{once}
-use Rattle.tick_keeper.proofs.Orders.{replan_once}
-use Rattle.tick_keeper.proofs.Shaped.{replanned, same as same_shape}
+use Rattle.tick_keeper.proofs.{Once.once, Orders.replan_once, Shaped.replanned, Shaped.same as same_shape}
 use Rattle.broker_alike.specs.Alike.{AreBrokersAlike, AreRowsAlike, AreTablesAlike, KeepsSupplied}
-use Rattle.tick_runs.specs.Closed.{Beat, IsClosedRun, IsRunOpening, Played, RunCourse, World, request_count, rounds, shorts_taken}
 use Rattle.tick_runs.specs.Stops.{RunIsStopped, both}
+use Rattle.tick_runs.specs.Closed.{Beat, IsClosedRun, IsRunOpening, Played, RunCourse, World, request_count, rounds, shorts_taken}
 use Rattle.tick_runs.specs.Text.{beat_text, course_text, done_text, short_need_lines}
 use Rattle.broker_alike.proofs.Kept.{kept_itself}
-use Rattle.tick_runs.proofs.Shaped.{kept_shaped}
-use Rattle.tick_runs.proofs.AlikeRuns.{Compared, compare}
-use Rattle.tick_runs.proofs.Goes.{joins, wakes_join}
-use Rattle.tick_runs.proofs.NextAsks.{no_more, round_more}
+use Rattle.tick_runs.proofs.{Shaped.kept_shaped, AlikeRuns.Compared, AlikeRuns.compare, Goes.joins, Goes.wakes_join, NextAsks.no_more, NextAsks.round_more}
 
 -- ---- where no tick is next, none comes
 

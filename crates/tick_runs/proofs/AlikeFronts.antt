@@ -1,16 +1,13 @@
 -- Alike fronts: of what two inventories that differ in credentials alone have written of their rehearsals so far, the one is a
 -- front of the other.
 use Rattle.std.proofs.Common.{◌≡◌, ◌∙◌, ℕ, ◌⊎◌, List, [], ◌++◌, Some, None, append-nil, flat_map, inl, inr, length, refl, sym, ap, subst}
-use Rattle.std.proofs.lemmas.Grind.{flat_map-append}
-use Rattle.std.proofs.lemmas.List.{append_assoc}
+use Rattle.std.proofs.lemmas.{Grind.flat_map-append, List.append_assoc}
 use Rattle.plan_forest.specs.Forest.{Forest}
-use Rattle.vault_inventory.specs.Inventories.{IsInventory, Inventory}
-use Rattle.vault_inventory.specs.declared.terms.Terms.{Terms}
+use Rattle.vault_inventory.specs.{Inventories.IsInventory, Inventories.Inventory, declared.terms.Terms.Terms}
 use Rattle.broker_rule.specs.declared.fault.NumberedFault.{NumberedFault}
 use Rattle.tick_keeper.specs.declared.shortened.ShortNeed.{ShortNeed}
+use Rattle.tick_runs.specs.{Rehearse.IsRunText, Stops.RunIsStopped}
 use Rattle.tick_runs.specs.Closed.{Beat, IsClosedRun, Played, RunCourse, World, request_count, rounds}
-use Rattle.tick_runs.specs.Rehearse.{IsRunText}
-use Rattle.tick_runs.specs.Stops.{RunIsStopped}
 use Rattle.tick_runs.specs.Text.{beat_text, course_text, done_text, short_need_lines}
 use Rattle.tick_runs.proofs.AlikeCourses.{compare_from, ended, openings_both, whole}
 

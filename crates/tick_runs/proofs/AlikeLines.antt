@@ -1,32 +1,24 @@
 -- Alike lines: over two brokers whose tables differ in credentials alone, one keeper says the same to the same event lines.
 use Rattle.std.proofs.Common.{◌≡◌, ◌∙◌, ℕ, ◌<◌, true, List, [], ◌∷◌, ◌++◌, Option, Some, None, Ok, codes, nat_lt, refl, sym, ap, subst, arith, inl, inr}
-use Rattle.std.proofs.lemmas.Bool.{cases_Bool, cond-true, cond-false}
 use Rattle.std.proofs.lemmas.Bool.Decides.{nat_tests}
+use Rattle.std.proofs.lemmas.Bool.{cases_Bool, cond-true, cond-false}
 use Rattle.base_moment.specs.declared.moment.TheConstants.{LAST}
 use Rattle.plan_forest.specs.Forest.{Forest}
-use Rattle.vault_inventory.specs.Inventories.{IsInventory}
-use Rattle.vault_inventory.specs.declared.terms.Terms.{Terms}
+use Rattle.vault_inventory.specs.{Inventories.IsInventory, declared.terms.Terms.Terms}
 use Rattle.tick_keeper.specs.declared.event.Event.TheVariants as events
-use Rattle.tick_keeper.specs.declared.event.Output.{Output}
-use Rattle.tick_keeper.specs.declared.event.Output.TheVariants as out
+use Rattle.tick_keeper.specs.{declared.event.Output.Output, History.CoreTurn, Refusal.step_refusal, Refusal.unless_closed, State.CoreState}
 use Rattle.tick_keeper.specs.declared.fault.StepFault.TheVariants.{ClockBack, OutOfRange}
-use Rattle.tick_keeper.specs.History.{CoreTurn}
-use Rattle.tick_keeper.specs.Refusal.{step_refusal, unless_closed}
-use Rattle.tick_keeper.specs.State.{CoreState}
-use Rattle.tick_keeper.proofs.Once.{once}
-use Rattle.tick_keeper.proofs.Shaped.{shape}
+use Rattle.tick_keeper.specs.declared.event.Output.TheVariants as out
+use Rattle.tick_keeper.proofs.{Once.once, Shaped.shape}
 use Rattle.vault_exchange.specs.Exchanges.{Behind}
 use Rattle.broker_alike.specs.Alike.{AreBrokersAlike, KeepsSupplied}
-use Rattle.tick_runs.specs.Secrecy.{AlikeAnswersLaw, AreWorldsAlike}
+use Rattle.tick_runs.specs.{Secrecy.AlikeAnswersLaw, Secrecy.AreWorldsAlike, Listening.EventLineIsHeard, Listening.EventLinesAreHeard, Stops.both}
 use Rattle.tick_runs.specs.Closed.{Exchanged, World, next_by, shorts_taken}
+use Rattle.tick_runs.specs.Hearing.{EventIsHeard, NeedIsInForce, TicksLive, last_tick_line, next_tick_line}
+use Rattle.tick_runs.specs.Text.{beat_text, inventory_with, short_need_lines}
 use Rattle.program_lines.specs.declared.event_line.HeardLine.{HeardLine}
 use Rattle.program_lines.specs.declared.event_line.HeardLine.TheVariants.{Tick, Need, Unknown}
-use Rattle.tick_runs.specs.Listening.{EventLineIsHeard, EventLinesAreHeard}
-use Rattle.tick_runs.specs.Hearing.{EventIsHeard, NeedIsInForce, TicksLive, last_tick_line, next_tick_line}
-use Rattle.tick_runs.specs.Stops.{both}
-use Rattle.tick_runs.specs.Text.{beat_text, inventory_with, short_need_lines}
-use Rattle.tick_runs.proofs.Shaped.{kept_shaped}
-use Rattle.tick_runs.proofs.AlikeRuns.{beats_both}
+use Rattle.tick_runs.proofs.{Shaped.kept_shaped, AlikeRuns.beats_both}
 
 -- a tick before the last moment is no step
 late_refused : (s k : CoreState) (t : ℕ) (output : Output) → t < s.last → CoreTurn s (events.Tick t) (Ok output) k → ⊥

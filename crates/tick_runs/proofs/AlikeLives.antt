@@ -7,14 +7,9 @@ use Rattle.tick_keeper.proofs.Shaped.{replanned}
 use Rattle.vault_start.specs.Start.{from_start}
 use Rattle.vault_start.proofs.Started.{shaped_start}
 use Rattle.broker_alike.specs.Alike.{KeepsSupplied}
-use Rattle.tick_runs.specs.Closed.{World, shorts_taken}
-use Rattle.tick_runs.specs.Listening.{EventLinesAreHeard}
-use Rattle.tick_runs.specs.LiveRun.{IsLiveRun}
-use Rattle.tick_runs.specs.Looking.{Looked}
+use Rattle.tick_runs.specs.{Closed.World, Closed.shorts_taken, Listening.EventLinesAreHeard, LiveRun.IsLiveRun, Looking.Looked}
 use Rattle.tick_runs.specs.Secrecy.{AlikeRunsLaw, AlikeSoFarLaw, AlikeWholeLaw, IsBeginningOf}
-use Rattle.tick_runs.proofs.Shaped.{kept_shaped}
-use Rattle.tick_runs.proofs.AlikeLines.{alike_answers}
-use Rattle.tick_runs.proofs.AlikeLookups.{opened_both, opened_looked}
+use Rattle.tick_runs.proofs.{Shaped.kept_shaped, AlikeLines.alike_answers, AlikeLookups.opened_both, AlikeLookups.opened_looked}
 use Rattle.vault_json.specs.Laws.{LookedLeaseIsRead}
 
 alike_whole : LookedLeaseIsRead → AlikeWholeLaw

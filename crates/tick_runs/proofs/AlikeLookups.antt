@@ -1,63 +1,38 @@
 -- Alike lookups: over two brokers whose tables differ in credentials alone, lookups make of two inventories that do the same, and
 -- a run is opened by one text.
 use Rattle.std.proofs.Common.{◌≡◌, ◌∙◌, ◌==◌, ℕ, ◌+◌, ◌<◌, ◌≤◌, Bool, true, false, cond, is_none, List, [], ◌∷◌, ◌++◌, Option, Some, None, IfSome, Result, Ok, Err, bytes_eq, length, nat_le, option_map, refl, sym, ap, subst, arith}
-use Rattle.std.proofs.lemmas.Bool.{cond-true}
-use Rattle.std.proofs.lemmas.List.Elements.{All-head, All-tail}
+use Rattle.std.proofs.lemmas.{Bool.cond-true, List.Elements.All-head, List.Elements.All-tail}
 use Rattle.std.specs.List.{All}
-use Rattle.tick_keeper.specs.Replan.{Replan}
-use Rattle.tick_keeper.specs.State.{CoreState, unplanned}
+use Rattle.tick_keeper.specs.{Replan.Replan, State.CoreState, State.unplanned}
 use Rattle.tick_keeper.proofs.Orders.{replan_once}
-use Rattle.vault_exchange.specs.declared.fault.ExchangeFault.{ExchangeFault}
-use Rattle.vault_exchange.specs.declared.fault.ExchangeFault.TheVariants.{Http}
+use Rattle.vault_exchange.specs.{declared.fault.ExchangeFault.ExchangeFault, declared.fault.ExchangeFault.TheVariants.Http, Requests.lookup_of, Requests.looked_as}
 use Rattle.vault_exchange.specs.Exchanges.{Behind, IsExchanged, received, reply_that_came, wire_of}
 use Rattle.vault_exchange.specs.Lookups.{EntryIsLookedUp, applied, behind_if, inventory_after_lookup, lookup_in}
-use Rattle.vault_exchange.specs.Requests.{lookup_of, looked_as}
+use Rattle.vault_inventory.specs.{declared.lookup.LookupFault.LookupFault, declared.terms.Terms.Terms}
 use Rattle.vault_inventory.specs.Inventories.{IsInventory, Inventory, credential_at, terms_at}
 use Rattle.vault_inventory.specs.Lookup.{lookup_fault, told, told_entry, told_terms}
-use Rattle.vault_inventory.specs.declared.lookup.LookupFault.{LookupFault}
 use Rattle.vault_inventory.specs.declared.lookup.LookupFault.TheVariants.{OtherEntry, OtherKind}
-use Rattle.vault_inventory.specs.declared.terms.Terms.{Terms}
 use Rattle.vault_inventory.proofs.Inventories.{credential_text}
 use Rattle.base_moment.specs.declared.moment.TheConstants.{LAST}
-use Rattle.plan_forest.specs.declared.entry.Entry.{Entry}
-use Rattle.plan_forest.specs.declared.entry.Kind.{Kind}
+use Rattle.plan_forest.specs.{declared.entry.Entry.Entry, declared.entry.Kind.Kind, Forest.Forest, Forest.entry_at, Push.is_lease}
 use Rattle.plan_forest.specs.declared.entry.Kind.TheVariants.{Token, Lease}
-use Rattle.plan_forest.specs.Forest.{Forest, entry_at}
-use Rattle.plan_forest.specs.Push.{is_lease}
+use Rattle.broker_rule.specs.{declared.refusal.Refusal.Refusal, declared.refusal.Refusal.TheVariants.UnsupportedPath, declared.row.BrokerRow.BrokerRow, declared.served.Served.Served, Request.status_of_refusal, Table.BrokerTable}
 use Rattle.broker_rule.specs.declared.call.ApiCall.TheVariants.{LookupSelf, LookupLease}
-use Rattle.broker_rule.specs.declared.refusal.Refusal.{Refusal}
-use Rattle.broker_rule.specs.declared.refusal.Refusal.TheVariants.{UnsupportedPath}
-use Rattle.broker_rule.specs.declared.row.BrokerRow.{BrokerRow}
-use Rattle.broker_rule.specs.declared.served.Served.{Served}
-use Rattle.broker_rule.specs.declared.served.Served.TheVariants as served
-use Rattle.broker_rule.specs.Request.{status_of_refusal}
-use Rattle.broker_rule.specs.Table.{BrokerTable}
 use Rattle.broker_rule.specs.Step.{BrokerAnswer, IsReplyBody, SaysAnswer, TellsRow, broker_step, drops, refuses, seconds_to, tells}
+use Rattle.broker_rule.specs.declared.served.Served.TheVariants as served
 use Rattle.vault_http.specs.declared.http_fault.HttpFault.TheVariants as https
-use Rattle.vault_http.specs.declared.known.TheConstants.{MOST_MESSAGE}
-use Rattle.vault_http.specs.declared.reply.Reply.{Reply}
-use Rattle.vault_http.specs.declared.request.Request.{Request}
-use Rattle.vault_http.specs.Written.{reply_text}
-use Rattle.vault_json.specs.declared.fault.ReplyFault.{ReplyFault}
-use Rattle.vault_json.specs.declared.lookup.Lookup.{Lookup}
+use Rattle.vault_http.specs.{declared.known.TheConstants.MOST_MESSAGE, declared.reply.Reply.Reply, declared.request.Request.Request, Written.reply_text}
+use Rattle.vault_json.specs.{declared.fault.ReplyFault.ReplyFault, declared.lookup.Lookup.Lookup, Laws.LookedLeaseIsRead, Lookup.lookup_lease_answer, Written.looked_self_text}
 use Rattle.vault_json.specs.declared.lookup.Lookup.TheVariants as lookups
-use Rattle.vault_json.specs.Laws.{LookedLeaseIsRead}
-use Rattle.vault_json.specs.Lookup.{lookup_lease_answer}
-use Rattle.vault_json.specs.Written.{looked_self_text}
 use Rattle.vault_start.specs.Start.{from_start}
 use Rattle.broker_alike.specs.Alike.{AreBrokersAlike, AreDated, AreTablesAlike, KeepsSupplied}
-use Rattle.tick_runs.specs.Closed.{World, shorts_taken}
-use Rattle.tick_runs.specs.LiveRun.{IsLiveOpening}
+use Rattle.broker_alike.specs.Answers.{AnswersOf, Speaks, look_for}
+use Rattle.tick_runs.specs.{Closed.World, Closed.shorts_taken, LiveRun.IsLiveOpening, Text.short_need_lines}
 use Rattle.tick_runs.specs.Looking.{AreLookedUp, Looked, first_indices, looked_text}
 use Rattle.tick_runs.specs.Secrecy.{AlikeLookupsLaw, AlikeOpeningsLaw, AreLookedAlike, AreWorldsAlike}
-use Rattle.tick_runs.specs.Text.{short_need_lines}
 use Rattle.tick_runs.proofs.Within.{all_to}
-use Rattle.broker_alike.proofs.Kept.{kept_itself, kept_with}
-use Rattle.broker_alike.specs.Answers.{AnswersOf, Speaks, look_for}
-use Rattle.broker_alike.proofs.Dated.{if_both, step_dated}
-use Rattle.broker_alike.proofs.Looks.{looks_both}
+use Rattle.broker_alike.proofs.{Kept.kept_itself, Kept.kept_with, Dated.if_both, Dated.step_dated, Looks.looks_both, Steps.by_kind}
 use Rattle.broker_alike.proofs.Received.{brief, lease_read, lease_told, own_lease, reply_of_parts}
-use Rattle.broker_alike.proofs.Steps.{by_kind}
 
 -- ---- what a lookup leaves of the forest
 

@@ -3,25 +3,16 @@
 use Rattle.std.proofs.Common.{◌≡◌, ◌∙◌, ℕ, suc, ◌+◌, ◌<◌, ◌⊎◌, cond, List, [], ◌∷◌, ◌++◌, Option, Some, None, Result, Ok, flat_map, inl, inr, length, map, refl, sym, ap, subst}
 use Rattle.std.specs.List.{All}
 use Rattle.plan_forest.specs.Forest.{Forest}
-use Rattle.vault_inventory.specs.Inventories.{IsInventory, Inventory}
-use Rattle.vault_inventory.specs.declared.terms.Terms.{Terms}
-use Rattle.tick_keeper.specs.declared.event.Event.TheVariants.{Tick}
-use Rattle.tick_keeper.specs.declared.event.Output.{Output}
+use Rattle.vault_inventory.specs.{Inventories.IsInventory, Inventories.Inventory, declared.terms.Terms.Terms}
+use Rattle.tick_keeper.specs.{declared.event.Event.TheVariants.Tick, declared.event.Output.Output, declared.fault.StepFault.StepFault, History.CoreTurn, State.CoreState}
 use Rattle.tick_keeper.specs.declared.event.Output.TheVariants as out
-use Rattle.tick_keeper.specs.declared.fault.StepFault.{StepFault}
-use Rattle.tick_keeper.specs.History.{CoreTurn}
-use Rattle.tick_keeper.specs.State.{CoreState}
-use Rattle.tick_keeper.proofs.Once.{once}
-use Rattle.tick_keeper.proofs.Shaped.{shape}
+use Rattle.tick_keeper.proofs.{Once.once, Shaped.shape}
 use Rattle.vault_exchange.specs.Exchanges.{Behind}
 use Rattle.broker_alike.specs.Alike.{AreBrokersAlike, KeepsSupplied}
-use Rattle.tick_runs.specs.Closed.{AreAnswered, Beat, Exchanged, IsBeat, Played, World, asked_by_output, asks_some, closing, next_by, next_tick, request_count, rounds, shorts_taken}
 use Rattle.tick_runs.specs.Stops.{both}
+use Rattle.tick_runs.specs.Closed.{AreAnswered, Beat, Exchanged, IsBeat, Played, World, asked_by_output, asks_some, closing, next_by, next_tick, request_count, rounds, shorts_taken}
 use Rattle.tick_runs.specs.Text.{answer_text, beat_text, short_need_lines, wake_line_of_output}
-use Rattle.tick_runs.proofs.AlikeAnswers.{answers_both}
-use Rattle.tick_runs.proofs.Running.{more_requests}
-use Rattle.tick_runs.proofs.Shaped.{kept_shaped}
-use Rattle.tick_runs.proofs.Within.{asked_within}
+use Rattle.tick_runs.proofs.{AlikeAnswers.answers_both, Running.more_requests, Shaped.kept_shaped, Within.asked_within}
 
 -- told by the names of a forest that has kept what this one had
 module _ (g : Forest) (cs ds : List (List ℕ)) (ts : List Terms) (one : IsInventory (record { forest = g; credentials = cs; terms = ts })) (two : IsInventory (record { forest = g; credentials = ds; terms = ts })) (names : Forest) (us : List Terms) (told : KeepsSupplied g names) where

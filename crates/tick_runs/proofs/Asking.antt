@@ -2,18 +2,13 @@
 use Rattle.std.proofs.Common.{◌≡◌, ℕ, zero, suc, ◌+◌, ◌&&◌, Bool, cond, List, [], ◌∷◌, Option, filter, length, max, nat_lt, refl, sym, ap, ◌∙◌}
 use Rattle.std.proofs.Math.Path.{fun_ext}
 use Rattle.std.specs.List.{range_with_len}
-use Rattle.plan_forest.specs.declared.entry.Entry.{Entry}
-use Rattle.plan_forest.specs.Carried.{carried, carried_of}
+use Rattle.plan_forest.specs.{declared.entry.Entry.Entry, Carried.carried, Carried.carried_of, Over.is_over, Push.IsForest, Renewal.all_last, Renewal.renewed}
 use Rattle.plan_forest.specs.Forest.{Forest, end_of, entry_at}
-use Rattle.plan_forest.specs.Over.{is_over}
-use Rattle.plan_forest.specs.Push.{IsForest}
-use Rattle.plan_forest.specs.Renewal.{all_last, renewed}
-use Rattle.plan_rule.specs.declared.wake.Wake.{Wake}
+use Rattle.plan_rule.specs.{declared.wake.Wake.Wake, Ends.ends_after_wake_up}
 use Rattle.plan_rule.specs.Asks.{asking, asks, first_of, is_end_due, is_to_be_asked, with_asks}
-use Rattle.plan_rule.specs.Ends.{ends_after_wake_up}
 use Rattle.tick_keeper.specs.LawsOfPlans.{IsAnsweredByRule}
-use Rattle.tick_keeper.proofs.Alike.{Alike, after_alike, all_last_alike, over_alike, renewed_alike}
 use Rattle.tick_keeper.proofs.Standing.{after_answers, answered_alike}
+use Rattle.tick_keeper.proofs.Alike.{Alike, after_alike, all_last_alike, over_alike, renewed_alike}
 
 -- alike, with the same needs
 record Twins (es fs : List Entry) : Type 0 where

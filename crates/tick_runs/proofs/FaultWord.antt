@@ -1,13 +1,10 @@
 -- Fault words: one word more.
 use Rattle.std.proofs.Common.{◌≡◌, ◌∙◌, ℕ, ◌+◌, List, [], ◌∷◌, ◌++◌, Option, Some, None, Result, Ok, Err, is_none, refl, sym, ap, subst}
 use Rattle.std.specs.Prelude.{IfSome, IsOkUnless}
+use Rattle.broker_rule.specs.{declared.fault.NumberedFault.NumberedFault, declared.fault.SetFault.SetFault, Faults.fault_refusal, Table.BrokerTable}
 use Rattle.broker_rule.specs.declared.fault.SetFault.TheVariants.{BadNumber, Twice, OutOfMemory}
 use Rattle.std.proofs.lemmas.Bool.{cond-true, cond-false}
-use Rattle.broker_rule.specs.declared.fault.NumberedFault.{NumberedFault}
-use Rattle.broker_rule.specs.declared.fault.SetFault.{SetFault}
-use Rattle.broker_rule.specs.Faults.{fault_refusal}
 use Rattle.tick_runs.specs.FaultWords.{SetsFaults, as_fault_list, fault_word, faults_from, faults_of, is_fault_taken, stop_at}
-use Rattle.broker_rule.specs.Table.{BrokerTable}
 
 pub word_taken :
     (before : List NumberedFault) (n : ℕ) (w : List ℕ) (ws : List (List ℕ)) (f : NumberedFault) → fault_word w ≡ Some f → fault_refusal before 0 f.number ≡ None → faults_from before n (w ∷ ws) ≡ faults_from (before ++ f ∷ []) (n + 1) ws

@@ -1,17 +1,14 @@
 -- Goes: a run goes on, by a wake-up and by another run.
 use Rattle.std.proofs.Common.{◌≡◌, ℕ, ◌+◌, List, [], ◌∷◌, ◌++◌, Option, Some, None, length, refl, sym, ap, ◌∙◌, subst, map, flat_map, arith}
-use Rattle.std.proofs.lemmas.Grind.{flat_map-append}
+use Rattle.std.proofs.lemmas.{Grind.flat_map-append, List.Elements.filter-append, List.Sums.sum_by-append}
 use Rattle.std.proofs.lemmas.List.{append-nil, append_assoc, length-append, length-map}
-use Rattle.std.proofs.lemmas.List.Elements.{filter-append}
-use Rattle.std.proofs.lemmas.List.Sums.{sum_by-append}
 use Rattle.vault_inventory.specs.Inventories.{Inventory}
 use Rattle.vault_exchange.specs.Exchanges.{Behind}
-use Rattle.tick_keeper.specs.LawsOfSteps.{IsShaped}
+use Rattle.tick_keeper.specs.{LawsOfSteps.IsShaped, State.CoreState}
 use Rattle.tick_keeper.specs.declared.event.Output.TheVariants as out
-use Rattle.tick_keeper.specs.State.{CoreState}
+use Rattle.tick_runs.specs.Stops.{WakeUpIsDue, both}
 use Rattle.tick_runs.specs.Closed.{AreAnswered, Beat, Exchanged, IsBeat, Played, World, asks_some, next_tick, request_count, rounds}
 use Rattle.tick_runs.specs.code.Playing.{AnswersAll, OpensAfterTicks, RunEnds, RunGoes}
-use Rattle.tick_runs.specs.Stops.{WakeUpIsDue, both}
 use Rattle.tick_runs.specs.Text.{answer_text, beat_text, inventory_with, short_need_lines, wake_line_of_output}
 use Rattle.tick_runs.proofs.Texts.{same_answer_texts, same_beat_texts, same_shorts, same_wake}
 

@@ -1,28 +1,20 @@
 -- In force: the run of an inventory is that of the one whose needs the opening leaves in force, for `least_law`.
 use Rattle.std.proofs.Common.{◌≡◌, ◌∙◌, ℕ, ◌<◌, ◌≤◌, List, [], ◌++◌, None, Some, ap, append-nil, arith, inl, inr, length, map, refl, subst, sym}
-use Rattle.std.proofs.lemmas.Bool.{cases_lt}
-use Rattle.std.proofs.lemmas.List.{length-map}
+use Rattle.std.proofs.lemmas.{Bool.cases_lt, List.length-map}
 use Rattle.std.proofs.Math.Path.{fun_ext}
 use Rattle.std.specs.List.{range_with_len}
-use Rattle.plan_forest.specs.declared.entry.Entry.{Entry}
-use Rattle.plan_forest.specs.Forest.{Forest, entry_at}
+use Rattle.plan_forest.specs.{declared.entry.Entry.Entry, Forest.Forest, Forest.entry_at}
 use Rattle.plan_forest.proofs.Entries.{entry_at_past}
-use Rattle.vault_inventory.specs.Inventories.{IsInventory, Inventory, credential_at, terms_at}
 use Rattle.vault_inventory.specs.declared.limits.TheConstants.{SPAN_MAX}
-use Rattle.broker_rule.specs.declared.row.BrokerRow.{BrokerRow}
-use Rattle.broker_rule.specs.Rows.{broker_row, broker_rows}
-use Rattle.tick_keeper.specs.Replan.{IsPlanOf, Replan}
+use Rattle.vault_inventory.specs.Inventories.{IsInventory, Inventory, credential_at, terms_at}
+use Rattle.broker_rule.specs.{declared.row.BrokerRow.BrokerRow, Rows.broker_row, Rows.broker_rows}
+use Rattle.tick_keeper.specs.{Replan.IsPlanOf, Replan.Replan, State.CoreState, State.unplanned, declared.shortened.ShortNeed.ShortNeed}
 use Rattle.tick_keeper.specs.Shorten.{need_left, pairs, shorten}
-use Rattle.tick_keeper.specs.State.{CoreState, unplanned}
-use Rattle.tick_keeper.specs.declared.shortened.ShortNeed.{ShortNeed}
-use Rattle.tick_keeper.proofs.Kept.{keepable}
+use Rattle.tick_keeper.proofs.{Kept.keepable, Standing.best_keepable}
 use Rattle.tick_keeper.proofs.Shortening.{shorten_at, shorten_count, shorten_forest}
-use Rattle.tick_keeper.proofs.Standing.{best_keepable}
+use Rattle.tick_runs.specs.{Laws.LeastLaw, Mirrors.with_forest}
 use Rattle.tick_runs.specs.Closed.{Beat, IsRunOpening, World, rounds, shorts_taken}
-use Rattle.tick_runs.specs.Laws.{LeastLaw}
-use Rattle.tick_runs.specs.Mirrors.{with_forest}
-use Rattle.tick_runs.proofs.Mirroring.{row_by, row_is}
-use Rattle.tick_runs.proofs.Whole.{so_far}
+use Rattle.tick_runs.proofs.{Mirroring.row_by, Mirroring.row_is, Whole.so_far}
 
 abbrev in_force : Inventory → ℕ → Inventory
 in_force s t = with_forest s (shorten s.forest t)

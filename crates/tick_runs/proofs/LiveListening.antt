@@ -1,35 +1,22 @@
 -- LiveListening: a live run that was opened and then listened, and what it tells of its end: for `live` and `run_live`.
 use Rattle.std.proofs.Common.{◌≡◌, ℕ, inl, inr, Bool, List, ◌++◌, Option, Result, Ok, Err, ◌+◌, length, min, refl, sym, subst, take, ◌==◌, ◌≤◌, ◌∙◌, ap, arith, length-append, IsTrue}
-use Rattle.std.specs.Result.{IsErr, IsErrAnd}
-use Rattle.std.proofs.lemmas.List.{length-take}
-use Rattle.std.proofs.lemmas.List.Splits.{length-slice_split}
-use Rattle.std.proofs.lemmas.List.Sums.{count_by-le-length}
-use Rattle.std.specs.List.{count_by}
+use Rattle.std.specs.{Result.IsErr, Result.IsErrAnd, List.count_by}
+use Rattle.std.proofs.lemmas.{List.length-take, List.Splits.length-slice_split, List.Sums.count_by-le-length}
 use Rattle.base_device.specs.Seen.{Change, Seen, change}
 use Rattle.tick_keeper.specs.State.{CoreState}
 use Rattle.vault_exchange.specs.Exchanges.{Behind}
-use Rattle.vault_inventory.specs.Answers.{FailsWithInvFault}
-use Rattle.vault_inventory.specs.declared.fault.InvFault.{InvFault}
+use Rattle.vault_inventory.specs.{Answers.FailsWithInvFault, declared.fault.InvFault.InvFault, Inventory.read_served, Served.Served}
 use Rattle.vault_inventory.specs.declared.fault.InvFault.TheVariants as faults
-use Rattle.vault_inventory.specs.Inventory.{read_served}
-use Rattle.vault_inventory.specs.Served.{Served}
 use Rattle.vault_served.specs.ForGood.{marks}
-use Rattle.program_report.specs.declared.exit.Exit.{Exit}
+use Rattle.program_report.specs.{declared.exit.Exit.Exit, declared.stop.Stop.Stop, Exits.exit_of, Exits.stop_of_inventory, FaultLine.line_of_stop, Told.Reports}
 use Rattle.program_report.specs.declared.exit.Exit.TheVariants as exits
-use Rattle.program_report.specs.declared.stop.Stop.{Stop}
 use Rattle.program_report.specs.declared.stop.Stop.TheVariants as stops
-use Rattle.program_report.specs.Exits.{exit_of, stop_of_inventory}
-use Rattle.program_report.specs.FaultLine.{line_of_stop}
-use Rattle.program_report.specs.Told.{Reports}
 use Rattle.program_lines.specs.Hearing.{EndsBetweenLines, counted_line}
 use Rattle.program_lines.proofs.LineByLine.{listens_then}
 use Rattle.base_words.specs.Pieces.{pieces}
-use Rattle.tick_runs.specs.declared.live.listening.TheConstants.{MOST_EVENTS}
+use Rattle.tick_runs.specs.{declared.live.listening.TheConstants.MOST_EVENTS, StopsAfter.events_stop_after, Stops.both, Closed.World}
 use Rattle.tick_runs.specs.Listening.{EventListeningEnds, ListensToEvents, event_limits, hearing_of_events}
-use Rattle.tick_runs.specs.StopsAfter.{events_stop_after}
 use Rattle.tick_runs.specs.LiveRun.{EndsEarly, LiveRun, LivesTo, RunHasListened, RunIsOpened}
-use Rattle.tick_runs.specs.Stops.{both}
-use Rattle.tick_runs.specs.Closed.{World}
 use Rattle.tick_runs.proofs.Agents.{as_begun}
 
 -- ---- the number of a line

@@ -4,29 +4,21 @@ use Rattle.std.proofs.KnownBytes.{Appends-trans}
 use Rattle.std.specs.Io.KnownBytes.{Appends}
 use Rattle.std.specs.Result.{IfErr, IsErr, IsErrAnd}
 use Rattle.std.proofs.lemmas.List.{append-nil}
-use Rattle.base_device.specs.Seen.{Seen, change}
+use Rattle.base_device.specs.{Seen.Seen, Seen.change, Failures.HasFailed, Front.AppendsFront}
 use Rattle.tick_keeper.proofs.Shaped.{replanned}
 use Rattle.vault_start.specs.Start.{from_start}
 use Rattle.vault_start.proofs.Started.{shaped_start}
-use Rattle.tick_keeper.specs.Replan.{Replan, ReplanTooLong}
-use Rattle.tick_keeper.specs.State.{CoreState, unplanned}
-use Rattle.base_device.specs.Failures.{HasFailed}
-use Rattle.base_device.specs.Front.{AppendsFront}
+use Rattle.tick_keeper.specs.{Replan.Replan, Replan.ReplanTooLong, State.CoreState, State.unplanned}
 use Rattle.vault_exchange.specs.Exchanges.{Behind}
 use Rattle.vault_inventory.specs.Inventories.{Inventory}
-use Rattle.program_report.specs.declared.stop.Stop.{Stop}
+use Rattle.program_report.specs.{declared.stop.Stop.Stop, Sent.IsAll, Sent.SendsText}
 use Rattle.program_report.specs.declared.stop.Stop.TheVariants as stops
-use Rattle.program_report.specs.Sent.{IsAll, SendsText}
-use Rattle.tick_runs.specs.Closed.{shorts_taken}
+use Rattle.tick_runs.specs.{Closed.shorts_taken, Stops.both, Text.short_need_lines}
 use Rattle.tick_runs.specs.LiveRun.{EndsEarly, IsLiveOpening, RunIsOpened}
 use Rattle.tick_runs.specs.Looking.{Looked, LooksAll, first_indices, looked_text}
-use Rattle.tick_runs.specs.Stops.{both}
-use Rattle.tick_runs.specs.Text.{short_need_lines}
-use Rattle.tick_runs.proofs.LookedUp.{left_alone, same_credentials}
-use Rattle.tick_runs.proofs.Texts.{same_shorts}
+use Rattle.tick_runs.proofs.{LookedUp.left_alone, LookedUp.same_credentials, Texts.same_shorts, Written.whole_front}
 use Rattle.program_report.proofs.Pieces.{front_more}
 use Rattle.program_lines.proofs.LineByLine.{said_appends}
-use Rattle.tick_runs.proofs.Written.{whole_front}
 use Rattle.plan_forest.specs.Forest.{Forest}
 
 -- ---- after all lookups

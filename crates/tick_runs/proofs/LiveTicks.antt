@@ -3,24 +3,19 @@ use Rattle.std.proofs.Common.{◌≡◌, ℕ, inl, inr, false, cond, List, [], �
 use Rattle.std.proofs.lemmas.List.{append-nil, append_assoc}
 use Rattle.base_device.specs.Seen.{Change}
 use Rattle.tick_keeper.specs.declared.event.Event.TheVariants as events
-use Rattle.tick_keeper.specs.declared.event.Event.TheVariants.{Tick}
-use Rattle.tick_keeper.specs.declared.event.Output.{Output}
+use Rattle.tick_keeper.specs.{declared.event.Event.TheVariants.Tick, declared.event.Output.Output, declared.fault.StepFault.StepFault, History.CoreTurn, LawsOfSteps.IsShaped, State.CoreState}
 use Rattle.tick_keeper.specs.declared.event.Output.TheVariants as out
-use Rattle.tick_keeper.specs.declared.fault.StepFault.{StepFault}
 use Rattle.tick_keeper.specs.declared.fault.StepFault.TheVariants as steps
-use Rattle.tick_keeper.specs.History.{CoreTurn}
-use Rattle.tick_keeper.specs.LawsOfSteps.{IsShaped}
-use Rattle.tick_keeper.specs.State.{CoreState}
 use Rattle.vault_exchange.specs.Exchanges.{Behind}
 use Rattle.vault_inventory.specs.Inventories.{Inventory}
 use Rattle.program_report.specs.declared.stop.Stop.{Stop}
+use Rattle.tick_runs.specs.Stops.{both}
 use Rattle.tick_runs.specs.Closed.{AreAnswered, Beat, Exchanged, IsBeat, World, asked_by_output, asks_some, closing, shorts_taken}
 use Rattle.tick_runs.specs.Hearing.{IsBetweenEvents, TickIsUnderWay, TicksLive, TicksSoFar, TicksUpTo, last_tick_line, next_tick_line, tick_text}
-use Rattle.program_lines.specs.declared.event_line.HeardLine.TheVariants.{Need}
 use Rattle.tick_runs.specs.code.Telling.{IsRoundSoFar, IsRoundUpTo, StopsNeed, TellsRound}
 use Rattle.tick_runs.specs.code.Playing.{AnswersAll, IsPlanFault, Ticks, stop_of}
-use Rattle.tick_runs.specs.Stops.{both}
 use Rattle.tick_runs.specs.Text.{answer_text, beat_text, inventory_with, short_need_lines, wake_line_of_output}
+use Rattle.program_lines.specs.declared.event_line.HeardLine.TheVariants.{Need}
 use Rattle.tick_runs.proofs.Opens.{ticks_shaped}
 use Rattle.tick_runs.proofs.Texts.{same_answer_text, same_answer_texts, same_shorts, same_wake}
 

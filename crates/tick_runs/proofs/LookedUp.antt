@@ -1,36 +1,25 @@
 -- LookedUp: looking the entries of an inventory up, one after another: for `look_all_up`.
 use Rattle.std.specs.Prelude.{◌≢◌, is_none}
-use Rattle.std.specs.Result.{IsErr, IsErrAnd}
+use Rattle.std.specs.{Result.IsErr, Result.IsErrAnd, List.range_with_len, Io.KnownBytes.Appends}
 use Rattle.std.proofs.Common.{◌≡◌, ℕ, zero, suc, ◌+◌, ◌<◌, ◌≤◌, ◌==◌, inl, inr, Bool, true, false, cond, List, [], ◌∷◌, ◌++◌, Option, Some, None, Result, Ok, Err, arith, flat_map, length, refl, sym, ap, ◌∙◌, subst}
-use Rattle.std.specs.List.{range_with_len}
 use Rattle.std.proofs.KnownBytes.{Appends-trans}
-use Rattle.std.specs.Io.KnownBytes.{Appends}
-use Rattle.std.proofs.lemmas.List.{append-nil, length-set}
-use Rattle.std.proofs.lemmas.Grind.{flat_map-append}
+use Rattle.std.proofs.lemmas.{List.append-nil, List.length-set, Grind.flat_map-append}
+use Rattle.base_device.specs.{Failures.HasFailed, Front.AppendsFront}
 use Rattle.base_device.specs.Seen.{Change, Seen, change}
-use Rattle.base_device.specs.Failures.{HasFailed}
-use Rattle.base_device.specs.Front.{AppendsFront}
-use Rattle.vault_exchange.specs.Exchanges.{Behind}
+use Rattle.vault_exchange.specs.{Exchanges.Behind, declared.fault.ExchangeFault.ExchangeFault}
 use Rattle.vault_exchange.specs.Lookups.{EntryIsLookedUp, IsLookupLeft, applied, inventory_after_lookup, lookup_in}
-use Rattle.vault_inventory.specs.Lookup.{lookup_fault, told}
-use Rattle.vault_inventory.specs.Inventories.{Inventory}
-use Rattle.program_report.specs.declared.stop.Stop.{Stop}
+use Rattle.vault_inventory.specs.{Lookup.lookup_fault, Lookup.told, Inventories.Inventory}
+use Rattle.program_report.specs.{declared.stop.Stop.Stop, Sent.IsUntouched}
 use Rattle.program_report.specs.declared.stop.Stop.TheVariants as stops
-use Rattle.program_report.specs.Sent.{IsUntouched}
 use Rattle.tick_runs.specs.Looking.{Applies, AreLookedUp, Looked, LookingIsCut, LooksAllUp, LooksOneUp, first_indices, looked_line, looked_text}
 use Rattle.program_report.proofs.Pieces.{front_more}
 use Rattle.program_lines.proofs.LineByLine.{said_appends, untouched_appends}
 use Rattle.tick_runs.proofs.Written.{whole_front}
-use Rattle.plan_forest.specs.declared.entry.Entry.{Entry}
-use Rattle.plan_forest.specs.Forest.{entry_at}
-use Rattle.plan_forest.proofs.Entries.{entry_at_set_other}
-use Rattle.plan_forest.proofs.Ranges.{range_more}
+use Rattle.plan_forest.specs.{declared.entry.Entry.Entry, Forest.entry_at}
+use Rattle.plan_forest.proofs.{Entries.entry_at_set_other, Ranges.range_more}
 use Rattle.vault_http.specs.declared.reply.Reply.{Reply}
-use Rattle.vault_json.specs.declared.fault.ReplyFault.{ReplyFault}
-use Rattle.vault_json.specs.declared.lookup.Lookup.{Lookup}
-use Rattle.vault_exchange.specs.declared.fault.ExchangeFault.{ExchangeFault}
-use Rattle.program_lines.specs.Hearing.{TextIsSaid}
-use Rattle.program_lines.specs.Text.{entry_line}
+use Rattle.vault_json.specs.{declared.fault.ReplyFault.ReplyFault, declared.lookup.Lookup.Lookup}
+use Rattle.program_lines.specs.{Hearing.TextIsSaid, Text.entry_line}
 
 -- ---- one lookup more
 

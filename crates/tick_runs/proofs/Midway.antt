@@ -1,35 +1,19 @@
 -- A round under way: those of the Asks that have answered were told the rule's end.
 use Rattle.std.proofs.Common.{◌≡◌, ◌==◌, ℕ, zero, suc, ◌+◌, ◌<◌, ◌≤◌, ◌&&◌, ◌||◌, Bool, true, false, not, cond, List, [], ◌∷◌, Some, None, Ok, filter, length, nat_le, nat_lt, set, refl, sym, ap, ◌∙◌, subst, arith, inl, inr}
-use Rattle.std.proofs.lemmas.Bool.{cases_Bool, cases_eq, cases_lt, cond-true, cond-false}
 use Rattle.std.proofs.lemmas.Bool.Decides.{nat_tests}
+use Rattle.std.proofs.lemmas.Bool.{cases_Bool, cases_eq, cases_lt, cond-true, cond-false}
 use Rattle.std.specs.List.{list_any, range_with_len}
 use Rattle.std.proofs.Math.Bool.{and-false, and-true}
-use Rattle.plan_forest.specs.declared.entry.Entry.{Entry}
+use Rattle.plan_forest.specs.{declared.entry.Entry.Entry, Over.chain, Over.is_over, Push.IsForest, Renewal.all_last, Renewal.renewal}
 use Rattle.plan_forest.specs.Forest.{Forest, end_of, entry_at}
-use Rattle.plan_forest.specs.Over.{chain, is_over}
-use Rattle.plan_forest.specs.Push.{IsForest}
-use Rattle.plan_forest.specs.Renewal.{all_last, renewal}
-use Rattle.plan_forest.proofs.Carrying.{and_left, and_right}
-use Rattle.plan_forest.proofs.Chains.{chain_same, over_self}
-use Rattle.plan_forest.proofs.Entries.{entry_at_past}
-use Rattle.plan_forest.proofs.Placed.{parents_first}
-use Rattle.plan_rule.specs.declared.wake.Wake.{Wake}
+use Rattle.plan_forest.proofs.{Carrying.and_left, Carrying.and_right, Chains.chain_same, Chains.over_self, Entries.entry_at_past, Placed.parents_first}
+use Rattle.plan_rule.specs.{declared.wake.Wake.Wake, Ends.is_asked, Schedule.RisesStrictly, declared.limit.TheConstants.LIMIT}
 use Rattle.plan_rule.specs.Asks.{asking, asks, first_of, is_to_be_asked}
-use Rattle.plan_rule.specs.Ends.{is_asked}
-use Rattle.plan_rule.specs.Schedule.{RisesStrictly}
-use Rattle.plan_rule.proofs.Alive.{alive_from_last, last_from_alive}
-use Rattle.plan_rule.proofs.Asking.{asked_end, asks_wanted}
-use Rattle.plan_rule.specs.declared.limit.TheConstants.{LIMIT}
-use Rattle.tick_keeper.specs.declared.event.Event.TheVariants.{Told}
-use Rattle.tick_keeper.specs.declared.event.Output.{Output}
-use Rattle.tick_keeper.specs.declared.event.Output.TheVariants as out
-use Rattle.tick_keeper.specs.LawsOfPlans.{IsAnsweredByRule}
-use Rattle.tick_keeper.specs.Refusal.{step_refusal, unless_waited_for}
-use Rattle.tick_keeper.specs.Replan.{IsPlanOf, Replan}
-use Rattle.tick_keeper.specs.History.{CoreTurn}
-use Rattle.tick_keeper.specs.Shorten.{shorten}
-use Rattle.tick_keeper.specs.State.{CoreState}
+use Rattle.plan_rule.proofs.{Alive.alive_from_last, Alive.last_from_alive, Asking.asked_end, Asking.asks_wanted}
+use Rattle.tick_keeper.specs.{declared.event.Event.TheVariants.Told, declared.event.Output.Output, LawsOfPlans.IsAnsweredByRule, Refusal.step_refusal, Refusal.unless_waited_for, Replan.IsPlanOf, Replan.Replan, History.CoreTurn}
+use Rattle.tick_keeper.specs.{Shorten.shorten, State.CoreState}
 use Rattle.tick_keeper.specs.Step.{entry_after_answer, with_entry_changed, without_index}
+use Rattle.tick_keeper.specs.declared.event.Output.TheVariants as out
 use Rattle.tick_keeper.proofs.Standing.{tail_kept}
 use Rattle.broker_rule.specs.Listed.{is_entry_alive}
 use Rattle.tick_runs.specs.Mirrors.{with_entry_end}

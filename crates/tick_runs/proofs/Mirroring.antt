@@ -1,31 +1,21 @@
 -- The table mirrors the forest as it was told: at first, and after each renewal that was served.
 use Rattle.std.proofs.Common.{◌≡◌, ◌≢◌, ℕ, suc, ◌+◌, ◌<◌, ◌≤◌, Bool, true, false, cond, List, Option, Some, None, bytes_eq, filter, length, map, nat_le, option_map, refl, sym, ap, ◌∙◌, subst, arith, inl, inr}
+use Rattle.std.proofs.lemmas.{Bool.Decides.nat_tests, List.length-set}
 use Rattle.std.proofs.lemmas.Bool.{cases_Bool, cases_eq, cond-true, cond-false}
-use Rattle.std.proofs.lemmas.Bool.Decides.{nat_tests}
-use Rattle.std.proofs.lemmas.List.{length-set}
 use Rattle.std.proofs.Math.Path.{fun_ext}
-use Rattle.std.specs.Cmp.Lexicographic.{bytes_decides}
-use Rattle.std.specs.List.{list_all, range_with_len}
+use Rattle.std.specs.{Cmp.Lexicographic.bytes_decides, List.list_all, List.range_with_len}
 use Rattle.base_moment.specs.declared.moment.TheConstants.{LAST}
-use Rattle.plan_forest.specs.declared.entry.Entry.{Entry}
-use Rattle.plan_forest.specs.declared.forest.TheConstants.{END_MAX}
+use Rattle.plan_forest.specs.{declared.entry.Entry.Entry, declared.forest.TheConstants.END_MAX, Over.chain, Push.IsForest}
 use Rattle.plan_forest.specs.Forest.{Forest, end_of, entry_at}
-use Rattle.plan_forest.specs.Over.{chain}
-use Rattle.plan_forest.specs.Push.{IsForest}
 use Rattle.plan_forest.specs.Renewal.{all_last, capped, renewal}
-use Rattle.plan_forest.proofs.Chains.{chain_same}
-use Rattle.plan_forest.proofs.Entries.{entry_at_set_other, entry_at_set_same}
+use Rattle.plan_forest.proofs.{Chains.chain_same, Entries.entry_at_set_other, Entries.entry_at_set_same}
 use Rattle.plan_forest.proofs.Placed.{parents_first, read_range, read_step, replaced_is_forest, replaces_read}
-use Rattle.vault_inventory.specs.Inventories.{IsInventory, Inventory, credential_at, terms_at}
 use Rattle.vault_inventory.specs.declared.terms.Terms.{Terms}
-use Rattle.broker_rule.specs.declared.row.BrokerRow.{BrokerRow}
-use Rattle.broker_rule.specs.Rows.{broker_row, broker_rows}
-use Rattle.broker_rule.specs.Renewing.{with_row}
-use Rattle.broker_rule.specs.Listed.{is_entry_alive, rows_listed}
-use Rattle.broker_table.proofs.Ranges.{filter_range, map_of_map, map_range}
+use Rattle.vault_inventory.specs.Inventories.{IsInventory, Inventory, credential_at, terms_at}
+use Rattle.broker_rule.specs.{declared.row.BrokerRow.BrokerRow, Rows.broker_row, Rows.broker_rows, Renewing.with_row, Listed.is_entry_alive, Listed.rows_listed, Sweep.swept}
 use Rattle.broker_table.proofs.Swept.{swept_later}
+use Rattle.broker_table.proofs.Ranges.{filter_range, map_of_map, map_range}
 use Rattle.broker_table.proofs.Sweeping.{lone_name, name_in, swept_inventory}
-use Rattle.broker_rule.specs.Sweep.{swept}
 use Rattle.tick_runs.specs.Mirrors.{Mirrors, with_entry_end, with_forest}
 
 -- ---- an entry's end alone is changed

@@ -3,22 +3,12 @@ use Rattle.std.proofs.Common.{◌≡◌, ◌∙◌, ℕ, suc, ◌<◌, cond, Lis
 use Rattle.plan_rule.specs.Asks.{first_of}
 use Rattle.vault_inventory.specs.Inventories.{credential_at}
 use Rattle.plan_forest.specs.Forest.{entry_at}
-use Rattle.tick_keeper.specs.declared.event.Event.{Event}
-use Rattle.tick_keeper.specs.declared.event.Event.TheVariants.{Tick}
-use Rattle.tick_keeper.specs.declared.event.Output.{Output}
+use Rattle.tick_keeper.specs.{declared.event.Event.Event, declared.event.Event.TheVariants.Tick, declared.event.Output.Output, InForce.InForce, History.CoreTurn, Replan.Replan, State.CoreState, State.Round}
+use Rattle.tick_keeper.specs.{Step.StepAnswer, Step.state_after_answer}
 use Rattle.tick_keeper.specs.declared.event.Output.TheVariants as out
-use Rattle.tick_keeper.specs.InForce.{InForce}
-use Rattle.tick_keeper.specs.History.{CoreTurn}
-use Rattle.tick_keeper.specs.Replan.{Replan}
-use Rattle.tick_keeper.specs.State.{CoreState, Round}
-use Rattle.tick_keeper.specs.Step.{StepAnswer, state_after_answer}
-use Rattle.tick_keeper.proofs.Once.{next_asks}
-use Rattle.tick_keeper.proofs.Turns.{replan_force}
+use Rattle.tick_keeper.proofs.{Once.next_asks, Turns.replan_force}
 use Rattle.tick_runs.specs.Closed.{AreAnswered, Beat, Exchanged, RequestIsAnswered, IsBeat, Played, World, asks_some, asked_by_output, closing, event_in, next_by, next_tick, rounds, shorts_taken, told_next}
-use Rattle.tick_runs.proofs.Goes.{wakes_join}
-use Rattle.tick_runs.proofs.OneAnswer.{answers_for}
-use Rattle.tick_runs.proofs.Refusing.{answer_steps}
-use Rattle.tick_runs.proofs.Running.{nobody_answers}
+use Rattle.tick_runs.proofs.{Goes.wakes_join, OneAnswer.answers_for, Refusing.answer_steps, Running.nobody_answers}
 
 -- the next tick, if there is one, is at the first moment of the plan in force
 abbrev AtNext : CoreState → Option ℕ → Type 0

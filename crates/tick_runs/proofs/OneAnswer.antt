@@ -3,24 +3,14 @@ use Rattle.std.proofs.Common.{◌≡◌, ℕ, ◌++◌, Bool, true, false, cond,
 use Rattle.std.proofs.lemmas.List.{append_assoc}
 use Rattle.plan_forest.specs.declared.entry.Kind.{Kind}
 use Rattle.vault_json.specs.declared.renewed.Renewed.{Renewed}
-use Rattle.vault_http.specs.declared.reply.Reply.{Reply}
-use Rattle.vault_http.specs.declared.request.Request.{Request}
-use Rattle.broker_rule.specs.Step.{broker_step}
-use Rattle.broker_rule.specs.Table.{BrokerTable}
-use Rattle.vault_exchange.specs.Exchanges.{Behind, wire_of}
-use Rattle.vault_exchange.specs.Heard.{renewed_in}
-use Rattle.vault_exchange.specs.Requests.{RequestIsAsked, renewal_request}
-use Rattle.tick_keeper.specs.LawsOfSteps.{IsShaped}
-use Rattle.tick_keeper.specs.declared.event.Event.{Event}
+use Rattle.vault_http.specs.{declared.reply.Reply.Reply, declared.request.Request.Request}
+use Rattle.broker_rule.specs.{Step.broker_step, Table.BrokerTable}
+use Rattle.vault_exchange.specs.{Exchanges.Behind, Exchanges.wire_of, Heard.renewed_in, Requests.RequestIsAsked, Requests.renewal_request}
+use Rattle.tick_keeper.specs.{LawsOfSteps.IsShaped, declared.event.Event.Event, declared.event.Output.Output, History.CoreTurn, State.CoreState}
 use Rattle.tick_keeper.specs.declared.event.Event.TheVariants.{Refused, Lost}
-use Rattle.tick_keeper.specs.declared.event.Output.{Output}
-use Rattle.tick_keeper.specs.History.{CoreTurn}
-use Rattle.tick_keeper.specs.State.{CoreState}
 use Rattle.tick_keeper.proofs.Shaped.{shape}
-use Rattle.tick_runs.specs.Closed.{event_in, shorts_taken}
-use Rattle.tick_runs.specs.code.Playing.{Answers}
+use Rattle.tick_runs.specs.{Closed.event_in, Closed.shorts_taken, code.Playing.Answers, Stops.both}
 use Rattle.tick_runs.specs.Replies.{IsAnswerOf, event_for, event_of, told_of_body}
-use Rattle.tick_runs.specs.Stops.{both}
 use Rattle.tick_runs.specs.Text.{answer_line, answer_text, short_need_lines}
 use Rattle.tick_runs.proofs.Texts.{same_shorts}
 

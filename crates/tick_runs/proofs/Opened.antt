@@ -1,9 +1,8 @@
 -- Opened: the keeper that was made goes on, or what kept it from being made stops the run; for the rehearsal and the live run.
 use Rattle.std.proofs.Common.{◌≡◌, ℕ, Result, Ok, Err, IfOk, IfErr, ◌⊎◌, inl, inr, subst, sym}
 use Rattle.plan_forest.specs.Forest.{Forest}
+use Rattle.tick_keeper.specs.{State.CoreState, State.unplanned, declared.fault.StepFault.StepFault}
 use Rattle.tick_keeper.specs.Replan.{PlanFails, Replan, ReplanTooLong}
-use Rattle.tick_keeper.specs.State.{CoreState, unplanned}
-use Rattle.tick_keeper.specs.declared.fault.StepFault.{StepFault}
 use Rattle.tick_keeper.specs.declared.fault.StepFault.TheVariants.{TooLong, OutOfMemory}
 use Rattle.program_report.specs.declared.stop.Stop.{Stop}
 use Rattle.program_report.specs.declared.stop.Stop.TheVariants as stops

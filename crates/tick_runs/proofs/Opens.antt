@@ -3,18 +3,12 @@ use Rattle.std.proofs.Common.{◌≡◌, ℕ, false, cond, List, [], ◌∷◌, 
 use Rattle.std.proofs.lemmas.List.{append-nil}
 use Rattle.vault_exchange.specs.Exchanges.{Behind}
 use Rattle.plan_rule.specs.Asks.{first_of}
-use Rattle.tick_keeper.specs.LawsOfSteps.{IsShaped}
-use Rattle.tick_keeper.specs.declared.event.Event.TheVariants.{Tick}
-use Rattle.tick_keeper.specs.declared.event.Output.{Output}
+use Rattle.tick_keeper.specs.{LawsOfSteps.IsShaped, declared.event.Event.TheVariants.Tick, declared.event.Output.Output, InForce.InForce, State.CoreState}
 use Rattle.tick_keeper.specs.declared.event.Output.TheVariants as out
-use Rattle.tick_keeper.specs.InForce.{InForce}
-use Rattle.tick_keeper.specs.State.{CoreState}
-use Rattle.tick_keeper.proofs.Once.{next_asks}
-use Rattle.tick_keeper.proofs.Shaped.{shape}
-use Rattle.tick_keeper.proofs.Turns.{replan_force}
+use Rattle.tick_keeper.proofs.{Once.next_asks, Shaped.shape, Turns.replan_force}
+use Rattle.tick_runs.specs.Stops.{both}
 use Rattle.tick_runs.specs.Closed.{Beat, IsBeat, asked_by_output, asks_some, next_by, rounds, request_count}
 use Rattle.tick_runs.specs.code.Playing.{IsQuietTo, OpensAfterTicks, RunEnds, Ticks}
-use Rattle.tick_runs.specs.Stops.{both}
 use Rattle.tick_runs.specs.Text.{beat_text, inventory_with, short_need_lines, wake_line_of_output}
 use Rattle.tick_runs.proofs.Texts.{same_shorts, same_wake}
 

@@ -4,11 +4,8 @@ use Rattle.std.proofs.lemmas.List.{length-map}
 use Rattle.std.specs.Io.KnownBytes.{Appends}
 use Rattle.base_device.specs.Seen.{Change}
 use Rattle.base_moment.specs.declared.moment.TheConstants.{LAST}
-use Rattle.plan_rule.specs.declared.force.Force.{Force}
-use Rattle.plan_rule.specs.Runs.{moments_of}
-use Rattle.plan_search.specs.declared.decision.Decision.TheVariants.{Keep}
-use Rattle.plan_search.specs.Decides.{Decides}
-use Rattle.plan_search.specs.Planned.{Planned, to_come}
+use Rattle.plan_rule.specs.{declared.force.Force.Force, Runs.moments_of}
+use Rattle.plan_search.specs.{declared.decision.Decision.TheVariants.Keep, Decides.Decides, Planned.Planned, Planned.to_come}
 use Rattle.tick_keeper.specs.Replan.{IsPlanOf}
 use Rattle.vault_start.specs.Start.{inventory_at}
 use Rattle.vault_inventory.specs.Inventories.{Inventory}
@@ -17,11 +14,8 @@ use Rattle.broker_rule.specs.declared.fault.NumberedFault.{NumberedFault}
 use Rattle.vault_exchange.specs.Exchanges.{Behind}
 use Rattle.program_report.specs.declared.exit.Exit.TheVariants as exits
 use Rattle.program_report.specs.Sent.{IsAll}
+use Rattle.tick_runs.specs.{FaultWords.faults_from, FaultWords.faults_of, PlannedRehearsal.IsPlannedRun, PlannedRehearsal.PlannedRehearsalLaw, Rehearse.RunsLong, Text.course_text}
 use Rattle.tick_runs.specs.Closed.{IsClosedRun, RunCourse, World, rounds}
-use Rattle.tick_runs.specs.FaultWords.{faults_from, faults_of}
-use Rattle.tick_runs.specs.PlannedRehearsal.{IsPlannedRun, PlannedRehearsalLaw}
-use Rattle.tick_runs.specs.Rehearse.{RunsLong}
-use Rattle.tick_runs.specs.Text.{course_text}
 use Rattle.tick_runs.proofs.Goes.{joins, wakes_join}
 use Rattle.tick_runs.proofs.Whole.{more_to_come, opening_fits, planned_run, rehearsal}
 

@@ -1,43 +1,29 @@
 -- In a run, whatever the broker does, the keeper refuses nothing that the loop hands it, but for lack of memory.
 use Rattle.std.specs.Prelude.{◌≢◌}
 use Rattle.std.proofs.Common.{◌≡◌, ℕ, ◌+◌, ◌<◌, ◌≤◌, true, false, List, [], ◌∷◌, ◌++◌, Option, Some, None, Result, Ok, Err, drop, get_or, length, map, nat_le, nat_lt, refl, sym, ap, ◌∙◌, subst, arith}
-use Rattle.std.proofs.lemmas.Bool.{cond-true, cond-false}
-use Rattle.std.proofs.lemmas.Bool.Decides.{nat_tests}
+use Rattle.std.proofs.lemmas.{Bool.cond-true, Bool.cond-false, Bool.Decides.nat_tests, List.Elements.All-head, List.Elements.All-tail}
 use Rattle.std.proofs.lemmas.List.{drop_all, drop_more, length-set}
-use Rattle.std.proofs.lemmas.List.Elements.{All-head, All-tail}
 use Rattle.std.specs.List.{All}
 use Rattle.base_moment.specs.declared.moment.TheConstants.{LAST}
-use Rattle.plan_forest.specs.Forest.{Forest, end_of, entry_at}
-use Rattle.plan_rule.specs.Asks.{asks, first_of, is_to_be_asked}
-use Rattle.plan_rule.specs.Schedule.{RisesStrictly}
 use Rattle.plan_forest.specs.declared.entry.Entry.{Entry}
+use Rattle.plan_forest.specs.Forest.{Forest, end_of, entry_at}
+use Rattle.plan_rule.specs.Schedule.{RisesStrictly}
+use Rattle.plan_rule.specs.Asks.{asks, first_of, is_to_be_asked}
 use Rattle.vault_inventory.specs.Inventories.{credential_at}
-use Rattle.tick_keeper.specs.declared.event.Event.{Event}
+use Rattle.tick_keeper.specs.{declared.event.Event.Event, declared.event.Output.Output, declared.fault.StepFault.StepFault, LawsOfHistories.IsAnswerEvent, LawsOfSteps.IsShaped, Replan.IsPlanOf, Replan.Replan, History.CoreTurn}
+use Rattle.tick_keeper.specs.{Shorten.shorten, State.CoreState, State.Round, States.IsState}
 use Rattle.tick_keeper.specs.declared.event.Event.TheVariants.{Tick, Told, Need}
-use Rattle.tick_keeper.specs.declared.event.Output.{Output}
-use Rattle.tick_keeper.specs.declared.event.Output.TheVariants as out
-use Rattle.tick_keeper.specs.declared.fault.StepFault.{StepFault}
 use Rattle.tick_keeper.specs.declared.fault.StepFault.TheVariants.{ClockBack, RoundOpen, NotAsked, BadIndex, OutOfRange, TooLong, OutOfMemory}
-use Rattle.tick_keeper.specs.LawsOfHistories.{IsAnswerEvent}
-use Rattle.tick_keeper.specs.LawsOfSteps.{IsShaped}
-use Rattle.tick_keeper.proofs.Shaped.{shape}
 use Rattle.tick_keeper.specs.Refusal.{TellsSpan, step_refusal, unless_closed, unless_waited_for, waits_for}
-use Rattle.tick_keeper.specs.Replan.{IsPlanOf, Replan}
-use Rattle.tick_keeper.specs.History.{CoreTurn}
-use Rattle.tick_keeper.specs.Shorten.{shorten}
-use Rattle.tick_keeper.specs.State.{CoreState, Round}
-use Rattle.tick_keeper.specs.States.{IsState}
 use Rattle.tick_keeper.specs.Step.{StepAnswer, StepTooLong, entry_after_answer, entry_of_event, state_after_answer, with_entry_changed, with_new_need, without_index}
-use Rattle.tick_keeper.proofs.Standing.{best_first}
+use Rattle.tick_keeper.specs.declared.event.Output.TheVariants as out
+use Rattle.tick_keeper.proofs.{Shaped.shape, Standing.best_first}
 use Rattle.program_report.specs.declared.stop.Stop.TheVariants as stops
+use Rattle.tick_runs.specs.{Replies.IsAnswerOf, Replies.event_for, Stops.NeverRefusedLaw, Stops.StepIsTaken}
 use Rattle.tick_runs.specs.Closed.{AreAnswered, Beat, Exchanged, Played, RequestIsAnswered, World, asked_by_output, closing, event_in, next_by, next_tick, shorts_taken, told_next}
 use Rattle.tick_runs.specs.code.Playing.{IsPlanFault, MayCome, RoundWaits, TakesAnswer, TickLeaves, stop_of}
-use Rattle.tick_runs.specs.Replies.{IsAnswerOf, event_for}
-use Rattle.tick_runs.specs.Stops.{NeverRefusedLaw, StepIsTaken}
+use Rattle.tick_runs.proofs.{OneAnswer.answers_for, Running.nobody_answers, Running.within_last, Within.asked_within}
 use Rattle.tick_runs.proofs.Midway.{filter_rises, here_first, without_first}
-use Rattle.tick_runs.proofs.OneAnswer.{answers_for}
-use Rattle.tick_runs.proofs.Running.{nobody_answers, within_last}
-use Rattle.tick_runs.proofs.Within.{asked_within}
 
 -- no round is open, and the next tick comes, if there is one
 abbrev Rests : CoreState → Option ℕ → Type 0

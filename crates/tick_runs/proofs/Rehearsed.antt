@@ -1,35 +1,24 @@
 -- Rehearsed: from playing a run to the rehearsal.
 use Rattle.std.proofs.Common.{◌≡◌, ◌∙◌, ℕ, ◌≤◌, Bool, List, ◌++◌, Option, Some, None, Result, Ok, Err, ap, arith, inl, inr, length, refl, subst, sym, ◌⊎◌}
 use Rattle.std.proofs.lemmas.List.{append_assoc}
-use Rattle.std.specs.Result.{IsErr, IsErrAnd}
-use Rattle.std.specs.Io.KnownBytes.{Appends}
-use Rattle.base_device.specs.Seen.{Change, Seen, change}
+use Rattle.std.specs.{Result.IsErr, Result.IsErrAnd, Io.KnownBytes.Appends}
 use Rattle.base_device.specs.Front.{AppendsFront}
-use Rattle.vault_inventory.specs.declared.fault.InvFault.{InvFault}
-use Rattle.vault_inventory.specs.Inventories.{IsInventory, Inventory}
+use Rattle.base_device.specs.Seen.{Change, Seen, change}
+use Rattle.vault_inventory.specs.{declared.fault.InvFault.InvFault, Inventories.IsInventory, Inventories.Inventory}
 use Rattle.base_moment.specs.declared.moment.TheConstants.{LAST}
 use Rattle.plan_forest.specs.Forest.{Forest}
-use Rattle.broker_rule.specs.Table.{BrokerTable}
-use Rattle.broker_rule.specs.declared.fault.NumberedFault.{NumberedFault}
-use Rattle.tick_keeper.specs.LawsOfSteps.{IsShaped}
-use Rattle.tick_keeper.specs.Replan.{Replan, ReplanTooLong}
-use Rattle.tick_keeper.specs.State.{CoreState, unplanned}
+use Rattle.broker_rule.specs.{Table.BrokerTable, declared.fault.NumberedFault.NumberedFault}
+use Rattle.tick_keeper.specs.{LawsOfSteps.IsShaped, Replan.Replan, Replan.ReplanTooLong, State.CoreState, State.unplanned}
 use Rattle.tick_keeper.proofs.Shaped.{replanned, same}
 use Rattle.vault_exchange.specs.Exchanges.{Behind}
-use Rattle.program_report.specs.declared.stop.Stop.{Stop}
+use Rattle.program_report.specs.{declared.stop.Stop.Stop, Exits.exit_of, FaultLine.line_of_stop, Told.Reports}
 use Rattle.program_report.specs.declared.stop.Stop.TheVariants as stops
-use Rattle.program_report.specs.Exits.{exit_of}
-use Rattle.program_report.specs.FaultLine.{line_of_stop}
-use Rattle.program_report.specs.Told.{Reports}
+use Rattle.tick_runs.specs.{FaultWords.SetsFaults, FaultWords.faults_of, Hearing.IsBetweenEvents, Stops.SoFar, Stops.both}
 use Rattle.tick_runs.specs.Closed.{IsRunOpening, World, shorts_taken}
-use Rattle.tick_runs.specs.FaultWords.{SetsFaults, faults_of}
-use Rattle.tick_runs.specs.Hearing.{IsBetweenEvents}
 use Rattle.tick_runs.specs.code.Playing.{IsText, MayCome, Plays, PlaysFront, RunGoes}
 use Rattle.tick_runs.specs.Rehearse.{IsCalled, IsRunText, RehearsesTo, RehearseRun, RehearseTold, WritesFront, fresh_broker}
-use Rattle.tick_runs.specs.Stops.{SoFar, both}
 use Rattle.tick_runs.specs.Text.{done_text, inventory_with, short_need_lines}
-use Rattle.tick_runs.proofs.Loops.{at_end}
-use Rattle.tick_runs.proofs.Texts.{same_beat_texts, same_shorts}
+use Rattle.tick_runs.proofs.{Loops.at_end, Texts.same_beat_texts, Texts.same_shorts}
 
 -- ---- the run of an inventory, from that of a keeper
 

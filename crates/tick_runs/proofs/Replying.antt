@@ -3,29 +3,21 @@ use Rattle.std.proofs.Common.{◌≡◌, ◌==◌, ℕ, ◌-◌, ◌<◌, ◌≤
 use Rattle.std.proofs.lemmas.Bool.{cond-true}
 use Rattle.std.specs.Cmp.Lexicographic.{bytes_decides}
 use Rattle.base_moment.specs.declared.moment.TheConstants.{LAST}
-use Rattle.plan_forest.specs.declared.entry.Kind.{Kind}
+use Rattle.plan_forest.specs.{declared.entry.Kind.Kind, Forest.entry_at, Renewal.renewal}
 use Rattle.plan_forest.specs.declared.entry.Kind.TheVariants.{Token, Lease}
-use Rattle.plan_forest.specs.Forest.{entry_at}
-use Rattle.plan_forest.specs.Renewal.{renewal}
 use Rattle.vault_inventory.specs.Inventories.{IsInventory, Inventory, credential_at}
 use Rattle.vault_inventory.proofs.Inventories.{credential_text}
 use Rattle.vault_http.specs.declared.reply.Reply.{Reply}
-use Rattle.vault_json.specs.Renewed.{renew_lease_answer, renew_self_answer}
-use Rattle.vault_json.specs.Written.{renewed_lease_text}
+use Rattle.vault_json.specs.{Renewed.renew_lease_answer, Renewed.renew_self_answer, Written.renewed_lease_text}
 use Rattle.vault_json.proofs.ReadBack.{renewed_lease_is_read, renewed_self_is_read}
-use Rattle.broker_rule.specs.declared.row.BrokerRow.{BrokerRow}
-use Rattle.broker_rule.specs.declared.served.Served.{Served}
-use Rattle.broker_rule.specs.declared.served.Served.TheVariants as served
-use Rattle.broker_rule.specs.Rows.{broker_row}
+use Rattle.broker_rule.specs.{declared.row.BrokerRow.BrokerRow, declared.served.Served.Served, Rows.broker_row, Granted.call_for}
 use Rattle.broker_rule.specs.Step.{IsReplyBody, SaysAnswer, TellsRow, seconds_to, tells}
+use Rattle.broker_rule.specs.declared.served.Served.TheVariants as served
 use Rattle.tick_keeper.specs.declared.event.Event.TheVariants.{Told, Refused, Lost}
 use Rattle.tick_runs.specs.Replies.{event_if_refused, event_of, told_by_body, told_of_body}
-use Rattle.vault_exchange.specs.Heard.{renewed_of_lease, renewed_of_token}
-use Rattle.vault_exchange.specs.Requests.{reply_in_served}
-use Rattle.tick_runs.proofs.Mirroring.{renewal_within}
-use Rattle.broker_rule.specs.Granted.{call_for}
+use Rattle.vault_exchange.specs.{Heard.renewed_of_lease, Heard.renewed_of_token, Requests.reply_in_served}
+use Rattle.tick_runs.proofs.{Mirroring.renewal_within, Serving.renewed_row}
 use Rattle.broker_table.proofs.Granting.{credential_in, renewable_in}
-use Rattle.tick_runs.proofs.Serving.{renewed_row}
 
 ok_is_told : (kind : Kind) (id : List ℕ) (i : ℕ) (r : Reply) → r.status ≡ 200 → event_of kind id i (Some r) ≡ told_by_body kind id i r.body
 unfolding event_of

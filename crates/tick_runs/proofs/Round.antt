@@ -1,43 +1,23 @@
 -- One round: each asked entry is granted the rule's end, and the round closes on the rest of the plan.
 use Rattle.std.proofs.Common.{◌≡◌, ℕ, ◌+◌, ◌-◌, ◌<◌, ◌≤◌, true, List, [], ◌∷◌, ◌++◌, Option, Some, Result, Ok, length, map, refl, sym, ap, ◌∙◌, subst, arith, inl, inr}
-use Rattle.std.proofs.lemmas.Bool.{cases_eq}
-use Rattle.std.proofs.lemmas.List.Elements.{All-cons, All-nil}
+use Rattle.std.proofs.lemmas.{Bool.cases_eq, List.Elements.All-cons, List.Elements.All-nil}
 use Rattle.std.specs.List.{All}
 use Rattle.base_moment.specs.declared.moment.TheConstants.{LAST}
-use Rattle.plan_forest.specs.declared.entry.Entry.{Entry}
-use Rattle.plan_forest.specs.Forest.{Forest, entry_at}
-use Rattle.plan_forest.specs.Push.{IsForest}
-use Rattle.plan_forest.specs.Renewal.{renewal}
-use Rattle.plan_rule.specs.Asks.{first_of}
-use Rattle.plan_rule.specs.declared.limit.TheConstants.{LIMIT}
+use Rattle.plan_forest.specs.{declared.entry.Entry.Entry, Forest.Forest, Forest.entry_at, Push.IsForest, Renewal.renewal}
+use Rattle.plan_rule.specs.{Asks.first_of, declared.limit.TheConstants.LIMIT}
 use Rattle.vault_inventory.specs.Inventories.{IsInventory, Inventory, credential_at}
-use Rattle.broker_rule.specs.Table.{BrokerTable}
-use Rattle.broker_rule.specs.Faults.{next_number}
-use Rattle.broker_rule.specs.Renewing.{with_row}
+use Rattle.broker_rule.specs.{Table.BrokerTable, Faults.next_number, Renewing.with_row, Listed.rows_listed, Granted.call_for}
 use Rattle.broker_rule.specs.Step.{BrokerOutcome, SaysAnswer, broker_step, tells}
 use Rattle.vault_http.specs.declared.reply.Reply.{Reply}
-use Rattle.tick_keeper.specs.declared.event.Event.TheVariants.{Told}
-use Rattle.tick_keeper.specs.declared.event.Output.{Output}
-use Rattle.tick_keeper.specs.declared.fault.StepFault.{StepFault}
-use Rattle.tick_keeper.specs.LawsOfPlans.{IsAnsweredByRule}
-use Rattle.tick_keeper.specs.Replan.{IsPlanOf}
-use Rattle.tick_keeper.specs.History.{CoreTurn}
-use Rattle.tick_keeper.specs.State.{CoreState}
-use Rattle.tick_keeper.proofs.Once.{once}
-use Rattle.tick_keeper.proofs.Standing.{tail_kept}
+use Rattle.tick_keeper.specs.{declared.event.Event.TheVariants.Told, declared.event.Output.Output, declared.fault.StepFault.StepFault, LawsOfPlans.IsAnsweredByRule, Replan.IsPlanOf, History.CoreTurn, State.CoreState}
+use Rattle.tick_keeper.proofs.{Once.once, Standing.tail_kept}
+use Rattle.tick_runs.specs.{Laws.IsToldByRule, Replies.event_for, Replies.event_of}
 use Rattle.tick_runs.specs.Closed.{AreAnswered, Exchanged, RequestIsAnswered, World, closing, event_in, shorts_taken, told_next}
-use Rattle.tick_runs.specs.Laws.{IsToldByRule}
-use Rattle.broker_rule.specs.Listed.{rows_listed}
 use Rattle.tick_runs.specs.Mirrors.{Mirrors, with_entry_end, with_forest}
-use Rattle.tick_runs.specs.Replies.{event_for, event_of}
-use Rattle.vault_exchange.specs.Exchanges.{Behind}
-use Rattle.vault_exchange.specs.Requests.{RequestIsAsked, renewal_request}
+use Rattle.vault_exchange.specs.{Exchanges.Behind, Requests.RequestIsAsked, Requests.renewal_request}
+use Rattle.tick_runs.proofs.{OneAnswer.asked_known, OneAnswer.table_after, Replying.tells_rule, Serving.renewed_row, Serving.serves}
 use Rattle.tick_runs.proofs.Mirroring.{ended_other, ended_same, ended_supplied, mirrors_listed, renewal_within, with_row_listed}
 use Rattle.tick_runs.proofs.Midway.{Midway, heard_as, heard_state, here_first, is_due, midway_last, midway_more, settled, told_turn, waiting}
-use Rattle.tick_runs.proofs.OneAnswer.{asked_known, table_after}
-use Rattle.tick_runs.proofs.Replying.{tells_rule}
-use Rattle.broker_rule.specs.Granted.{call_for}
-use Rattle.tick_runs.proofs.Serving.{renewed_row, serves}
 
 -- h is g but for the ends
 abbrev pub SameBut : Forest → Forest → Type 0

@@ -1,13 +1,10 @@
 -- Rounds: one answer more.
 use Rattle.std.proofs.Common.{ℕ, List, [], ◌∷◌, ◌++◌, Option, None, refl, sym, ap, ◌∙◌}
 use Rattle.std.proofs.lemmas.List.{append-nil, flat_map_more, map-append}
-use Rattle.tick_keeper.specs.LawsOfSteps.{IsShaped}
-use Rattle.tick_keeper.specs.declared.event.Output.{Output}
+use Rattle.tick_keeper.specs.{LawsOfSteps.IsShaped, declared.event.Output.Output}
+use Rattle.tick_runs.specs.{code.Playing.Answers, code.Playing.AnswersAll, Text.answer_text, Text.inventory_with}
 use Rattle.tick_runs.specs.Closed.{Exchanged, World, closing, told_next}
-use Rattle.tick_runs.specs.code.Playing.{Answers, AnswersAll}
-use Rattle.tick_runs.specs.Text.{answer_text, inventory_with}
-use Rattle.tick_runs.proofs.Loops.{answer_more}
-use Rattle.tick_runs.proofs.Texts.{same_answer_text}
+use Rattle.tick_runs.proofs.{Loops.answer_more, Texts.same_answer_text}
 
 pub none_answered : (port : ℕ) (cs : List (List ℕ)) (t : ℕ) (old : World) (text : List ℕ) → AnswersAll port cs t old [] None old text text
 none_answered port cs t old text = record { xs = []; who = refl; answered = refl; next_is = refl; text_is = sym (append-nil text) }

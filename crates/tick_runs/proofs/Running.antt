@@ -1,29 +1,17 @@
 -- The whole run: each tick by the plan in force, and so every list of ticks.
 use Rattle.std.proofs.Common.{◌≡◌, ℕ, suc, ◌+◌, ◌<◌, ◌≤◌, true, false, cond, List, [], ◌∷◌, ◌++◌, Option, Some, None, Result, Ok, length, map, nat_lt, refl, sym, ap, ◌∙◌, subst, arith, inl, inr}
+use Rattle.std.proofs.lemmas.{Bool.Decides.nat_tests, List.length-map, List.Sums.sum_by-cons}
 use Rattle.std.proofs.lemmas.Bool.{cases_lt, cond-true, cond-false}
-use Rattle.std.proofs.lemmas.Bool.Decides.{nat_tests}
-use Rattle.std.proofs.lemmas.List.{length-map}
 use Rattle.std.proofs.lemmas.List.Elements.{All-cons, All-nil, All-head, All-tail}
-use Rattle.std.proofs.lemmas.List.Sums.{sum_by-cons}
 use Rattle.std.specs.List.{All}
 use Rattle.base_moment.specs.declared.moment.TheConstants.{LAST}
 use Rattle.plan_forest.specs.Forest.{Forest, end_of}
-use Rattle.plan_rule.specs.declared.wake.Wake.{Wake}
+use Rattle.plan_rule.specs.{declared.wake.Wake.Wake, Plans.IsPlan, Plans.moments, Requests.requests, declared.limit.TheConstants.LIMIT}
 use Rattle.plan_rule.specs.Asks.{asking, asks, first_of, with_asks}
-use Rattle.plan_rule.specs.Plans.{IsPlan, moments}
-use Rattle.plan_rule.specs.Requests.{requests}
 use Rattle.plan_rule.proofs.LaterStart.{same_requests}
-use Rattle.plan_rule.specs.declared.limit.TheConstants.{LIMIT}
 use Rattle.vault_inventory.specs.Inventories.{Inventory}
-use Rattle.tick_keeper.specs.declared.event.Event.TheVariants.{Tick}
-use Rattle.tick_keeper.specs.declared.event.Output.{Output}
+use Rattle.tick_keeper.specs.{declared.event.Event.TheVariants.Tick, declared.event.Output.Output, declared.fault.StepFault.StepFault, Refusal.step_refusal, Replan.IsPlanOf, Replan.Replan, History.CoreTurn, State.CoreState, Step.StepTick}
 use Rattle.tick_keeper.specs.declared.event.Output.TheVariants as out
-use Rattle.tick_keeper.specs.declared.fault.StepFault.{StepFault}
-use Rattle.tick_keeper.specs.Refusal.{step_refusal}
-use Rattle.tick_keeper.specs.Replan.{IsPlanOf, Replan}
-use Rattle.tick_keeper.specs.History.{CoreTurn}
-use Rattle.tick_keeper.specs.State.{CoreState}
-use Rattle.tick_keeper.specs.Step.{StepTick}
 use Rattle.tick_keeper.proofs.Once.{once}
 use Rattle.tick_keeper.proofs.Standing.{best_first, best_from, kept_plan, someone, tick}
 use Rattle.tick_runs.specs.Closed.{AreAnswered, Beat, Exchanged, IsBeat, Played, World, asked_by_output, asks_some, next_by, next_tick, request_count, rounds, shorts_taken}

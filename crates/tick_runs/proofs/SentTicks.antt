@@ -3,28 +3,21 @@ use Rattle.std.proofs.Common.{◌≡◌, ℕ, ◌<◌, inl, inr, codes, false, I
 use Rattle.std.proofs.KnownBytes.{Appends-nil}
 use Rattle.std.proofs.lemmas.List.{append-nil, append_assoc}
 use Rattle.std.specs.Io.KnownBytes.{Appends}
-use Rattle.base_device.specs.Seen.{Change, Seen}
-use Rattle.tick_keeper.specs.declared.event.Output.{Output}
+use Rattle.base_device.specs.{Seen.Change, Seen.Seen, Failures.HasFailed}
+use Rattle.tick_keeper.specs.{declared.event.Output.Output, State.CoreState}
 use Rattle.tick_keeper.specs.declared.event.Output.TheVariants as out
-use Rattle.tick_keeper.specs.State.{CoreState}
 use Rattle.vault_exchange.specs.Exchanges.{Behind}
-use Rattle.base_device.specs.Failures.{HasFailed}
-use Rattle.program_report.specs.declared.stop.Stop.{Stop}
+use Rattle.program_report.specs.{declared.stop.Stop.Stop, Sent.SendsText}
 use Rattle.program_report.specs.declared.stop.Stop.TheVariants as stops
-use Rattle.program_report.specs.Sent.{SendsText}
+use Rattle.tick_runs.specs.{code.Playing.Ticks, Stops.both}
 use Rattle.tick_runs.specs.Closed.{World, asked_by_output, asks_some}
-use Rattle.tick_runs.specs.code.Telling.{IsSentWhole}
+use Rattle.tick_runs.specs.code.Telling.{IsSentWhole, IsRoundBroken, IsRoundCut, StopsNeed, TellsRound}
 use Rattle.tick_runs.specs.Hearing.{EventIsCutOff, EventIsHeard, HearingMayWantMemory, HearsTo, IsBrokenOff, IsHeardUpTo, NeedIsInForce, NeedIsOverlong, last_tick_line, next_tick_line}
-use Rattle.program_lines.specs.declared.event_line.HeardLine.{HeardLine}
+use Rattle.program_lines.specs.{declared.event_line.HeardLine.HeardLine, declared.event_line.HeardLine.TheVariants.Need, Hearing.joined_changes}
 use Rattle.program_lines.specs.declared.event_line.HeardLine.TheVariants as heards
-use Rattle.program_lines.specs.declared.event_line.HeardLine.TheVariants.{Need}
-use Rattle.tick_runs.specs.code.Telling.{IsRoundBroken, IsRoundCut, StopsNeed, TellsRound}
-use Rattle.tick_runs.specs.code.Playing.{Ticks}
-use Rattle.tick_runs.specs.Stops.{both}
 use Rattle.program_lines.proofs.LineByLine.{untouched_appends}
-use Rattle.program_lines.specs.Hearing.{joined_changes}
-use Rattle.tick_runs.proofs.LineByLine.{all_then, appends, sent_then}
 use Rattle.tick_runs.proofs.ToldRounds.{so_far}
+use Rattle.tick_runs.proofs.LineByLine.{all_then, appends, sent_then}
 use Rattle.tick_runs.proofs.LiveTicks.{last_under_way, none_asked, one_more, quiet_heard, round_heard, some_answered}
 
 -- ---- what is sent of an event

@@ -4,15 +4,8 @@ use Rattle.std.proofs.lemmas.Bool.{and_from}
 use Rattle.plan_forest.specs.Forest.{end_of, entry_at}
 use Rattle.plan_forest.specs.Renewal.{all_last, is_granted, renewal}
 use Rattle.vault_inventory.specs.Inventories.{IsInventory, Inventory}
-use Rattle.broker_rule.specs.declared.row.BrokerRow.{BrokerRow}
+use Rattle.broker_rule.specs.{declared.row.BrokerRow.BrokerRow, Granted.call_for, Table.BrokerTable, Listed.is_entry_alive, Listed.rows_listed, Renewing.with_row, Rows.broker_row, Step.broker_step, Step.tells, Sweep.swept}
 use Rattle.broker_rule.specs.Faults.{fault_at, next_number, without_fault}
-use Rattle.broker_rule.specs.Granted.{call_for}
-use Rattle.broker_rule.specs.Table.{BrokerTable}
-use Rattle.broker_rule.specs.Listed.{is_entry_alive, rows_listed}
-use Rattle.broker_rule.specs.Renewing.{with_row}
-use Rattle.broker_rule.specs.Rows.{broker_row}
-use Rattle.broker_rule.specs.Step.{broker_step, tells}
-use Rattle.broker_rule.specs.Sweep.{swept}
 use Rattle.broker_table.proofs.Granting.{by_the_rule, renewed_by}
 use Rattle.vault_exchange.specs.Requests.{renewal_request}
 use Rattle.broker_alike.proofs.Asking.{asks_renewal}

@@ -2,8 +2,7 @@
 use Rattle.std.proofs.Common.{◌∙◌, ap}
 use Rattle.broker_alike.specs.Alike.{KeepsSupplied}
 use Rattle.tick_keeper.specs.LawsOfSteps.{IsShaped}
-use Rattle.plan_forest.specs.declared.entry.Entry.{Entry}
-use Rattle.plan_forest.specs.Forest.{Forest}
+use Rattle.plan_forest.specs.{declared.entry.Entry.Entry, Forest.Forest}
 
 pub kept_shaped : (g h k : Forest) → KeepsSupplied g h → IsShaped h k → KeepsSupplied g k
 kept_shaped g h k kept like = record {

@@ -1,19 +1,15 @@
 -- Texts: the lines of a run are those of its inventory's names, also by a forest as it was told.
 use Rattle.std.proofs.Common.{◌≡◌, ℕ, List, [], ◌∷◌, ◌++◌, Option, codes, decimal, flat_map, refl, ap, ◌∙◌}
-use Rattle.plan_forest.specs.declared.entry.Entry.{Entry}
-use Rattle.plan_forest.specs.Forest.{Forest}
+use Rattle.plan_forest.specs.{declared.entry.Entry.Entry, Forest.Forest}
 use Rattle.vault_inventory.specs.Inventories.{Inventory, credential_at}
 use Rattle.vault_http.specs.declared.reply.Reply.{Reply}
-use Rattle.tick_keeper.specs.LawsOfSteps.{IsShaped}
-use Rattle.tick_keeper.specs.declared.event.Event.{Event}
+use Rattle.tick_keeper.specs.{LawsOfSteps.IsShaped, declared.event.Event.Event, declared.event.Output.Output, declared.shortened.ShortNeed.ShortNeed}
 use Rattle.tick_keeper.specs.declared.event.Event.TheVariants.{Told, Refused, Lost}
-use Rattle.tick_keeper.specs.declared.event.Output.{Output}
 use Rattle.tick_keeper.specs.declared.event.Output.TheVariants as out
-use Rattle.tick_keeper.specs.declared.shortened.ShortNeed.{ShortNeed}
-use Rattle.tick_runs.specs.Closed.{Beat, Exchanged, event_in}
 use Rattle.tick_runs.specs.Replies.{event_of}
-use Rattle.program_lines.specs.Text.{line, name_of, names_of}
+use Rattle.tick_runs.specs.Closed.{Beat, Exchanged, event_in}
 use Rattle.tick_runs.specs.Text.{answer_line, answer_text, beat_text, short_need_line, short_need_lines, status_in, wake_line_of_output}
+use Rattle.program_lines.specs.Text.{line, name_of, names_of}
 
 module _ (g h : Forest) (like : IsShaped g h) where
   same_name : (i : ℕ) → name_of h i ≡ name_of g i

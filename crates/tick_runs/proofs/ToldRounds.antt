@@ -3,26 +3,16 @@ use Rattle.std.proofs.Common.{◌≡◌, ℕ, ◌+◌, ◌<◌, inl, inr, List, 
 use Rattle.std.proofs.KnownBytes.{Appends-kept, Appends-trans}
 use Rattle.std.proofs.lemmas.List.{append_assoc, map-append, take_more}
 use Rattle.std.specs.Io.KnownBytes.{Appends, Keeps}
-use Rattle.base_device.specs.Seen.{Change, Seen}
-use Rattle.tick_keeper.specs.LawsOfSteps.{IsShaped}
-use Rattle.tick_keeper.specs.State.{CoreState}
-use Rattle.tick_keeper.specs.declared.event.Output.{Output}
-use Rattle.base_device.specs.Failures.{HasFailed}
+use Rattle.base_device.specs.{Seen.Change, Seen.Seen, Failures.HasFailed}
+use Rattle.tick_keeper.specs.{LawsOfSteps.IsShaped, State.CoreState, declared.event.Output.Output}
 use Rattle.vault_exchange.specs.Exchanges.{Behind}
 use Rattle.program_report.specs.declared.stop.Stop.{Stop}
 use Rattle.program_report.specs.declared.stop.Stop.TheVariants as stops
+use Rattle.tick_runs.specs.{code.Playing.Answers, code.Playing.AnswersAll, Hearing.IsAskLeft, Stops.both, Text.inventory_with}
 use Rattle.tick_runs.specs.Closed.{Exchanged, World, told_next}
-use Rattle.tick_runs.specs.code.Telling.{IsSentWhole}
-use Rattle.tick_runs.specs.code.Playing.{Answers, AnswersAll}
-use Rattle.tick_runs.specs.Hearing.{IsAskLeft}
-use Rattle.tick_runs.specs.Stops.{both}
-use Rattle.tick_runs.specs.code.Telling.{IsOneCut, IsRoundBroken, IsRoundCut, IsRoundSoFar, IsRoundUpTo, TellsOne, TellsRound}
-use Rattle.tick_runs.specs.Text.{inventory_with}
+use Rattle.tick_runs.specs.code.Telling.{IsSentWhole, IsOneCut, IsRoundBroken, IsRoundCut, IsRoundSoFar, IsRoundUpTo, TellsOne, TellsRound}
 use Rattle.program_lines.specs.Hearing.{joined_changes}
-use Rattle.tick_runs.proofs.LineByLine.{sent_then}
-use Rattle.tick_runs.proofs.Loops.{answer_more}
-use Rattle.tick_runs.proofs.Rounds.{answers_more}
-use Rattle.tick_runs.proofs.Texts.{same_answer_text}
+use Rattle.tick_runs.proofs.{LineByLine.sent_then, Loops.answer_more, Rounds.answers_more, Texts.same_answer_text}
 
 -- ---- a round so far
 

@@ -1,54 +1,30 @@
 -- The laws of the run without faults.
 use Rattle.std.proofs.Common.{◌≡◌, ℕ, ◌+◌, ◌<◌, ◌≤◌, true, false, List, [], ◌∷◌, ◌++◌, Option, Some, None, IfSome, Result, Ok, Err, filter, is_some, length, map, nat_le, refl, sym, ap, ◌∙◌, subst, arith}
-use Rattle.std.proofs.lemmas.Bool.{cond-false}
-use Rattle.std.proofs.lemmas.Bool.Decides.{nat_tests}
+use Rattle.std.proofs.lemmas.{Bool.cond-false, Bool.Decides.nat_tests}
 use Rattle.std.proofs.lemmas.List.{append-nil, length-append, length-map}
 use Rattle.std.proofs.lemmas.List.Elements.{All-cons, All-nil, All-head, All-tail}
 use Rattle.std.specs.List.{All, flat_map}
 use Rattle.base_moment.specs.declared.moment.TheConstants.{LAST}
 use Rattle.plan_forest.specs.declared.entry.Entry.{Entry}
 use Rattle.plan_forest.specs.Forest.{Forest, end_of, entry_at}
-use Rattle.plan_rule.specs.declared.wake.Wake.{Wake}
-use Rattle.plan_rule.specs.Asks.{with_asks}
-use Rattle.plan_rule.specs.Ends.{ends_after}
-use Rattle.plan_rule.specs.Keeps.{ends_at}
-use Rattle.plan_rule.specs.Plans.{moments}
-use Rattle.plan_rule.proofs.Alive.{last_from_alive}
-use Rattle.plan_rule.proofs.Keeping.{one_least}
-use Rattle.plan_rule.specs.declared.limit.TheConstants.{LIMIT}
+use Rattle.plan_rule.specs.{declared.wake.Wake.Wake, Asks.with_asks, Ends.ends_after, Keeps.ends_at, Plans.moments, declared.limit.TheConstants.LIMIT, Runs.moments_of, declared.force.Force.Force}
+use Rattle.plan_rule.proofs.{Alive.last_from_alive, Keeping.one_least}
 use Rattle.vault_inventory.specs.Inventories.{IsInventory, Inventory}
-use Rattle.broker_rule.specs.Rows.{broker_rows, row_named}
-use Rattle.broker_rule.specs.Sweep.{swept}
-use Rattle.tick_keeper.specs.declared.event.Event.{Event}
-use Rattle.tick_keeper.specs.declared.event.Event.TheVariants.{Tick}
-use Rattle.plan_search.specs.Planned.{to_come}
-use Rattle.plan_rule.specs.Runs.{moments_of}
-use Rattle.plan_rule.specs.declared.force.Force.{Force}
-use Rattle.tick_keeper.specs.declared.event.Output.{Output}
-use Rattle.tick_keeper.specs.declared.event.Output.TheVariants as out
-use Rattle.tick_keeper.specs.declared.fault.StepFault.{StepFault}
+use Rattle.broker_rule.specs.{Rows.broker_rows, Rows.row_named, Sweep.swept, Listed.is_entry_alive, Listed.rows_listed}
+use Rattle.tick_keeper.specs.{declared.event.Event.Event, declared.event.Event.TheVariants.Tick, declared.event.Output.Output, declared.fault.StepFault.StepFault, declared.shortened.ShortNeed.ShortNeed}
+use Rattle.tick_keeper.specs.{Replan.IsPlanOf, Replan.ReplanTooLong, History.CoreTurn, Shorten.pairs, State.CoreState}
 use Rattle.tick_keeper.specs.declared.fault.StepFault.TheVariants.{ClockBack, RoundOpen, NotAsked, BadIndex, OutOfRange, TooLong, OutOfMemory}
-use Rattle.tick_keeper.specs.declared.shortened.ShortNeed.{ShortNeed}
-use Rattle.tick_keeper.specs.Replan.{IsPlanOf, ReplanTooLong}
-use Rattle.tick_keeper.specs.History.{CoreTurn}
-use Rattle.tick_keeper.specs.Shorten.{pairs}
-use Rattle.tick_keeper.specs.State.{CoreState}
-use Rattle.tick_keeper.proofs.Kept.{keepable}
-use Rattle.tick_keeper.proofs.Once.{once}
-use Rattle.tick_keeper.proofs.Shortening.{needed_within}
-use Rattle.tick_keeper.proofs.Standing.{best_from, best_keepable}
+use Rattle.plan_search.specs.Planned.{to_come}
+use Rattle.tick_keeper.specs.declared.event.Output.TheVariants as out
+use Rattle.tick_keeper.proofs.{Kept.keepable, Once.once, Shortening.needed_within, Standing.best_from, Standing.best_keepable}
+use Rattle.tick_runs.specs.{Replies.event_for, Stops.StepIsTaken, Mirrors.with_forest}
 use Rattle.tick_runs.specs.Closed.{Beat, IsRunOpening, World, request_count, rounds, shorts_taken, Played}
-use Rattle.tick_runs.specs.Replies.{event_for}
 use Rattle.tick_runs.specs.Text.{beat_text, course_text, done_text, short_need_lines}
-use Rattle.tick_runs.specs.Stops.{StepIsTaken}
 use Rattle.tick_runs.specs.Laws.{AnswersTakenLaw, PlannedRunLaw, RehearsalLaw, SoFarLaw, StandsLaw}
-use Rattle.broker_rule.specs.Listed.{is_entry_alive, rows_listed}
-use Rattle.tick_runs.specs.Mirrors.{with_forest}
-use Rattle.tick_runs.proofs.Midway.{settled}
-use Rattle.tick_runs.proofs.Mirroring.{mirrors_first}
+use Rattle.tick_runs.proofs.{Midway.settled, Mirroring.mirrors_first}
 use Rattle.tick_runs.proofs.Round.{AtRest, InRound, next_turn, part_goes}
-use Rattle.vault_start.proofs.Started.{start_law}
 use Rattle.tick_runs.proofs.Running.{Awaits, asks_left, asks_open, requests_from, run_goes, tick_leaves, tick_says, tick_turn}
+use Rattle.vault_start.proofs.Started.{start_law}
 use Rattle.broker_table.proofs.Sweeping.{named_among}
 
 -- ---- the opening

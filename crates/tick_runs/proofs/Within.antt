@@ -1,25 +1,18 @@
 -- Within: who is asked, and whose need is shortened, is an entry of the forest.
 use Rattle.std.proofs.Common.{◌≡◌, ℕ, zero, suc, ◌+◌, ◌<◌, ◌≤◌, Bool, List, [], ◌∷◌, ◌++◌, Option, Some, None, Ok, filter, length, nat_lt, inl, inr, sym, ap, ◌∙◌, subst, arith}
+use Rattle.std.proofs.lemmas.{Bool.Decides.nat_tests, List.FromFn.length-range_with_len}
 use Rattle.std.proofs.lemmas.List.Elements.{All-cons, All-nil, All-filter, All-map}
 use Rattle.std.proofs.lemmas.Bool.{cases_Bool, cond-true, cond-false}
-use Rattle.std.proofs.lemmas.Bool.Decides.{nat_tests}
-use Rattle.std.proofs.lemmas.List.FromFn.{length-range_with_len}
 use Rattle.std.specs.List.{All, range_with_len}
 use Rattle.base_moment.specs.declared.moment.TheConstants.{LAST}
-use Rattle.tick_keeper.specs.declared.fault.StepFault.TheVariants.{OutOfRange}
-use Rattle.tick_keeper.specs.Refusal.{step_refusal}
+use Rattle.tick_keeper.specs.{declared.fault.StepFault.TheVariants.OutOfRange, Refusal.step_refusal, declared.event.Event.Event, declared.event.Output.Output, declared.shortened.ShortNeed.ShortNeed, Replan.Replan, History.CoreTurn}
+use Rattle.tick_keeper.specs.{State.CoreState}
+use Rattle.tick_keeper.specs.declared.event.Event.TheVariants.{Tick, Told, Refused, Lost, Need}
+use Rattle.tick_keeper.specs.Shorten.{is_short, pair_of, pairs}
+use Rattle.tick_keeper.specs.Step.{StepAnswer, StepNeed, StepTick, state_after_answer, with_new_need}
 use Rattle.plan_forest.specs.Forest.{Forest, end_of}
 use Rattle.plan_rule.specs.Asks.{asks, first_of, is_to_be_asked}
-use Rattle.tick_keeper.specs.declared.event.Event.{Event}
-use Rattle.tick_keeper.specs.declared.event.Event.TheVariants.{Tick, Told, Refused, Lost, Need}
-use Rattle.tick_keeper.specs.declared.event.Output.{Output}
 use Rattle.tick_keeper.specs.declared.event.Output.TheVariants as out
-use Rattle.tick_keeper.specs.declared.shortened.ShortNeed.{ShortNeed}
-use Rattle.tick_keeper.specs.Replan.{Replan}
-use Rattle.tick_keeper.specs.History.{CoreTurn}
-use Rattle.tick_keeper.specs.Shorten.{is_short, pair_of, pairs}
-use Rattle.tick_keeper.specs.State.{CoreState}
-use Rattle.tick_keeper.specs.Step.{StepAnswer, StepNeed, StepTick, state_after_answer, with_new_need}
 use Rattle.tick_keeper.proofs.Shortening.{shorten_count}
 use Rattle.tick_runs.specs.Closed.{asked_by_output}
 

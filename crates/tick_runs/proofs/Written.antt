@@ -1,30 +1,20 @@
 -- Written: what a run has written so far, and what it has written at its end.
 use Rattle.std.proofs.Common.{◌≡◌, ◌∙◌, ℕ, ◌+◌, ◌*◌, ◌<◌, ◌≤◌, IsTrue, List, [], ◌++◌, Option, Some, None, Result, Ok, Err, ap, arith, inl, inr, length, refl, subst, sym, take}
-use Rattle.std.specs.Result.{IsErr, IsErrAnd}
-use Rattle.std.specs.Io.KnownBytes.{Appends, Keeps}
-use Rattle.std.proofs.KnownBytes.{Appends-kept, Appends-trans}
-use Rattle.std.proofs.Math.Seq.{take-append_seam}
+use Rattle.std.specs.{Result.IsErr, Result.IsErrAnd, Io.KnownBytes.Appends, Io.KnownBytes.Keeps}
+use Rattle.std.proofs.{KnownBytes.Appends-kept, KnownBytes.Appends-trans, Math.Seq.take-append_seam}
 use Rattle.std.proofs.lemmas.List.{append-nil, append_assoc}
-use Rattle.base_device.specs.Seen.{Change}
+use Rattle.base_device.specs.{Seen.Change, Front.AppendsFront, declared.fault.SinkFault.SinkFault}
 use Rattle.base_device.specs.Failures.{Counts, HasFailed, one_more}
-use Rattle.base_device.specs.Front.{AppendsFront}
-use Rattle.base_device.specs.declared.fault.SinkFault.{SinkFault}
 use Rattle.base_device.specs.declared.fault.SinkFault.TheVariants as sink
 use Rattle.vault_inventory.specs.Inventories.{Inventory}
 use Rattle.vault_exchange.specs.Exchanges.{Behind}
-use Rattle.tick_keeper.specs.LawsOfSteps.{IsShaped}
-use Rattle.tick_keeper.specs.State.{CoreState}
+use Rattle.tick_keeper.specs.{LawsOfSteps.IsShaped, State.CoreState}
 use Rattle.tick_keeper.proofs.Shaped.{both_shaped, same}
-use Rattle.program_report.specs.declared.stop.Stop.{Stop}
+use Rattle.program_report.specs.{declared.stop.Stop.Stop, Exits.stop_of_sink}
 use Rattle.program_report.specs.declared.stop.Stop.TheVariants as stops
-use Rattle.program_report.specs.Exits.{stop_of_sink}
-use Rattle.program_report.proofs.Counting.{failed_once}
-use Rattle.program_report.proofs.Pieces.{front_more}
-use Rattle.tick_runs.specs.Closed.{World}
-use Rattle.tick_runs.specs.Hearing.{IsBetweenEvents}
+use Rattle.program_report.proofs.{Counting.failed_once, Pieces.front_more}
+use Rattle.tick_runs.specs.{Closed.World, Hearing.IsBetweenEvents, Stops.both, Text.done_text, Text.inventory_with}
 use Rattle.tick_runs.specs.code.Playing.{Finishes, IsText, LastFront, LastPlays, MayCome, Plays, PlaysFront, RunEnds, RunGoes}
-use Rattle.tick_runs.specs.Stops.{both}
-use Rattle.tick_runs.specs.Text.{done_text, inventory_with}
 use Rattle.tick_runs.proofs.Goes.{ends_go, goes_as, goes_nowhere, goes_on}
 
 -- ---- one text after another

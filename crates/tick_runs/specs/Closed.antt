@@ -4,21 +4,12 @@ use Rattle.std.specs.Prelude.{◌≡◌, ℕ, ◌≤◌, Bool, true, false, List
 use Rattle.std.specs.List.{filter, sum_by}
 use Rattle.plan_forest.specs.Forest.{Forest}
 use Rattle.vault_inventory.specs.Inventories.{Inventory}
-use Rattle.vault_exchange.specs.Exchanges.{Behind}
-use Rattle.vault_exchange.specs.Requests.{RequestIsAsked, renewal_request}
+use Rattle.vault_exchange.specs.{Exchanges.Behind, Requests.RequestIsAsked, Requests.renewal_request}
 use Rattle.vault_http.specs.declared.reply.Reply.{Reply}
-use Rattle.broker_rule.specs.declared.fault.NumberedFault.{NumberedFault}
-use Rattle.broker_rule.specs.Rows.{broker_rows}
-use Rattle.tick_keeper.specs.declared.event.Event.{Event}
-use Rattle.tick_keeper.specs.declared.event.Event.TheVariants.{Tick}
-use Rattle.tick_keeper.specs.declared.event.Output.{Output}
+use Rattle.broker_rule.specs.{declared.fault.NumberedFault.NumberedFault, Rows.broker_rows}
+use Rattle.tick_keeper.specs.{declared.event.Event.Event, declared.event.Event.TheVariants.Tick, declared.event.Output.Output, declared.shortened.ShortNeed.ShortNeed, Replan.Replan, History.CoreTurn, State.CoreState, State.unplanned}
 use Rattle.tick_keeper.specs.declared.event.Output.TheVariants as out
-use Rattle.tick_keeper.specs.declared.shortened.ShortNeed.{ShortNeed}
-use Rattle.tick_keeper.specs.Replan.{Replan}
-use Rattle.tick_keeper.specs.History.{CoreTurn}
-use Rattle.tick_keeper.specs.State.{CoreState, unplanned}
-use Rattle.tick_runs.specs.declared.rehearse.playing.TheConstants.{MOST_WAKES}
-use Rattle.tick_runs.specs.Replies.{event_for}
+use Rattle.tick_runs.specs.{declared.rehearse.playing.TheConstants.MOST_WAKES, Replies.event_for}
 
 -- both sides: the keeper, whose shortened needs were taken, and what stands after the exchange, where it is known: the broker's
 -- table, and the bytes of the last request and its reply

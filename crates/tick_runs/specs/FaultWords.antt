@@ -2,19 +2,14 @@
 -- 1 to 1,000,000. Numbers are spelled in decimal, in their one spelling, and SECONDS is a duration.
 -- Source: this project's own.
 use Rattle.std.specs.Prelude.{◌≡◌, ℕ, ◌+◌, Bool, false, if◌then◌else◌, List, [], ◌∷◌, ◌++◌, Option, Some, None, Result, Ok, Err, bytes_eq, codes, is_none, option_map}
-use Rattle.broker_rule.specs.declared.fault.Fault.{Fault}
+use Rattle.broker_rule.specs.{declared.fault.Fault.Fault, declared.fault.NumberedFault.NumberedFault, declared.fault.SetFault.SetFault, Faults.fault_refusal, Table.BrokerTable}
 use Rattle.broker_rule.specs.declared.fault.Fault.TheVariants.{Short, Drop, Deny}
-use Rattle.broker_rule.specs.declared.fault.NumberedFault.{NumberedFault}
-use Rattle.broker_rule.specs.declared.fault.SetFault.{SetFault}
 use Rattle.broker_rule.specs.declared.fault.SetFault.TheVariants.{BadNumber, Twice, OutOfMemory}
-use Rattle.broker_rule.specs.Faults.{fault_refusal}
-use Rattle.broker_rule.specs.Table.{BrokerTable}
 use Rattle.program_report.specs.declared.stop.Stop.{Stop}
 use Rattle.program_report.specs.declared.stop.Stop.TheVariants as stops
 use Rattle.vault_inventory.specs.declared.limits.TheConstants.{SPAN_MAX}
 use Rattle.tick_runs.specs.declared.rehearse.fault_words.TheConstants.{MOST_NUMBER}
-use Rattle.base_words.specs.Numbers.{number_up_to}
-use Rattle.base_words.specs.Pieces.{pieces, two}
+use Rattle.base_words.specs.{Numbers.number_up_to, Pieces.pieces, Pieces.two}
 
 -- `short` and its seconds
 abbrev pub short_fault_of : Option (List ℕ × List ℕ) → Option Fault

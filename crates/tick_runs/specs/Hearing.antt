@@ -2,27 +2,21 @@
 -- Source: this project's own.
 use Rattle.std.specs.Prelude.{◌≡◌, ℕ, ◌<◌, ◌≤◌, ◌⊎◌, IsTrue, IfSome, true, List, [], ◌∷◌, ◌++◌, Option, Some, None, Result, Ok, Err, codes, decimal, if◌then◌else◌, map, take}
 use Rattle.std.specs.declared.alloc.AllocError.{AllocError}
-use Rattle.base_device.specs.Seen.{Change, Receives}
+use Rattle.base_device.specs.{Seen.Change, Seen.Receives, Failures.HasFailed}
 use Rattle.tick_keeper.specs.declared.event.Event.TheVariants as events
-use Rattle.tick_keeper.specs.declared.event.Output.{Output}
+use Rattle.tick_keeper.specs.{declared.event.Output.Output, History.CoreTurn, State.CoreState}
 use Rattle.tick_keeper.specs.declared.event.Output.TheVariants as out
 use Rattle.tick_keeper.specs.declared.fault.StepFault.TheVariants as steps
-use Rattle.tick_keeper.specs.History.{CoreTurn}
-use Rattle.tick_keeper.specs.State.{CoreState}
-use Rattle.base_device.specs.Failures.{HasFailed}
-use Rattle.vault_exchange.specs.Exchanges.{Behind}
-use Rattle.vault_exchange.specs.Requests.{ExchangeAsks, renewal_request}
+use Rattle.vault_exchange.specs.{Exchanges.Behind, Requests.ExchangeAsks, Requests.renewal_request}
 use Rattle.vault_inventory.specs.Inventories.{Inventory}
-use Rattle.program_report.specs.declared.stop.Stop.{Stop}
+use Rattle.program_report.specs.{declared.stop.Stop.Stop, Sent.IsAll, Sent.IsUntouched}
 use Rattle.program_report.specs.declared.stop.Stop.TheVariants as stops
-use Rattle.program_report.specs.Sent.{IsAll, IsUntouched}
-use Rattle.tick_runs.specs.Closed.{AreAnswered, Beat, Exchanged, IsBeat, World, asked_by_output, asks_some, closing, shorts_taken}
-use Rattle.program_lines.specs.declared.event_line.HeardLine.{HeardLine}
-use Rattle.program_lines.specs.declared.event_line.HeardLine.TheVariants.{Tick, Need, Unknown}
 use Rattle.tick_runs.specs.Stops.{both}
-use Rattle.vault_http.specs.declared.reply.Reply.{Reply}
-use Rattle.program_lines.specs.Text.{line}
+use Rattle.tick_runs.specs.Closed.{AreAnswered, Beat, Exchanged, IsBeat, World, asked_by_output, asks_some, closing, shorts_taken}
 use Rattle.tick_runs.specs.Text.{answer_text, beat_text, inventory_with, short_need_lines}
+use Rattle.program_lines.specs.{declared.event_line.HeardLine.HeardLine, Text.line}
+use Rattle.program_lines.specs.declared.event_line.HeardLine.TheVariants.{Tick, Need, Unknown}
+use Rattle.vault_http.specs.declared.reply.Reply.{Reply}
 
 -- ---- lines
 

@@ -2,39 +2,20 @@
 use Rattle.std.specs.Prelude.{◌≡◌, ℕ, ◌+◌, ◌≤◌, ◌<◌, ◌++◌, true, List, [], ◌∷◌, Option, Some, None, IfSome, Result, Ok, is_some, length, map}
 use Rattle.std.specs.List.{All, flat_map}
 use Rattle.base_moment.specs.declared.moment.TheConstants.{LAST}
-use Rattle.plan_forest.specs.Forest.{end_of, entry_at}
-use Rattle.plan_forest.specs.Renewal.{renewal}
-use Rattle.plan_rule.specs.declared.wake.Wake.{Wake}
-use Rattle.plan_rule.specs.Asks.{with_asks}
-use Rattle.plan_rule.specs.Keeps.{Keeps}
-use Rattle.plan_rule.specs.Plans.{IsPlan}
-use Rattle.plan_rule.specs.Requests.{requests}
-use Rattle.plan_rule.specs.declared.limit.TheConstants.{LIMIT}
-use Rattle.plan_rule.specs.Runs.{moments_of}
-use Rattle.plan_search.specs.declared.decision.Decision.TheVariants.{Keep}
-use Rattle.plan_search.specs.Decides.{Decides}
-use Rattle.plan_search.specs.Planned.{Planned, to_come}
+use Rattle.plan_forest.specs.{Forest.end_of, Forest.entry_at, Renewal.renewal}
+use Rattle.plan_rule.specs.{declared.wake.Wake.Wake, Asks.with_asks, Keeps.Keeps, Plans.IsPlan, Requests.requests, declared.limit.TheConstants.LIMIT, Runs.moments_of}
+use Rattle.plan_search.specs.{declared.decision.Decision.TheVariants.Keep, Decides.Decides, Planned.Planned, Planned.to_come}
 use Rattle.vault_start.specs.Start.{inventory_at}
 use Rattle.vault_inventory.specs.Inventories.{IsInventory, Inventory}
-use Rattle.broker_rule.specs.Rows.{row_named}
-use Rattle.broker_rule.specs.Sweep.{swept}
+use Rattle.broker_rule.specs.{Rows.row_named, Sweep.swept}
+use Rattle.tick_keeper.specs.{declared.event.Output.Output, declared.fault.StepFault.StepFault, declared.shortened.ShortNeed.ShortNeed, Replan.IsPlanOf, Shorten.pairs, Shorten.shorten, History.CoreTurn, State.CoreState}
 use Rattle.tick_keeper.specs.declared.event.Event.TheVariants.{Tick, Told}
-use Rattle.tick_keeper.specs.declared.event.Output.{Output}
 use Rattle.tick_keeper.specs.declared.event.Output.TheVariants as out
-use Rattle.tick_keeper.specs.declared.fault.StepFault.{StepFault}
-use Rattle.tick_keeper.specs.declared.shortened.ShortNeed.{ShortNeed}
-use Rattle.tick_keeper.specs.Replan.{IsPlanOf}
-use Rattle.tick_keeper.specs.Shorten.{pairs, shorten}
-use Rattle.tick_keeper.specs.History.{CoreTurn}
-use Rattle.tick_keeper.specs.State.{CoreState}
-use Rattle.tick_runs.specs.declared.rehearse.playing.TheConstants.{MOST_WAKES}
+use Rattle.tick_runs.specs.{declared.rehearse.playing.TheConstants.MOST_WAKES, Replies.event_for, Stops.StepIsTaken}
 use Rattle.tick_runs.specs.Closed.{AreAnswered, Beat, Exchanged, IsClosedRun, IsRunOpening, Played, RunCourse, World, event_in, request_count, rounds, shorts_taken}
-use Rattle.tick_runs.specs.Replies.{event_for}
-use Rattle.vault_exchange.specs.Exchanges.{Behind}
-use Rattle.vault_exchange.specs.Requests.{RequestIsAsked, renewal_request}
-use Rattle.vault_http.specs.declared.reply.Reply.{Reply}
-use Rattle.tick_runs.specs.Stops.{StepIsTaken}
 use Rattle.tick_runs.specs.Text.{beat_text, course_text, done_text}
+use Rattle.vault_exchange.specs.{Exchanges.Behind, Requests.RequestIsAsked, Requests.renewal_request}
+use Rattle.vault_http.specs.declared.reply.Reply.{Reply}
 
 -- the entry was told the end that the renewal rule gives at t, and nothing was shortened
 pub record IsToldByRule (inventory : Inventory) (t : ℕ) (x : Exchanged) : Type 0 where

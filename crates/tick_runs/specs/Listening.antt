@@ -1,18 +1,12 @@
 -- Listening: event lines, one after another: what they mean, which are heard, and how listening ends.
 -- Source: this project's own.
 use Rattle.std.specs.Prelude.{◌≡◌, ℕ, ◌⊎◌, IsTrue, List, None, Some, Result}
-use Rattle.base_device.specs.Seen.{Change, Receives}
-use Rattle.base_device.specs.Failures.{HasFailed}
-use Rattle.program_lines.specs.Hearing.{Hearing}
+use Rattle.base_device.specs.{Seen.Change, Seen.Receives, Failures.HasFailed}
+use Rattle.program_lines.specs.{Hearing.Hearing, declared.limits.InputLimits.InputLimits, declared.event_line.HeardLine.HeardLine, EventLines.heard_in}
 use Rattle.program_lines.specs.Listening as lines
-use Rattle.program_lines.specs.declared.limits.InputLimits.{InputLimits}
-use Rattle.program_report.specs.declared.stop.Stop.{Stop}
+use Rattle.program_report.specs.{declared.stop.Stop.Stop, Sent.IsAll}
 use Rattle.program_report.specs.declared.stop.Stop.TheVariants as stops
-use Rattle.program_report.specs.Sent.{IsAll}
-use Rattle.program_lines.specs.declared.event_line.HeardLine.{HeardLine}
-use Rattle.tick_runs.specs.declared.live.listening.TheConstants.{MOST_EVENTS, MOST_EVENT_READS}
-use Rattle.tick_runs.specs.Closed.{World}
-use Rattle.program_lines.specs.EventLines.{heard_in}
+use Rattle.tick_runs.specs.{declared.live.listening.TheConstants.MOST_EVENTS, declared.live.listening.TheConstants.MOST_EVENT_READS, Closed.World}
 use Rattle.tick_runs.specs.Hearing.{EventIsCutOff, EventIsHeard, IsBrokenOff, NeedIsOverlong}
 
 -- ---- lines

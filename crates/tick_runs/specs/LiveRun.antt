@@ -3,32 +3,19 @@
 -- Source: this project's own.
 use Rattle.std.specs.Prelude.{◌≡◌, ℕ, ◌+◌, ◌⊎◌, Bool, List, ◌++◌, Option, Result, Ok, Err, length, take, Some, IsTrue}
 use Rattle.std.specs.Io.KnownBytes.{Consumes}
-use Rattle.base_device.specs.Seen.{Change, ReceivesFront}
-use Rattle.tick_keeper.specs.Replan.{Replan, ReplanTooLong}
-use Rattle.tick_keeper.specs.State.{CoreState, unplanned}
-use Rattle.base_device.specs.Failures.{HasFailed}
-use Rattle.base_device.specs.Whole.{MakesAtMost}
+use Rattle.base_device.specs.{Seen.Change, Seen.ReceivesFront, Failures.HasFailed, Whole.MakesAtMost}
+use Rattle.tick_keeper.specs.{Replan.Replan, Replan.ReplanTooLong, State.CoreState, State.unplanned}
 use Rattle.vault_exchange.specs.Exchanges.{Behind}
-use Rattle.vault_inventory.specs.Inventory.{read_served}
-use Rattle.vault_inventory.specs.Served.{Served}
+use Rattle.vault_inventory.specs.{Inventory.read_served, Served.Served}
 use Rattle.vault_served.specs.ForGood.{marks}
 use Rattle.vault_start.specs.Start.{from_start}
-use Rattle.program_lines.specs.Hearing.{EndsBetweenLines, TextIsSaid}
-use Rattle.program_lines.specs.Listening.{IsPrompt}
-use Rattle.program_report.specs.declared.exit.Exit.{Exit}
+use Rattle.program_lines.specs.{Hearing.EndsBetweenLines, Hearing.TextIsSaid, Listening.IsPrompt}
+use Rattle.program_report.specs.{declared.exit.Exit.Exit, declared.stop.Stop.Stop, Exits.exit_of, FaultLine.line_of_stop, Sent.IsAll, Sent.IsUntouched, Told.Reports}
 use Rattle.program_report.specs.declared.exit.Exit.TheVariants as exits
-use Rattle.program_report.specs.declared.stop.Stop.{Stop}
 use Rattle.program_report.specs.declared.stop.Stop.TheVariants as stops
-use Rattle.program_report.specs.Exits.{exit_of}
-use Rattle.program_report.specs.FaultLine.{line_of_stop}
-use Rattle.program_report.specs.Sent.{IsAll, IsUntouched}
-use Rattle.program_report.specs.Told.{Reports}
-use Rattle.tick_runs.specs.Closed.{World, shorts_taken}
-use Rattle.tick_runs.specs.declared.live.listening.TheConstants.{MOST_EVENTS, MOST_EVENT_READS}
-use Rattle.tick_runs.specs.Listening.{EventLinesAreHeard, EventListeningEnds}
+use Rattle.tick_runs.specs.{Closed.World, Closed.shorts_taken, declared.live.listening.TheConstants.MOST_EVENTS, declared.live.listening.TheConstants.MOST_EVENT_READS, Listening.EventLinesAreHeard, Listening.EventListeningEnds, Stops.both}
+use Rattle.tick_runs.specs.{Text.short_need_lines}
 use Rattle.tick_runs.specs.Looking.{AreLookedUp, IsUnlooked, Looked, LookingIsCut, LookupsLeave, first_indices, looked_text}
-use Rattle.tick_runs.specs.Stops.{both}
-use Rattle.tick_runs.specs.Text.{short_need_lines}
 use Rattle.base_words.specs.Pieces.{pieces}
 
 -- ---- the opening

@@ -2,16 +2,12 @@
 -- Source: this project's own; what one lookup comes to is vault_exchange's `Lookups`.
 use Rattle.std.specs.Prelude.{◌≡◌, ℕ, ◌<◌, ◌≤◌, ◌⊎◌, true, false, List, [], ◌∷◌, Option, Result, Ok, Err, length}
 use Rattle.std.specs.List.{flat_map, range_with_len}
-use Rattle.base_device.specs.Seen.{Change, ReceivesFront}
-use Rattle.base_device.specs.Failures.{HasFailed}
-use Rattle.vault_exchange.specs.Exchanges.{Behind}
-use Rattle.vault_exchange.specs.Lookups.{EntryIsLookedUp, IsLookupLeft}
+use Rattle.base_device.specs.{Seen.Change, Seen.ReceivesFront, Failures.HasFailed}
+use Rattle.vault_exchange.specs.{Exchanges.Behind, Lookups.EntryIsLookedUp, Lookups.IsLookupLeft}
 use Rattle.vault_inventory.specs.Inventories.{Inventory}
-use Rattle.program_report.specs.declared.stop.Stop.{Stop}
+use Rattle.program_report.specs.{declared.stop.Stop.Stop, Sent.IsAll, Sent.IsUntouched}
 use Rattle.program_report.specs.declared.stop.Stop.TheVariants as stops
-use Rattle.program_report.specs.Sent.{IsAll, IsUntouched}
-use Rattle.program_lines.specs.Text.{entry_line, name_of}
-use Rattle.program_lines.specs.Hearing.{TextIsSaid}
+use Rattle.program_lines.specs.{Text.entry_line, Text.name_of, Hearing.TextIsSaid}
 use Rattle.plan_forest.specs.Forest.{entry_at}
 
 -- an inventory, and what stands after the exchange over which it is looked up, where that is known

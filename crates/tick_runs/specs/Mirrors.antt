@@ -3,9 +3,7 @@
 use Rattle.std.specs.Prelude.{◌≡◌, ℕ, ◌≤◌, List, slice_set}
 use Rattle.plan_forest.specs.Forest.{Forest, entry_at}
 use Rattle.vault_inventory.specs.Inventories.{Inventory}
-use Rattle.broker_rule.specs.declared.row.BrokerRow.{BrokerRow}
-use Rattle.broker_rule.specs.Listed.{rows_listed}
-use Rattle.broker_rule.specs.Sweep.{swept}
+use Rattle.broker_rule.specs.{declared.row.BrokerRow.BrokerRow, Listed.rows_listed, Sweep.swept}
 
 -- from t on, a sweep of these rows leaves those of the entries that are alive
 abbrev pub Mirrors : Inventory → ℕ → List BrokerRow → Type 0

@@ -4,23 +4,15 @@ use Rattle.std.specs.List.{All, flat_map}
 use Rattle.base_device.specs.Seen.{Change}
 use Rattle.base_moment.specs.declared.moment.TheConstants.{LAST}
 use Rattle.plan_forest.specs.Forest.{end_of}
-use Rattle.plan_rule.specs.Asks.{with_asks}
-use Rattle.plan_rule.specs.Requests.{requests}
-use Rattle.plan_rule.specs.Runs.{moments_of}
-use Rattle.plan_search.specs.declared.decision.Decision.TheVariants.{Keep}
-use Rattle.plan_search.specs.Decides.{Decides}
-use Rattle.plan_search.specs.Planned.{Planned, to_come}
+use Rattle.plan_rule.specs.{Asks.with_asks, Requests.requests, Runs.moments_of}
+use Rattle.plan_search.specs.{declared.decision.Decision.TheVariants.Keep, Decides.Decides, Planned.Planned, Planned.to_come}
 use Rattle.vault_start.specs.Start.{inventory_at}
 use Rattle.vault_inventory.specs.Inventories.{Inventory}
 use Rattle.vault_exchange.specs.Exchanges.{Behind}
-use Rattle.program_report.specs.declared.exit.Exit.{Exit}
+use Rattle.program_report.specs.{declared.exit.Exit.Exit, Sent.IsAll}
 use Rattle.program_report.specs.declared.exit.Exit.TheVariants as exits
-use Rattle.program_report.specs.Sent.{IsAll}
-use Rattle.tick_runs.specs.declared.rehearse.playing.TheConstants.{MOST_WAKES}
+use Rattle.tick_runs.specs.{declared.rehearse.playing.TheConstants.MOST_WAKES, Laws.IsQuietBeat, Rehearse.RehearseRun, Text.beat_text, Text.done_text}
 use Rattle.tick_runs.specs.Closed.{IsClosedRun, RunCourse, World, rounds}
-use Rattle.tick_runs.specs.Laws.{IsQuietBeat}
-use Rattle.tick_runs.specs.Rehearse.{RehearseRun}
-use Rattle.tick_runs.specs.Text.{beat_text, done_text}
 
 -- the closed run has its rounds at the plan's moments, all who are asked are told the renewal rule's ends, and its lines end in
 -- the plan's number of wake-ups and the sum of the lengths of its Asks

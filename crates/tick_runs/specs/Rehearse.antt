@@ -1,25 +1,16 @@
 -- The run `rehearse`: what it has written, the table and the wire that it leaves, and when it gives which exit.
 -- Source: this project's own.
 use Rattle.std.specs.Prelude.{◌≡◌, ℕ, ◌⊎◌, List, [], ◌++◌, Option, Some, None, Result, Ok, Err}
-use Rattle.base_device.specs.Seen.{Change, ReceivesFront}
-use Rattle.base_device.specs.Failures.{HasFailed}
-use Rattle.vault_inventory.specs.declared.fault.InvFault.{InvFault}
-use Rattle.vault_inventory.specs.Inventories.{Inventory}
-use Rattle.broker_rule.specs.declared.fault.NumberedFault.{NumberedFault}
+use Rattle.base_device.specs.{Seen.Change, Seen.ReceivesFront, Failures.HasFailed}
+use Rattle.vault_inventory.specs.{declared.fault.InvFault.InvFault, Inventories.Inventory}
+use Rattle.broker_rule.specs.{declared.fault.NumberedFault.NumberedFault, Rows.broker_rows}
 use Rattle.vault_exchange.specs.Exchanges.{Behind}
-use Rattle.broker_rule.specs.Rows.{broker_rows}
 use Rattle.tick_keeper.specs.Replan.{ReplanTooLong}
-use Rattle.program_report.specs.declared.exit.Exit.{Exit}
+use Rattle.program_report.specs.{declared.exit.Exit.Exit, declared.stop.Stop.Stop, FaultLine.line_of_stop, FaultLine.own_name, Sent.IsAll, Sent.IsUntouched, Told.Reports, Told.Told}
 use Rattle.program_report.specs.declared.exit.Exit.TheVariants as exits
-use Rattle.program_report.specs.declared.stop.Stop.{Stop}
 use Rattle.program_report.specs.declared.stop.Stop.TheVariants as stops
-use Rattle.program_report.specs.FaultLine.{line_of_stop, own_name}
-use Rattle.program_report.specs.Sent.{IsAll, IsUntouched}
-use Rattle.program_report.specs.Told.{Reports, Told}
+use Rattle.tick_runs.specs.{FaultWords.faults_of, Stops.RunIsStopped, Stops.SoFar, Text.course_text, Text.done_text}
 use Rattle.tick_runs.specs.Closed.{IsClosedRun, RunCourse, World}
-use Rattle.tick_runs.specs.FaultWords.{faults_of}
-use Rattle.tick_runs.specs.Stops.{RunIsStopped, SoFar}
-use Rattle.tick_runs.specs.Text.{course_text, done_text}
 
 -- the inventory and the FAULT words are read
 pub record IsCalled (answer : Result Inventory InvFault) (words : List (List ℕ)) (inventory : Inventory) (faults : List NumberedFault) : Type 0 where

@@ -1,13 +1,10 @@
 -- Replies: the event that a reply to a renewal gives.
 -- Source: Vault, HTTP API, for what a body tells (vault_exchange's). Which status means what is this project's own.
 use Rattle.std.specs.Prelude.{◌≡◌, ℕ, ◌==◌, ◌&&◌, not, List, Option, Some, None, nat_le, nat_lt, if◌then◌else◌}
-use Rattle.plan_forest.specs.declared.entry.Kind.{Kind}
-use Rattle.plan_forest.specs.Forest.{Forest, entry_at}
+use Rattle.plan_forest.specs.{declared.entry.Kind.Kind, Forest.Forest, Forest.entry_at}
 use Rattle.vault_inventory.specs.Inventories.{credential_at}
-use Rattle.tick_keeper.specs.declared.event.Event.{Event}
+use Rattle.tick_keeper.specs.{declared.event.Event.Event, LawsOfHistories.IsAnswerEvent, Step.entry_of_event}
 use Rattle.tick_keeper.specs.declared.event.Event.TheVariants.{Told, Refused, Lost}
-use Rattle.tick_keeper.specs.LawsOfHistories.{IsAnswerEvent}
-use Rattle.tick_keeper.specs.Step.{entry_of_event}
 use Rattle.vault_exchange.specs.Heard.{renewed_in}
 use Rattle.vault_http.specs.declared.reply.Reply.{Reply}
 use Rattle.vault_json.specs.declared.renewed.Renewed.{Renewed}

@@ -2,15 +2,10 @@
 -- contract of a public function without a body.
 use Rattle.std.specs.Prelude.{◌≡◌, ℕ, ◌<◌, ◌++◌, All, Bool, List, Option, Some, length}
 use Rattle.plan_forest.specs.Forest.{Forest}
-use Rattle.vault_inventory.specs.Inventories.{Inventory, IsInventory}
-use Rattle.vault_inventory.specs.declared.terms.Terms.{Terms}
-use Rattle.vault_exchange.specs.Exchanges.{Behind}
-use Rattle.vault_exchange.specs.Lookups.{EntryIsLookedUp}
+use Rattle.vault_inventory.specs.{Inventories.Inventory, Inventories.IsInventory, declared.terms.Terms.Terms}
+use Rattle.vault_exchange.specs.{Exchanges.Behind, Lookups.EntryIsLookedUp}
 use Rattle.broker_alike.specs.Alike.{AreBrokersAlike, AreDated, AreTablesAlike, KeepsSupplied}
-use Rattle.tick_runs.specs.Closed.{World}
-use Rattle.tick_runs.specs.Listening.{EventLinesAreHeard}
-use Rattle.tick_runs.specs.LiveRun.{IsLiveOpening, IsLiveRun}
-use Rattle.tick_runs.specs.Looking.{AreLookedUp, Looked}
+use Rattle.tick_runs.specs.{Closed.World, Listening.EventLinesAreHeard, LiveRun.IsLiveOpening, LiveRun.IsLiveRun, Looking.AreLookedUp, Looking.Looked}
 
 -- two sides with one keeper, over brokers that differ in credentials alone
 pub record AreWorldsAlike (g : Forest) (cs ds : List (List ℕ)) (old other : World) : Type 0 where

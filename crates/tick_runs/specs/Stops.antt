@@ -6,18 +6,10 @@ use Rattle.vault_inventory.specs.Inventories.{Inventory}
 use Rattle.broker_rule.specs.declared.fault.NumberedFault.{NumberedFault}
 use Rattle.vault_exchange.specs.Exchanges.{Behind}
 use Rattle.base_moment.specs.declared.moment.TheConstants.{LAST}
-use Rattle.tick_keeper.specs.declared.event.Event.{Event}
-use Rattle.tick_keeper.specs.declared.event.Event.TheVariants.{Tick}
-use Rattle.tick_keeper.specs.declared.event.Output.{Output}
-use Rattle.tick_keeper.specs.declared.fault.StepFault.{StepFault}
+use Rattle.tick_keeper.specs.{declared.event.Event.Event, declared.event.Event.TheVariants.Tick, declared.event.Output.Output, declared.fault.StepFault.StepFault, declared.fault.StepFault.TheVariants.OutOfMemory}
+use Rattle.tick_keeper.specs.{declared.shortened.ShortNeed.ShortNeed, History.CoreTurn, Refusal.TellsSpan, State.CoreState}
 use Rattle.tick_keeper.specs.declared.event.Output.TheVariants as out
-use Rattle.tick_keeper.specs.declared.fault.StepFault.TheVariants.{OutOfMemory}
-use Rattle.tick_keeper.specs.declared.shortened.ShortNeed.{ShortNeed}
-use Rattle.tick_keeper.specs.History.{CoreTurn}
-use Rattle.tick_keeper.specs.Refusal.{TellsSpan}
-use Rattle.tick_keeper.specs.State.{CoreState}
-use Rattle.tick_runs.specs.declared.rehearse.playing.TheConstants.{MOST_WAKES}
-use Rattle.tick_runs.specs.Replies.{IsAnswerOf}
+use Rattle.tick_runs.specs.{declared.rehearse.playing.TheConstants.MOST_WAKES, Replies.IsAnswerOf}
 use Rattle.tick_runs.specs.Closed.{AreAnswered, Beat, Exchanged, IsBeat, IsClosedRun, IsRunOpening, Played, RequestIsAnswered, RunCourse, World, closing, next_tick, request_count, rounds, shorts_taken, told_next}
 use Rattle.tick_runs.specs.Text.{beat_text, course_text, done_text, short_need_lines}
 

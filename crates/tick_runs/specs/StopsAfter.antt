@@ -3,15 +3,11 @@
 use Rattle.std.proofs.Common.{◌≡◌, ℕ, inl, inr, List, ◌++◌, take, sym, ap, ◌∙◌, subst}
 use Rattle.std.proofs.lemmas.List.{append_assoc}
 use Rattle.std.specs.Io.KnownBytes.{Appends}
-use Rattle.base_device.specs.Seen.{Change, Seen}
-use Rattle.base_device.specs.Failures.{HasFailed}
-use Rattle.program_lines.specs.Hearing.{StopsAfter, joined_changes}
+use Rattle.base_device.specs.{Seen.Change, Seen.Seen, Failures.HasFailed}
+use Rattle.program_lines.specs.{Hearing.StopsAfter, Hearing.joined_changes, declared.event_line.HeardLine.HeardLine}
 use Rattle.program_lines.proofs.LineByLine.{appends_then, said_appends}
 use Rattle.program_report.specs.declared.stop.Stop.TheVariants as stops
-use Rattle.tick_runs.specs.Listening.{IsCutShort, hearing_of_events}
-use Rattle.tick_runs.specs.Hearing.{EventIsCutOff, IsBrokenOff}
-use Rattle.program_lines.specs.declared.event_line.HeardLine.{HeardLine}
-use Rattle.tick_runs.specs.Closed.{World}
+use Rattle.tick_runs.specs.{Listening.IsCutShort, Listening.hearing_of_events, Hearing.EventIsCutOff, Hearing.IsBrokenOff, Closed.World}
 
 module _ (a b : Change) (same : a.new ≡ b.old) where
   module _ (port : ℕ) (cs : List (List ℕ)) (old new : World) (t u : List ℕ) (first : Appends a.old.output.written a.new.output.written t) where

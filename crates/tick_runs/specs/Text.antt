@@ -6,11 +6,9 @@ use Rattle.program_lines.specs.Text.{line, name_of, names_of}
 use Rattle.plan_forest.specs.Forest.{Forest}
 use Rattle.vault_inventory.specs.Inventories.{Inventory}
 use Rattle.vault_http.specs.declared.reply.Reply.{Reply}
-use Rattle.tick_keeper.specs.declared.event.Event.{Event}
+use Rattle.tick_keeper.specs.{declared.event.Event.Event, declared.event.Output.Output, declared.shortened.ShortNeed.ShortNeed}
 use Rattle.tick_keeper.specs.declared.event.Event.TheVariants.{Tick, Told, Refused, Lost, Need}
-use Rattle.tick_keeper.specs.declared.event.Output.{Output}
 use Rattle.tick_keeper.specs.declared.event.Output.TheVariants as out
-use Rattle.tick_keeper.specs.declared.shortened.ShortNeed.{ShortNeed}
 use Rattle.tick_runs.specs.Closed.{Beat, Exchanged, RunCourse, event_in, request_count, rounds}
 
 -- an inventory of these credentials and this forest

@@ -3,7 +3,7 @@ ghost use Rattle.std.specs.Prelude.{◌≡◌, ◌<◌, IfSome, length};
 ghost use Rattle.tick_keeper.specs.History.{CoreTurn};
 ghost use Rattle.vault_exchange.specs.Requests.{ExchangeAsks, renewal_request};
 ghost use Rattle.vault_inventory.specs.Inventories.{credential_at};
-ghost use Rattle.tick_runs.specs.KeeperAgent.{AgentIsFit};
+ghost use Rattle.tick_runs.specs.Agent.{AgentIsFit};
 ghost use Rattle.tick_runs.specs.Closed.{shorts_taken};
 
 pub(crate) mod answering;
@@ -29,7 +29,7 @@ pub struct KeeperAgent {
 }
 
 impl Model for KeeperAgent {
-    ghost use Rattle.tick_runs.specs.KeeperAgent.{AgentIsFit, RunAgent};
+    ghost use Rattle.tick_runs.specs.Agent.{AgentIsFit, RunAgent};
 
     ghost Value = { RunAgent };
 

@@ -3,17 +3,12 @@ use Rattle.std.proofs.Common.{◌≡◌, ◌≢◌, ◌∙◌, ℕ, ◌+◌, ◌
 use Rattle.std.proofs.lemmas.Bool.{cases_Bool, cond-false, cond-true, eqb-true}
 use Rattle.vault_inventory.specs.Inventories.{Inventory}
 use Rattle.vault_lanes.specs.declared.lanes.Answered as lanes
-use Rattle.watch_machine.specs.declared.command.WatchOutput.{WatchOutput}
-use Rattle.watch_machine.specs.declared.event.Operation.{Operation}
+use Rattle.watch_machine.specs.{declared.command.WatchOutput.WatchOutput, declared.event.Operation.Operation, declared.event.WatchReply.WatchReply, declared.event.WatchTerms.WatchTerms, declared.lanes.Out.Out, History.Turn}
+use Rattle.watch_machine.specs.{State.WatchState}
 use Rattle.watch_machine.specs.declared.event.Operation.TheVariants.{Look, Renew}
-use Rattle.watch_machine.specs.declared.event.WatchReply.{WatchReply}
-use Rattle.watch_machine.specs.declared.event.WatchTerms.{WatchTerms}
-use Rattle.watch_machine.specs.declared.lanes.Out.{Out}
-use Rattle.watch_machine.specs.History.{Turn}
-use Rattle.watch_machine.specs.State.{WatchState}
+use Rattle.vault_asking.specs.Told.{event_as}
 use Rattle.vault_asking.specs.Handing.{AreHandedIn, IsHandedIn, out_of}
 use Rattle.vault_asking.specs.InStep.{AreOut, MachineIsSound, entries_answered, entries_out, times}
-use Rattle.vault_asking.specs.Told.{event_as}
 use Rattle.vault_asking.proofs.Sound.{Answered, at_most_one, counts, same_index, skips, times_append, turn_looked, turn_renewed}
 
 -- ---- the request that an answer is to

@@ -1,25 +1,18 @@
 -- Changed: where another forest is watched, the requests on lanes stay those that the machine has out. For the law of lanes that stay in step.
 use Rattle.std.proofs.Common.{◌≡◌, ◌∙◌, ◌==◌, ℕ, ◌+◌, ◌<◌, ◌≤◌, Bool, true, false, cond, if◌then◌else◌, List, [], ◌∷◌, ◌++◌, Option, Some, None, length, map, nat_lt, refl, sym, ap, subst, arith, inl, inr}
+use Rattle.std.proofs.lemmas.{Bool.Decides.nat_tests, List.length-map, List.map-append, List.FromFn.length-map-range_with_len, List.Sums.sum_by-cons}
 use Rattle.std.proofs.lemmas.Bool.{cases_Bool, cases_lt, cond-false, cond-true, eqb-true}
-use Rattle.std.proofs.lemmas.Bool.Decides.{nat_tests}
-use Rattle.std.proofs.lemmas.List.{length-map, map-append}
-use Rattle.std.proofs.lemmas.List.FromFn.{length-map-range_with_len}
-use Rattle.std.proofs.lemmas.List.Sums.{sum_by-cons}
 use Rattle.vault_lanes.specs.Out as lanes
 use Rattle.vault_lanes.specs.Out.{index_in, renamed, with_index}
 use Rattle.vault_lanes.proofs.Renamed.{in_front, in_rest}
 use Rattle.plan_forest.specs.Forest.{Forest, entry_at}
-use Rattle.watch_machine.specs.declared.change.Was.{Was}
+use Rattle.watch_machine.specs.{declared.change.Was.Was, declared.lanes.Out.Out, declared.track.Track.Track, Beginning.untopped_track, State.WatchState, State.track_at}
 use Rattle.watch_machine.specs.declared.change.Was.TheVariants.{New, Same, Retold}
-use Rattle.watch_machine.specs.declared.lanes.Out.{Out}
-use Rattle.watch_machine.specs.declared.track.Track.{Track}
-use Rattle.watch_machine.specs.Beginning.{untopped_track}
 use Rattle.watch_machine.specs.Change.{IsChange, changed, entry_by, forest_after, former, former_at, out_after, track_by, tracks_after, was_at}
-use Rattle.watch_machine.specs.State.{WatchState, track_at}
 use Rattle.watch_machine.proofs.Changing.{out_length}
 use Rattle.watch_machine.proofs.Moved.{changed_track, former_low, place_there, times_moved, times_new, times_nobody, times_out}
-use Rattle.vault_asking.specs.InStep.{MachineIsSound, entries_on, entries_out, seats_of, times}
 use Rattle.vault_asking.specs.Laws.{ChangeLaw}
+use Rattle.vault_asking.specs.InStep.{MachineIsSound, entries_on, entries_out, seats_of, times}
 use Rattle.vault_asking.proofs.Sound.{at_most_one, counts, lookup_flag, same_index, skips, times_append, times_cons}
 
 -- ---- the same indices, under others

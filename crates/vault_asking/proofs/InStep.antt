@@ -4,14 +4,9 @@ use Rattle.std.proofs.Common.{◌≡◌, ◌∙◌, ℕ, ◌+◌, ◌≤◌, Boo
 use Rattle.std.proofs.lemmas.List.{length-append, length-map}
 use Rattle.vault_inventory.specs.Inventories.{Inventory}
 use Rattle.vault_lanes.specs.Out as lanes
-use Rattle.vault_lanes.specs.Out.{IsParted, OutIsPut}
-use Rattle.vault_lanes.specs.declared.lanes.Answered.{Answered}
-use Rattle.watch_machine.specs.declared.command.WatchOutput.{WatchOutput}
-use Rattle.watch_machine.specs.declared.command.WatchRequest.{WatchRequest}
-use Rattle.watch_machine.specs.declared.event.WatchEvent.TheVariants.{Clock, Looked, Renewed, Need, Begin, Known}
-use Rattle.watch_machine.specs.declared.lanes.Out.{Out}
-use Rattle.watch_machine.specs.History.{Turn}
-use Rattle.watch_machine.specs.State.{WatchState, fresh_track}
+use Rattle.vault_lanes.specs.{Out.IsParted, Out.OutIsPut, declared.lanes.Answered.Answered}
+use Rattle.watch_machine.specs.{declared.command.WatchOutput.WatchOutput, declared.command.WatchRequest.WatchRequest, declared.lanes.Out.Out, History.Turn, State.WatchState, State.fresh_track}
+use Rattle.watch_machine.specs.declared.event.WatchEvent.TheVariants.{Need, Begin, Known}
 use Rattle.vault_asking.specs.Handing.{AreHandedIn}
 use Rattle.vault_asking.specs.InStep.{AreOut, IsAbreast, entries_answered, entries_on, entries_out, times}
 use Rattle.vault_asking.specs.Laws.{AnswersLaw, ClockLaw, NewLaw, OtherLaw}

@@ -5,12 +5,9 @@ use Rattle.vault_exchange.specs.Requests.{lookup_of, renewal_request}
 use Rattle.vault_inventory.specs.Inventories.{Inventory}
 use Rattle.vault_lanes.specs.declared.lanes.Ask.{Ask}
 use Rattle.vault_http.specs.declared.request.Request as http
-use Rattle.watch_machine.specs.declared.command.Patience.{Patience}
+use Rattle.watch_machine.specs.{declared.command.Patience.Patience, declared.command.WatchRequest.WatchRequest, declared.event.Operation.Operation, State.WatchState}
 use Rattle.watch_machine.specs.declared.command.Patience.TheVariants.{Full, AtMost}
-use Rattle.watch_machine.specs.declared.command.WatchRequest.{WatchRequest}
-use Rattle.watch_machine.specs.declared.event.Operation.{Operation}
 use Rattle.watch_machine.specs.declared.event.Operation.TheVariants.{Look, Renew}
-use Rattle.watch_machine.specs.State.{WatchState}
 
 -- a request as it is sent to a broker at that port. A renewal asks for the step that the machine has
 abbrev pub message_as : Operation → ℕ → Inventory → WatchState → ℕ → http.Request

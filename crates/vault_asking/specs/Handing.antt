@@ -3,12 +3,8 @@
 use Rattle.std.specs.Prelude.{◌≡◌, ◌==◌, ℕ, List, [], ◌∷◌, Option, Some, Ok, find}
 use Rattle.vault_inventory.specs.Inventories.{Inventory}
 use Rattle.vault_lanes.specs.declared.lanes.Answered.{Answered}
-use Rattle.watch_machine.specs.declared.command.WatchOutput.{WatchOutput}
-use Rattle.watch_machine.specs.declared.lanes.Out.{Out}
-use Rattle.watch_machine.specs.History.{Turn}
-use Rattle.watch_machine.specs.State.{WatchState}
-use Rattle.vault_asking.specs.Told.{event_as, said_to}
-use Rattle.vault_asking.specs.declared.told.Said.{Said}
+use Rattle.watch_machine.specs.{declared.command.WatchOutput.WatchOutput, declared.lanes.Out.Out, History.Turn, State.WatchState}
+use Rattle.vault_asking.specs.{Told.event_as, Told.said_to, declared.told.Said.Said}
 
 -- the request that is out of an entry
 abbrev pub out_of : List Out → ℕ → Option Out

@@ -3,19 +3,13 @@
 use Rattle.std.specs.Prelude.{◌≡◌, ◌+◌, ◌<◌, ◌≤◌, ℕ, All, List, [], Ok, length}
 use Rattle.vault_inventory.specs.Inventories.{Inventory}
 use Rattle.vault_lanes.specs.Out as lanes
-use Rattle.vault_lanes.specs.Out.{IsParted, renamed}
-use Rattle.vault_lanes.specs.declared.lanes.Answered.{Answered}
+use Rattle.vault_lanes.specs.{Out.IsParted, Out.renamed, declared.lanes.Answered.Answered}
 use Rattle.plan_forest.specs.Forest.{Forest}
-use Rattle.watch_machine.specs.declared.command.WatchCommand.TheVariants.{Go}
-use Rattle.watch_machine.specs.declared.command.WatchOutput.{WatchOutput}
-use Rattle.watch_machine.specs.declared.command.WatchRequest.{WatchRequest}
-use Rattle.watch_machine.specs.declared.event.WatchEvent.{WatchEvent}
+use Rattle.watch_machine.specs.{declared.command.WatchCommand.TheVariants.Go, declared.command.WatchOutput.WatchOutput, declared.command.WatchRequest.WatchRequest, declared.event.WatchEvent.WatchEvent, State.WatchState, State.opened}
 use Rattle.watch_machine.specs.declared.event.WatchEvent.TheVariants.{Clock, Looked, Renewed, Need, Begin, Known}
 use Rattle.watch_machine.specs.History.{Changed, IsChanged, Turn}
-use Rattle.watch_machine.specs.State.{WatchState, opened}
-use Rattle.vault_asking.specs.Handing.{AreHandedIn}
+use Rattle.vault_asking.specs.{Handing.AreHandedIn, Sending.GoOut, Sending.Lanes}
 use Rattle.vault_asking.specs.InStep.{AreOut, IsAbreast, entries_out}
-use Rattle.vault_asking.specs.Sending.{GoOut, Lanes}
 
 -- a new machine, over as many lanes as it may have requests out, of which none is taken
 abbrev pub NewLaw : Type 0

@@ -4,8 +4,7 @@ use Rattle.std.specs.Prelude.{◌≡◌, ℕ, List, [], ◌∷◌, Option}
 use Rattle.vault_inventory.specs.Inventories.{Inventory}
 use Rattle.vault_lanes.specs.Out as lanes
 use Rattle.vault_lanes.specs.Serving.{BehindLanes, RequestIsSent}
-use Rattle.watch_machine.specs.declared.command.WatchRequest.{WatchRequest}
-use Rattle.watch_machine.specs.State.{WatchState}
+use Rattle.watch_machine.specs.{declared.command.WatchRequest.WatchRequest, State.WatchState}
 use Rattle.vault_asking.specs.Asking.{ask_of}
 
 -- lanes: what is behind them, where it is known; the requests that are out, by rising index; and their time-out in seconds

@@ -2,27 +2,18 @@
 -- Source: Vault, HTTP API: `auth/token`, "Lookup a token (self)"; `sys/leases`, "Read lease". That one said of another entry, or
 -- of the other kind, counts as lost is this project's own.
 use Rattle.std.specs.Prelude.{ℕ, ◌==◌, ◌||◌, Bool, true, false, if◌then◌else◌, Option, Some, None, Ok, Err, length, nat_lt}
-use Rattle.vault_lanes.specs.Heard.{looked_up_by_answer, renewed_by_answer}
-use Rattle.vault_lanes.specs.Losses.{Answer}
-use Rattle.vault_lanes.specs.declared.heard.HeardAnswer.{HeardAnswer}
+use Rattle.vault_lanes.specs.{Heard.looked_up_by_answer, Heard.renewed_by_answer, Losses.Answer, declared.heard.HeardAnswer.HeardAnswer, declared.lanes.Answered.Answered, declared.loss.Loss.Loss}
 use Rattle.vault_lanes.specs.declared.heard.HeardAnswer.TheVariants as heard
-use Rattle.vault_lanes.specs.declared.lanes.Answered.{Answered}
-use Rattle.vault_lanes.specs.declared.loss.Loss.{Loss}
 use Rattle.vault_lanes.specs.declared.loss.Loss.TheVariants as losses
 use Rattle.vault_exchange.specs.declared.heard.ToldTerms as looked
+use Rattle.vault_inventory.specs.{Lookup.lookup_fault, Lookup.told_terms, Terms.ceiling_of, Terms.step_of, declared.lookup.LookupFault.LookupFault}
 use Rattle.vault_inventory.specs.Inventories.{Inventory, credential_at, terms_at}
-use Rattle.vault_inventory.specs.Lookup.{lookup_fault, told_terms}
-use Rattle.vault_inventory.specs.Terms.{ceiling_of, step_of}
-use Rattle.vault_inventory.specs.declared.lookup.LookupFault.{LookupFault}
 use Rattle.vault_inventory.specs.declared.lookup.LookupFault.TheVariants.{OtherKind, OtherEntry, OtherTree, NoStep}
 use Rattle.plan_forest.specs.Forest.{entry_at}
-use Rattle.watch_machine.specs.declared.event.WatchEvent.{WatchEvent}
+use Rattle.watch_machine.specs.{declared.event.WatchEvent.WatchEvent, declared.event.Operation.Operation, declared.event.WatchReply.WatchReply, declared.event.WatchTerms.WatchTerms}
 use Rattle.watch_machine.specs.declared.event.WatchEvent.TheVariants.{Looked, Renewed}
-use Rattle.watch_machine.specs.declared.event.Operation.{Operation}
 use Rattle.watch_machine.specs.declared.event.Operation.TheVariants.{Look, Renew}
-use Rattle.watch_machine.specs.declared.event.WatchReply.{WatchReply}
 use Rattle.watch_machine.specs.declared.event.WatchReply.TheVariants.{Told, Refused, Busy, Lost}
-use Rattle.watch_machine.specs.declared.event.WatchTerms.{WatchTerms}
 use Rattle.vault_asking.specs.declared.told.Said.{Said}
 use Rattle.vault_json.specs.declared.lookup.Lookup.{Lookup}
 use Rattle.vault_json.specs.declared.lookup.Lookup.TheVariants as lookups

@@ -8,7 +8,7 @@ use std::alloc::{AllocError, Global};
 use vault_exchange::{lookup_for, request_for};
 use vault_inventory::Inventory;
 use vault_lanes::Ask;
-use watch_machine::{Operation, Patience, WatchRequest, Watch};
+use watch_machine::{Operation, Patience, Watch, WatchRequest};
 
 /// A request of the machine as it is handed to lanes whose broker listens at that port, with the credentials of the inventory
 /// that the machine was made of. A renewal asks for the step that the machine has, which lookups have told. The only error is

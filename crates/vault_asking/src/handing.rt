@@ -4,7 +4,7 @@ ghost use Rattle.vault_asking.specs.Handing.{out_of};
 ghost use Rattle.vault_asking.specs.Told.{event_as};
 
 use crate::told::Said;
-use watch_machine::{WatchEvent, Notes, Operation, Out};
+use watch_machine::{Notes, Operation, Out, WatchEvent};
 
 /// An answer that was handed in.
 #[derive(Clone, Copy, Debug)]

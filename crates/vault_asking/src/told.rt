@@ -156,7 +156,11 @@ fn renewal_reply(heard: &HeardAnswer<Renewed>) -> WatchReply
 /// What the machine is told of an answer to the lookup of an entry. One that is said of another entry, or of the other kind,
 /// counts as lost.
 #[tactic(auto, unfolding(crate::specs::Told::lookup_reply, crate::specs::Told::lookup_terms))]
-fn lookup_reply(inventory: &Inventory, entry: u32, heard: &HeardAnswer<Told>) -> (WatchReply, WatchTerms)
+fn lookup_reply(
+    inventory: &Inventory,
+    entry: u32,
+    heard: &HeardAnswer<Told>,
+) -> (WatchReply, WatchTerms)
     requires { entry < length inventory.now.forest.entries }
     ensures reply { result.0 ≡ lookup_reply inventory.now entry heard.now }
     ensures terms { result.1 ≡ lookup_terms inventory.now entry heard.now }

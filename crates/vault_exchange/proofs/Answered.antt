@@ -1,32 +1,23 @@
 -- Of which row an answer of the broker speaks: so no reply to a renewal is longer than is read.
 use Rattle.std.proofs.Common.{◌≡◌, ℕ, ◌<◌, ◌≤◌, ◌^◌, ◌⊎◌, inl, inr, Bool, true, false, cond, List, [], ◌∷◌, length, bytes_eq, ◌&&◌, refl, sym, subst, ap, ◌∙◌, arith, Option, Some, None, Result, Ok, Err, if◌then◌else◌, IsUtf8}
-use Rattle.std.specs.Cmp.Lexicographic.{bytes_decides}
-use Rattle.std.specs.List.{find}
+use Rattle.std.specs.{Cmp.Lexicographic.bytes_decides, List.find, Str.is_utf8}
 use Rattle.plan_forest.specs.Push.{is_lease}
 use Rattle.plan_forest.proofs.Carrying.{and_right}
 use Rattle.vault_exchange.specs.Requests.{ReplyFits, lease_renewal, token_renewal}
 use Rattle.vault_exchange.proofs.Lengths.{errors_short, ok_short, refusal_short, refused_short, renewed_lease_short, renewed_self_short, reply_short, status_short}
-use Rattle.broker_rule.specs.declared.call.ApiCall.{ApiCall}
-use Rattle.broker_rule.specs.declared.call.ApiCall.TheVariants.{RenewSelf, RenewLease, LookupSelf, LookupLease}
-use Rattle.broker_rule.specs.declared.fault.Fault.{Fault}
-use Rattle.broker_rule.specs.declared.refusal.Refusal.{Refusal}
+use Rattle.broker_rule.specs.{declared.call.ApiCall.ApiCall, declared.fault.Fault.Fault, declared.refusal.Refusal.Refusal, declared.row.BrokerRow.BrokerRow, declared.served.Served.Served, Table.BrokerTable}
+use Rattle.broker_rule.specs.{Faults.fault_at, Faults.next_number}
+use Rattle.broker_rule.specs.declared.call.ApiCall.TheVariants.{RenewSelf, RenewLease}
 use Rattle.broker_rule.specs.declared.refusal.Refusal.TheVariants.{NotRenewable, PermissionDenied}
-use Rattle.broker_rule.specs.declared.row.BrokerRow.{BrokerRow}
-use Rattle.broker_rule.specs.declared.served.Served.{Served}
-use Rattle.broker_rule.specs.declared.served.Served.TheVariants as served
-use Rattle.broker_rule.specs.Table.{BrokerTable}
-use Rattle.broker_rule.specs.Faults.{fault_at, next_number}
 use Rattle.broker_rule.specs.Renewing.{granted_row, is_deny, new_end, renewal_by_broker}
 use Rattle.broker_rule.specs.Request.{a_text, allows, asked, asked_of_lease, call_of, increment_in, is_renewal, lease_id_in, read_or_none}
 use Rattle.broker_rule.specs.Step.{BrokerAnswer, BrokerOutcome, IsReplyBody, SaysAnswer, after_sweep, broker_step, by_call, drops, is_drop, lookup_answer, refuses, renewal_answer, renewal_outcome, seconds_to, tells}
 use Rattle.broker_rule.specs.Subject.{Subject, bearer, belongs, is_lease_with, lease_with, owned, subject, with_asked, with_bearer}
-use Rattle.std.proofs.lemmas.Bool.{cond-true}
-use Rattle.std.proofs.lemmas.Str.{is_utf8-from_IsUtf8}
-use Rattle.std.specs.Str.{is_utf8}
+use Rattle.broker_rule.specs.declared.served.Served.TheVariants as served
+use Rattle.std.proofs.lemmas.{Bool.cond-true, Str.is_utf8-from_IsUtf8}
 use Rattle.vault_http.specs.declared.request.Request.{Request}
 use Rattle.vault_json.proofs.ReadBack.{lease_body_is_read}
-use Rattle.vault_json.specs.Request.{increment_answer}
-use Rattle.vault_json.specs.Written.{lease_text}
+use Rattle.vault_json.specs.{Request.increment_answer, Written.lease_text}
 
 -- ---- the row of which a request speaks
 

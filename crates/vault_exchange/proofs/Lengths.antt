@@ -3,11 +3,9 @@ use Rattle.std.proofs.Common.{◌≡◌, ℕ, ◌+◌, ◌*◌, ◌/◌, ◌%◌
 use Rattle.std.proofs.lemmas.Fmt.{length-decimal-le}
 use Rattle.std.specs.Char.{digit_char}
 use Rattle.json.specs.Print.{escape, escape_byte, escape_letter, quoted}
-use Rattle.broker_rule.specs.declared.refusal.Refusal.{Refusal}
+use Rattle.broker_rule.specs.{declared.refusal.Refusal.Refusal, Request.status_of_refusal, Request.text_of_refusal}
 use Rattle.broker_rule.specs.declared.refusal.Refusal.TheVariants as refusals
-use Rattle.broker_rule.specs.Request.{status_of_refusal, text_of_refusal}
-use Rattle.vault_http.specs.declared.reply.Reply.{Reply}
-use Rattle.vault_http.specs.declared.request.Request.{Request}
+use Rattle.vault_http.specs.{declared.reply.Reply.Reply, declared.request.Request.Request}
 use Rattle.vault_http.specs.Written.{body_lines, host_lines, is_get, last_lines, length_lines, phrase, reply_text, request_text, status_line, token_line}
 use Rattle.vault_json.specs.Written.{errors_text, flag_text, lease_text, looked_lease_text, lookup_text, renew_text, renewed_lease_text, renewed_self_text}
 

@@ -1,14 +1,10 @@
 -- What a lookup comes to, by what the exchange answers: for `look_up` and `apply`.
 use Rattle.std.proofs.Common.{◌≡◌, ℕ, length, inr, Bool, refl, subst, ap, ◌∙◌, Option, Some, None, IfSome, IfOk, Result, Ok, Err}
 use Rattle.std.proofs.lemmas.List.{length-set}
-use Rattle.vault_exchange.specs.Exchanges.{Behind, IsExchanged}
+use Rattle.vault_exchange.specs.{Exchanges.Behind, Exchanges.IsExchanged, Requests.lookup_of}
 use Rattle.vault_exchange.specs.Lookups.{LooksUp, behind_if, inventory_after_lookup}
-use Rattle.vault_exchange.specs.Requests.{lookup_of}
-use Rattle.vault_inventory.specs.declared.lookup.LookupFault.{LookupFault}
-use Rattle.vault_inventory.specs.Lookup.{lookup_fault, told}
-use Rattle.vault_inventory.specs.Inventories.{Inventory}
-use Rattle.vault_http.specs.declared.reply.Reply.{Reply}
-use Rattle.vault_http.specs.declared.request.Request.{Request}
+use Rattle.vault_inventory.specs.{declared.lookup.LookupFault.LookupFault, Lookup.lookup_fault, Lookup.told, Inventories.Inventory}
+use Rattle.vault_http.specs.{declared.reply.Reply.Reply, declared.request.Request.Request}
 use Rattle.vault_json.specs.declared.lookup.Lookup.{Lookup}
 
 of_lookup :

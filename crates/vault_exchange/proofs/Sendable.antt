@@ -1,16 +1,14 @@
 -- The requests for entries can be sent and answered.
 use Rattle.std.proofs.Common.{◌≡◌, ℕ, ◌<◌, ◌≤◌, ◌^◌, ◌&&◌, true, List, length, codes, refl, arith, IsTrue, nat_le, Option, Some, None, IfSome}
 use Rattle.std.specs.List.{All, list_all}
-use Rattle.std.proofs.lemmas.List.Elements.{All-from_get_or, All-get_or}
-use Rattle.std.proofs.lemmas.List.Sums.{AllPass-from_list_all}
+use Rattle.std.proofs.lemmas.{List.Elements.All-from_get_or, List.Elements.All-get_or, List.Sums.AllPass-from_list_all}
 use Rattle.vault_inventory.specs.Inventories.{IsSendableText}
 use Rattle.vault_inventory.proofs.Inventories.{text_law}
 use Rattle.vault_exchange.specs.Requests.{RequestIsFit, lease_looked, lease_renewal, token_looked, token_renewal}
 use Rattle.vault_exchange.proofs.Answered.{lease_fits, token_fits}
 use Rattle.vault_exchange.proofs.Lengths.{lease_short, lookup_short, renew_short, request_short}
-use Rattle.vault_http.specs.declared.request.Request.{Request}
+use Rattle.vault_http.specs.{declared.request.Request.Request, Written.request_text}
 use Rattle.vault_http.specs.RoundTripRequest.{IsSentToken, IsWritable, is_path_byte, is_token_value_byte}
-use Rattle.vault_http.specs.Written.{request_text}
 use Rattle.vault_http.proofs.Writable.{method_short}
 
 both_bounds : (b : ℕ) → 33 ≤ b → b ≤ 126 → IsTrue (nat_le 33 b && nat_le b 126)

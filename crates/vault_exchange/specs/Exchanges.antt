@@ -1,21 +1,16 @@
 -- Exchange in memory: the Broker step's reply, through the texts of the request and of the reply.
 -- Source: RFC 9112 (the texts); this project's own (the Broker step, and which fault is which).
 use Rattle.std.specs.Prelude.{◌≡◌, ℕ, ◌⊎◌, List, [], ◌++◌, Option, Some, None, Result, Ok, Err, length, nat_le, if◌then◌else◌}
-use Rattle.vault_http.specs.declared.known.TheConstants.{MOST_MESSAGE}
+use Rattle.vault_http.specs.{declared.known.TheConstants.MOST_MESSAGE, declared.http_fault.HttpFault.HttpFault, declared.reply.Reply.Reply, declared.request.Request.Request, declared.writing.SendFault.SendFault}
+use Rattle.vault_http.specs.{Written.reply_text, Written.request_text}
 use Rattle.vault_exchange.specs.declared.fault.ExchangeFault.{ExchangeFault}
 use Rattle.vault_exchange.specs.declared.fault.ExchangeFault.TheVariants.{ConnectFailed, WriteFailed, Http, OutOfMemory}
-use Rattle.broker_rule.specs.declared.served.Served.{Served}
-use Rattle.broker_rule.specs.declared.served.Served.TheVariants as served
-use Rattle.broker_rule.specs.Table.{BrokerTable}
+use Rattle.broker_rule.specs.{declared.served.Served.Served, Table.BrokerTable}
 use Rattle.broker_rule.specs.Step.{SaysAnswer, after_sweep, broker_step}
-use Rattle.vault_http.specs.declared.http_fault.HttpFault.{HttpFault}
+use Rattle.broker_rule.specs.declared.served.Served.TheVariants as served
 use Rattle.vault_http.specs.declared.http_fault.HttpFault.TheVariants as https
-use Rattle.vault_http.specs.declared.reply.Reply.{Reply}
-use Rattle.vault_http.specs.declared.request.Request.{Request}
-use Rattle.vault_http.specs.declared.writing.SendFault.{SendFault}
 use Rattle.vault_http.specs.declared.writing.SendFault.TheVariants as sends
 use Rattle.base_device.specs.Failures.{one_more}
-use Rattle.vault_http.specs.Written.{reply_text, request_text}
 
 -- what stands after an exchange in memory: the broker's table, and the bytes of the last request and its reply, if one came
 pub record Behind : Type 0 where

@@ -2,19 +2,13 @@
 -- Source: Vault, HTTP API, "HTTP status codes" (400, 403, 404 and 405 speak of the request; 412, 429, 472, 473 and 5xx of the
 -- broker); that a reply which cannot be read counts as none is this project's own.
 use Rattle.std.specs.Prelude.{ℕ, ◌==◌, ◌||◌, List, Bool, false, bytes_eq, Option, Some, None, Result, Ok, Err, if◌then◌else◌}
-use Rattle.vault_exchange.specs.Lookups.{lookup_in}
-use Rattle.vault_exchange.specs.declared.heard.Heard.{Heard}
+use Rattle.vault_exchange.specs.{Lookups.lookup_in, declared.heard.Heard.Heard, declared.heard.ToldTerms.ToldTerms}
 use Rattle.vault_exchange.specs.declared.heard.Heard.TheVariants.{Told, Refused, Busy, Lost}
-use Rattle.vault_exchange.specs.declared.heard.ToldTerms.{ToldTerms}
 use Rattle.plan_forest.specs.declared.entry.Kind.{Kind}
 use Rattle.plan_forest.specs.declared.entry.Kind.TheVariants.{Token, Lease}
 use Rattle.vault_http.specs.declared.dated_reply.DatedReply.{DatedReply}
-use Rattle.vault_json.specs.declared.fault.ReplyFault.{ReplyFault}
-use Rattle.vault_json.specs.declared.lookup.Lookup.{Lookup}
-use Rattle.vault_json.specs.declared.renewed.Renewed.{Renewed}
-use Rattle.vault_json.specs.declared.renewed.RenewedLease.{RenewedLease}
-use Rattle.vault_json.specs.Lookup.{never_ends_answer}
-use Rattle.vault_json.specs.Renewed.{renew_lease_answer, renew_self_answer}
+use Rattle.vault_json.specs.{declared.fault.ReplyFault.ReplyFault, declared.lookup.Lookup.Lookup, declared.renewed.Renewed.Renewed, declared.renewed.RenewedLease.RenewedLease, Lookup.never_ends_answer}
+use Rattle.vault_json.specs.{Renewed.renew_lease_answer, Renewed.renew_self_answer}
 
 -- a reply whose status is not 200
 abbrev pub refused_by_status : {T : Type 0} → ℕ → Option ℕ → Heard T

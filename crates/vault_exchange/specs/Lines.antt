@@ -4,12 +4,7 @@ use Rattle.std.specs.Prelude.{◌≡◌, ◌⊎◌, Result, Ok, Err}
 use Rattle.base_device.specs.Seen.{Change, Receives, ReceivesFront}
 use Rattle.vault_exchange.specs.declared.fault.ExchangeFault.{ExchangeFault}
 use Rattle.vault_exchange.specs.declared.fault.ExchangeFault.TheVariants.{WriteFailed, Http, OutOfMemory}
-use Rattle.vault_http.specs.declared.known.TheConstants.{MOST_MESSAGE}
-use Rattle.vault_http.specs.declared.http_fault.HttpFault.{HttpFault}
-use Rattle.vault_http.specs.declared.reply.Reply.{Reply}
-use Rattle.vault_http.specs.declared.request.Request.{Request}
-use Rattle.vault_http.specs.Reading.{SettlesReply}
-use Rattle.vault_http.specs.Written.{request_text}
+use Rattle.vault_http.specs.{declared.known.TheConstants.MOST_MESSAGE, declared.http_fault.HttpFault.HttpFault, declared.reply.Reply.Reply, declared.request.Request.Request, Reading.SettlesReply, Written.request_text}
 
 -- the request is written whole, once, and this is what is read after it
 abbrev pub ReadsReply : Request → Change → Result Reply HttpFault → Type 0

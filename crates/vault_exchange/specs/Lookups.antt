@@ -2,20 +2,14 @@
 -- Source: Vault, HTTP API: `auth/token`, "Lookup a token (self)"; `sys/leases`, "Read lease". That nothing but a 200 is taken
 -- is this project's own.
 use Rattle.std.specs.Prelude.{◌≡◌, ℕ, ◌==◌, ◌⊎◌, List, Bool, Option, Some, None, Result, Ok, Err, IfSome, is_none, if◌then◌else◌}
-use Rattle.vault_exchange.specs.declared.fault.ExchangeFault.{ExchangeFault}
+use Rattle.vault_exchange.specs.{declared.fault.ExchangeFault.ExchangeFault, Requests.lookup_of}
 use Rattle.vault_exchange.specs.Exchanges.{Behind, IsExchanged, IsGivenUp}
-use Rattle.vault_exchange.specs.Requests.{lookup_of}
-use Rattle.vault_inventory.specs.Lookup.{lookup_fault, told}
-use Rattle.vault_inventory.specs.Inventories.{Inventory}
-use Rattle.plan_forest.specs.declared.entry.Kind.{Kind}
+use Rattle.vault_inventory.specs.{Lookup.lookup_fault, Lookup.told, Inventories.Inventory}
+use Rattle.plan_forest.specs.{declared.entry.Kind.Kind, Forest.entry_at}
 use Rattle.plan_forest.specs.declared.entry.Kind.TheVariants.{Token, Lease}
-use Rattle.plan_forest.specs.Forest.{entry_at}
 use Rattle.broker_rule.specs.Table.{BrokerTable}
-use Rattle.vault_http.specs.declared.reply.Reply.{Reply}
-use Rattle.vault_http.specs.declared.request.Request.{Request}
-use Rattle.vault_json.specs.declared.fault.ReplyFault.{ReplyFault}
-use Rattle.vault_json.specs.declared.lookup.Lookup.{Lookup}
-use Rattle.vault_json.specs.Lookup.{lookup_lease_answer, lookup_self_answer}
+use Rattle.vault_http.specs.{declared.reply.Reply.Reply, declared.request.Request.Request}
+use Rattle.vault_json.specs.{declared.fault.ReplyFault.ReplyFault, declared.lookup.Lookup.Lookup, Lookup.lookup_lease_answer, Lookup.lookup_self_answer}
 
 -- what the body of a reply says of an entry of that kind
 abbrev pub lookup_in : Kind → List ℕ → Result Lookup ReplyFault

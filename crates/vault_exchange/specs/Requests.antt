@@ -1,22 +1,14 @@
 -- Requests: what is asked for an entry, what comes back of it, and that it can be sent and answered.
 -- Source: Vault, HTTP API: `auth/token`, "Renew a token (self)" and "Lookup a token (self)"; `sys/leases`, "Renew lease" and
 -- "Read lease".
-use Rattle.std.specs.Prelude.{◌≡◌, ℕ, ◌≤◌, ◌⊎◌, List, [], ◌++◌, Option, Some, None, Result, Ok, Err, codes, length, option_map}
+use Rattle.std.specs.Prelude.{◌≡◌, ℕ, ◌≤◌, ◌⊎◌, List, [], Option, Some, None, Result, Ok, Err, codes, length, option_map}
 use Rattle.vault_exchange.specs.Exchanges.{Behind, IsGivenUp, wire_of}
 use Rattle.vault_inventory.specs.Inventories.{credential_at}
-use Rattle.plan_forest.specs.declared.entry.Entry.{Entry}
-use Rattle.plan_forest.specs.declared.entry.Kind.{Kind}
+use Rattle.plan_forest.specs.{declared.entry.Entry.Entry, declared.entry.Kind.Kind, Forest.Forest, Forest.entry_at}
 use Rattle.plan_forest.specs.declared.entry.Kind.TheVariants.{Token, Lease}
-use Rattle.plan_forest.specs.Forest.{Forest, entry_at}
-use Rattle.broker_rule.specs.declared.served.Served.{Served}
+use Rattle.broker_rule.specs.{declared.served.Served.Served, Table.BrokerTable, Step.SaysAnswer, Step.broker_step}
 use Rattle.broker_rule.specs.declared.served.Served.TheVariants as served
-use Rattle.vault_http.specs.declared.known.TheConstants.{MOST_MESSAGE}
-use Rattle.broker_rule.specs.Table.{BrokerTable}
-use Rattle.broker_rule.specs.Step.{SaysAnswer, broker_step}
-use Rattle.vault_http.specs.declared.reply.Reply.{Reply}
-use Rattle.vault_http.specs.declared.request.Request.{Request}
-use Rattle.vault_http.specs.RoundTripRequest.{IsWritable}
-use Rattle.vault_http.specs.Written.{reply_text, request_text}
+use Rattle.vault_http.specs.{declared.known.TheConstants.MOST_MESSAGE, declared.reply.Reply.Reply, declared.request.Request.Request, RoundTripRequest.IsWritable, Written.reply_text, Written.request_text}
 use Rattle.vault_json.specs.Written.{lease_text, lookup_text, renew_text}
 
 -- ---- the requests, to a broker at that port

@@ -1,13 +1,8 @@
 -- What is known of a reply that comes in piece by piece: for `Arriving`.
-use Rattle.std.proofs.Common.{◌≡◌, ℕ, List, ◌++◌, Option, Some, None, Result, Ok}
+use Rattle.std.proofs.Common.{ℕ, List, ◌++◌, Option, Some, None, Ok}
 use Rattle.httparse.specs.Grammar.{HasNoResponse}
-use Rattle.vault_http.specs.Arriving.{IsDatedFront, IsDatedSoFar}
-use Rattle.vault_http.specs.Dates.{IsDatedReply, dated_with}
-use Rattle.vault_http.specs.Holding.{IsWaitedFor}
-use Rattle.vault_http.specs.Known.{IsCurrent, StaysKnown}
-use Rattle.vault_http.specs.declared.dated_reply.DatedReply.{DatedReply}
-use Rattle.vault_http.specs.declared.known.Known.{Known}
-use Rattle.vault_http.specs.declared.known.TheConstants.{MOST_MESSAGE}
+use Rattle.vault_http.specs.{Arriving.IsDatedFront, Arriving.IsDatedSoFar, Dates.IsDatedReply, Dates.dated_with, Holding.IsWaitedFor, declared.dated_reply.DatedReply.DatedReply, declared.known.Known.Known}
+use Rattle.vault_http.specs.{declared.known.TheConstants.MOST_MESSAGE}
 use Rattle.vault_http.proofs.Waiting.{known_on, waited}
 
 -- it stays true however the bytes go on

@@ -1,14 +1,10 @@
 -- The chunks that a walk has passed: for `judge_chunks`.
 use Rattle.std.proofs.Common.{◌≡◌, ℕ, ◌+◌, ◌-◌, ◌≤◌, List, [], ◌∷◌, ◌++◌, length, take, drop, flat_map, sym, ap, ◌∙◌, arith, append_assoc, subst, append-nil, length-append, take-append-drop, Result, Err}
-use Rattle.std.proofs.lemmas.List.{take_at, drop_at, drop-drop, length-take-le}
-use Rattle.std.proofs.lemmas.List.Concat.{flat_map-append}
+use Rattle.std.proofs.lemmas.{List.take_at, List.drop_at, List.drop-drop, List.length-take-le, List.Concat.flat_map-append}
 use Rattle.std.specs.List.{AllByRecursion}
-use Rattle.vault_http.specs.declared.body.BodyFault.{BodyFault}
-use Rattle.vault_http.specs.declared.body.BodyFault.TheVariants.{TooLong, Truncated, BadChunk, OutOfMemory}
-use Rattle.vault_http.specs.Messages.{UnlessBodyMemory}
+use Rattle.vault_http.specs.{declared.body.BodyFault.BodyFault, declared.body.BodyFault.TheVariants.OutOfMemory, Messages.UnlessBodyMemory}
+use Rattle.vault_http.specs.{Chunks.line_end, Chunks.Chunk, Chunks.IsChunk, Chunks.print_chunk, Chunks.print_chunks, Chunks.content, Chunks.joined_bytes, Chunks.StopsAt, Chunks.IsChunked, Chunks.HasChunks, Steps.IsStep}
 use Rattle.vault_http.specs.declared.chunk.Step.TheVariants as step
-use Rattle.vault_http.specs.Chunks.{line_end, Chunk, IsChunk, print_chunk, print_chunks, content, joined_bytes, StopsAt, IsChunked, HasChunks}
-use Rattle.vault_http.specs.Steps.{IsStep}
 
 all_push : (chunks : List Chunk) (c : Chunk) → AllByRecursion IsChunk chunks → IsChunk c → AllByRecursion IsChunk (chunks ++ c ∷ [])
 all_push [] c all is = (is, tt)

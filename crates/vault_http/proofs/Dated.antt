@@ -1,14 +1,8 @@
 -- A head that was found, with the date that it tells.
 use Rattle.std.proofs.Common.{ℕ, List, ◌++◌, Option, Result, Ok, Err, take, drop}
 use Rattle.httparse.specs.Grammar.{print_response}
-use Rattle.vault_http.specs.declared.body.BodyFault.{BodyFault}
-use Rattle.vault_http.specs.declared.framing.Framing.{Framing}
-use Rattle.vault_http.specs.declared.framing.LengthFault.{LengthFault}
-use Rattle.vault_http.specs.declared.reply.Reply.{Reply}
-use Rattle.vault_http.specs.Dates.{HasDate, IsDateOfHead, IsDatedReply, dated_with}
-use Rattle.vault_http.specs.Heads.{FoundReply}
-use Rattle.vault_http.specs.Known.{IsHeaded, message_with_body}
-use Rattle.vault_http.specs.Messages.{IsHttpReply, reply_with}
+use Rattle.vault_http.specs.{declared.body.BodyFault.BodyFault, declared.framing.Framing.Framing, declared.framing.LengthFault.LengthFault, declared.reply.Reply.Reply, Dates.HasDate, Dates.IsDateOfHead, Dates.IsDatedReply, Dates.dated_with}
+use Rattle.vault_http.specs.{Heads.FoundReply, Known.IsHeaded, Known.message_with_body, Messages.IsHttpReply, Messages.reply_with}
 use Rattle.vault_http.proofs.MessageLemmas.{head_on}
 
 dated_on : (max : ℕ) (bytes more : List ℕ) (len status : ℕ) (framed : Result Framing LengthFault) (date : Option ℕ) → FoundReply (take max bytes) len status framed

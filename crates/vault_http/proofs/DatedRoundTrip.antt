@@ -1,12 +1,8 @@
 -- The law that a reply which was written is read back without a date.
 use Rattle.std.proofs.Common.{◌≡◌, ℕ, ◌^◌, ◌<◌, IsTrue, List, ◌++◌, length, map, refl, ap, ◌∙◌, arith, Option, None, Ok, Err}
-use Rattle.httparse.specs.Grammar.{ReadsResponse}
-use Rattle.httparse.specs.Spans.{name_and_value}
+use Rattle.httparse.specs.{Grammar.ReadsResponse, Spans.name_and_value}
 use Rattle.httparse.proofs.GrammarLemmas.{response_unique}
-use Rattle.vault_http.specs.declared.reply.Reply.{Reply}
-use Rattle.vault_http.specs.Dates.{HasDate, ReadsBackUndated, date_in, date_name}
-use Rattle.vault_http.specs.RoundTrip.{is_sent}
-use Rattle.vault_http.specs.Written.{reply_text}
+use Rattle.vault_http.specs.{declared.reply.Reply.Reply, Dates.HasDate, Dates.ReadsBackUndated, Dates.date_in, Dates.date_name, RoundTrip.is_sent, Written.reply_text}
 use Rattle.vault_http.proofs.ReplyRoundTrip.{reads_back, writable, written, written_fields, written_is, written_text}
 
 no_date : (n : ℕ) → date_in (map name_and_value (written_fields n)) ≡ None

@@ -1,12 +1,8 @@
 -- Decimal digits in the value of a field: for the law that what was written is read back.
 use Rattle.std.proofs.Common.{◌≡◌, ℕ, ◌+◌, ◌%◌, ◌^◌, ◌<◌, ◌≤◌, true, false, IsTrue, List, [], ◌∷◌, reverse, decimal, refl, sym, ap, ◌∙◌, subst, arith, All, Some}
-use Rattle.std.specs.List.{list_all}
-use Rattle.std.specs.Str.Parse.{AllDigits}
-use Rattle.std.proofs.lemmas.Fmt.{decimal_by_steps, decimal_is_IsNumeral, length-decimal-le}
-use Rattle.std.proofs.lemmas.Bool.{cond-true, cond-false, and_from, lt-ltb, le-leb}
-use Rattle.std.proofs.lemmas.Bool.Decides.{nat_tests}
-use Rattle.std.proofs.lemmas.List.Elements.{All-nil, All-cons, All-head, All-tail, All-push, All-weaker}
-use Rattle.std.proofs.lemmas.List.{reverse-append}
+use Rattle.std.specs.{List.list_all, Str.Parse.AllDigits}
+use Rattle.std.proofs.lemmas.{Fmt.decimal_by_steps, Fmt.decimal_is_IsNumeral, Fmt.length-decimal-le, Bool.cond-true, Bool.cond-false, Bool.and_from, Bool.lt-ltb, Bool.le-leb, Bool.Decides.nat_tests}
+use Rattle.std.proofs.lemmas.{List.Elements.All-nil, List.Elements.All-cons, List.Elements.All-head, List.Elements.All-tail, List.Elements.All-push, List.Elements.All-weaker, List.reverse-append}
 use Rattle.httparse.specs.Grammar.{AllPass, is_value_byte, is_ows, skip_ows, trim_ows}
 use Rattle.httparse.proofs.TrimLemmas.{trim_ows_space}
 use Rattle.vault_http.specs.Framing.{is_digit, length_in}

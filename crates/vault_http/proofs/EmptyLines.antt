@@ -1,11 +1,8 @@
 -- Empty lines: a head and a body in chunks end with one.
 use Rattle.std.proofs.Common.{◌≡◌, ℕ, ◌+◌, ◌-◌, ◌<◌, ◌≤◌, Bool, true, false, cond, nat_eq, List, [], ◌∷◌, ◌++◌, length, take, drop, refl, sym, ap, ◌∙◌, arith, append_assoc, length-append, take-append-drop, append-nil, take_while, IsTrue, ◌&&◌}
-use Rattle.std.proofs.lemmas.Bool.{and_from}
-use Rattle.std.proofs.lemmas.List.{take_at, take-append-le, drop-append-le, length-take-le}
-use Rattle.std.proofs.lemmas.List.Folds.{list_all-append}
+use Rattle.std.proofs.lemmas.{Bool.and_from, List.take_at, List.take-append-le, List.drop-append-le, List.length-take-le, List.Folds.list_all-append}
 use Rattle.httparse.specs.Grammar.{LineEnd, crlf, lf, print_end, Field, print_field, print_section, ResponseHead, print_response, RequestHead, print_request, print_blank, print_version, print_reason}
-use Rattle.httparse.proofs.GrammarLemmas.{print_response-append, print_request-append}
-use Rattle.httparse.proofs.PieceLemmas.{print_field-append}
+use Rattle.httparse.proofs.{GrammarLemmas.print_response-append, GrammarLemmas.print_request-append, PieceLemmas.print_field-append}
 use Rattle.vault_http.proofs.Runs.{front, run_of, take_while-front}
 use Rattle.vault_http.specs.EmptyLine.{HasLineBehind, is_line_end_byte}
 use Rattle.std.specs.List.{flat_map, list_all}

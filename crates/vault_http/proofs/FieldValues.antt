@@ -1,13 +1,9 @@
 -- One more field, in what was found of those with a name: for `lone_value`.
 use Rattle.std.proofs.Common.{◌≡◌, ℕ, ◌+◌, ◌<◌, List, [], ◌∷◌, ◌++◌, length, take, get_or, map, filter, refl, ap, ◌∙◌, append-nil, Bool, true, false, if◌then◌else◌, cond}
-use Rattle.std.proofs.lemmas.List.{take_more, map-append}
-use Rattle.std.proofs.lemmas.List.Elements.{filter-append}
-use Rattle.httparse.specs.declared.spans.Span.{Span}
-use Rattle.httparse.specs.Spans.{span_bytes, IsWithin}
-use Rattle.vault_http.specs.declared.named_field.Lone.{Lone}
-use Rattle.vault_http.specs.declared.named_field.Lone.TheVariants.{Absent, One, Several}
-use Rattle.vault_http.specs.Fields.{is_field_named, values_of}
-use Rattle.vault_http.specs.NamedField.{IsLone, and_lone}
+use Rattle.std.proofs.lemmas.{List.take_more, List.map-append, List.Elements.filter-append}
+use Rattle.httparse.specs.{declared.spans.Span.Span, Spans.span_bytes, Spans.IsWithin}
+use Rattle.vault_http.specs.{declared.named_field.Lone.Lone, declared.named_field.Lone.TheVariants.Absent, declared.named_field.Lone.TheVariants.One, declared.named_field.Lone.TheVariants.Several, Fields.is_field_named, Fields.values_of}
+use Rattle.vault_http.specs.{NamedField.IsLone, NamedField.and_lone}
 
 -- the values with one field more
 abbrev pub and_value : Bool → List (List ℕ) → List ℕ → List (List ℕ)

@@ -1,7 +1,6 @@
 -- The first bytes of an input that goes on.
 use Rattle.std.proofs.Common.{◌≡◌, ℕ, ◌+◌, ◌-◌, inl, inr, List, ◌++◌, length, take, sym, ap, ◌∙◌, arith, append_assoc, append-nil}
-use Rattle.std.proofs.lemmas.Bool.{cases_lt}
-use Rattle.std.proofs.lemmas.List.{take_all, take-append-le}
+use Rattle.std.proofs.lemmas.{Bool.cases_lt, List.take_all, List.take-append-le}
 use Rattle.std.proofs.Math.Seq.{take-append-add}
 
 -- the first bytes of more are the first bytes, and some that follow

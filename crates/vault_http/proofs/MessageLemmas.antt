@@ -2,21 +2,12 @@
 use Rattle.std.proofs.Common.{◌≡◌, ℕ, ◌+◌, ◌-◌, ◌≤◌, inl, inr, Bool, true, IsTrue, List, [], ◌++◌, length, take, drop, refl, sym, ap, ◌∙◌, arith, append_assoc, subst, length-append, take-append-drop, Option, None, Some, IfSome, Result, Ok, Err}
 use Rattle.std.proofs.lemmas.List.{drop_at, length-take}
 use Rattle.std.specs.Io.KnownBytes.{Consumes, IsAtEnd}
-use Rattle.httparse.specs.Grammar.{print_response, ReadsResponse, status_code}
-use Rattle.httparse.specs.Spans.{ResponseOverflows}
-use Rattle.vault_http.specs.declared.body.BodyFault.TheVariants as bodies
-use Rattle.vault_http.specs.declared.framing.Framing.{Framing}
-use Rattle.vault_http.specs.declared.framing.LengthFault.{LengthFault}
-use Rattle.vault_http.specs.declared.framing.LengthFault.TheVariants as lengths
-use Rattle.vault_http.specs.declared.http_fault.HttpFault.{HttpFault}
-use Rattle.vault_http.specs.declared.http_fault.HttpFault.TheVariants.{ReadFailed, BadHead, BadLength, BadChunk, Truncated, TooLong, TwoLengths, OutOfMemory}
-use Rattle.vault_http.specs.declared.reply.Reply.{Reply}
-use Rattle.vault_http.specs.Body.{HasBody}
-use Rattle.vault_http.specs.Heads.{FoundReply, framing_of_response}
-use Rattle.vault_http.specs.Messages.{IsBehind, is_informational, IsHttpReply, UnlessMemory}
-use Rattle.vault_http.specs.Reading.{SettlesMessage, CountsMessage}
+use Rattle.httparse.specs.{Grammar.print_response, Grammar.ReadsResponse, Grammar.status_code, Spans.ResponseOverflows}
+use Rattle.vault_http.specs.{declared.framing.Framing.Framing, declared.framing.LengthFault.LengthFault, declared.http_fault.HttpFault.HttpFault}
+use Rattle.vault_http.specs.{declared.http_fault.HttpFault.TheVariants.ReadFailed, declared.http_fault.HttpFault.TheVariants.BadHead, declared.http_fault.HttpFault.TheVariants.TooLong, declared.http_fault.HttpFault.TheVariants.OutOfMemory}
+use Rattle.vault_http.specs.{declared.reply.Reply.Reply, Body.HasBody, Heads.FoundReply, Heads.framing_of_response, Messages.IsBehind, Messages.is_informational, Messages.IsHttpReply, Messages.UnlessMemory}
+use Rattle.vault_http.specs.{Reading.SettlesMessage, Reading.CountsMessage, declared.found_head.TheConstants.MOST_FIELDS}
 use Rattle.vault_http.proofs.Fronts.{take-grows}
-use Rattle.vault_http.specs.declared.found_head.TheConstants.{MOST_FIELDS}
 
 -- ---- no head
 

@@ -2,20 +2,12 @@
 use Rattle.std.proofs.Common.{◌≡◌, ℕ, ◌-◌, ◌<◌, ◌≤◌, ◌⊎◌, inl, inr, Bool, true, false, nat_le, nat_lt, ◌&&◌, List, ◌++◌, ◌∷◌, [], length, take, drop, IsTrue, refl, sym, ap, ◌∙◌, arith, subst, Result, Ok, Err}
 use Rattle.std.proofs.lemmas.Bool.{cases_lt, and_from, lt-ltb, le-ltb, le-leb, lt-leb}
 use Rattle.std.specs.List.{list_all}
-use Rattle.httparse.specs.Grammar.{print_response, print_blank, print_version, print_reason, print_end, print_section, HasNoResponse}
-use Rattle.httparse.specs.Grammar.{status_code}
+use Rattle.httparse.specs.Grammar.{print_response, print_blank, print_version, print_reason, print_end, print_section, HasNoResponse, status_code}
 use Rattle.httparse.proofs.GrammarLemmas.{print_response-append, response_unique}
-use Rattle.vault_http.specs.declared.body.BodyFault.{BodyFault}
-use Rattle.vault_http.specs.declared.framing.Framing.{Framing}
-use Rattle.vault_http.specs.declared.framing.LengthFault.{LengthFault}
-use Rattle.vault_http.specs.declared.http_fault.HttpFault.TheVariants.{BadHead}
-use Rattle.vault_http.specs.declared.reply.Reply.{Reply}
-use Rattle.vault_http.specs.EmptyLine.{HasLineBehind, is_line_end_byte}
-use Rattle.vault_http.specs.Heads.{FoundReply, framing_of_response}
-use Rattle.vault_http.specs.Known.{IsHeaded, message_with_body}
-use Rattle.vault_http.specs.Messages.{IsBehind, IsHttpReply, is_informational, length_fault, reply_from_parts, reply_with}
-use Rattle.vault_http.proofs.EmptyLines.{front_split, line_behind, response_ends, not_blank}
-use Rattle.vault_http.proofs.MessageLemmas.{HasBodyOf, head_on, headed_reply}
+use Rattle.vault_http.specs.{declared.body.BodyFault.BodyFault, declared.framing.Framing.Framing, declared.framing.LengthFault.LengthFault, declared.http_fault.HttpFault.TheVariants.BadHead, declared.reply.Reply.Reply}
+use Rattle.vault_http.specs.{EmptyLine.HasLineBehind, EmptyLine.is_line_end_byte, Heads.FoundReply, Heads.framing_of_response, Known.IsHeaded, Known.message_with_body}
+use Rattle.vault_http.specs.{Messages.IsBehind, Messages.IsHttpReply, Messages.is_informational, Messages.length_fault, Messages.reply_from_parts, Messages.reply_with}
+use Rattle.vault_http.proofs.{EmptyLines.front_split, EmptyLines.line_behind, EmptyLines.response_ends, EmptyLines.not_blank, MessageLemmas.HasBodyOf, MessageLemmas.head_on, MessageLemmas.headed_reply}
 
 pub blank_has_no_head : (bytes : List ℕ) → IsTrue (list_all is_line_end_byte bytes) → HasNoResponse bytes
 blank_has_no_head bytes all h rest reads =

@@ -1,32 +1,17 @@
 -- The law that a reply which was written is read back.
 use Rattle.std.proofs.Common.{◌≡◌, ℕ, ◌+◌, ◌-◌, ◌/◌, ◌%◌, ◌^◌, ◌<◌, ◌≤◌, ◌⊎◌, inl, inr, Bool, true, false, ◌||◌, ◌==◌, IsTrue, List, [], ◌∷◌, ◌++◌, length, take, drop, map, decimal, codes, refl, sym, ap, ◌∙◌, arith, subst, Some, Result, Ok, append_assoc, append-nil, length-append, take-append-drop}
-use Rattle.std.specs.List.{list_all}
-use Rattle.std.specs.Char.{is_ascii_digit}
-use Rattle.std.specs.Str.Parse.{digits_value}
-use Rattle.std.proofs.lemmas.Bool.{or_cases, eqb-true, cond-false, le-ltb}
-use Rattle.std.proofs.lemmas.Fmt.{decimal_step, decimal_digit}
-use Rattle.std.proofs.lemmas.List.{take_all}
-use Rattle.std.proofs.lemmas.List.Elements.{All-nil, All-cons}
-use Rattle.std.proofs.lemmas.List.Sums.{AllPass-from_list_all}
+use Rattle.std.specs.{List.list_all, Char.is_ascii_digit, Str.Parse.digits_value}
+use Rattle.std.proofs.lemmas.{Bool.or_cases, Bool.eqb-true, Bool.cond-false, Bool.le-ltb, Fmt.decimal_step, Fmt.decimal_digit, List.take_all, List.Elements.All-nil, List.Elements.All-cons, List.Sums.AllPass-from_list_all}
 use Rattle.std.proofs.Math.Seq.{take-append_seam}
 use Rattle.httparse.specs.Grammar.{crlf, Field, IsField, AllPass, is_token_byte, is_value_byte, trim_ows, ResponseHead, IsResponseHead, print_response, print_section, ReadsResponse, status_code}
 use Rattle.httparse.specs.Spans.{name_and_value}
 use Rattle.httparse.proofs.GrammarLemmas.{print_response-append, response_unique}
-use Rattle.vault_http.specs.declared.framing.Framing.{Framing}
-use Rattle.vault_http.specs.declared.framing.Framing.TheVariants.{Counted, ToEnd}
-use Rattle.vault_http.specs.declared.framing.LengthFault.{LengthFault}
-use Rattle.vault_http.specs.declared.http_fault.HttpFault.{HttpFault}
-use Rattle.vault_http.specs.declared.http_fault.HttpFault.TheVariants.{ReadFailed, BadHead, BadLength, BadChunk, Truncated, TooLong, TwoLengths, OutOfMemory}
-use Rattle.vault_http.specs.declared.reply.Reply.{Reply}
-use Rattle.vault_http.specs.Body.{counted_body}
-use Rattle.vault_http.specs.Framing.{framing, framing_by, counted_framing, transfer_encoding, content_length, reply_framing}
-use Rattle.vault_http.specs.Heads.{framing_of_response}
-use Rattle.vault_http.specs.Messages.{IsHeadless, IsOpenReply, IsFramed, IsBehind, is_informational, reply_from_parts, IsHttpReply}
-use Rattle.vault_http.specs.RoundTrip.{is_sent, ReadsBackReply}
-use Rattle.vault_http.specs.Written.{reply_text, status_line, length_lines, last_lines, phrase}
-use Rattle.vault_http.proofs.DecimalLemmas.{decimal_digits, digits_pass, digits_trimmed, length_known}
-use Rattle.vault_http.proofs.Fronts.{take-grows}
-use Rattle.vault_http.specs.declared.found_head.TheConstants.{MOST_FIELDS}
+use Rattle.vault_http.specs.{declared.framing.Framing.Framing, declared.framing.Framing.TheVariants.Counted, declared.framing.Framing.TheVariants.ToEnd, declared.framing.LengthFault.LengthFault, declared.http_fault.HttpFault.HttpFault}
+use Rattle.vault_http.specs.{declared.http_fault.HttpFault.TheVariants.BadHead, declared.http_fault.HttpFault.TheVariants.Truncated, declared.http_fault.HttpFault.TheVariants.TooLong, declared.reply.Reply.Reply, Body.counted_body}
+use Rattle.vault_http.specs.{Framing.framing, Framing.framing_by, Framing.counted_framing, Framing.transfer_encoding, Framing.content_length, Framing.reply_framing, Heads.framing_of_response}
+use Rattle.vault_http.specs.{Messages.IsHeadless, Messages.IsOpenReply, Messages.IsFramed, Messages.IsBehind, Messages.is_informational, Messages.reply_from_parts, Messages.IsHttpReply, RoundTrip.is_sent, RoundTrip.ReadsBackReply}
+use Rattle.vault_http.specs.{Written.reply_text, Written.status_line, Written.length_lines, Written.last_lines, Written.phrase, declared.found_head.TheConstants.MOST_FIELDS}
+use Rattle.vault_http.proofs.{DecimalLemmas.decimal_digits, DecimalLemmas.digits_pass, DecimalLemmas.digits_trimmed, DecimalLemmas.length_known, Fronts.take-grows}
 
 -- ---- the head as a tree
 

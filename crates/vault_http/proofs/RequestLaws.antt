@@ -1,25 +1,14 @@
 -- The laws of requests as messages, and what the head of one says of it.
 use Rattle.std.proofs.Common.{◌≡◌, ℕ, ◌-◌, ◌<◌, ◌≤◌, inl, inr, List, ◌++◌, ◌∷◌, [], length, take, drop, IsTrue, refl, sym, ap, ◌∙◌, arith, subst, map, Option, option_map, Result, Ok, Err, length-append}
-use Rattle.std.proofs.lemmas.Bool.{cases_lt}
-use Rattle.std.proofs.lemmas.List.{take_all, take-append-le}
+use Rattle.std.proofs.lemmas.{Bool.cases_lt, List.take_all, List.take-append-le}
 use Rattle.std.specs.List.{list_all}
-use Rattle.httparse.specs.Grammar.{print_request, print_blank, print_version, print_end, print_section, HasNoRequest}
-use Rattle.httparse.specs.Spans.{name_and_value, span_bytes}
+use Rattle.httparse.specs.{Grammar.print_request, Grammar.print_blank, Grammar.print_version, Grammar.print_end, Grammar.print_section, Grammar.HasNoRequest, Spans.name_and_value, Spans.span_bytes}
 use Rattle.httparse.proofs.GrammarLemmas.{print_request-append, request_unique}
-use Rattle.vault_http.specs.declared.body.BodyFault.{BodyFault}
-use Rattle.vault_http.specs.declared.framing.Framing.{Framing}
-use Rattle.vault_http.specs.declared.framing.LengthFault.{LengthFault}
-use Rattle.vault_http.specs.declared.found_head.Start.{Start}
-use Rattle.vault_http.specs.declared.http_fault.HttpFault.TheVariants.{TooLong, Truncated}
-use Rattle.vault_http.specs.declared.request.Request.{Request}
-use Rattle.vault_http.specs.EmptyLine.{HasLineBehind, is_line_end_byte}
-use Rattle.vault_http.specs.Heads.{FoundRequest, framing_of_request, token_of}
-use Rattle.vault_http.specs.Known.{IsHeaded, message_with_body}
-use Rattle.vault_http.specs.Messages.{IsFramed, IsHttpRequest, IsOpenRequest, request_from_parts, request_with}
-use Rattle.vault_http.specs.Starts.{request_at}
-use Rattle.vault_http.proofs.EmptyLines.{front_split, line_behind, request_ends, not_blank}
-use Rattle.vault_http.proofs.MessageLemmas.{HasBodyOf, head_on}
-use Rattle.vault_http.proofs.RequestLemmas.{headed_request}
+use Rattle.vault_http.specs.{declared.body.BodyFault.BodyFault, declared.framing.Framing.Framing, declared.framing.LengthFault.LengthFault, declared.found_head.Start.Start}
+use Rattle.vault_http.specs.{declared.http_fault.HttpFault.TheVariants.TooLong, declared.http_fault.HttpFault.TheVariants.Truncated, declared.request.Request.Request, EmptyLine.HasLineBehind, EmptyLine.is_line_end_byte}
+use Rattle.vault_http.specs.{Heads.FoundRequest, Heads.framing_of_request, Heads.token_of, Known.IsHeaded, Known.message_with_body}
+use Rattle.vault_http.specs.{Messages.IsFramed, Messages.IsHttpRequest, Messages.IsOpenRequest, Messages.request_from_parts, Messages.request_with, Starts.request_at}
+use Rattle.vault_http.proofs.{EmptyLines.front_split, EmptyLines.line_behind, EmptyLines.request_ends, EmptyLines.not_blank, MessageLemmas.HasBodyOf, MessageLemmas.head_on, RequestLemmas.headed_request}
 
 pub blank_has_no_head : (bytes : List ℕ) → IsTrue (list_all is_line_end_byte bytes) → HasNoRequest bytes
 blank_has_no_head bytes all h rest reads =

@@ -1,22 +1,12 @@
 -- Judging a request by a part of it, as `MessageLemmas` does a reply.
 use Rattle.std.proofs.Common.{◌≡◌, ℕ, ◌-◌, inl, inr, List, ◌++◌, length, take, drop, refl, sym, append_assoc, subst, map, Option, None, Some, option_map, Result, Err}
 use Rattle.http.specs.Token as header
-use Rattle.httparse.specs.declared.spans.Span.{Span}
+use Rattle.httparse.specs.{declared.spans.Span.Span, Grammar.print_request, Grammar.ReadsRequest, Spans.RequestOverflows, Spans.span_bytes, Spans.name_and_value}
 use Rattle.httparse.specs.Grammar as grammar
-use Rattle.httparse.specs.Grammar.{print_request, ReadsRequest}
-use Rattle.httparse.specs.Spans.{RequestOverflows, span_bytes, name_and_value}
-use Rattle.vault_http.specs.declared.framing.Framing.{Framing}
-use Rattle.vault_http.specs.declared.framing.LengthFault.{LengthFault}
-use Rattle.vault_http.specs.declared.found_head.Start.{Start}
-use Rattle.vault_http.specs.declared.http_fault.HttpFault.{HttpFault}
-use Rattle.vault_http.specs.declared.http_fault.HttpFault.TheVariants.{BadHead}
-use Rattle.vault_http.specs.declared.request.Request.{Request}
-use Rattle.vault_http.specs.Heads.{FoundRequest, framing_of_request, token_of, IsAt}
-use Rattle.vault_http.specs.Messages.{IsFramed, request_from_parts, IsHttpRequest}
-use Rattle.vault_http.specs.Starts.{IsStart, IsTokenWithin, request_at}
-use Rattle.vault_http.proofs.Fronts.{take-grows}
-use Rattle.vault_http.proofs.MessageLemmas.{head_on}
-use Rattle.vault_http.specs.declared.found_head.TheConstants.{MOST_FIELDS}
+use Rattle.vault_http.specs.{declared.framing.Framing.Framing, declared.framing.LengthFault.LengthFault, declared.found_head.Start.Start, declared.http_fault.HttpFault.HttpFault, declared.http_fault.HttpFault.TheVariants.BadHead}
+use Rattle.vault_http.specs.{declared.request.Request.Request, Heads.FoundRequest, Heads.framing_of_request, Heads.token_of, Heads.IsAt, Messages.IsFramed, Messages.request_from_parts, Messages.IsHttpRequest}
+use Rattle.vault_http.specs.{Starts.IsStart, Starts.IsTokenWithin, Starts.request_at, declared.found_head.TheConstants.MOST_FIELDS}
+use Rattle.vault_http.proofs.{Fronts.take-grows, MessageLemmas.head_on}
 
 overflows_on : (front more : List ℕ) → RequestOverflows MOST_FIELDS front → RequestOverflows MOST_FIELDS (front ++ more)
 overflows_on front more over after h rest reads = over (more ++ after) h rest (subst (λ b. ReadsRequest b h rest) (append_assoc front more after) reads)

@@ -1,30 +1,20 @@
 -- The law that a request which was written is read back.
 use Rattle.std.proofs.Common.{◌≡◌, ℕ, ◌+◌, ◌-◌, ◌^◌, ◌<◌, ◌≤◌, ◌⊎◌, inl, inr, Bool, true, false, IsTrue, List, [], ◌∷◌, ◌++◌, length, take, drop, get_or, map, flat_map, decimal, codes, reverse, refl, sym, ap, ◌∙◌, arith, subst, All, Option, None, Some, Result, Ok, append_assoc, append-nil, length-append, take-append-drop, cond, IsUtf8}
 use Rattle.std.specs.Cmp.Lexicographic.{bytes_decides}
-use Rattle.std.proofs.lemmas.Bool.{or_cases, cond-true, cond-false, both_ways, cases_lt}
-use Rattle.std.proofs.lemmas.Bool.Decides.{nat_tests}
-use Rattle.std.proofs.lemmas.List.{take_all, reverse-append, get_or_past}
-use Rattle.std.proofs.lemmas.List.Concat.{flat_map-append}
-use Rattle.std.proofs.lemmas.List.Elements.{All-nil, All-cons, All-head, All-tail, All-push, All-weaker, All-append, All-get_or}
-use Rattle.std.proofs.lemmas.List.Sums.{AllPass-from_list_all}
-use Rattle.std.proofs.lemmas.Str.{IsUtf8-from_ascii}
+use Rattle.std.proofs.lemmas.{Bool.or_cases, Bool.cond-true, Bool.cond-false, Bool.both_ways, Bool.cases_lt, Bool.Decides.nat_tests, List.take_all, List.reverse-append, List.get_or_past, List.Concat.flat_map-append}
+use Rattle.std.proofs.lemmas.{List.Elements.All-nil, List.Elements.All-cons, List.Elements.All-head, List.Elements.All-tail, List.Elements.All-push, List.Elements.All-weaker, List.Elements.All-append, List.Elements.All-get_or}
+use Rattle.std.proofs.lemmas.{List.Sums.AllPass-from_list_all, Str.IsUtf8-from_ascii}
 use Rattle.httparse.specs.Grammar.{crlf, Field, IsField, IsToken, is_token_byte, is_value_byte, is_uri_byte, is_ows, skip_ows, trim_ows, print_field, RequestHead, IsRequestHead, print_request, print_section, ReadsRequest}
 use Rattle.httparse.specs.Spans.{name_and_value}
-use Rattle.httparse.proofs.GrammarLemmas.{print_request-append, request_unique}
-use Rattle.httparse.proofs.TrimLemmas.{trim_ows_space}
-use Rattle.vault_http.specs.declared.framing.Framing.TheVariants.{Empty, Counted}
-use Rattle.vault_http.specs.declared.http_fault.HttpFault.{HttpFault}
-use Rattle.vault_http.specs.declared.http_fault.HttpFault.TheVariants.{ReadFailed, BadHead, BadLength, BadChunk, Truncated, TooLong, TwoLengths, OutOfMemory}
-use Rattle.vault_http.specs.declared.request.Request.{Request}
-use Rattle.vault_http.specs.Framing.{framing, framing_by, counted_framing, transfer_encoding, content_length}
-use Rattle.vault_http.specs.Heads.{framing_of_request, token_of, token_name}
-use Rattle.vault_http.specs.Messages.{IsHeadless, IsOpenRequest, IsFramed, request_from_parts, IsHttpRequest}
-use Rattle.vault_http.specs.RoundTripRequest.{is_sent_method, is_path_byte, is_token_value_byte, IsSentToken, IsSendableRequest, without_port, ReadsBackRequest}
-use Rattle.vault_http.specs.Written.{request_text, host_lines, token_line, body_lines, length_lines, last_lines, is_get}
-use Rattle.vault_http.proofs.DecimalLemmas.{IsDigitByte, decimal_digits, digits_trimmed, length_known, value_byte}
-use Rattle.vault_http.proofs.Fronts.{take-grows}
-use Rattle.vault_http.proofs.ReplyRoundTrip.{type_field, length_field, close_field, type_is, length_is, close_is, counted_whole}
-use Rattle.vault_http.specs.declared.found_head.TheConstants.{MOST_FIELDS}
+use Rattle.httparse.proofs.{GrammarLemmas.print_request-append, GrammarLemmas.request_unique, TrimLemmas.trim_ows_space}
+use Rattle.vault_http.specs.{declared.framing.Framing.TheVariants.Empty, declared.framing.Framing.TheVariants.Counted, declared.http_fault.HttpFault.HttpFault}
+use Rattle.vault_http.specs.{declared.http_fault.HttpFault.TheVariants.BadHead, declared.http_fault.HttpFault.TheVariants.Truncated, declared.http_fault.HttpFault.TheVariants.TooLong, declared.request.Request.Request}
+use Rattle.vault_http.specs.{Framing.framing, Framing.framing_by, Framing.counted_framing, Framing.transfer_encoding, Framing.content_length, Heads.framing_of_request, Heads.token_of, Heads.token_name}
+use Rattle.vault_http.specs.{Messages.IsHeadless, Messages.IsOpenRequest, Messages.IsFramed, Messages.request_from_parts, Messages.IsHttpRequest}
+use Rattle.vault_http.specs.{RoundTripRequest.is_sent_method, RoundTripRequest.is_path_byte, RoundTripRequest.is_token_value_byte, RoundTripRequest.IsSentToken, RoundTripRequest.IsSendableRequest, RoundTripRequest.without_port, RoundTripRequest.ReadsBackRequest}
+use Rattle.vault_http.specs.{Written.request_text, Written.host_lines, Written.token_line, Written.body_lines, Written.length_lines, Written.last_lines, Written.is_get, declared.found_head.TheConstants.MOST_FIELDS}
+use Rattle.vault_http.proofs.{DecimalLemmas.IsDigitByte, DecimalLemmas.decimal_digits, DecimalLemmas.digits_trimmed, DecimalLemmas.length_known, DecimalLemmas.value_byte, Fronts.take-grows}
+use Rattle.vault_http.proofs.{ReplyRoundTrip.type_field, ReplyRoundTrip.length_field, ReplyRoundTrip.close_field, ReplyRoundTrip.type_is, ReplyRoundTrip.length_is, ReplyRoundTrip.close_is, ReplyRoundTrip.counted_whole}
 
 -- ---- the head as a tree
 

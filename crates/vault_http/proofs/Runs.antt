@@ -1,8 +1,7 @@
 -- Runs of digits at the front of a text: for the lines of sizes.
 use Rattle.std.proofs.Common.{◌≡◌, ℕ, ◌≤◌, Bool, true, false, cond, List, [], ◌∷◌, ◌++◌, length, take_while, refl, sym, ap, ◌∙◌, arith}
 use Rattle.std.specs.List.{list_all}
-use Rattle.std.proofs.lemmas.Bool.{and_from, and_parts, both_ways}
-use Rattle.std.proofs.lemmas.List.Sums.{take_while-cons}
+use Rattle.std.proofs.lemmas.{Bool.and_from, Bool.and_parts, Bool.both_ways, List.Sums.take_while-cons}
 
 module _ (p : ℕ → Bool) where
   -- the bytes at the front that pass the test

@@ -1,14 +1,10 @@
 -- The line of a size: which texts begin with one, may, or never will. For `size_line`.
 use Rattle.std.proofs.Common.{◌≡◌, ℕ, ◌+◌, ◌<◌, ◌≤◌, ◌⊎◌, inl, inr, Bool, true, false, cond, List, [], ◌∷◌, ◌++◌, length, take, drop, take_while, refl, sym, ap, ◌∙◌, arith, append_assoc, subst, length-append, Some, None}
-use Rattle.std.specs.List.{list_all}
-use Rattle.std.specs.Str.Parse.{digits_value}
-use Rattle.std.proofs.lemmas.Bool.{both_ways}
-use Rattle.std.proofs.lemmas.List.{take_at, drop_at, drop-drop, nil_from_length}
+use Rattle.std.specs.{List.list_all, Str.Parse.digits_value}
+use Rattle.std.proofs.lemmas.{Bool.both_ways, List.take_at, List.drop_at, List.drop-drop, List.nil_from_length}
 use Rattle.vault_http.specs.declared.chunk.Ending.TheVariants as ending
 use Rattle.vault_http.specs.declared.chunk.Line.TheVariants as line
-use Rattle.vault_http.specs.Chunks.{line_end, IsSize, size_of_digits, MayHave, NeverHas}
-use Rattle.vault_http.specs.Framing.{is_digit, number_in_digits}
-use Rattle.vault_http.specs.Steps.{IsEnding, IsSizeLine}
+use Rattle.vault_http.specs.{Chunks.line_end, Chunks.IsSize, Chunks.size_of_digits, Chunks.MayHave, Chunks.NeverHas, Framing.is_digit, Framing.number_in_digits, Steps.IsEnding, Steps.IsSizeLine}
 use Rattle.vault_http.proofs.Runs.{front, take_while-front, Halts, IsRun, run_of, run_within, same_run}
 
 abbrev hex : ℕ → Bool

@@ -1,27 +1,17 @@
 -- Where more of a message is rightly waited for: for the judges and the reading loop.
 use Rattle.std.proofs.Common.{◌≡◌, ℕ, ◌+◌, ◌-◌, ◌<◌, ◌≤◌, ◌⊎◌, inl, inr, cond, nat_lt, Bool, true, false, IsTrue, List, [], ◌++◌, length, take, drop, replicate, refl, sym, ap, ◌∙◌, arith, append_assoc, append-nil, subst, length-append, take-append-drop, Option, None, Some, IfSome, Result, Ok, Err}
-use Rattle.std.proofs.lemmas.Bool.{lt-ltb, le-ltb}
-use Rattle.std.proofs.lemmas.List.{length-replicate, take-append-le, drop-append-le, take_all, length-take-le}
-use Rattle.std.specs.List.{list_all}
-use Rattle.std.specs.Io.KnownBytes.{Consumes, Keeps, IsAtEnd}
+use Rattle.std.proofs.lemmas.{Bool.lt-ltb, Bool.le-ltb, List.length-replicate, List.take-append-le, List.drop-append-le, List.take_all, List.length-take-le}
+use Rattle.std.specs.{List.list_all, Io.KnownBytes.Consumes, Io.KnownBytes.Keeps, Io.KnownBytes.IsAtEnd}
 use Rattle.std.proofs.KnownBytes.{Consumes-kept}
 use Rattle.base_device.specs.declared.limits.TheConstants.{MOST_READS}
-use Rattle.vault_http.specs.declared.body.BodyFault.{BodyFault}
-use Rattle.vault_http.specs.declared.body.BodyFault.TheVariants.{TooLong, Truncated}
-use Rattle.vault_http.specs.declared.body.Partial.{Partial}
+use Rattle.vault_http.specs.{declared.body.BodyFault.BodyFault, declared.body.BodyFault.TheVariants.TooLong, declared.body.BodyFault.TheVariants.Truncated, declared.body.Partial.Partial, declared.framing.Framing.Framing}
+use Rattle.vault_http.specs.{declared.framing.Framing.TheVariants.Empty, declared.framing.Framing.TheVariants.Counted, declared.framing.Framing.TheVariants.Chunked, declared.framing.Framing.TheVariants.ToEnd}
+use Rattle.vault_http.specs.{declared.http_fault.HttpFault.HttpFault, declared.known.Known.Known, Body.IsMessageBody, Body.HasBody, Body.BodyIsCutOff, Body.IsPartOf, Body.counted_body, Body.framing_of, Body.open_body, Chunks.HasChunks}
+use Rattle.vault_http.specs.{EmptyLine.HasLineBehind, EmptyLine.is_line_end_byte, Holding.HoldsMessage, Holding.HandedNone, Holding.IsPending, Holding.IsWaitedFor, Known.IsCurrent, Known.IsHeaded, Known.StaysKnown, Known.message_with_body}
+use Rattle.vault_http.specs.{Reading.HeldIsRead, Reading.IsLate, Reading.SettlesMessage}
 use Rattle.vault_http.specs.declared.body.Partial.TheVariants as partial
-use Rattle.vault_http.specs.declared.framing.Framing.{Framing}
-use Rattle.vault_http.specs.declared.framing.Framing.TheVariants.{Empty, Counted, Chunked, ToEnd}
-use Rattle.vault_http.specs.declared.http_fault.HttpFault.{HttpFault}
 use Rattle.vault_http.specs.declared.http_fault.HttpFault.TheVariants as faults
-use Rattle.vault_http.specs.declared.known.Known.{Known}
 use Rattle.vault_http.specs.declared.known.Known.TheVariants as known
-use Rattle.vault_http.specs.Body.{IsMessageBody, HasBody, BodyIsCutOff, IsPartOf, counted_body, framing_of, open_body}
-use Rattle.vault_http.specs.Chunks.{HasChunks}
-use Rattle.vault_http.specs.EmptyLine.{HasLineBehind, is_line_end_byte}
-use Rattle.vault_http.specs.Holding.{HoldsMessage, HandedNone, IsPending, IsWaitedFor}
-use Rattle.vault_http.specs.Known.{IsCurrent, IsHeaded, StaysKnown, message_with_body}
-use Rattle.vault_http.specs.Reading.{HeldIsRead, IsLate, SettlesMessage}
 use Rattle.vault_http.proofs.WholeChunks.{never_both}
 
 -- ---- a body

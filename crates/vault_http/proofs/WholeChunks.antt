@@ -2,10 +2,9 @@
 use Rattle.std.proofs.Common.{◌≡◌, ℕ, ◌+◌, ◌-◌, ◌≤◌, ◌⊎◌, inl, inr, List, [], ◌∷◌, ◌++◌, length, drop, refl, sym, ap, ◌∙◌, arith, append_assoc, subst, length-append, Result, Ok, Err}
 use Rattle.std.proofs.lemmas.List.{drop_at}
 use Rattle.std.specs.List.{AllByRecursion}
-use Rattle.vault_http.specs.declared.body.BodyFault.{BodyFault}
-use Rattle.vault_http.specs.declared.body.BodyFault.TheVariants.{TooLong, Truncated, BadChunk, OutOfMemory}
-use Rattle.vault_http.specs.Chunks.{line_end, IsSize, IsData, size_of_digits, HasPart, MayHave, Chunk, IsChunk, print_chunk, print_chunks, content, joined_bytes, StopsAt, IsChunked}
-use Rattle.vault_http.specs.Framing.{is_digit}
+use Rattle.vault_http.specs.{declared.body.BodyFault.BodyFault, declared.body.BodyFault.TheVariants.Truncated}
+use Rattle.vault_http.specs.{Chunks.line_end, Chunks.IsSize, Chunks.IsData, Chunks.size_of_digits, Chunks.HasPart, Chunks.MayHave, Chunks.Chunk, Chunks.IsChunk, Chunks.print_chunk, Chunks.print_chunks, Chunks.content, Chunks.joined_bytes, Chunks.StopsAt, Chunks.IsChunked}
+use Rattle.vault_http.specs.{Framing.is_digit}
 use Rattle.vault_http.proofs.Runs.{same_run}
 
 -- ---- whole or cut off

@@ -1,9 +1,7 @@
 -- Writable: the parts of what may be written pass the tests that the code makes, and methods are short.
 use Rattle.std.proofs.Common.{ℕ, ◌≤◌, false, All, List, Some, IsTrue, arith, codes, inl, inr, length, refl, subst, sym}
-use Rattle.std.proofs.lemmas.Bool.{both_ways, or_cases}
-use Rattle.std.proofs.lemmas.List.Sums.{list_all-from_AllPass}
-use Rattle.std.specs.Cmp.Lexicographic.{bytes_decides}
-use Rattle.std.specs.List.{list_all}
+use Rattle.std.proofs.lemmas.{Bool.both_ways, Bool.or_cases, List.Sums.list_all-from_AllPass}
+use Rattle.std.specs.{Cmp.Lexicographic.bytes_decides, List.list_all}
 use Rattle.vault_http.specs.RoundTripRequest.{IsSentToken, is_path_byte, is_sent_method, is_token_value_byte}
 
 pub path_passes : (path : List ℕ) → All (λ b. IsTrue (is_path_byte b)) path → IsTrue (list_all is_path_byte path)

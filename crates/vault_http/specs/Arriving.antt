@@ -2,11 +2,7 @@
 -- names them.
 use Rattle.std.specs.Prelude.{ℕ, List, Option, Some, None}
 use Rattle.httparse.specs.Grammar.{HasNoResponse}
-use Rattle.vault_http.specs.Dates.{IsDatedReply, dated_with}
-use Rattle.vault_http.specs.Known.{IsCurrent, StaysKnown}
-use Rattle.vault_http.specs.declared.dated_reply.DatedReply.{DatedReply}
-use Rattle.vault_http.specs.declared.known.Known.{Known}
-use Rattle.vault_http.specs.declared.known.TheConstants.{MOST_MESSAGE}
+use Rattle.vault_http.specs.{Dates.IsDatedReply, Dates.dated_with, Known.IsCurrent, Known.StaysKnown, declared.dated_reply.DatedReply.DatedReply, declared.known.Known.Known, declared.known.TheConstants.MOST_MESSAGE}
 
 -- of a reply with its date of which these bytes have come, so much is known; nothing is known at first, and once memory was
 -- wanting

@@ -1,12 +1,9 @@
 -- A body after its head, where only so many bytes may be read (RFC 9112, section 6.3).
 use Rattle.std.specs.Prelude.{◌≡◌, ℕ, ◌≤◌, List, [], length, take, nat_lt, if◌then◌else◌, Result, Ok, Err}
-use Rattle.vault_http.specs.declared.body.BodyFault.{BodyFault}
-use Rattle.vault_http.specs.declared.body.BodyFault.TheVariants.{TooLong, Truncated}
-use Rattle.vault_http.specs.declared.body.Partial.{Partial}
+use Rattle.vault_http.specs.{declared.body.BodyFault.BodyFault, declared.body.BodyFault.TheVariants.TooLong, declared.body.BodyFault.TheVariants.Truncated, declared.body.Partial.Partial, declared.framing.Framing.Framing}
+use Rattle.vault_http.specs.{declared.framing.Framing.TheVariants.Empty, declared.framing.Framing.TheVariants.Counted, declared.framing.Framing.TheVariants.Chunked, declared.framing.Framing.TheVariants.ToEnd}
+use Rattle.vault_http.specs.{Chunks.IsChunked, Chunks.HasChunks}
 use Rattle.vault_http.specs.declared.body.Partial.TheVariants as partial
-use Rattle.vault_http.specs.declared.framing.Framing.{Framing}
-use Rattle.vault_http.specs.declared.framing.Framing.TheVariants.{Empty, Counted, Chunked, ToEnd}
-use Rattle.vault_http.specs.Chunks.{IsChunked, HasChunks}
 
 -- a body of n bytes: whether they fit is judged before whether they are there
 abbrev pub counted_body : ℕ → ℕ → List ℕ → Result (List ℕ) BodyFault

@@ -2,11 +2,9 @@
 -- extensions and no trailers. Each chunk is the line of its size and CR LF, so many bytes, and CR LF; one of size 0 ends
 -- the body.
 use Rattle.std.specs.Prelude.{◌≡◌, ℕ, ◌+◌, ◌-◌, ◌<◌, ◌≤◌, ◌⊎◌, List, [], ◌∷◌, ◌++◌, length, take, Result, Ok, Err, IsTrue}
-use Rattle.std.specs.List.{list_all, flat_map, AllByRecursion}
-use Rattle.std.specs.Str.Parse.{digits_value}
-use Rattle.vault_http.specs.declared.body.BodyFault.{BodyFault}
-use Rattle.vault_http.specs.declared.body.BodyFault.TheVariants.{TooLong, Truncated, BadChunk, OutOfMemory}
-use Rattle.vault_http.specs.Framing.{is_digit}
+use Rattle.std.specs.{List.list_all, List.flat_map, List.AllByRecursion, Str.Parse.digits_value}
+use Rattle.vault_http.specs.{declared.body.BodyFault.BodyFault}
+use Rattle.vault_http.specs.{declared.body.BodyFault.TheVariants.TooLong, declared.body.BodyFault.TheVariants.Truncated, declared.body.BodyFault.TheVariants.BadChunk, declared.body.BodyFault.TheVariants.OutOfMemory, Framing.is_digit}
 
 -- CR LF
 abbrev pub line_end : List ℕ

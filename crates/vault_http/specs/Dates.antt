@@ -1,17 +1,10 @@
 -- The date of a reply (RFC 9110, section 6.6.1): what its one field `Date` tells, a text of one of the three forms of section
 -- 5.6.7. None is told where there is no such field, where there are several, and where the text is none of these.
 use Rattle.std.specs.Prelude.{◌≡◌, ℕ, ◌<◌, ◌≤◌, ◌^◌, List, [], ◌∷◌, ◌++◌, length, map, codes, IsTrue, Option, None, Result, Ok, Err}
-use Rattle.httparse.specs.Grammar.{ResponseHead, ReadsResponse}
-use Rattle.httparse.specs.Spans.{name_and_value}
+use Rattle.httparse.specs.{Grammar.ResponseHead, Grammar.ReadsResponse, Spans.name_and_value}
 use Rattle.httpdate.specs.Date.{parse_secs}
-use Rattle.vault_http.specs.declared.dated_reply.DatedReply.{DatedReply}
-use Rattle.vault_http.specs.declared.found_head.TheConstants.{MOST_FIELDS}
-use Rattle.vault_http.specs.declared.http_fault.HttpFault.{HttpFault}
-use Rattle.vault_http.specs.Fields.{values_of}
-use Rattle.vault_http.specs.declared.reply.Reply.{Reply}
-use Rattle.vault_http.specs.Messages.{IsHttpReply, reply_with}
-use Rattle.vault_http.specs.RoundTrip.{is_sent}
-use Rattle.vault_http.specs.Written.{reply_text}
+use Rattle.vault_http.specs.{declared.dated_reply.DatedReply.DatedReply, declared.found_head.TheConstants.MOST_FIELDS, declared.http_fault.HttpFault.HttpFault, Fields.values_of, declared.reply.Reply.Reply}
+use Rattle.vault_http.specs.{Messages.IsHttpReply, Messages.reply_with, RoundTrip.is_sent, Written.reply_text}
 
 -- the name of the field
 unfoldable pub date_name : List ℕ

@@ -1,14 +1,9 @@
 -- How long a body is, by the fields of its head (RFC 9112, section 6.3), in this profile: one field or none, and never
 -- both; the one coding is `chunked`, a length has 1 to 15 digits.
 use Rattle.std.specs.Prelude.{ℕ, ◌==◌, List, [], ◌∷◌, length, Bool, ◌&&◌, ◌||◌, nat_lt, nat_le, if◌then◌else◌, codes, Option, Some, None, Result, Ok, Err}
-use Rattle.std.specs.List.{list_all}
-use Rattle.std.specs.Char.{digit_value}
-use Rattle.std.specs.Str.Parse.{digits_value}
-use Rattle.vault_http.specs.declared.framing.Framing.{Framing}
-use Rattle.vault_http.specs.declared.framing.Framing.TheVariants.{Empty, Counted, Chunked}
-use Rattle.vault_http.specs.declared.framing.LengthFault.{LengthFault}
-use Rattle.vault_http.specs.declared.framing.LengthFault.TheVariants.{BadLength, TwoLengths}
-use Rattle.vault_http.specs.Fields.{is_field_named, values_of}
+use Rattle.std.specs.{List.list_all, Char.digit_value, Str.Parse.digits_value}
+use Rattle.vault_http.specs.{declared.framing.Framing.Framing, declared.framing.Framing.TheVariants.Empty, declared.framing.Framing.TheVariants.Counted, declared.framing.Framing.TheVariants.Chunked, declared.framing.LengthFault.LengthFault}
+use Rattle.vault_http.specs.{declared.framing.LengthFault.TheVariants.BadLength, declared.framing.LengthFault.TheVariants.TwoLengths, Fields.is_field_named, Fields.values_of}
 
 -- the names of the two fields, and of the coding
 unfoldable pub transfer_encoding : List ℕ

@@ -3,17 +3,10 @@ use Rattle.std.specs.Prelude.{◌≡◌, ℕ, ◌≤◌, List, [], ◌∷◌, le
 use Rattle.httparse.specs.declared.spans.Span.{Span}
 use Rattle.httparse.specs.Grammar.{RequestHead, print_request, ReadsRequest, HasNoRequest, MayBecomeRequest, ResponseHead, print_response, ReadsResponse, HasNoResponse, MayBecomeResponse, status_code}
 use Rattle.httparse.specs.Spans.{span_bytes, IsWithin, name_and_value, RequestOverflows, ResponseOverflows}
-use Rattle.vault_http.specs.declared.framing.Framing.{Framing}
-use Rattle.vault_http.specs.declared.framing.Framing.TheVariants.{Empty, ToEnd}
-use Rattle.vault_http.specs.declared.framing.LengthFault.{LengthFault}
-use Rattle.vault_http.specs.declared.found_head.ReplyHead.{ReplyHead}
+use Rattle.vault_http.specs.{declared.framing.Framing.Framing, declared.framing.Framing.TheVariants.Empty, declared.framing.Framing.TheVariants.ToEnd, declared.framing.LengthFault.LengthFault, declared.found_head.ReplyHead.ReplyHead}
+use Rattle.vault_http.specs.{declared.found_head.Start.Start, declared.found_head.RequestFront.RequestFront, declared.found_head.TheConstants.MOST_FIELDS, Fields.values_of, Framing.framing, Framing.reply_framing}
 use Rattle.vault_http.specs.declared.found_head.ReplyHead.TheVariants as reply
-use Rattle.vault_http.specs.declared.found_head.Start.{Start}
-use Rattle.vault_http.specs.declared.found_head.RequestFront.{RequestFront}
 use Rattle.vault_http.specs.declared.found_head.RequestFront.TheVariants as request
-use Rattle.vault_http.specs.declared.found_head.TheConstants.{MOST_FIELDS}
-use Rattle.vault_http.specs.Fields.{values_of}
-use Rattle.vault_http.specs.Framing.{framing, reply_framing}
 
 -- the name of the token's field
 unfoldable pub token_name : List ℕ

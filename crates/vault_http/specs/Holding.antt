@@ -1,9 +1,7 @@
 -- What bytes hold of a message, and where more of them are waited for.
 use Rattle.std.specs.Prelude.{ℕ, ◌*◌, ◌<◌, ◌≤◌, ◌⊎◌, List, ◌++◌, length, take, Option, IfSome, Result, Ok, Err}
 use Rattle.std.specs.Io.KnownBytes.{Consumes}
-use Rattle.vault_http.specs.declared.http_fault.HttpFault.{HttpFault}
-use Rattle.vault_http.specs.declared.http_fault.HttpFault.TheVariants.{Truncated}
-use Rattle.vault_http.specs.declared.known.TheConstants.{SMALL_HEAD}
+use Rattle.vault_http.specs.{declared.http_fault.HttpFault.HttpFault, declared.http_fault.HttpFault.TheVariants.Truncated, declared.known.TheConstants.SMALL_HEAD}
 
 -- the bytes hold this message: it is the answer whatever follows them (no bytes hold a reply whose length is "determined
 -- by the number of octets received prior to the server closing the connection": RFC 9112, section 6.3, point 8)

@@ -2,18 +2,11 @@
 -- public names them.
 use Rattle.std.specs.Prelude.{◌≡◌, ℕ, ◌-◌, ◌*◌, ◌<◌, ◌≤◌, ◌⊎◌, List, ◌++◌, length, take, drop, IsTrue, Result, Ok, Err}
 use Rattle.std.specs.List.{list_all}
-use Rattle.vault_http.specs.declared.body.BodyFault.{BodyFault}
-use Rattle.vault_http.specs.declared.framing.Framing.{Framing}
-use Rattle.vault_http.specs.declared.http_fault.HttpFault.{HttpFault}
-use Rattle.vault_http.specs.declared.http_fault.HttpFault.TheVariants.{Truncated}
-use Rattle.vault_http.specs.declared.known.TheConstants.{SMALL_HEAD}
-use Rattle.vault_http.specs.declared.known.Known.{Known}
+use Rattle.vault_http.specs.{declared.body.BodyFault.BodyFault, declared.framing.Framing.Framing, declared.http_fault.HttpFault.HttpFault, declared.http_fault.HttpFault.TheVariants.Truncated, declared.known.TheConstants.SMALL_HEAD}
+use Rattle.vault_http.specs.{declared.known.Known.Known, declared.message.Head.Head, Body.IsMessageBody, Body.HasBody, Body.BodyIsCutOff, Body.IsPartOf, Body.framing_of, EmptyLine.is_line_end_byte}
+use Rattle.vault_http.specs.{Messages.body_fault, Messages.UnlessMemory}
 use Rattle.vault_http.specs.declared.known.Known.TheVariants as known
-use Rattle.vault_http.specs.declared.message.Head.{Head}
 use Rattle.vault_http.specs.declared.message.Head.TheVariants as head
-use Rattle.vault_http.specs.Body.{IsMessageBody, HasBody, BodyIsCutOff, IsPartOf, framing_of}
-use Rattle.vault_http.specs.EmptyLine.{is_line_end_byte}
-use Rattle.vault_http.specs.Messages.{body_fault, UnlessMemory}
 
 -- the message with that body
 abbrev pub message_with_body : {A : Type 0} → (A → List ℕ → A) → A → Result (List ℕ) BodyFault → Result A HttpFault

@@ -3,18 +3,11 @@
 use Rattle.std.specs.Prelude.{◌≡◌, ℕ, ◌-◌, ◌<◌, ◌≤◌, ◌⊎◌, Bool, true, false, ◌&&◌, nat_le, nat_lt, List, length, take, map, Option, Result, Ok, Err}
 use Rattle.httparse.specs.Grammar.{RequestHead, print_request, ReadsRequest, HasNoRequest, MayBecomeRequest, ResponseHead, print_response, ReadsResponse, HasNoResponse, MayBecomeResponse, status_code}
 use Rattle.httparse.specs.Spans.{name_and_value, RequestOverflows, ResponseOverflows}
-use Rattle.vault_http.specs.declared.body.BodyFault.{BodyFault}
+use Rattle.vault_http.specs.{declared.body.BodyFault.BodyFault, declared.framing.Framing.Framing, declared.framing.LengthFault.LengthFault, declared.http_fault.HttpFault.HttpFault}
+use Rattle.vault_http.specs.{declared.http_fault.HttpFault.TheVariants.BadHead, declared.http_fault.HttpFault.TheVariants.BadLength, declared.http_fault.HttpFault.TheVariants.BadChunk, declared.http_fault.HttpFault.TheVariants.Truncated, declared.http_fault.HttpFault.TheVariants.TooLong, declared.http_fault.HttpFault.TheVariants.TwoLengths, declared.http_fault.HttpFault.TheVariants.OutOfMemory}
+use Rattle.vault_http.specs.{declared.reply.Reply.Reply, declared.request.Request.Request, Body.IsMessageBody, Heads.token_of, Heads.framing_of_response, Heads.framing_of_request, declared.found_head.TheConstants.MOST_FIELDS}
 use Rattle.vault_http.specs.declared.body.BodyFault.TheVariants as bodies
-use Rattle.vault_http.specs.declared.framing.Framing.{Framing}
-use Rattle.vault_http.specs.declared.framing.LengthFault.{LengthFault}
 use Rattle.vault_http.specs.declared.framing.LengthFault.TheVariants as lengths
-use Rattle.vault_http.specs.declared.http_fault.HttpFault.{HttpFault}
-use Rattle.vault_http.specs.declared.http_fault.HttpFault.TheVariants.{BadHead, BadLength, BadChunk, Truncated, TooLong, TwoLengths, OutOfMemory}
-use Rattle.vault_http.specs.declared.reply.Reply.{Reply}
-use Rattle.vault_http.specs.declared.request.Request.{Request}
-use Rattle.vault_http.specs.Body.{IsMessageBody}
-use Rattle.vault_http.specs.Heads.{token_of, framing_of_response, framing_of_request}
-use Rattle.vault_http.specs.declared.found_head.TheConstants.{MOST_FIELDS}
 
 -- the faults of a body and of its length, as faults of the message
 abbrev pub body_fault : BodyFault → HttpFault

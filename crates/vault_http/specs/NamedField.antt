@@ -1,9 +1,7 @@
 -- What a walk over the fields found of those with one name.
 use Rattle.std.specs.Prelude.{Bool, true, false, ◌≡◌, ℕ, List, [], ◌∷◌, length}
-use Rattle.httparse.specs.declared.spans.Span.{Span}
-use Rattle.httparse.specs.Spans.{span_bytes, IsWithin}
-use Rattle.vault_http.specs.declared.named_field.Lone.{Lone}
-use Rattle.vault_http.specs.declared.named_field.Lone.TheVariants.{Absent, One, Several}
+use Rattle.httparse.specs.{declared.spans.Span.Span, Spans.span_bytes, Spans.IsWithin}
+use Rattle.vault_http.specs.{declared.named_field.Lone.Lone, declared.named_field.Lone.TheVariants.Absent, declared.named_field.Lone.TheVariants.One, declared.named_field.Lone.TheVariants.Several}
 
 -- none, the one, or the first of several of these values
 abbrev pub IsLone : List ℕ → List (List ℕ) → Lone → Type 0

@@ -1,21 +1,12 @@
 -- What reading a message from a source answers, and the count of failures over the reading.
 use Rattle.std.specs.Prelude.{◌≡◌, ℕ, ◌+◌, ◌≤◌, ◌⊎◌, List, Option, Some, IfSome, Result, Ok, Err}
 use Rattle.std.specs.Io.KnownBytes.{IsAtEnd}
-use Rattle.base_device.specs.declared.one_read.MoreFault.{MoreFault}
+use Rattle.base_device.specs.{declared.one_read.MoreFault.MoreFault, Failures.one_more, declared.limits.TheConstants.MOST_READS, Seen.Input, Whole.PassesReads}
 use Rattle.base_device.specs.declared.one_read.MoreFault.TheVariants as more
-use Rattle.vault_http.specs.declared.http_fault.HttpFault.{HttpFault}
-use Rattle.vault_http.specs.declared.http_fault.HttpFault.TheVariants.{ReadFailed, TooLong, OutOfMemory}
-use Rattle.base_device.specs.Failures.{one_more}
+use Rattle.vault_http.specs.{declared.http_fault.HttpFault.HttpFault, declared.http_fault.HttpFault.TheVariants.ReadFailed, declared.http_fault.HttpFault.TheVariants.TooLong, declared.http_fault.HttpFault.TheVariants.OutOfMemory}
+use Rattle.vault_http.specs.{declared.dated_reply.DatedReply.DatedReply, declared.reply.Reply.Reply, declared.request.Request.Request, Dates.IsDatedReply, Holding.HoldsMessage, Holding.HandedNone}
+use Rattle.vault_http.specs.{Messages.IsHttpReply, Messages.IsHttpRequest}
 use Rattle.httparse.specs.Grammar.{HasNoRequest, HasNoResponse}
-use Rattle.vault_http.specs.declared.dated_reply.DatedReply.{DatedReply}
-use Rattle.vault_http.specs.declared.reply.Reply.{Reply}
-use Rattle.vault_http.specs.declared.request.Request.{Request}
-use Rattle.vault_http.specs.Dates.{IsDatedReply}
-use Rattle.vault_http.specs.Holding.{HoldsMessage, HandedNone}
-use Rattle.vault_http.specs.Messages.{IsHttpReply, IsHttpRequest}
-use Rattle.base_device.specs.declared.limits.TheConstants.{MOST_READS}
-use Rattle.base_device.specs.Seen.{Input}
-use Rattle.base_device.specs.Whole.{PassesReads}
 
 -- a read that gave nothing, as the fault of the message
 abbrev pub more_fault : MoreFault → HttpFault

@@ -1,10 +1,7 @@
 -- What was written is read back as the same message, whatever follows it, where as many bytes may be read as it has.
 use Rattle.std.specs.Prelude.{◌≡◌, ℕ, ◌^◌, ◌<◌, ◌≤◌, ◌==◌, Bool, List, [], ◌∷◌, ◌++◌, length, IsTrue, Result, Ok}
 use Rattle.std.specs.List.{list_any}
-use Rattle.vault_http.specs.declared.http_fault.HttpFault.{HttpFault}
-use Rattle.vault_http.specs.declared.reply.Reply.{Reply}
-use Rattle.vault_http.specs.Messages.{IsHttpReply}
-use Rattle.vault_http.specs.Written.{reply_text}
+use Rattle.vault_http.specs.{declared.http_fault.HttpFault.HttpFault, declared.reply.Reply.Reply, Messages.IsHttpReply, Written.reply_text}
 
 -- the statuses that replies are written with
 abbrev pub is_sent : ℕ → Bool

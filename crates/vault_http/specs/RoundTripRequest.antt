@@ -1,11 +1,7 @@
 -- A request that was written is read back as the same request, the port left out, whatever follows it.
 use Rattle.std.specs.Prelude.{◌≡◌, ℕ, ◌^◌, ◌<◌, ◌≤◌, ◌==◌, Bool, true, ◌&&◌, ◌||◌, nat_le, List, [], ◌∷◌, ◌++◌, length, IsTrue, Option, None, Some, Result, Ok, codes, bytes_eq, All}
-use Rattle.std.specs.List.{list_any}
-use Rattle.std.specs.Char.{is_ascii_alphanumeric}
-use Rattle.vault_http.specs.declared.http_fault.HttpFault.{HttpFault}
-use Rattle.vault_http.specs.declared.request.Request.{Request}
-use Rattle.vault_http.specs.Messages.{IsHttpRequest}
-use Rattle.vault_http.specs.Written.{is_get, request_text}
+use Rattle.std.specs.{List.list_any, Char.is_ascii_alphanumeric}
+use Rattle.vault_http.specs.{declared.http_fault.HttpFault.HttpFault, declared.request.Request.Request, Messages.IsHttpRequest, Written.is_get, Written.request_text}
 
 -- the methods that requests are written with
 abbrev pub is_sent_method : List ℕ → Bool

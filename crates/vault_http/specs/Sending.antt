@@ -1,10 +1,9 @@
 -- What a sink's fault is to who sends a message, and the count of failures over the sending.
 use Rattle.std.specs.Prelude.{◌≡◌, ℕ, Result, Ok, Err}
-use Rattle.base_device.specs.declared.fault.SinkFault.{SinkFault}
+use Rattle.base_device.specs.{declared.fault.SinkFault.SinkFault, Failures.one_more}
 use Rattle.base_device.specs.declared.fault.SinkFault.TheVariants as sink
 use Rattle.vault_http.specs.declared.writing.SendFault.{SendFault}
 use Rattle.vault_http.specs.declared.writing.SendFault.TheVariants as faults
-use Rattle.base_device.specs.Failures.{one_more}
 
 -- a failed write is `WriteFailed`
 abbrev pub send_fault : SinkFault → SendFault

@@ -1,13 +1,8 @@
 -- The request whose head's parts stand in these bytes.
 use Rattle.std.specs.Prelude.{ℕ, List, length, Option, None, Some, option_map, Result}
 use Rattle.http.specs.Token.{IsToken}
-use Rattle.httparse.specs.declared.spans.Span.{Span}
-use Rattle.httparse.specs.Spans.{span_bytes, IsWithin}
-use Rattle.vault_http.specs.declared.body.BodyFault.{BodyFault}
-use Rattle.vault_http.specs.declared.found_head.Start.{Start}
-use Rattle.vault_http.specs.declared.http_fault.HttpFault.{HttpFault}
-use Rattle.vault_http.specs.declared.request.Request.{Request}
-use Rattle.vault_http.specs.Messages.{request_from_parts}
+use Rattle.httparse.specs.{declared.spans.Span.Span, Spans.span_bytes, Spans.IsWithin}
+use Rattle.vault_http.specs.{declared.body.BodyFault.BodyFault, declared.found_head.Start.Start, declared.http_fault.HttpFault.HttpFault, declared.request.Request.Request, Messages.request_from_parts}
 
 -- the span, if there is one, lies in the bytes
 abbrev pub IsTokenWithin : List ℕ → Option Span → Type 0

@@ -1,13 +1,10 @@
 -- What a walk over the chunks of a body finds at the front of a text.
 use Rattle.std.specs.Prelude.{◌≡◌, ℕ, ◌+◌, ◌≤◌, ◌⊎◌, List, [], ◌∷◌, ◌++◌, length, take, drop, Ok, Err}
-use Rattle.vault_http.specs.declared.body.BodyFault.TheVariants.{Truncated}
-use Rattle.vault_http.specs.declared.chunk.Ending.{Ending}
+use Rattle.vault_http.specs.{declared.body.BodyFault.TheVariants.Truncated, declared.chunk.Ending.Ending, declared.chunk.Line.Line, declared.chunk.Step.Step}
+use Rattle.vault_http.specs.{Chunks.line_end, Chunks.IsSize, Chunks.size_of_digits, Chunks.HasPart, Chunks.MayHave, Chunks.NeverHas, Chunks.Chunk, Chunks.IsChunk, Chunks.print_chunk, Chunks.StopsAt}
 use Rattle.vault_http.specs.declared.chunk.Ending.TheVariants as ending
-use Rattle.vault_http.specs.declared.chunk.Line.{Line}
 use Rattle.vault_http.specs.declared.chunk.Line.TheVariants as line
-use Rattle.vault_http.specs.declared.chunk.Step.{Step}
 use Rattle.vault_http.specs.declared.chunk.Step.TheVariants as step
-use Rattle.vault_http.specs.Chunks.{line_end, IsSize, size_of_digits, HasPart, MayHave, NeverHas, Chunk, IsChunk, print_chunk, StopsAt}
 
 -- CR LF: a front of it, none whatever follows, or all of it
 abbrev pub IsEnding : List ℕ → Ending → Type 0

@@ -1,6 +1,5 @@
 -- A verdict on the bytes read so far.
-use Rattle.vault_http.specs.declared.verdict.Verdict.{Verdict}
-use Rattle.vault_http.specs.declared.verdict.Verdict.TheVariants.{More, Done}
+use Rattle.vault_http.specs.{declared.verdict.Verdict.Verdict, declared.verdict.Verdict.TheVariants.More, declared.verdict.Verdict.TheVariants.Done}
 
 -- it is an answer
 abbrev pub VerdictIsDone : {K T : Type 0} → Verdict K T → Type 0

@@ -3,8 +3,7 @@
 use Rattle.std.specs.Prelude.{ℕ, List, [], ◌++◌, length, Option, None, Some, Bool, codes, decimal, bytes_eq, nat_lt, if◌then◌else◌}
 use Rattle.std.specs.Option.{unwrap_or}
 use Rattle.http.specs.StatusCode.{reason_phrase}
-use Rattle.vault_http.specs.declared.request.Request.{Request}
-use Rattle.vault_http.specs.declared.reply.Reply.{Reply}
+use Rattle.vault_http.specs.{declared.request.Request.Request, declared.reply.Reply.Reply}
 
 -- what stands between the path and the fields that follow `Host`
 unfoldable pub host_lines : ℕ → List ℕ

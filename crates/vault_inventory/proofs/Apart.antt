@@ -1,12 +1,8 @@
 -- Apart: of one kind no credential stands twice in an inventory, whatever tables it was read from.
 use Rattle.std.proofs.Common.{◌≡◌, ℕ, zero, suc, ◌+◌, ◌<◌, true, false, ◌||◌, List, ◌∷◌, [], ◌++◌, length, bytes_eq, get_or, refl, sym, ap, ◌∙◌, subst, arith, ⊎_elim}
-use Rattle.std.specs.List.{list_any}
-use Rattle.std.specs.Cmp.Lexicographic.{nat_list_eq_equiv}
-use Rattle.std.proofs.lemmas.Bool.{cases_lt, or_right}
-use Rattle.std.proofs.lemmas.List.{length_push}
-use Rattle.vault_inventory.specs.Values.{text}
-use Rattle.vault_inventory.specs.Inventories.{credential_at}
-use Rattle.vault_inventory.specs.Intake.{has_text}
+use Rattle.std.specs.{List.list_any, Cmp.Lexicographic.nat_list_eq_equiv}
+use Rattle.std.proofs.lemmas.{Bool.cases_lt, Bool.or_right, List.length_push}
+use Rattle.vault_inventory.specs.{Values.text, Inventories.credential_at, Intake.has_text}
 use Rattle.vault_inventory.proofs.Inventories.{credential_new, credential_old}
 
 -- ---- texts of which none stands twice

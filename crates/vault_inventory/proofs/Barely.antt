@@ -1,35 +1,22 @@
 -- Barely: what is read of a tree, but for credentials, is read of the tree without the keys of credentials.
 use Rattle.std.proofs.Common.{◌≡◌, ℕ, Bool, true, false, cond, List, ◌∷◌, [], ◌++◌, length, Some, None, Option, Result, Ok, Err, option_map, refl, sym, ap, ◌∙◌, unwrap_or, Ordering, Less, Equal, Greater}
 use Rattle.std.proofs.lemmas.Map.Text.{is_eq-slice_cmp}
-use Rattle.std.specs.Option.{is_some}
-use Rattle.std.specs.Cmp.Lexicographic.{slice_cmp, bytes_decides}
+use Rattle.std.specs.{Option.is_some, Cmp.Lexicographic.slice_cmp, Cmp.Lexicographic.bytes_decides}
 use Rattle.std.specs.Ordering.{nat_cmp, is_eq, match_ordering}
-use Rattle.toml.specs.Data.{string, integer, float, boolean, datetime, array, table, Data, Items, no_items, item, Members, no_members, member, get_member}
 use Rattle.toml.specs.Text.{are_tables}
-use Rattle.plan_forest.specs.declared.forest.TheConstants.{MARGIN_MAX}
-use Rattle.plan_forest.specs.Forest.{Forest}
+use Rattle.toml.specs.Data.{string, array, table, Data, Items, no_items, item, Members, no_members, member, get_member}
+use Rattle.plan_forest.specs.{declared.forest.TheConstants.MARGIN_MAX, Forest.Forest}
+use Rattle.vault_inventory.specs.{declared.fault.InvFault.InvFault, declared.fault.InvFault.TheVariants.BadValue, declared.key.Key.Key, declared.row.Life.Life, declared.row.TableRow.TableRow, declared.terms.Terms.Terms}
+use Rattle.vault_inventory.specs.{Keys.top_keys, Keys.key_text, Terms.max_ttl_of, Inventories.Inventory, Languages.full, Served.Served, Laws.ReadSecrecyLaw, Laws.ServedSecrecyLaw}
 use Rattle.vault_inventory.specs.declared.limits.TheConstants.{SPAN_MAX, STEP_ABSENT, SYSTEM_MAX}
-use Rattle.vault_inventory.specs.declared.fault.InvFault.{InvFault}
-use Rattle.vault_inventory.specs.declared.fault.InvFault.TheVariants.{BadValue}
-use Rattle.vault_inventory.specs.declared.key.Key.{Key}
 use Rattle.vault_inventory.specs.declared.key.Key.TheVariants.{SystemMax, Margin, Token, Lease, Name, Parent, Issued, End, Renewable, Increment, Period, MaxTtl, ExplicitMaxTtl, Reissued, Need, SecretFile, LeaseIdFile}
-use Rattle.vault_inventory.specs.declared.row.Life.{Life}
-use Rattle.vault_inventory.specs.declared.row.TableRow.{TableRow}
-use Rattle.vault_inventory.specs.declared.terms.Terms.{Terms}
-use Rattle.vault_inventory.specs.Keys.{top_keys, key_text}
-use Rattle.vault_inventory.specs.Answers.{◌>>=◌}
 use Rattle.vault_inventory.specs.Values.{alone_if, end_value, flag_value, has_if, is_key_there, moment_value, need, needed_value, only, path, read_if, span, tables, text, value_at}
-use Rattle.vault_inventory.specs.Terms.{max_ttl_of}
-use Rattle.vault_inventory.specs.Inventories.{Inventory}
 use Rattle.vault_inventory.specs.Intake.{Intake, empty_intake, inventory_of_intake}
 use Rattle.vault_inventory.specs.Rows.{file_at, life_of_table, lease_terms, step_or, token_terms}
 use Rattle.vault_inventory.specs.Inventory.{token_entered, lease_entered, entered_by, intake_of, read_served, served_of, system_max_in, document_tree}
-use Rattle.vault_inventory.specs.Languages.{full}
-use Rattle.vault_inventory.specs.Served.{Served}
 use Rattle.vault_inventory.specs.Bare.{bare_items, bare_members, bare_value, is_secret_key}
-use Rattle.vault_inventory.specs.Laws.{ReadSecrecyLaw, ServedSecrecyLaw}
-use Rattle.vault_inventory.proofs.Chains.{bind_ok, follow}
-use Rattle.vault_inventory.proofs.Inventoried.{whole_is}
+use Rattle.vault_inventory.specs.Answers.{◌>>=◌}
+use Rattle.vault_inventory.proofs.{Chains.bind_ok, Chains.follow, Inventoried.whole_is}
 use Rattle.vault_inventory.proofs.Parts.{LeaseParts, TokenParts, lease_parts, made_lease, made_token, token_parts}
 use Rattle.vault_inventory.proofs.Taken.{grown, lease_entered_ok, token_entered_ok}
 

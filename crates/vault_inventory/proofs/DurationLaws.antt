@@ -1,12 +1,9 @@
 -- DurationLaws: what is read as a duration is one, and each is read.
-use Rattle.std.proofs.Common.{◌≡◌, ◌≢◌, ◌⊎◌, ℕ, zero, suc, ◌+◌, ◌*◌, ◌<◌, ◌≤◌, Bool, true, false, cond, ◌&&◌, ◌==◌, List, [], ◌∷◌, ◌++◌, append_assoc, length, length-append, take, drop, get_or, nat_lt, nat_le, Some, None, Option, refl, sym, ap, ◌∙◌, subst, arith, inl, inr}
+use Rattle.std.proofs.Common.{◌≡◌, ◌≢◌, ℕ, zero, suc, ◌+◌, ◌*◌, ◌<◌, ◌≤◌, Bool, true, false, cond, ◌&&◌, ◌==◌, List, [], ◌∷◌, ◌++◌, append_assoc, length, length-append, take, drop, get_or, nat_lt, nat_le, Some, None, refl, sym, ap, ◌∙◌, subst, arith, inl, inr}
+use Rattle.std.proofs.lemmas.{Bool.Decides.nat_tests, List.append-nil, List.drop_more}
 use Rattle.std.proofs.lemmas.Bool.{and_parts, cases_Bool, cond-true, cond-false}
-use Rattle.std.proofs.lemmas.Bool.Decides.{nat_tests}
-use Rattle.std.proofs.lemmas.List.{append-nil, drop_more}
-use Rattle.std.specs.Char.{is_ascii_digit}
-use Rattle.std.specs.List.{list_all}
-use Rattle.std.specs.Str.Parse.{digits_value}
-use Rattle.vault_inventory.specs.Durations.{DurationFound, DurationOnly, IsDuration, IsNumber, IsPart, after_part, digits_before, duration_of_text, has_part, hours_on, minutes_on, part_seconds, seconds_on}
+use Rattle.std.specs.{Char.is_ascii_digit, List.list_all, Str.Parse.digits_value}
+use Rattle.vault_inventory.specs.Durations.{DurationFound, DurationOnly, IsPart, after_part, digits_before, duration_of_text, has_part, hours_on, minutes_on, part_seconds, seconds_on}
 use Rattle.vault_inventory.proofs.Durations.{both_true, front_digit, front_other}
 
 less : (a b : ℕ) → nat_lt a b ≡ true → a < b

@@ -1,23 +1,16 @@
 -- Entered: what holds of an inventory whatever tables it was read from: what its margin gives it and each table keeps.
 use Rattle.std.proofs.Common.{◌≡◌, ℕ, ◌≤◌, ◌&&◌, Bool, true, false, cond, List, Some, None, Option, Result, Ok, Err, IfSome, nat_le, refl, subst, arith, unwrap_or}
-use Rattle.std.proofs.lemmas.Bool.{and_parts}
-use Rattle.std.proofs.lemmas.Bool.Decides.{nat_tests}
+use Rattle.std.proofs.lemmas.{Bool.and_parts, Bool.Decides.nat_tests}
 use Rattle.std.proofs.Math.IntN.{pos, negsuc}
-use Rattle.toml.specs.Data.{string, integer, float, boolean, datetime, array, table, Data, Members, no_items, get_member}
+use Rattle.toml.specs.Data.{string, integer, Data, Members, no_items, get_member}
 use Rattle.plan_forest.specs.declared.forest.TheConstants.{MARGIN_MAX}
-use Rattle.vault_inventory.specs.declared.limits.TheConstants.{SPAN_MAX, SYSTEM_MAX}
-use Rattle.vault_inventory.specs.declared.fault.InvFault.{InvFault}
-use Rattle.vault_inventory.specs.declared.fault.InvFault.TheVariants.{BadValue}
-use Rattle.vault_inventory.specs.declared.key.Key.{Key}
+use Rattle.vault_inventory.specs.{declared.limits.TheConstants.SPAN_MAX, declared.limits.TheConstants.SYSTEM_MAX, declared.fault.InvFault.InvFault, declared.fault.InvFault.TheVariants.BadValue, declared.key.Key.Key}
+use Rattle.vault_inventory.specs.{Durations.duration_of_text, Keys.top_keys, Keys.key_text, Intake.Intake, Intake.empty_intake}
 use Rattle.vault_inventory.specs.declared.key.Key.TheVariants.{SystemMax, Margin, Token, Lease}
 use Rattle.vault_inventory.specs.Languages.{Language, strict, full}
-use Rattle.vault_inventory.specs.Durations.{duration_of_text}
-use Rattle.vault_inventory.specs.Keys.{top_keys, key_text}
 use Rattle.vault_inventory.specs.Values.{if_within, in_units, only, read_if, span, tables, value_at, whole}
-use Rattle.vault_inventory.specs.Intake.{Intake, empty_intake}
 use Rattle.vault_inventory.specs.Inventory.{token_entered, lease_entered, entered_by, intake_of}
-use Rattle.vault_inventory.proofs.Chains.{bind_ok}
-use Rattle.vault_inventory.proofs.Taken.{KeepsIt, all_keep}
+use Rattle.vault_inventory.proofs.{Chains.bind_ok, Taken.KeepsIt, Taken.all_keep}
 
 -- ---- a number of a range, or the one that stands for it where it is absent
 

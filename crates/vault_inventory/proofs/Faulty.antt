@@ -1,35 +1,21 @@
 -- Faulty: the fault that reading tells is the first in the order of all faults.
-use Rattle.std.proofs.Common.{◌≡◌, ◌⊎◌, ℕ, zero, suc, ◌+◌, Bool, true, false, cond, ◌&&◌, not, List, [], ◌∷◌, ◌++◌, length, Some, None, Option, Result, Ok, Err, refl, sym, ap, ◌∙◌, subst, arith, option_map, unwrap_or, inl, inr}
-use Rattle.std.specs.Option.{is_some}
-use Rattle.std.specs.Str.{is_utf8}
+use Rattle.std.proofs.Common.{◌≡◌, ◌⊎◌, ℕ, suc, ◌+◌, Bool, true, false, cond, ◌&&◌, not, List, [], ◌∷◌, ◌++◌, length, Some, None, Option, Result, Ok, Err, refl, sym, ap, ◌∙◌, subst, arith, option_map, unwrap_or, inl, inr}
+use Rattle.std.specs.{Option.is_some, Str.is_utf8}
 use Rattle.std.proofs.lemmas.List.{length_push}
-use Rattle.toml.specs.Data.{string, integer, float, boolean, datetime, array, table, Data, Items, no_items, item, Members, get_item, get_member}
-use Rattle.toml.specs.Parse.{parse_document}
-use Rattle.toml.specs.Text.{are_tables}
-use Rattle.plan_forest.specs.declared.entry.Entry.{Entry}
-use Rattle.plan_forest.specs.declared.fault.TreeFault.{TreeFault}
-use Rattle.plan_forest.specs.declared.forest.TheConstants.{MARGIN_MAX}
-use Rattle.plan_forest.specs.Forest.{Forest}
-use Rattle.plan_forest.specs.Push.{entry_refusal}
-use Rattle.vault_inventory.specs.declared.fault.InvFault.{InvFault}
+use Rattle.toml.specs.{Parse.parse_document, Text.are_tables}
+use Rattle.toml.specs.Data.{array, table, Data, Items, no_items, item, Members, get_member}
+use Rattle.plan_forest.specs.{declared.entry.Entry.Entry, declared.fault.TreeFault.TreeFault, declared.forest.TheConstants.MARGIN_MAX, Forest.Forest, Push.entry_refusal}
+use Rattle.vault_inventory.specs.{declared.fault.InvFault.InvFault, declared.key.Key.Key, declared.limits.TheConstants.SPAN_MAX, declared.limits.TheConstants.SYSTEM_MAX, declared.row.TableRow.TableRow, Languages.full}
 use Rattle.vault_inventory.specs.declared.fault.InvFault.TheVariants.{NotToml, MissingKey, UnknownKey, BadValue, Tree}
-use Rattle.vault_inventory.specs.declared.key.Key.{Key}
 use Rattle.vault_inventory.specs.declared.key.Key.TheVariants.{SystemMax, Margin, Token, Lease, Name, Parent, Issued, End, Renewable, Increment, Period, MaxTtl, ExplicitMaxTtl, Reissued, Need, Secret, SecretFile, LeaseId, LeaseIdFile}
-use Rattle.vault_inventory.specs.declared.limits.TheConstants.{SPAN_MAX, SYSTEM_MAX}
-use Rattle.vault_inventory.specs.declared.row.Life.{Life}
-use Rattle.vault_inventory.specs.declared.row.TableRow.{TableRow}
-use Rattle.vault_inventory.specs.declared.terms.Terms.{Terms}
-use Rattle.vault_inventory.specs.Answers.{◌>>=◌}
-use Rattle.vault_inventory.specs.FirstFault.{FirstFaultLaw, IsFirstFault, IsFirstIn, IsInTables, LeaseFails, TokenFails, bad, bad_if, excluded_beside, fault_if, first_fault_of, front, lease_faults, missing_key, row_faults, token_faults, top_faults, unknown}
+use Rattle.vault_inventory.specs.FirstFault.{FirstFaultLaw, IsFirstFault, IsFirstIn, LeaseFails, TokenFails, bad, bad_if, excluded_beside, fault_if, first_fault_of, lease_faults, missing_key, row_faults, token_faults, unknown}
 use Rattle.vault_inventory.specs.Intake.{Intake, appended, distinct, empty_intake, has_text, key_written, pushed, with_lease, with_token}
 use Rattle.vault_inventory.specs.Inventory.{document_tree, entered_by, intake_of, lease_entered, or_not_toml, read_served, served_of, token_entered}
 use Rattle.vault_inventory.specs.Keys.{all_keys, is_one_of, key_text, lease_keys, token_keys, top_keys}
-use Rattle.vault_inventory.specs.Languages.{full}
 use Rattle.vault_inventory.specs.Rows.{file_at, lease_row, lease_terms, life_of_table, token_row, token_terms}
 use Rattle.vault_inventory.specs.Values.{alone_if, credential, end_value, flag_value, has_if, is_key_there, moment_value, need, needed_value, only, path, read_if, span, tables, text, value_at}
-use Rattle.vault_inventory.proofs.Chains.{follow}
-use Rattle.vault_inventory.proofs.Rowed.{writes_is}
-use Rattle.vault_inventory.proofs.Taken.{lease_entered_ok, token_entered_ok}
+use Rattle.vault_inventory.specs.Answers.{◌>>=◌}
+use Rattle.vault_inventory.proofs.{Chains.follow, Rowed.writes_is, Taken.lease_entered_ok, Taken.token_entered_ok}
 
 -- ---- the fault of an answer, and of a chain of answers
 

@@ -2,23 +2,14 @@
 -- taken holds of it after all later ones.
 use Rattle.std.proofs.Common.{◌≡◌, ℕ, false, zero, suc, ◌+◌, ◌<◌, ◌≤◌, List, [], ◌∷◌, ◌++◌, Some, None, Option, Result, Ok, length, refl, sym, ap, ◌∙◌, subst, arith}
 use Rattle.std.proofs.lemmas.List.{length_push}
-use Rattle.toml.specs.Data.{string, integer, float, boolean, datetime, array, table, Items, no_items, item, Members, get_item}
-use Rattle.plan_forest.specs.declared.entry.Entry.{Entry}
-use Rattle.plan_forest.specs.Forest.{entry_at}
+use Rattle.toml.specs.Data.{table, Items, no_items, item, Members, get_item}
+use Rattle.plan_forest.specs.{declared.entry.Entry.Entry, Forest.entry_at}
 use Rattle.plan_forest.proofs.Entries.{entry_at_push_new, entry_at_push_old}
-use Rattle.vault_inventory.specs.declared.fault.InvFault.{InvFault}
-use Rattle.vault_inventory.specs.declared.key.Key.{Key}
-use Rattle.vault_inventory.specs.declared.note.EntryNote.{EntryNote}
-use Rattle.vault_inventory.specs.declared.row.TableRow.{TableRow}
-use Rattle.vault_inventory.specs.declared.terms.Terms.{Terms}
-use Rattle.vault_inventory.specs.Inventories.{credential_at, terms_at}
-use Rattle.vault_inventory.specs.Served.{Served, note_at}
-use Rattle.vault_inventory.specs.Intake.{Intake, inventory_of_intake}
-use Rattle.vault_inventory.specs.Inventory.{entered_by}
+use Rattle.vault_inventory.specs.{declared.fault.InvFault.InvFault, declared.key.Key.Key, declared.note.EntryNote.EntryNote, declared.row.TableRow.TableRow, declared.terms.Terms.Terms, Inventories.credential_at, Inventories.terms_at}
+use Rattle.vault_inventory.specs.{Served.Served, Served.note_at, Intake.Intake, Intake.inventory_of_intake, Inventory.entered_by}
 use Rattle.vault_inventory.specs.Written.{IsLease, IsParent, IsToken, ParentIsNamed, count_of}
-use Rattle.vault_inventory.proofs.Chains.{bind_ok}
+use Rattle.vault_inventory.proofs.{Chains.bind_ok, Taken.KeepsIt}
 use Rattle.vault_inventory.proofs.Inventories.{credential_new, credential_old, note_new, note_old, terms_new, terms_old}
-use Rattle.vault_inventory.proofs.Taken.{KeepsIt}
 
 -- what is served by the tables that were taken, whether or not a margin is written
 abbrev pub read_so_far : Intake → Served

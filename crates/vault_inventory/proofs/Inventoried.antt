@@ -2,35 +2,22 @@
 -- each row that is taken keeps what every inventory keeps.
 use Rattle.std.proofs.Common.{◌≡◌, ℕ, ◌+◌, ◌-◌, ◌<◌, ◌≤◌, List, ◌∷◌, [], ◌++◌, length, Bool, Option, Some, None, Ok, refl, sym, ap, ◌∙◌, subst, arith, ⊎_elim}
 use Rattle.std.specs.List.{All}
-use Rattle.std.proofs.lemmas.Bool.{cases_lt}
-use Rattle.std.proofs.lemmas.List.{length_push}
+use Rattle.std.proofs.lemmas.{Bool.cases_lt, List.length_push}
 use Rattle.std.proofs.lemmas.List.Elements.{All-append, All-nil, All-push}
 use Rattle.std.proofs.Math.ListN.{length-append}
 use Rattle.toml.specs.Data.{Members}
-use Rattle.plan_forest.specs.declared.entry.Entry.{Entry}
-use Rattle.plan_forest.specs.declared.entry.Kind.{Kind}
+use Rattle.plan_forest.specs.{declared.entry.Entry.Entry, declared.entry.Kind.Kind, declared.forest.TheConstants.MARGIN_MAX, Forest.Forest, Forest.entry_at, Push.IsForest}
 use Rattle.plan_forest.specs.declared.entry.Kind.TheVariants as kind
-use Rattle.plan_forest.specs.declared.forest.TheConstants.{MARGIN_MAX}
-use Rattle.plan_forest.specs.Forest.{Forest, entry_at}
-use Rattle.plan_forest.specs.Push.{IsForest}
-use Rattle.plan_forest.proofs.Entries.{entry_at_push_old, entry_at_push_new}
-use Rattle.plan_forest.proofs.Placed.{empty_is_forest, pushed_is_forest}
-use Rattle.vault_inventory.specs.declared.fault.InvFault.{InvFault}
-use Rattle.vault_inventory.specs.declared.key.Key.TheVariants.{Margin}
-use Rattle.vault_inventory.specs.declared.row.TableRow.{TableRow}
-use Rattle.vault_inventory.specs.declared.terms.Terms.{Terms}
+use Rattle.plan_forest.proofs.{Entries.entry_at_push_old, Entries.entry_at_push_new, Placed.empty_is_forest, Placed.pushed_is_forest}
+use Rattle.vault_inventory.specs.{declared.fault.InvFault.InvFault, declared.key.Key.TheVariants.Margin, declared.row.TableRow.TableRow, declared.terms.Terms.Terms, Languages.Language, Languages.full, Values.is_key_there}
 use Rattle.vault_inventory.specs.Inventories.{CredentialsAreApart, IsSendableText, IsInventory, Inventory, terms_at}
 use Rattle.vault_inventory.specs.Intake.{Intake, empty_intake, inventory_of_intake}
-use Rattle.vault_inventory.specs.Languages.{Language, full}
 use Rattle.vault_inventory.specs.Served.{IsServedInventory, Served, first_open, inventory_if_whole, unless}
-use Rattle.vault_inventory.specs.Values.{is_key_there}
 use Rattle.vault_inventory.specs.Inventory.{token_entered, lease_entered, intake_of, read_inventory, read_served, served_of, system_max_in, document_tree}
 use Rattle.vault_inventory.specs.Laws.{InventoryLaw, SendableLaw, ServedLaw}
-use Rattle.vault_inventory.proofs.Chains.{bind_ok}
+use Rattle.vault_inventory.proofs.{Chains.bind_ok, Entered.Within, Entered.intake_keeps, Sendable.lease_sendable, Sendable.token_sendable}
 use Rattle.vault_inventory.proofs.Apart.{Unlike, last_or_before, unlike_more}
-use Rattle.vault_inventory.proofs.Entered.{Within, intake_keeps}
 use Rattle.vault_inventory.proofs.Parts.{TokenParts, LeaseParts, token_parts, lease_parts}
-use Rattle.vault_inventory.proofs.Sendable.{lease_sendable, token_sendable}
 use Rattle.vault_inventory.proofs.Spans.{IsGood, lease_good, token_good}
 use Rattle.vault_inventory.proofs.Inventories.{first_half, second_half, terms_new, terms_old}
 use Rattle.vault_inventory.proofs.Taken.{Fits, KeepsIt, lease_entered_ok, token_entered_ok, took_lease, took_token}

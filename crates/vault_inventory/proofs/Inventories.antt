@@ -1,19 +1,12 @@
 -- What is read at an index of an inventory, and that an inventory keeps one credential and one set of terms for each entry.
 use Rattle.std.proofs.Common.{◌≡◌, ◌==◌, ℕ, false, unwrap_or, ◌∙◌, ◌+◌, ◌-◌, ◌<◌, ◌≤◌, List, [], ◌∷◌, ◌++◌, length, get_or, sym, arith, IsUtf8}
 use Rattle.std.specs.List.{All}
-use Rattle.std.proofs.lemmas.Bool.{cond-false}
+use Rattle.std.proofs.lemmas.{Bool.cond-false, List.Elements.All-from_get_or, List.Elements.All-get_or, Str.IsUtf8-from_ascii, Str.Ascii.IsAscii-from_all}
 use Rattle.std.proofs.lemmas.List.{get_or_append_left, get_or_push, get_or_read}
-use Rattle.std.proofs.lemmas.List.Elements.{All-from_get_or, All-get_or}
-use Rattle.std.proofs.lemmas.Str.{IsUtf8-from_ascii}
-use Rattle.std.proofs.lemmas.Str.Ascii.{IsAscii-from_all}
-use Rattle.std.proofs.Math.ListN.{length-append}
-use Rattle.std.proofs.Math.Seq.{get_or-append_right}
+use Rattle.std.proofs.{Math.ListN.length-append, Math.Seq.get_or-append_right}
 use Rattle.plan_forest.specs.Forest.{entry_at}
-use Rattle.vault_inventory.specs.declared.note.EntryNote.{EntryNote}
-use Rattle.vault_inventory.specs.declared.terms.Terms.{Terms}
+use Rattle.vault_inventory.specs.{declared.note.EntryNote.EntryNote, declared.terms.Terms.Terms, Served.no_note, Served.note_at, Laws.TextLaw}
 use Rattle.vault_inventory.specs.Inventories.{IsSendableText, IsInventory, Inventory, empty_terms, terms_at, credential_at}
-use Rattle.vault_inventory.specs.Served.{no_note, note_at}
-use Rattle.vault_inventory.specs.Laws.{TextLaw}
 
 pub terms_read : (ts : List Terms) (i : ℕ) (x : Terms) → i < length ts → x ≡ get_or ts i x → x ≡ terms_at ts i
 unfolding terms_at

@@ -1,10 +1,7 @@
 -- The keys of a table as members and as the map lists them, for the readers that refuse other keys.
 use Rattle.std.proofs.Common.{◌≡◌, Bool, List, ℕ, [], ◌∷◌, ◌&&◌, refl, ap, String, string_bytes}
-use Rattle.std.specs.Map.{keys_of}
-use Rattle.std.specs.List.{list_all}
-use Rattle.std.specs.declared.alloc.Global.{Global}
-use Rattle.toml.specs.declared.value.Value.{Value}
-use Rattle.toml.specs.View.{members_view}
+use Rattle.std.specs.{Map.keys_of, List.list_all, declared.alloc.Global.Global}
+use Rattle.toml.specs.{declared.value.Value.Value, View.members_view}
 use Rattle.vault_inventory.specs.Keys.{all_keys}
 
 pub keys_listed : (test : List ℕ → Bool) (es : List (String Global × Value)) → list_all (λ k. test (string_bytes k)) (keys_of es) ≡ all_keys test (members_view es)

@@ -4,17 +4,11 @@ use Rattle.std.specs.Option.{is_some}
 use Rattle.toml.specs.Data.{Members}
 use Rattle.plan_forest.specs.declared.entry.Kind.TheVariants as kind
 use Rattle.plan_forest.specs.Forest.{Forest}
+use Rattle.vault_inventory.specs.{declared.row.Life.Life, declared.row.TableRow.TableRow, declared.terms.Terms.Terms, Languages.Language, Keys.token_keys, Keys.lease_keys, Terms.step_of, Terms.ceiling_of, Needs.until_of}
 use Rattle.vault_inventory.specs.declared.key.Key.TheVariants.{Token, Name, Parent, Need, Secret, SecretFile, LeaseId, LeaseIdFile}
-use Rattle.vault_inventory.specs.declared.need.Need as needs
-use Rattle.vault_inventory.specs.declared.row.Life.{Life}
-use Rattle.vault_inventory.specs.declared.row.TableRow.{TableRow}
-use Rattle.vault_inventory.specs.declared.terms.Terms.{Terms}
-use Rattle.vault_inventory.specs.Languages.{Language}
-use Rattle.vault_inventory.specs.Keys.{token_keys, lease_keys}
 use Rattle.vault_inventory.specs.Values.{only, need, text, credential, value_at, needed_value}
-use Rattle.vault_inventory.specs.Terms.{step_of, ceiling_of}
-use Rattle.vault_inventory.specs.Needs.{until_of}
 use Rattle.vault_inventory.specs.Rows.{file_at, index_or_none, note_of, life_of_table, lease_row, lease_terms, token_row, token_terms}
+use Rattle.vault_inventory.specs.declared.need.Need as needs
 use Rattle.vault_inventory.proofs.Chains.{bind_ok}
 
 abbrev pub made_token : Forest → List ℕ → Option (List ℕ) → Life → Terms → Option needs.Need → Option (List ℕ) → Option (List ℕ) → TableRow

@@ -1,13 +1,8 @@
 -- Refusing: a forest that refuses an entry never names lack of memory, so that this refusal is told.
-use Rattle.std.proofs.Common.{◌≡◌, ◌≢◌, ℕ, Bool, true, false, cond, List, length, Option, Some, None, IfSome, IsOkUnless, Result, Ok, Err, refl, sym, ap, ◌∙◌, subst}
-use Rattle.plan_forest.specs.declared.entry.Entry.{Entry}
-use Rattle.plan_forest.specs.declared.fault.TreeFault.{TreeFault}
+use Rattle.std.proofs.Common.{◌≡◌, ◌≢◌, ℕ, Bool, true, false, cond, length, Option, Some, None, IfSome, IsOkUnless, Result, Err, refl, sym, ap, ◌∙◌, subst}
+use Rattle.plan_forest.specs.{declared.entry.Entry.Entry, declared.fault.TreeFault.TreeFault, Forest.Forest, Push.entry_refusal}
 use Rattle.plan_forest.specs.declared.fault.TreeFault.TheVariants.{BadName, NameTwice, NoParent, ParentIsLease, LeaseWithoutToken, StepTooSmall, OutOfRange, TooDeep, Full, OutOfMemory}
-use Rattle.plan_forest.specs.Forest.{Forest}
-use Rattle.plan_forest.specs.Push.{entry_refusal}
-use Rattle.vault_inventory.specs.declared.fault.InvFault.{InvFault}
-use Rattle.vault_inventory.specs.declared.fault.InvFault.TheVariants.{Tree}
-use Rattle.vault_inventory.specs.Answers.{FailsWithInvFault}
+use Rattle.vault_inventory.specs.{declared.fault.InvFault.InvFault, declared.fault.InvFault.TheVariants.Tree, Answers.FailsWithInvFault}
 use Rattle.vault_inventory.specs.Intake.{appended, pushed, tree_fault_told}
 
 skip : (b : Bool) (fault : TreeFault) (rest : Option TreeFault) → fault ≢ OutOfMemory → rest ≢ Some OutOfMemory → cond b (Some fault) rest ≢ Some OutOfMemory

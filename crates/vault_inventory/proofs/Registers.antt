@@ -1,16 +1,11 @@
 -- A register's look-up: the set has what the list of texts holds, also after one text more.
 use Rattle.std.proofs.Common.{◌≡◌, ℕ, Bool, true, false, cond, ◌||◌, List, ◌++◌, ◌∷◌, [], bytes_eq, refl, sym, ap, ◌∙◌, subst, ⊎_elim, Vec, Global}
 use Rattle.std.proofs.lemmas.Bool.{cases_Bool, cond-true, cond-false}
+use Rattle.std.specs.{Cmp.eq_by_cmp_equiv, List.list_any, Map.IsKeyTest, Map.AreApart, Ordering.nat_cmp, Ordering.is_eq, Set.KeepsOthers}
 use Rattle.std.specs.BTreeSet.{BTreeSet, IsEmpty, Updates}
-use Rattle.std.specs.Cmp.{eq_by_cmp_equiv}
 use Rattle.std.specs.Cmp.Lexicographic.{slice_cmp, nat_list_cmp_total, bytes_decides}
-use Rattle.std.specs.List.{list_any}
-use Rattle.std.specs.Map.{IsKeyTest, AreApart}
-use Rattle.std.specs.Ordering.{nat_cmp, is_eq}
-use Rattle.std.specs.Set.{KeepsOthers}
 use Rattle.plan_forest.proofs.Names.{apart}
-use Rattle.vault_inventory.specs.Found.{holds_text}
-use Rattle.vault_inventory.specs.Intake.{has_text}
+use Rattle.vault_inventory.specs.{Found.holds_text, Intake.has_text}
 
 -- a set with no text
 pub has_none : (s : BTreeSet (Vec ℕ Global)) → IsEmpty s → (q : List ℕ) → holds_text s q ≡ has_text [] q

@@ -1,24 +1,16 @@
 -- Rowed: the row that is read of a table is what the table writes.
 use Rattle.std.proofs.Common.{◌≡◌, ℕ, suc, ◌<◌, ◌&&◌, ◌∙◌, Bool, true, false, cond, List, [], ◌∷◌, Some, None, Option, Result, Ok, Err, bytes_eq, length, option_map, refl, sym, ap, subst, arith, unwrap_or}
-use Rattle.std.specs.Option.{is_some}
-use Rattle.std.specs.Cmp.Lexicographic.{bytes_decides}
+use Rattle.std.specs.{Option.is_some, Cmp.Lexicographic.bytes_decides}
 use Rattle.toml.specs.Data.{Data, Members, get_member}
-use Rattle.plan_forest.specs.declared.entry.Entry.{Entry}
+use Rattle.plan_forest.specs.{declared.entry.Entry.Entry, Push.entry_refusal, Push.lacks_parent}
 use Rattle.plan_forest.specs.Forest.{Forest, entry_at, index_named}
-use Rattle.plan_forest.specs.Push.{entry_refusal, lacks_parent}
 use Rattle.plan_forest.proofs.Placed.{parent_below, taken_from_refusal}
-use Rattle.vault_inventory.specs.declared.fault.InvFault.{InvFault}
+use Rattle.vault_inventory.specs.{declared.fault.InvFault.InvFault, declared.key.Key.Key, declared.limits.TheConstants.SPAN_MAX, declared.limits.TheConstants.STEP_ABSENT, declared.row.Life.Life, declared.row.TableRow.TableRow}
+use Rattle.vault_inventory.specs.{declared.terms.Terms.Terms, Languages.full, Terms.max_ttl_of}
 use Rattle.vault_inventory.specs.declared.fault.InvFault.TheVariants.{BadValue, UnknownKey}
-use Rattle.vault_inventory.specs.declared.key.Key.{Key}
 use Rattle.vault_inventory.specs.declared.key.Key.TheVariants.{Token, Name, Parent, Issued, End, Renewable, Increment, Period, MaxTtl, ExplicitMaxTtl, Reissued, Need, Secret, SecretFile, LeaseId, LeaseIdFile}
-use Rattle.vault_inventory.specs.declared.limits.TheConstants.{SPAN_MAX, STEP_ABSENT}
-use Rattle.vault_inventory.specs.declared.row.Life.{Life}
-use Rattle.vault_inventory.specs.declared.row.TableRow.{TableRow}
-use Rattle.vault_inventory.specs.declared.terms.Terms.{Terms}
-use Rattle.vault_inventory.specs.Languages.{full}
 use Rattle.vault_inventory.specs.Keys.{all_keys, is_one_of, key_text, lease_keys, token_keys}
 use Rattle.vault_inventory.specs.Values.{alone_if, credential, end_value, flag_value, has_if, is_key_there, moment_value, need, needed_value, only, path, read_if, span, text, value_at}
-use Rattle.vault_inventory.specs.Terms.{max_ttl_of}
 use Rattle.vault_inventory.specs.Rows.{file_at, index_or_none, lease_row, lease_terms, life_of_table, step_or, token_row, token_terms}
 use Rattle.vault_inventory.specs.Written.{EndIsTold, IsLease, IsParent, IsSecret, IsToken, ParentIsNamed, WritesKey, WritesMost, WritesOr}
 use Rattle.vault_inventory.proofs.Chains.{bind_ok, test_passed}

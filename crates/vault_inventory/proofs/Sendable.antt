@@ -1,26 +1,16 @@
 -- Sendable: each credential of an inventory can stand in the head of a message. One that is written was judged; else it is
 -- the name, which the forest has judged.
 use Rattle.std.proofs.Common.{◌≡◌, ℕ, ◌≤◌, Bool, true, false, cond, ◌||◌, ◌==◌, List, ◌∷◌, [], length, nat_le, nat_lt, Some, None, Option, Result, Ok, Err, IfSome, refl, sym, subst, arith, unwrap_or}
-use Rattle.std.specs.List.{All, list_all}
-use Rattle.std.specs.Int.{is_in_range}
-use Rattle.std.specs.Char.{is_ascii_alphanumeric}
-use Rattle.std.proofs.lemmas.Bool.{and_parts}
-use Rattle.std.proofs.lemmas.Bool.Decides.{nat_tests}
+use Rattle.std.specs.{List.All, List.list_all, Int.is_in_range, Char.is_ascii_alphanumeric}
+use Rattle.std.proofs.lemmas.{Bool.and_parts, Bool.Decides.nat_tests}
 use Rattle.std.proofs.lemmas.List.Elements.{All-append, All-nil, All-push}
-use Rattle.toml.specs.Data.{string, integer, float, boolean, datetime, array, table, Data, Members, get_member}
-use Rattle.plan_forest.specs.declared.forest.TheConstants.{NAME_MAX}
-use Rattle.plan_forest.specs.Forest.{Forest}
+use Rattle.toml.specs.Data.{string, Data, Members, get_member}
+use Rattle.plan_forest.specs.{declared.forest.TheConstants.NAME_MAX, Forest.Forest}
 use Rattle.plan_forest.specs.Push.{entry_refusal, is_name, is_name_byte}
 use Rattle.plan_forest.proofs.Placed.{taken_from_refusal}
-use Rattle.vault_inventory.specs.declared.fault.InvFault.{InvFault}
-use Rattle.vault_inventory.specs.declared.fault.InvFault.TheVariants.{BadValue}
-use Rattle.vault_inventory.specs.declared.key.Key.{Key}
+use Rattle.vault_inventory.specs.{declared.fault.InvFault.InvFault, declared.fault.InvFault.TheVariants.BadValue, declared.key.Key.Key, declared.row.TableRow.TableRow, Languages.Language, Keys.key_text, Inventories.IsSendableText}
 use Rattle.vault_inventory.specs.declared.key.Key.TheVariants.{Secret, LeaseId}
-use Rattle.vault_inventory.specs.declared.row.TableRow.{TableRow}
-use Rattle.vault_inventory.specs.Languages.{Language}
-use Rattle.vault_inventory.specs.Keys.{key_text}
 use Rattle.vault_inventory.specs.Values.{read_if, credential, is_credential}
-use Rattle.vault_inventory.specs.Inventories.{IsSendableText}
 use Rattle.vault_inventory.proofs.Parts.{TokenParts, LeaseParts}
 
 -- ---- bytes

@@ -3,19 +3,13 @@ use Rattle.std.proofs.Common.{◌≡◌, ◌==◌, ◌&&◌, ℕ, ◌≤◌, fal
 use Rattle.std.specs.Option.{is_some}
 use Rattle.std.proofs.lemmas.Bool.{cases_Bool, cond-true, cond-false}
 use Rattle.toml.specs.Data.{Members}
-use Rattle.plan_forest.specs.declared.entry.Entry.{Entry}
-use Rattle.plan_forest.specs.Forest.{Forest}
-use Rattle.vault_inventory.specs.Languages.{Language, is_strict}
-use Rattle.vault_inventory.specs.declared.limits.TheConstants.{SPAN_MAX, STEP_ABSENT}
+use Rattle.plan_forest.specs.{declared.entry.Entry.Entry, Forest.Forest}
+use Rattle.vault_inventory.specs.{Languages.Language, Languages.is_strict, declared.limits.TheConstants.SPAN_MAX, declared.limits.TheConstants.STEP_ABSENT, declared.row.TableRow.TableRow, declared.terms.Terms.Terms}
 use Rattle.vault_inventory.specs.declared.key.Key.TheVariants.{Increment, Period, MaxTtl, ExplicitMaxTtl, Reissued}
-use Rattle.vault_inventory.specs.declared.row.TableRow.{TableRow}
-use Rattle.vault_inventory.specs.declared.terms.Terms.{Terms}
 use Rattle.vault_inventory.specs.Values.{flag_value, has_if, span, value_at}
 use Rattle.vault_inventory.specs.Rows.{lease_terms, step_or, token_terms}
 use Rattle.vault_inventory.specs.Terms.{ceiling_of, max_ttl_of, step_of}
-use Rattle.vault_inventory.proofs.Chains.{bind_ok}
-use Rattle.vault_inventory.proofs.Entered.{within_read}
-use Rattle.vault_inventory.proofs.Parts.{LeaseParts, TokenParts}
+use Rattle.vault_inventory.proofs.{Chains.bind_ok, Entered.within_read, Parts.LeaseParts, Parts.TokenParts}
 
 record AreSpans (t : Terms) : Type 0 where
   increment : unwrap_or t.increment 0 ≤ SPAN_MAX

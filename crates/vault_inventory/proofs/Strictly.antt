@@ -1,43 +1,26 @@
 -- Strictly: what the strict language reads of a text, the full one reads of it too, and it leaves nothing open.
 use Rattle.std.proofs.Common.{◌≡◌, ◌==◌, ℕ, ◌+◌, Bool, true, false, cond, ◌&&◌, ◌||◌, List, [], ◌∷◌, ◌++◌, length, Some, None, Option, Result, Ok, Err, refl, sym, ap, ◌∙◌, subst, unwrap_or, bytes_eq, codes, Ordering, Less, Equal, Greater, inl, inr}
-use Rattle.std.specs.Option.{is_some}
-use Rattle.std.specs.Result.{result_ok}
-use Rattle.std.specs.List.{All, list_any}
-use Rattle.std.specs.Cmp.Lexicographic.{slice_cmp, bytes_decides}
+use Rattle.std.specs.{Option.is_some, Result.result_ok, List.All, List.list_any, Cmp.Lexicographic.slice_cmp, Cmp.Lexicographic.bytes_decides}
 use Rattle.std.specs.Ordering.{nat_cmp, is_eq, match_ordering}
+use Rattle.std.proofs.lemmas.Map.Text.{is_eq-slice_cmp}
 use Rattle.std.proofs.lemmas.Bool.{and_parts, cases_Bool, cond-false}
 use Rattle.std.proofs.lemmas.List.Elements.{All-head, All-nil, All-push, All-tail}
-use Rattle.std.proofs.lemmas.Map.Text.{is_eq-slice_cmp}
-use Rattle.toml.specs.Data.{string, integer, float, boolean, datetime, array, table, Data, Items, no_items, item, Members, no_members, member, get_member}
+use Rattle.toml.specs.Data.{string, integer, table, Data, Items, no_items, item, Members, no_members, member, get_member}
 use Rattle.base_moment.specs.MomentOf as dates
-use Rattle.base_moment.specs.MomentOf.{moment_of}
-use Rattle.base_moment.specs.declared.moment.TheConstants.{LAST}
-use Rattle.plan_forest.specs.declared.forest.TheConstants.{MARGIN_MAX}
-use Rattle.plan_forest.specs.Forest.{Forest}
-use Rattle.vault_inventory.specs.declared.limits.TheConstants.{SPAN_MAX, SYSTEM_MAX}
-use Rattle.vault_inventory.specs.declared.fault.InvFault.{InvFault}
+use Rattle.base_moment.specs.{MomentOf.moment_of, declared.moment.TheConstants.LAST}
+use Rattle.plan_forest.specs.{declared.forest.TheConstants.MARGIN_MAX, Forest.Forest}
+use Rattle.vault_inventory.specs.{declared.limits.TheConstants.SPAN_MAX, declared.limits.TheConstants.SYSTEM_MAX, declared.fault.InvFault.InvFault, declared.key.Key.Key, declared.need.Need.TheVariants.Always}
+use Rattle.vault_inventory.specs.{declared.note.EntryNote.EntryNote, declared.row.Life.Life, declared.row.TableRow.TableRow, declared.terms.Terms.Terms, Languages.strict, Languages.full, Needs.is_for_good, Laws.IsClosed, Laws.StrictLaw}
 use Rattle.vault_inventory.specs.declared.fault.InvFault.TheVariants.{BadValue, UnknownKey}
-use Rattle.vault_inventory.specs.declared.key.Key.{Key}
 use Rattle.vault_inventory.specs.declared.key.Key.TheVariants.{SystemMax, Margin, Token, Lease, Issued, End, Renewable, Increment, Period, MaxTtl, ExplicitMaxTtl, Reissued, Need, SecretFile, LeaseIdFile}
-use Rattle.vault_inventory.specs.declared.need.Need as needs
-use Rattle.vault_inventory.specs.declared.need.Need.TheVariants.{Always}
-use Rattle.vault_inventory.specs.declared.note.EntryNote.{EntryNote}
-use Rattle.vault_inventory.specs.declared.row.Life.{Life}
-use Rattle.vault_inventory.specs.declared.row.TableRow.{TableRow}
-use Rattle.vault_inventory.specs.declared.terms.Terms.{Terms}
-use Rattle.vault_inventory.specs.Languages.{strict, full}
 use Rattle.vault_inventory.specs.Keys.{all_keys, is_one_of, key_text, lease_keys, token_keys, top_keys}
 use Rattle.vault_inventory.specs.Values.{alone_if, end_value, flag_value, has_if, is_always, is_key_there, moment_value, need, only, path, read_if, span, tables, until_if, value_at, whole}
 use Rattle.vault_inventory.specs.Intake.{Intake, empty_intake, inventory_of_intake}
-use Rattle.vault_inventory.specs.Needs.{is_for_good}
 use Rattle.vault_inventory.specs.Rows.{file_at, lease_row, lease_terms, life_of_table, token_row, token_terms}
 use Rattle.vault_inventory.specs.Inventory.{document_tree, entered_by, intake_of, lease_entered, read_inventory, read_served, read_strict, served_of, system_max_in, token_entered}
 use Rattle.vault_inventory.specs.Served.{Served, first_open, inventory_if_whole, open_fault, unless}
-use Rattle.vault_inventory.specs.Laws.{IsClosed, StrictLaw}
-use Rattle.vault_inventory.proofs.Chains.{bind_ok, follow}
-use Rattle.vault_inventory.proofs.Entered.{intake_keeps}
-use Rattle.vault_inventory.proofs.Parts.{lease_parts, token_parts}
-use Rattle.vault_inventory.proofs.Rowed.{only_is}
+use Rattle.vault_inventory.specs.declared.need.Need as needs
+use Rattle.vault_inventory.proofs.{Chains.bind_ok, Chains.follow, Entered.intake_keeps, Parts.lease_parts, Parts.token_parts, Rowed.only_is}
 use Rattle.vault_inventory.proofs.Taken.{KeepsIt, lease_entered_ok, token_entered_ok}
 
 -- ---- a value that one reader reads, another reads alike

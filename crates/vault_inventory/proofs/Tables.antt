@@ -1,11 +1,8 @@
 -- Arrays of tables, for the reader that refuses other arrays.
 use Rattle.std.proofs.Common.{◌≡◌, List, [], ◌∷◌, ◌&&◌, refl, sym, ap, ◌∙◌}
-use Rattle.std.specs.List.{list_all}
-use Rattle.std.specs.Option.{is_some}
-use Rattle.toml.specs.declared.value.Value.{Value}
-use Rattle.toml.specs.Data.{Data, string, integer, float, boolean, datetime, array, table, Items, item, as_table}
-use Rattle.toml.specs.Text.{are_tables}
-use Rattle.toml.specs.View.{view, items_view}
+use Rattle.std.specs.{List.list_all, Option.is_some}
+use Rattle.toml.specs.{declared.value.Value.Value, Text.are_tables, View.view, View.items_view}
+use Rattle.toml.specs.Data.{Data, table, Items, item, as_table}
 
 first_is_table : (d : Data) (ds : Items) → are_tables (item d ds) ≡ is_some (as_table d) && are_tables ds
 first_is_table (table ms) ds = refl

@@ -1,18 +1,10 @@
 -- Taken: what an inventory is once it has taken the row of one table more.
 use Rattle.std.proofs.Common.{◌≡◌, ℕ, Bool, true, false, cond, List, ◌∷◌, [], ◌++◌, length, Some, None, Option, Result, Ok, Err, refl, ap, ◌∙◌, subst}
-use Rattle.plan_forest.specs.declared.entry.Entry.{Entry}
-use Rattle.plan_forest.specs.declared.fault.TreeFault.{TreeFault}
-use Rattle.plan_forest.specs.Forest.{Forest}
-use Rattle.plan_forest.specs.Push.{entry_refusal}
-use Rattle.toml.specs.Data.{string, integer, float, boolean, datetime, array, table, Items, no_items, item, Members}
-use Rattle.vault_inventory.specs.declared.fault.InvFault.{InvFault}
-use Rattle.vault_inventory.specs.declared.fault.InvFault.TheVariants.{BadValue}
-use Rattle.vault_inventory.specs.declared.key.Key.{Key}
+use Rattle.plan_forest.specs.{declared.entry.Entry.Entry, declared.fault.TreeFault.TreeFault, Forest.Forest, Push.entry_refusal}
+use Rattle.toml.specs.Data.{table, Items, no_items, item, Members}
+use Rattle.vault_inventory.specs.{declared.fault.InvFault.InvFault, declared.fault.InvFault.TheVariants.BadValue, declared.key.Key.Key, declared.row.TableRow.TableRow, Languages.Language, Rows.token_row, Rows.lease_row}
 use Rattle.vault_inventory.specs.declared.key.Key.TheVariants.{Secret, SecretFile, LeaseId, LeaseIdFile}
-use Rattle.vault_inventory.specs.declared.row.TableRow.{TableRow}
-use Rattle.vault_inventory.specs.Languages.{Language}
 use Rattle.vault_inventory.specs.Intake.{Intake, appended, pushed, has_text, distinct, key_written, with_token, with_lease}
-use Rattle.vault_inventory.specs.Rows.{token_row, lease_row}
 use Rattle.vault_inventory.specs.Inventory.{token_entered, lease_entered, entered_by}
 use Rattle.vault_inventory.proofs.Chains.{bind_ok}
 

@@ -1,19 +1,13 @@
 -- Told: an inventory to which a lookup was applied is an inventory still.
 use Rattle.std.proofs.Common.{◌≡◌, ◌≢◌, ℕ, ◌+◌, ◌<◌, ◌≤◌, Bool, true, false, cond, ◌&&◌, List, Option, Some, None, is_some, nat_lt, set, length, refl, sym, ap, ◌∙◌, subst, arith, inl, inr}
-use Rattle.std.proofs.lemmas.Bool.{cases_eq}
-use Rattle.std.proofs.lemmas.Bool.Decides.{nat_tests}
+use Rattle.std.proofs.lemmas.{Bool.cases_eq, Bool.Decides.nat_tests}
 use Rattle.std.proofs.lemmas.List.{get_or-set_same, get_or-set_other, length-set, set-set}
-use Rattle.plan_forest.specs.declared.entry.Entry.{Entry}
-use Rattle.plan_forest.specs.Forest.{Forest, entry_at}
-use Rattle.plan_forest.specs.Push.{IsForest, is_lease}
+use Rattle.plan_forest.specs.{declared.entry.Entry.Entry, Forest.Forest, Forest.entry_at, Push.IsForest, Push.is_lease}
 use Rattle.plan_forest.proofs.Entries.{entry_at_set_other, entry_at_set_same}
 use Rattle.vault_json.specs.declared.lookup.Lookup.{Lookup}
 use Rattle.vault_json.specs.declared.lookup.Lookup.TheVariants.{Token, Lease}
-use Rattle.vault_inventory.specs.declared.limits.TheConstants.{SPAN_MAX}
-use Rattle.vault_inventory.specs.declared.lookup.LookupFault.{LookupFault}
+use Rattle.vault_inventory.specs.{declared.limits.TheConstants.SPAN_MAX, declared.lookup.LookupFault.LookupFault, declared.terms.Terms.Terms, Terms.ceiling_of, Terms.step_of}
 use Rattle.vault_inventory.specs.declared.lookup.LookupFault.TheVariants.{OtherKind, OtherTree, NoStep}
-use Rattle.vault_inventory.specs.declared.terms.Terms.{Terms}
-use Rattle.vault_inventory.specs.Terms.{ceiling_of, step_of}
 use Rattle.vault_inventory.specs.Inventories.{IsInventory, Inventory, empty_terms, terms_at, inventory_with_need}
 use Rattle.vault_inventory.specs.Lookup.{lookup_fault, told, told_entry, told_terms}
 

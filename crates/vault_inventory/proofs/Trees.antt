@@ -1,19 +1,11 @@
 -- The tree of a document from the answers of the two readers below: UTF-8, then TOML.
 use Rattle.std.proofs.Common.{◌≡◌, ◌⊎◌, inl, inr, ℕ, List, Option, Some, None, Result, Ok, Err, IfOk, IfErr, sym, ap, subst, ◌∙◌, String, Global}
-use Rattle.std.specs.BTreeMap.{BTreeMap}
-use Rattle.std.specs.Str.{is_utf8, IsUtf8}
-use Rattle.std.proofs.lemmas.Bool.{cond-true, cond-false, false_from_ne_true}
+use Rattle.std.specs.{BTreeMap.BTreeMap, Str.is_utf8, Str.IsUtf8}
 use Rattle.std.proofs.lemmas.Str.{IsUtf8-from_is_utf8, is_utf8-from_IsUtf8}
-use Rattle.toml.specs.Data.{Members}
-use Rattle.toml.specs.Errors.{IsMemory}
-use Rattle.toml.specs.Parse.{parse_document}
-use Rattle.toml.specs.View.{table_view}
-use Rattle.toml.specs.declared.de.error.Error.{Error}
-use Rattle.toml.specs.declared.value.Value.{Value}
-use Rattle.vault_inventory.specs.Answers.{GivesOrInvFault}
-use Rattle.vault_inventory.specs.declared.fault.InvFault.{InvFault}
+use Rattle.std.proofs.lemmas.Bool.{cond-true, cond-false, false_from_ne_true}
+use Rattle.toml.specs.{Data.Members, Errors.IsMemory, Parse.parse_document, View.table_view, declared.de.error.Error.Error, declared.value.Value.Value}
+use Rattle.vault_inventory.specs.{Answers.GivesOrInvFault, declared.fault.InvFault.InvFault, Inventory.document_tree, Inventory.or_not_toml}
 use Rattle.vault_inventory.specs.declared.fault.InvFault.TheVariants.{NotToml, OutOfMemory}
-use Rattle.vault_inventory.specs.Inventory.{document_tree, or_not_toml}
 
 pub tree_of_bytes : (bytes : List ℕ) → ¬ (IsUtf8 bytes) → document_tree bytes ≡ Err NotToml
 unfolding document_tree

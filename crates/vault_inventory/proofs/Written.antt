@@ -4,15 +4,10 @@ use Rattle.std.proofs.lemmas.List.{append-nil, append_assoc, length_push}
 use Rattle.std.proofs.Math.ListN.{length-append}
 use Rattle.toml.specs.Data.{Members, no_items}
 use Rattle.plan_forest.specs.declared.forest.TheConstants.{MARGIN_MAX}
-use Rattle.vault_inventory.specs.declared.fault.InvFault.{InvFault}
+use Rattle.vault_inventory.specs.{declared.fault.InvFault.InvFault, declared.limits.TheConstants.SPAN_MAX, declared.limits.TheConstants.SYSTEM_MAX, declared.row.TableRow.TableRow, Intake.Intake, Intake.empty_intake, Languages.full}
+use Rattle.vault_inventory.specs.{Keys.top_keys, Laws.WrittenLaw}
 use Rattle.vault_inventory.specs.declared.key.Key.TheVariants.{SystemMax, Margin, Token, Lease}
-use Rattle.vault_inventory.specs.declared.limits.TheConstants.{SPAN_MAX, SYSTEM_MAX}
-use Rattle.vault_inventory.specs.declared.row.TableRow.{TableRow}
-use Rattle.vault_inventory.specs.Intake.{Intake, empty_intake}
 use Rattle.vault_inventory.specs.Inventory.{document_tree, entered_by, if_read, intake_of, lease_entered, read_served, served_of, system_max_in, token_entered}
-use Rattle.vault_inventory.specs.Languages.{full}
-use Rattle.vault_inventory.specs.Keys.{top_keys}
-use Rattle.vault_inventory.specs.Laws.{WrittenLaw}
 use Rattle.vault_inventory.specs.Values.{is_key_there, only, span, tables, value_at}
 use Rattle.vault_inventory.specs.Written.{DocumentWrites, IsLease, IsLeaseAt, IsToken, count_of}
 use Rattle.vault_inventory.proofs.Chains.{bind_ok}

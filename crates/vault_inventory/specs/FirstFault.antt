@@ -2,22 +2,15 @@
 -- Source: this project's own.
 use Rattle.std.specs.Prelude.{◌≡◌, ◌⊎◌, ℕ, zero, suc, ◌+◌, Bool, true, ◌&&◌, not, if◌then◌else◌, List, [], ◌∷◌, Option, Some, None, is_some, Result, Ok, Err, length, option_map}
 use Rattle.toml.specs.Data.{Data, table, Items, no_items, item, Members, get_item, get_member}
-use Rattle.plan_forest.specs.declared.forest.TheConstants.{MARGIN_MAX}
-use Rattle.plan_forest.specs.Forest.{Forest}
-use Rattle.plan_forest.specs.Push.{entry_refusal}
-use Rattle.vault_inventory.specs.declared.fault.InvFault.{InvFault}
+use Rattle.plan_forest.specs.{declared.forest.TheConstants.MARGIN_MAX, Forest.Forest, Push.entry_refusal}
+use Rattle.vault_inventory.specs.{declared.fault.InvFault.InvFault, declared.key.Key.Key, declared.limits.TheConstants.SPAN_MAX, declared.limits.TheConstants.SYSTEM_MAX, declared.row.TableRow.TableRow, Languages.full}
+use Rattle.vault_inventory.specs.{Rows.lease_row, Rows.token_row, Written.WritesOr}
 use Rattle.vault_inventory.specs.declared.fault.InvFault.TheVariants.{NotToml, MissingKey, UnknownKey, BadValue, Tree}
-use Rattle.vault_inventory.specs.declared.key.Key.{Key}
 use Rattle.vault_inventory.specs.declared.key.Key.TheVariants.{SystemMax, Margin, Token, Lease, Name, Parent, Issued, End, Renewable, Increment, Period, MaxTtl, ExplicitMaxTtl, Reissued, Need, Secret, SecretFile, LeaseId, LeaseIdFile}
-use Rattle.vault_inventory.specs.declared.limits.TheConstants.{SPAN_MAX, SYSTEM_MAX}
-use Rattle.vault_inventory.specs.declared.row.TableRow.{TableRow}
 use Rattle.vault_inventory.specs.Intake.{Intake, empty_intake, has_text, key_written}
 use Rattle.vault_inventory.specs.Inventory.{document_tree, entered_by, lease_entered, read_served, token_entered}
 use Rattle.vault_inventory.specs.Keys.{all_keys, is_one_of, key_text, lease_keys, token_keys, top_keys}
-use Rattle.vault_inventory.specs.Languages.{full}
-use Rattle.vault_inventory.specs.Rows.{lease_row, token_row}
 use Rattle.vault_inventory.specs.Values.{credential, end_value, flag_value, is_key_there, moment_value, need, path, span, tables, text}
-use Rattle.vault_inventory.specs.Written.{WritesOr}
 
 -- the first of these that there is
 abbrev pub first_fault_of : List (Option InvFault) → Option InvFault

@@ -1,9 +1,6 @@
 -- A set of texts as a test.
 use Rattle.std.specs.Prelude.{ℕ, Bool, List, Vec}
-use Rattle.std.specs.BTreeSet.{BTreeSet, contains_by}
-use Rattle.std.specs.Cmp.Lexicographic.{slice_cmp}
-use Rattle.std.specs.Ordering.{nat_cmp}
-use Rattle.std.specs.declared.alloc.Global.{Global}
+use Rattle.std.specs.{BTreeSet.BTreeSet, BTreeSet.contains_by, Cmp.Lexicographic.slice_cmp, Ordering.nat_cmp, declared.alloc.Global.Global}
 
 -- the set has a text of these bytes
 abbrev pub holds_text : BTreeSet (Vec ℕ Global) → List ℕ → Bool

@@ -1,20 +1,12 @@
 -- An inventory while its tables are read, and the step by which it takes an entry.
 use Rattle.std.specs.Prelude.{◌≡◌, ℕ, Bool, List, [], ◌∷◌, ◌++◌, Option, Some, None, Result, Ok, Err, length, bytes_eq, if◌then◌else◌}
 use Rattle.std.specs.List.{list_any}
-use Rattle.plan_forest.specs.declared.entry.Entry.{Entry}
-use Rattle.plan_forest.specs.declared.fault.TreeFault.{TreeFault}
+use Rattle.plan_forest.specs.{declared.entry.Entry.Entry, declared.fault.TreeFault.TreeFault, Forest.Forest, Push.entry_refusal}
 use Rattle.plan_forest.specs.declared.fault.TreeFault.TheVariants as trees
-use Rattle.plan_forest.specs.Forest.{Forest}
-use Rattle.plan_forest.specs.Push.{entry_refusal}
-use Rattle.vault_inventory.specs.declared.fault.InvFault.{InvFault}
+use Rattle.vault_inventory.specs.{declared.fault.InvFault.InvFault, declared.key.Key.Key, declared.note.EntryNote.EntryNote, declared.row.TableRow.TableRow, declared.terms.Terms.Terms, Answers.◌>>=◌, Answers.FailsWithInvFault}
+use Rattle.vault_inventory.specs.{Inventories.Inventory}
 use Rattle.vault_inventory.specs.declared.fault.InvFault.TheVariants.{Tree, BadValue, OutOfMemory}
-use Rattle.vault_inventory.specs.declared.key.Key.{Key}
 use Rattle.vault_inventory.specs.declared.key.Key.TheVariants.{Secret, SecretFile, LeaseId, LeaseIdFile}
-use Rattle.vault_inventory.specs.declared.note.EntryNote.{EntryNote}
-use Rattle.vault_inventory.specs.declared.row.TableRow.{TableRow}
-use Rattle.vault_inventory.specs.declared.terms.Terms.{Terms}
-use Rattle.vault_inventory.specs.Answers.{◌>>=◌, FailsWithInvFault}
-use Rattle.vault_inventory.specs.Inventories.{Inventory}
 
 -- the forest so far, the secrets of its tokens, the ids of its leases, and the terms and the notes of both
 pub record Intake : Type 0 where

@@ -1,11 +1,8 @@
 -- What an inventory holds: a forest, and beside each entry the credential that is sent for it and its terms.
 use Rattle.std.specs.Prelude.{◌≡◌, ℕ, ◌<◌, ◌≤◌, false, List, [], None, length, slice_index_or, slice_set}
 use Rattle.std.specs.List.{All}
-use Rattle.plan_forest.specs.Forest.{Forest, entry_at}
-use Rattle.plan_forest.specs.Push.{IsForest}
-use Rattle.vault_inventory.specs.declared.limits.TheConstants.{CREDENTIAL_MAX, SPAN_MAX}
-use Rattle.vault_inventory.specs.declared.terms.Terms.{Terms}
-use Rattle.vault_inventory.specs.Terms.{ceiling_of, step_of}
+use Rattle.plan_forest.specs.{Forest.Forest, Forest.entry_at, Push.IsForest}
+use Rattle.vault_inventory.specs.{declared.limits.TheConstants.CREDENTIAL_MAX, declared.limits.TheConstants.SPAN_MAX, declared.terms.Terms.Terms, Terms.ceiling_of, Terms.step_of}
 
 pub record Inventory : Type 0 where
   pub forest : Forest

@@ -2,22 +2,17 @@
 -- Source: TOML 1.1, as the library `toml` states its reading; the keys are this project's own.
 use Rattle.std.specs.Prelude.{ℕ, List, Option, Some, None, Result, Ok, Err, unwrap_or, if◌then◌else◌}
 use Rattle.std.specs.Str.{is_utf8}
-use Rattle.toml.specs.Data.{Items, no_items, item, table, Members}
 use Rattle.toml.specs.Parse.{parse_document}
+use Rattle.toml.specs.Data.{Items, no_items, item, table, Members}
 use Rattle.plan_forest.specs.declared.forest.TheConstants.{MARGIN_MAX}
-use Rattle.vault_inventory.specs.declared.limits.TheConstants.{SPAN_MAX, SYSTEM_MAX}
-use Rattle.vault_inventory.specs.declared.fault.InvFault.{InvFault}
+use Rattle.vault_inventory.specs.{declared.limits.TheConstants.SPAN_MAX, declared.limits.TheConstants.SYSTEM_MAX, declared.fault.InvFault.InvFault, declared.key.Key.Key, Keys.top_keys, Inventories.Inventory, Rows.token_row, Rows.lease_row}
 use Rattle.vault_inventory.specs.declared.fault.InvFault.TheVariants.{NotToml, BadValue}
-use Rattle.vault_inventory.specs.declared.key.Key.{Key}
 use Rattle.vault_inventory.specs.declared.key.Key.TheVariants.{SystemMax, Margin, Token, Lease}
-use Rattle.vault_inventory.specs.Keys.{top_keys}
-use Rattle.vault_inventory.specs.Answers.{◌>>=◌}
 use Rattle.vault_inventory.specs.Languages.{Language, strict, full}
 use Rattle.vault_inventory.specs.Values.{is_key_there, only, span, tables, value_at}
-use Rattle.vault_inventory.specs.Inventories.{Inventory}
 use Rattle.vault_inventory.specs.Served.{Served, inventory_if_whole, served_if_told}
 use Rattle.vault_inventory.specs.Intake.{Intake, empty_intake, inventory_of_intake, with_token, with_lease}
-use Rattle.vault_inventory.specs.Rows.{token_row, lease_row}
+use Rattle.vault_inventory.specs.Answers.{◌>>=◌}
 
 -- the table of one token more, and of one lease more
 unfoldable pub token_entered : Language → ℕ → Intake → Members → Result Intake InvFault

@@ -2,12 +2,9 @@
 use Rattle.std.specs.Prelude.{◌≡◌, ℕ, true, false, List, Ok, None, IsUtf8}
 use Rattle.std.specs.List.{All}
 use Rattle.toml.specs.Data.{Members}
-use Rattle.vault_inventory.specs.declared.note.EntryNote.{EntryNote}
-use Rattle.vault_inventory.specs.Bare.{DocumentsAreAlike}
+use Rattle.vault_inventory.specs.{declared.note.EntryNote.EntryNote, Bare.DocumentsAreAlike, Served.IsServedInventory, Served.Served, Written.DocumentWrites}
 use Rattle.vault_inventory.specs.Inventories.{IsSendableText, IsInventory, Inventory}
 use Rattle.vault_inventory.specs.Inventory.{document_tree, read_inventory, read_served, read_strict}
-use Rattle.vault_inventory.specs.Served.{IsServedInventory, Served}
-use Rattle.vault_inventory.specs.Written.{DocumentWrites}
 
 -- what is read of a text is an inventory, a forest with what else an inventory always keeps, with a note for each entry
 abbrev pub ServedLaw : Type 0

@@ -2,15 +2,11 @@
 -- Source: Vault, HTTP API: `auth/token`, "Lookup a token (self)"; `sys/leases`, "Read lease"; Vault, "Tokens"; Vault, "Lease,
 -- renew, and revoke".
 use Rattle.std.specs.Prelude.{ℕ, ◌+◌, ◌&&◌, Option, Some, None, is_some, nat_lt, bytes_eq, slice_set, if◌then◌else◌}
-use Rattle.plan_forest.specs.declared.entry.Entry.{Entry}
-use Rattle.plan_forest.specs.Forest.{entry_at}
-use Rattle.plan_forest.specs.Push.{is_lease}
+use Rattle.plan_forest.specs.{declared.entry.Entry.Entry, Forest.entry_at, Push.is_lease}
 use Rattle.vault_json.specs.declared.lookup.Lookup.{Lookup}
 use Rattle.vault_json.specs.declared.lookup.Lookup.TheVariants.{Token, Lease}
-use Rattle.vault_inventory.specs.declared.lookup.LookupFault.{LookupFault}
+use Rattle.vault_inventory.specs.{declared.lookup.LookupFault.LookupFault, declared.terms.Terms.Terms, Terms.ceiling_of, Terms.step_of}
 use Rattle.vault_inventory.specs.declared.lookup.LookupFault.TheVariants.{OtherKind, OtherEntry, OtherTree, NoStep}
-use Rattle.vault_inventory.specs.declared.terms.Terms.{Terms}
-use Rattle.vault_inventory.specs.Terms.{ceiling_of, step_of}
 use Rattle.vault_inventory.specs.Inventories.{Inventory, credential_at, terms_at}
 
 -- the terms as they then are: of a token its issue, its period and its explicit max TTL are told, of a lease its issue. The

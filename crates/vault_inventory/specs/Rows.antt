@@ -4,21 +4,13 @@ use Rattle.std.specs.Prelude.{ℕ, Bool, true, false, ◌==◌, ◌&&◌, ◌||�
 use Rattle.toml.specs.Data.{Members}
 use Rattle.plan_forest.specs.declared.entry.Kind.TheVariants as kind
 use Rattle.plan_forest.specs.Forest.{Forest, index_named}
-use Rattle.vault_inventory.specs.declared.fault.InvFault.{InvFault}
-use Rattle.vault_inventory.specs.declared.key.Key.{Key}
+use Rattle.vault_inventory.specs.{declared.fault.InvFault.InvFault, declared.key.Key.Key, declared.limits.TheConstants.SPAN_MAX, declared.limits.TheConstants.STEP_ABSENT, declared.note.EntryNote.EntryNote, declared.row.Life.Life}
+use Rattle.vault_inventory.specs.{declared.row.TableRow.TableRow, declared.terms.Terms.Terms, Languages.Language, Languages.is_strict, Needs.is_for_good, Needs.until_of, Keys.token_keys, Keys.lease_keys}
 use Rattle.vault_inventory.specs.declared.key.Key.TheVariants.{Token, Name, Parent, Issued, End, Renewable, Increment, Period, MaxTtl, ExplicitMaxTtl, Reissued, Need, Secret, SecretFile, LeaseId, LeaseIdFile}
-use Rattle.vault_inventory.specs.declared.limits.TheConstants.{SPAN_MAX, STEP_ABSENT}
-use Rattle.vault_inventory.specs.declared.need.Need as needs
-use Rattle.vault_inventory.specs.declared.note.EntryNote.{EntryNote}
-use Rattle.vault_inventory.specs.declared.row.Life.{Life}
-use Rattle.vault_inventory.specs.declared.row.TableRow.{TableRow}
-use Rattle.vault_inventory.specs.declared.terms.Terms.{Terms}
-use Rattle.vault_inventory.specs.Languages.{Language, is_strict}
-use Rattle.vault_inventory.specs.Needs.{is_for_good, until_of}
-use Rattle.vault_inventory.specs.Keys.{token_keys, lease_keys}
-use Rattle.vault_inventory.specs.Answers.{◌>>=◌}
 use Rattle.vault_inventory.specs.Values.{only, span, moment_value, end_value, need, flag_value, text, credential, path, value_at, is_key_there, has_if, alone_if, needed_value}
 use Rattle.vault_inventory.specs.Terms.{step_of, ceiling_of, max_ttl_of}
+use Rattle.vault_inventory.specs.Answers.{◌>>=◌}
+use Rattle.vault_inventory.specs.declared.need.Need as needs
 
 -- the index of the entry of that name, or that of no entry
 unfoldable pub index_or_none : Forest → List ℕ → ℕ

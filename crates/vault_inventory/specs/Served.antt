@@ -2,11 +2,9 @@
 -- credentials that stand in files.
 -- Source: this project's own.
 use Rattle.std.specs.Prelude.{◌≡◌, ℕ, ◌+◌, Bool, false, List, [], ◌∷◌, Option, Some, None, Result, Ok, Err, length, slice_index_or, if◌then◌else◌}
-use Rattle.vault_inventory.specs.declared.fault.InvFault.{InvFault}
+use Rattle.vault_inventory.specs.{declared.fault.InvFault.InvFault, declared.note.EntryNote.EntryNote, Inventories.Inventory, Inventories.IsInventory}
 use Rattle.vault_inventory.specs.declared.fault.InvFault.TheVariants.{BadValue, MissingKey}
 use Rattle.vault_inventory.specs.declared.key.Key.TheVariants.{Issued, Need}
-use Rattle.vault_inventory.specs.declared.note.EntryNote.{EntryNote}
-use Rattle.vault_inventory.specs.Inventories.{Inventory, IsInventory}
 
 -- the inventory, in which an end that is left open is 0, as is its issue, a need that is `always` is none, and the name stands
 -- for a credential in a file; a note for each entry; whether the margin is written; and the maximum TTL of the system, where that is

@@ -1,22 +1,15 @@
 -- The value at a key of a table, by its type.
 -- Source: TOML 1.1, "Integer", "String" and "Boolean"; RFC 3339, section 5.6; the ranges are this project's own.
 use Rattle.std.specs.Prelude.{ℕ, Bool, List, pos, Option, Some, None, Result, Ok, Err, nat_le, nat_lt, not, ◌&&◌, ◌==◌, if◌then◌else◌, is_some, length, codes, bytes_eq}
-use Rattle.std.specs.Result.{result_ok}
-use Rattle.std.specs.List.{list_all}
-use Rattle.std.specs.Int.{is_in_range}
-use Rattle.toml.specs.Data.{Data, string, integer, boolean, array, Items, Members, get_member}
+use Rattle.std.specs.{Result.result_ok, List.list_all, Int.is_in_range}
 use Rattle.toml.specs.Text.{are_tables}
-use Rattle.base_moment.specs.MomentOf.{moment_of}
-use Rattle.base_moment.specs.declared.moment.TheConstants.{LAST}
+use Rattle.toml.specs.Data.{Data, string, integer, boolean, array, Items, Members, get_member}
+use Rattle.base_moment.specs.{MomentOf.moment_of, declared.moment.TheConstants.LAST}
 use Rattle.plan_forest.specs.declared.forest.TheConstants.{END_MAX}
-use Rattle.vault_inventory.specs.declared.limits.TheConstants.{CREDENTIAL_MAX, PATH_MAX}
-use Rattle.vault_inventory.specs.declared.need.Need.{Need}
+use Rattle.vault_inventory.specs.{declared.limits.TheConstants.CREDENTIAL_MAX, declared.limits.TheConstants.PATH_MAX, declared.need.Need.Need, declared.key.Key.Key, declared.fault.InvFault.InvFault, Durations.duration_of_text}
 use Rattle.vault_inventory.specs.declared.need.Need.TheVariants.{Until, Always}
-use Rattle.vault_inventory.specs.declared.key.Key.{Key}
-use Rattle.vault_inventory.specs.declared.fault.InvFault.{InvFault}
 use Rattle.vault_inventory.specs.declared.fault.InvFault.TheVariants.{MissingKey, UnknownKey, BadValue}
 use Rattle.vault_inventory.specs.Languages.{Language, strict, full}
-use Rattle.vault_inventory.specs.Durations.{duration_of_text}
 use Rattle.vault_inventory.specs.Keys.{key_text, all_keys, is_one_of}
 
 -- a table has no key but these

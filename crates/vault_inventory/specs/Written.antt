@@ -2,24 +2,16 @@
 -- Source: Vault, "Tokens"; Vault, "Lease, renew, and revoke"; the keys are this project's own.
 use Rattle.std.specs.Prelude.{◌≡◌, ℕ, suc, ◌+◌, ◌<◌, ◌&&◌, Bool, true, false, List, Option, Some, None, is_some, length, unwrap_or}
 use Rattle.toml.specs.Data.{Data, table, Items, no_items, item, Members, get_item, get_member}
-use Rattle.plan_forest.specs.declared.entry.Entry.{Entry}
+use Rattle.plan_forest.specs.{declared.entry.Entry.Entry, declared.forest.TheConstants.MARGIN_MAX, Forest.entry_at}
 use Rattle.plan_forest.specs.declared.entry.Kind.TheVariants as kind
-use Rattle.plan_forest.specs.declared.forest.TheConstants.{MARGIN_MAX}
-use Rattle.plan_forest.specs.Forest.{entry_at}
-use Rattle.vault_inventory.specs.declared.key.Key.{Key}
+use Rattle.vault_inventory.specs.{declared.key.Key.Key, declared.note.EntryNote.EntryNote, declared.terms.Terms.Terms, Inventories.credential_at, Inventories.terms_at, Languages.full, Needs.is_for_good, Needs.until_of, Rows.step_or}
+use Rattle.vault_inventory.specs.{Served.Served, Served.note_at}
 use Rattle.vault_inventory.specs.declared.key.Key.TheVariants.{SystemMax, Margin, Token, Lease, Name, Parent, Issued, End, Renewable, Increment, Period, MaxTtl, ExplicitMaxTtl, Reissued, Need, Secret, SecretFile, LeaseId, LeaseIdFile}
 use Rattle.vault_inventory.specs.declared.limits.TheConstants.{SPAN_MAX, STEP_ABSENT, SYSTEM_MAX}
-use Rattle.vault_inventory.specs.declared.need.Need as needs
-use Rattle.vault_inventory.specs.declared.note.EntryNote.{EntryNote}
-use Rattle.vault_inventory.specs.declared.terms.Terms.{Terms}
-use Rattle.vault_inventory.specs.Inventories.{credential_at, terms_at}
-use Rattle.vault_inventory.specs.Languages.{full}
-use Rattle.vault_inventory.specs.Needs.{is_for_good, until_of}
-use Rattle.vault_inventory.specs.Rows.{step_or}
-use Rattle.vault_inventory.specs.Served.{Served, note_at}
 use Rattle.vault_inventory.specs.Keys.{all_keys, is_one_of, key_text, lease_keys, token_keys, top_keys}
 use Rattle.vault_inventory.specs.Terms.{ceiling_of, max_ttl_of, step_of}
 use Rattle.vault_inventory.specs.Values.{credential, end_value, flag_value, is_key_there, moment_value, need, path, span, tables, text}
+use Rattle.vault_inventory.specs.declared.need.Need as needs
 
 -- the key is absent, or its value reads so
 abbrev pub WritesKey : {A : Type 0} → (Data → Option A) → Key → Members → Option A → Type 0

@@ -1,6 +1,6 @@
 ghost use Rattle.std.specs.Prelude.{◌≡◌, ◌<◌, length};
 ghost use Rattle.vault_inventory.specs.Intake.{inventory_of_intake};
-ghost use Rattle.vault_inventory.specs.ServedInventory.{IsServedInventory, first_open, first_untold, inventory_if_whole, open_fault, served_if_told};
+ghost use Rattle.vault_inventory.specs.Served.{IsServedInventory, first_open, first_untold, inventory_if_whole, open_fault, served_if_told};
 
 use crate::draft::Draft;
 use crate::fault::InvFault;
@@ -21,9 +21,9 @@ pub struct ServedInventory {
 }
 
 impl Model for ServedInventory {
-    ghost use Rattle.vault_inventory.specs.ServedInventory.{IsServedInventory, ServedInventory};
+    ghost use Rattle.vault_inventory.specs.Served.{IsServedInventory, Served};
 
-    ghost Value = { ServedInventory };
+    ghost Value = { Served };
 
     ghost view = { λ v. record { inventory = v.inventory; notes = v.notes.items; has_margin = v.has_margin; system_max = v.system_max } };
 

@@ -1,19 +1,10 @@
 -- The tree of bytes that are UTF-8, and of bytes that are not; and what is made of what serde_json reads, for `tree`.
 use Rattle.std.proofs.Common.{◌≡◌, ◌∙◌, ℕ, List, Option, None, Some, Result, Ok, Err, IfOk, IfErr, ap, subst, sym, refl, inl, inr, IsUtf8}
-use Rattle.std.proofs.lemmas.Bool.{cases_Bool}
-use Rattle.std.proofs.lemmas.Str.{IsUtf8-from_is_utf8, is_utf8-from_IsUtf8}
+use Rattle.std.proofs.lemmas.{Bool.cases_Bool, Str.IsUtf8-from_is_utf8, Str.is_utf8-from_IsUtf8}
 use Rattle.std.specs.Str.{is_utf8}
-use Rattle.serde_json.specs.Data.{Data}
-use Rattle.serde_json.specs.Errors.{IsMemory}
-use Rattle.serde_json.specs.Read.{read}
-use Rattle.serde_json.specs.View.{view}
-use Rattle.serde_json.specs.declared.error.Code.{Code}
+use Rattle.serde_json.specs.{Data.Data, Errors.IsMemory, Read.read, View.view, declared.error.Code.Code, declared.error.Error.Error, declared.value.Value.Value}
 use Rattle.serde_json.specs.declared.error.Code.TheVariants as codes
-use Rattle.serde_json.specs.declared.error.Error.{Error}
-use Rattle.serde_json.specs.declared.value.Value.{Value}
-use Rattle.vault_json.specs.Answer.{GivesOrReplyFault}
-use Rattle.vault_json.specs.Body.{json_tree, or_not_json}
-use Rattle.vault_json.specs.declared.fault.ReplyFault.{ReplyFault}
+use Rattle.vault_json.specs.{Answer.GivesOrReplyFault, Body.json_tree, Body.or_not_json, declared.fault.ReplyFault.ReplyFault}
 use Rattle.vault_json.specs.declared.fault.ReplyFault.TheVariants as faults
 
 pub tree_of_text : (bytes : List ℕ) → IsUtf8 bytes → json_tree bytes ≡ read bytes

@@ -1,11 +1,8 @@
 -- The text of a date is ASCII, and so UTF-8: JSON can hold it.
 use Rattle.std.proofs.Common.{ℕ, ◌+◌, ◌/◌, ◌%◌, ◌<◌, List, [], ◌∷◌, IsUtf8, refl, sym, subst, arith, lt-ltb}
-use Rattle.std.proofs.lemmas.Int.{ints}
-use Rattle.std.proofs.lemmas.Str.{IsUtf8-append}
-use Rattle.std.proofs.lemmas.Bool.Decides.{nat_tests}
+use Rattle.std.proofs.lemmas.{Int.ints, Str.IsUtf8-append, Bool.Decides.nat_tests}
 use Rattle.json.proofs.Printed.Utf8.{IsUtf8-are_ascii}
-use Rattle.base_moment.specs.Rfc3339.{IsDateText, IsDateTime, two_digits_of, four_digits_of, face}
-use Rattle.base_moment.specs.declared.stamp.Stamp.{Stamp}
+use Rattle.base_moment.specs.{Rfc3339.IsDateText, Rfc3339.IsDateTime, Rfc3339.two_digits_of, Rfc3339.four_digits_of, Rfc3339.face, declared.stamp.Stamp.Stamp}
 
 two_utf8 : (n : ℕ) → n < 100 → IsUtf8 (two_digits_of n)
 two_utf8 n small =

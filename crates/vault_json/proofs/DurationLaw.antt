@@ -1,13 +1,9 @@
 -- A duration is read exactly where it is written.
 use Rattle.std.proofs.Common.{◌≡◌, ◌≢◌, ℕ, ◌<◌, ◌^◌, inl, inr, Bool, true, false, ◌&&◌, List, [], ◌∷◌, ◌++◌, length, nat_lt, if◌then◌else◌, Some, None, refl, sym, ap, ◌∙◌, subst, lt-ltb, ltb-true}
-use Rattle.std.proofs.lemmas.Bool.{and_parts}
-use Rattle.std.proofs.lemmas.List.Folds.{list_all-append}
-use Rattle.std.specs.Char.{is_ascii_digit}
-use Rattle.std.specs.List.{list_all}
-use Rattle.std.specs.Str.Parse.{digits_value}
+use Rattle.std.proofs.lemmas.{Bool.and_parts, List.Folds.list_all-append}
+use Rattle.std.specs.{Char.is_ascii_digit, List.list_all, Str.Parse.digits_value}
 use Rattle.serde_json.specs.Data.{Num, unsigned, negative, float, Data, null, boolean, number, string, array, object}
-use Rattle.vault_json.specs.Duration.{without_unit, seconds_of_digits, seconds_of_text, seconds_of_number, duration_of_value, AreDigitsOf, WritesDuration}
-use Rattle.vault_json.specs.Laws.{DurationsAreRead}
+use Rattle.vault_json.specs.{Duration.without_unit, Duration.seconds_of_digits, Duration.seconds_of_text, Duration.seconds_of_number, Duration.duration_of_value, Duration.AreDigitsOf, Duration.WritesDuration, Laws.DurationsAreRead}
 use Rattle.vault_json.proofs.Durations.{cut_unit, no_unit, unit_or_none}
 
 -- ---- what is read is written

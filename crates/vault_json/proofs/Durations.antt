@@ -1,13 +1,8 @@
 -- What the code that reads a duration's text does, in the words of `seconds_of_text`.
 use Rattle.std.proofs.Common.{◌⊎◌, ◌≡◌, ◌≢◌, ℕ, ◌+◌, ◌-◌, ◌<◌, ◌^◌, true, false, List, [], ◌∷◌, ◌++◌, length, take, get_or, Result, Ok, Err, Option, Some, None, MatchOption, unwrap_or, Bor, refl, sym, ap, ◌∙◌, inl, inr, arith, rules, nat_lt, nat_eq, ◌&&◌, eqb-true, lt-ltb, ltb-true, length-append}
 use Rattle.std.proofs.Math.Seq.{take-append_seam, get_or-append_seam, take-length}
-use Rattle.std.proofs.lemmas.Bool.{cases_Bool, and_parts}
-use Rattle.std.proofs.lemmas.List.{take_more}
-use Rattle.std.proofs.lemmas.Str.Parse.{IsNumeralModel, numerals_by_value, parse_digits}
-use Rattle.std.specs.Char.{is_ascii_digit}
-use Rattle.std.specs.List.{list_all}
-use Rattle.std.specs.Result.{result_ok, OkIff}
-use Rattle.std.specs.Str.Parse.{digits_value, ParsesUnsigned}
+use Rattle.std.proofs.lemmas.{Bool.cases_Bool, Bool.and_parts, List.take_more, Str.Parse.IsNumeralModel, Str.Parse.numerals_by_value, Str.Parse.parse_digits}
+use Rattle.std.specs.{Char.is_ascii_digit, List.list_all, Result.result_ok, Result.OkIff, Str.Parse.digits_value, Str.Parse.ParsesUnsigned}
 use Rattle.vault_json.specs.Duration.{without_unit, seconds_of_digits}
 
 pub own : IsNumeralModel (λ ds. list_all is_ascii_digit ds ≡ true) (digits_value 10)

@@ -1,21 +1,14 @@
 -- Trees of texts in UTF-8, flags and whole numbers: their compact text is UTF-8, and is read back.
 use Rattle.std.proofs.Common.{◌≡◌, ◌<◌, ◌≤◌, ◌^◌, Bool, true, false, List, [], ◌∷◌, ◌++◌, Option, Some, option_and_then, decimal, IsUtf8, refl, sym, ap, ◌∙◌, append-nil}
 use Rattle.std.specs.Prelude.{⊤}
-use Rattle.std.proofs.lemmas.Fmt.{IsAscii-decimal}
-use Rattle.std.proofs.lemmas.Str.{IsUtf8-append, IsUtf8-nil, IsUtf8-from_ascii}
-use Rattle.json.specs.Token.{Token}
-use Rattle.json.specs.Lex.{tokens}
+use Rattle.std.proofs.lemmas.{Fmt.IsAscii-decimal, Str.IsUtf8-append, Str.IsUtf8-nil, Str.IsUtf8-from_ascii}
+use Rattle.json.specs.{Token.Token, Lex.tokens, Print.quoted, Tree.json_tokens, Tree.HasNumbers, Tree.ItemsHaveNumbers, Tree.MembersHaveNumbers}
 use Rattle.json.specs.Json as json
-use Rattle.json.specs.Print.{quoted}
-use Rattle.json.specs.Tree.{json_tokens, HasNumbers, ItemsHaveNumbers, MembersHaveNumbers}
 use Rattle.json.specs.Tree as tree
-use Rattle.json.proofs.Printed.Decimals.{IsNumber-decimal}
-use Rattle.json.proofs.Printed.Tokens.{tokens-print}
-use Rattle.json.proofs.Printed.Trees.{value-json_tokens, ArePrintable-json_tokens}
-use Rattle.json.proofs.Printed.Utf8.{IsUtf8-are_ascii, IsUtf8-quoted, IsUtf8-boolean}
-use Rattle.serde_json.specs.Data.{Num, unsigned, negative, float, Data, null, boolean, number, string, array, object, Items, no_items, item, Members, no_members, member}
-use Rattle.serde_json.specs.Read.{read, of_json, max_depth}
-use Rattle.serde_json.specs.Written.{outline, items_outline, members_outline, comma_if, compact_text, items_text, members_text}
+use Rattle.json.proofs.{Printed.Decimals.IsNumber-decimal, Printed.Tokens.tokens-print, Printed.Trees.value-json_tokens, Printed.Trees.ArePrintable-json_tokens}
+use Rattle.json.proofs.{Printed.Utf8.IsUtf8-are_ascii, Printed.Utf8.IsUtf8-quoted, Printed.Utf8.IsUtf8-boolean}
+use Rattle.serde_json.specs.{Data.Num, Data.unsigned, Data.negative, Data.float, Data.Data, Data.null, Data.boolean, Data.number, Data.string, Data.array, Data.object, Data.Items, Data.no_items, Data.item, Data.Members, Data.no_members, Data.member}
+use Rattle.serde_json.specs.{Read.read, Read.of_json, Read.max_depth, Written.outline, Written.items_outline, Written.members_outline, Written.comma_if, Written.compact_text, Written.items_text, Written.members_text}
 use Rattle.serde_json.proofs.Texts.{print-outline}
 
 abbrev IsPlainNumber : Num → Type 0

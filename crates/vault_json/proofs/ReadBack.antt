@@ -1,28 +1,20 @@
 -- The laws of `specs/Laws.antt`: each tree is read back from its text, and the fields are found in it.
 use Rattle.std.proofs.Common.{◌≡◌, ℕ, ◌<◌, ◌≤◌, ◌^◌, ◌==◌, Bool, false, List, Ok, Some, IsUtf8, refl, sym, ap, ◌∙◌, arith, lt-ltb, le-leb, inl, inr, length, ◌≢◌, ne_eqb}
 use Rattle.std.proofs.lemmas.Bool.{cases_eq}
-use Rattle.base_moment.specs.declared.moment.TheConstants.{LAST}
+use Rattle.base_moment.specs.{declared.moment.TheConstants.LAST, MomentOf.moment_of, Rfc3339.IsDateText}
 use Rattle.json.proofs.Printed.Utf8.{IsUtf8-are_ascii}
 use Rattle.json.specs.Tree as tree
-use Rattle.serde_json.specs.Data.{Data, object, Members}
-use Rattle.serde_json.specs.Read.{of_json, max_depth}
-use Rattle.serde_json.specs.Written.{outline, compact_text}
+use Rattle.serde_json.specs.{Data.Data, Data.object, Data.Members, Read.of_json, Read.max_depth, Written.outline, Written.compact_text}
 use Rattle.serde_json.proofs.Numbers.{number_of-decimal}
-use Rattle.vault_json.specs.Body.{json_tree, object_of_bytes, reply_object, unwrapped}
-use Rattle.vault_json.specs.Field.{key_of, member_of, required, optional}
-use Rattle.vault_json.specs.Laws.{RenewedSelfIsRead, RenewedLeaseIsRead, LookedSelfIsRead, LookedLeaseIsRead, RenewBodyIsRead, LeaseBodyIsRead, LookupBodyIsRead}
-use Rattle.vault_json.specs.Lookup.{looked_self_in, looked_lease_in, lookup_self_answer, lookup_lease_answer}
-use Rattle.vault_json.specs.Renewed.{renewed_in_object, renewed_lease_in, renew_self_answer, renew_lease_answer}
-use Rattle.vault_json.specs.Request.{increment_answer, lease_id_answer}
-use Rattle.vault_json.specs.Trees.{renew_tree, lease_tree, lookup_tree, renewed_self_tree, renewed_lease_tree, looked_plain_tree, looked_periodic_tree, looked_lease_tree}
-use Rattle.vault_json.specs.Written.{renew_text, lease_text, lookup_text, renewed_self_text, renewed_lease_text, looked_self_text, looked_lease_text}
-use Rattle.vault_json.specs.declared.lookup.Lookup.TheVariants.{Token, Lease}
-use Rattle.base_moment.specs.MomentOf.{moment_of}
-use Rattle.base_moment.specs.Rfc3339.{IsDateText}
-use Rattle.vault_json.proofs.Bodies.{tree_of_text}
-use Rattle.vault_json.proofs.Dates.{date_utf8}
-use Rattle.vault_json.proofs.Plain.{IsPlain, compact_utf8, read_compact}
-use Rattle.vault_json.proofs.Texts.{renew_text_is, lease_text_is, lookup_text_is, renewed_self_text_is, renewed_lease_text_is, looked_plain_text_is, looked_periodic_text_is, looked_lease_text_is}
+use Rattle.vault_json.specs.{Body.json_tree, Body.object_of_bytes, Body.reply_object, Body.unwrapped, Field.key_of, Field.member_of, Field.required, Field.optional}
+use Rattle.vault_json.specs.{Laws.RenewedSelfIsRead, Laws.RenewedLeaseIsRead, Laws.LookedSelfIsRead, Laws.LookedLeaseIsRead, Laws.RenewBodyIsRead, Laws.LeaseBodyIsRead, Laws.LookupBodyIsRead}
+use Rattle.vault_json.specs.{Lookup.looked_self_in, Lookup.looked_lease_in, Lookup.lookup_self_answer, Lookup.lookup_lease_answer, Renewed.renewed_in_object, Renewed.renewed_lease_in, Renewed.renew_self_answer, Renewed.renew_lease_answer}
+use Rattle.vault_json.specs.{Request.increment_answer, Request.lease_id_answer}
+use Rattle.vault_json.specs.{Trees.renew_tree, Trees.lease_tree, Trees.lookup_tree, Trees.renewed_self_tree, Trees.renewed_lease_tree, Trees.looked_plain_tree, Trees.looked_periodic_tree, Trees.looked_lease_tree}
+use Rattle.vault_json.specs.{Written.renew_text, Written.lease_text, Written.lookup_text, Written.renewed_self_text, Written.renewed_lease_text, Written.looked_self_text, Written.looked_lease_text}
+use Rattle.vault_json.specs.{declared.lookup.Lookup.TheVariants.Token, declared.lookup.Lookup.TheVariants.Lease}
+use Rattle.vault_json.proofs.{Bodies.tree_of_text, Dates.date_utf8, Plain.IsPlain, Plain.compact_utf8, Plain.read_compact}
+use Rattle.vault_json.proofs.{Texts.renew_text_is, Texts.lease_text_is, Texts.lookup_text_is, Texts.renewed_self_text_is, Texts.renewed_lease_text_is, Texts.looked_plain_text_is, Texts.looked_periodic_text_is, Texts.looked_lease_text_is}
 
 -- the body that was written of an object
 body_written : (ms : Members) (text : List ℕ) → compact_text (object ms) ≡ text → IsPlain (object ms) → tree.depth (outline (object ms)) ≤ max_depth → of_json (outline (object ms)) ≡ Some (object ms)

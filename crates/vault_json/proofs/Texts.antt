@@ -1,8 +1,7 @@
 -- The compact text of each tree that this crate writes is the text of `specs/Written.antt`.
 use Rattle.std.proofs.Common.{◌≡◌, ◌≢◌, ne_eqb, ℕ, Bool, true, false, List, ◌++◌, Result, Ok, Err, IfOk, codes, decimal, refl, sym, ap, ◌∙◌, append_assoc, append-nil}
 use Rattle.json.specs.Print.{escape_byte, quoted}
-use Rattle.serde_json.specs.Data.{Data}
-use Rattle.serde_json.specs.Written.{has_float, compact_text}
+use Rattle.serde_json.specs.{Data.Data, Written.has_float, Written.compact_text}
 use Rattle.vault_json.specs.Trees.{renew_tree, lease_tree, lookup_tree, renewed_self_tree, renewed_lease_tree, looked_plain_tree, looked_periodic_tree, looked_lease_tree, errors_tree}
 use Rattle.vault_json.specs.Written.{flag_text, period_text, renew_text, lease_text, lookup_text, renewed_self_text, renewed_lease_text, looked_self_text, looked_lease_text, errors_text}
 

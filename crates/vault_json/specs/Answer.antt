@@ -1,8 +1,7 @@
 -- A body's answer: a value, or the first fault. Definitions never answer lack of memory, which only code can meet.
 use Rattle.std.specs.Prelude.{◌≡◌, Result, Ok, Err, Option, Some, None}
-use Rattle.vault_json.specs.declared.field.Field.{Field}
-use Rattle.vault_json.specs.declared.fault.ReplyFault.{ReplyFault}
-use Rattle.vault_json.specs.declared.fault.ReplyFault.TheVariants.{NotJson, Missing, BadField, Wrapped, OutOfMemory}
+use Rattle.vault_json.specs.{declared.field.Field.Field, declared.fault.ReplyFault.ReplyFault}
+use Rattle.vault_json.specs.{declared.fault.ReplyFault.TheVariants.NotJson, declared.fault.ReplyFault.TheVariants.Missing, declared.fault.ReplyFault.TheVariants.BadField, declared.fault.ReplyFault.TheVariants.Wrapped, declared.fault.ReplyFault.TheVariants.OutOfMemory}
 
 -- one step after the other, up to the first fault
 infixl 10 ◌>>=◌

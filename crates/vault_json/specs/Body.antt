@@ -1,13 +1,9 @@
 -- A body: a JSON object, as serde_json reads it (RFC 8259, nested at most 127 deep).
 use Rattle.std.specs.Prelude.{ℕ, List, codes, if◌then◌else◌, Result, Ok, Err, Option, Some, None}
 use Rattle.std.specs.Str.{is_utf8}
-use Rattle.serde_json.specs.Data.{Data, null, boolean, number, string, array, object}
-use Rattle.serde_json.specs.Find.{get}
-use Rattle.serde_json.specs.Read.{read}
+use Rattle.serde_json.specs.{Data.Data, Data.null, Data.boolean, Data.number, Data.string, Data.array, Data.object, Find.get, Read.read}
 use Rattle.vault_json.specs.Answer.{◌>>=◌}
-use Rattle.vault_json.specs.Field.{present}
-use Rattle.vault_json.specs.declared.fault.ReplyFault.{ReplyFault}
-use Rattle.vault_json.specs.declared.fault.ReplyFault.TheVariants.{NotJson, Wrapped}
+use Rattle.vault_json.specs.{Field.present, declared.fault.ReplyFault.ReplyFault, declared.fault.ReplyFault.TheVariants.NotJson, declared.fault.ReplyFault.TheVariants.Wrapped}
 
 -- the tree that the bytes are: none where they are not UTF-8 or no JSON
 abbrev pub json_tree : List ℕ → Option Data

@@ -2,9 +2,7 @@
 -- Vault, HTTP API: times such as `increment` are "an integer number of seconds" or a text with a unit; this project's
 -- profile reads the unit `s` alone. The greatest duration is 4294967295 seconds.
 use Rattle.std.specs.Prelude.{◌≡◌, ℕ, ◌<◌, ◌⊎◌, true, [], ◌∷◌, ◌++◌, ◌-◌, ◌^◌, ◌&&◌, ◌==◌, List, length, take, slice_index, nat_lt, if◌then◌else◌, Option, Some, None}
-use Rattle.std.specs.Char.{is_ascii_digit}
-use Rattle.std.specs.List.{list_all}
-use Rattle.std.specs.Str.Parse.{digits_value}
+use Rattle.std.specs.{Char.is_ascii_digit, List.list_all, Str.Parse.digits_value}
 use Rattle.serde_json.specs.Data.{Num, unsigned, negative, float, Data, null, boolean, number, string, array, object}
 
 -- the text without one final `s`, where it has one

@@ -2,16 +2,12 @@
 -- Vault, HTTP API `auth/token` and `sys/leases`: the names of the fields. Which are read, and that null is as good as
 -- absent, is this project's profile.
 use Rattle.std.specs.Prelude.{ℕ, List, codes, nat_le, if◌then◌else◌, Result, Ok, Err, Option, Some, None}
-use Rattle.base_moment.specs.declared.moment.TheConstants.{LAST}
-use Rattle.base_moment.specs.MomentOf.{moment_of}
+use Rattle.base_moment.specs.{declared.moment.TheConstants.LAST, MomentOf.moment_of}
 use Rattle.std.specs.Result.{result_ok}
-use Rattle.serde_json.specs.Data.{Num, unsigned, negative, float, Data, null, boolean, number, string, array, object}
-use Rattle.serde_json.specs.Find.{get}
-use Rattle.vault_json.specs.Answer.{or_bad}
-use Rattle.vault_json.specs.declared.field.Field.{Field}
-use Rattle.vault_json.specs.declared.field.Field.TheVariants.{Auth, CreationTime, Data as DataField, ExpireTime, ExplicitMaxTtl, Id, Increment, IssueTime, LeaseDuration, LeaseId, Orphan, Period, Renewable, Ttl}
-use Rattle.vault_json.specs.declared.fault.ReplyFault.{ReplyFault}
-use Rattle.vault_json.specs.declared.fault.ReplyFault.TheVariants.{Missing}
+use Rattle.serde_json.specs.{Data.Num, Data.unsigned, Data.negative, Data.float, Data.Data, Data.null, Data.boolean, Data.number, Data.string, Data.array, Data.object, Find.get}
+use Rattle.vault_json.specs.{Answer.or_bad, declared.field.Field.Field}
+use Rattle.vault_json.specs.{declared.field.Field.TheVariants.Auth, declared.field.Field.TheVariants.CreationTime, declared.field.Field.TheVariants.Data as DataField, declared.field.Field.TheVariants.ExpireTime, declared.field.Field.TheVariants.ExplicitMaxTtl, declared.field.Field.TheVariants.Id, declared.field.Field.TheVariants.Increment, declared.field.Field.TheVariants.IssueTime, declared.field.Field.TheVariants.LeaseDuration, declared.field.Field.TheVariants.LeaseId, declared.field.Field.TheVariants.Orphan, declared.field.Field.TheVariants.Period, declared.field.Field.TheVariants.Renewable, declared.field.Field.TheVariants.Ttl}
+use Rattle.vault_json.specs.{declared.fault.ReplyFault.ReplyFault, declared.fault.ReplyFault.TheVariants.Missing}
 
 -- a field's key
 unfoldable pub key_of : Field → List ℕ

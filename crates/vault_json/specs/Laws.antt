@@ -2,12 +2,10 @@
 use Rattle.std.specs.Prelude.{◌≡◌, ◌↔◌, ℕ, ◌<◌, ◌≤◌, ◌^◌, List, Bool, IsUtf8, Ok, Some}
 use Rattle.base_moment.specs.declared.moment.TheConstants.{LAST}
 use Rattle.serde_json.specs.Data.{Data}
-use Rattle.vault_json.specs.Duration.{duration_of_value, WritesDuration}
-use Rattle.vault_json.specs.Lookup.{lookup_self_answer, lookup_lease_answer}
-use Rattle.vault_json.specs.Renewed.{renew_self_answer, renew_lease_answer}
-use Rattle.vault_json.specs.Request.{increment_answer, lease_id_answer}
-use Rattle.vault_json.specs.Written.{renew_text, lease_text, lookup_text, renewed_self_text, renewed_lease_text, looked_self_text, IsLookedLease}
-use Rattle.vault_json.specs.declared.lookup.Lookup.TheVariants.{Token, Lease}
+use Rattle.vault_json.specs.{Duration.duration_of_value, Duration.WritesDuration, Lookup.lookup_self_answer, Lookup.lookup_lease_answer, Renewed.renew_self_answer, Renewed.renew_lease_answer}
+use Rattle.vault_json.specs.{Request.increment_answer, Request.lease_id_answer}
+use Rattle.vault_json.specs.{Written.renew_text, Written.lease_text, Written.lookup_text, Written.renewed_self_text, Written.renewed_lease_text, Written.looked_self_text, Written.IsLookedLease}
+use Rattle.vault_json.specs.{declared.lookup.Lookup.TheVariants.Token, declared.lookup.Lookup.TheVariants.Lease}
 
 -- a duration is read exactly where it is written
 abbrev pub DurationsAreRead : Type 0

@@ -1,16 +1,11 @@
 -- The replies to a lookup.
 -- Vault, HTTP API: `auth/token`, "Lookup a token (self)"; `sys/leases`, "Read lease".
 use Rattle.std.specs.Prelude.{ℕ, ◌==◌, List, Bool, false, ◌&&◌, is_none, Result, Ok}
-use Rattle.serde_json.specs.Data.{Data}
-use Rattle.serde_json.specs.Find.{as_bool, as_str}
+use Rattle.serde_json.specs.{Data.Data, Find.as_bool, Find.as_str}
 use Rattle.vault_json.specs.Answer.{◌>>=◌}
-use Rattle.vault_json.specs.Body.{reply_object}
-use Rattle.vault_json.specs.Duration.{duration_of_value}
-use Rattle.vault_json.specs.Field.{member_of, required, optional, object_of, timestamp_of, date_in_text}
-use Rattle.vault_json.specs.declared.field.Field.TheVariants.{CreationTime, Data as DataField, ExpireTime, ExplicitMaxTtl, Id, IssueTime, Orphan, Period, Renewable, Ttl}
-use Rattle.vault_json.specs.declared.fault.ReplyFault.{ReplyFault}
-use Rattle.vault_json.specs.declared.lookup.Lookup.{Lookup}
-use Rattle.vault_json.specs.declared.lookup.Lookup.TheVariants.{Token, Lease}
+use Rattle.vault_json.specs.{Body.reply_object, Duration.duration_of_value, Field.member_of, Field.required, Field.optional, Field.object_of, Field.timestamp_of, Field.date_in_text}
+use Rattle.vault_json.specs.{declared.field.Field.TheVariants.CreationTime, declared.field.Field.TheVariants.Data as DataField, declared.field.Field.TheVariants.ExpireTime, declared.field.Field.TheVariants.ExplicitMaxTtl, declared.field.Field.TheVariants.Id, declared.field.Field.TheVariants.IssueTime, declared.field.Field.TheVariants.Orphan, declared.field.Field.TheVariants.Period, declared.field.Field.TheVariants.Renewable, declared.field.Field.TheVariants.Ttl}
+use Rattle.vault_json.specs.{declared.fault.ReplyFault.ReplyFault, declared.lookup.Lookup.Lookup, declared.lookup.Lookup.TheVariants.Token, declared.lookup.Lookup.TheVariants.Lease}
 
 -- what an object says of a token, in its object `data`
 unfoldable pub looked_self_in : Data → Result Lookup ReplyFault

@@ -1,16 +1,11 @@
 -- The replies to a renewal.
 -- Vault, HTTP API: `auth/token`, "Renew a token (self)"; `sys/leases`, "Renew lease".
 use Rattle.std.specs.Prelude.{ℕ, List, false, Result, Ok}
-use Rattle.serde_json.specs.Data.{Data}
-use Rattle.serde_json.specs.Find.{as_bool, as_str}
+use Rattle.serde_json.specs.{Data.Data, Find.as_bool, Find.as_str}
 use Rattle.vault_json.specs.Answer.{◌>>=◌}
-use Rattle.vault_json.specs.Body.{reply_object}
-use Rattle.vault_json.specs.Duration.{duration_of_value}
-use Rattle.vault_json.specs.Field.{required, optional, object_of}
-use Rattle.vault_json.specs.declared.field.Field.TheVariants.{Auth, LeaseDuration, LeaseId, Renewable}
-use Rattle.vault_json.specs.declared.fault.ReplyFault.{ReplyFault}
-use Rattle.vault_json.specs.declared.renewed.Renewed.{Renewed}
-use Rattle.vault_json.specs.declared.renewed.RenewedLease.{RenewedLease}
+use Rattle.vault_json.specs.{Body.reply_object, Duration.duration_of_value, Field.required, Field.optional, Field.object_of}
+use Rattle.vault_json.specs.{declared.field.Field.TheVariants.Auth, declared.field.Field.TheVariants.LeaseDuration, declared.field.Field.TheVariants.LeaseId, declared.field.Field.TheVariants.Renewable, declared.fault.ReplyFault.ReplyFault}
+use Rattle.vault_json.specs.{declared.renewed.Renewed.Renewed, declared.renewed.RenewedLease.RenewedLease}
 
 -- what an object says of a token's renewal, in its object `auth`
 unfoldable pub renewed_in_object : Data → Result Renewed ReplyFault

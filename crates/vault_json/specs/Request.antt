@@ -1,14 +1,9 @@
 -- The bodies of requests, as a broker reads them.
 -- Vault, HTTP API: `auth/token`, "Renew a token (self)"; `sys/leases`, "Renew lease" and "Read lease".
 use Rattle.std.specs.Prelude.{ℕ, ◌==◌, List, length, if◌then◌else◌, Result, Ok, Option, Some, None, option_map}
-use Rattle.serde_json.specs.Data.{Data}
-use Rattle.serde_json.specs.Find.{as_str}
+use Rattle.serde_json.specs.{Data.Data, Find.as_str}
 use Rattle.vault_json.specs.Answer.{◌>>=◌}
-use Rattle.vault_json.specs.Body.{object_of_bytes}
-use Rattle.vault_json.specs.Duration.{duration_of_value}
-use Rattle.vault_json.specs.Field.{required, optional}
-use Rattle.vault_json.specs.declared.field.Field.TheVariants.{Increment, LeaseId}
-use Rattle.vault_json.specs.declared.fault.ReplyFault.{ReplyFault}
+use Rattle.vault_json.specs.{Body.object_of_bytes, Duration.duration_of_value, Field.required, Field.optional, declared.field.Field.TheVariants.Increment, declared.field.Field.TheVariants.LeaseId, declared.fault.ReplyFault.ReplyFault}
 
 -- a duration that is there
 abbrev pub asked_duration : Data → Option (Option ℕ)

@@ -3,20 +3,12 @@ use Rattle.std.proofs.Common.{◌≡◌, ℕ, ◌++◌, Bool, true, false, List,
 use Rattle.std.proofs.lemmas.Bool.{false≢true}
 use Rattle.std.specs.Io.KnownBytes.{Consumes, Keeps}
 use Rattle.std.proofs.KnownBytes.{Consumes-trans}
-use Rattle.vault_lanes.specs.Failing.{AreCut}
+use Rattle.vault_lanes.specs.{Failing.AreCut, Losses.Answer, Losses.loss_of, Allowed.deadline, Stages.failed, Stages.waits, declared.allowance.Allowance.Allowance, declared.loss.Loss.Loss, declared.reason.ConnectReason.ConnectReason}
+use Rattle.vault_lanes.specs.{declared.stage.RequestStage.RequestStage}
 use Rattle.vault_lanes.specs.Lanes.{Came, IsToldBy, NothingFollowsEnd, ReplyIsHeard, TellsAnswer, to_come}
-use Rattle.vault_lanes.specs.Losses.{Answer, loss_of}
-use Rattle.vault_lanes.specs.Allowed.{deadline}
-use Rattle.vault_lanes.specs.Stages.{failed, waits}
-use Rattle.vault_lanes.specs.declared.allowance.Allowance.{Allowance}
-use Rattle.vault_lanes.specs.declared.loss.Loss.{Loss}
-use Rattle.vault_lanes.specs.declared.loss.Loss.TheVariants as losses
-use Rattle.vault_lanes.specs.declared.reason.ConnectReason.{ConnectReason}
-use Rattle.vault_lanes.specs.declared.stage.RequestStage.{RequestStage}
 use Rattle.vault_lanes.specs.declared.stage.RequestStage.TheVariants.{Connecting, Sending, Silent, Coming}
-use Rattle.vault_http.specs.Dates.{IsDatedReply}
-use Rattle.vault_http.specs.declared.http_fault.HttpFault.{HttpFault}
-use Rattle.vault_http.specs.declared.known.TheConstants.{MOST_MESSAGE}
+use Rattle.vault_lanes.specs.declared.loss.Loss.TheVariants as losses
+use Rattle.vault_http.specs.{Dates.IsDatedReply, declared.http_fault.HttpFault.HttpFault, declared.known.TheConstants.MOST_MESSAGE}
 
 -- what stands whatever follows what has come stands of all the bytes
 whole : (P : List ℕ → Type 0) (old came : List ℕ) (ended : Bool) (before left : Option (List ℕ)) → Consumes before (to_come ended left) came

@@ -1,14 +1,8 @@
 -- When those that are out have to be looked at again: for `due` and `go_on` of them all.
 use Rattle.std.proofs.Common.{◌≡◌, ℕ, ◌<◌, ◌≤◌, ◌^◌, Bool, true, false, cond, not, filter, List, [], ◌∷◌, Option, Result, Ok, Err, IfOk, OnOk, min, if◌then◌else◌, arith, ap, ◌∙◌, ◌||◌, refl, subst, sym}
 use Rattle.std.specs.List.{list_any}
-use Rattle.vault_lanes.specs.declared.reason.ConnectReason.{ConnectReason}
-use Rattle.vault_lanes.specs.Allowed.{deadline, millis_after}
-use Rattle.vault_lanes.specs.Out.{IsDueAfter}
-use Rattle.vault_lanes.specs.Seats.{AreTakenOut}
+use Rattle.vault_lanes.specs.{declared.reason.ConnectReason.ConnectReason, Allowed.deadline, Allowed.millis_after, Out.IsDueAfter, Seats.AreTakenOut, declared.lanes.Answered.Answered, declared.seats.Seat.Seat, declared.way.Way.Way}
 use Rattle.vault_lanes.specs.code.Ways.{AreAhead, DeadlineIsAhead, Move, is_way_over, sooner, soonest, soonest_or_now}
-use Rattle.vault_lanes.specs.declared.lanes.Answered.{Answered}
-use Rattle.vault_lanes.specs.declared.seats.Seat.{Seat}
-use Rattle.vault_lanes.specs.declared.way.Way.{Way}
 use Rattle.vault_lanes.specs.declared.way.Way.TheVariants.{Out, Over}
 
 -- those that went on have their deadlines ahead

@@ -3,17 +3,10 @@ use Rattle.std.proofs.Common.{◌≡◌, ◌∙◌, ℕ, ◌+◌, ◌<◌, ◌-�
 use Rattle.std.proofs.lemmas.Bool.{false≢true}
 use Rattle.std.proofs.lemmas.List.{length-drop}
 use Rattle.std.specs.Io.KnownBytes.{Keeps}
-use Rattle.vault_lanes.specs.Allowed.{deadline}
+use Rattle.vault_lanes.specs.{Allowed.deadline, Lanes.IsCounted, Losses.Answer, Stages.failed, Stages.waits, declared.allowance.Allowance.Allowance, declared.loss.Loss.Loss, declared.reason.ConnectReason.ConnectReason}
+use Rattle.vault_lanes.specs.{declared.stage.RequestStage.RequestStage, declared.stage.RequestStage.TheVariants.Connecting}
 use Rattle.vault_lanes.specs.Failing.{AreCut, FailsAs, FailsMore, answer_of_sending}
-use Rattle.vault_lanes.specs.Lanes.{IsCounted}
-use Rattle.vault_lanes.specs.Losses.{Answer}
-use Rattle.vault_lanes.specs.Stages.{failed, waits}
-use Rattle.vault_lanes.specs.declared.allowance.Allowance.{Allowance}
-use Rattle.vault_lanes.specs.declared.loss.Loss.{Loss}
 use Rattle.vault_lanes.specs.declared.loss.Loss.TheVariants as losses
-use Rattle.vault_lanes.specs.declared.reason.ConnectReason.{ConnectReason}
-use Rattle.vault_lanes.specs.declared.stage.RequestStage.{RequestStage}
-use Rattle.vault_lanes.specs.declared.stage.RequestStage.TheVariants.{Connecting, Sending, Silent, Coming}
 
 pub fails_none : (x : Option ℕ) → FailsMore 0 x x
 fails_none None = tt
@@ -58,12 +51,6 @@ waits_as result a now stage old r why x y is h = subst (λ s. FailsAs old r why 
     by_test true = h
     by_test false = h
 
-pub waits_lost : (loss : Loss) (a : Allowance) (now : ℕ) (stage : RequestStage) (old : List ℕ) (r : Option (List ℕ)) (why : ConnectReason) (x y : Option ℕ) → Err loss ≡ waits a now stage → FailsMore 0 x y → FailsAs old r why (Some (Err loss)) x y
-waits_lost loss a now stage old r why x y is h = waits_as (Err loss) a now stage old r why x y is h
-
-pub failed_lost : (loss : Loss) (stage : RequestStage) (old : List ℕ) (r : Option (List ℕ)) (why : ConnectReason) (x y : Option ℕ) → loss ≡ failed why stage → FailsMore 1 x y → FailsAs old r why (Some (Err loss)) x y
-failed_lost loss stage old r why x y is h = subst (λ l. FailsAs old r why (Some (Err l)) x y) (sym is) (failed_as stage old r why x y h)
-
 pub kept_all : {E : Type 0} (result : Result (Option Answer) E) (old mid : List ℕ) (r s : Option (List ℕ)) (why : ConnectReason) (x y z : Option ℕ) → mid ≡ old → Keeps r s → FailsMore 0 x y → IfOk result (λ a. FailsAs mid s why a y z)
     → IfOk result (λ a. FailsAs old r why a x z)
 kept_all (Ok a) old mid r s why x y z same keeps kept h = kept_as a old mid r s why x y z same keeps kept h
@@ -78,18 +65,3 @@ counted_as a now stage new (Err losses.Closed) old r why x y counted h cut = inr
 counted_as a now stage new (Err _) old r why x y counted h cut = h
 
 -- ---- whether it failed while a text was written
-
--- all of the text was taken
-pub sent_whole : (b : Bool) (taken : ℕ) (text left : List ℕ) (x y : Option ℕ) → FailsMore (if b then 1 else 0) x y → (IsTrue b → taken < length text) → left ≡ drop taken text → length left ≡ 0 → FailsMore 0 x y
-sent_whole false taken text left x y h short is none = h
-sent_whole true taken text left x y h short is none =
-    let more : taken < length text = short refl in
-    let long : length left ≡ length text - taken = ap length is ∙ length-drop taken text in
-    absurd (omega arith)
-
-pub failed_if : (b : Bool) (stage : RequestStage) (old : List ℕ) (r : Option (List ℕ)) (why : ConnectReason) (x y : Option ℕ) → b ≡ true → FailsMore (if b then 1 else 0) x y → FailsAs old r why (Some (Err (failed why stage))) x y
-failed_if true stage old r why x y is h = failed_as stage old r why x y h
-failed_if false stage old r why x y is h = absurd (false≢true is)
-
-pub unfailed_if : (b : Bool) (x y : Option ℕ) → b ≡ false → FailsMore (if b then 1 else 0) x y → FailsMore 0 x y
-unfailed_if b x y is h = subst (λ c. FailsMore (if c then 1 else 0) x y) is h

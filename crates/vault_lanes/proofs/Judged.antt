@@ -1,13 +1,10 @@
 -- What was not judged yet is judged before more is read: for `read_on`.
 use Rattle.std.proofs.Common.{◌≡◌, ℕ, ◌⊎◌, inl, inr, IsTrue, ap, subst, ◌∙◌}
-use Rattle.vault_lanes.specs.Lanes.{AreWaitedFor}
-use Rattle.vault_lanes.specs.code.Courses.{came_by, is_unjudged}
-use Rattle.vault_lanes.specs.declared.lane.Course.{Course}
+use Rattle.vault_lanes.specs.{Lanes.AreWaitedFor, code.Courses.came_by, code.Courses.is_unjudged, declared.lane.Course.Course}
 
 -- nothing was read or judged yet
 pub record IsStill {L : Type 0} (counter : ℕ) (was line : L) (old course : Course) : Type 0 where
   pub none : counter ≡ 0
-  pub uncalled : line ≡ was
   pub same : came_by course ≡ came_by old
   pub ended : course.has_ended ≡ old.has_ended
   pub unjudged : IsTrue (is_unjudged course)

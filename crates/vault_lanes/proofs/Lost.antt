@@ -1,19 +1,11 @@
 -- Why a request is lost at a stage: for `Lane` and `Course`.
 use Rattle.std.proofs.Common.{◌≡◌, ℕ, ◌+◌, ◌^◌, ◌<◌, ◌≤◌, arith, inr, List, [], ◌++◌, Bool, refl, sym, subst, ◌∙◌, Result, Ok, Err, None, Some}
-use Rattle.vault_lanes.specs.Allowed.{most_reads}
+use Rattle.vault_lanes.specs.{Allowed.most_reads, Losses.Answer, Stages.reads_with, declared.allowance.Allowance.Allowance, declared.stage.RequestStage.RequestStage}
 use Rattle.vault_lanes.specs.Lanes.{IsCounted, IsToldBy, NothingFollowsEnd, ReplyIsRead, RequestIsSettled}
-use Rattle.vault_lanes.specs.Losses.{Answer}
-use Rattle.vault_lanes.specs.Stages.{reads_with}
-use Rattle.vault_lanes.specs.declared.allowance.Allowance.{Allowance}
-use Rattle.vault_lanes.specs.declared.loss.Loss.TheVariants as losses
-use Rattle.vault_lanes.specs.declared.stage.RequestStage.{RequestStage}
 use Rattle.vault_lanes.specs.declared.stage.RequestStage.TheVariants.{Coming, Connecting}
-use Rattle.vault_http.specs.Dates.{IsDatedReply}
-use Rattle.vault_http.specs.Messages.{UnlessMemory}
-use Rattle.vault_http.specs.declared.dated_reply.DatedReply.{DatedReply}
-use Rattle.vault_http.specs.declared.http_fault.HttpFault.{HttpFault}
+use Rattle.vault_lanes.specs.declared.loss.Loss.TheVariants as losses
+use Rattle.vault_http.specs.{Dates.IsDatedReply, Messages.UnlessMemory, declared.dated_reply.DatedReply.DatedReply, declared.http_fault.HttpFault.HttpFault, declared.known.TheConstants.MOST_MESSAGE}
 use Rattle.vault_http.specs.declared.http_fault.HttpFault.TheVariants as https
-use Rattle.vault_http.specs.declared.known.TheConstants.{MOST_MESSAGE}
 
 -- what settles the answer, whatever follows, tells it
 module _ (came : List ℕ) (ended : Bool) where

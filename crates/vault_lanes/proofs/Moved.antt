@@ -1,19 +1,13 @@
 -- Each of those that are out goes on for itself: for `go_on` of them all.
-use Rattle.std.proofs.Common.{◌≡◌, ℕ, zero, suc, vec_capacity, ◌<◌, ◌+◌, Some, IfSome, List, [], ◌∷◌, ◌++◌, filter, length, take, drop, get_or, set, Option, None, Result, Ok, Err, IfOk, OnErr, OnOk, ◌≤◌, ◌⊎◌, inl, inr, take-append-drop, refl, sym, subst, ap, ◌∙◌, arith}
+use Rattle.std.proofs.Common.{◌≡◌, ℕ, zero, suc, vec_capacity, ◌<◌, ◌+◌, Some, List, [], ◌∷◌, ◌++◌, filter, length, take, drop, get_or, set, Option, None, Result, Ok, Err, IfOk, OnErr, OnOk, ◌≤◌, ◌⊎◌, inl, inr, take-append-drop, refl, sym, subst, ap, ◌∙◌, arith}
 use Rattle.std.proofs.lemmas.Grind.{drop_more_same}
 use Rattle.std.proofs.lemmas.List.{drop-set-lt, drop_more, length-take-le, set_at, take_more_set}
 use Rattle.std.proofs.Math.Seq.{take-add}
-use Rattle.vault_lanes.specs.declared.reason.ConnectReason.{ConnectReason}
-use Rattle.vault_lanes.specs.Losses.{Answer}
-use Rattle.vault_lanes.specs.Out as outs_of
+use Rattle.vault_lanes.specs.{declared.reason.ConnectReason.ConnectReason, Losses.Answer, declared.allowance.Allowance.Allowance, declared.lane.Lane.Lane, declared.lanes.Answered.Answered, declared.seats.Seat.Seat, declared.way.Way.Way}
 use Rattle.vault_lanes.specs.Seats.{AreTakenOut, answers_of, out_of_seat, outs}
 use Rattle.vault_lanes.specs.code.Ways.{DeadlineIsAhead, GoOnUpTo, HasBegun, HasUnjudged, LaneGoesOn, LaneIsFresh, LaneWants, Move, WayHasRoom, WayHolds, WayMoves, WaysGoOn, WayWants, answer_of_way, is_way_over}
-use Rattle.vault_lanes.specs.declared.allowance.Allowance.{Allowance}
-use Rattle.vault_lanes.specs.declared.lane.Lane.{Lane}
-use Rattle.vault_lanes.specs.declared.lanes.Answered.{Answered}
-use Rattle.vault_lanes.specs.declared.seats.Seat.{Seat}
-use Rattle.vault_lanes.specs.declared.way.Way.{Way}
 use Rattle.vault_lanes.specs.declared.way.Way.TheVariants.{Out, Over}
+use Rattle.vault_lanes.specs.Out as outs_of
 
 -- what holds anyway holds where it is refused
 pub on_refused : {X E A : Type 0} (r : Result X E) → A → OnErr r A

@@ -1,7 +1,7 @@
 -- One more of those that are out is handed back, or stays: for `take_out`.
 use Rattle.std.proofs.Common.{◌++◌, inl, inr, List, [], ◌∷◌, refl, ap}
-use Rattle.vault_lanes.specs.Out.{IsAnswerTo, IsParted, Out}
 use Rattle.vault_lanes.specs.declared.lanes.Answered.{Answered}
+use Rattle.vault_lanes.specs.Out.{IsAnswerTo, IsParted, Out}
 
 pub parted_there : (os : List Out) (o : Out) (as' : List Answered) (a : Answered) (ls : List Out) → IsParted os as' ls → IsAnswerTo o a → IsParted (os ++ o ∷ []) (as' ++ a ∷ []) ls
 parted_there [] o as' a ls (none, left) is = inl (a, [], (ap (λ xs. xs ++ a ∷ []) none, (is, (refl, left))))

@@ -2,10 +2,8 @@
 use Rattle.std.proofs.Common.{◌≡◌, ◌∙◌, ◌==◌, ℕ, ◌+◌, ◌<◌, ◌≤◌, ◌++◌, true, false, List, [], ◌∷◌, Option, drop, get_or, length, map, set, take, refl, sym, ap, ap₂, arith}
 use Rattle.std.proofs.lemmas.Bool.{cond-false, cond-true}
 use Rattle.std.proofs.lemmas.List.{append-nil, append_assoc, drop_all, drop_more, get_or_at, length-map, length-take, map-append, set_at, take_all, take_more}
-use Rattle.vault_lanes.specs.Out.{index_in, renamed}
+use Rattle.vault_lanes.specs.{Out.index_in, Out.renamed, declared.coming.Coming.Coming, declared.seats.Seat.Seat}
 use Rattle.vault_lanes.specs.Seats.{out_of_seat, outs, under}
-use Rattle.vault_lanes.specs.declared.coming.Coming.{Coming}
-use Rattle.vault_lanes.specs.declared.seats.Seat.{Seat}
 
 -- the first of two lists are not those of this index, or are
 pub in_rest : (k j : ℕ) (ks js : List ℕ) (index : ℕ) → (k == index) ≡ false → index_in (k ∷ ks) (j ∷ js) index ≡ index_in ks js index

@@ -1,11 +1,8 @@
 -- One more among those that are out: for `place_for` and `put`.
 use Rattle.std.proofs.Common.{◌≡◌, ℕ, ◌≤◌, ◌++◌, List, [], ◌∷◌, take, drop, sym, ap, ◌∙◌, All, Option, take-append-drop}
-use Rattle.std.proofs.lemmas.List.{map-append}
-use Rattle.std.proofs.lemmas.List.Elements.{All-map}
+use Rattle.std.proofs.lemmas.{List.map-append, List.Elements.All-map}
+use Rattle.vault_lanes.specs.{Seats.out_of_seat, Seats.outs, declared.coming.Coming.Coming, declared.seats.Seat.Seat}
 use Rattle.vault_lanes.specs.Out.{IsBelow, Out, OutIsPut}
-use Rattle.vault_lanes.specs.Seats.{out_of_seat, outs}
-use Rattle.vault_lanes.specs.declared.coming.Coming.{Coming}
-use Rattle.vault_lanes.specs.declared.seats.Seat.{Seat}
 
 module _ {T : Type 0} where
   -- the indices are the same whatever is known of what comes

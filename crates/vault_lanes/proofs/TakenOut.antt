@@ -1,14 +1,10 @@
 -- Those that are there are taken out one after another: for `take_out`.
 use Rattle.std.proofs.Common.{◌≡◌, ℕ, ◌<◌, ◌≤◌, ◌+◌, ◌++◌, suc, zero, Bool, true, false, not, cond, List, [], ◌∷◌, filter, length, map, take, drop, get_or, refl, sym, subst, ap, ◌∙◌, Option, take-append-drop, append-nil, append_assoc, add-one, arith, Some, IfSome}
-use Rattle.vault_lanes.specs.Losses.{Answer}
-use Rattle.std.proofs.lemmas.List.{length-take-le, drop_all, drop_at, drop_more, map-append, take_at}
-use Rattle.std.proofs.lemmas.List.Elements.{filter-append}
-use Rattle.std.proofs.Math.Seq.{take-add}
-use Rattle.vault_lanes.specs.Out.{IsAnswerTo, IsParted}
+use Rattle.vault_lanes.specs.{Losses.Answer, Out.IsAnswerTo, Out.IsParted, declared.coming.Coming.Coming, declared.lanes.Answered.Answered, declared.seats.Seat.Seat}
 use Rattle.vault_lanes.specs.Seats.{AreTakenOut, answer_at, answers_of, out_of_seat, outs}
-use Rattle.vault_lanes.specs.declared.coming.Coming.{Coming}
-use Rattle.vault_lanes.specs.declared.lanes.Answered.{Answered}
-use Rattle.vault_lanes.specs.declared.seats.Seat.{Seat}
+use Rattle.std.proofs.lemmas.List.Elements.{filter-append}
+use Rattle.std.proofs.lemmas.List.{length-take-le, drop_all, drop_at, drop_more, map-append, take_at}
+use Rattle.std.proofs.Math.Seq.{take-add}
 use Rattle.vault_lanes.proofs.Parted.{parted_left, parted_there}
 
 drop_drop : {X : Type 0} (j : ℕ) (ys : List X) → drop 1 (drop j ys) ≡ drop (suc j) ys

@@ -1,8 +1,7 @@
 -- How long a request may take, in milliseconds.
 -- Source: this project's own.
 use Rattle.std.specs.Prelude.{ℕ, ◌+◌, ◌*◌, ◌-◌, ◌^◌, min, nat_lt, if◌then◌else◌}
-use Rattle.vault_lanes.specs.declared.allowance.Allowance.{Allowance}
-use Rattle.vault_lanes.specs.declared.stage.RequestStage.{RequestStage}
+use Rattle.vault_lanes.specs.{declared.allowance.Allowance.Allowance, declared.stage.RequestStage.RequestStage}
 use Rattle.vault_lanes.specs.declared.stage.RequestStage.TheVariants.{Connecting, Sending, Silent, Coming}
 
 -- so many milliseconds after a moment; no moment is later than the greatest u64

@@ -3,13 +3,9 @@
 use Rattle.std.specs.Prelude.{◌≡◌, ℕ, ◌+◌, ◌⊎◌, List, ◌++◌, Option, Some, None, IfSome, Result, Ok, Err}
 use Rattle.base_device.specs.declared.tried.Tried.{Tried}
 use Rattle.base_device.specs.declared.tried.Tried.TheVariants.{Done, Waits, Failed}
-use Rattle.vault_lanes.specs.Losses.{Answer, loss_of}
-use Rattle.vault_lanes.specs.declared.loss.Loss.{Loss}
+use Rattle.vault_lanes.specs.{Losses.Answer, Losses.loss_of, declared.loss.Loss.Loss, declared.reason.ConnectReason.ConnectReason}
 use Rattle.vault_lanes.specs.declared.loss.Loss.TheVariants as losses
-use Rattle.vault_lanes.specs.declared.reason.ConnectReason.{ConnectReason}
-use Rattle.vault_http.specs.Dates.{IsDatedReply}
-use Rattle.vault_http.specs.declared.http_fault.HttpFault.{HttpFault}
-use Rattle.vault_http.specs.declared.known.TheConstants.{MOST_MESSAGE}
+use Rattle.vault_http.specs.{Dates.IsDatedReply, declared.http_fault.HttpFault.HttpFault, declared.known.TheConstants.MOST_MESSAGE}
 
 -- it has failed so often more, where that is known
 abbrev pub FailsMore : ℕ → Option ℕ → Option ℕ → Type 0

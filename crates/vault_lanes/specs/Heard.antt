@@ -5,10 +5,8 @@ use Rattle.vault_exchange.specs.Heard as exchanged
 use Rattle.vault_exchange.specs.declared.heard.Heard as exchange
 use Rattle.vault_exchange.specs.declared.heard.Heard.TheVariants as heard
 use Rattle.vault_exchange.specs.declared.heard.ToldTerms.{ToldTerms}
-use Rattle.vault_lanes.specs.Losses.{Answer, lost_by}
-use Rattle.vault_lanes.specs.declared.heard.HeardAnswer.{HeardAnswer}
+use Rattle.vault_lanes.specs.{Losses.Answer, Losses.lost_by, declared.heard.HeardAnswer.HeardAnswer, declared.loss.Loss.Loss}
 use Rattle.vault_lanes.specs.declared.heard.HeardAnswer.TheVariants.{Told, Refused, Busy, Lost}
-use Rattle.vault_lanes.specs.declared.loss.Loss.{Loss}
 use Rattle.plan_forest.specs.declared.entry.Kind.{Kind}
 use Rattle.vault_json.specs.declared.renewed.Renewed.{Renewed}
 

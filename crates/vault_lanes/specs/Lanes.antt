@@ -3,20 +3,11 @@
 use Rattle.std.specs.Prelude.{◌≡◌, ℕ, ◌<◌, ◌≤◌, ◌⊎◌, Bool, true, false, IsTrue, List, [], ◌++◌, Option, Some, None, IfSome, Result, Ok, Err}
 use Rattle.std.specs.Io.KnownBytes.{Appends, Consumes}
 use Rattle.httparse.specs.Grammar.{HasNoResponse}
-use Rattle.vault_lanes.specs.Allowed.{deadline, most_reads}
-use Rattle.vault_lanes.specs.Losses.{Answer, loss_of}
-use Rattle.vault_lanes.specs.Stages.{reads_with}
-use Rattle.vault_lanes.specs.declared.allowance.Allowance.{Allowance}
-use Rattle.vault_lanes.specs.declared.loss.Loss.{Loss}
-use Rattle.vault_lanes.specs.declared.loss.Loss.TheVariants as losses
-use Rattle.vault_lanes.specs.declared.stage.RequestStage.{RequestStage}
+use Rattle.vault_lanes.specs.{Allowed.deadline, Allowed.most_reads, Losses.Answer, Losses.loss_of, Stages.reads_with, declared.allowance.Allowance.Allowance, declared.loss.Loss.Loss, declared.stage.RequestStage.RequestStage}
 use Rattle.vault_lanes.specs.declared.stage.RequestStage.TheVariants.{Connecting, Coming}
-use Rattle.vault_http.specs.Dates.{IsDatedReply}
-use Rattle.vault_http.specs.Holding.{IsWaitedFor}
-use Rattle.vault_http.specs.declared.dated_reply.DatedReply.{DatedReply}
-use Rattle.vault_http.specs.declared.http_fault.HttpFault.{HttpFault}
+use Rattle.vault_lanes.specs.declared.loss.Loss.TheVariants as losses
+use Rattle.vault_http.specs.{Dates.IsDatedReply, Holding.IsWaitedFor, declared.dated_reply.DatedReply.DatedReply, declared.http_fault.HttpFault.HttpFault, declared.known.TheConstants.MOST_MESSAGE}
 use Rattle.vault_http.specs.declared.http_fault.HttpFault.TheVariants as https
-use Rattle.vault_http.specs.declared.known.TheConstants.{MOST_MESSAGE}
 
 -- a front of what was still to be sent is written, and the rest is still to be sent
 pub record FrontIsWritten (unsent left : List ℕ) (before now : Option (List ℕ)) : Type 0 where

@@ -3,8 +3,7 @@
 use Rattle.std.specs.Prelude.{ℕ, ◌==◌, Result, if◌then◌else◌}
 use Rattle.vault_lanes.specs.declared.loss.Loss.{Loss}
 use Rattle.vault_lanes.specs.declared.loss.Loss.TheVariants.{Closed, Reply, Status}
-use Rattle.vault_http.specs.declared.dated_reply.DatedReply.{DatedReply}
-use Rattle.vault_http.specs.declared.http_fault.HttpFault.{HttpFault}
+use Rattle.vault_http.specs.{declared.dated_reply.DatedReply.DatedReply, declared.http_fault.HttpFault.HttpFault}
 use Rattle.vault_http.specs.declared.http_fault.HttpFault.TheVariants as https
 
 -- what came of one request: a reply with its date, or why there is none

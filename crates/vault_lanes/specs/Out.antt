@@ -3,8 +3,7 @@
 use Rattle.std.specs.Prelude.{◌≡◌, ◌==◌, ℕ, ◌^◌, ◌≤◌, ◌<◌, ◌⊎◌, All, List, [], ◌∷◌, ◌++◌, Bool, false, not, nat_le, map, Option, Some, None, IfSome, if◌then◌else◌}
 use Rattle.std.specs.List.{filter}
 use Rattle.base_device.specs.Moments.{earlier}
-use Rattle.vault_lanes.specs.declared.coming.Coming.{Coming}
-use Rattle.vault_lanes.specs.declared.lanes.Answered.{Answered}
+use Rattle.vault_lanes.specs.{declared.coming.Coming.Coming, declared.lanes.Answered.Answered}
 
 -- a request that is out: the index that it is for, and where it is known what comes of it
 pub record Out : Type 0 where

@@ -1,10 +1,6 @@
 -- Those that are out, as the code has them.
 use Rattle.std.specs.Prelude.{◌≡◌, ℕ, List, [], ◌∷◌, ◌++◌, Bool, Option, None, Some, IfSome, filter, map, not}
-use Rattle.vault_lanes.specs.Losses.{Answer}
-use Rattle.vault_lanes.specs.Out.{Out, index_in}
-use Rattle.vault_lanes.specs.declared.coming.Coming.{Coming}
-use Rattle.vault_lanes.specs.declared.lanes.Answered.{Answered}
-use Rattle.vault_lanes.specs.declared.seats.Seat.{Seat}
+use Rattle.vault_lanes.specs.{Losses.Answer, Out.Out, Out.index_in, declared.coming.Coming.Coming, declared.lanes.Answered.Answered, declared.seats.Seat.Seat}
 
 abbrev pub out_of_seat : {T : Type 0} → (T → Option Coming) → Seat T → Out
 out_of_seat comes seat = record { index = seat.index; comes = comes seat.standing }

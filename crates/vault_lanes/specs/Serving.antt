@@ -2,25 +2,16 @@
 -- Source: this project's own; the Broker step is that of one request.
 use Rattle.std.specs.Prelude.{◌≡◌, ℕ, ◌+◌, ◌*◌, ◌-◌, ◌^◌, ◌==◌, ◌⊎◌, List, [], Option, Some, None, Result, Ok, Err, min, nat_lt, option_map, if◌then◌else◌}
 use Rattle.std.specs.List.{find}
-use Rattle.vault_exchange.specs.Exchanges.{received}
-use Rattle.vault_exchange.specs.declared.fault.ExchangeFault.{ExchangeFault}
+use Rattle.vault_exchange.specs.{Exchanges.received, declared.fault.ExchangeFault.ExchangeFault}
 use Rattle.vault_exchange.specs.declared.fault.ExchangeFault.TheVariants as exchange
-use Rattle.vault_lanes.specs.Allowed.{first_by, millis_after}
-use Rattle.vault_lanes.specs.Losses.{Answer, loss_of}
-use Rattle.vault_lanes.specs.Out.{Out, OutIsPut}
-use Rattle.vault_lanes.specs.declared.coming.Coming.{Coming}
-use Rattle.vault_lanes.specs.declared.allowance.Allowance.{Allowance}
-use Rattle.vault_lanes.specs.declared.fault.LaneFault.{LaneFault}
+use Rattle.vault_lanes.specs.{Allowed.first_by, Allowed.millis_after, Losses.Answer, Losses.loss_of, Out.Out, Out.OutIsPut, declared.coming.Coming.Coming, declared.allowance.Allowance.Allowance, declared.fault.LaneFault.LaneFault}
+use Rattle.vault_lanes.specs.{declared.fault.NumberedLaneFault.NumberedLaneFault, declared.lanes.Ask.Ask}
 use Rattle.vault_lanes.specs.declared.fault.LaneFault.TheVariants.{Refuse, Lose, Hang, Late, Garble, Status}
-use Rattle.vault_lanes.specs.declared.fault.NumberedLaneFault.{NumberedLaneFault}
-use Rattle.vault_lanes.specs.declared.lanes.Ask.{Ask}
 use Rattle.vault_lanes.specs.declared.loss.Loss.TheVariants as losses
 use Rattle.vault_lanes.specs.declared.reason.ConnectReason.TheVariants as reasons
-use Rattle.broker_rule.specs.declared.served.Served.{Served}
+use Rattle.broker_rule.specs.{declared.served.Served.Served, Table.BrokerTable}
 use Rattle.broker_rule.specs.Step.{SaysAnswer, after_sweep, broker_step}
-use Rattle.broker_rule.specs.Table.{BrokerTable}
-use Rattle.vault_http.specs.declared.reply.Reply.{Reply}
-use Rattle.vault_http.specs.declared.request.Request.{Request}
+use Rattle.vault_http.specs.{declared.reply.Reply.Reply, declared.request.Request.Request}
 
 -- what stands behind lanes in memory: the table, the faults of the requests by number, and how many were sent
 pub record BehindLanes : Type 0 where

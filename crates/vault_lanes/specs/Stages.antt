@@ -1,12 +1,8 @@
 -- How far a request has come, and what a try at its connection makes of it.
 -- Source: this project's own.
 use Rattle.std.specs.Prelude.{ℕ, suc, zero, ◌+◌, ◌-◌, ◌^◌, min, nat_lt, Result, Ok, Err, if◌then◌else◌}
-use Rattle.vault_lanes.specs.Allowed.{deadline, most_reads}
-use Rattle.vault_lanes.specs.declared.allowance.Allowance.{Allowance}
-use Rattle.vault_lanes.specs.declared.loss.Loss.{Loss}
+use Rattle.vault_lanes.specs.{Allowed.deadline, Allowed.most_reads, declared.allowance.Allowance.Allowance, declared.loss.Loss.Loss, declared.reason.ConnectReason.ConnectReason, declared.stage.RequestStage.RequestStage}
 use Rattle.vault_lanes.specs.declared.loss.Loss.TheVariants.{Connect, Timeout, Closed}
-use Rattle.vault_lanes.specs.declared.reason.ConnectReason.{ConnectReason}
-use Rattle.vault_lanes.specs.declared.stage.RequestStage.{RequestStage}
 use Rattle.vault_lanes.specs.declared.stage.RequestStage.TheVariants.{Connecting, Sending, Silent, Coming}
 
 -- so many bytes of the request were taken, and so many are left

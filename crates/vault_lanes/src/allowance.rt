@@ -59,7 +59,8 @@ impl Allowance {
         ensures { result ≡ deadline self.now stage }
     {
         match stage {
-            RequestStage::Connecting | RequestStage::Sending | RequestStage::Silent => self.first_by(),
+            RequestStage::Connecting | RequestStage::Sending | RequestStage::Silent =>
+                self.first_by(),
             RequestStage::Coming { reads: _, since } => {
                 since.saturating_add(QUARTER).min(self.whole_by())
             }

@@ -1,6 +1,6 @@
 //! What the answers come to, for who keeps a watch.
 ghost use Rattle.std.specs.Prelude.{◌≡◌, IfOk};
-ghost use Rattle.vault_lanes.specs.HeardAnswer.{heard_with, looked_up_by_answer, renewed_by_answer};
+ghost use Rattle.vault_lanes.specs.Heard.{heard_with, looked_up_by_answer, renewed_by_answer};
 
 use crate::loss::{Loss, lost_by};
 use base_moment::Moment;

@@ -45,7 +45,8 @@ impl RequestStage {
         ensures further { result ≡ Connecting → ⊥ }
     {
         match self {
-            RequestStage::Connecting | RequestStage::Sending | RequestStage::Silent => RequestStage::Silent,
+            RequestStage::Connecting | RequestStage::Sending | RequestStage::Silent =>
+                RequestStage::Silent,
             RequestStage::Coming { reads, since } => RequestStage::Coming { reads, since },
         }
     }
@@ -82,7 +83,8 @@ impl RequestStage {
     {
         match self {
             RequestStage::Connecting => Loss::Connect(reason),
-            RequestStage::Sending | RequestStage::Silent | RequestStage::Coming { .. } => Loss::Closed,
+            RequestStage::Sending | RequestStage::Silent | RequestStage::Coming { .. } =>
+                Loss::Closed,
         }
     }
 }

@@ -1,19 +1,14 @@
 -- Alike: of two texts that differ in credentials alone, and whose lines begin the same, the same is said of the same fault.
 use Rattle.std.proofs.Common.{◌≡◌, ◌∙◌, ℕ, zero, suc, ◌-◌, List, ◌++◌, Option, Some, None, ap, codes, if◌then◌else◌, nat_lt, option_map, refl, subst, sym}
 use Rattle.toml.specs.Data.{Data, string, integer, float, boolean, datetime, array, table, Items, no_items, item, Members, get_item, get_member}
+use Rattle.vault_inventory.specs.{Inventory.document_tree, Keys.key_text, Written.count_of, declared.fault.InvFault.InvFault}
 use Rattle.vault_inventory.specs.Bare.{DocumentsAreAlike, bare_items, bare_members, bare_value, is_secret_key}
-use Rattle.vault_inventory.specs.Inventory.{document_tree}
-use Rattle.vault_inventory.specs.Keys.{key_text}
-use Rattle.vault_inventory.specs.Written.{count_of}
-use Rattle.vault_inventory.specs.declared.fault.InvFault.{InvFault}
-use Rattle.vault_inventory.specs.declared.fault.InvFault.TheVariants as faults
 use Rattle.vault_inventory.specs.declared.key.Key.TheVariants.{Name, Token, Lease}
+use Rattle.vault_inventory.specs.declared.fault.InvFault.TheVariants as faults
 use Rattle.vault_inventory.proofs.Barely.{bare_found}
+use Rattle.vault_lint.specs.{Marks.marks_of, Places.heads_of, declared.mark.Mark.Mark}
 use Rattle.vault_lint.specs.FaultNames.{called, called_at, called_if, called_in, items_in, name_in, tables_at, text_in}
 use Rattle.vault_lint.specs.FaultWords.{IsLineOf, IsSaidOf, fault_key, fault_mend, fault_problem, fault_words, line_words, said_words}
-use Rattle.vault_lint.specs.Marks.{marks_of}
-use Rattle.vault_lint.specs.Places.{heads_of}
-use Rattle.vault_lint.specs.declared.mark.Mark.{Mark}
 
 -- ---- names
 

@@ -1,11 +1,9 @@
 -- FirstLimit: the first limit of an entry and of those over it is its own, else the first of its parent and of those over that.
 use Rattle.std.proofs.Common.{◌≡◌, ◌∙◌, ℕ, List, [], ◌∷◌, Option, Some, None, ap, map}
 use Rattle.plan_forest.proofs.Chains.{ParentsFirst, chain_child, chain_root}
-use Rattle.plan_forest.specs.Forest.{entry_at}
-use Rattle.plan_forest.specs.Over.{chain, chain_of}
+use Rattle.plan_forest.specs.{Forest.entry_at, Over.chain, Over.chain_of}
+use Rattle.vault_lint.specs.{declared.subject.Subject.Subject, declared.what.EntryDoubt.EntryDoubt}
 use Rattle.vault_lint.specs.Limits.{first_of, limit_at, limit_in}
-use Rattle.vault_lint.specs.declared.subject.Subject.{Subject}
-use Rattle.vault_lint.specs.declared.what.EntryDoubt.{EntryDoubt}
 
 pub limit_own : (s : Subject) (need i : ℕ) (what : EntryDoubt) → limit_at s need i ≡ Some what → limit_in s need i ≡ Some what
 unfolding limit_in chain chain_of

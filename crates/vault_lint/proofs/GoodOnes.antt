@@ -2,10 +2,7 @@
 use Rattle.std.proofs.Common.{◌≡◌, ◌∙◌, ℕ, List, Ok, Result, ap, length, sym}
 use Rattle.std.proofs.lemmas.List.FromFn.{length-map-range_with_len}
 use Rattle.vault_inventory.specs.Answers.{◌>>=◌}
-use Rattle.vault_inventory.specs.Inventories.{Inventory}
-use Rattle.vault_inventory.specs.Inventory.{read_served}
-use Rattle.vault_inventory.specs.Served.{Served}
-use Rattle.vault_inventory.specs.declared.fault.InvFault.{InvFault}
+use Rattle.vault_inventory.specs.{Inventories.Inventory, Inventory.read_served, Served.Served, declared.fault.InvFault.InvFault}
 use Rattle.vault_served.specs.ForGood.{inventory_for_good, inventory_with_needs, served_for_good}
 
 pub good_of : (bytes : List ℕ) (v : Served) (good : Inventory) → read_served bytes ≡ Ok v → inventory_for_good bytes ≡ Ok good → good ≡ served_for_good v

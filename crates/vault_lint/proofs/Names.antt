@@ -1,10 +1,8 @@
 -- Names: the tables of a document, and what is found of them. For `fault_names`.
 use Rattle.std.proofs.Common.{◌≡◌, ◌∙◌, Bor, ℕ, suc, List, [], ◌∷◌, Option, Some, None, ap, length, option_map, refl}
 use Rattle.std.specs.Slice.{IsItemAt}
-use Rattle.toml.specs.Data.{get_item}
-use Rattle.toml.specs.View.{items_view, view}
+use Rattle.toml.specs.{Data.get_item, View.items_view, View.view, declared.value.Value.Value}
 use Rattle.toml.proofs.Views.{get_item_past, get_item_within}
-use Rattle.toml.specs.declared.value.Value.{Value}
 use Rattle.vault_inventory.specs.Written.{count_of}
 
 pub counted : (vs : List Value) → length vs ≡ count_of (items_view vs)

@@ -1,12 +1,8 @@
 -- Said: what is said of a fault, from what its finding has. For `words_of_fault`.
 use Rattle.std.proofs.Common.{◌≡◌, ◌∙◌, ℕ, List, ◌++◌, ap, inl, inr, refl, string_bytes, subst}
 use Rattle.vault_inventory.specs.declared.fault.InvFault.{InvFault}
-use Rattle.vault_lint.specs.FaultPlaces.{IsSomeLine, line_at}
+use Rattle.vault_lint.specs.{FaultPlaces.IsSomeLine, FaultPlaces.line_at, Marks.marks_of, Places.heads_of, declared.finding.Finding.Finding, declared.mark.Mark.Mark}
 use Rattle.vault_lint.specs.FaultWords.{IsLineOf, IsSaidOf, fault_entry, fault_key, fault_mend, fault_problem, fault_words, finding_words, line_words, said_words}
-use Rattle.vault_lint.specs.Marks.{marks_of}
-use Rattle.vault_lint.specs.Places.{heads_of}
-use Rattle.vault_lint.specs.declared.finding.Finding.{Finding}
-use Rattle.vault_lint.specs.declared.mark.Mark.{Mark}
 
 words_of : (bytes : List ℕ) (found : List Mark) (heads : List ℕ) (fault : InvFault) (f : Finding) → string_bytes f.entry ≡ fault_entry bytes fault → f.key.now ≡ fault_key found heads fault → string_bytes f.problem ≡ fault_problem bytes fault
     → string_bytes f.mend ≡ fault_mend bytes found heads fault → finding_words f ≡ fault_words bytes found heads fault

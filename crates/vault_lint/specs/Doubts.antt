@@ -2,15 +2,10 @@
 -- Source: this project's own; docs/commands/lint.md.
 use Rattle.std.specs.Prelude.{ℕ, zero, suc, ◌+◌, ◌*◌, ◌/◌, ◌==◌, ◌&&◌, ◌||◌, Bool, false, not, nat_lt, if◌then◌else◌, List, [], ◌∷◌, ◌++◌, Option, Some, None, length}
 use Rattle.plan_needs.specs.Carried.{load_at}
-use Rattle.plan_forest.specs.Forest.{entry_at}
-use Rattle.plan_forest.specs.declared.entry.Entry.{Entry}
-use Rattle.vault_lint.specs.EntryDoubts.{entry_list}
-use Rattle.vault_lint.specs.declared.subject.Subject.{Subject}
-use Rattle.vault_lint.specs.declared.what.Doubt.{Doubt}
-use Rattle.vault_lint.specs.declared.what.Doubt.TheVariants as variants
-use Rattle.vault_lint.specs.declared.what.EntryDoubt.{EntryDoubt}
-use Rattle.vault_lint.specs.declared.what.Whole.{Whole}
+use Rattle.plan_forest.specs.{Forest.entry_at, declared.entry.Entry.Entry}
+use Rattle.vault_lint.specs.{EntryDoubts.entry_list, declared.subject.Subject.Subject, declared.what.Doubt.Doubt, declared.what.EntryDoubt.EntryDoubt, declared.what.Whole.Whole}
 use Rattle.vault_lint.specs.declared.what.Whole.TheVariants.{NoEntries, NoNeeds, AllPast}
+use Rattle.vault_lint.specs.declared.what.Doubt.TheVariants as variants
 
 -- ---- of all entries together
 

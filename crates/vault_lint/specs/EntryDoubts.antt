@@ -1,20 +1,14 @@
 -- EntryDoubts: what is doubted of one entry, each by itself.
 -- Source: this project's own; docs/commands/lint.md.
 use Rattle.std.specs.Prelude.{ℕ, ◌*◌, ◌%◌, ◌==◌, ◌&&◌, Bool, true, false, not, nat_le, nat_lt, if◌then◌else◌, List, [], ◌∷◌, Option, Some, None, unwrap_or}
-use Rattle.vault_inventory.specs.declared.key.Key.{Key}
+use Rattle.vault_inventory.specs.{declared.key.Key.Key, declared.terms.Terms.Terms, Inventories.terms_at}
 use Rattle.vault_inventory.specs.declared.key.Key.TheVariants.{Issued, End, Need, Increment, Period}
-use Rattle.vault_inventory.specs.declared.terms.Terms.{Terms}
 use Rattle.base_moment.specs.declared.moment.TheConstants.{LAST}
 use Rattle.plan_needs.specs.Carried.{load_at}
 use Rattle.plan_forest.specs.Forest.{entry_at}
-use Rattle.vault_inventory.specs.Inventories.{terms_at}
-use Rattle.vault_lint.specs.FaultPlaces.{has_key}
+use Rattle.vault_lint.specs.{FaultPlaces.has_key, Limits.is_told, Limits.limit, declared.subject.Subject.Subject, declared.what.EntryDoubt.EntryDoubt, declared.what.Whole.Whole}
 use Rattle.vault_lint.specs.Judging.{is_open, is_token_like, written_margin}
-use Rattle.vault_lint.specs.Limits.{is_told, limit}
-use Rattle.vault_lint.specs.declared.subject.Subject.{Subject}
-use Rattle.vault_lint.specs.declared.what.EntryDoubt.{EntryDoubt}
 use Rattle.vault_lint.specs.declared.what.EntryDoubt.TheVariants as doubts
-use Rattle.vault_lint.specs.declared.what.Whole.{Whole}
 use Rattle.vault_lint.specs.declared.what.Whole.TheVariants as wholes
 
 abbrev pub only_if : Bool → EntryDoubt → Option EntryDoubt

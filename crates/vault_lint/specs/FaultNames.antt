@@ -1,13 +1,9 @@
 -- FaultNames: what an entry of a text that is no inventory is called.
 -- Source: this project's own; docs/commands/lint.md.
 use Rattle.std.specs.Prelude.{ℕ, ◌+◌, ◌-◌, ◌==◌, ◌&&◌, Bool, not, nat_le, nat_lt, if◌then◌else◌, List, ◌++◌, Option, Some, None, Result, Ok, Err, codes, decimal, length}
-use Rattle.std.specs.Char.{is_ascii_graphic}
-use Rattle.std.specs.List.{list_all}
+use Rattle.std.specs.{Char.is_ascii_graphic, List.list_all}
 use Rattle.toml.specs.Data.{Data, array, string, table, Items, no_items, Members, get_item, get_member}
-use Rattle.vault_inventory.specs.Keys.{key_text}
-use Rattle.vault_inventory.specs.Written.{count_of}
-use Rattle.vault_inventory.specs.declared.fault.InvFault.{InvFault}
-use Rattle.vault_inventory.specs.declared.key.Key.{Key}
+use Rattle.vault_inventory.specs.{Keys.key_text, Written.count_of, declared.fault.InvFault.InvFault, declared.key.Key.Key}
 use Rattle.vault_inventory.specs.declared.key.Key.TheVariants.{Name, Token, Lease}
 use Rattle.vault_lint.specs.Judging.{is_token_like}
 

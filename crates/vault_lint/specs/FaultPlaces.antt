@@ -4,10 +4,8 @@
 use Rattle.std.specs.Prelude.{◌≡◌, ◌⊎◌, ℕ, ◌+◌, ◌-◌, ◌==◌, Bool, true, false, if◌then◌else◌, List, [], ◌∷◌, Option, Some, None, drop, filter, is_some, length, slice_get, take}
 use Rattle.vault_inventory.specs.declared.key.Key.{Key}
 use Rattle.plan_forest.specs.declared.entry.Kind.{Kind}
-use Rattle.vault_lint.specs.Places.{first_in}
-use Rattle.vault_lint.specs.declared.mark.Mark.{Mark}
+use Rattle.vault_lint.specs.{Places.first_in, declared.mark.Mark.Mark, declared.places.Sought.Sought}
 use Rattle.vault_lint.specs.declared.mark.Mark.TheVariants as marks
-use Rattle.vault_lint.specs.declared.places.Sought.{Sought}
 use Rattle.vault_lint.specs.declared.places.Sought.TheVariants as soughts
 
 -- a line that is counted from 0, where there is one; else another, counted from 1

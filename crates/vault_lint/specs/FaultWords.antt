@@ -3,22 +3,14 @@
 -- Source: this project's own; docs/commands/lint.md.
 use Rattle.std.specs.Prelude.{◌≡◌, ℕ, ◌==◌, ◌&&◌, ◌||◌, Bool, true, false, if◌then◌else◌, List, [], ◌∷◌, ◌++◌, Option, Some, None, codes, decimal, string_bytes}
 use Rattle.std.specs.Str.{is_utf8}
-use Rattle.vault_inventory.specs.Inventory.{document_tree}
-use Rattle.vault_inventory.specs.Keys.{key_text}
-use Rattle.vault_inventory.specs.declared.fault.InvFault.{InvFault}
+use Rattle.vault_inventory.specs.{Inventory.document_tree, Keys.key_text, declared.fault.InvFault.InvFault, declared.key.Key.Key}
 use Rattle.vault_inventory.specs.declared.fault.InvFault.TheVariants as faults
-use Rattle.vault_inventory.specs.declared.key.Key.{Key}
 use Rattle.vault_inventory.specs.declared.key.Key.TheVariants as keys
-use Rattle.plan_forest.specs.declared.entry.Kind.{Kind}
+use Rattle.plan_forest.specs.{declared.entry.Kind.Kind, declared.fault.TreeFault.TreeFault}
 use Rattle.plan_forest.specs.declared.entry.Kind.TheVariants as kinds
-use Rattle.plan_forest.specs.declared.fault.TreeFault.{TreeFault}
 use Rattle.plan_forest.specs.declared.fault.TreeFault.TheVariants as trees
-use Rattle.vault_lint.specs.FaultNames.{called_if}
+use Rattle.vault_lint.specs.{FaultNames.called_if, Marks.marks_of, Places.heads_of, declared.finding.Finding.Finding, declared.mark.Mark.Mark}
 use Rattle.vault_lint.specs.FaultPlaces.{IsSomeLine, has_key, kind_of, line_of, unknown_line}
-use Rattle.vault_lint.specs.Marks.{marks_of}
-use Rattle.vault_lint.specs.Places.{heads_of}
-use Rattle.vault_lint.specs.declared.finding.Finding.{Finding}
-use Rattle.vault_lint.specs.declared.mark.Mark.{Mark}
 
 -- ---- what is to stand there
 

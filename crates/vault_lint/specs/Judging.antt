@@ -1,10 +1,9 @@
 -- Judging: what the doubts of one entry go by.
 -- Source: this project's own; Vault, "Tokens" (the prefixes of their values).
-use Rattle.std.specs.Prelude.{ℕ, ◌==◌, ◌&&◌, ◌||◌, Bool, false, true, not, nat_le, if◌then◌else◌, List, [], ◌∷◌, Option, Some, None, bytes_eq, codes, drop, is_some, length, slice_get}
+use Rattle.std.specs.Prelude.{ℕ, ◌&&◌, ◌||◌, Bool, false, nat_le, if◌then◌else◌, List, [], ◌∷◌, Option, Some, None, bytes_eq, codes, length, slice_get}
 use Rattle.std.specs.List.{list_all}
 use Rattle.base_words.specs.Pieces.{pieces}
-use Rattle.vault_lint.specs.Marks.{is_word_byte}
-use Rattle.vault_lint.specs.declared.subject.Subject.{Subject}
+use Rattle.vault_lint.specs.{Marks.is_word_byte, declared.subject.Subject.Subject}
 
 -- ---- a name that looks like the value of a token
 

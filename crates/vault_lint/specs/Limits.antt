@@ -1,18 +1,10 @@
 -- Limits: why no renewal leads to a need: the ceilings and the ends of an entry and of those over it.
 -- Source: Vault, "Tokens"; Vault, "Lease, renew, and revoke" (maximum TTL); needs are this project's own.
 use Rattle.std.specs.Prelude.{ℕ, ◌+◌, ◌-◌, ◌==◌, ◌&&◌, ◌||◌, Bool, not, max, nat_le, nat_lt, if◌then◌else◌, List, [], ◌∷◌, Option, Some, None, map, unwrap_or}
-use Rattle.vault_inventory.specs.Inventories.{terms_at}
-use Rattle.vault_inventory.specs.Served.{note_at}
-use Rattle.vault_inventory.specs.Terms.{ceiling_of}
-use Rattle.vault_inventory.specs.declared.limits.TheConstants.{SYSTEM_MAX}
-use Rattle.vault_inventory.specs.declared.note.EntryNote.{EntryNote}
-use Rattle.vault_inventory.specs.declared.terms.Terms.{Terms}
+use Rattle.vault_inventory.specs.{Inventories.terms_at, Served.note_at, Terms.ceiling_of, declared.limits.TheConstants.SYSTEM_MAX, declared.note.EntryNote.EntryNote, declared.terms.Terms.Terms}
 use Rattle.base_moment.specs.declared.moment.TheConstants.{LAST}
-use Rattle.plan_forest.specs.Forest.{entry_at}
-use Rattle.plan_forest.specs.Over.{chain}
-use Rattle.plan_forest.specs.declared.entry.Entry.{Entry}
-use Rattle.vault_lint.specs.declared.subject.Subject.{Subject}
-use Rattle.vault_lint.specs.declared.what.EntryDoubt.{EntryDoubt}
+use Rattle.plan_forest.specs.{Forest.entry_at, Over.chain, declared.entry.Entry.Entry}
+use Rattle.vault_lint.specs.{declared.subject.Subject.Subject, declared.what.EntryDoubt.EntryDoubt}
 use Rattle.vault_lint.specs.declared.what.EntryDoubt.TheVariants.{PastCeiling, PastEnd, PastLife, ShortLife}
 
 -- how long after its issue an entry lives at most, None where nothing limits it

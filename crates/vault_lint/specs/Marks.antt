@@ -1,16 +1,14 @@
 -- Marks: what each line of an inventory's text begins. A line counts as it stands: one within a text of several lines does, too.
 -- Source: TOML 1.1, "Keys", "Table" and "Array of Tables"; that blanks and quotes are passed over is this project's own.
 use Rattle.std.specs.Prelude.{ℕ, ◌==◌, ◌&&◌, ◌||◌, Bool, true, false, not, nat_eq, nat_lt, if◌then◌else◌, List, [], ◌∷◌, Option, Some, None, bytes_eq, codes, filter, find, is_some, map}
-use Rattle.std.specs.List.{list_all, starts_with}
-use Rattle.std.specs.Char.{is_ascii_alphanumeric}
-use Rattle.vault_inventory.specs.Keys.{key_text}
-use Rattle.vault_inventory.specs.declared.key.Key.{Key}
+use Rattle.std.specs.{List.list_all, List.starts_with, Char.is_ascii_alphanumeric}
+use Rattle.vault_inventory.specs.{Keys.key_text, declared.key.Key.Key}
 use Rattle.plan_forest.specs.declared.entry.Kind.{Kind}
 use Rattle.plan_forest.specs.declared.entry.Kind.TheVariants as kinds
 use Rattle.base_words.specs.Pieces.{pieces}
 use Rattle.vault_lint.specs.declared.mark.Mark.{Mark}
-use Rattle.vault_lint.specs.declared.mark.Mark.TheVariants as marks
 use Rattle.vault_lint.specs.declared.mark.TheConstants.{LEASE_KEYS, TOKEN_KEYS, TOP_KEYS}
+use Rattle.vault_lint.specs.declared.mark.Mark.TheVariants as marks
 
 -- all but blanks, quotes and what is not ASCII, such as a byte-order mark
 abbrev pub is_shown : ℕ → Bool

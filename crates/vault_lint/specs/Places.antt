@@ -1,13 +1,11 @@
 -- Places: where in the text of an inventory the tables of its entries stand, and their keys.
 -- Source: this project's own.
-use Rattle.std.specs.Prelude.{ℕ, ◌+◌, ◌||◌, Bool, true, false, not, if◌then◌else◌, List, [], ◌∷◌, ◌++◌, Option, Some, None, bytes_eq}
+use Rattle.std.specs.Prelude.{ℕ, ◌+◌, Bool, true, false, not, if◌then◌else◌, List, [], ◌∷◌, ◌++◌, Option, Some, None, bytes_eq}
 use Rattle.vault_inventory.specs.Keys.{key_text}
 use Rattle.plan_forest.specs.declared.entry.Kind.{Kind}
 use Rattle.plan_forest.specs.declared.entry.Kind.TheVariants as kinds
-use Rattle.vault_lint.specs.Marks.{is_of_table}
-use Rattle.vault_lint.specs.declared.mark.Mark.{Mark}
+use Rattle.vault_lint.specs.{Marks.is_of_table, declared.mark.Mark.Mark, declared.places.Sought.Sought}
 use Rattle.vault_lint.specs.declared.mark.Mark.TheVariants as marks
-use Rattle.vault_lint.specs.declared.places.Sought.{Sought}
 use Rattle.vault_lint.specs.declared.places.Sought.TheVariants as soughts
 
 -- the line begins the table of an entry of that kind

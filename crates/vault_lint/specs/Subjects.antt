@@ -4,9 +4,7 @@ use Rattle.std.specs.Prelude.{◌≡◌, ℕ, Bool, List, Ok}
 use Rattle.vault_inventory.specs.Inventory.{read_served}
 use Rattle.plan_needs.specs.Carried.{IsCarried}
 use Rattle.vault_served.specs.ForGood.{served_for_good}
-use Rattle.vault_lint.specs.Marks.{marks_of}
-use Rattle.vault_lint.specs.Places.{heads_of}
-use Rattle.vault_lint.specs.declared.subject.Subject.{Subject}
+use Rattle.vault_lint.specs.{Marks.marks_of, Places.heads_of, declared.subject.Subject.Subject}
 
 -- what the text writes, and where; and the needs that each entry carries, where one that is `always` lasts to the last moment
 pub record IsSubject (text : List ℕ) (open_files : List Bool) (now timeout : ℕ) (s : Subject) : Type 0 where

@@ -147,7 +147,11 @@ fn push_entry(
 }
 
 // Appends those of these that there are.
-fn push_told(index: u32, whats: &[Option<EntryDoubt>], found: &mut Vec<Doubt>) -> Result<(), AllocError>
+fn push_told(
+    index: u32,
+    whats: &[Option<EntryDoubt>],
+    found: &mut Vec<Doubt>,
+) -> Result<(), AllocError>
     ensures { OnOk result (found.new.items ≡ found.old.items ++ told index whats.now) }
 {
     for at in 0..whats.len() {

@@ -4,7 +4,11 @@ use crate::what::EntryDoubt;
 use std::alloc::{AllocError, Global};
 
 /// What helps. The only error is lack of memory.
-pub(crate) fn mend_of(alloc: Global, subject: &Subject, what: EntryDoubt) -> Result<String, AllocError> {
+pub(crate) fn mend_of(
+    alloc: Global,
+    subject: &Subject,
+    what: EntryDoubt,
+) -> Result<String, AllocError> {
     match what {
         EntryDoubt::NearMargin(step) => near_margin(alloc, subject, step),
         _ => String::from_str(alloc, plain_mend(what)),
@@ -27,9 +31,11 @@ fn plain_mend(what: EntryDoubt) -> &'static str {
         EntryDoubt::Swapped => "were two moments swapped?",
         EntryDoubt::Late(_) => "are these milliseconds? moments are whole seconds",
         EntryDoubt::Milliseconds(_, _) => "are these milliseconds? durations are whole seconds",
-        EntryDoubt::OverMax(_, _) => "no renewal grants more than that: ask for less, or correct max_ttl",
+        EntryDoubt::OverMax(_, _) =>
+            "no renewal grants more than that: ask for less, or correct max_ttl",
         EntryDoubt::BesidePeriod => "remove one of the two",
-        EntryDoubt::NoStep => "write what a renewal is to ask for, or the period of a periodic token",
+        EntryDoubt::NoStep =>
+            "write what a renewal is to ask for, or the period of a periodic token",
         EntryDoubt::Ended(_) => {
             "if it is alive, write its present end: plans count it as ended, the agent looks it up"
         }

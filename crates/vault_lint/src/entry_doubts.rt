@@ -18,7 +18,11 @@ pub(crate) const LONG_STEP: u32 = 7_776_000;
 
 /// All of them, in the order in which they are said: those of its name and file, of its moments, of its terms and of its need.
 #[tactic(auto, unfolding(crate::specs::EntryDoubts::entry_list))]
-pub(crate) fn entry_list(subject: &Subject, whole: Option<Whole>, index: u32) -> [Option<EntryDoubt>; 16]
+pub(crate) fn entry_list(
+    subject: &Subject,
+    whole: Option<Whole>,
+    index: u32,
+) -> [Option<EntryDoubt>; 16]
     requires { index < length subject.now.inventory.forest.entries }
     ensures { result ≡ entry_list subject.now whole index }
 {
@@ -28,7 +32,10 @@ pub(crate) fn entry_list(subject: &Subject, whole: Option<Whole>, index: u32) ->
     let lacks_step = terms.period == 0 && !has_key(&subject.places, index, Key::Increment, true);
     [
         only_if(is_token_like(entry.name.list()), EntryDoubt::TokenLike),
-        only_if(is_open(&subject.open_files, index as usize), EntryDoubt::OpenFile),
+        only_if(
+            is_open(&subject.open_files, index as usize),
+            EntryDoubt::OpenFile,
+        ),
         only_if(terms.issued.get() > entry.end, EntryDoubt::Swapped),
         late(Key::Issued, terms.issued.get()),
         late(Key::End, entry.end),
@@ -127,7 +134,10 @@ fn need_past(need: u64, at: u64, whole: Option<Whole>) -> Option<EntryDoubt>
     ensures { result ≡ need_past need at whole }
 {
     let all_are = matches!(whole, Some(Whole::AllPast));
-    only_if(need > 0 && need <= at && !all_are, EntryDoubt::NeedPast(need))
+    only_if(
+        need > 0 && need <= at && !all_are,
+        EntryDoubt::NeedPast(need),
+    )
 }
 
 // No need, here or under it, where some entry has one.

@@ -2,20 +2,13 @@
 use Rattle.std.proofs.Common.{◌≡◌, ◌∙◌, ℕ, ◌*◌, ◌^◌, ◌<◌, ◌≤◌, Bool, true, false, cond, nat_lt, [], ◌∷◌, Option, Some, None, Err, IfSome, ap, arith, refl, subst, sym}
 use Rattle.std.proofs.lemmas.Bool.{leb-false, ltb-true}
 use Rattle.broker_rule.specs.Table.{BrokerTable}
-use Rattle.vault_lanes.specs.Allowed.{first_by, millis_after}
-use Rattle.vault_lanes.specs.Losses.{Answer}
+use Rattle.vault_lanes.specs.{Allowed.first_by, Allowed.millis_after, Losses.Answer, declared.allowance.Allowance.Allowance, declared.coming.Coming.Coming, declared.fault.LaneFault.LaneFault, declared.lanes.Ask.Ask}
 use Rattle.vault_lanes.specs.Out.{Out, is_there, is_there_at}
 use Rattle.vault_lanes.specs.Serving.{BehindLanes, ComesOfRequest, IsSentBy, allowed, lane_fault_at, next_lane_number}
-use Rattle.vault_lanes.specs.declared.allowance.Allowance.{Allowance}
-use Rattle.vault_lanes.specs.declared.coming.Coming.{Coming}
-use Rattle.vault_lanes.specs.declared.fault.LaneFault.{LaneFault}
 use Rattle.vault_lanes.specs.declared.fault.LaneFault.TheVariants.{Refuse, Lose, Hang, Late, Garble, Status}
-use Rattle.vault_lanes.specs.declared.lanes.Ask.{Ask}
 use Rattle.vault_lanes.specs.declared.loss.Loss.TheVariants as losses
 use Rattle.vault_http.specs.declared.request.Request.{Request}
-use Rattle.vault_proving.specs.Laws.{VerdictTimeLaw}
-use Rattle.vault_proving.specs.Lookups.{candidate_ask}
-use Rattle.vault_proving.specs.declared.candidate.TheConstants.{LOOKUP_NUMBER}
+use Rattle.vault_proving.specs.{Laws.VerdictTimeLaw, Lookups.candidate_ask, declared.candidate.TheConstants.LOOKUP_NUMBER}
 use Rattle.vault_proving.proofs.Alone.{put_one, the_same}
 
 at_asked : (a : Allowance) (at : ℕ) → a.asked < 2 ^ 64 → at ≡ a.asked → at ≤ first_by a

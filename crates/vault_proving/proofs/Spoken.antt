@@ -5,27 +5,19 @@ use Rattle.vault_asking.specs.Told.{end_told, is_of_another, loss_in, lookup_rep
 use Rattle.vault_exchange.specs.Heard as exchanged
 use Rattle.vault_exchange.specs.declared.heard.Heard as exchange
 use Rattle.vault_exchange.specs.declared.heard.Heard.TheVariants as replied
-use Rattle.vault_exchange.specs.declared.heard.ToldTerms.{ToldTerms}
-use Rattle.vault_exchange.specs.Lookups.{lookup_in}
-use Rattle.vault_inventory.specs.Inventories.{Inventory}
-use Rattle.vault_inventory.specs.Lookup.{lookup_fault}
-use Rattle.vault_lanes.specs.Heard.{heard_with}
-use Rattle.vault_lanes.specs.Losses.{lost_by}
-use Rattle.vault_lanes.specs.declared.heard.HeardAnswer.{HeardAnswer}
+use Rattle.vault_exchange.specs.{declared.heard.ToldTerms.ToldTerms, Lookups.lookup_in}
+use Rattle.vault_inventory.specs.{Inventories.Inventory, Lookup.lookup_fault}
+use Rattle.vault_lanes.specs.{Heard.heard_with, Losses.lost_by, declared.heard.HeardAnswer.HeardAnswer, declared.loss.Loss.Loss}
 use Rattle.vault_lanes.specs.declared.heard.HeardAnswer.TheVariants as heard
-use Rattle.vault_lanes.specs.declared.loss.Loss.{Loss}
 use Rattle.vault_lanes.specs.declared.loss.Loss.TheVariants as losses
-use Rattle.plan_forest.specs.Forest.{entry_at}
-use Rattle.plan_forest.specs.declared.entry.Kind.{Kind}
+use Rattle.plan_forest.specs.{Forest.entry_at, declared.entry.Kind.Kind}
 use Rattle.plan_forest.specs.declared.entry.Kind.TheVariants.{Token, Lease}
 use Rattle.vault_http.specs.declared.dated_reply.DatedReply.{DatedReply}
-use Rattle.vault_json.specs.declared.fault.ReplyFault.{ReplyFault}
-use Rattle.vault_json.specs.declared.lookup.Lookup.{Lookup}
+use Rattle.vault_json.specs.{declared.fault.ReplyFault.ReplyFault, declared.lookup.Lookup.Lookup}
 use Rattle.vault_json.specs.declared.lookup.Lookup.TheVariants as lookups
 use Rattle.watch_machine.specs.declared.event.WatchReply.TheVariants as replies
+use Rattle.vault_proving.specs.{Verdicts.verdict_by, declared.verdict.Verdict.Verdict}
 use Rattle.vault_proving.specs.Laws.{IsToldVerdict, LostLaw, OtherStatusLaw, ToldVerdictLaw, is_refusal}
-use Rattle.vault_proving.specs.Verdicts.{verdict_by}
-use Rattle.vault_proving.specs.declared.verdict.Verdict.{Verdict}
 use Rattle.vault_proving.specs.declared.verdict.Verdict.TheVariants.{Refused, Missing}
 
 -- by what was heard

@@ -2,18 +2,11 @@
 -- Source: Vault, HTTP API, "HTTP status codes"; the rest is this project's own.
 use Rattle.std.specs.Prelude.{◌≡◌, ℕ, ◌*◌, ◌^◌, ◌<◌, ◌≤◌, ◌==◌, ◌||◌, Bool, true, false, [], Some, None, Ok, Err, if◌then◌else◌}
 use Rattle.vault_asking.specs.Sending.{Lanes}
-use Rattle.vault_lanes.specs.Allowed.{millis_after}
-use Rattle.vault_lanes.specs.Serving.{BehindLanes}
-use Rattle.vault_lanes.specs.declared.loss.Loss.{Loss}
+use Rattle.vault_lanes.specs.{Allowed.millis_after, Serving.BehindLanes, declared.loss.Loss.Loss}
 use Rattle.vault_lanes.specs.declared.loss.Loss.TheVariants as losses
-use Rattle.plan_forest.specs.Forest.{entry_at}
-use Rattle.plan_forest.specs.declared.entry.Kind.{Kind}
-use Rattle.plan_forest.specs.declared.entry.Kind.TheVariants.{Token}
+use Rattle.plan_forest.specs.{Forest.entry_at, declared.entry.Kind.Kind, declared.entry.Kind.TheVariants.Token}
 use Rattle.vault_http.specs.declared.dated_reply.DatedReply.{DatedReply}
-use Rattle.vault_proving.specs.Lookups.{CandidateGoesOut, Hears}
-use Rattle.vault_proving.specs.Verdicts.{verdict_on}
-use Rattle.vault_proving.specs.declared.candidate.Candidate.{Candidate}
-use Rattle.vault_proving.specs.declared.verdict.Verdict.{Verdict}
+use Rattle.vault_proving.specs.{Lookups.CandidateGoesOut, Lookups.Hears, Verdicts.verdict_on, declared.candidate.Candidate.Candidate, declared.verdict.Verdict.Verdict}
 use Rattle.vault_proving.specs.declared.verdict.Verdict.TheVariants.{Good, Refused, Endless, Missing}
 
 -- ---- by its status

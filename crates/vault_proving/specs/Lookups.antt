@@ -1,18 +1,11 @@
 -- Lookups: one credential is looked up at a time, and one request is out for it.
 -- Source: this project's own.
 use Rattle.std.specs.Prelude.{◌≡◌, ℕ, ◌<◌, true, false, List, [], ◌∷◌, Option, Some, None, IfSome, length}
-use Rattle.vault_asking.specs.Asking.{patience_in}
-use Rattle.vault_asking.specs.Sending.{Lanes}
+use Rattle.vault_asking.specs.{Asking.patience_in, Sending.Lanes}
 use Rattle.vault_exchange.specs.Requests.{lookup_of}
-use Rattle.vault_lanes.specs.Losses.{Answer}
-use Rattle.vault_lanes.specs.Out.{Out, is_there}
-use Rattle.vault_lanes.specs.Serving.{RequestIsSent}
-use Rattle.vault_lanes.specs.declared.lanes.Ask.{Ask}
+use Rattle.vault_lanes.specs.{Losses.Answer, Out.Out, Out.is_there, Serving.RequestIsSent, declared.lanes.Ask.Ask}
 use Rattle.watch_machine.specs.declared.command.Patience.TheVariants.{Full}
-use Rattle.vault_proving.specs.Verdicts.{verdict_on}
-use Rattle.vault_proving.specs.declared.candidate.Candidate.{Candidate}
-use Rattle.vault_proving.specs.declared.candidate.TheConstants.{LOOKUP_NUMBER}
-use Rattle.vault_proving.specs.declared.verdict.Verdict.{Verdict}
+use Rattle.vault_proving.specs.{Verdicts.verdict_on, declared.candidate.Candidate.Candidate, declared.candidate.TheConstants.LOOKUP_NUMBER, declared.verdict.Verdict.Verdict}
 
 -- lanes, and the credential that is looked up over them, if one is
 pub record Inquiry (L : Type 0) : Type 0 where

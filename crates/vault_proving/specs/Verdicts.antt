@@ -2,15 +2,11 @@
 -- Source: Vault, HTTP API: `auth/token`, "Lookup a token (self)"; `sys/leases`, "Read lease". What is made of that is this project's
 -- own.
 use Rattle.std.specs.Prelude.{Bool, if◌then◌else◌}
-use Rattle.vault_asking.specs.Told.{said_of_entry}
-use Rattle.vault_asking.specs.declared.told.Said.{Said}
-use Rattle.vault_lanes.specs.Losses.{Answer}
-use Rattle.vault_lanes.specs.declared.loss.Loss.{Loss}
-use Rattle.watch_machine.specs.declared.event.Operation.TheVariants.{Look}
-use Rattle.watch_machine.specs.declared.event.WatchReply.{WatchReply}
+use Rattle.vault_asking.specs.{Told.said_of_entry, declared.told.Said.Said}
+use Rattle.vault_lanes.specs.{Losses.Answer, declared.loss.Loss.Loss}
+use Rattle.watch_machine.specs.{declared.event.Operation.TheVariants.Look, declared.event.WatchReply.WatchReply}
 use Rattle.watch_machine.specs.declared.event.WatchReply.TheVariants as replies
-use Rattle.vault_proving.specs.declared.candidate.Candidate.{Candidate}
-use Rattle.vault_proving.specs.declared.verdict.Verdict.{Verdict}
+use Rattle.vault_proving.specs.{declared.candidate.Candidate.Candidate, declared.verdict.Verdict.Verdict}
 use Rattle.vault_proving.specs.declared.verdict.Verdict.TheVariants.{Good, Refused, Endless, Missing}
 
 -- it is known, and never ends or ends

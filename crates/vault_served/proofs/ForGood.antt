@@ -6,9 +6,7 @@ use Rattle.std.proofs.lemmas.List.FromFn.{get_or-map-range_with_len, length-map-
 use Rattle.std.specs.List.{range_with_len}
 use Rattle.plan_forest.specs.declared.entry.Entry.{Entry}
 use Rattle.plan_forest.specs.Forest.{Forest, entry_at, no_entry}
-use Rattle.vault_inventory.specs.declared.note.EntryNote.{EntryNote}
-use Rattle.vault_inventory.specs.Inventories.{Inventory}
-use Rattle.vault_inventory.specs.Served.{IsServedInventory, Served}
+use Rattle.vault_inventory.specs.{declared.note.EntryNote.EntryNote, Inventories.Inventory, Served.IsServedInventory, Served.Served}
 use Rattle.vault_served.specs.ForGood.{marks, need_for_good, needs_for_good}
 
 -- ---- marks

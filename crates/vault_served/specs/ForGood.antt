@@ -4,12 +4,8 @@ use Rattle.std.specs.Prelude.{ℕ, Bool, false, if◌then◌else◌, List, Resul
 use Rattle.std.specs.List.{range_with_len}
 use Rattle.plan_forest.specs.Forest.{Forest, entry_at}
 use Rattle.base_moment.specs.declared.moment.TheConstants.{LAST}
-use Rattle.vault_inventory.specs.declared.fault.InvFault.{InvFault}
-use Rattle.vault_inventory.specs.declared.note.EntryNote.{EntryNote}
+use Rattle.vault_inventory.specs.{declared.fault.InvFault.InvFault, declared.note.EntryNote.EntryNote, Inventories.Inventory, Inventory.read_served, Served.Served}
 use Rattle.vault_inventory.specs.Answers.{◌>>=◌}
-use Rattle.vault_inventory.specs.Inventories.{Inventory}
-use Rattle.vault_inventory.specs.Inventory.{read_served}
-use Rattle.vault_inventory.specs.Served.{Served}
 
 -- which entries are needed as long as they can be kept
 unfoldable pub marks : List EntryNote → List Bool

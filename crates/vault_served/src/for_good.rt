@@ -7,7 +7,7 @@ ghost use Rattle.vault_served.specs.ForGood.{inventory_for_good, inventory_with_
 use base_moment::{LAST, Moment};
 use plan_forest::Forest;
 use std::alloc::{AllocError, Global};
-use vault_inventory::{InvFault, Inventory, EntryNote, ServedInventory, read_served};
+use vault_inventory::{EntryNote, InvFault, Inventory, ServedInventory, read_served};
 
 /// The inventory that these bytes write, for a watch: an entry whose need is `always` is needed until the last moment, since a watch
 /// shortens each need to what can be kept as it goes. Ends that are not written are 0, as a lookup is to tell them, and files of

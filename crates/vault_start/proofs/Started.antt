@@ -1,30 +1,21 @@
 -- Started: what is read from a start on is an inventory, and what differs from the one that was read is its needs alone.
 use Rattle.std.proofs.Common.{◌≡◌, ℕ, zero, suc, ◌+◌, ◌≤◌, Bool, true, false, cond, List, [], ◌∷◌, length, Some, None, Option, Ok, refl, sym, ap, ◌∙◌, subst, arith}
 use Rattle.std.proofs.lemmas.Bool.{cond-true}
-use Rattle.plan_forest.specs.declared.entry.Entry.{Entry}
-use Rattle.plan_forest.specs.Forest.{Forest, end_of}
-use Rattle.plan_forest.specs.Push.{IsForest}
+use Rattle.plan_forest.specs.{declared.entry.Entry.Entry, Forest.Forest, Forest.end_of, Push.IsForest}
 use Rattle.plan_rule.specs.Unkeepable.{AllKeepable}
+use Rattle.tick_keeper.specs.{code.Passes.needing, LawsOfSteps.IsShaped, Shorten.is_short}
 use Rattle.tick_keeper.specs.Always.{forest_from, is_always_needed, need_from, needs_from}
-use Rattle.tick_keeper.specs.code.Passes.{needing}
-use Rattle.tick_keeper.specs.LawsOfSteps.{IsShaped}
-use Rattle.tick_keeper.specs.Shorten.{is_short}
-use Rattle.tick_keeper.proofs.AlwaysNeeded.{all_from, always_law, from_is, needs_count, never_law, shaped_from}
 use Rattle.tick_keeper.proofs.Needing.{field_kept, length_needing}
-use Rattle.vault_inventory.specs.declared.fault.InvFault.{InvFault}
+use Rattle.tick_keeper.proofs.AlwaysNeeded.{all_from, always_law, from_is, needs_count, never_law, shaped_from}
+use Rattle.vault_inventory.specs.{declared.fault.InvFault.InvFault, declared.limits.TheConstants.SPAN_MAX, declared.note.EntryNote.EntryNote, Inventories.IsInventory, Inventories.Inventory}
 use Rattle.vault_inventory.specs.declared.fault.InvFault.TheVariants.{BadValue, MissingKey}
 use Rattle.vault_inventory.specs.declared.key.Key.TheVariants.{Issued, Need}
-use Rattle.vault_inventory.specs.declared.limits.TheConstants.{SPAN_MAX}
-use Rattle.vault_inventory.specs.declared.note.EntryNote.{EntryNote}
-use Rattle.vault_inventory.specs.Inventories.{IsInventory, Inventory}
 use Rattle.vault_inventory.specs.Inventory.{read_inventory, read_known, read_served}
 use Rattle.vault_inventory.specs.Served.{Served, first_open, first_untold, inventory_if_whole, served_if_told, told_unless, unless}
-use Rattle.vault_inventory.proofs.Barely.{served_secrecy_law}
-use Rattle.vault_inventory.proofs.Chains.{bind_ok, follow}
-use Rattle.vault_inventory.proofs.Inventoried.{served_law}
+use Rattle.vault_inventory.proofs.{Barely.served_secrecy_law, Chains.bind_ok, Chains.follow, Inventoried.served_law}
+use Rattle.vault_start.specs.Start.{from_start, inventory_at}
 use Rattle.vault_start.specs.Laws.{AlwaysKeptLaw, StartInventoryLaw, StartSecrecyLaw, WholeLaw}
 use Rattle.vault_served.specs.ForGood.{inventory_with_needs, marks}
-use Rattle.vault_start.specs.Start.{from_start, inventory_at}
 
 -- ---- what was read before
 

@@ -2,13 +2,8 @@
 use Rattle.std.specs.Prelude.{◌≡◌, ℕ, ◌≤◌, false, true, List, Ok}
 use Rattle.plan_forest.specs.Forest.{end_of, entry_at}
 use Rattle.plan_rule.specs.Unkeepable.{AllKeepable}
-use Rattle.tick_keeper.specs.Always.{is_always_needed}
-use Rattle.tick_keeper.specs.Shorten.{is_short}
-use Rattle.vault_inventory.specs.Bare.{DocumentsAreAlike}
-use Rattle.vault_inventory.specs.Inventories.{IsInventory, Inventory}
-use Rattle.vault_inventory.specs.Inventory.{read_inventory, read_known}
-use Rattle.vault_inventory.specs.Laws.{DifferInCredentials}
-use Rattle.vault_inventory.specs.Served.{Served}
+use Rattle.tick_keeper.specs.{Always.is_always_needed, Shorten.is_short}
+use Rattle.vault_inventory.specs.{Bare.DocumentsAreAlike, Inventories.IsInventory, Inventories.Inventory, Inventory.read_inventory, Inventory.read_known, Laws.DifferInCredentials, Served.Served}
 use Rattle.vault_served.specs.ForGood.{marks}
 use Rattle.vault_start.specs.Start.{inventory_at}
 

@@ -2,10 +2,8 @@
 -- Source: this project's own.
 use Rattle.std.specs.Prelude.{ℕ, Bool, List, Result, Ok}
 use Rattle.tick_keeper.specs.Always.{forest_from}
-use Rattle.vault_inventory.specs.declared.fault.InvFault.{InvFault}
+use Rattle.vault_inventory.specs.{declared.fault.InvFault.InvFault, Inventories.Inventory, Inventory.read_known}
 use Rattle.vault_inventory.specs.Answers.{◌>>=◌}
-use Rattle.vault_inventory.specs.Inventories.{Inventory}
-use Rattle.vault_inventory.specs.Inventory.{read_known}
 use Rattle.vault_served.specs.ForGood.{marks}
 
 -- an inventory from s on

@@ -6,7 +6,7 @@ use base_moment::Text;
 use broker_memory::MemoryExchange;
 use broker_table::Table;
 use http::Method;
-use state_changes::{Record, Rows, ChangeKind, read_record};
+use state_changes::{ChangeKind, Record, Rows, read_record};
 use std::alloc::{AllocError, Global};
 use std::fmt::Debug;
 use std::test::Fail;

@@ -1,36 +1,17 @@
 -- Ahead: a grant that is far enough leaves the time of its entry ahead of the second in which the request went out. For the law of grants.
 use Rattle.std.proofs.Common.{◌≡◌, ◌∙◌, ℕ, ◌+◌, ◌-◌, ◌/◌, ◌<◌, ◌≤◌, Bool, true, Option, Some, None, IfSome, All, Result, Ok, Err, length, min, nat_lt, refl, sym, ap, subst, arith, true≢false}
-use Rattle.std.proofs.lemmas.Bool.Decides.{nat_tests}
-use Rattle.std.proofs.lemmas.List.{get_or-set_same}
-use Rattle.plan_forest.specs.declared.entry.Entry.{Entry}
-use Rattle.plan_forest.specs.Forest.{Forest, entry_at}
-use Rattle.watch_machine.specs.declared.command.WatchOutput.{WatchOutput}
-use Rattle.watch_machine.specs.declared.event.WatchEvent.{WatchEvent}
-use Rattle.watch_machine.specs.declared.event.WatchEvent.TheVariants.{Renewed}
-use Rattle.watch_machine.specs.declared.event.Operation.TheVariants.{Renew}
-use Rattle.watch_machine.specs.declared.event.WatchReply.TheVariants.{Told}
-use Rattle.watch_machine.specs.declared.fault.WatchFault.{WatchFault}
-use Rattle.watch_machine.specs.declared.lanes.Out.{Out}
-use Rattle.watch_machine.specs.declared.track.End.TheVariants.{At}
-use Rattle.watch_machine.specs.declared.track.Track.{Track}
-use Rattle.watch_machine.specs.declared.track.Try.{Try}
-use Rattle.watch_machine.specs.Answers.{noted, replied}
-use Rattle.watch_machine.specs.Clocks.{sec}
-use Rattle.watch_machine.specs.History.{Turn}
+use Rattle.std.proofs.lemmas.{Bool.Decides.nat_tests, List.get_or-set_same}
+use Rattle.plan_forest.specs.{declared.entry.Entry.Entry, Forest.Forest, Forest.entry_at}
+use Rattle.watch_machine.specs.{declared.command.WatchOutput.WatchOutput, declared.event.WatchEvent.WatchEvent, declared.event.WatchEvent.TheVariants.Renewed, declared.event.Operation.TheVariants.Renew}
+use Rattle.watch_machine.specs.{declared.event.WatchReply.TheVariants.Told, declared.fault.WatchFault.WatchFault, declared.lanes.Out.Out, declared.track.End.TheVariants.At, declared.track.Track.Track, declared.track.Try.Try}
+use Rattle.watch_machine.specs.{Answers.noted, Answers.replied, Clocks.sec, History.Turn, Outlook.time_of, Refusal.request_out, Step.Step, Step.StepRenewed}
 use Rattle.watch_machine.specs.Margins.{asking_margin, own_by, own_margin, time, time_before}
-use Rattle.watch_machine.specs.Outlook.{time_of}
-use Rattle.watch_machine.specs.Refusal.{request_out}
 use Rattle.watch_machine.specs.Renewed.{from_base, from_try, granted_from, renewed_track, state_renewed, time_from}
 use Rattle.watch_machine.specs.State.{WatchState, entry_of, no_track, track_at}
-use Rattle.watch_machine.specs.Step.{Step, StepRenewed}
-use Rattle.watch_machine.proofs.Cases.{if_cases, of_value}
-use Rattle.watch_machine.proofs.Within.{out_all, out_entry}
-use Rattle.watch_laws.specs.Absence.{is_event_taken}
-use Rattle.watch_laws.specs.Time.{AheadLaw}
-use Rattle.watch_laws.proofs.Bases.{reached_base}
+use Rattle.watch_machine.proofs.{Cases.if_cases, Cases.of_value, Within.out_all, Within.out_entry}
+use Rattle.watch_laws.specs.{Absence.is_event_taken, Time.AheadLaw}
+use Rattle.watch_laws.proofs.{Bases.reached_base, Tracking.back_kept, Tracking.replied_forest, Trying.asking_least, Trying.own_same}
 use Rattle.watch_laws.proofs.Lasting.{Bears, back_bears, same_bears}
-use Rattle.watch_laws.proofs.Tracking.{back_kept, replied_forest}
-use Rattle.watch_laws.proofs.Trying.{asking_least, own_same}
 
 -- the second from which a grant counts leaves the time two seconds after that of the request
 from_far :

@@ -1,43 +1,21 @@
 -- Alone: no two requests are out under one index, and none of an entry that is not marked as out. For the law of sparing.
 use Rattle.std.proofs.Common.{◌≡◌, ◌≢◌, ◌⊎◌, ◌∙◌, ℕ, zero, suc, ◌-◌, ◌<◌, ◌≤◌, Bool, true, false, cond, not, ◌==◌, if◌then◌else◌, List, [], ◌∷◌, Option, Some, None, Result, Ok, Err, filter, length, map, refl, sym, ap, subst, arith, inl, inr}
-use Rattle.std.proofs.lemmas.Bool.{cases_Bool, eqb-true}
-use Rattle.std.proofs.lemmas.Bool.Decides.{nat_tests}
-use Rattle.std.proofs.lemmas.List.{get_or-set_other, length-append}
-use Rattle.std.proofs.lemmas.List.Elements.{filter-append}
+use Rattle.std.proofs.lemmas.{Bool.cases_Bool, Bool.eqb-true, Bool.Decides.nat_tests, List.get_or-set_other, List.length-append, List.Elements.filter-append}
 use Rattle.std.specs.List.{list_any}
-use Rattle.watch_machine.specs.declared.command.WatchCommand.{WatchCommand}
+use Rattle.watch_machine.specs.{declared.command.WatchCommand.WatchCommand, declared.command.WatchOutput.WatchOutput, declared.command.WatchRequest.WatchRequest, declared.event.WatchEvent.WatchEvent, declared.event.WatchReply.WatchReply}
+use Rattle.watch_machine.specs.{declared.event.WatchTerms.WatchTerms, declared.fault.WatchFault.WatchFault, declared.lanes.Out.Out, declared.lanes.Presence.Presence, declared.track.Track.Track, Clocks.sec, History.Turn, Lines.is_due}
+use Rattle.watch_machine.specs.{Looked.looked, Press.pressed, Press.pressed_alone, Refusal.request_out, Renewed.state_renewed, Round.asked_by_round as round_of, Sending.out_at, Sending.sent, Settling.is_real}
 use Rattle.watch_machine.specs.declared.command.WatchCommand.TheVariants.{Go, Taken}
-use Rattle.watch_machine.specs.declared.command.WatchOutput.{WatchOutput}
-use Rattle.watch_machine.specs.declared.command.WatchRequest.{WatchRequest}
-use Rattle.watch_machine.specs.declared.event.WatchEvent.{WatchEvent}
-use Rattle.watch_machine.specs.declared.event.WatchEvent.TheVariants.{Clock, Looked, Renewed, Need, Begin, Known}
+use Rattle.watch_machine.specs.declared.event.WatchEvent.TheVariants.{Clock, Looked, Renewed, Known}
 use Rattle.watch_machine.specs.declared.event.Operation.TheVariants.{Look, Renew}
-use Rattle.watch_machine.specs.declared.event.WatchReply.{WatchReply}
-use Rattle.watch_machine.specs.declared.event.WatchTerms.{WatchTerms}
-use Rattle.watch_machine.specs.declared.fault.WatchFault.{WatchFault}
-use Rattle.watch_machine.specs.declared.lanes.Out.{Out}
-use Rattle.watch_machine.specs.declared.lanes.Presence.{Presence}
-use Rattle.watch_machine.specs.declared.track.Track.{Track}
 use Rattle.watch_machine.specs.Answers.{answers_all, heard, lane_freed, noted, replied, silent, without_request}
-use Rattle.watch_machine.specs.Clocks.{sec}
-use Rattle.watch_machine.specs.History.{Turn}
-use Rattle.watch_machine.specs.Lines.{is_due}
-use Rattle.watch_machine.specs.Looked.{looked}
-use Rattle.watch_machine.specs.Press.{pressed, pressed_alone}
-use Rattle.watch_machine.specs.Refusal.{request_out}
-use Rattle.watch_machine.specs.Renewed.{state_renewed}
-use Rattle.watch_machine.specs.Round.{asked_by_round as round_of}
-use Rattle.watch_machine.specs.Sending.{out_at, sent}
-use Rattle.watch_machine.specs.Settling.{is_real}
 use Rattle.watch_machine.specs.State.{WatchState, no_track, track_at, track_in}
 use Rattle.watch_machine.specs.Step.{Step, StepCommand, StepLooked, StepRenewed, known, readied}
-use Rattle.watch_machine.proofs.Cases.{if_both, if_cases, not_both}
 use Rattle.watch_machine.proofs.Written.{each_length}
-use Rattle.watch_laws.proofs.Clocking.{refused_stays}
+use Rattle.watch_machine.proofs.Cases.{if_both, if_cases, not_both}
+use Rattle.watch_laws.proofs.{Clocking.refused_stays, Topping.readied_count, Topping.turn_count, Tracking.known_out, Tracking.set_kept}
 use Rattle.watch_laws.proofs.Going.{Goes, counts, entry_by, goes, named_of, one_sent, request_at, skips, some_named, times}
 use Rattle.watch_laws.proofs.Spacing.{after_flag, free_of, looked_other, looked_out, mid_flag, passed_over, readied_out, went}
-use Rattle.watch_laws.proofs.Topping.{readied_count, turn_count}
-use Rattle.watch_laws.proofs.Tracking.{known_out, set_kept}
 
 -- how many requests of an entry are out
 abbrev pub lanes_of : ℕ → List Out → ℕ

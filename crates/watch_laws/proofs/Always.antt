@@ -1,22 +1,11 @@
 -- Always: what holds of every state that a run leads to, and of every turn from it on. For the laws of owed lookups, retries, failures, the width
 -- and changes.
 use Rattle.std.proofs.Common.{◌≡◌, ℕ, ◌≤◌, Bool, true, false, cond, ◌==◌, List, [], ◌∷◌, filter, length, refl, ap, subst, arith}
-use Rattle.watch_machine.specs.declared.lanes.Out.{Out}
-use Rattle.watch_machine.specs.State.{WatchState, opened}
-use Rattle.watch_laws.specs.Changes.{AreUnderOthers, ChangeLaw}
-use Rattle.watch_laws.specs.Failures.{StaysLostLaw}
-use Rattle.watch_laws.specs.Load.{WidthLaw}
-use Rattle.watch_laws.specs.Waiting.{OwedLaw, RetryLaw}
-use Rattle.watch_laws.proofs.Alone.{lanes_of}
-use Rattle.watch_laws.proofs.Bases.{changed_fits, reached_base}
+use Rattle.watch_machine.specs.{declared.lanes.Out.Out, State.WatchState, State.opened}
+use Rattle.watch_laws.specs.{Changes.AreUnderOthers, Changes.ChangeLaw, Failures.StaysLostLaw, Load.WidthLaw, Waiting.OwedLaw, Waiting.RetryLaw}
+use Rattle.watch_laws.proofs.{Alone.lanes_of, Bases.changed_fits, Bases.reached_base, Following.reached_counted, Marked.none_of, Owed.ran_owed, Reached.all_keep, Retrying.ran_lost, Retrying.ran_retried, Spacing.same_index}
+use Rattle.watch_laws.proofs.{Width.Fits, Width.turn_fits}
 use Rattle.watch_laws.proofs.Changing.{are_moved, keeps_all, keeps_but_top, keeps_request, nobody, nothing_else, watched_anew}
-use Rattle.watch_laws.proofs.Following.{reached_counted}
-use Rattle.watch_laws.proofs.Marked.{none_of}
-use Rattle.watch_laws.proofs.Owed.{ran_owed}
-use Rattle.watch_laws.proofs.Reached.{all_keep}
-use Rattle.watch_laws.proofs.Retrying.{ran_lost, ran_retried}
-use Rattle.watch_laws.proofs.Spacing.{same_index}
-use Rattle.watch_laws.proofs.Width.{Fits, turn_fits}
 
 pub all_owed : OwedLaw
 all_owed old turns reached h = ran_owed turns old h (reached_base old reached).tries

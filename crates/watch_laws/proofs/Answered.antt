@@ -1,36 +1,20 @@
 -- Answered: what an answer makes of the stages of an outage. For the law of outages.
 use Rattle.std.proofs.Common.{◌≡◌, ◌≢◌, ◌⊎◌, ◌∙◌, ℕ, suc, ◌+◌, ◌<◌, ◌≤◌, Bool, true, false, ◌&&◌, ◌==◌, List, Some, All, length, refl, sym, ap, subst, arith, inl, inr, true≢false}
-use Rattle.std.proofs.lemmas.Bool.{cases_Bool, eqb-true}
-use Rattle.std.proofs.lemmas.List.{get_or-set_other, get_or-set_same}
+use Rattle.std.proofs.lemmas.{Bool.cases_Bool, Bool.eqb-true, List.get_or-set_other, List.get_or-set_same}
 use Rattle.std.specs.List.{list_any}
 use Rattle.std.specs.Prelude.{slice_set}
-use Rattle.watch_machine.specs.declared.command.WatchOutput.{WatchOutput}
-use Rattle.watch_machine.specs.declared.event.Operation.{Operation}
+use Rattle.watch_machine.specs.{declared.command.WatchOutput.WatchOutput, declared.event.Operation.Operation, declared.event.WatchReply.WatchReply, declared.event.WatchTerms.WatchTerms, declared.lanes.Out.Out, declared.track.Track.Track}
+use Rattle.watch_machine.specs.{Answers.heard, Answers.noted, Beginning.is_pressed, Looked.looked, Refusal.request_out, Renewed.renewed_track, Renewed.state_renewed, Settling.is_real, Step.StepLooked, Step.StepRenewed}
 use Rattle.watch_machine.specs.declared.event.Operation.TheVariants.{Look, Renew}
-use Rattle.watch_machine.specs.declared.event.WatchReply.{WatchReply}
 use Rattle.watch_machine.specs.declared.event.WatchReply.TheVariants.{Told, Refused, Busy, Lost}
-use Rattle.watch_machine.specs.declared.event.WatchTerms.{WatchTerms}
-use Rattle.watch_machine.specs.declared.lanes.Out.{Out}
-use Rattle.watch_machine.specs.declared.track.Track.{Track}
-use Rattle.watch_machine.specs.Answers.{heard, noted}
-use Rattle.watch_machine.specs.Beginning.{is_pressed}
-use Rattle.watch_machine.specs.Looked.{looked}
-use Rattle.watch_machine.specs.Refusal.{request_out}
-use Rattle.watch_machine.specs.Renewed.{renewed_track, state_renewed}
-use Rattle.watch_machine.specs.Settling.{is_real}
 use Rattle.watch_machine.specs.State.{WatchState, no_track, track_at, track_in}
-use Rattle.watch_machine.specs.Step.{StepLooked, StepRenewed}
-use Rattle.watch_machine.proofs.Cases.{not_both, of_value}
-use Rattle.watch_machine.proofs.Within.{out_all, out_entry}
-use Rattle.watch_laws.specs.Outage.{IsReplyInOutage, TellsNothing, comes, how_many, is_request_served, is_request_whole, outage_settled_by, waiting}
+use Rattle.watch_machine.proofs.{Cases.not_both, Cases.of_value, Within.out_all, Within.out_entry}
 use Rattle.watch_laws.specs.Presence.{is_told}
-use Rattle.watch_laws.proofs.Alone.{flag}
+use Rattle.watch_laws.specs.Outage.{IsReplyInOutage, TellsNothing, comes, how_many, is_request_served, is_request_whole, outage_settled_by, waiting}
+use Rattle.watch_laws.proofs.{Alone.flag, Holding.looked_presence, Lasting.Same, Lasting.same_time, Sparing.found_lane, Sparing.looked_answers}
 use Rattle.watch_laws.proofs.Answering.{looked_leaves, renewed_leaves, rest_of}
 use Rattle.watch_laws.proofs.Enduring.{Cutting, Endures, IsAnswered, IsFailed, lost_endures, new_backs, own_endures, real_endures, refused_endures, ungranted_failed, untold_failed}
-use Rattle.watch_laws.proofs.Holding.{looked_presence}
 use Rattle.watch_laws.proofs.Lanes.{Sends, all_left, is_of, passes, replied_any, replied_lane}
-use Rattle.watch_laws.proofs.Lasting.{Same, same_time}
-use Rattle.watch_laws.proofs.Sparing.{found_lane, looked_answers}
 use Rattle.watch_laws.proofs.Spacing.{after_flag, looked_other, looked_out, same_index}
 use Rattle.watch_laws.proofs.Grounds.{IsBase, fewer_wait, tracked}
 use Rattle.watch_laws.proofs.Stages.{Facts, IsGoing, IsThrough, free_from}

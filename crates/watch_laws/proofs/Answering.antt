@@ -1,15 +1,8 @@
 -- Answering: what an answer leaves of a watch as it was. For every law over histories.
 use Rattle.std.proofs.Common.{◌≡◌, ◌∙◌, if◌then◌else◌, [], None, refl}
-use Rattle.watch_machine.specs.declared.event.WatchReply.{WatchReply}
-use Rattle.watch_machine.specs.declared.event.WatchReply.TheVariants.{Told, Refused, Busy, Lost}
-use Rattle.watch_machine.specs.declared.event.WatchTerms.{WatchTerms}
-use Rattle.watch_machine.specs.declared.lanes.Out.{Out}
+use Rattle.watch_machine.specs.{declared.event.WatchReply.WatchReply, declared.event.WatchReply.TheVariants.Told, declared.event.WatchTerms.WatchTerms, declared.lanes.Out.Out, Looked.looked, Renewed.state_renewed, Settling.is_real}
+use Rattle.watch_machine.specs.{State.WatchState, State.broker_present, Step.notes_looked, Step.notes_renewed}
 use Rattle.watch_machine.specs.Answers.{answers_all, lane_freed, noted, replied, silent}
-use Rattle.watch_machine.specs.Looked.{looked}
-use Rattle.watch_machine.specs.Renewed.{state_renewed}
-use Rattle.watch_machine.specs.Settling.{is_real}
-use Rattle.watch_machine.specs.State.{WatchState, broker_present}
-use Rattle.watch_machine.specs.Step.{notes_looked, notes_renewed}
 use Rattle.watch_machine.proofs.Cases.{if_both}
 
 -- all but the forest, the tracks, the requests that are out, the answers and the presence

@@ -1,22 +1,14 @@
 -- Apart: two requests of an entry are a second apart, wherever it stands when they go out. For the laws of the second between and of load.
 use Rattle.std.proofs.Common.{◌≡◌, ◌⊎◌, ◌∙◌, ℕ, ◌<◌, true, List, [], ◌∷◌, ◌++◌, Option, Some, None, IfSome, Result, All, is_none, length, refl, sym, ap, subst, arith, inl, inr}
-use Rattle.std.proofs.lemmas.Bool.{cases_lt}
-use Rattle.std.proofs.lemmas.List.Elements.{All-nil}
-use Rattle.watch_machine.specs.declared.command.WatchOutput.{WatchOutput}
-use Rattle.watch_machine.specs.declared.event.WatchEvent.{WatchEvent}
-use Rattle.watch_machine.specs.declared.event.Operation.{Operation}
-use Rattle.watch_machine.specs.declared.fault.WatchFault.{WatchFault}
-use Rattle.watch_machine.specs.declared.lanes.Out.{Out}
-use Rattle.watch_machine.specs.declared.track.Track.{Track}
-use Rattle.watch_machine.specs.Change.{former_at}
+use Rattle.std.proofs.lemmas.{Bool.cases_lt, List.Elements.All-nil}
+use Rattle.watch_machine.specs.{declared.command.WatchOutput.WatchOutput, declared.event.WatchEvent.WatchEvent, declared.event.Operation.Operation, declared.fault.WatchFault.WatchFault, declared.lanes.Out.Out, declared.track.Track.Track}
+use Rattle.watch_machine.specs.{Change.former_at}
 use Rattle.watch_machine.specs.History.{AllHappen, Changed, Changes, Happening, Hands, IsChanged, Turn, stood, stood_at_some}
 use Rattle.watch_machine.specs.State.{WatchState, opened, track_at}
 use Rattle.watch_laws.specs.Load.{IsApart, Sent, SpacedLaw, requests_at_turn, sent_of_some, sent_through}
-use Rattle.watch_laws.proofs.Bases.{kept_flag}
+use Rattle.watch_laws.proofs.{Bases.kept_flag, Resting.Rests, Resting.owed_rests, Topping.turn_count}
 use Rattle.watch_laws.proofs.Following.{IsCounted, changed_counted, changed_tracks, kept_over, named_new, named_over, opened_counted, stays_there, turn_counted}
-use Rattle.watch_laws.proofs.Resting.{Rests, owed_rests}
 use Rattle.watch_laws.proofs.Spacing.{Any, AreApartAfter, IsOf, Keeps, Outcome, none_after, one_more, turn_past, turned}
-use Rattle.watch_laws.proofs.Topping.{turn_count}
 
 -- what holds of the last request of an entry, where it stands; none went out of one that is not there yet
 abbrev KeepsAt : WatchState → Option ℕ → Option Sent → Type 0

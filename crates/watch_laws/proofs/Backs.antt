@@ -1,36 +1,19 @@
 -- Backs: what a reply makes of the entries that it is not for. For the law of the broker's return.
 use Rattle.std.proofs.Common.{◌≡◌, ◌≢◌, ◌∙◌, ℕ, Bool, true, false, ◌&&◌, if◌then◌else◌, Option, Some, None, Result, Ok, Err, refl, sym, ap, subst, true≢false}
-use Rattle.std.proofs.lemmas.Bool.{cond-false, cond-true, eqb-true}
 use Rattle.std.proofs.lemmas.List.{get_or-set_other}
-use Rattle.watch_machine.specs.declared.command.WatchOutput.{WatchOutput}
-use Rattle.watch_machine.specs.declared.event.WatchEvent.{WatchEvent}
+use Rattle.std.proofs.lemmas.Bool.{cond-false, cond-true, eqb-true}
+use Rattle.watch_machine.specs.{declared.command.WatchOutput.WatchOutput, declared.event.WatchEvent.WatchEvent, declared.event.WatchReply.WatchReply, declared.event.WatchTerms.WatchTerms, declared.fault.WatchFault.WatchFault}
+use Rattle.watch_machine.specs.{declared.lanes.Out.Out, declared.lanes.Presence.Presence, declared.track.Track.Track, declared.track.Try.Try, History.Turn, Lines.rested, Looked.looked, Looked.told_state, Refusal.request_out}
+use Rattle.watch_machine.specs.{Renewed.state_renewed, Step.StepLooked, Step.StepRenewed}
 use Rattle.watch_machine.specs.declared.event.WatchEvent.TheVariants.{Clock, Looked, Renewed, Need, Begin, Known}
 use Rattle.watch_machine.specs.declared.event.Operation.TheVariants.{Look, Renew}
-use Rattle.watch_machine.specs.declared.event.WatchReply.{WatchReply}
-use Rattle.watch_machine.specs.declared.event.WatchReply.TheVariants.{Told, Refused, Busy, Lost}
-use Rattle.watch_machine.specs.declared.event.WatchTerms.{WatchTerms}
-use Rattle.watch_machine.specs.declared.fault.WatchFault.{WatchFault}
-use Rattle.watch_machine.specs.declared.lanes.Out.{Out}
-use Rattle.watch_machine.specs.declared.lanes.Presence.{Presence}
-use Rattle.watch_machine.specs.declared.track.Track.{Track}
-use Rattle.watch_machine.specs.declared.track.Try.{Try}
+use Rattle.watch_machine.specs.declared.event.WatchReply.TheVariants.{Told, Lost}
 use Rattle.watch_machine.specs.Answers.{answers_all, back_track, back_try, due_again, lane_freed, noted, replied, silent}
-use Rattle.watch_machine.specs.History.{Turn}
-use Rattle.watch_machine.specs.Lines.{rested}
-use Rattle.watch_machine.specs.Looked.{looked, told_state}
-use Rattle.watch_machine.specs.Refusal.{request_out}
-use Rattle.watch_machine.specs.Renewed.{state_renewed}
 use Rattle.watch_machine.specs.State.{WatchState, attempt_at, each, no_track, track_at, track_in}
-use Rattle.watch_machine.specs.Step.{StepLooked, StepRenewed}
-use Rattle.watch_machine.proofs.Cases.{if_both, if_cases}
-use Rattle.watch_machine.proofs.Seeing.{each_read}
-use Rattle.watch_machine.proofs.Within.{out_entry}
-use Rattle.watch_laws.specs.Absence.{is_event_taken}
+use Rattle.watch_machine.proofs.{Cases.if_both, Cases.if_cases, Seeing.each_read, Within.out_entry}
+use Rattle.watch_laws.specs.{Absence.is_event_taken, Presence.answers, Presence.is_answered}
 use Rattle.watch_laws.specs.Backs.{BackLaw, due_after_absence, replies_to}
-use Rattle.watch_laws.specs.Presence.{answers, is_answered}
-use Rattle.watch_laws.proofs.Holding.{looked_presence}
-use Rattle.watch_laws.proofs.Minding.{some_within}
-use Rattle.watch_laws.proofs.Presses.{again_is}
+use Rattle.watch_laws.proofs.{Holding.looked_presence, Minding.some_within, Presses.again_is}
 
 -- a reply leaves the tracks of others, but for the broker's return
 looked_others : (s : WatchState) (q : Out) (reply : WatchReply) (terms : WatchTerms) (j : ℕ) → j ≢ q.entry → track_at (looked s q reply terms) j ≡ track_at s j

@@ -1,32 +1,19 @@
 -- Bases: another forest that is watched keeps what holds of every state, so it holds of each that a run leads to. For the laws over whole runs.
 use Rattle.std.proofs.Common.{◌≡◌, ◌∙◌, ℕ, suc, ◌+◌, ◌<◌, ◌≤◌, true, false, ◌==◌, List, [], ◌∷◌, Option, Some, None, Result, is_none, length, refl, sym, ap, subst, arith, inl, inr, true≢false}
-use Rattle.std.proofs.lemmas.Bool.{cases_lt}
-use Rattle.std.proofs.lemmas.List.Elements.{All-cons, All-nil}
-use Rattle.std.proofs.lemmas.List.Sums.{length-filter}
+use Rattle.std.proofs.lemmas.{Bool.cases_lt, List.Elements.All-cons, List.Elements.All-nil, List.Sums.length-filter}
 use Rattle.std.specs.List.{All, list_any}
-use Rattle.watch_machine.specs.declared.change.Was.{Was}
-use Rattle.watch_machine.specs.declared.command.WatchOutput.{WatchOutput}
-use Rattle.watch_machine.specs.declared.event.WatchEvent.{WatchEvent}
-use Rattle.watch_machine.specs.declared.fault.WatchFault.{WatchFault}
-use Rattle.watch_machine.specs.declared.lanes.Out.{Out}
-use Rattle.watch_machine.specs.declared.track.Track.{Track}
-use Rattle.watch_machine.specs.Beginning.{owing_lookup, untopped_track}
+use Rattle.watch_machine.specs.{declared.change.Was.Was, declared.command.WatchOutput.WatchOutput, declared.event.WatchEvent.WatchEvent, declared.fault.WatchFault.WatchFault, declared.lanes.Out.Out, declared.track.Track.Track}
+use Rattle.watch_machine.specs.{Beginning.owing_lookup, Beginning.untopped_track, Lines.rested}
 use Rattle.watch_machine.specs.Change.{former_at, index_or, out_after, place_now}
 use Rattle.watch_machine.specs.History.{Changed, History, IsChanged, IsReached, Turn, Turned}
-use Rattle.watch_machine.specs.Lines.{rested}
 use Rattle.watch_machine.specs.State.{WatchState, fresh_track, track_at}
 use Rattle.watch_machine.proofs.Changing.{all_after, out_length}
 use Rattle.watch_machine.proofs.Moved.{former_low, place_said, times_moved, times_new, times_nobody}
+use Rattle.watch_laws.proofs.{Lanes.is_of, Marked.AllMarked, Marked.any_time, Reached.reached_has, Retrying.IsPast, Shapes.turn_shape, Width.Fits}
 use Rattle.watch_laws.proofs.Alone.{IsAlone, flag, lanes_of}
 use Rattle.watch_laws.proofs.Following.{any_over, changed_entries, changed_out, changed_tracks, each_over, kept_over, new_over, owed_is, past_over, place_over}
 use Rattle.watch_laws.proofs.Grounds.{IsBase, opened_base, turn_base}
-use Rattle.watch_laws.proofs.Lanes.{is_of}
-use Rattle.watch_laws.proofs.Marked.{AllMarked, any_time}
 use Rattle.watch_laws.proofs.Owed.{AllTry, Tries, none_tries}
-use Rattle.watch_laws.proofs.Reached.{reached_has}
-use Rattle.watch_laws.proofs.Retrying.{IsPast}
-use Rattle.watch_laws.proofs.Shapes.{turn_shape}
-use Rattle.watch_laws.proofs.Width.{Fits}
 
 -- an entry that owes a lookup is out as it was, and was last asked as it was
 pub owing_out : (at : ℕ) (x : Track) → (owing_lookup at x).out ≡ x.out

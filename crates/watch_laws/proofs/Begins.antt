@@ -1,44 +1,24 @@
 -- Begins: when a clock begins anew, and what a beginning leaves. For the law of when everything is looked up anew.
 use Rattle.std.proofs.Common.{◌≡◌, ◌⊎◌, ◌∙◌, ℕ, ◌+◌, ◌<◌, ◌≤◌, Bool, true, false, not, ◌&&◌, ◌||◌, if◌then◌else◌, List, Option, Some, None, Result, Ok, Err, is_none, is_some, length, min, nat_le, nat_lt, refl, sym, ap, subst, arith, inl, inr, true≢false}
+use Rattle.std.proofs.lemmas.{Bool.Decides.nat_tests, List.get_or_past}
 use Rattle.std.proofs.lemmas.Bool.{and_from, and_parts, cases_Bool, cases_lt, cond-false, cond-true}
-use Rattle.std.proofs.lemmas.Bool.Decides.{nat_tests}
-use Rattle.std.proofs.lemmas.List.{get_or_past}
 use Rattle.std.specs.List.{list_any}
-use Rattle.watch_machine.specs.declared.clocks.Clocks.{Clocks}
-use Rattle.watch_machine.specs.declared.command.WatchOutput.{WatchOutput}
-use Rattle.watch_machine.specs.declared.command.WatchRequest.{WatchRequest}
-use Rattle.watch_machine.specs.declared.event.WatchEvent.{WatchEvent}
+use Rattle.watch_machine.specs.{declared.clocks.Clocks.Clocks, declared.command.WatchOutput.WatchOutput, declared.command.WatchRequest.WatchRequest, declared.event.WatchEvent.WatchEvent, declared.fault.WatchFault.WatchFault}
+use Rattle.watch_machine.specs.{declared.notes.Notes.Notes, declared.notes.BeginReason.BeginReason, declared.reading.TheConstants.READING_MAX, declared.track.Track.Track, Clocks.reading, Clocks.sec, History.Turn, Press.pressed}
+use Rattle.watch_machine.specs.{Round.asked_by_round, Sending.sent}
 use Rattle.watch_machine.specs.declared.event.WatchEvent.TheVariants.{Clock, Begin}
-use Rattle.watch_machine.specs.declared.fault.WatchFault.{WatchFault}
-use Rattle.watch_machine.specs.declared.notes.Notes.{Notes}
-use Rattle.watch_machine.specs.declared.notes.BeginReason.{BeginReason}
 use Rattle.watch_machine.specs.declared.notes.BeginReason.TheVariants.{Asked, Jump, Day}
-use Rattle.watch_machine.specs.declared.reading.TheConstants.{READING_MAX}
-use Rattle.watch_machine.specs.declared.track.Track.{Track}
 use Rattle.watch_machine.specs.Beginning.{beginning, begun, is_called, is_past, is_pressed, is_start, is_urgent, owing, owing_lookup, soon, sooner_try, untopped, untopped_track}
-use Rattle.watch_machine.specs.Clocks.{reading, sec}
-use Rattle.watch_machine.specs.History.{Turn}
-use Rattle.watch_machine.specs.Press.{pressed}
-use Rattle.watch_machine.specs.Round.{asked_by_round}
-use Rattle.watch_machine.specs.Sending.{sent}
 use Rattle.watch_machine.specs.Settling.{at_reading, has_jumped, settled, settled_track, timed}
 use Rattle.watch_machine.specs.State.{WatchState, no_track, second, track_at, track_in}
 use Rattle.watch_machine.specs.Step.{Step, StepClock, readied, why}
 use Rattle.watch_machine.specs.Wanted.{believed, is_alive, is_open}
-use Rattle.watch_machine.proofs.Cases.{if_both, not_both}
-use Rattle.watch_machine.proofs.Seeing.{each_read}
-use Rattle.watch_machine.proofs.Written.{each_length}
-use Rattle.watch_laws.specs.Absence.{is_event_taken}
-use Rattle.watch_laws.specs.Beginnings.{HasParted, why_begun}
+use Rattle.watch_machine.proofs.{Cases.if_both, Cases.not_both, Seeing.each_read, Written.each_length}
+use Rattle.watch_laws.specs.{Absence.is_event_taken, Beginnings.HasParted, Beginnings.why_begun}
 use Rattle.watch_laws.specs.Begins.{BeginLaw, IsBegunAnew, IsNewDay, MayGoOn, SomebodyIsUrgent}
+use Rattle.watch_laws.proofs.{Fronts.alone_index, Fronts.index_alone, OnPlan.new_count, Opener.mid_bears, Presses.settled_keeps, Topping.readied_count, Tracking.each_kept}
 use Rattle.watch_laws.proofs.Clocking.{clock_at, clock_rises, readied_clocks, sent_by}
 use Rattle.watch_laws.proofs.Dating.{Clocked, not_parted, reached_clocked}
-use Rattle.watch_laws.proofs.Fronts.{alone_index, index_alone}
-use Rattle.watch_laws.proofs.OnPlan.{new_count}
-use Rattle.watch_laws.proofs.Opener.{mid_bears}
-use Rattle.watch_laws.proofs.Presses.{settled_keeps}
-use Rattle.watch_laws.proofs.Topping.{readied_count}
-use Rattle.watch_laws.proofs.Tracking.{each_kept}
 
 -- why a clock does not begin anew
 record IsNone (begun' : Option ℕ) (asked stepped jumped : Bool) (at : ℕ) (xs : List Track) : Type 0 where

@@ -1,24 +1,16 @@
 -- Believed: the forest as it is believed is a forest, and what an entry carries in it is its wanted need. For the laws of calm.
 use Rattle.std.proofs.Common.{◌≡◌, ◌∙◌, ℕ, zero, suc, ◌<◌, ◌≤◌, true, false, ◌==◌, List, Option, Some, None, length, map, max, min, nat_lt, set, refl, sym, ap, subst, arith, inl, inr}
-use Rattle.std.proofs.lemmas.Bool.{cases_eq, cases_lt}
-use Rattle.std.proofs.lemmas.Bool.Decides.{nat_tests}
-use Rattle.std.proofs.lemmas.List.{ext_get_or, length-set}
-use Rattle.std.proofs.lemmas.List.FromFn.{get_or-map-range_with_len, length-map-range_with_len}
+use Rattle.std.proofs.lemmas.{Bool.cases_eq, Bool.cases_lt, Bool.Decides.nat_tests, List.ext_get_or, List.length-set, List.FromFn.get_or-map-range_with_len, List.FromFn.length-map-range_with_len}
 use Rattle.std.specs.List.{range_with_len}
 use Rattle.base_moment.specs.declared.moment.TheConstants.{LAST}
-use Rattle.plan_forest.specs.declared.entry.Entry.{Entry}
-use Rattle.plan_forest.specs.declared.forest.TheConstants.{END_MAX}
-use Rattle.plan_forest.specs.Carried.{carried, carried_of}
+use Rattle.plan_forest.specs.{declared.entry.Entry.Entry, declared.forest.TheConstants.END_MAX, Carried.carried, Carried.carried_of, Push.IsForest, Push.is_too_high}
 use Rattle.plan_forest.specs.Forest.{Forest, entry_at, no_entry}
 use Rattle.plan_forest.specs.Over.{Over, is_over, chain}
-use Rattle.plan_forest.specs.Push.{IsForest, is_too_high}
 use Rattle.plan_forest.proofs.Carrying.{carried_is_of, or_parts}
 use Rattle.plan_forest.proofs.Chains.{ParentsFirst, chain_same, cases_Option, over_child, over_root}
 use Rattle.plan_forest.proofs.Entries.{entry_at_past, entry_at_set_other, entry_at_set_same}
 use Rattle.plan_forest.proofs.Placed.{Replaces, parents_first, range_from_parts, replaced_is_forest}
-use Rattle.watch_machine.specs.declared.clocks.Clocks.{Clocks}
-use Rattle.watch_machine.specs.Clocks.{of_wall, to_here}
-use Rattle.watch_machine.specs.State.{WatchState, second}
+use Rattle.watch_machine.specs.{declared.clocks.Clocks.Clocks, Clocks.of_wall, Clocks.to_here, State.WatchState, State.second}
 use Rattle.watch_machine.specs.Wanted.{ceiling_here, cut_need, need_here, seen_entry, view}
 use Rattle.watch_machine.proofs.Cases.{if_cases}
 use Rattle.watch_laws.specs.Calm.{believed_forest, planned_need, terms}

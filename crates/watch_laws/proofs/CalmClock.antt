@@ -1,41 +1,20 @@
 -- CalmClock: a clock keeps a watch on its plan, whether it opens a round or not. For the law of calm.
 use Rattle.std.proofs.Common.{◌≡◌, ◌⊎◌, ◌∙◌, ℕ, ◌+◌, ◌<◌, ◌≤◌, Bool, true, false, cond, not, ◌&&◌, ◌==◌, List, [], ◌∷◌, Option, Some, None, is_none, length, nat_le, nat_lt, refl, sym, ap, ap₂, subst, arith, inl, inr}
-use Rattle.std.proofs.lemmas.Bool.{cases_Bool, cases_lt, cond-false, cond-true}
 use Rattle.std.proofs.lemmas.Bool.Decides.{nat_tests}
+use Rattle.std.proofs.lemmas.Bool.{cases_Bool, cases_lt, cond-false, cond-true}
 use Rattle.std.proofs.Math.Path.{fun_ext}
 use Rattle.std.specs.List.{list_any}
-use Rattle.plan_forest.specs.declared.entry.Entry.{Entry}
-use Rattle.plan_forest.specs.Carried.{carried}
-use Rattle.plan_forest.specs.Forest.{Forest, entry_at}
-use Rattle.plan_forest.specs.Push.{IsForest}
-use Rattle.plan_forest.specs.Renewal.{all_last, renewal}
+use Rattle.plan_forest.specs.{declared.entry.Entry.Entry, Carried.carried, Forest.Forest, Forest.entry_at, Push.IsForest, Renewal.all_last, Renewal.renewal}
 use Rattle.plan_forest.proofs.Carrying.{and_left, and_right}
-use Rattle.plan_rule.specs.declared.wake.Wake.{Wake}
+use Rattle.plan_rule.specs.{declared.wake.Wake.Wake, Ends.ends_after_wake_up, Ends.is_asked, Forced.bound, Forced.latest_end, Least.IsLeastAndLatest, Schedule.IsSchedule, Unkeepable.AllKeepable}
 use Rattle.plan_rule.specs.Asks.{asking, first_of, is_to_be_asked as is_asked_now, with_asks}
-use Rattle.plan_rule.specs.Ends.{ends_after_wake_up, is_asked}
-use Rattle.plan_rule.specs.Forced.{bound, latest_end}
-use Rattle.plan_rule.specs.Least.{IsLeastAndLatest}
-use Rattle.plan_rule.specs.Schedule.{IsSchedule}
-use Rattle.plan_rule.specs.Unkeepable.{AllKeepable}
+use Rattle.plan_rule.proofs.{Covering.after_unwanted, Covering.after_wanted, Enough.enough as asks_enough, Keeping.one_least, LaterStart.later_start, LaterStart.same_asks, Next.renewable_within, Tail.tail}
 use Rattle.plan_rule.proofs.Asking.{asked_end, asks_wanted, wanted_renewable}
-use Rattle.plan_rule.proofs.Covering.{after_unwanted, after_wanted}
-use Rattle.plan_rule.proofs.Enough.{enough as asks_enough}
-use Rattle.plan_rule.proofs.Keeping.{one_least}
-use Rattle.plan_rule.proofs.LaterStart.{later_start, same_asks}
-use Rattle.plan_rule.proofs.Next.{renewable_within}
-use Rattle.plan_rule.proofs.Tail.{tail}
-use Rattle.watch_machine.specs.declared.command.WatchRequest.{WatchRequest}
+use Rattle.watch_machine.specs.{declared.command.WatchRequest.WatchRequest, declared.lanes.Out.Out, declared.track.Track.Track, declared.track.Try.Try, Beginning.is_pressed, Beginning.is_pressed_try, Clocks.sec}
+use Rattle.watch_machine.specs.{Margins.has_come, Margins.time, Outlook.time_of, Sending.RequestsAreSent as IsSending, Sending.sent}
 use Rattle.watch_machine.specs.declared.event.Operation.TheVariants.{Look, Renew}
-use Rattle.watch_machine.specs.declared.lanes.Out.{Out}
-use Rattle.watch_machine.specs.declared.track.Track.{Track}
-use Rattle.watch_machine.specs.declared.track.Try.{Try}
-use Rattle.watch_machine.specs.Beginning.{is_pressed, is_pressed_try}
-use Rattle.watch_machine.specs.Clocks.{sec}
-use Rattle.watch_machine.specs.Margins.{has_come, time}
 use Rattle.watch_machine.specs.Press.{asked_track, is_fresh, press, pressed, pressed_track}
-use Rattle.watch_machine.specs.Outlook.{time_of}
 use Rattle.watch_machine.specs.Round.{IsRound, asked_by_round, opens}
-use Rattle.watch_machine.specs.Sending.{RequestsAreSent as IsSending, sent}
 use Rattle.watch_machine.specs.State.{WatchState, attempt_at, entry_of, second, track_at}
 use Rattle.watch_machine.specs.Wanted.{believed, is_alive, is_wanted, wanted_need}
 use Rattle.watch_machine.proofs.Cases.{value_is}

@@ -1,40 +1,23 @@
 -- CalmDay: a watch that is at rest goes by its plan while all goes well. For the law of calm.
 use Rattle.std.proofs.Common.{◌≡◌, ◌⊎◌, ◌∙◌, ℕ, zero, suc, ◌<◌, ◌≤◌, Bool, true, false, ◌==◌, List, [], ◌∷◌, Option, Some, None, Result, Ok, Err, IfSome, is_none, length, refl, sym, ap, subst, arith, inl, inr}
-use Rattle.std.proofs.lemmas.Bool.{cases_Bool, cases_lt}
-use Rattle.std.proofs.lemmas.List.Elements.{All-nil}
+use Rattle.std.proofs.lemmas.{Bool.cases_Bool, Bool.cases_lt, List.Elements.All-nil}
 use Rattle.std.specs.List.{list_any}
-use Rattle.plan_rule.specs.declared.wake.Wake.{Wake}
-use Rattle.plan_rule.specs.Asks.{with_asks}
+use Rattle.plan_rule.specs.{declared.wake.Wake.Wake, Asks.with_asks}
 use Rattle.plan_forest.specs.Forest.{Forest}
-use Rattle.watch_machine.specs.declared.clocks.Clocks.{Clocks}
-use Rattle.watch_machine.specs.declared.command.WatchCommand.{WatchCommand}
+use Rattle.watch_machine.specs.{declared.clocks.Clocks.Clocks, declared.command.WatchCommand.WatchCommand, declared.command.WatchOutput.WatchOutput, declared.event.WatchEvent.WatchEvent, declared.event.Operation.TheVariants.Renew}
+use Rattle.watch_machine.specs.{declared.fault.WatchFault.WatchFault, declared.lanes.Out.Out, declared.notes.Notes.Notes, declared.track.Try.Try, Answers.noted, Answers.replied, Clocks.sec, Press.pressed, Refusal.request_out}
+use Rattle.watch_machine.specs.{Renewed.state_renewed, Round.asked_by_round, Settling.timed}
 use Rattle.watch_machine.specs.declared.command.WatchCommand.TheVariants.{Go, Taken}
-use Rattle.watch_machine.specs.declared.command.WatchOutput.{WatchOutput}
-use Rattle.watch_machine.specs.declared.event.WatchEvent.{WatchEvent}
 use Rattle.watch_machine.specs.declared.event.WatchEvent.TheVariants.{Clock, Looked, Renewed, Need, Begin, Known}
-use Rattle.watch_machine.specs.declared.event.Operation.TheVariants.{Renew}
 use Rattle.watch_machine.specs.declared.event.WatchReply.TheVariants.{Told, Refused, Busy, Lost}
-use Rattle.watch_machine.specs.declared.fault.WatchFault.{WatchFault}
-use Rattle.watch_machine.specs.declared.lanes.Out.{Out}
-use Rattle.watch_machine.specs.declared.notes.Notes.{Notes}
-use Rattle.watch_machine.specs.declared.track.Try.{Try}
-use Rattle.watch_machine.specs.Answers.{noted, replied}
-use Rattle.watch_machine.specs.Clocks.{sec}
 use Rattle.watch_machine.specs.History.{AllHappen, Changes, Happening, Hands, Turn}
-use Rattle.watch_machine.specs.Press.{pressed}
-use Rattle.watch_machine.specs.Refusal.{request_out}
-use Rattle.watch_machine.specs.Renewed.{state_renewed}
-use Rattle.watch_machine.specs.Round.{asked_by_round}
-use Rattle.watch_machine.specs.Settling.{timed}
 use Rattle.watch_machine.specs.State.{WatchState, attempt_at, second}
 use Rattle.watch_machine.specs.Step.{Step, StepClock, StepCommand, StepRenewed, readied}
 use Rattle.watch_machine.proofs.Cases.{if_both}
+use Rattle.watch_laws.specs.{Load.requests_asked_by as asked_for, Load.requests_at_turn, Time.round_of}
 use Rattle.watch_laws.specs.Calm.{AreCalm, CalmLaw, EndAs, GoBy, GrantIsByRule, IsCalmClock, IsCalmEvent, IsCalmSecond, IsCalmTurn, IsPlanNow, NonePassed, OpensNextWakeUp, StateIsAtRest, believed_forest, ends, ends_left_by, began_after, no_wake_up, wake_ups_from}
-use Rattle.watch_laws.specs.Load.{requests_asked_by as asked_for, requests_at_turn}
-use Rattle.watch_laws.specs.Time.{round_of}
+use Rattle.watch_laws.proofs.{CalmGrant.answer_goes, Calming.IsIdle, Calming.unpressed}
 use Rattle.watch_laws.proofs.CalmClock.{IsStep, after_clock, forest_of, going_on, resting_on}
-use Rattle.watch_laws.proofs.CalmGrant.{answer_goes}
-use Rattle.watch_laws.proofs.Calming.{IsIdle, unpressed}
 use Rattle.watch_laws.proofs.Clocking.{begun_some, readied_clocks, refused_stays}
 use Rattle.watch_laws.proofs.Foreseen.{short_led, there_is_plan, wanted_short}
 use Rattle.watch_laws.proofs.OnPlan.{Goes, IsOn, IsSent, none_passed, plan_schedule, readied_timed, some_not_none}

@@ -1,36 +1,24 @@
 -- CalmGrant: a renewal that is granted by the rule keeps a watch on its plan. For the law of calm.
 use Rattle.std.proofs.Common.{◌≡◌, ◌≢◌, ◌⊎◌, ◌∙◌, ℕ, ◌+◌, ◌<◌, Bool, true, false, cond, not, ◌&&◌, ◌||◌, ◌==◌, if◌then◌else◌, List, [], ◌∷◌, Option, Some, None, filter, map, min, nat_le, nat_lt, refl, sym, ap, ap₂, subst, arith, inl, inr}
-use Rattle.std.proofs.lemmas.Bool.{and_parts, cases_Bool, cases_eq, cases_lt, cond-false, cond-true, or_left}
 use Rattle.std.proofs.lemmas.Bool.Decides.{nat_tests}
+use Rattle.std.proofs.lemmas.Bool.{and_parts, cases_Bool, cases_eq, cases_lt, cond-false, cond-true, or_left}
 use Rattle.std.proofs.lemmas.List.{get_or-set_other, get_or-set_same, length-set}
 use Rattle.std.specs.List.{find, list_any}
-use Rattle.plan_forest.specs.Forest.{Forest}
-use Rattle.plan_forest.specs.Renewal.{capped, renewal}
+use Rattle.plan_forest.specs.{Forest.Forest, Renewal.capped, Renewal.renewal}
 use Rattle.plan_forest.proofs.Carrying.{or_parts}
 use Rattle.plan_rule.specs.declared.wake.Wake.{Wake}
+use Rattle.watch_machine.specs.{declared.event.WatchReply.TheVariants.Told, declared.lanes.LaneAnswer.LaneAnswer, declared.lanes.Out.Out, declared.track.End.End, declared.track.Grant.Grant, declared.track.Track.Track}
+use Rattle.watch_machine.specs.{declared.track.Try.Try, Beginning.owed, Clocks.sec, Margins.lead, Refusal.is_same, Refusal.request_out}
 use Rattle.watch_machine.specs.declared.event.Operation.TheVariants.{Look, Renew}
-use Rattle.watch_machine.specs.declared.event.WatchReply.TheVariants.{Told}
-use Rattle.watch_machine.specs.declared.lanes.LaneAnswer.{LaneAnswer}
-use Rattle.watch_machine.specs.declared.lanes.Out.{Out}
-use Rattle.watch_machine.specs.declared.track.End.{End}
 use Rattle.watch_machine.specs.declared.track.End.TheVariants.{Unknown, At, Never}
-use Rattle.watch_machine.specs.declared.track.Grant.{Grant}
-use Rattle.watch_machine.specs.declared.track.Track.{Track}
-use Rattle.watch_machine.specs.declared.track.Try.{Try}
 use Rattle.watch_machine.specs.Answers.{failing, heard, lane_freed, noted, replied, with_track, without_request}
-use Rattle.watch_machine.specs.Beginning.{owed}
-use Rattle.watch_machine.specs.Clocks.{sec}
-use Rattle.watch_machine.specs.Margins.{lead}
-use Rattle.watch_machine.specs.Refusal.{is_same, request_out}
 use Rattle.watch_machine.specs.Renewed.{from_base, from_try, granted, granted_from, granted_try, is_no_further, renewed_track, state_renewed, time_from}
 use Rattle.watch_machine.specs.State.{WatchState, attempt_at, entry_of, no_track, track_at}
 use Rattle.watch_machine.specs.Wanted.{believed, is_fixed, is_wanted, seen_entry}
-use Rattle.watch_machine.proofs.Cases.{if_both}
-use Rattle.watch_machine.proofs.Within.{out_entry}
+use Rattle.watch_machine.proofs.{Cases.if_both, Within.out_entry}
 use Rattle.watch_laws.specs.Calm.{GrantIsByRule, ends, in_plan_at, lead_at, terms}
+use Rattle.watch_laws.proofs.{CalmClock.keepable_of, Foreseen.wanted_short}
 use Rattle.watch_laws.proofs.Calming.{AreAlike, IsIdle, entry_step, forest_alike, idle_on, kept_same, plan_alike}
-use Rattle.watch_laws.proofs.CalmClock.{keepable_of}
-use Rattle.watch_laws.proofs.Foreseen.{wanted_short}
 use Rattle.watch_laws.proofs.OnPlan.{Goes, IsTried, need_alike, tried_on}
 
 -- ---- what a grant comes to

@@ -5,29 +5,18 @@ use Rattle.std.proofs.lemmas.Bool.{cases_Bool}
 use Rattle.std.proofs.Math.Path.{fun_ext}
 use Rattle.std.specs.List.{range_with_len}
 use Rattle.base_moment.specs.declared.moment.TheConstants.{LAST}
-use Rattle.plan_forest.specs.declared.entry.Entry.{Entry}
-use Rattle.plan_forest.specs.declared.forest.TheConstants.{END_MAX}
-use Rattle.plan_forest.specs.Carried.{carried}
-use Rattle.plan_forest.specs.Forest.{Forest, entry_at}
-use Rattle.plan_forest.specs.Over.{chain}
-use Rattle.plan_forest.specs.Push.{IsForest}
+use Rattle.plan_forest.specs.{declared.entry.Entry.Entry, declared.forest.TheConstants.END_MAX, Carried.carried, Forest.Forest, Forest.entry_at, Over.chain, Push.IsForest}
 use Rattle.plan_rule.specs.Unkeepable.{AllKeepable}
-use Rattle.watch_machine.specs.declared.clocks.BrokerOffset.{BrokerOffset}
-use Rattle.watch_machine.specs.declared.clocks.WallOffset.{WallOffset}
-use Rattle.watch_machine.specs.declared.track.Grant.{Grant}
-use Rattle.watch_machine.specs.declared.track.Track.{Track}
-use Rattle.watch_machine.specs.Beginning.{is_pressed, is_pressed_try}
-use Rattle.watch_machine.specs.Clocks.{of_wall, to_here}
+use Rattle.watch_machine.specs.{declared.clocks.BrokerOffset.BrokerOffset, declared.clocks.WallOffset.WallOffset, declared.track.Grant.Grant, declared.track.Track.Track, Beginning.is_pressed, Beginning.is_pressed_try}
+use Rattle.watch_machine.specs.{Clocks.of_wall, Clocks.to_here}
 use Rattle.watch_machine.specs.Margins.{is_in_plan, lead, own_margin}
 use Rattle.watch_machine.specs.State.{WatchState, attempt_at, entry_of, has_last_try, second, track_at}
 use Rattle.watch_machine.specs.Wanted.{believed, free_need, is_fixed, is_wanted, least, least_over, limit, need_here, seen_entry, wanted_need, wants}
 use Rattle.watch_machine.proofs.Carries.{carried_less, carried_same}
 use Rattle.watch_laws.specs.Calm.{believed_forest, ends, in_plan_at, lead_at, planned_need, terms}
-use Rattle.watch_laws.proofs.Believed.{carried_believed}
+use Rattle.watch_laws.proofs.{Believed.carried_believed, Opener.bearing, Opener.wants_same, Trying.need_free}
 use Rattle.watch_laws.proofs.Foreseen.{IsLed, led_by, wanted_short}
 use Rattle.watch_laws.proofs.Needing.{tries_last, wants_by, wants_parts}
-use Rattle.watch_laws.proofs.Opener.{bearing, wants_same}
-use Rattle.watch_laws.proofs.Trying.{need_free}
 
 -- two states in which as much is believed of each entry, but for the ends of those that may be led further
 pub record AreAlike (new old : WatchState) : Type 0 where

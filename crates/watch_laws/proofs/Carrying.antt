@@ -3,14 +3,11 @@
 use Rattle.std.proofs.Common.{◌≡◌, ◌⊎◌, ◌∙◌, ℕ, ◌+◌, ◌≤◌, Bool, true, not, ◌&&◌, Option, Some, None, length, refl, sym, ap, arith, inl, inr}
 use Rattle.std.proofs.Math.Nat.{mul-add, mul-le-mul_left}
 use Rattle.std.proofs.lemmas.Bool.{and_from, and_parts, cases_Bool}
-use Rattle.watch_machine.specs.Change.{former_at}
-use Rattle.watch_machine.specs.History.{Changed, IsChanged}
-use Rattle.watch_machine.specs.State.{WatchState, track_at}
+use Rattle.watch_machine.specs.{Change.former_at, History.Changed, History.IsChanged, State.WatchState, State.track_at}
 use Rattle.watch_laws.specs.Outage.{how_many}
 use Rattle.watch_laws.specs.Partial.{IsCarried, Partial, comes_before_over, index_over, keeps_lane, stands_before, stood_before, total, waiting_before, waits_before}
-use Rattle.watch_laws.proofs.Bases.{kept_flag}
+use Rattle.watch_laws.proofs.{Bases.kept_flag, Spans.kept_by, Spans.kept_is}
 use Rattle.watch_laws.proofs.Counting.{at_some, either, moved_pass}
-use Rattle.watch_laws.proofs.Spans.{kept_by, kept_is}
 
 -- what is as it was
 pub late_same : (o p : Partial) (s : WatchState) (c : Changed) → IsCarried o p s c → p.late ≡ o.late

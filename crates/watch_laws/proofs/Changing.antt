@@ -1,44 +1,25 @@
 -- Changing: another forest that is watched costs no entry anything that is known of it. For the law of a change.
 use Rattle.std.proofs.Common.{◌≡◌, ◌∙◌, ◌&&◌, ℕ, suc, ◌<◌, ◌≤◌, true, false, cond, if◌then◌else◌, List, [], ◌∷◌, Option, Some, None, Result, Ok, Err, IfSome, length, min, not, is_none, nat_lt, option_map, refl, sym, ap, subst, arith}
-use Rattle.std.proofs.lemmas.Bool.{cond-true, eqb-true}
-use Rattle.std.proofs.lemmas.Bool.Decides.{nat_tests}
-use Rattle.plan_forest.specs.declared.entry.Entry.{Entry}
-use Rattle.plan_forest.specs.declared.forest.TheConstants.{END_MAX}
-use Rattle.plan_forest.specs.Forest.{entry_at}
-use Rattle.plan_forest.specs.Push.{IsForest, is_lease}
+use Rattle.std.proofs.lemmas.{Bool.cond-true, Bool.eqb-true, Bool.Decides.nat_tests}
+use Rattle.plan_forest.specs.{declared.entry.Entry.Entry, declared.forest.TheConstants.END_MAX, Forest.entry_at, Push.IsForest, Push.is_lease}
 use Rattle.plan_forest.proofs.Placed.{range_parts}
+use Rattle.watch_machine.specs.{declared.command.WatchOutput.WatchOutput, declared.event.WatchEvent.WatchEvent, declared.event.WatchReply.WatchReply, declared.event.WatchTerms.WatchTerms, declared.fault.WatchFault.WatchFault}
+use Rattle.watch_machine.specs.{declared.lanes.Out.Out, declared.notes.Link.Link, declared.notes.Notes.Notes, declared.track.Track.Track, declared.track.Try.Try, Looked.by_terms, Looked.looked, Refusal.request_out, Renewed.state_renewed}
+use Rattle.watch_machine.specs.{Settling.is_real}
 use Rattle.watch_machine.specs.declared.change.Was.TheVariants.{New, Same, Retold}
-use Rattle.watch_machine.specs.declared.command.WatchOutput.{WatchOutput}
-use Rattle.watch_machine.specs.declared.event.WatchEvent.{WatchEvent}
 use Rattle.watch_machine.specs.declared.event.WatchEvent.TheVariants.{Clock, Looked, Renewed, Need, Begin, Known}
 use Rattle.watch_machine.specs.declared.event.Operation.TheVariants.{Look, Renew}
-use Rattle.watch_machine.specs.declared.event.WatchReply.{WatchReply}
-use Rattle.watch_machine.specs.declared.event.WatchTerms.{WatchTerms}
-use Rattle.watch_machine.specs.declared.fault.WatchFault.{WatchFault}
-use Rattle.watch_machine.specs.declared.lanes.Out.{Out}
-use Rattle.watch_machine.specs.declared.notes.Link.{Link}
-use Rattle.watch_machine.specs.declared.notes.Notes.{Notes}
-use Rattle.watch_machine.specs.declared.track.Track.{Track}
-use Rattle.watch_machine.specs.declared.track.Try.{Try}
 use Rattle.watch_machine.specs.Answers.{answers_all, lane_freed, link, noted, replied, silent}
 use Rattle.watch_machine.specs.Beginning.{owing_lookup, soon, sooner_try, untopped_track}
 use Rattle.watch_machine.specs.Change.{entry_by, former, former_at, index_or, out_after, place_now, terms_left, track_by, was_at}
 use Rattle.watch_machine.specs.History.{Changed, IsChanged, Turn}
-use Rattle.watch_machine.specs.Looked.{by_terms, looked}
-use Rattle.watch_machine.specs.Refusal.{request_out}
-use Rattle.watch_machine.specs.Renewed.{state_renewed}
-use Rattle.watch_machine.specs.Settling.{is_real}
 use Rattle.watch_machine.specs.State.{WatchState, entry_of, fresh_track, track_at}
 use Rattle.watch_machine.specs.Step.{StepLooked, StepRenewed, nothing_noted, notes_top, with_link}
-use Rattle.watch_machine.proofs.Cases.{if_both, if_cases}
+use Rattle.watch_machine.proofs.{Cases.if_both, Cases.if_cases, View.ceiling_low, Within.out_entry}
 use Rattle.watch_machine.proofs.Moved.{changed_entry, changed_track, place_there, request_moved, said_within}
 use Rattle.watch_machine.proofs.Nobody.{looked_past, notes_past, renewed_past, top_past}
-use Rattle.watch_machine.proofs.View.{ceiling_low}
-use Rattle.watch_machine.proofs.Within.{out_entry}
-use Rattle.watch_laws.specs.Absence.{is_event_taken}
-use Rattle.watch_laws.specs.Backs.{replies_to}
+use Rattle.watch_laws.specs.{Absence.is_event_taken, Backs.replies_to, Presence.IsIndexNow}
 use Rattle.watch_laws.specs.Changes.{AreMoved, IsOfNobody, IsSoonerThan, IsWatchedAnew, KeepsAll, KeepsButTop, KeepsRequest, KeepsTerms, NothingElse}
-use Rattle.watch_laws.specs.Presence.{IsIndexNow}
 use Rattle.watch_laws.proofs.Tracking.{replied_forest}
 
 -- ---- an entry that owes a lookup at once

@@ -1,16 +1,13 @@
 -- Counting: how many pass a test, and how many lanes hold requests of different entries. For the law of outages.
 use Rattle.std.proofs.Common.{◌≡◌, ◌⊎◌, ◌∙◌, ℕ, zero, suc, ◌+◌, ◌<◌, ◌≤◌, Bool, true, false, not, cond, ◌&&◌, ◌||◌, ◌==◌, if◌then◌else◌, List, [], ◌∷◌, All, filter, length, map, min, Option, Some, None, nat_le, nat_lt, refl, sym, ap, subst, arith, inl, inr}
-use Rattle.std.proofs.lemmas.Bool.{and_from, and_parts, cases_Bool, cases_eq, cases_lt, eqb-true}
 use Rattle.std.proofs.lemmas.Bool.Decides.{nat_tests}
+use Rattle.std.proofs.lemmas.Bool.{and_from, and_parts, cases_Bool, cases_eq, cases_lt, eqb-true}
 use Rattle.std.proofs.lemmas.List.Elements.{All-cons, All-filter, All-head, All-nil, All-tail, filter_passes}
 use Rattle.std.specs.List.{list_any}
-use Rattle.watch_machine.specs.declared.lanes.Out.{Out}
-use Rattle.watch_machine.specs.Wanted.{least}
-use Rattle.watch_machine.proofs.Cases.{not_both}
-use Rattle.watch_machine.proofs.Leasts.{least_start}
+use Rattle.watch_machine.specs.{declared.lanes.Out.Out, Wanted.least}
+use Rattle.watch_machine.proofs.{Cases.not_both, Leasts.least_start}
 use Rattle.watch_laws.specs.Outage.{how_many, one_where}
-use Rattle.watch_laws.proofs.Alone.{lanes_of}
-use Rattle.watch_laws.proofs.Spacing.{same_index}
+use Rattle.watch_laws.proofs.{Alone.lanes_of, Spacing.same_index}
 
 one_less : (p q : Bool) → (p ≡ true → q ≡ true) → one_where p ≤ one_where q
 one_less true q h = let e = ap one_where (h refl) in omega (arith, e)
@@ -173,17 +170,6 @@ lanes_apart n test (q ∷ out) once all =
       or_more : (a b : Bool) → b ≡ true → a || b ≡ true
       or_more true b h = refl
       or_more false b h = h
-
--- some of a list has what all have that pass
-pub least_some :
-    (test : Out → Bool) (f : Out → ℕ) (bound : ℕ) (out : List Out) → list_any test out ≡ true → All (λ (q : Out). test q ≡ true → f q ≤ bound) out → (m : ℕ) → least m (map f out) ≤ bound
-least_some test f bound [] any all m = absurd cc
-least_some test f bound (q ∷ out) any all m =
-    let P : Out → Type 0 = λ r. test r ≡ true → f r ≤ bound in
-    elim (cases_Bool (test q)) [
-      | inl here ↦ (let start = least_start (min m (f q)) (map f out) in let b = All-head P q out all here in omega (arith, start, b))
-      | inr other ↦ least_some test f bound out (sym (ap (λ b. b || list_any test out) other) ∙ any) (All-tail P q out all) (min m (f q))
-    ]
 
 -- the least is no more than any of them
 pub least_all : (f : Out → ℕ) (m : ℕ) (out : List Out) → All (λ (q : Out). least m (map f out) ≤ f q) out

@@ -1,28 +1,18 @@
 -- Dates: what the date of one reply makes of the broker's clock. For the law of dates.
 use Rattle.std.proofs.Common.{◌≡◌, ◌∙◌, ℕ, ◌+◌, ◌-◌, ◌<◌, ◌≤◌, Bool, true, false, ◌&&◌, ◌||◌, if◌then◌else◌, List, [], ◌∷◌, Option, Some, None, is_none, min, nat_lt, refl, sym, ap, subst, arith, inl, inr}
-use Rattle.std.proofs.lemmas.Bool.{cases_Bool, cond-false, cond-true, or_left, or_right}
 use Rattle.std.proofs.lemmas.Bool.Decides.{nat_tests}
+use Rattle.std.proofs.lemmas.Bool.{cases_Bool, cond-false, cond-true, or_left, or_right}
 use Rattle.base_moment.specs.declared.moment.TheConstants.{LAST}
-use Rattle.watch_machine.specs.declared.clocks.BrokerOffset.{BrokerOffset}
-use Rattle.watch_machine.specs.declared.clocks.Clocks.{Clocks}
-use Rattle.watch_machine.specs.declared.command.WatchOutput.{WatchOutput}
-use Rattle.watch_machine.specs.declared.event.WatchReply.{WatchReply}
-use Rattle.watch_machine.specs.declared.event.WatchReply.TheVariants.{Told, Refused, Busy, Lost}
-use Rattle.watch_machine.specs.declared.lanes.LaneAnswer.{LaneAnswer}
-use Rattle.watch_machine.specs.declared.notes.Notes.{Notes}
+use Rattle.watch_machine.specs.{declared.clocks.BrokerOffset.BrokerOffset, declared.clocks.Clocks.Clocks, declared.command.WatchOutput.WatchOutput, declared.event.WatchReply.WatchReply, declared.event.WatchReply.TheVariants.Told}
+use Rattle.watch_machine.specs.{declared.lanes.LaneAnswer.LaneAnswer, declared.notes.Notes.Notes, Press.pressed, Round.asked_by_round, State.WatchState, State.second}
 use Rattle.watch_machine.specs.Clocks.{dated_by, first_clocks, is_ahead, is_behind, is_stepped, reading, sec, to_broker, walled}
-use Rattle.watch_machine.specs.Press.{pressed}
-use Rattle.watch_machine.specs.Round.{asked_by_round}
 use Rattle.watch_machine.specs.Settling.{at_reading, clocks_after, date_of, dated_by_all, dated_on, has_stepped, is_step, read, settled, steps, timed}
-use Rattle.watch_machine.specs.State.{WatchState, second}
 use Rattle.watch_machine.specs.Step.{StepClock, readied, why}
 use Rattle.watch_machine.proofs.Cases.{if_both}
 use Rattle.watch_laws.specs.Clocks.{date_told}
 use Rattle.watch_laws.specs.Dates.{IsAheadOf, IsBehindOf, IsDatedBy, IsSteppedBy, WindowLaw}
-use Rattle.watch_laws.proofs.Begins.{begun_stepped, turn_of}
+use Rattle.watch_laws.proofs.{Begins.begun_stepped, Begins.turn_of, Dating.clock_of, Dating.reached_clocked, OnPlan.sec_rises}
 use Rattle.watch_laws.proofs.Clocking.{clock_rises, dated_at, sent_by}
-use Rattle.watch_laws.proofs.Dating.{clock_of, reached_clocked}
-use Rattle.watch_laws.proofs.OnPlan.{sec_rises}
 
 -- what the readings leave of a broker's clock that a date has set
 read_kept : (c : Clocks) (wall elapsed : ℕ) → c.dated ≡ true → ((read c wall elapsed).broker ≡ c.broker) × ((read c wall elapsed).dated ≡ true)

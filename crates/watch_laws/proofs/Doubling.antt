@@ -1,29 +1,15 @@
 -- Doubling: how long an entry pauses after a failure. For the law of pauses that double.
 use Rattle.std.proofs.Common.{◌≡◌, ◌∙◌, ℕ, ◌+◌, ◌<◌, ◌≤◌, Bool, true, false, ◌&&◌, Option, Some, None, Result, Ok, Err, nat_le, refl, sym, ap, subst, arith}
-use Rattle.std.proofs.lemmas.Bool.{cond-false, cond-true}
-use Rattle.std.proofs.lemmas.Bool.Decides.{nat_tests}
-use Rattle.watch_machine.specs.declared.command.WatchOutput.{WatchOutput}
-use Rattle.watch_machine.specs.declared.event.WatchEvent.{WatchEvent}
-use Rattle.watch_machine.specs.declared.event.WatchEvent.TheVariants.{Clock, Looked, Renewed, Need, Begin, Known}
-use Rattle.watch_machine.specs.declared.fault.WatchFault.{WatchFault}
-use Rattle.watch_machine.specs.declared.notes.Notes.{Notes}
-use Rattle.watch_machine.specs.declared.track.Track.{Track}
-use Rattle.watch_machine.specs.declared.track.Try.{Try}
-use Rattle.watch_machine.specs.Beginning.{begun, hastened}
-use Rattle.watch_machine.specs.Lines.{rested}
-use Rattle.watch_machine.specs.History.{Turn}
-use Rattle.watch_machine.specs.Pauses.{pause}
-use Rattle.watch_machine.specs.Press.{pressed}
-use Rattle.watch_machine.specs.Round.{asked_by_round as round_of}
+use Rattle.std.proofs.lemmas.{Bool.cond-false, Bool.cond-true, Bool.Decides.nat_tests}
+use Rattle.watch_machine.specs.{declared.command.WatchOutput.WatchOutput, declared.event.WatchEvent.WatchEvent, declared.event.WatchEvent.TheVariants.Clock, declared.fault.WatchFault.WatchFault, declared.notes.Notes.Notes}
+use Rattle.watch_machine.specs.{declared.track.Track.Track, declared.track.Try.Try, Beginning.begun, Beginning.hastened, Lines.rested, History.Turn, Pauses.pause, Press.pressed, Round.asked_by_round as round_of}
 use Rattle.watch_machine.specs.Settling.{settled, settled_track, settled_try, timed}
 use Rattle.watch_machine.specs.State.{WatchState, attempt_at, track_at}
 use Rattle.watch_machine.specs.Step.{StepClock, readied, why}
-use Rattle.watch_machine.proofs.Cases.{value_is}
-use Rattle.watch_machine.proofs.Seeing.{each_read}
-use Rattle.watch_laws.specs.Pauses.{DoubledLaw, IsPaused, IsUnpaused, TryWaits, UnpausedLaw, pause_of, was_out_long}
+use Rattle.watch_machine.proofs.{Cases.value_is, Seeing.each_read}
 use Rattle.watch_laws.specs.Waiting.{TryFails}
-use Rattle.watch_laws.proofs.Clocking.{readied_clocks, sent_by}
-use Rattle.watch_laws.proofs.Minding.{some_within}
+use Rattle.watch_laws.specs.Pauses.{DoubledLaw, IsPaused, IsUnpaused, TryWaits, UnpausedLaw, pause_of, was_out_long}
+use Rattle.watch_laws.proofs.{Clocking.readied_clocks, Clocking.sent_by, Minding.some_within}
 use Rattle.watch_laws.proofs.Tries.{Passes, begun_passes, sent_passes}
 
 pause_is : (s : WatchState) (i at : ℕ) (t : Try) → pause s.forest.margin at (track_at s i) t ≡ pause_of s i at t

@@ -1,39 +1,27 @@
 -- Enduring: while the requests of an entry are lost it may go out again by some moment, once it is pressed. For the law of outages.
 use Rattle.std.proofs.Common.{◌≡◌, ◌⊎◌, ◌∙◌, ℕ, ◌+◌, ◌-◌, ◌*◌, ◌/◌, ◌<◌, ◌≤◌, Bool, true, false, max, min, not, ◌&&◌, ◌||◌, ◌==◌, if◌then◌else◌, List, [], ◌∷◌, ◌++◌, Option, Some, None, All, length, nat_le, nat_lt, refl, sym, ap, subst, arith, inl, inr, true≢false}
+use Rattle.std.proofs.lemmas.{Bool.Decides.nat_tests, List.Elements.All-filter, List.Elements.All-weaker}
 use Rattle.std.proofs.lemmas.Bool.{and_from, and_parts, cases_Bool, cond-false, cond-true, or_parts, or_right}
-use Rattle.std.proofs.lemmas.Bool.Decides.{nat_tests}
-use Rattle.std.proofs.lemmas.List.Elements.{All-filter, All-weaker}
 use Rattle.std.specs.List.{list_any}
-use Rattle.plan_forest.specs.declared.entry.Entry.{Entry}
-use Rattle.plan_forest.specs.Forest.{entry_at}
+use Rattle.plan_forest.specs.{declared.entry.Entry.Entry, Forest.entry_at}
+use Rattle.watch_machine.specs.{declared.event.WatchReply.WatchReply, declared.lanes.LaneAnswer.LaneAnswer, declared.lanes.Out.Out, declared.lanes.Presence.Presence, declared.notes.BeginReason.BeginReason, declared.track.End.TheVariants.At}
+use Rattle.watch_machine.specs.{declared.track.Track.Track, declared.track.Try.Try, Clocks.ms, Clocks.sec, Lines.is_first, Lines.rested, Step.readied, Step.why}
 use Rattle.watch_machine.specs.declared.event.Operation.TheVariants.{Look, Renew}
-use Rattle.watch_machine.specs.declared.event.WatchReply.{WatchReply}
-use Rattle.watch_machine.specs.declared.event.WatchReply.TheVariants.{Told, Refused, Busy, Lost}
-use Rattle.watch_machine.specs.declared.lanes.LaneAnswer.{LaneAnswer}
-use Rattle.watch_machine.specs.declared.lanes.Out.{Out}
-use Rattle.watch_machine.specs.declared.lanes.Presence.{Presence}
-use Rattle.watch_machine.specs.declared.notes.BeginReason.{BeginReason}
-use Rattle.watch_machine.specs.declared.track.End.TheVariants.{At}
-use Rattle.watch_machine.specs.declared.track.Track.{Track}
-use Rattle.watch_machine.specs.declared.track.Try.{Try}
+use Rattle.watch_machine.specs.declared.event.WatchReply.TheVariants.{Told, Refused, Lost}
 use Rattle.watch_machine.specs.Answers.{answers_all, back_track, back_try, due_again, failing, is_back, lane_freed, presence_gone, replied, silent, without_request}
 use Rattle.watch_machine.specs.Beginning.{begun, hastened, is_called, is_pressed, is_pressed_try, is_start, owed, owing, owing_lookup, soon, sooner_try, untopped, untopped_track}
-use Rattle.watch_machine.specs.Clocks.{ms, sec}
-use Rattle.watch_machine.specs.Lines.{is_first, rested}
 use Rattle.watch_machine.specs.Looked.{untold, untold_track, untold_try}
 use Rattle.watch_machine.specs.Pauses.{cap, cap_of, left_to, pause}
 use Rattle.watch_machine.specs.Press.{asked_track, dropped, is_fresh, let_go, press, pressed, pressed_alone, pressed_track, track_asked_in}
 use Rattle.watch_machine.specs.Renewed.{ungranted, ungranted_track, ungranted_try}
 use Rattle.watch_machine.specs.Settling.{is_real, is_silent, presence_after, settled, settled_track, settled_try, timed}
 use Rattle.watch_machine.specs.State.{WatchState, attempt_at, each, no_track, track_at, track_in}
-use Rattle.watch_machine.specs.Step.{readied, why}
 use Rattle.watch_machine.specs.Wanted.{is_open, need_of, wants}
 use Rattle.watch_machine.proofs.Cases.{if_both, if_cases, not_both, value_is}
-use Rattle.watch_laws.specs.Outage.{Outage, again, is_request_whole, outage_settled_by}
 use Rattle.watch_laws.specs.Presence.{is_told}
-use Rattle.watch_laws.proofs.Lanes.{all_left}
+use Rattle.watch_laws.specs.Outage.{Outage, again, is_request_whole, outage_settled_by}
+use Rattle.watch_laws.proofs.{Lanes.all_left, Tracking.back_kept, Tracking.each_holds}
 use Rattle.watch_laws.proofs.Retrying.{held_least, held_to, pause_within}
-use Rattle.watch_laws.proofs.Tracking.{back_kept, each_holds}
 
 -- by then every request that is not whole is settled, and a clock was handed in after it
 abbrev pub cut : Outage → ℕ

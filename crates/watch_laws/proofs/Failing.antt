@@ -1,33 +1,21 @@
 -- Failing: what an answer that tells nothing leaves of a try. For the law of failures.
 use Rattle.std.proofs.Common.{◌≡◌, ◌∙◌, ◌⊎◌, ℕ, Bool, true, false, if◌then◌else◌, [], ◌∷◌, Option, Some, None, Result, Ok, Err, IfSome, min, refl, sym, ap, subst, arith, inl, inr, true≢false}
 use Rattle.std.proofs.lemmas.Bool.{cond-true}
-use Rattle.watch_machine.specs.declared.command.WatchOutput.{WatchOutput}
-use Rattle.watch_machine.specs.declared.event.WatchEvent.{WatchEvent}
-use Rattle.watch_machine.specs.declared.event.WatchEvent.TheVariants.{Clock, Looked, Renewed, Need, Begin, Known}
+use Rattle.watch_machine.specs.{declared.command.WatchOutput.WatchOutput, declared.event.WatchEvent.WatchEvent, declared.event.WatchReply.WatchReply, declared.event.WatchTerms.WatchTerms, declared.fault.WatchFault.WatchFault}
+use Rattle.watch_machine.specs.{declared.lanes.Out.Out, declared.track.Track.Track, declared.track.Try.Try, Clocks.sec, History.Turn, Lines.rested, Refusal.request_out, Wanted.is_open}
+use Rattle.watch_machine.specs.declared.event.WatchEvent.TheVariants.{Looked, Renewed}
 use Rattle.watch_machine.specs.declared.event.Operation.TheVariants.{Look, Renew}
-use Rattle.watch_machine.specs.declared.event.WatchReply.{WatchReply}
 use Rattle.watch_machine.specs.declared.event.WatchReply.TheVariants.{Told, Refused, Busy, Lost}
-use Rattle.watch_machine.specs.declared.event.WatchTerms.{WatchTerms}
-use Rattle.watch_machine.specs.declared.fault.WatchFault.{WatchFault}
-use Rattle.watch_machine.specs.declared.lanes.Out.{Out}
-use Rattle.watch_machine.specs.declared.track.Track.{Track}
-use Rattle.watch_machine.specs.declared.track.Try.{Try}
 use Rattle.watch_machine.specs.Answers.{back_track, back_try, due_again, failing, lane_freed, noted, replied, silent, with_track}
-use Rattle.watch_machine.specs.Clocks.{sec}
-use Rattle.watch_machine.specs.History.{Turn}
-use Rattle.watch_machine.specs.Lines.{rested}
 use Rattle.watch_machine.specs.Looked.{looked, refused_try, untold, untold_track}
-use Rattle.watch_machine.specs.Refusal.{request_out}
 use Rattle.watch_machine.specs.Renewed.{renewed_track, state_renewed, ungranted, ungranted_track}
 use Rattle.watch_machine.specs.State.{WatchState, attempt_at, each, no_track, track_at, track_in}
 use Rattle.watch_machine.specs.Step.{Step, StepLooked, StepRenewed}
-use Rattle.watch_machine.specs.Wanted.{is_open}
-use Rattle.watch_machine.proofs.Cases.{if_both, if_cases, not_both}
 use Rattle.watch_machine.proofs.Within.{out_entry}
-use Rattle.watch_laws.specs.Failures.{FailedLaw, FailsRight, FailsTaken, IsLostToBusy, LookupFails, MayGoNow, RenewalFails, TryHasFailed}
+use Rattle.watch_machine.proofs.Cases.{if_both, if_cases, not_both}
 use Rattle.watch_laws.specs.Presses.{asked_again_at}
-use Rattle.watch_laws.proofs.Answering.{looked_leaves}
-use Rattle.watch_laws.proofs.Presses.{again_is}
+use Rattle.watch_laws.specs.Failures.{FailedLaw, FailsRight, FailsTaken, IsLostToBusy, LookupFails, MayGoNow, RenewalFails, TryHasFailed}
+use Rattle.watch_laws.proofs.{Answering.looked_leaves, Presses.again_is}
 use Rattle.watch_laws.proofs.Tracking.{back_kept, each_holds, set_holds}
 
 -- the broker's return leaves a try that was refused

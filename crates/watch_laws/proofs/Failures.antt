@@ -1,35 +1,21 @@
 -- Failures: what a reply that tells nothing makes of a try. For the law of what is asked after a failure.
 use Rattle.std.proofs.Common.{◌≡◌, ◌∙◌, ℕ, ◌<◌, Bool, true, false, not, ◌&&◌, if◌then◌else◌, Option, Some, None, Result, Ok, Err, length, refl, sym, ap, subst, true≢false}
 use Rattle.std.proofs.lemmas.List.{get_or-set_same}
-use Rattle.watch_machine.specs.declared.command.WatchOutput.{WatchOutput}
-use Rattle.watch_machine.specs.declared.event.WatchEvent.{WatchEvent}
+use Rattle.watch_machine.specs.{declared.command.WatchOutput.WatchOutput, declared.event.WatchEvent.WatchEvent, declared.event.Operation.Operation, declared.event.WatchReply.WatchReply, declared.event.WatchTerms.WatchTerms}
+use Rattle.watch_machine.specs.{declared.fault.WatchFault.WatchFault, declared.lanes.Out.Out, declared.track.Track.Track, declared.track.Try.Try, Clocks.sec, History.Turn, Lines.rested, Refusal.request_out, Wanted.is_alive, Wanted.is_open}
 use Rattle.watch_machine.specs.declared.event.WatchEvent.TheVariants.{Looked, Renewed}
-use Rattle.watch_machine.specs.declared.event.Operation.{Operation}
 use Rattle.watch_machine.specs.declared.event.Operation.TheVariants.{Look, Renew}
-use Rattle.watch_machine.specs.declared.event.WatchReply.{WatchReply}
 use Rattle.watch_machine.specs.declared.event.WatchReply.TheVariants.{Told, Refused, Busy, Lost}
-use Rattle.watch_machine.specs.declared.event.WatchTerms.{WatchTerms}
-use Rattle.watch_machine.specs.declared.fault.WatchFault.{WatchFault}
-use Rattle.watch_machine.specs.declared.lanes.Out.{Out}
-use Rattle.watch_machine.specs.declared.track.Track.{Track}
-use Rattle.watch_machine.specs.declared.track.Try.{Try}
 use Rattle.watch_machine.specs.Answers.{back_track, back_try, due_again, failing, noted, replied, with_track}
-use Rattle.watch_machine.specs.Clocks.{sec}
-use Rattle.watch_machine.specs.History.{Turn}
-use Rattle.watch_machine.specs.Lines.{rested}
 use Rattle.watch_machine.specs.Looked.{looked, untold, untold_track, untold_try}
-use Rattle.watch_machine.specs.Refusal.{request_out}
 use Rattle.watch_machine.specs.Renewed.{renewed_track, state_renewed, ungranted, ungranted_track, ungranted_try}
 use Rattle.watch_machine.specs.State.{WatchState, attempt_at, no_track, second, track_at}
 use Rattle.watch_machine.specs.Step.{Step, StepLooked, StepRenewed}
-use Rattle.watch_machine.specs.Wanted.{is_alive, is_open}
-use Rattle.watch_machine.proofs.Cases.{if_cases, not_both, value_is}
 use Rattle.watch_machine.proofs.Within.{out_entry}
-use Rattle.watch_laws.specs.Absence.{is_event_taken}
+use Rattle.watch_machine.proofs.Cases.{if_cases, not_both, value_is}
+use Rattle.watch_laws.specs.{Absence.is_event_taken, Presence.is_told}
 use Rattle.watch_laws.specs.Failures.{FailureLaw, IsFailure, asked_after_lookup, asked_after_renewal, is_refused}
-use Rattle.watch_laws.specs.Presence.{is_told}
-use Rattle.watch_laws.proofs.Minding.{some_within}
-use Rattle.watch_laws.proofs.Tracking.{back_kept, set_holds}
+use Rattle.watch_laws.proofs.{Minding.some_within, Tracking.back_kept, Tracking.set_holds}
 
 -- what holds of the try of an entry that is not out holds when the broker is back, if it holds of one that was lost and is due again
 module _ (Q : Try → Type 0) (again : (t : Try) (from : ℕ) → t.lost ≡ true → Q t → Q (due_again t from)) where

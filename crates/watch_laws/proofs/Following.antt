@@ -1,31 +1,18 @@
 -- Following: what is known of an entry after a change, by what was known of it, and which requests are out of it. For the laws over whole runs.
 use Rattle.std.proofs.Common.{◌≡◌, ◌∙◌, ℕ, suc, ◌<◌, ◌≤◌, Bool, true, false, cond, ◌&&◌, ◌||◌, ◌==◌, List, [], ◌∷◌, Option, Some, None, Result, filter, length, refl, sym, ap, subst, arith, inl, inr}
-use Rattle.std.proofs.lemmas.Bool.{cases_lt, eqb-true}
-use Rattle.std.proofs.lemmas.List.{get_or_past, length-map}
+use Rattle.std.proofs.lemmas.{Bool.cases_lt, Bool.eqb-true, List.get_or_past, List.length-map, List.FromFn.length-map-range_with_len, Bool.Decides.nat_tests}
 use Rattle.std.proofs.lemmas.List.Elements.{All-cons, All-head, All-nil, All-tail}
-use Rattle.std.proofs.lemmas.List.FromFn.{length-map-range_with_len}
 use Rattle.std.specs.List.{All, list_any}
-use Rattle.std.proofs.lemmas.Bool.Decides.{nat_tests}
-use Rattle.plan_forest.specs.declared.entry.Entry.{Entry}
-use Rattle.plan_forest.specs.Forest.{Forest, entry_at}
-use Rattle.watch_machine.specs.declared.change.Was.{Was}
+use Rattle.plan_forest.specs.{declared.entry.Entry.Entry, Forest.Forest, Forest.entry_at}
+use Rattle.watch_machine.specs.{declared.change.Was.Was, declared.lanes.Out.Out, declared.track.Track.Track, declared.command.WatchOutput.WatchOutput, declared.event.WatchEvent.WatchEvent, declared.fault.WatchFault.WatchFault}
 use Rattle.watch_machine.specs.declared.change.Was.TheVariants.{New, Same, Retold}
-use Rattle.watch_machine.specs.declared.lanes.Out.{Out}
-use Rattle.watch_machine.specs.declared.track.Track.{Track}
-use Rattle.watch_machine.specs.declared.command.WatchOutput.{WatchOutput}
-use Rattle.watch_machine.specs.declared.event.WatchEvent.{WatchEvent}
-use Rattle.watch_machine.specs.declared.fault.WatchFault.{WatchFault}
 use Rattle.watch_machine.specs.Beginning.{owing_lookup, soon, sooner_try, untopped_track}
 use Rattle.watch_machine.specs.Change.{entry_by, forest_after, former, former_at, index_or, moved_out, out_after, place_now, track_by, tracks_after, was_at}
 use Rattle.watch_machine.specs.History.{Changed, Hands, IsChanged, IsReached, Turn, Turned, stood_at_some}
 use Rattle.watch_machine.specs.State.{WatchState, fresh_track, no_track, opened, track_at}
 use Rattle.watch_machine.proofs.Cases.{if_cases, not_both, value_is}
 use Rattle.watch_machine.proofs.Moved.{index_new, index_same, place_there}
-use Rattle.watch_laws.proofs.Changing.{its_track, low}
-use Rattle.watch_laws.proofs.Lanes.{is_of}
-use Rattle.watch_laws.proofs.Reached.{reached_has}
-use Rattle.watch_laws.proofs.Shapes.{turn_shape}
-use Rattle.watch_laws.proofs.Topping.{turn_count}
+use Rattle.watch_laws.proofs.{Changing.its_track, Changing.low, Lanes.is_of, Reached.reached_has, Shapes.turn_shape, Topping.turn_count}
 
 -- an entry that owes a lookup: it is out, or has a try
 pub owed_is :

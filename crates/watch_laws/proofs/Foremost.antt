@@ -1,47 +1,25 @@
 -- Foremost: while the broker is there, whatever goes out at a clock before an entry of known end whose time has come, and that has not
 -- failed, stands before it. For the laws of a start and of partial outages.
 use Rattle.std.proofs.Common.{◌≡◌, ◌≢◌, ◌∙◌, ℕ, ◌<◌, ◌≤◌, Bool, true, false, not, ◌&&◌, ◌==◌, List, [], ◌∷◌, Option, Some, None, All, Result, Ok, Err, get_or, length, refl, sym, ap, subst, arith, inl, inr}
-use Rattle.std.proofs.lemmas.Bool.{and_from, cases_Bool, cases_lt}
 use Rattle.std.proofs.lemmas.Bool.Decides.{nat_tests}
+use Rattle.std.proofs.lemmas.Bool.{and_from, cases_Bool, cases_lt}
 use Rattle.std.proofs.lemmas.List.Elements.{All-cons, All-map, All-nil}
 use Rattle.std.specs.List.{list_any}
 use Rattle.plan_forest.specs.declared.entry.Entry.{Entry}
-use Rattle.watch_machine.specs.declared.command.WatchCommand.TheVariants.{Taken}
-use Rattle.watch_machine.specs.declared.command.WatchOutput.{WatchOutput}
-use Rattle.watch_machine.specs.declared.command.WatchRequest.{WatchRequest}
-use Rattle.watch_machine.specs.declared.event.WatchEvent.{WatchEvent}
-use Rattle.watch_machine.specs.declared.event.WatchEvent.TheVariants.{Clock, Looked, Renewed, Need, Begin, Known}
+use Rattle.watch_machine.specs.{declared.command.WatchCommand.TheVariants.Taken, declared.command.WatchOutput.WatchOutput, declared.command.WatchRequest.WatchRequest, declared.event.WatchEvent.WatchEvent}
+use Rattle.watch_machine.specs.{declared.event.WatchReply.WatchReply, declared.event.WatchTerms.WatchTerms, declared.fault.WatchFault.WatchFault, declared.lanes.Out.Out, declared.track.Track.Track, declared.track.Try.Try, Clocks.sec}
+use Rattle.watch_machine.specs.{History.Turn, Lines.is_due, Lines.is_first, Margins.has_come, Margins.time, Press.pressed, Refusal.is_same, Refusal.request_out, Wait.wait, Wanted.is_alive}
+use Rattle.watch_machine.specs.declared.event.WatchEvent.TheVariants.{Clock, Looked, Renewed}
 use Rattle.watch_machine.specs.declared.event.Operation.TheVariants.{Look, Renew}
-use Rattle.watch_machine.specs.declared.event.WatchReply.{WatchReply}
-use Rattle.watch_machine.specs.declared.event.WatchTerms.{WatchTerms}
-use Rattle.watch_machine.specs.declared.fault.WatchFault.{WatchFault}
-use Rattle.watch_machine.specs.declared.lanes.Out.{Out}
-use Rattle.watch_machine.specs.declared.track.Track.{Track}
-use Rattle.watch_machine.specs.declared.track.Try.{Try}
-use Rattle.watch_machine.specs.Clocks.{sec}
-use Rattle.watch_machine.specs.History.{Turn}
-use Rattle.watch_machine.specs.Lines.{is_due, is_first}
-use Rattle.watch_machine.specs.Margins.{has_come, time}
-use Rattle.watch_machine.specs.Press.{pressed}
-use Rattle.watch_machine.specs.Refusal.{is_same, request_out}
 use Rattle.watch_machine.specs.Sending.{is_before, place, sent, sent_in}
 use Rattle.watch_machine.specs.State.{WatchState, entry_of, second, track_at}
 use Rattle.watch_machine.specs.Step.{Step, StepLooked, StepRenewed, readied}
-use Rattle.watch_machine.specs.Wait.{wait}
-use Rattle.watch_machine.specs.Wanted.{is_alive}
-use Rattle.watch_machine.proofs.Cases.{not_both, value_is}
-use Rattle.watch_machine.proofs.Written.{each_length}
-use Rattle.watch_laws.specs.Load.{requests_asked_by, requests_at_turn}
-use Rattle.watch_laws.specs.Partial.{is_own_try, stands_before}
-use Rattle.watch_laws.specs.Recovery.{MayGo}
-use Rattle.watch_laws.specs.Starts.{IsToRenew, KnownFirstLaw}
-use Rattle.watch_laws.specs.Time.{is_come}
-use Rattle.watch_laws.specs.Waiting.{IsMinded}
+use Rattle.watch_machine.proofs.{Cases.not_both, Cases.value_is, Written.each_length}
+use Rattle.watch_laws.specs.{Load.requests_asked_by, Load.requests_at_turn, Partial.is_own_try, Partial.stands_before, Recovery.MayGo, Starts.IsToRenew, Starts.KnownFirstLaw, Time.is_come, Waiting.IsMinded}
+use Rattle.watch_laws.proofs.{Lanes.Ticks, Lanes.ticks, Spacing.passed_over}
 use Rattle.watch_laws.proofs.Fronts.{front_at, fronts, own_at, sent_front, sent_own}
 use Rattle.watch_laws.proofs.Going.{counts, entry_by, request_at, skips, some_named, times}
-use Rattle.watch_laws.proofs.Lanes.{Ticks, ticks}
 use Rattle.watch_laws.proofs.Minding.{due_so, end_minded, not_named, some_within}
-use Rattle.watch_laws.proofs.Spacing.{passed_over}
 
 -- ---- a clock
 

@@ -1,32 +1,21 @@
 -- Foreseen: the least time of the entries that are wanted is the first moment of the least and latest plan. For the law of the next
 -- moment.
 use Rattle.std.proofs.Common.{◌≡◌, ◌∙◌, ℕ, ◌+◌, ◌-◌, ◌<◌, ◌≤◌, Bool, true, false, not, ◌&&◌, ◌||◌, List, [], ◌∷◌, Some, None, length, nat_lt, refl, sym, ap, arith, inl, inr}
-use Rattle.std.proofs.lemmas.Bool.{cases_Bool}
-use Rattle.std.proofs.lemmas.Bool.Decides.{nat_tests}
+use Rattle.std.proofs.lemmas.{Bool.cases_Bool, Bool.Decides.nat_tests}
 use Rattle.base_moment.specs.declared.moment.TheConstants.{LAST}
-use Rattle.plan_forest.specs.declared.entry.Entry.{Entry}
-use Rattle.plan_forest.specs.Carried.{carried}
-use Rattle.plan_forest.specs.Push.{IsForest}
+use Rattle.plan_forest.specs.{declared.entry.Entry.Entry, Carried.carried, Push.IsForest}
 use Rattle.plan_forest.proofs.Carrying.{and_right, carried_is_of}
-use Rattle.plan_rule.specs.Asks.{first_of}
-use Rattle.plan_rule.specs.Forced.{bound, latest_end}
-use Rattle.plan_rule.specs.Schedule.{IsNextMoment, IsSchedule}
-use Rattle.plan_rule.specs.Unkeepable.{AllKeepable}
-use Rattle.plan_rule.proofs.Existence.{there_is_one}
-use Rattle.plan_rule.proofs.Lists.{need_within}
+use Rattle.plan_rule.specs.{Asks.first_of, Forced.bound, Forced.latest_end, Schedule.IsNextMoment, Schedule.IsSchedule, Unkeepable.AllKeepable}
+use Rattle.plan_rule.proofs.{Existence.there_is_one, Lists.need_within, Schedule.schedule_is_best}
 use Rattle.plan_rule.proofs.Next.{CanBeLed, can_be_led, renewable_within}
-use Rattle.plan_rule.proofs.Schedule.{schedule_is_best}
-use Rattle.watch_machine.specs.declared.track.End.{End}
+use Rattle.watch_machine.specs.{declared.track.End.End, History.History, History.Turned, Outlook.time_of}
 use Rattle.watch_machine.specs.declared.track.End.TheVariants.{Unknown, At, Never}
-use Rattle.watch_machine.specs.History.{History, Turned}
 use Rattle.watch_machine.specs.Margins.{asking_margin, is_in_plan, own_margin, time, time_before}
-use Rattle.watch_machine.specs.Outlook.{time_of}
 use Rattle.watch_machine.specs.State.{WatchState, entry_of, second, track_at}
 use Rattle.watch_machine.specs.Wanted.{believed, is_never, is_unknown, is_wanted, wanted_need, wants}
 use Rattle.watch_laws.specs.Calm.{AllForeseen, AllInPlan, IsForeseen, IsKeepable, IsLeastTime, IsPlanNow, NextMomentLaw, NobodyTriesLast, believed_forest, ends, in_plan_at, planned_need, terms}
+use Rattle.watch_laws.proofs.{Forested.reached_forest, Forested.turned_forest, Trying.asking_own, Trying.need_cut}
 use Rattle.watch_laws.proofs.Believed.{believed_at, believed_count, believed_is_forest, believed_margin, carried_believed}
-use Rattle.watch_laws.proofs.Forested.{reached_forest, turned_forest}
-use Rattle.watch_laws.proofs.Trying.{asking_own, need_cut}
 
 -- the need that counts for an entry which is not at its top is that of the plan
 pub need_planned : (s : WatchState) (i : ℕ) → (track_at s i).top ≡ false → wanted_need s i ≡ planned_need s i

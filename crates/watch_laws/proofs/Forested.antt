@@ -1,38 +1,19 @@
 -- Forested: the forest of a watch stays a forest, whatever events come. For the laws of calm.
 use Rattle.std.proofs.Common.{◌≡◌, ℕ, ◌<◌, Option, Some, None, Result, Ok, Err, length, min, refl, sym, subst, arith, inl, inr}
-use Rattle.std.proofs.lemmas.Bool.{cases_lt}
-use Rattle.std.proofs.lemmas.List.{set_past}
+use Rattle.std.proofs.lemmas.{Bool.cases_lt, List.set_past}
 use Rattle.base_moment.specs.declared.moment.TheConstants.{LAST}
-use Rattle.plan_forest.specs.declared.entry.Entry.{Entry}
-use Rattle.plan_forest.specs.Forest.{entry_at}
-use Rattle.plan_forest.specs.Push.{IsForest}
+use Rattle.plan_forest.specs.{declared.entry.Entry.Entry, Forest.entry_at, Push.IsForest}
 use Rattle.plan_forest.proofs.Placed.{Replaces, range_from_parts, range_parts, replaced_is_forest}
-use Rattle.watch_machine.specs.declared.command.WatchOutput.{WatchOutput}
-use Rattle.watch_machine.specs.declared.event.WatchEvent.{WatchEvent}
-use Rattle.watch_machine.specs.declared.event.WatchEvent.TheVariants.{Clock, Looked, Renewed, Need, Begin, Known}
+use Rattle.watch_machine.specs.{declared.command.WatchOutput.WatchOutput, declared.event.WatchEvent.WatchEvent, declared.event.WatchReply.WatchReply, declared.event.WatchReply.TheVariants.Told, declared.event.WatchTerms.WatchTerms}
+use Rattle.watch_machine.specs.{declared.fault.WatchFault.WatchFault, declared.lanes.Out.Out, declared.notes.BeginReason.BeginReason, Answers.noted, Beginning.begun, Press.pressed, Refusal.refusal, Refusal.request_out}
+use Rattle.watch_machine.specs.{Renewed.state_renewed, Round.asked_by_round, Settling.settled, Settling.timed, State.WatchState, State.opened}
+use Rattle.watch_machine.specs.declared.event.WatchEvent.TheVariants.{Clock, Looked, Renewed, Need}
 use Rattle.watch_machine.specs.declared.event.Operation.TheVariants.{Look, Renew}
-use Rattle.watch_machine.specs.declared.event.WatchReply.{WatchReply}
-use Rattle.watch_machine.specs.declared.event.WatchReply.TheVariants.{Told, Refused, Busy, Lost}
-use Rattle.watch_machine.specs.declared.event.WatchTerms.{WatchTerms}
-use Rattle.watch_machine.specs.declared.fault.WatchFault.{WatchFault}
-use Rattle.watch_machine.specs.declared.lanes.Out.{Out}
-use Rattle.watch_machine.specs.declared.notes.BeginReason.{BeginReason}
-use Rattle.watch_machine.specs.Answers.{noted}
-use Rattle.watch_machine.specs.Beginning.{begun}
 use Rattle.watch_machine.specs.History.{Changed, IsChanged, IsReached, Turn}
 use Rattle.watch_machine.specs.Looked.{by_terms, looked, with_terms}
-use Rattle.watch_machine.specs.Press.{pressed}
-use Rattle.watch_machine.specs.Refusal.{refusal, request_out}
-use Rattle.watch_machine.specs.Renewed.{state_renewed}
-use Rattle.watch_machine.specs.Round.{asked_by_round}
-use Rattle.watch_machine.specs.Settling.{settled, timed}
-use Rattle.watch_machine.specs.State.{WatchState, opened}
 use Rattle.watch_machine.specs.Step.{Step, StepLooked, StepRenewed, readied, why}
-use Rattle.watch_machine.proofs.Foresting.{forest_after_is_forest, told_is_forest}
-use Rattle.watch_machine.proofs.Within.{within_none}
-use Rattle.watch_laws.proofs.Clocking.{refused_stays, sent_by}
-use Rattle.watch_laws.proofs.Reached.{all_keep}
-use Rattle.watch_laws.proofs.Tracking.{replied_forest}
+use Rattle.watch_machine.proofs.{Foresting.forest_after_is_forest, Foresting.told_is_forest, Within.within_none}
+use Rattle.watch_laws.proofs.{Clocking.refused_stays, Clocking.sent_by, Reached.all_keep, Tracking.replied_forest}
 
 -- terms that are told of an entry that is no more are written of none
 any_forest : (s : WatchState) (i : ℕ) (terms : WatchTerms) → IsForest s.forest → IsForest (with_terms s i terms).forest

@@ -1,31 +1,21 @@
 -- Fronts: while the broker is there, what goes out at a clock before a first try that is an entry's own is such a first try, of an end no
 -- later, and keeps a lane for its patience at most. For the law of partial outages.
 use Rattle.std.proofs.Common.{◌≡◌, ◌≢◌, ◌∙◌, ℕ, zero, suc, ◌+◌, ◌-◌, ◌*◌, ◌^◌, ◌<◌, ◌≤◌, Bool, true, false, not, ◌&&◌, ◌||◌, ◌==◌, if◌then◌else◌, List, [], ◌∷◌, Option, Some, None, is_some, length, max, min, nat_lt, refl, sym, ap, arith, inl, inr}
-use Rattle.std.proofs.lemmas.Bool.{and_parts, cases_Bool, cond-false, cond-true, eqb-true, or_left, or_right}
 use Rattle.std.proofs.lemmas.Bool.Decides.{nat_tests}
+use Rattle.std.proofs.lemmas.Bool.{and_parts, cases_Bool, cond-false, cond-true, eqb-true, or_left, or_right}
 use Rattle.std.specs.List.{list_any}
-use Rattle.plan_forest.specs.declared.entry.Entry.{Entry}
-use Rattle.plan_forest.specs.Forest.{Forest, entry_at}
+use Rattle.plan_forest.specs.{declared.entry.Entry.Entry, Forest.Forest, Forest.entry_at}
+use Rattle.watch_machine.specs.{declared.command.WatchRequest.WatchRequest, declared.event.Operation.TheVariants.Renew, declared.lanes.Presence.Presence, declared.track.End.End, declared.track.Track.Track, declared.track.Try.Try}
+use Rattle.watch_machine.specs.{Clocks.sec, Refusal.is_same}
 use Rattle.watch_machine.specs.declared.command.Patience.TheVariants.{Full, AtMost}
-use Rattle.watch_machine.specs.declared.command.WatchRequest.{WatchRequest}
-use Rattle.watch_machine.specs.declared.event.Operation.TheVariants.{Renew}
-use Rattle.watch_machine.specs.declared.lanes.Presence.{Presence}
-use Rattle.watch_machine.specs.declared.track.End.{End}
-use Rattle.watch_machine.specs.declared.track.Track.{Track}
-use Rattle.watch_machine.specs.declared.track.Try.{Try}
-use Rattle.watch_machine.specs.Clocks.{sec}
 use Rattle.watch_machine.specs.Lines.{asked_rank, is_along, is_due, is_first, rank}
 use Rattle.watch_machine.specs.Margins.{asking_margin, has_come, own_margin, time}
-use Rattle.watch_machine.specs.Refusal.{is_same}
 use Rattle.watch_machine.specs.Sending.{is_alone, is_alone_try, is_before, is_partial, patience, place, place_of, request_of, sent, sent_in, sent_track}
 use Rattle.watch_machine.specs.State.{WatchState, entry_of, track_at, track_in}
 use Rattle.watch_machine.specs.Wanted.{believed, is_alive, is_unknown}
-use Rattle.watch_machine.proofs.Cases.{if_both}
-use Rattle.watch_machine.proofs.Written.{each_length}
+use Rattle.watch_machine.proofs.{Cases.if_both, Written.each_length}
 use Rattle.watch_laws.specs.Partial.{Partial, is_own_try, keeps_lane, longest, may_take}
-use Rattle.watch_laws.proofs.Going.{request_at}
-use Rattle.watch_laws.proofs.Owed.{due_some}
-use Rattle.watch_laws.proofs.Tracking.{each_kept}
+use Rattle.watch_laws.proofs.{Going.request_at, Owed.due_some, Tracking.each_kept}
 
 -- an entry's own first try, and whether it stands before that of i, by the tracks
 abbrev pub own_at : Forest → ℕ → List Track → ℕ → Bool

@@ -1,25 +1,16 @@
 -- Going: what goes out at a clock: as many requests as lanes are free at most, and of an entry nothing, or one request that was due. For
 -- the laws of load.
 use Rattle.std.proofs.Common.{◌≡◌, ◌⊎◌, ◌∙◌, ℕ, zero, suc, ◌+◌, ◌<◌, ◌≤◌, Bool, true, false, cond, ◌||◌, ◌==◌, List, [], ◌∷◌, Option, Some, None, All, IsPermutation, count_by, filter, get_or, length, map, take, zero-add, refl, sym, ap, subst, arith, inl, inr}
+use Rattle.std.proofs.lemmas.{Bool.Decides.nat_tests, List.Sums.sum_by-cons, List.Sums.sum_by-take-le}
 use Rattle.std.proofs.lemmas.Bool.{cases_Bool, cases_lt, eqb-true, or_left, or_right}
-use Rattle.std.proofs.lemmas.Bool.Decides.{nat_tests}
 use Rattle.std.proofs.lemmas.List.{get_or-take, length-take, take-map, take_all}
 use Rattle.std.proofs.lemmas.List.Elements.{All-cons, All-filter, All-head, All-map, All-nil, All-tail, All-take, filter_passes}
 use Rattle.std.proofs.lemmas.List.Sorted.{All-permutation, IsPermutation-map, sorted_far, sum_by-IsPermutation}
-use Rattle.std.proofs.lemmas.List.Sums.{sum_by-cons, sum_by-take-le}
 use Rattle.std.specs.List.{list_any, range_with_len}
-use Rattle.plan_forest.specs.declared.entry.Entry.{Entry}
-use Rattle.plan_forest.specs.Forest.{Forest, entry_at}
-use Rattle.watch_machine.specs.declared.command.WatchRequest.{WatchRequest}
-use Rattle.watch_machine.specs.declared.event.Operation.{Operation}
-use Rattle.watch_machine.specs.declared.event.Operation.TheVariants.{Look}
-use Rattle.watch_machine.specs.declared.lanes.Presence.{Presence}
-use Rattle.watch_machine.specs.declared.track.Track.{Track}
-use Rattle.watch_machine.specs.declared.track.Try.{Try}
-use Rattle.watch_machine.specs.Clocks.{sec}
-use Rattle.watch_machine.specs.Lines.{is_due}
+use Rattle.plan_forest.specs.{declared.entry.Entry.Entry, Forest.Forest, Forest.entry_at}
+use Rattle.watch_machine.specs.{declared.command.WatchRequest.WatchRequest, declared.event.Operation.Operation, declared.event.Operation.TheVariants.Look, declared.lanes.Presence.Presence, declared.track.Track.Track, declared.track.Try.Try}
+use Rattle.watch_machine.specs.{Clocks.sec, Lines.is_due, State.track_in}
 use Rattle.watch_machine.specs.Sending.{IsGoing, IsSendingOrder, Place, due, is_before, is_partial, place, place_of, request, request_of}
-use Rattle.watch_machine.specs.State.{track_in}
 use Rattle.watch_machine.proofs.Cases.{if_cases, not_both}
 use Rattle.watch_laws.specs.Load.{Sent, sent_at}
 use Rattle.watch_laws.proofs.Order.{line_order}

@@ -1,32 +1,15 @@
 -- GrantedFrom: from which second a grant counts, and whether it is at the top. For the laws of grants and of the top.
 use Rattle.std.proofs.Common.{◌≡◌, ◌∙◌, ℕ, ◌+◌, ◌-◌, ◌<◌, ◌≤◌, Bool, true, false, Option, Some, None, IfSome, Result, Ok, Err, length, min, nat_le, nat_lt, refl, sym, ap, subst, arith, true≢false}
+use Rattle.std.proofs.lemmas.{Bool.Decides.nat_tests, List.get_or-set_same}
 use Rattle.std.proofs.lemmas.Bool.{and_from, and_parts, cond-false, cond-true}
-use Rattle.std.proofs.lemmas.Bool.Decides.{nat_tests}
-use Rattle.std.proofs.lemmas.List.{get_or-set_same}
-use Rattle.watch_machine.specs.declared.command.WatchOutput.{WatchOutput}
-use Rattle.watch_machine.specs.declared.event.WatchEvent.{WatchEvent}
-use Rattle.watch_machine.specs.declared.event.WatchEvent.TheVariants.{Renewed}
-use Rattle.watch_machine.specs.declared.event.Operation.TheVariants.{Renew}
-use Rattle.watch_machine.specs.declared.event.WatchReply.TheVariants.{Told}
-use Rattle.watch_machine.specs.declared.fault.WatchFault.{WatchFault}
-use Rattle.watch_machine.specs.declared.lanes.Out.{Out}
-use Rattle.watch_machine.specs.declared.track.End.{End}
-use Rattle.watch_machine.specs.declared.track.End.TheVariants.{Unknown, At, Never}
-use Rattle.watch_machine.specs.declared.track.Grant.{Grant}
-use Rattle.watch_machine.specs.declared.track.Track.{Track}
-use Rattle.watch_machine.specs.declared.track.Try.{Try}
+use Rattle.watch_machine.specs.{declared.command.WatchOutput.WatchOutput, declared.event.WatchEvent.WatchEvent, declared.event.WatchEvent.TheVariants.Renewed, declared.event.Operation.TheVariants.Renew}
+use Rattle.watch_machine.specs.{declared.event.WatchReply.TheVariants.Told, declared.fault.WatchFault.WatchFault, declared.lanes.Out.Out, declared.track.End.End, declared.track.End.TheVariants.At, declared.track.Grant.Grant}
+use Rattle.watch_machine.specs.{declared.track.Track.Track, declared.track.Try.Try, Clocks.sec, History.Turn, Refusal.request_out, Step.Step, Step.StepRenewed, Wanted.believed}
 use Rattle.watch_machine.specs.Answers.{back_track, noted, replied}
-use Rattle.watch_machine.specs.Clocks.{sec}
-use Rattle.watch_machine.specs.History.{Turn}
-use Rattle.watch_machine.specs.Refusal.{request_out}
 use Rattle.watch_machine.specs.Renewed.{from_base, from_try, granted_from, is_no_further, renewed_track, state_renewed, time_from}
 use Rattle.watch_machine.specs.State.{WatchState, attempt_at, entry_of, no_track, track_at}
-use Rattle.watch_machine.specs.Step.{Step, StepRenewed}
-use Rattle.watch_machine.specs.Wanted.{believed}
 use Rattle.watch_machine.proofs.Within.{out_entry}
-use Rattle.watch_laws.specs.Absence.{is_event_taken}
-use Rattle.watch_laws.specs.AtTop.{IsAtTop, TopLaw}
-use Rattle.watch_laws.specs.Grants.{CountedLaw, IsCountedFrom}
+use Rattle.watch_laws.specs.{Absence.is_event_taken, AtTop.IsAtTop, AtTop.TopLaw, Grants.CountedLaw, Grants.IsCountedFrom}
 use Rattle.watch_laws.proofs.Tracking.{back_kept}
 
 -- the clock from whose second a grant of i counts that answers the request q, and what it makes of the track

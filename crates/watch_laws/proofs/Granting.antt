@@ -1,23 +1,13 @@
 -- Granting: a grant is believed as it is told. For the law of grants that are told.
 use Rattle.std.proofs.Common.{◌≡◌, ℕ, ◌<◌, Bool, true, Option, Some, None, Result, Ok, Err, length, refl, sym, subst, arith, true≢false}
 use Rattle.std.proofs.lemmas.List.{get_or-set_same}
-use Rattle.watch_machine.specs.declared.command.WatchOutput.{WatchOutput}
-use Rattle.watch_machine.specs.declared.event.WatchEvent.{WatchEvent}
-use Rattle.watch_machine.specs.declared.event.WatchEvent.TheVariants.{Renewed}
-use Rattle.watch_machine.specs.declared.event.Operation.TheVariants.{Renew}
-use Rattle.watch_machine.specs.declared.event.WatchReply.TheVariants.{Told}
-use Rattle.watch_machine.specs.declared.fault.WatchFault.{WatchFault}
-use Rattle.watch_machine.specs.declared.lanes.Out.{Out}
-use Rattle.watch_machine.specs.declared.track.Track.{Track}
+use Rattle.watch_machine.specs.{declared.command.WatchOutput.WatchOutput, declared.event.WatchEvent.WatchEvent, declared.event.WatchEvent.TheVariants.Renewed, declared.event.Operation.TheVariants.Renew}
+use Rattle.watch_machine.specs.{declared.event.WatchReply.TheVariants.Told, declared.fault.WatchFault.WatchFault, declared.lanes.Out.Out, declared.track.Track.Track, History.Turn, Refusal.request_out, Step.Step, Step.StepRenewed}
 use Rattle.watch_machine.specs.Answers.{back_track, noted, replied}
-use Rattle.watch_machine.specs.History.{Turn}
-use Rattle.watch_machine.specs.Refusal.{request_out}
 use Rattle.watch_machine.specs.Renewed.{from_try, granted_from, renewed_track, state_renewed}
 use Rattle.watch_machine.specs.State.{WatchState, entry_of, no_track, track_at}
-use Rattle.watch_machine.specs.Step.{Step, StepRenewed}
 use Rattle.watch_machine.proofs.Within.{out_entry}
-use Rattle.watch_laws.specs.Absence.{is_event_taken}
-use Rattle.watch_laws.specs.Grants.{GrantedLaw, IsGranted}
+use Rattle.watch_laws.specs.{Absence.is_event_taken, Grants.GrantedLaw, Grants.IsGranted}
 use Rattle.watch_laws.proofs.Tracking.{back_kept}
 
 made : (step at seconds : ℕ) (renewable : Bool) (from' : ℕ) (x : Track) → IsGranted (granted_from step at seconds renewable from' x) seconds renewable

@@ -1,41 +1,23 @@
 -- Grounds: what holds of every state of a history, and how a history is taken apart. For the laws of recovery, starts and outages.
 use Rattle.std.proofs.Common.{◌≡◌, ◌⊎◌, ◌∙◌, ℕ, ◌+◌, ◌<◌, ◌≤◌, true, false, ◌&&◌, ◌==◌, List, [], ◌∷◌, ◌++◌, Option, Some, None, All, Result, Ok, Err, length, nat_le, refl, sym, ap, subst, arith, inl, inr, true≢false}
-use Rattle.std.proofs.lemmas.Bool.{and_parts, eqb-true}
-use Rattle.std.proofs.lemmas.List.{length-map}
-use Rattle.std.proofs.lemmas.List.Elements.{All-nil, All-weaker}
+use Rattle.std.proofs.lemmas.{Bool.and_parts, Bool.eqb-true, List.length-map, List.Elements.All-nil, List.Elements.All-weaker}
 use Rattle.plan_forest.specs.Forest.{Forest}
-use Rattle.watch_machine.specs.declared.command.WatchOutput.{WatchOutput}
-use Rattle.watch_machine.specs.declared.event.WatchEvent.{WatchEvent}
-use Rattle.watch_machine.specs.declared.event.WatchEvent.TheVariants.{Clock, Looked, Renewed, Need, Begin, Known}
+use Rattle.watch_machine.specs.{declared.command.WatchOutput.WatchOutput, declared.event.WatchEvent.WatchEvent, declared.event.WatchReply.WatchReply, declared.event.WatchTerms.WatchTerms, declared.fault.WatchFault.WatchFault}
+use Rattle.watch_machine.specs.{declared.lanes.Out.Out, Answers.noted, Answers.replied, Clocks.sec, Looked.looked, Press.pressed, Refusal.request_out, Renewed.state_renewed, Wait.wait}
+use Rattle.watch_machine.specs.declared.event.WatchEvent.TheVariants.{Clock, Looked, Renewed}
 use Rattle.watch_machine.specs.declared.event.Operation.TheVariants.{Look, Renew}
-use Rattle.watch_machine.specs.declared.event.WatchReply.{WatchReply}
-use Rattle.watch_machine.specs.declared.event.WatchTerms.{WatchTerms}
-use Rattle.watch_machine.specs.declared.fault.WatchFault.{WatchFault}
-use Rattle.watch_machine.specs.declared.lanes.Out.{Out}
-use Rattle.watch_machine.specs.Answers.{noted, replied}
-use Rattle.watch_machine.specs.Clocks.{sec}
 use Rattle.watch_machine.specs.History.{AllHappen, Happening, History, Turn, Turned, after_all, state_after, state_after_all}
-use Rattle.watch_machine.specs.Looked.{looked}
-use Rattle.watch_machine.specs.Press.{pressed}
-use Rattle.watch_machine.specs.Refusal.{request_out}
-use Rattle.watch_machine.specs.Renewed.{state_renewed}
 use Rattle.watch_machine.specs.State.{WatchState, fresh_track, opened, track_at}
 use Rattle.watch_machine.specs.Step.{Step, StepLooked, StepRenewed, readied}
-use Rattle.watch_machine.specs.Wait.{wait}
 use Rattle.watch_laws.specs.Absence.{is_clock, is_event_taken}
 use Rattle.watch_laws.specs.Outage.{Outage, comes, how_many, is_request_served, is_request_whole, is_tried, outage_next_after, outage_next_after_command, outage_next_by, waits_to_be_asked}
-use Rattle.watch_laws.proofs.Alone.{IsAlone, turn_alone}
+use Rattle.watch_laws.proofs.{Alone.IsAlone, Alone.turn_alone, Clocking.readied_clocks, Clocking.refused_stays, Going.entry_by, Spacing.looked_out, Topping.readied_count, Topping.turn_count, Width.Fits, Width.turn_fits}
 use Rattle.watch_laws.proofs.Answering.{looked_leaves, renewed_leaves, rest_of}
-use Rattle.watch_laws.proofs.Clocking.{readied_clocks, refused_stays}
 use Rattle.watch_laws.proofs.Counting.{counted, sums, sums_past}
-use Rattle.watch_laws.proofs.Going.{entry_by}
 use Rattle.watch_laws.proofs.Lanes.{Sends, Ticks, all_left, all_sent, anew_served, is_anew, no_lane_free, pressed_count, served_tried, ticks}
 use Rattle.watch_laws.proofs.Marked.{AllMarked, first_free, turn_marked}
 use Rattle.watch_laws.proofs.Owed.{AllTry, first_tries, turn_outcome}
 use Rattle.watch_laws.proofs.Retrying.{IsPast, first_past, rises, turn_past}
-use Rattle.watch_laws.proofs.Spacing.{looked_out}
-use Rattle.watch_laws.proofs.Topping.{readied_count, turn_count}
-use Rattle.watch_laws.proofs.Width.{Fits, turn_fits}
 
 -- what holds of every state of a history. A request whose entry is no more is out under an index past the last entry, but no further past it
 -- than there are lanes

@@ -1,36 +1,23 @@
 -- Handed: at a clock before which an entry was not pressed it is on its first try, if any; so at the first clock of a watch that was told ends.
 -- For the law of kills.
 use Rattle.std.proofs.Common.{◌≡◌, ◌∙◌, Bool, ℕ, zero, suc, ◌*◌, ◌<◌, ◌≤◌, true, false, ◌==◌, List, [], ◌∷◌, Some, All, Result, Ok, Err, length, map, refl, sym, ap, subst, arith, inl, inr, Option, None}
-use Rattle.std.proofs.lemmas.Bool.{cases_Bool, cond-false}
-use Rattle.std.proofs.lemmas.List.Elements.{All-weaker}
+use Rattle.std.proofs.lemmas.{Bool.cases_Bool, Bool.cond-false, List.Elements.All-weaker}
 use Rattle.std.specs.List.{list_any}
 use Rattle.plan_forest.specs.declared.entry.Entry.{Entry}
-use Rattle.watch_machine.specs.declared.command.WatchOutput.{WatchOutput}
-use Rattle.watch_machine.specs.declared.command.WatchRequest.{WatchRequest}
-use Rattle.watch_machine.specs.declared.event.WatchEvent.{WatchEvent}
-use Rattle.watch_machine.specs.declared.event.WatchEvent.TheVariants.{Clock, Looked, Renewed, Need, Begin, Known}
-use Rattle.watch_machine.specs.declared.fault.WatchFault.{WatchFault}
-use Rattle.watch_machine.specs.declared.lanes.Out.{Out}
-use Rattle.watch_machine.specs.declared.track.Track.{Track}
-use Rattle.watch_machine.specs.declared.track.Try.{Try}
+use Rattle.watch_machine.specs.{declared.command.WatchOutput.WatchOutput, declared.command.WatchRequest.WatchRequest, declared.event.WatchEvent.WatchEvent, declared.fault.WatchFault.WatchFault, declared.lanes.Out.Out}
+use Rattle.watch_machine.specs.{declared.track.Track.Track, declared.track.Try.Try, Lines.is_first, Lines.rested, Press.pressed, Sending.sent_in, Sending.sent_track, Wanted.is_known, Wanted.is_wanted}
+use Rattle.watch_machine.specs.declared.event.WatchEvent.TheVariants.{Need, Begin, Known}
 use Rattle.watch_machine.specs.Beginning.{is_pressed, is_pressed_try, owing_past, soon, sooner_try}
 use Rattle.watch_machine.specs.History.{AllHappen, Hands, History, Turn, Turned, after_all, state_after_all}
-use Rattle.watch_machine.specs.Lines.{is_first, rested}
-use Rattle.watch_machine.specs.Press.{pressed}
-use Rattle.watch_machine.specs.Sending.{sent_in, sent_track}
 use Rattle.watch_machine.specs.Settling.{settled, settled_track, timed}
 use Rattle.watch_machine.specs.State.{WatchState, attempt_at, fresh_track, opened, track_at, track_in}
 use Rattle.watch_machine.specs.Step.{Step, readied, told_earlier, why}
-use Rattle.watch_machine.specs.Wanted.{is_known, is_wanted}
 use Rattle.watch_machine.proofs.Cases.{if_both, not_both}
 use Rattle.watch_laws.specs.Outage.{AreHanded, KillLaw, MayBeAsked, in_line, is_handed, left_from}
-use Rattle.watch_laws.proofs.Clocking.{readied_clocks, refused_stays}
+use Rattle.watch_laws.proofs.{Clocking.readied_clocks, Clocking.refused_stays, Marked.free_lanes, Marked.none_of, Outliving.left_from_clock, Shapes.ran_shape, Shapes.turn_shape}
 use Rattle.watch_laws.proofs.Enduring.{Steady, begun_steady, none_stands}
 use Rattle.watch_laws.proofs.Grounds.{IsBase, first_turns, last_turns, opened_base, ran_base, starts, tracked, turn_base}
 use Rattle.watch_laws.proofs.Lanes.{Ticks, all_sent, stays_free}
-use Rattle.watch_laws.proofs.Marked.{free_lanes, none_of}
-use Rattle.watch_laws.proofs.Outliving.{left_from_clock}
-use Rattle.watch_laws.proofs.Shapes.{ran_shape, turn_shape}
 use Rattle.watch_laws.proofs.Tracking.{each_holds, each_kept, known_is, set_kept}
 use Rattle.watch_laws.proofs.Undisturbed.{Undisturbed, clock_undisturbed, settled_pressed}
 

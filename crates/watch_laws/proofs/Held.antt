@@ -2,52 +2,27 @@
 -- For the law of partial outages.
 use Rattle.std.proofs.Common.{◌≡◌, ◌⊎◌, ◌∙◌, ℕ, ◌+◌, ◌-◌, ◌*◌, ◌<◌, ◌≤◌, Bool, true, false, not, ◌&&◌, ◌||◌, ◌==◌, List, [], ◌∷◌, ◌++◌, Option, Some, None, All, Result, Ok, Err, get_or, length, map, refl, sym, ap, subst, arith, inl, inr, true≢false}
 use Rattle.std.proofs.Math.Nat.{mul-add, mul-le-mul_left, mul_comm}
-use Rattle.std.proofs.lemmas.Bool.{and_from, cases_lt}
-use Rattle.std.proofs.lemmas.List.Elements.{All-weaker}
+use Rattle.std.proofs.lemmas.{Bool.and_from, Bool.cases_lt, List.Elements.All-weaker}
 use Rattle.std.specs.List.{list_any}
+use Rattle.watch_machine.specs.{declared.command.WatchOutput.WatchOutput, declared.command.WatchRequest.WatchRequest, declared.event.WatchEvent.WatchEvent, declared.event.WatchReply.WatchReply, declared.event.WatchTerms.WatchTerms}
+use Rattle.watch_machine.specs.{declared.fault.WatchFault.WatchFault, declared.lanes.Out.Out, declared.track.Track.Track, Answers.noted, Answers.replied, Clocks.sec, Looked.looked, Press.pressed, Refusal.request_out, Renewed.state_renewed}
+use Rattle.watch_machine.specs.{Sending.out_at, Sending.sent, Settling.timed, Wait.wait}
 use Rattle.watch_machine.specs.declared.command.WatchCommand.TheVariants.{Go, Taken}
-use Rattle.watch_machine.specs.declared.command.WatchOutput.{WatchOutput}
-use Rattle.watch_machine.specs.declared.command.WatchRequest.{WatchRequest}
-use Rattle.watch_machine.specs.declared.event.WatchEvent.{WatchEvent}
-use Rattle.watch_machine.specs.declared.event.WatchEvent.TheVariants.{Clock, Looked, Renewed, Need, Begin, Known}
+use Rattle.watch_machine.specs.declared.event.WatchEvent.TheVariants.{Clock, Looked, Renewed, Known}
 use Rattle.watch_machine.specs.declared.event.Operation.TheVariants.{Look, Renew}
-use Rattle.watch_machine.specs.declared.event.WatchReply.{WatchReply}
-use Rattle.watch_machine.specs.declared.event.WatchTerms.{WatchTerms}
-use Rattle.watch_machine.specs.declared.fault.WatchFault.{WatchFault}
-use Rattle.watch_machine.specs.declared.lanes.Out.{Out}
-use Rattle.watch_machine.specs.declared.track.Track.{Track}
-use Rattle.watch_machine.specs.Answers.{noted, replied}
-use Rattle.watch_machine.specs.Clocks.{sec}
 use Rattle.watch_machine.specs.History.{AllHappen, Changed, Changes, Happening, Hands, IsChanged, Turn, Turned, state_after_all}
-use Rattle.watch_machine.specs.Looked.{looked}
-use Rattle.watch_machine.specs.Press.{pressed}
-use Rattle.watch_machine.specs.Refusal.{request_out}
-use Rattle.watch_machine.specs.Renewed.{state_renewed}
-use Rattle.watch_machine.specs.Sending.{out_at, sent}
-use Rattle.watch_machine.specs.Settling.{timed}
 use Rattle.watch_machine.specs.State.{WatchState, track_at, track_in}
 use Rattle.watch_machine.specs.Step.{Step, StepLooked, StepRenewed, readied}
-use Rattle.watch_machine.specs.Wait.{wait}
-use Rattle.watch_laws.specs.Absence.{is_clock, is_event_taken}
-use Rattle.watch_laws.specs.Outage.{one_where}
+use Rattle.watch_laws.specs.{Absence.is_clock, Absence.is_event_taken, Outage.one_where}
 use Rattle.watch_laws.specs.Partial.{AreHolding, AreSettled, ClockIsInTime, IsCarried, IsHeld, IsHeldUp, IsHolding, Partial, PartialLaw, comes_before, comes_before_over, coming_before, due_after, index_over, keeps_lane, longest, outage_then, partial_next_after, partial_next_after_command, partial_next_by, partial_settled_by, stands_before, total, waiting_before, waits_before}
+use Rattle.watch_laws.proofs.{Bases.changed_base, Bases.next_base, Carrying.fewer_over, Carrying.late_same, Clocking.readied_clocks, Clocking.refused_stays, Counting.least_all, Following.changed_entries, Foremost.all_front as before}
+use Rattle.watch_laws.proofs.{Going.entry_by, Going.request_at, Recovering.full_lanes, Retrying.IsPast, Retrying.rises, Shapes.turn_shape, Topping.readied_count}
 use Rattle.watch_laws.proofs.Answering.{looked_leaves, renewed_leaves, rest_of}
-use Rattle.watch_laws.proofs.Bases.{changed_base, next_base}
-use Rattle.watch_laws.proofs.Carrying.{fewer_over, late_same}
-use Rattle.watch_laws.proofs.Clocking.{readied_clocks, refused_stays}
-use Rattle.watch_laws.proofs.Counting.{least_all}
-use Rattle.watch_laws.proofs.Following.{changed_entries}
-use Rattle.watch_laws.proofs.Foremost.{all_front as before}
 use Rattle.watch_laws.proofs.Fronts.{front_at, keeps_short, own_at, sent_front, sent_partial}
-use Rattle.watch_laws.proofs.Going.{entry_by, request_at}
 use Rattle.watch_laws.proofs.Grounds.{IsBase, first_happen, last_happen, turn_base}
 use Rattle.watch_laws.proofs.Lanes.{Ticks, all_left, each_named, pressed_count, ticks}
-use Rattle.watch_laws.proofs.Recovering.{full_lanes}
-use Rattle.watch_laws.proofs.Retrying.{IsPast, rises}
-use Rattle.watch_laws.proofs.Shapes.{turn_shape}
 use Rattle.watch_laws.proofs.Spacing.{free_of, looked_out, mid_flag, readied_out, went}
 use Rattle.watch_laws.proofs.Spans.{adds_most, mapped, span, span_append, span_later, span_most, span_replied, span_same, span_sent, timely_same, totals}
-use Rattle.watch_laws.proofs.Topping.{readied_count}
 
 -- who goes out between two states and stood before i
 abbrev goes_before : ℕ → WatchState → WatchState → ℕ → Bool

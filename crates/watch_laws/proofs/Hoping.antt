@@ -1,32 +1,25 @@
 -- Hoping: a round names the Asks of the forest as it is believed, by the ends that are hoped for. For the law of Asks and that of hope.
 use Rattle.std.proofs.Common.{◌≡◌, ◌∙◌, ℕ, suc, ◌+◌, ◌-◌, ◌<◌, ◌≤◌, ◌⊎◌, Bool, true, false, cond, not, ◌&&◌, ◌||◌, ◌==◌, if◌then◌else◌, List, [], ◌∷◌, Option, Some, None, filter, length, max, nat_le, nat_lt, refl, sym, ap, ap₂, subst, arith, inl, inr}
-use Rattle.std.proofs.lemmas.Bool.{cases_Bool, cases_lt, cond-false, cond-true}
 use Rattle.std.proofs.lemmas.Bool.Decides.{nat_tests}
+use Rattle.std.proofs.lemmas.Bool.{cases_Bool, cases_lt, cond-false, cond-true}
 use Rattle.std.proofs.Math.Path.{fun_ext}
 use Rattle.std.specs.List.{list_all, list_any, range_with_len}
 use Rattle.base_moment.specs.declared.moment.TheConstants.{LAST}
-use Rattle.plan_forest.specs.declared.entry.Entry.{Entry}
-use Rattle.plan_forest.specs.Carried.{carried}
-use Rattle.plan_forest.specs.Forest.{end_of, entry_at}
-use Rattle.plan_forest.specs.Over.{chain, is_over}
-use Rattle.plan_forest.specs.Push.{IsForest}
+use Rattle.plan_forest.specs.{declared.entry.Entry.Entry, Carried.carried, Forest.end_of, Forest.entry_at, Over.chain, Over.is_over, Push.IsForest}
 use Rattle.plan_forest.specs.Renewal.{all_last, capped, is_granted, renewal, renewed}
+use Rattle.plan_forest.proofs.{Chains.ParentsFirst, Entries.entry_at_past, Placed.parents_first}
 use Rattle.plan_forest.proofs.Carrying.{carried_is_of, or_left, or_right}
-use Rattle.plan_forest.proofs.Chains.{ParentsFirst}
-use Rattle.plan_forest.proofs.Entries.{entry_at_past}
-use Rattle.plan_forest.proofs.Placed.{parents_first}
-use Rattle.plan_rule.specs.Asks.{asks, is_end_due, is_to_be_asked as is_asked_now}
 use Rattle.plan_rule.specs.Forced.{bound, latest_end}
-use Rattle.plan_rule.proofs.Keeping.{end_below_bound}
-use Rattle.plan_rule.proofs.Lists.{need_within}
+use Rattle.plan_rule.specs.Asks.{asks, is_end_due, is_to_be_asked as is_asked_now}
+use Rattle.plan_rule.proofs.{Keeping.end_below_bound, Lists.need_within}
 use Rattle.watch_machine.specs.Beginning.{is_pressed}
 use Rattle.watch_machine.specs.Round.{IsSecond, RoundAsks, is_hoped, plan_view}
 use Rattle.watch_machine.specs.State.{WatchState, second, track_at}
 use Rattle.watch_machine.specs.Wanted.{believed, is_never, is_unknown, is_wanted, seen_entry, wanted_need, wants}
 use Rattle.watch_laws.specs.Calm.{believed_forest, ends, in_plan_at, lead_at, planned_need, terms}
 use Rattle.watch_laws.specs.Rounds.{AreAsks, IsRoundAfter, granted_forest, granted_terms}
-use Rattle.watch_laws.proofs.Believed.{AreSameNeeds, believed_count, believed_is_forest, carried_believed, carried_within, over_before, same_carried, same_chain, written_at, written_count, written_same}
 use Rattle.watch_laws.proofs.Foreseen.{need_planned, never_ends}
+use Rattle.watch_laws.proofs.Believed.{AreSameNeeds, believed_count, believed_is_forest, carried_believed, carried_within, over_before, same_carried, same_chain, written_at, written_count, written_same}
 use Rattle.watch_laws.proofs.OfPlan.{hoped_at, hoped_entry, one, own_entry, planned_at, planned_is, planned_same, seen_at, three}
 
 -- an entry that is wanted and not hoped for is in the plan

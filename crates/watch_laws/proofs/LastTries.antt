@@ -1,47 +1,26 @@
 -- LastTries: an entry at its top has its last try just where the grant before the last one led it further; and it is asked for that, and for nothing
 -- else. For the law of the last try.
 use Rattle.std.proofs.Common.{◌≡◌, ◌∙◌, ℕ, ◌+◌, ◌-◌, ◌/◌, ◌<◌, ◌≤◌, Bool, true, false, not, ◌&&◌, ◌||◌, ◌==◌, List, [], ◌∷◌, Option, Some, None, length, refl, sym, ap, subst, arith, inl, inr}
-use Rattle.std.proofs.lemmas.Bool.{and_from, and_parts, cases_Bool, cond-false, cond-true, eqb-true}
 use Rattle.std.proofs.lemmas.List.{length-map}
+use Rattle.std.proofs.lemmas.Bool.{and_from, and_parts, cases_Bool, cond-false, cond-true, eqb-true}
 use Rattle.std.specs.List.{list_any}
+use Rattle.plan_forest.specs.{Renewal.capped, declared.entry.Entry.Entry}
 use Rattle.plan_forest.specs.Forest.{Forest, end_of, entry_at}
-use Rattle.plan_forest.specs.Renewal.{capped}
-use Rattle.plan_forest.specs.declared.entry.Entry.{Entry}
-use Rattle.watch_machine.specs.declared.clocks.Clocks.{Clocks}
-use Rattle.watch_machine.specs.declared.event.WatchEvent.{WatchEvent}
-use Rattle.watch_machine.specs.declared.event.WatchEvent.TheVariants.{Clock, Looked, Renewed, Need, Begin, Known}
+use Rattle.watch_machine.specs.{declared.clocks.Clocks.Clocks, declared.event.WatchEvent.WatchEvent, declared.event.WatchEvent.TheVariants.Renewed, declared.lanes.Out.Out, declared.track.End.End, declared.track.Track.Track}
+use Rattle.watch_machine.specs.{Answers.back_track, Beginning.is_pressed, Change.former_at, Clocks.sec, Margins.lead, Outlook.time_of, Renewed.granted_from, Step.readied}
 use Rattle.watch_machine.specs.declared.event.WatchReply.TheVariants.{Told, Refused, Busy, Lost}
-use Rattle.watch_machine.specs.declared.lanes.Out.{Out}
-use Rattle.watch_machine.specs.declared.track.End.{End}
-use Rattle.watch_machine.specs.declared.track.Track.{Track}
-use Rattle.watch_machine.specs.Answers.{back_track}
-use Rattle.watch_machine.specs.Beginning.{is_pressed}
-use Rattle.watch_machine.specs.Change.{former_at}
-use Rattle.watch_machine.specs.Clocks.{sec}
 use Rattle.watch_machine.specs.History.{AllHappen, Changed, Changes, Hands, Happening, History, IsChanged, IsReached, Turn, Turned, state_after_all, stood, stood_at_some}
-use Rattle.watch_machine.specs.Margins.{lead}
-use Rattle.watch_machine.specs.Outlook.{time_of}
-use Rattle.watch_machine.specs.Renewed.{granted_from}
 use Rattle.watch_machine.specs.Round.{IsRound, asked_by_round, entry_planned, is_hoped, plan_view, planned_by, step_in_plan}
 use Rattle.watch_machine.specs.State.{WatchState, fresh_track, has_last_try, keeps_last_try, opened, second, track_at, track_in}
-use Rattle.watch_machine.specs.Step.{readied}
 use Rattle.watch_machine.specs.Wanted.{is_wanted, need_of, seen_entry, wanted_need}
 use Rattle.watch_machine.proofs.Cases.{if_both, not_both}
-use Rattle.watch_laws.specs.Absence.{is_event_taken}
-use Rattle.watch_laws.specs.Clocks.{IsClock}
+use Rattle.watch_laws.specs.{Absence.is_event_taken, Clocks.IsClock, Needs.IsEndToBeLed, Presses.HasPressed}
 use Rattle.watch_laws.specs.Margins.{IsTimeBefore, asked_before, own_before}
-use Rattle.watch_laws.specs.Needs.{IsEndToBeLed}
-use Rattle.watch_laws.specs.Presses.{HasPressed}
 use Rattle.watch_laws.specs.Time.{is_come, is_named_in_round, round_of}
 use Rattle.watch_laws.specs.Tops.{IsNeededBeyond, LastTryLaw, first_topped_after, first_topped_at, is_first_topped, is_first_topped_from, is_grant_of, is_granted_at, topped_after, topped_at}
-use Rattle.watch_laws.proofs.Believed.{written_at, written_count}
+use Rattle.watch_laws.proofs.{Believed.written_at, Believed.written_count, GrantedFrom.made, GrantedFrom.turn_holds, Needing.needed, Needing.tries_last, Once.renewable_of, Opener.mid_bears, Presses.clock_of, Presses.presses_so}
+use Rattle.watch_laws.proofs.{Timing.timed_so}
 use Rattle.watch_laws.proofs.Following.{IsCounted, changed_counted, changed_tracks, kept_over, new_over, opened_counted, reached_counted, stays_there, turn_counted}
-use Rattle.watch_laws.proofs.GrantedFrom.{made, turn_holds}
-use Rattle.watch_laws.proofs.Needing.{needed, tries_last}
-use Rattle.watch_laws.proofs.Once.{renewable_of}
-use Rattle.watch_laws.proofs.Opener.{mid_bears}
-use Rattle.watch_laws.proofs.Presses.{clock_of, presses_so}
-use Rattle.watch_laws.proofs.Timing.{timed_so}
 use Rattle.watch_laws.proofs.Topping.{Tops, first_track, owed_lower, turn_count, turn_lower}
 
 -- what the grants so far say of the track: whether the last one left it at its top, and whether that was the first

@@ -1,47 +1,31 @@
 -- Lasting: what stays of an entry while its requests are lost. For the law of outages.
 use Rattle.std.proofs.Common.{◌≡◌, ◌≢◌, ◌∙◌, ℕ, zero, suc, Bool, true, false, min, ◌&&◌, ◌||◌, ◌==◌, if◌then◌else◌, List, [], ◌∷◌, Option, Some, None, IfSome, Result, Ok, Err, length, refl, sym, ap, subst, inl, inr, true≢false, ◌≤◌}
-use Rattle.std.proofs.lemmas.Bool.{cases_Bool, eqb-true}
-use Rattle.std.proofs.lemmas.List.{get_or-set_other, length-set}
+use Rattle.std.proofs.lemmas.{Bool.cases_Bool, Bool.eqb-true, List.get_or-set_other, List.length-set}
 use Rattle.std.specs.List.{list_any}
 use Rattle.std.specs.Prelude.{slice_set}
 use Rattle.base_moment.specs.declared.moment.TheConstants.{LAST}
 use Rattle.plan_forest.specs.declared.entry.Entry.{Entry}
 use Rattle.plan_forest.specs.Forest.{Forest, entry_at, no_entry}
-use Rattle.watch_machine.specs.declared.command.WatchOutput.{WatchOutput}
-use Rattle.watch_machine.specs.declared.command.WatchRequest.{WatchRequest}
-use Rattle.watch_machine.specs.declared.event.WatchEvent.{WatchEvent}
+use Rattle.watch_machine.specs.{declared.command.WatchOutput.WatchOutput, declared.command.WatchRequest.WatchRequest, declared.event.WatchEvent.WatchEvent, declared.event.WatchReply.WatchReply, declared.event.WatchTerms.WatchTerms}
+use Rattle.watch_machine.specs.{declared.fault.WatchFault.WatchFault, declared.lanes.Out.Out, declared.notes.BeginReason.BeginReason, declared.track.Track.Track, Clocks.sec, History.Turn, Outlook.time_of, Refusal.request_out}
 use Rattle.watch_machine.specs.declared.event.WatchEvent.TheVariants.{Clock, Looked, Renewed, Need, Begin, Known}
 use Rattle.watch_machine.specs.declared.event.Operation.TheVariants.{Look, Renew}
-use Rattle.watch_machine.specs.declared.event.WatchReply.{WatchReply}
 use Rattle.watch_machine.specs.declared.event.WatchReply.TheVariants.{Told, Refused, Busy, Lost}
-use Rattle.watch_machine.specs.declared.event.WatchTerms.{WatchTerms}
-use Rattle.watch_machine.specs.declared.fault.WatchFault.{WatchFault}
-use Rattle.watch_machine.specs.declared.lanes.Out.{Out}
-use Rattle.watch_machine.specs.declared.notes.BeginReason.{BeginReason}
-use Rattle.watch_machine.specs.declared.track.Track.{Track}
 use Rattle.watch_machine.specs.Answers.{back_track, noted, replied}
 use Rattle.watch_machine.specs.Beginning.{begun, is_called, is_start, owing, owing_lookup, soon, sooner_try, untopped, untopped_track}
-use Rattle.watch_machine.specs.Clocks.{sec}
-use Rattle.watch_machine.specs.History.{Turn}
 use Rattle.watch_machine.specs.Looked.{by_terms, looked, untold_track}
 use Rattle.watch_machine.specs.Press.{asked_track, dropped, is_fresh, press, pressed, pressed_alone, pressed_track, track_asked_in}
-use Rattle.watch_machine.specs.Outlook.{time_of}
-use Rattle.watch_machine.specs.Refusal.{request_out}
 use Rattle.watch_machine.specs.Renewed.{renewed_track, state_renewed, ungranted_track}
 use Rattle.watch_machine.specs.Sending.{sent, sent_in, sent_track}
 use Rattle.watch_machine.specs.Settling.{settled, settled_track, timed}
 use Rattle.watch_machine.specs.State.{WatchState, entry_of, has_last_try, no_track, track_at, track_in}
 use Rattle.watch_machine.specs.Step.{Step, StepLooked, StepRenewed, known, readied, why, with_need_until}
 use Rattle.watch_machine.specs.Wanted.{is_open, need_of, wants}
-use Rattle.watch_machine.proofs.Cases.{if_both, not_both}
-use Rattle.watch_machine.proofs.Within.{out_entry}
-use Rattle.watch_laws.specs.Outage.{IsLived, Outage, TellsNothing}
+use Rattle.watch_machine.proofs.{Cases.if_both, Cases.not_both, Within.out_entry}
 use Rattle.watch_laws.specs.Presence.{is_told}
-use Rattle.watch_laws.proofs.Clocking.{refused_stays}
-use Rattle.watch_laws.proofs.Lanes.{Ticks, ticks}
-use Rattle.watch_laws.proofs.Spacing.{looked_other, same_index}
+use Rattle.watch_laws.specs.Outage.{IsLived, Outage, TellsNothing}
+use Rattle.watch_laws.proofs.{Clocking.refused_stays, Lanes.Ticks, Lanes.ticks, Spacing.looked_other, Spacing.same_index, Trying.time_sooner}
 use Rattle.watch_laws.proofs.Tracking.{back_kept, each_kept, replied_forest, set_kept}
-use Rattle.watch_laws.proofs.Trying.{time_sooner}
 
 -- the end, the last grant, what is owed, and whether there is a last try
 abbrev pub Bears : Track → Track → Type 0

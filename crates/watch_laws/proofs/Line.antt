@@ -1,45 +1,24 @@
 -- Line: what goes out stands in front of what may and does not. For the law of the line.
 use Rattle.std.proofs.Common.{◌≡◌, ◌≢◌, ◌⊎◌, ◌∙◌, ℕ, ◌+◌, ◌<◌, Bool, true, false, ◌&&◌, ◌||◌, ◌==◌, if◌then◌else◌, List, Option, Some, None, All, Result, Ok, Err, get_or, is_some, max, min, nat_lt, refl, sym, ap, subst, arith, inl, inr}
-use Rattle.std.proofs.lemmas.Bool.{cases_lt}
-use Rattle.std.proofs.lemmas.Bool.Decides.{nat_tests}
-use Rattle.std.proofs.lemmas.List.Elements.{All-map, All-nil}
+use Rattle.std.proofs.lemmas.{Bool.cases_lt, Bool.Decides.nat_tests, List.Elements.All-map, List.Elements.All-nil}
 use Rattle.std.specs.List.{list_any}
-use Rattle.plan_forest.specs.declared.entry.Entry.{Entry}
-use Rattle.plan_forest.specs.Forest.{entry_at}
-use Rattle.watch_machine.specs.declared.command.WatchCommand.TheVariants.{Taken}
-use Rattle.watch_machine.specs.declared.command.WatchOutput.{WatchOutput}
-use Rattle.watch_machine.specs.declared.command.WatchRequest.{WatchRequest}
-use Rattle.watch_machine.specs.declared.event.WatchEvent.{WatchEvent}
-use Rattle.watch_machine.specs.declared.event.WatchEvent.TheVariants.{Clock, Looked, Renewed, Need, Begin, Known}
+use Rattle.plan_forest.specs.{declared.entry.Entry.Entry, Forest.entry_at}
+use Rattle.watch_machine.specs.{declared.command.WatchCommand.TheVariants.Taken, declared.command.WatchOutput.WatchOutput, declared.command.WatchRequest.WatchRequest, declared.event.WatchEvent.WatchEvent}
+use Rattle.watch_machine.specs.{declared.event.WatchReply.WatchReply, declared.event.WatchTerms.WatchTerms, declared.fault.WatchFault.WatchFault, declared.lanes.Out.Out, declared.track.End.End, declared.track.Track.Track}
+use Rattle.watch_machine.specs.{declared.track.Try.Try, History.Turn, Margins.has_come, Refusal.request_out}
+use Rattle.watch_machine.specs.declared.event.WatchEvent.TheVariants.{Clock, Looked, Renewed}
 use Rattle.watch_machine.specs.declared.event.Operation.TheVariants.{Look, Renew}
-use Rattle.watch_machine.specs.declared.event.WatchReply.{WatchReply}
-use Rattle.watch_machine.specs.declared.event.WatchTerms.{WatchTerms}
-use Rattle.watch_machine.specs.declared.fault.WatchFault.{WatchFault}
-use Rattle.watch_machine.specs.declared.lanes.Out.{Out}
-use Rattle.watch_machine.specs.declared.track.End.{End}
-use Rattle.watch_machine.specs.declared.track.Track.{Track}
-use Rattle.watch_machine.specs.declared.track.Try.{Try}
-use Rattle.watch_machine.specs.History.{Turn}
 use Rattle.watch_machine.specs.Lines.{asked_rank, is_along, is_first, part, rank, ready}
-use Rattle.watch_machine.specs.Margins.{has_come}
 use Rattle.watch_machine.specs.Press.{asked_track, press, pressed, pressed_alone, pressed_track, track_asked_in}
-use Rattle.watch_machine.specs.Refusal.{request_out}
 use Rattle.watch_machine.specs.Sending.{is_before, place_of, sent}
 use Rattle.watch_machine.specs.State.{WatchState, attempt_at, entry_of, second, track_at}
 use Rattle.watch_machine.specs.Step.{Step, StepLooked, StepRenewed, readied}
 use Rattle.watch_machine.specs.Wanted.{believed, is_alive, need_of}
 use Rattle.watch_machine.proofs.Cases.{if_both}
+use Rattle.watch_laws.specs.{Load.requests_asked_by, Load.requests_at_turn, Recovery.MayGo, Time.is_come}
 use Rattle.watch_laws.specs.Line.{IsInFront, LineLaw, ReadyLaw, StandsInFront, by_last, part_in_line, place_in_part}
-use Rattle.watch_laws.specs.Load.{requests_asked_by, requests_at_turn}
-use Rattle.watch_laws.specs.Recovery.{MayGo}
-use Rattle.watch_laws.specs.Time.{is_come}
-use Rattle.watch_laws.proofs.Foremost.{none_behind}
-use Rattle.watch_laws.proofs.Fronts.{sent_come, sent_stays}
-use Rattle.watch_laws.proofs.Going.{entry_by, request_at}
-use Rattle.watch_laws.proofs.Lanes.{Ticks, ticks}
-use Rattle.watch_laws.proofs.Owed.{due_some}
+use Rattle.watch_laws.proofs.{Foremost.none_behind, Fronts.sent_come, Fronts.sent_stays, Going.entry_by, Going.request_at, Lanes.Ticks, Lanes.ticks, Owed.due_some, Tracking.each_kept}
 use Rattle.watch_laws.proofs.Presses.{again_is, pressed_last, readied_keeps}
-use Rattle.watch_laws.proofs.Tracking.{each_kept}
 
 -- what is not behind another one is in front of it
 in_front :

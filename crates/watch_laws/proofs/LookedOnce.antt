@@ -1,67 +1,40 @@
 -- LookedOnce: from a beginning on an entry that is needed is looked up once. For the law of lookups.
 use Rattle.std.proofs.Common.{◌≡◌, ◌≢◌, ◌⊎◌, ◌∙◌, ℕ, zero, suc, ◌+◌, ◌<◌, ◌≤◌, Bool, true, false, not, ◌&&◌, ◌||◌, ◌==◌, if◌then◌else◌, List, [], ◌∷◌, Option, Some, None, Result, Ok, Err, filter, is_some, length, map, min, nat_lt, refl, sym, ap, subst, arith, inl, inr}
+use Rattle.std.proofs.lemmas.{Bool.Decides.nat_tests, List.Elements.filter-append}
 use Rattle.std.proofs.lemmas.Bool.{and_from, and_parts, cases_Bool, cases_eq, cond-true, or_left, or_right}
-use Rattle.std.proofs.lemmas.Bool.Decides.{nat_tests}
 use Rattle.std.proofs.lemmas.List.{get_or-set_other, get_or-set_same, length-append, length-set}
-use Rattle.std.proofs.lemmas.List.Elements.{filter-append}
 use Rattle.std.specs.List.{list_any}
-use Rattle.plan_forest.specs.declared.forest.TheConstants.{END_MAX}
-use Rattle.plan_forest.specs.Carried.{carried}
-use Rattle.plan_forest.specs.Forest.{Forest}
-use Rattle.watch_machine.specs.declared.clocks.Clocks.{Clocks}
-use Rattle.watch_machine.specs.declared.command.WatchOutput.{WatchOutput}
-use Rattle.watch_machine.specs.declared.command.WatchRequest.{WatchRequest}
-use Rattle.watch_machine.specs.declared.event.WatchEvent.{WatchEvent}
-use Rattle.watch_machine.specs.declared.event.WatchEvent.TheVariants.{Clock, Looked, Renewed, Need, Begin, Known}
+use Rattle.plan_forest.specs.{declared.forest.TheConstants.END_MAX, Carried.carried, Forest.Forest}
+use Rattle.watch_machine.specs.{declared.clocks.Clocks.Clocks, declared.command.WatchOutput.WatchOutput, declared.command.WatchRequest.WatchRequest, declared.event.WatchEvent.WatchEvent, declared.event.WatchReply.WatchReply}
+use Rattle.watch_machine.specs.{declared.event.WatchReply.TheVariants.Told, declared.event.WatchTerms.WatchTerms, declared.fault.WatchFault.WatchFault, declared.lanes.Out.Out, declared.notes.Notes.Notes}
+use Rattle.watch_machine.specs.{declared.notes.BeginReason.BeginReason, declared.notes.BeginReason.TheVariants.Start, declared.track.End.End, declared.track.End.TheVariants.Unknown, declared.track.Track.Track, declared.track.Try.Try}
+use Rattle.watch_machine.specs.{Clocks.sec, Lines.is_due, Press.pressed, Refusal.is_same, Refusal.request_out}
+use Rattle.watch_machine.specs.declared.event.WatchEvent.TheVariants.{Clock, Looked, Renewed, Known}
 use Rattle.watch_machine.specs.declared.event.Operation.TheVariants.{Look, Renew}
-use Rattle.watch_machine.specs.declared.event.WatchReply.{WatchReply}
-use Rattle.watch_machine.specs.declared.event.WatchReply.TheVariants.{Told, Refused, Busy, Lost}
-use Rattle.watch_machine.specs.declared.event.WatchTerms.{WatchTerms}
-use Rattle.watch_machine.specs.declared.fault.WatchFault.{WatchFault}
-use Rattle.watch_machine.specs.declared.lanes.Out.{Out}
-use Rattle.watch_machine.specs.declared.notes.Notes.{Notes}
-use Rattle.watch_machine.specs.declared.notes.BeginReason.{BeginReason}
-use Rattle.watch_machine.specs.declared.notes.BeginReason.TheVariants.{Start}
-use Rattle.watch_machine.specs.declared.track.End.{End}
-use Rattle.watch_machine.specs.declared.track.End.TheVariants.{Unknown, At, Never}
-use Rattle.watch_machine.specs.declared.track.Track.{Track}
-use Rattle.watch_machine.specs.declared.track.Try.{Try}
 use Rattle.watch_machine.specs.Answers.{back_track, noted, replied}
 use Rattle.watch_machine.specs.Beginning.{begun, called_by, is_called, is_start, owing, owing_all, owing_lookup, owing_past, soon, sooner_try, untopped, untopped_track}
-use Rattle.watch_machine.specs.Clocks.{sec}
 use Rattle.watch_machine.specs.History.{History, Turn, Turned, after_all}
-use Rattle.watch_machine.specs.Lines.{is_due}
 use Rattle.watch_machine.specs.Looked.{is_called_for, looked, told_state, told_track, told_try, with_told_try}
-use Rattle.watch_machine.specs.Press.{pressed}
-use Rattle.watch_machine.specs.Refusal.{is_same, request_out}
 use Rattle.watch_machine.specs.Renewed.{from_try, granted_from, renewed_track, state_renewed}
 use Rattle.watch_machine.specs.Sending.{out_at, sent, sent_in, sent_track}
 use Rattle.watch_machine.specs.Settling.{settled, settled_track, timed}
 use Rattle.watch_machine.specs.State.{WatchState, attempt_at, entry_of, no_track, second, track_at, track_in}
 use Rattle.watch_machine.specs.Step.{Step, StepClock, StepLooked, StepRenewed, known, readied, told_earlier, why}
 use Rattle.watch_machine.specs.Wanted.{believed, is_alive, is_never, is_open, is_unknown, is_wanted, wanted_need, wants}
+use Rattle.watch_machine.proofs.{Within.out_entry, Written.each_length}
 use Rattle.watch_machine.proofs.Cases.{if_both, not_both, value_is}
 use Rattle.watch_machine.proofs.Seeing.{SameSeen, both_seen, cut_same, each_read}
 use Rattle.watch_machine.proofs.Unseen.{owing_seen, pressed_seen, sent_seen}
-use Rattle.watch_machine.proofs.Within.{out_entry}
-use Rattle.watch_machine.proofs.Written.{each_length}
+use Rattle.watch_laws.specs.{Load.requests_asked_by, Load.requests_at_turn, Outage.is_tried}
 use Rattle.watch_laws.specs.Beginnings.{GoWell, GoesWell, GoesWellAt, IsForLookup, OneLookupLaw, TellsAhead, is_lookup, is_loose_look, is_needed, looks, lookups, why_begun}
-use Rattle.watch_laws.specs.Load.{requests_asked_by, requests_at_turn}
-use Rattle.watch_laws.specs.Outage.{is_tried}
+use Rattle.watch_laws.proofs.{Answering.looked_begins, Answering.replied_rest, Bases.reached_base, Begins.begun_top, Clocking.refused_stays, Lanes.Ticks, Lanes.ticks, Owed.due_some, Topping.readied_count, Topping.turn_count}
+use Rattle.watch_laws.proofs.{Trying.need_cut}
 use Rattle.watch_laws.proofs.Alone.{IsAlone, flag, turn_alone}
-use Rattle.watch_laws.proofs.Answering.{looked_begins, replied_rest}
-use Rattle.watch_laws.proofs.Bases.{reached_base}
-use Rattle.watch_laws.proofs.Begins.{begun_top}
-use Rattle.watch_laws.proofs.Clocking.{refused_stays}
 use Rattle.watch_laws.proofs.Going.{named_of, operation_of, times}
-use Rattle.watch_laws.proofs.Lanes.{Ticks, ticks}
 use Rattle.watch_laws.proofs.Lasting.{Bears, both_bear, calm_ready, clock_bears, mid_bears, same_bears, sent_bears}
 use Rattle.watch_laws.proofs.Lookups.{AsksRenewal, IsTold, LooseAsks, asks_loose, back_told, few_go, found_looks, granted_owes, granted_told, look_goes, looked_told, loose_asks, loose_settled, looks_few, mid_told, other_looks, own_looks, pressed_told, renewal_looks, sent_looks, sent_told, settled_told, told_rid}
-use Rattle.watch_laws.proofs.Owed.{due_some}
 use Rattle.watch_laws.proofs.Spacing.{free_of, looked_other, looked_out, mid_flag, readied_out}
-use Rattle.watch_laws.proofs.Topping.{readied_count, turn_count}
 use Rattle.watch_laws.proofs.Tracking.{back_kept, each_kept, set_kept}
-use Rattle.watch_laws.proofs.Trying.{need_cut}
 
 -- since a beginning i was not looked up yet, and owes a lookup if it did; or it was once, and its lookup is out or told
 abbrev Holds : WatchState → ℕ → Bool → ℕ → Type 0

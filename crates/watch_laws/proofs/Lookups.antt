@@ -2,38 +2,22 @@
 use Rattle.std.proofs.Common.{◌≡◌, ◌≢◌, ◌∙◌, ℕ, suc, ◌+◌, ◌<◌, ◌≤◌, Bool, true, false, cond, not, ◌&&◌, ◌||◌, ◌==◌, if◌then◌else◌, List, [], ◌∷◌, Option, Some, None, IfSome, filter, length, map, max, nat_le, nat_lt, refl, sym, ap, subst, arith, inl, inr, true≢false}
 use Rattle.std.proofs.lemmas.Bool.{and_parts, cases_Bool, cond-false, eqb-true}
 use Rattle.std.specs.List.{find, list_any}
-use Rattle.plan_forest.specs.declared.entry.Entry.{Entry}
-use Rattle.plan_forest.specs.Forest.{entry_at}
-use Rattle.watch_machine.specs.declared.command.WatchRequest.{WatchRequest}
-use Rattle.watch_machine.specs.declared.event.Operation.{Operation}
+use Rattle.plan_forest.specs.{declared.entry.Entry.Entry, Forest.entry_at}
+use Rattle.watch_machine.specs.{declared.command.WatchRequest.WatchRequest, declared.event.Operation.Operation, declared.event.WatchReply.WatchReply, declared.lanes.Out.Out, declared.lanes.Presence.Presence, declared.track.Track.Track}
+use Rattle.watch_machine.specs.{declared.track.Try.Try, Beginning.owed, Clocks.sec, Lines.rested, Pauses.pause, Refusal.is_same, Refusal.request_out, Renewed.granted_from, Renewed.granted_try}
 use Rattle.watch_machine.specs.declared.event.Operation.TheVariants.{Look, Renew}
-use Rattle.watch_machine.specs.declared.event.WatchReply.{WatchReply}
-use Rattle.watch_machine.specs.declared.lanes.Out.{Out}
-use Rattle.watch_machine.specs.declared.lanes.Presence.{Presence}
 use Rattle.watch_machine.specs.declared.track.End.TheVariants.{At, Never}
-use Rattle.watch_machine.specs.declared.track.Track.{Track}
-use Rattle.watch_machine.specs.declared.track.Try.{Try}
 use Rattle.watch_machine.specs.Answers.{answers_all, back_track, back_try, due_again, failing, heard, lane_freed, replied, silent, without_request}
-use Rattle.watch_machine.specs.Beginning.{owed}
-use Rattle.watch_machine.specs.Clocks.{sec}
-use Rattle.watch_machine.specs.Lines.{rested}
 use Rattle.watch_machine.specs.Looked.{at_once, told_track, told_try}
-use Rattle.watch_machine.specs.Pauses.{pause}
 use Rattle.watch_machine.specs.Press.{asked_track, dropped, is_fresh, let_go, press, pressed, pressed_alone, pressed_track, track_asked_in}
-use Rattle.watch_machine.specs.Refusal.{is_same, request_out}
-use Rattle.watch_machine.specs.Renewed.{granted_from, granted_try}
 use Rattle.watch_machine.specs.Sending.{out_at, sent, sent_in, sent_track}
 use Rattle.watch_machine.specs.Settling.{is_real, settled_track, settled_try}
 use Rattle.watch_machine.specs.State.{WatchState, each, entry_of, second, track_at, track_in}
 use Rattle.watch_machine.specs.Wanted.{is_alive, is_unknown, need_of, wanted_need, wants}
-use Rattle.watch_machine.proofs.Cases.{if_both, if_cases}
-use Rattle.watch_machine.proofs.Seeing.{each_read}
-use Rattle.watch_machine.proofs.Written.{each_length}
+use Rattle.watch_machine.proofs.{Cases.if_both, Cases.if_cases, Seeing.each_read, Written.each_length}
 use Rattle.watch_laws.specs.Beginnings.{is_lookup, is_loose_look, looks}
-use Rattle.watch_laws.proofs.Alone.{lanes_of}
+use Rattle.watch_laws.proofs.{Alone.lanes_of, Spacing.same_is, Tracking.each_kept}
 use Rattle.watch_laws.proofs.Going.{asks_by, counts, entry_by, operation_of, request_at, skips, times}
-use Rattle.watch_laws.proofs.Spacing.{same_is}
-use Rattle.watch_laws.proofs.Tracking.{each_kept}
 
 -- ---- how many lookups of an entry are out
 

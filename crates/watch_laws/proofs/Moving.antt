@@ -1,30 +1,19 @@
 -- Moving: what another forest that is watched makes of the requests that are out, of those that wait, and of the stages of an outage. For the
 -- laws of recovery, starts and outages.
 use Rattle.std.proofs.Common.{◌≡◌, ◌⊎◌, ◌∙◌, ℕ, suc, ◌+◌, ◌≤◌, Bool, true, false, not, ◌&&◌, Option, Some, None, All, filter, length, nat_le, refl, sym, ap, subst, arith, inl, inr}
-use Rattle.std.proofs.lemmas.Bool.{and_from, and_parts, cases_Bool}
 use Rattle.std.proofs.lemmas.List.Elements.{All-weaker}
+use Rattle.std.proofs.lemmas.Bool.{and_from, and_parts, cases_Bool}
 use Rattle.std.specs.List.{list_any}
-use Rattle.watch_machine.specs.declared.lanes.Out.{Out}
-use Rattle.watch_machine.specs.declared.track.Track.{Track}
-use Rattle.watch_machine.specs.declared.track.Try.{Try}
+use Rattle.watch_machine.specs.{declared.lanes.Out.Out, declared.track.Track.Track, declared.track.Try.Try, Change.former_at, Clocks.ms, History.Changed, History.IsChanged, Lines.is_first, Lines.rested, Outlook.time_of, Settling.is_silent}
+use Rattle.watch_machine.specs.{State.WatchState, State.track_at}
 use Rattle.watch_machine.specs.Beginning.{hastened, is_pressed, is_pressed_try, owed, owing_lookup, soon, sooner_try, untopped_track}
-use Rattle.watch_machine.specs.Change.{former_at}
-use Rattle.watch_machine.specs.Clocks.{ms}
-use Rattle.watch_machine.specs.History.{Changed, IsChanged}
-use Rattle.watch_machine.specs.Lines.{is_first, rested}
-use Rattle.watch_machine.specs.Outlook.{time_of}
-use Rattle.watch_machine.specs.Settling.{is_silent}
-use Rattle.watch_machine.specs.State.{WatchState, track_at}
-use Rattle.watch_machine.proofs.Cases.{not_both, value_is}
-use Rattle.watch_machine.proofs.Changing.{all_after}
+use Rattle.watch_machine.proofs.{Cases.not_both, Cases.value_is, Changing.all_after}
 use Rattle.watch_laws.specs.Outage.{Outage, comes_over, how_many, is_request_served, is_request_whole, is_tried, outage_settled_by, waiting, waits_to_be_asked, was_tried}
+use Rattle.watch_laws.proofs.{Grounds.IsBase, Lanes.is_anew, Postponing.postponed}
 use Rattle.watch_laws.proofs.Bases.{changed_base, kept_flag, owing_last}
 use Rattle.watch_laws.proofs.Counting.{at_some, either, filtered_lanes, lanes_filtered, moved_pass}
 use Rattle.watch_laws.proofs.Enduring.{Cutting, Endures, IsPending, Kept, Missed, cut}
 use Rattle.watch_laws.proofs.Following.{any_over, changed_entries, changed_out, filter_after, kept_over, named_over, owed_is}
-use Rattle.watch_laws.proofs.Grounds.{IsBase}
-use Rattle.watch_laws.proofs.Lanes.{is_anew}
-use Rattle.watch_laws.proofs.Postponing.{postponed}
 use Rattle.watch_laws.proofs.Stages.{Facts, IsGoing, IsThrough}
 
 -- what holds of a try also where it may go out earlier holds of that of an entry that owes a lookup, where it is pressed

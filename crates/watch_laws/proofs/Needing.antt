@@ -1,29 +1,18 @@
 -- Needing: an entry that has to be led on is wanted, and no other; it would not be so if a need were dropped or added. For the laws of needs.
 use Rattle.std.proofs.Common.{◌≡◌, ◌⊎◌, ◌∙◌, ℕ, zero, suc, ◌+◌, ◌-◌, ◌<◌, ◌≤◌, Bool, true, false, not, ◌&&◌, ◌||◌, ◌==◌, List, [], ◌∷◌, Option, Some, None, filter, fold, length, map, min, nat_lt, refl, sym, ap, arith, inl, inr}
+use Rattle.std.proofs.lemmas.{Bool.Decides.nat_tests, List.FromFn.get_or-map-range_with_len, List.FromFn.length-map-range_with_len}
 use Rattle.std.proofs.lemmas.Bool.{and_from, cases_Bool, cases_lt, or_left, or_right}
-use Rattle.std.proofs.lemmas.Bool.Decides.{nat_tests}
-use Rattle.std.proofs.lemmas.List.FromFn.{get_or-map-range_with_len, length-map-range_with_len}
 use Rattle.std.specs.List.{list_any, range_with_len}
 use Rattle.base_moment.specs.declared.moment.TheConstants.{LAST}
-use Rattle.plan_forest.specs.declared.entry.Entry.{Entry}
-use Rattle.plan_forest.specs.declared.entry.Kind.TheVariants.{Token}
-use Rattle.plan_forest.specs.declared.forest.TheConstants.{END_MAX}
-use Rattle.plan_forest.specs.Carried.{carried}
-use Rattle.plan_forest.specs.Forest.{entry_at, no_entry}
+use Rattle.plan_forest.specs.{declared.entry.Entry.Entry, declared.entry.Kind.TheVariants.Token, declared.forest.TheConstants.END_MAX, Carried.carried, Forest.entry_at, Forest.no_entry}
 use Rattle.plan_forest.specs.Over.{Over, chain, chain_of, is_over}
-use Rattle.plan_forest.proofs.Carrying.{and_left, and_right, carried_at_least, carried_is_of, or_parts}
 use Rattle.plan_forest.proofs.Entries.{entry_at_past}
-use Rattle.watch_machine.specs.declared.clocks.Clocks.{Clocks}
-use Rattle.watch_machine.specs.declared.track.End.{End}
+use Rattle.plan_forest.proofs.Carrying.{and_left, and_right, carried_at_least, carried_is_of, or_parts}
+use Rattle.watch_machine.specs.{declared.clocks.Clocks.Clocks, declared.track.End.End, declared.track.Track.Track, Beginning.is_called, Clocks.sec, Clocks.to_here}
 use Rattle.watch_machine.specs.declared.track.End.TheVariants.{Unknown, At, Never}
-use Rattle.watch_machine.specs.declared.track.Track.{Track}
-use Rattle.watch_machine.specs.Beginning.{is_called}
-use Rattle.watch_machine.specs.Clocks.{sec, to_here}
 use Rattle.watch_machine.specs.State.{WatchState, entry_of, has_last_try, opened, second, track_at, track_in}
 use Rattle.watch_machine.specs.Wanted.{believed, cut_need, fixed_ends, free_entry, free_need, is_fixed, is_known, is_never, is_unknown, is_wanted, least, least_over, limit, need_here, need_of, seen_entry, view, wanted_need, wants}
-use Rattle.watch_machine.proofs.Cases.{if_cases, not_both}
-use Rattle.watch_machine.proofs.Leasts.{least_start}
-use Rattle.watch_machine.proofs.Opening.{seen_at}
+use Rattle.watch_machine.proofs.{Cases.if_cases, Cases.not_both, Leasts.least_start, Opening.seen_at}
 use Rattle.watch_laws.specs.Calm.{planned_need}
 use Rattle.watch_laws.specs.Needs.{CalledLaw, HasToBeLed, IsEndToBeLed, IsNeedUntil, IsNeeded, IsNeededBy, IsOpenUntil, MayBeNeeded, NeededBy, NeededLaw, NoneAddedLaw, NoneDroppedLaw, WantedLaw, is_wanted_by, seen_by}
 use Rattle.watch_laws.proofs.Trying.{need_cut, need_free}

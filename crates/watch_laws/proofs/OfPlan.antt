@@ -1,38 +1,21 @@
 -- OfPlan: what a clock opens in calm is the round of the least and latest plan. For the law of the round of the plan.
 use Rattle.std.proofs.Common.{◌≡◌, ◌∙◌, ℕ, ◌+◌, ◌-◌, ◌<◌, ◌≤◌, Bool, true, false, cond, not, ◌&&◌, ◌==◌, List, [], ◌∷◌, Option, Some, None, Ok, filter, get_or, length, max, nat_le, nat_lt, refl, sym, ap, ap₂, subst, arith, inl, inr, if◌then◌else◌, ◌||◌, suc, zero}
+use Rattle.std.proofs.lemmas.{Bool.Decides.nat_tests, List.Folds.list_any_at, List.FromFn.get_or-range_with_len, List.FromFn.length-range_with_len}
 use Rattle.std.proofs.lemmas.Bool.{cases_Bool, cases_lt, cond-true, cond-false}
-use Rattle.std.proofs.lemmas.Bool.Decides.{nat_tests}
-use Rattle.std.proofs.lemmas.List.Folds.{list_any_at}
-use Rattle.std.proofs.lemmas.List.FromFn.{get_or-range_with_len, length-range_with_len}
 use Rattle.std.proofs.Math.Path.{fun_ext}
 use Rattle.std.specs.List.{list_any, range_with_len}
-use Rattle.plan_forest.specs.declared.entry.Entry.{Entry}
-use Rattle.plan_forest.specs.Carried.{carried}
-use Rattle.plan_forest.specs.Forest.{end_of, entry_at}
-use Rattle.plan_forest.specs.Over.{Over, is_over}
-use Rattle.plan_forest.specs.Push.{IsForest}
+use Rattle.plan_forest.specs.{declared.entry.Entry.Entry, Carried.carried, Forest.end_of, Forest.entry_at, Over.Over, Over.is_over, Push.IsForest}
 use Rattle.plan_forest.specs.Renewal.{all_last, capped, is_granted, renewal, renewed}
+use Rattle.plan_forest.proofs.{Chains.ParentsFirst, Entries.entry_at_past, Placed.parents_first}
 use Rattle.plan_forest.proofs.Carrying.{and_left, and_right, carried_up, or_parts}
-use Rattle.plan_forest.proofs.Chains.{ParentsFirst}
-use Rattle.plan_forest.proofs.Entries.{entry_at_past}
-use Rattle.plan_forest.proofs.Placed.{parents_first}
+use Rattle.plan_rule.specs.{Forced.bound, Forced.latest_end, Schedule.IsNextMoment, Schedule.IsSchedule}
 use Rattle.plan_rule.specs.Asks.{asks, first_of, is_end_due, is_to_be_asked as is_asked_now}
-use Rattle.plan_rule.specs.Forced.{bound, latest_end}
-use Rattle.plan_rule.specs.Schedule.{IsNextMoment, IsSchedule}
-use Rattle.plan_rule.proofs.Asking.{short_over}
-use Rattle.plan_rule.proofs.Keeping.{end_below_bound}
-use Rattle.watch_machine.specs.declared.command.WatchOutput.{WatchOutput}
-use Rattle.watch_machine.specs.declared.event.WatchEvent.{WatchEvent}
-use Rattle.watch_machine.specs.declared.event.WatchEvent.TheVariants.{Clock}
-use Rattle.watch_machine.specs.declared.notes.Notes.{Notes}
-use Rattle.watch_machine.specs.Beginning.{is_pressed}
+use Rattle.plan_rule.proofs.{Asking.short_over, Keeping.end_below_bound}
+use Rattle.watch_machine.specs.{declared.command.WatchOutput.WatchOutput, declared.event.WatchEvent.WatchEvent, declared.event.WatchEvent.TheVariants.Clock, declared.notes.Notes.Notes, Beginning.is_pressed, Margins.has_come, Press.is_fresh}
+use Rattle.watch_machine.specs.{Outlook.time_of, Step.StepClock, Step.readied}
 use Rattle.watch_machine.specs.History.{History, Turn, Turned}
-use Rattle.watch_machine.specs.Margins.{has_come}
-use Rattle.watch_machine.specs.Press.{is_fresh}
-use Rattle.watch_machine.specs.Outlook.{time_of}
 use Rattle.watch_machine.specs.Round.{IsRound, IsSecond, entry_planned, is_hoped, opens, opens_some, plan_view, planned_by, step_in_plan}
 use Rattle.watch_machine.specs.State.{WatchState, entry_of, second, track_at}
-use Rattle.watch_machine.specs.Step.{StepClock, readied}
 use Rattle.watch_machine.specs.Wanted.{believed, is_alive, is_unknown, is_wanted, seen_entry, wanted_need}
 use Rattle.watch_machine.proofs.Cases.{if_cases}
 use Rattle.watch_laws.specs.Calm.{AllRight, IsCalm, IsOfPlan, IsPlanNow, RoundOfPlanLaw, RoundsRight, asks_now, believed_forest, ends, in_plan_at, lead_at, planned_need, terms}

@@ -1,53 +1,25 @@
 -- OnPlan: what a watch holds that goes by its plan, and what a clock leaves of it. For the law of calm.
 use Rattle.std.proofs.Common.{◌≡◌, ◌⊎◌, ◌∙◌, ℕ, ◌+◌, ◌-◌, ◌<◌, ◌≤◌, Bool, true, false, ◌||◌, ◌==◌, if◌then◌else◌, List, [], ◌∷◌, Option, Some, None, IfSome, get_or, is_none, length, map, refl, sym, ap, ap₂, subst, arith, inl, inr}
+use Rattle.std.proofs.lemmas.{List.get_or_past, List.Folds.list_any-append}
 use Rattle.std.proofs.lemmas.Bool.{cases_Bool, cases_lt, cond-false, cond-true, eqb-true, or_left, or_right}
-use Rattle.std.proofs.lemmas.List.{get_or_past}
 use Rattle.std.proofs.lemmas.List.Elements.{All-cons, All-head, All-map, All-nil, All-tail}
-use Rattle.std.proofs.lemmas.List.Folds.{list_any-append}
 use Rattle.std.specs.List.{All, list_any}
-use Rattle.plan_forest.specs.declared.entry.Entry.{Entry}
-use Rattle.plan_forest.specs.Carried.{carried}
-use Rattle.plan_forest.specs.Forest.{Forest, entry_at}
-use Rattle.plan_forest.specs.Push.{IsForest}
-use Rattle.plan_forest.specs.Renewal.{renewal}
+use Rattle.plan_forest.specs.{declared.entry.Entry.Entry, Carried.carried, Forest.Forest, Forest.entry_at, Push.IsForest, Renewal.renewal}
 use Rattle.plan_forest.proofs.Carrying.{or_parts}
-use Rattle.plan_rule.specs.declared.wake.Wake.{Wake}
-use Rattle.plan_rule.specs.Asks.{first_of, with_asks}
-use Rattle.plan_rule.specs.Ends.{is_asked}
-use Rattle.plan_rule.specs.Least.{IsLeastAndLatest}
-use Rattle.plan_rule.specs.Schedule.{IsSchedule, RisesStrictly}
-use Rattle.plan_rule.specs.Unkeepable.{AllKeepable}
-use Rattle.plan_rule.proofs.Existence.{there_is_one}
-use Rattle.plan_rule.proofs.Keeping.{one_least, unkeepable}
-use Rattle.plan_rule.proofs.Schedule.{schedule_is_best}
-use Rattle.watch_machine.specs.declared.command.WatchRequest.{WatchRequest}
-use Rattle.watch_machine.specs.declared.event.Operation.TheVariants.{Renew}
-use Rattle.watch_machine.specs.declared.lanes.LaneAnswer.{LaneAnswer}
-use Rattle.watch_machine.specs.declared.lanes.Out.{Out}
-use Rattle.watch_machine.specs.declared.lanes.Presence.{Presence}
-use Rattle.watch_machine.specs.declared.track.Track.{Track}
-use Rattle.watch_machine.specs.declared.track.Try.{Try}
-use Rattle.watch_machine.specs.Beginning.{begun}
-use Rattle.watch_machine.specs.Clocks.{sec}
-use Rattle.watch_machine.specs.Lines.{is_due, is_due_try}
+use Rattle.plan_rule.specs.{declared.wake.Wake.Wake, Asks.first_of, Asks.with_asks, Ends.is_asked, Least.IsLeastAndLatest, Schedule.IsSchedule, Schedule.RisesStrictly, Unkeepable.AllKeepable}
+use Rattle.plan_rule.proofs.{Existence.there_is_one, Keeping.one_least, Keeping.unkeepable, Schedule.schedule_is_best}
+use Rattle.watch_machine.specs.{declared.command.WatchRequest.WatchRequest, declared.event.Operation.TheVariants.Renew, declared.lanes.LaneAnswer.LaneAnswer, declared.lanes.Out.Out, declared.lanes.Presence.Presence}
+use Rattle.watch_machine.specs.{declared.track.Track.Track, declared.track.Try.Try, Beginning.begun, Clocks.sec, Lines.is_due, Lines.is_due_try, Step.readied}
 use Rattle.watch_machine.specs.Press.{asked_track, dropped, is_fresh, press, pressed, pressed_alone, pressed_track, track_asked_in}
 use Rattle.watch_machine.specs.Sending.{RequestsAreSent as IsSending, out_at, sent, sent_in, sent_track}
 use Rattle.watch_machine.specs.Settling.{held_back, presence_after, settled, settled_track, settled_try, timed}
 use Rattle.watch_machine.specs.State.{WatchState, attempt_at, each, entry_of, no_track, second, track_at, track_in}
-use Rattle.watch_machine.specs.Step.{readied}
 use Rattle.watch_machine.specs.Wanted.{believed, is_fixed, is_wanted, need_of, wanted_need, wants}
-use Rattle.watch_machine.proofs.Cases.{if_both, value_is}
-use Rattle.watch_machine.proofs.Seeing.{each_past, each_read}
-use Rattle.watch_machine.proofs.Written.{each_length}
+use Rattle.watch_machine.proofs.{Cases.if_both, Cases.value_is, Seeing.each_past, Seeing.each_read, Written.each_length}
 use Rattle.watch_laws.specs.Calm.{IsCalmClock, NonePassed, OpensNextWakeUp, believed_forest, ends, ends_left_by, in_plan_at, lead_at, planned_need, terms}
-use Rattle.watch_laws.proofs.Believed.{carried_believed}
+use Rattle.watch_laws.proofs.{Believed.carried_believed, Clocking.clock_rises, Foreseen.need_planned, Foreseen.wanted_short, Opener.bearing, Opener.wants_same, Spacing.free_of, Tracking.each_at, Tracking.each_kept}
 use Rattle.watch_laws.proofs.Calming.{AreAlike, IsIdle, IsKept, ends_alike, entry_step, forest_alike, lead_alike, need_kept, plan_alike, terms_alike}
-use Rattle.watch_laws.proofs.Clocking.{clock_rises}
-use Rattle.watch_laws.proofs.Foreseen.{need_planned, wanted_short}
 use Rattle.watch_laws.proofs.Going.{asks_by, entry_by, goes as going, operation_of, request_at}
-use Rattle.watch_laws.proofs.Opener.{bearing, wants_same}
-use Rattle.watch_laws.proofs.Spacing.{free_of}
-use Rattle.watch_laws.proofs.Tracking.{each_at, each_kept}
 
 -- ---- plans
 

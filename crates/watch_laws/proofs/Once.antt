@@ -1,45 +1,28 @@
 -- Once: an entry that is pressed and never answered comes to no first try again. For the law of one stand.
 use Rattle.std.proofs.Common.{◌≡◌, ◌⊎◌, ◌∙◌, ℕ, zero, suc, ◌+◌, ◌<◌, ◌≤◌, Bool, true, false, not, ◌&&◌, ◌||◌, ◌==◌, if◌then◌else◌, List, [], ◌∷◌, Option, Some, None, Result, Ok, Err, filter, length, min, nat_le, nat_lt, set, refl, sym, ap, ap₂, subst, arith, inl, inr}
-use Rattle.std.proofs.lemmas.Bool.{and_from, and_parts, cases_Bool, cond-false, cond-true, eqb-true, or_left, or_right}
 use Rattle.std.proofs.lemmas.Bool.Decides.{nat_tests}
-use Rattle.std.proofs.lemmas.Bool.{cases_eq, cases_lt}
+use Rattle.std.proofs.lemmas.Bool.{and_from, and_parts, cases_Bool, cond-false, cond-true, eqb-true, or_left, or_right, cases_eq, cases_lt}
 use Rattle.std.proofs.lemmas.List.{get_or-set_other, get_or-set_same, get_or_past, set_past}
 use Rattle.std.specs.List.{list_any, range_with_len}
 use Rattle.base_moment.specs.declared.moment.TheConstants.{LAST}
-use Rattle.plan_forest.specs.declared.entry.Entry.{Entry}
+use Rattle.plan_forest.specs.{declared.entry.Entry.Entry, Renewal.capped}
 use Rattle.plan_forest.specs.Forest.{Forest, end_of, entry_at}
-use Rattle.plan_forest.specs.Renewal.{capped}
 use Rattle.plan_forest.proofs.Entries.{entry_at_set_other, entry_at_set_same}
 use Rattle.plan_rule.specs.Asks.{asks, is_to_be_asked as is_asked_for}
-use Rattle.watch_machine.specs.declared.change.Was.TheVariants.{New}
-use Rattle.watch_machine.specs.declared.clocks.Clocks.{Clocks}
-use Rattle.watch_machine.specs.declared.command.WatchCommand.{WatchCommand}
+use Rattle.watch_machine.specs.{declared.change.Was.TheVariants.New, declared.clocks.Clocks.Clocks, declared.command.WatchCommand.WatchCommand, declared.command.WatchOutput.WatchOutput, declared.command.WatchRequest.WatchRequest}
+use Rattle.watch_machine.specs.{declared.event.WatchEvent.WatchEvent, declared.event.Operation.Operation, declared.event.WatchReply.WatchReply, declared.event.WatchTerms.WatchTerms, declared.fault.WatchFault.WatchFault}
+use Rattle.watch_machine.specs.{declared.lanes.Out.Out, declared.notes.BeginReason.BeginReason, declared.track.End.End, declared.track.Track.Track, declared.track.Try.Try, Clocks.sec, Lines.is_first, Refusal.is_same, Refusal.request_out}
 use Rattle.watch_machine.specs.declared.command.WatchCommand.TheVariants.{Go, Taken}
-use Rattle.watch_machine.specs.declared.command.WatchOutput.{WatchOutput}
-use Rattle.watch_machine.specs.declared.command.WatchRequest.{WatchRequest}
-use Rattle.watch_machine.specs.declared.event.WatchEvent.{WatchEvent}
 use Rattle.watch_machine.specs.declared.event.WatchEvent.TheVariants.{Clock, Looked, Renewed, Need, Begin, Known}
-use Rattle.watch_machine.specs.declared.event.Operation.{Operation}
 use Rattle.watch_machine.specs.declared.event.Operation.TheVariants.{Look, Renew}
-use Rattle.watch_machine.specs.declared.event.WatchReply.{WatchReply}
 use Rattle.watch_machine.specs.declared.event.WatchReply.TheVariants.{Told, Refused, Busy, Lost}
-use Rattle.watch_machine.specs.declared.event.WatchTerms.{WatchTerms}
-use Rattle.watch_machine.specs.declared.fault.WatchFault.{WatchFault}
-use Rattle.watch_machine.specs.declared.lanes.Out.{Out}
-use Rattle.watch_machine.specs.declared.notes.BeginReason.{BeginReason}
-use Rattle.watch_machine.specs.declared.track.End.{End}
-use Rattle.watch_machine.specs.declared.track.Track.{Track}
-use Rattle.watch_machine.specs.declared.track.Try.{Try}
 use Rattle.watch_machine.specs.Answers.{answers_all, failing, lane_freed, noted, replied, silent, with_track}
 use Rattle.watch_machine.specs.Beginning.{begun, is_called, is_pressed, is_pressed_try, is_start, owing, owing_lookup, soon, sooner_try, untopped, untopped_track}
 use Rattle.watch_machine.specs.Change.{former, former_at, index_or, place_now}
-use Rattle.watch_machine.specs.Clocks.{sec}
 use Rattle.watch_machine.specs.History.{AllHappen, Changed, Changes, Happening, Hands, IsChanged, Turn, Turned}
-use Rattle.watch_machine.specs.Lines.{is_first}
 use Rattle.watch_machine.specs.Looked.{after_look, by_terms, looked, refused_try, untold, untold_track}
 use Rattle.watch_machine.specs.Margins.{has_come, is_in_plan, lead}
 use Rattle.watch_machine.specs.Press.{asked_track, dropped, is_fresh, press, pressed, pressed_alone, pressed_track, track_asked_in}
-use Rattle.watch_machine.specs.Refusal.{is_same, request_out}
 use Rattle.watch_machine.specs.Renewed.{after_renewal, renewed_track, state_renewed, ungranted, ungranted_track}
 use Rattle.watch_machine.specs.Round.{IsRound, asked_by_round as round_of, entry_planned, is_hoped, plan_view, planned_by, step_in_plan}
 use Rattle.watch_machine.specs.Sending.{sent, sent_in, sent_track}
@@ -47,32 +30,16 @@ use Rattle.watch_machine.specs.Settling.{is_real, settled, settled_track, settle
 use Rattle.watch_machine.specs.State.{WatchState, attempt_at, each, entry_of, has_last_try, no_track, second, track_at, track_in}
 use Rattle.watch_machine.specs.Step.{Step, StepClock, StepCommand, StepLooked, StepRenewed, known, readied, why, with_need_until}
 use Rattle.watch_machine.specs.Wanted.{believed, is_alive, is_open, is_unknown, is_wanted, need_of, seen_entry, wants}
+use Rattle.watch_machine.proofs.{Moved.place_said, Unseen.pressed_seen, Unseen.sent_seen, Within.out_entry}
 use Rattle.watch_machine.proofs.Cases.{if_both, if_cases, not_both}
-use Rattle.watch_machine.proofs.Moved.{place_said}
 use Rattle.watch_machine.proofs.Seeing.{SameSeen, both_seen, each_past, each_read, need_same}
-use Rattle.watch_machine.proofs.Unseen.{pressed_seen, sent_seen}
-use Rattle.watch_machine.proofs.Within.{out_entry}
-use Rattle.watch_laws.specs.Absence.{is_event_taken}
-use Rattle.watch_laws.specs.Outage.{one_where}
+use Rattle.watch_laws.specs.{Absence.is_event_taken, Outage.one_where, Presence.is_told, Time.is_come}
 use Rattle.watch_laws.specs.Partial.{AreHung, IsHung, IsUntoldOf, OnceInFrontLaw, comes_before, comes_before_over, index_over, is_own_first, is_own_try, is_put_before, is_put_from, often_before, put_before, stands_before, waits_before}
-use Rattle.watch_laws.specs.Presence.{is_told}
-use Rattle.watch_laws.specs.Time.{is_come}
+use Rattle.watch_laws.proofs.{Bases.changed_base, Bases.reached_base, Believed.written_at, Believed.written_count, Clocking.readied_clocks, Clocking.refused_stays, Counting.at_some, Following.changed_entries, Following.kept_over}
+use Rattle.watch_laws.proofs.{Forested.readied_forest, Grounds.IsBase, Grounds.turn_base, Holding.looked_presence, OnPlan.sec_rises, Opener.mid_bears, Retrying.IsPast, Retrying.rises, Shapes.turn_shape, Spacing.looked_other}
+use Rattle.watch_laws.proofs.{Trying.time_same, Trying.time_sooner}
 use Rattle.watch_laws.proofs.Answering.{looked_leaves, renewed_leaves, rest_of}
-use Rattle.watch_laws.proofs.Bases.{changed_base, reached_base}
-use Rattle.watch_laws.proofs.Believed.{written_at, written_count}
-use Rattle.watch_laws.proofs.Clocking.{readied_clocks, refused_stays}
-use Rattle.watch_laws.proofs.Counting.{at_some}
-use Rattle.watch_laws.proofs.Following.{changed_entries, kept_over}
-use Rattle.watch_laws.proofs.Forested.{readied_forest}
-use Rattle.watch_laws.proofs.Grounds.{IsBase, turn_base}
-use Rattle.watch_laws.proofs.Holding.{looked_presence}
-use Rattle.watch_laws.proofs.OnPlan.{sec_rises}
-use Rattle.watch_laws.proofs.Opener.{mid_bears}
-use Rattle.watch_laws.proofs.Retrying.{IsPast, rises}
-use Rattle.watch_laws.proofs.Shapes.{turn_shape}
-use Rattle.watch_laws.proofs.Spacing.{looked_other}
 use Rattle.watch_laws.proofs.Tracking.{each_at, each_kept, replied_forest}
-use Rattle.watch_laws.proofs.Trying.{time_same, time_sooner}
 
 -- what of a track says whether its try is a first one, whether it is pressed and out, when it ends, and how long before that it is asked
 record Alike (y x : Track) : Type 0 where

@@ -1,49 +1,28 @@
 -- Outliving: an entry outlives every outage that its margin does. For the laws of outages.
 use Rattle.std.proofs.Common.{◌≡◌, ◌⊎◌, ◌∙◌, ℕ, suc, ◌+◌, ◌-◌, ◌*◌, ◌<◌, ◌≤◌, Bool, true, false, not, ◌&&◌, ◌||◌, ◌==◌, List, [], ◌∷◌, Option, Some, None, All, IfSome, Result, Ok, Err, get_or, length, map, max, nat_lt, refl, sym, ap, subst, arith, inl, inr, true≢false}
-use Rattle.std.proofs.lemmas.Bool.{and_parts, cases_Bool, cases_lt, cond-false, eqb-true}
 use Rattle.std.proofs.lemmas.List.Elements.{All-weaker}
+use Rattle.std.proofs.lemmas.Bool.{and_parts, cases_Bool, cases_lt, cond-false, eqb-true}
 use Rattle.std.specs.List.{list_any}
 use Rattle.plan_forest.specs.Forest.{Forest}
-use Rattle.watch_machine.specs.declared.command.WatchCommand.TheVariants.{Taken}
-use Rattle.watch_machine.specs.declared.command.WatchOutput.{WatchOutput}
-use Rattle.watch_machine.specs.declared.event.WatchEvent.{WatchEvent}
+use Rattle.watch_machine.specs.{declared.command.WatchCommand.TheVariants.Taken, declared.command.WatchOutput.WatchOutput, declared.event.WatchEvent.WatchEvent, declared.event.WatchReply.WatchReply}
+use Rattle.watch_machine.specs.{declared.event.WatchReply.TheVariants.Told, declared.event.WatchTerms.WatchTerms, declared.fault.WatchFault.WatchFault, declared.lanes.Out.Out, declared.track.End.End, declared.track.Track.Track}
+use Rattle.watch_machine.specs.{Answers.noted, Beginning.is_pressed, Beginning.is_pressed_try, Clocks.ms, Lines.rested, Looked.looked, Press.pressed, Outlook.time_of, Refusal.request_out, Renewed.state_renewed, Sending.sent}
+use Rattle.watch_machine.specs.{Settling.is_real, Settling.is_silent, Wait.wait}
 use Rattle.watch_machine.specs.declared.event.WatchEvent.TheVariants.{Clock, Looked, Renewed, Need, Begin, Known}
 use Rattle.watch_machine.specs.declared.event.Operation.TheVariants.{Look, Renew}
-use Rattle.watch_machine.specs.declared.event.WatchReply.{WatchReply}
-use Rattle.watch_machine.specs.declared.event.WatchReply.TheVariants.{Told, Refused, Busy, Lost}
-use Rattle.watch_machine.specs.declared.event.WatchTerms.{WatchTerms}
-use Rattle.watch_machine.specs.declared.fault.WatchFault.{WatchFault}
-use Rattle.watch_machine.specs.declared.lanes.Out.{Out}
-use Rattle.watch_machine.specs.declared.track.End.{End}
 use Rattle.watch_machine.specs.declared.track.End.TheVariants.{Unknown, At, Never}
-use Rattle.watch_machine.specs.declared.track.Track.{Track}
-use Rattle.watch_machine.specs.Answers.{noted}
-use Rattle.watch_machine.specs.Beginning.{is_pressed, is_pressed_try}
-use Rattle.watch_machine.specs.Clocks.{ms}
 use Rattle.watch_machine.specs.History.{AllHappen, Changed, Changes, Hands, Happening, IsChanged, IsReached, Turn, Turned}
-use Rattle.watch_machine.specs.Lines.{rested}
-use Rattle.watch_machine.specs.Looked.{looked}
 use Rattle.watch_machine.specs.Margins.{is_in_plan, own_margin, time, time_before}
-use Rattle.watch_machine.specs.Press.{pressed}
-use Rattle.watch_machine.specs.Outlook.{time_of}
-use Rattle.watch_machine.specs.Refusal.{request_out}
-use Rattle.watch_machine.specs.Renewed.{state_renewed}
-use Rattle.watch_machine.specs.Sending.{sent}
-use Rattle.watch_machine.specs.Settling.{is_real, is_silent}
 use Rattle.watch_machine.specs.State.{WatchState, attempt_at, entry_of, second, track_at, track_in}
 use Rattle.watch_machine.specs.Step.{Step, StepLooked, StepRenewed, known, readied, with_need_until}
-use Rattle.watch_machine.specs.Wait.{wait}
 use Rattle.watch_machine.specs.Wanted.{believed, is_known, is_never, is_unknown, is_wanted, wanted_need, wants}
-use Rattle.watch_machine.proofs.Cases.{if_both, if_cases, not_both}
 use Rattle.watch_machine.proofs.Leasts.{least_start}
+use Rattle.watch_machine.proofs.Cases.{if_both, if_cases, not_both}
 use Rattle.watch_laws.specs.Absence.{is_clock, is_event_taken}
 use Rattle.watch_laws.specs.Outage.{AllInTime, AreLived, EndIsInTime, GrantLaw, IsBefore, IsIncident, IsLived, IsLivedChange, IsReplyInOutage, IsShortFor, LeftLaw, MayBeAsked, Outage, OutageLaw, TellsNothing, again, clock_asked_at, comes, comes_over, coming_through, from_over, granted_at, granted_by, granted_next, how_many, in_line, is_request_served, is_request_whole, outage_next_after, outage_next_after_command, outage_next_by, outage_settled_by, tells, waiting}
 use Rattle.watch_laws.specs.Presence.{is_told}
+use Rattle.watch_laws.proofs.{Bases.last_base, Changing.low, Clocking.refused_stays, Counting.least_all, Retrying.ready_first, Retrying.rises, Minding.end_tended, Minding.tended, Sparing.readied_answers, Trying.asking_own}
 use Rattle.watch_laws.proofs.Answered.{IsReplied, goes_on_after, looked_replied, renewed_replied, replied_through}
-use Rattle.watch_laws.proofs.Bases.{last_base}
-use Rattle.watch_laws.proofs.Changing.{low}
-use Rattle.watch_laws.proofs.Clocking.{refused_stays}
-use Rattle.watch_laws.proofs.Counting.{least_all}
 use Rattle.watch_laws.proofs.Enduring.{Cutting, Endures, Kept, Missed, cut, cut_off, real_away}
 use Rattle.watch_laws.proofs.Grounds.{IsBase, fewer_wait, starts, turn_base}
 use Rattle.watch_laws.proofs.Lanes.{Sends, Ticks, is_anew, ticks, turn_sends}
@@ -52,12 +31,8 @@ use Rattle.watch_laws.proofs.Marked.{none_out, not_out, only_cut, only_whole}
 use Rattle.watch_laws.proofs.Moving.{end_kept, facts_over, fewer_over, going_over, pressed_over, through_over}
 use Rattle.watch_laws.proofs.Postponing.{postponed, postponed_planned, postponed_through}
 use Rattle.watch_laws.proofs.Requests.{any_gives, anew_none, none_passes, quick_if, some_lane}
-use Rattle.watch_laws.proofs.Retrying.{ready_first, rises}
-use Rattle.watch_laws.proofs.Minding.{end_tended, tended}
-use Rattle.watch_laws.proofs.Sparing.{readied_answers}
 use Rattle.watch_laws.proofs.Stages.{Facts, IsGoing, IsPlanned, IsServed, IsThrough, due_ahead, free_from, margin_holds, turn_of}
 use Rattle.watch_laws.proofs.Ticking.{IsTick, before_second, goes_on, not_so, not_whole, so_whole, ticks_through}
-use Rattle.watch_laws.proofs.Trying.{asking_own}
 
 -- what holds after a turn
 pub record Stays (f : Facts) (due k : ℕ) (s : WatchState) : Type 0 where

@@ -1,37 +1,18 @@
 -- Pacing: what each turn makes of the pace, and of the answers since the last clock. For the law of the pace.
 use Rattle.std.proofs.Common.{◌≡◌, ◌∙◌, ℕ, ◌-◌, ◌/◌, true, false, ◌&&◌, if◌then◌else◌, List, [], ◌∷◌, Option, Some, None, All, Result, Ok, Err, max, refl, sym, ap, subst}
-use Rattle.watch_machine.specs.declared.command.WatchOutput.{WatchOutput}
-use Rattle.watch_machine.specs.declared.command.WatchRequest.{WatchRequest}
-use Rattle.watch_machine.specs.declared.event.WatchEvent.{WatchEvent}
+use Rattle.watch_machine.specs.{declared.command.WatchOutput.WatchOutput, declared.command.WatchRequest.WatchRequest, declared.event.WatchEvent.WatchEvent, declared.event.WatchReply.WatchReply, declared.event.WatchReply.TheVariants.Told}
+use Rattle.watch_machine.specs.{declared.event.WatchTerms.WatchTerms, declared.fault.WatchFault.WatchFault, declared.lanes.LaneAnswer.LaneAnswer, declared.lanes.Out.Out, declared.lanes.Presence.Presence, declared.track.Track.Track}
+use Rattle.watch_machine.specs.{History.Turn, History.after_all, Looked.looked, Press.pressed, Refusal.request_out, Renewed.state_renewed, Round.asked_by_round, State.WatchState}
 use Rattle.watch_machine.specs.declared.event.WatchEvent.TheVariants.{Clock, Looked, Renewed, Need, Begin, Known}
 use Rattle.watch_machine.specs.declared.event.Operation.TheVariants.{Look, Renew}
-use Rattle.watch_machine.specs.declared.event.WatchReply.{WatchReply}
-use Rattle.watch_machine.specs.declared.event.WatchReply.TheVariants.{Told, Refused, Busy, Lost}
-use Rattle.watch_machine.specs.declared.event.WatchTerms.{WatchTerms}
-use Rattle.watch_machine.specs.declared.fault.WatchFault.{WatchFault}
-use Rattle.watch_machine.specs.declared.lanes.LaneAnswer.{LaneAnswer}
-use Rattle.watch_machine.specs.declared.lanes.Out.{Out}
-use Rattle.watch_machine.specs.declared.lanes.Presence.{Presence}
-use Rattle.watch_machine.specs.declared.track.Track.{Track}
 use Rattle.watch_machine.specs.Answers.{answers_all, lane_freed, noted, replied, silent}
-use Rattle.watch_machine.specs.History.{Turn, after_all}
-use Rattle.watch_machine.specs.Looked.{looked}
-use Rattle.watch_machine.specs.Press.{pressed}
-use Rattle.watch_machine.specs.Refusal.{request_out}
-use Rattle.watch_machine.specs.Renewed.{state_renewed}
-use Rattle.watch_machine.specs.Round.{asked_by_round}
 use Rattle.watch_machine.specs.Settling.{is_real, pace_after, presence_after, timed}
-use Rattle.watch_machine.specs.State.{WatchState}
 use Rattle.watch_machine.specs.Step.{Step, StepClock, StepLooked, StepRenewed, readied}
 use Rattle.watch_machine.proofs.Cases.{if_both}
-use Rattle.watch_laws.specs.Absence.{is_clock, is_event_taken}
-use Rattle.watch_laws.specs.Load.{requests_asked_by}
+use Rattle.watch_laws.specs.{Absence.is_clock, Absence.is_event_taken, Load.requests_asked_by, Presence.is_answered}
 use Rattle.watch_laws.specs.Pace.{IsKept, IsReplyOf, KeptLaw, PaceLaw, counts, pace_by, time_taken}
-use Rattle.watch_laws.specs.Presence.{is_answered}
-use Rattle.watch_laws.proofs.Away.{sent_requests}
-use Rattle.watch_laws.proofs.Clocking.{readied_clocks, refused_stays}
+use Rattle.watch_laws.proofs.{Away.sent_requests, Clocking.readied_clocks, Clocking.refused_stays, Holding.looked_presence, Holding.ready_presence}
 use Rattle.watch_laws.proofs.Dating.{Adds, Does, WentOut, clock_of, does, kept_as, parts, ran_out, turn_asks}
-use Rattle.watch_laws.proofs.Holding.{looked_presence, ready_presence}
 
 -- the pace at a clock
 real_is : (reply : WatchReply) → is_real reply ≡ is_answered reply

@@ -2,21 +2,14 @@
 -- entries.
 use Rattle.std.proofs.Common.{◌≡◌, ◌∙◌, ℕ, ◌+◌, ◌*◌, ◌<◌, ◌≤◌, Bool, true, false, not, ◌&&◌, List, [], ◌∷◌, Option, Some, None, length, refl, ap, arith}
 use Rattle.std.proofs.Math.Nat.{mul-add, mul-le-mul_left}
-use Rattle.watch_machine.specs.Change.{former_at}
+use Rattle.watch_machine.specs.{Change.former_at, State.WatchState}
 use Rattle.watch_machine.specs.History.{AllHappen, Changed, Changes, Happening, Hands, IsChanged, Turn, Turned}
-use Rattle.watch_machine.specs.State.{WatchState}
 use Rattle.watch_laws.specs.Outage.{how_many, one_where}
 use Rattle.watch_laws.specs.Partial.{AllHung, AreHolding, HungLaw, IsCarried, IsHung, Partial, answered_before, answered_coming, comes_before, comes_before_over, coming_before, hung_anew, index_over, is_put_before, is_put_from, outage_then, partial_next_after, waits_before}
-use Rattle.watch_laws.proofs.Bases.{changed_base, next_base}
-use Rattle.watch_laws.proofs.Carrying.{long_same, short_same}
+use Rattle.watch_laws.proofs.{Bases.changed_base, Bases.next_base, Carrying.long_same, Carrying.short_same, Following.changed_entries, Held.held_up, Retrying.IsPast, Shapes.turn_shape, Spans.kept_by, Spans.kept_is}
 use Rattle.watch_laws.proofs.Counting.{at_some, moved_pass, none, sums}
-use Rattle.watch_laws.proofs.Following.{changed_entries}
 use Rattle.watch_laws.proofs.Grounds.{IsBase, first_happen, turn_base}
-use Rattle.watch_laws.proofs.Held.{held_up}
 use Rattle.watch_laws.proofs.Once.{is_spent, spends_over, spends_turn, waits_first}
-use Rattle.watch_laws.proofs.Retrying.{IsPast}
-use Rattle.watch_laws.proofs.Shapes.{turn_shape}
-use Rattle.watch_laws.proofs.Spans.{kept_by, kept_is}
 
 -- how often hung entries come to stand before i
 unfoldable hung_coming : (ℕ → Partial) → ℕ → WatchState → List Happening → ℕ

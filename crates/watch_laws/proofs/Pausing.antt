@@ -1,12 +1,9 @@
 -- Pausing: how long an entry that failed may wait. For the law of pauses.
 use Rattle.std.proofs.Common.{◌≡◌, ◌∙◌, ℕ, ◌-◌, ◌*◌, ◌/◌, ◌≤◌, Bool, true, false, ◌&&◌, if◌then◌else◌, Option, Some, None, max, min, nat_le, nat_lt, refl, ap, arith}
-use Rattle.std.proofs.lemmas.Bool.{and_from, cond-false, cond-true}
 use Rattle.std.proofs.lemmas.Bool.Decides.{nat_tests}
-use Rattle.watch_machine.specs.declared.track.End.{End}
+use Rattle.std.proofs.lemmas.Bool.{and_from, cond-false, cond-true}
+use Rattle.watch_machine.specs.{declared.track.End.End, declared.track.Track.Track, declared.track.Try.Try, Clocks.ms}
 use Rattle.watch_machine.specs.declared.track.End.TheVariants.{Unknown, At, Never}
-use Rattle.watch_machine.specs.declared.track.Track.{Track}
-use Rattle.watch_machine.specs.declared.track.Try.{Try}
-use Rattle.watch_machine.specs.Clocks.{ms}
 use Rattle.watch_machine.specs.Pauses.{cap, cap_of, left_to}
 use Rattle.watch_machine.proofs.Cases.{if_both}
 use Rattle.watch_laws.specs.Pauses.{IsLeft, LongestLaw, PauseLaw, longest_by}

@@ -2,8 +2,7 @@
 -- outages.
 use Rattle.std.proofs.Common.{◌≡◌, ◌⊎◌, ℕ, ◌+◌, ◌-◌, ◌*◌, ◌<◌, ◌≤◌, max, arith, inl, inr}
 use Rattle.std.proofs.lemmas.Bool.{cases_lt}
-use Rattle.watch_machine.specs.Clocks.{ms}
-use Rattle.watch_machine.specs.State.{WatchState}
+use Rattle.watch_machine.specs.{Clocks.ms, State.WatchState}
 use Rattle.watch_laws.specs.Outage.{IsShortFor, Outage, breath, sweep}
 use Rattle.watch_laws.proofs.Enduring.{Endures, later_endures}
 use Rattle.watch_laws.proofs.Stages.{Facts, IsPlanned, IsThrough, free_from, margin_holds}

@@ -3,43 +3,25 @@ use Rattle.std.proofs.Common.{◌≡◌, ◌∙◌, ℕ, ◌+◌, ◌<◌, Bool,
 use Rattle.std.proofs.lemmas.Bool.{and_from, and_parts, cases_Bool, cases_lt, cond-false, cond-true, or_left, or_right}
 use Rattle.std.specs.List.{list_any}
 use Rattle.plan_forest.specs.declared.entry.Entry.{Entry}
-use Rattle.watch_machine.specs.declared.command.WatchOutput.{WatchOutput}
-use Rattle.watch_machine.specs.declared.command.WatchRequest.{WatchRequest}
-use Rattle.watch_machine.specs.declared.event.WatchEvent.{WatchEvent}
-use Rattle.watch_machine.specs.declared.event.WatchEvent.TheVariants.{Clock}
+use Rattle.watch_machine.specs.{declared.command.WatchOutput.WatchOutput, declared.command.WatchRequest.WatchRequest, declared.event.WatchEvent.WatchEvent, declared.event.WatchEvent.TheVariants.Clock, declared.fault.WatchFault.WatchFault}
+use Rattle.watch_machine.specs.{declared.notes.Notes.Notes, declared.notes.BeginReason.BeginReason, declared.track.End.End, declared.track.Track.Track, declared.track.Try.Try, Clocks.sec, History.Turn, Lines.rested, Margins.has_come}
+use Rattle.watch_machine.specs.{Pauses.pause, Round.IsRound, Round.asked_by_round, Sending.sent}
 use Rattle.watch_machine.specs.declared.event.Operation.TheVariants.{Look, Renew}
-use Rattle.watch_machine.specs.declared.fault.WatchFault.{WatchFault}
-use Rattle.watch_machine.specs.declared.notes.Notes.{Notes}
-use Rattle.watch_machine.specs.declared.notes.BeginReason.{BeginReason}
-use Rattle.watch_machine.specs.declared.track.End.{End}
-use Rattle.watch_machine.specs.declared.track.Track.{Track}
-use Rattle.watch_machine.specs.declared.track.Try.{Try}
 use Rattle.watch_machine.specs.Beginning.{begun, is_called, is_pressed, is_pressed_try, is_start, owing, owing_lookup, soon, sooner_try, untopped, untopped_track}
-use Rattle.watch_machine.specs.Clocks.{sec}
-use Rattle.watch_machine.specs.History.{Turn}
-use Rattle.watch_machine.specs.Lines.{rested}
-use Rattle.watch_machine.specs.Margins.{has_come}
-use Rattle.watch_machine.specs.Pauses.{pause}
 use Rattle.watch_machine.specs.Press.{asked_track, dropped, is_fresh, press, pressed, pressed_track, track_asked_in}
-use Rattle.watch_machine.specs.Round.{IsRound, asked_by_round}
-use Rattle.watch_machine.specs.Sending.{sent}
 use Rattle.watch_machine.specs.Settling.{settled, settled_track, settled_try, timed}
 use Rattle.watch_machine.specs.State.{WatchState, attempt_at, entry_of, no_track, second, track_at, track_in}
 use Rattle.watch_machine.specs.Step.{Step, StepClock, readied, why}
 use Rattle.watch_machine.specs.Wanted.{believed, is_open, is_wanted, wanted_need, wants}
+use Rattle.watch_machine.proofs.Unseen.{pressed_seen, sent_seen}
 use Rattle.watch_machine.proofs.Cases.{if_both, if_cases, value_is}
 use Rattle.watch_machine.proofs.Seeing.{SameSeen, both_seen, need_same}
-use Rattle.watch_machine.proofs.Unseen.{pressed_seen, sent_seen}
 use Rattle.watch_laws.specs.Absence.{is_event_taken}
 use Rattle.watch_laws.specs.Presses.{HasPressed, HasToBeAsked, IsPressedNow, IsSameTry, KeepsTry, PressLaw, asked_again_at}
 use Rattle.watch_laws.specs.Time.{is_come, is_named_in_round, round_of}
-use Rattle.watch_laws.proofs.Clocking.{sent_by}
-use Rattle.watch_laws.proofs.Minding.{some_within}
-use Rattle.watch_laws.proofs.Once.{names_none}
+use Rattle.watch_laws.proofs.{Clocking.sent_by, Minding.some_within, Once.names_none, Topping.readied_count, Tracking.each_kept}
 use Rattle.watch_laws.proofs.OnPlan.{attempt_sent, end_pressed, mid_read, new_count, out_pressed, owes_kept, past_kept, stays}
 use Rattle.watch_laws.proofs.Opener.{come_same, mid_bears, wants_same}
-use Rattle.watch_laws.proofs.Topping.{readied_count}
-use Rattle.watch_laws.proofs.Tracking.{each_kept}
 
 -- what stays of a try while it waits
 abbrev kept_of : Option Try → Option Try

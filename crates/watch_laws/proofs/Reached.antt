@@ -1,11 +1,8 @@
 -- Reached: what a new watch has, and every turn and every change keeps, holds of each state that a run leads to. For every law over runs.
 use Rattle.std.proofs.Common.{ℕ, List, [], ◌∷◌, Result, subst}
 use Rattle.plan_forest.specs.Forest.{Forest}
-use Rattle.watch_machine.specs.declared.command.WatchOutput.{WatchOutput}
-use Rattle.watch_machine.specs.declared.event.WatchEvent.{WatchEvent}
-use Rattle.watch_machine.specs.declared.fault.WatchFault.{WatchFault}
+use Rattle.watch_machine.specs.{declared.command.WatchOutput.WatchOutput, declared.event.WatchEvent.WatchEvent, declared.fault.WatchFault.WatchFault, State.WatchState, State.opened}
 use Rattle.watch_machine.specs.History.{AllHappen, Changed, Changes, Happening, Hands, History, IsChanged, IsReached, Turn, Turned, after_all, state_after_all}
-use Rattle.watch_machine.specs.State.{WatchState, opened}
 
 module _ (P : WatchState → Type 0) (turns : (old new : WatchState) (event : WatchEvent) (result : Result WatchOutput WatchFault) → Turn old event result new → P old → P new) where
   pub ran_keeps : (ts : List Turned) (old : WatchState) → History old ts → P old → P (after_all old ts)

@@ -1,52 +1,33 @@
 -- Reasons: every renewal that is to go out has a reason. For the law of never too early.
 use Rattle.std.proofs.Common.{◌≡◌, ◌≢◌, ◌∙◌, ℕ, zero, suc, ◌+◌, ◌-◌, Bool, true, false, max, not, ◌&&◌, ◌||◌, ◌==◌, if◌then◌else◌, List, [], ◌∷◌, Option, Some, None, Result, Ok, Err, length, map, nat_lt, nat_le, refl, sym, ap, subst, inl, inr}
-use Rattle.std.proofs.lemmas.Bool.{and_parts, cases_Bool, cases_lt, cond-false, cond-true, eqb-true, or_left, or_right}
 use Rattle.std.proofs.lemmas.List.{get_or-set_other}
+use Rattle.std.proofs.lemmas.Bool.{and_parts, cases_Bool, cases_lt, cond-false, cond-true, eqb-true, or_left, or_right}
 use Rattle.std.specs.List.{list_any}
-use Rattle.plan_forest.specs.declared.entry.Entry.{Entry}
-use Rattle.plan_forest.specs.Forest.{Forest, entry_at}
+use Rattle.plan_forest.specs.{declared.entry.Entry.Entry, Forest.Forest, Forest.entry_at}
 use Rattle.plan_forest.proofs.Carrying.{or_parts}
-use Rattle.watch_machine.specs.declared.command.WatchCommand.{WatchCommand}
+use Rattle.watch_machine.specs.{declared.command.WatchCommand.WatchCommand, declared.command.WatchOutput.WatchOutput, declared.command.WatchRequest.WatchRequest, declared.event.WatchEvent.WatchEvent, declared.event.WatchReply.WatchReply}
+use Rattle.watch_machine.specs.{declared.event.WatchReply.TheVariants.Told, declared.event.WatchTerms.WatchTerms, declared.fault.WatchFault.WatchFault, declared.lanes.Out.Out, declared.lanes.Presence.Presence, declared.notes.Notes.Notes}
+use Rattle.watch_machine.specs.{declared.notes.BeginReason.BeginReason, declared.track.Track.Track, declared.track.Try.Try, Change.former_at, Clocks.sec, Lines.rested, Margins.has_come, Pauses.pause, Refusal.is_same, Refusal.request_out}
+use Rattle.watch_machine.specs.{Round.asked_by_round as round_asked}
 use Rattle.watch_machine.specs.declared.command.WatchCommand.TheVariants.{Go, Taken}
-use Rattle.watch_machine.specs.declared.command.WatchOutput.{WatchOutput}
-use Rattle.watch_machine.specs.declared.command.WatchRequest.{WatchRequest}
-use Rattle.watch_machine.specs.declared.event.WatchEvent.{WatchEvent}
-use Rattle.watch_machine.specs.declared.event.WatchEvent.TheVariants.{Clock, Looked, Renewed, Need, Begin, Known}
+use Rattle.watch_machine.specs.declared.event.WatchEvent.TheVariants.{Clock, Looked, Renewed, Known}
 use Rattle.watch_machine.specs.declared.event.Operation.TheVariants.{Look, Renew}
-use Rattle.watch_machine.specs.declared.event.WatchReply.{WatchReply}
-use Rattle.watch_machine.specs.declared.event.WatchReply.TheVariants.{Told, Refused, Busy, Lost}
-use Rattle.watch_machine.specs.declared.event.WatchTerms.{WatchTerms}
-use Rattle.watch_machine.specs.declared.fault.WatchFault.{WatchFault}
-use Rattle.watch_machine.specs.declared.lanes.Out.{Out}
-use Rattle.watch_machine.specs.declared.lanes.Presence.{Presence}
-use Rattle.watch_machine.specs.declared.notes.Notes.{Notes}
-use Rattle.watch_machine.specs.declared.notes.BeginReason.{BeginReason}
-use Rattle.watch_machine.specs.declared.track.Track.{Track}
-use Rattle.watch_machine.specs.declared.track.Try.{Try}
 use Rattle.watch_machine.specs.Answers.{back_track, back_try, due_again, failing, noted, replied}
 use Rattle.watch_machine.specs.Beginning.{begun, is_called, is_pressed, is_start, owed, owing, owing_lookup, owing_past, soon, sooner_try, untopped, untopped_track}
-use Rattle.watch_machine.specs.Change.{former_at}
-use Rattle.watch_machine.specs.Clocks.{sec}
 use Rattle.watch_machine.specs.History.{AllHappen, Changed, Changes, Hands, Happening, IsChanged, Turn, Turned, stood, stood_at_some}
-use Rattle.watch_machine.specs.Lines.{rested}
 use Rattle.watch_machine.specs.Looked.{at_once, is_called_for, looked, told_state, told_try, with_told_try}
-use Rattle.watch_machine.specs.Margins.{has_come}
-use Rattle.watch_machine.specs.Pauses.{pause}
 use Rattle.watch_machine.specs.Press.{asked_track, dropped, is_fresh, let_go, press, pressed, pressed_alone, pressed_track, track_asked_in}
-use Rattle.watch_machine.specs.Refusal.{is_same, request_out}
 use Rattle.watch_machine.specs.Renewed.{from_try, granted_from, granted_try, renewed_track, state_renewed}
-use Rattle.watch_machine.specs.Round.{asked_by_round as round_asked}
 use Rattle.watch_machine.specs.Sending.{sent, sent_in, sent_track}
 use Rattle.watch_machine.specs.Settling.{settled, settled_track, settled_try, timed}
 use Rattle.watch_machine.specs.State.{WatchState, entry_of, fresh_track, no_track, opened, second, track_at, track_in}
 use Rattle.watch_machine.specs.Step.{Step, StepClock, StepCommand, StepLooked, StepRenewed, readied, told_earlier, why}
 use Rattle.watch_machine.specs.Wanted.{is_alive, is_open, is_wanted, need_of, wants}
-use Rattle.watch_machine.proofs.Cases.{if_both, if_cases, not_both}
 use Rattle.watch_machine.proofs.Within.{out_entry}
+use Rattle.watch_machine.proofs.Cases.{if_both, if_cases, not_both}
 use Rattle.watch_laws.specs.Load.{requests_asked_by, requests_at_turn}
 use Rattle.watch_laws.specs.Time.{AllReasoned, EarlyLaw, IsReasonedAt, is_come, is_named_in_round, reason, reason_answered, reason_at, reason_taken, renewal_goes_out}
-use Rattle.watch_laws.proofs.Answering.{replied_rest}
-use Rattle.watch_laws.proofs.Clocking.{refused_stays}
+use Rattle.watch_laws.proofs.{Answering.replied_rest, Clocking.refused_stays}
 use Rattle.watch_laws.proofs.Following.{kept_over, new_over, owed_is, past_over, stays_there}
 use Rattle.watch_laws.proofs.Going.{asks_by, entry_by, goes, operation_of, request_at}
 use Rattle.watch_laws.proofs.Opener.{bearing, come_same, mid_bears}

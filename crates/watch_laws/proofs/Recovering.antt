@@ -1,44 +1,24 @@
 -- Recovering: while the broker is there, an entry that may go out is passed over by few rounds. For the law of recovery.
 use Rattle.std.proofs.Common.{◌≡◌, ◌∙◌, ℕ, suc, ◌+◌, ◌*◌, ◌<◌, ◌≤◌, true, false, not, ◌&&◌, List, [], ◌∷◌, Option, Some, None, All, Result, Ok, Err, get_or, is_some, length, nat_le, refl, sym, ap, subst, arith, inl, inr}
-use Rattle.std.proofs.lemmas.Bool.{and_from, cases_Bool}
-use Rattle.std.proofs.lemmas.Bool.Decides.{nat_tests}
+use Rattle.std.proofs.lemmas.{Bool.and_from, Bool.cases_Bool, Bool.Decides.nat_tests}
 use Rattle.std.specs.List.{list_any}
-use Rattle.watch_machine.specs.declared.command.WatchCommand.TheVariants.{Taken}
-use Rattle.watch_machine.specs.declared.command.WatchOutput.{WatchOutput}
-use Rattle.watch_machine.specs.declared.event.WatchEvent.{WatchEvent}
+use Rattle.watch_machine.specs.{declared.command.WatchCommand.TheVariants.Taken, declared.command.WatchOutput.WatchOutput, declared.event.WatchEvent.WatchEvent, declared.event.WatchReply.WatchReply, declared.event.WatchTerms.WatchTerms}
+use Rattle.watch_machine.specs.{declared.fault.WatchFault.WatchFault, declared.lanes.Out.Out, Answers.noted, Answers.replied, Looked.looked, Press.pressed, Refusal.request_out, Renewed.state_renewed, Sending.sent, Settling.timed}
+use Rattle.watch_machine.specs.{State.WatchState, Wait.wait}
 use Rattle.watch_machine.specs.declared.event.WatchEvent.TheVariants.{Clock, Looked, Renewed, Need, Begin, Known}
 use Rattle.watch_machine.specs.declared.event.Operation.TheVariants.{Look, Renew}
-use Rattle.watch_machine.specs.declared.event.WatchReply.{WatchReply}
-use Rattle.watch_machine.specs.declared.event.WatchTerms.{WatchTerms}
-use Rattle.watch_machine.specs.declared.fault.WatchFault.{WatchFault}
-use Rattle.watch_machine.specs.declared.lanes.Out.{Out}
-use Rattle.watch_machine.specs.Answers.{noted, replied}
 use Rattle.watch_machine.specs.History.{AllHappen, Changed, Changes, Happening, Hands, IsChanged, Turn}
-use Rattle.watch_machine.specs.Looked.{looked}
-use Rattle.watch_machine.specs.Press.{pressed}
-use Rattle.watch_machine.specs.Refusal.{request_out}
-use Rattle.watch_machine.specs.Renewed.{state_renewed}
-use Rattle.watch_machine.specs.Sending.{sent}
-use Rattle.watch_machine.specs.Settling.{timed}
-use Rattle.watch_machine.specs.State.{WatchState}
 use Rattle.watch_machine.specs.Step.{Step, StepLooked, StepRenewed, readied}
-use Rattle.watch_machine.specs.Wait.{wait}
 use Rattle.watch_machine.proofs.Cases.{not_both}
 use Rattle.watch_laws.specs.Outage.{comes, comes_over, coming_through, how_many, is_request_served, is_tried, is_request_whole, outage_next_after, outage_next_after_command, outage_next_by, outage_settled_by, waiting, waits_to_be_asked}
 use Rattle.watch_laws.specs.Recovery.{AllBy, ArePassing, IsPassedBy, IsPassing, MayGo, RecoveryLaw, without_outage}
+use Rattle.watch_laws.proofs.{Bases.changed_base, Bases.last_base, Changing.low as low_over, Clocking.readied_clocks, Clocking.refused_stays, Following.changed_entries, Minding.tended, Moving.all_over, Moving.fewer_over, Shapes.turn_shape}
+use Rattle.watch_laws.proofs.{Spacing.looked_out}
 use Rattle.watch_laws.proofs.Answering.{looked_leaves, renewed_leaves, rest_of}
-use Rattle.watch_laws.proofs.Bases.{changed_base, last_base}
-use Rattle.watch_laws.proofs.Changing.{low as low_over}
-use Rattle.watch_laws.proofs.Clocking.{readied_clocks, refused_stays}
 use Rattle.watch_laws.proofs.Counting.{lanes_apart, least_all, some}
-use Rattle.watch_laws.proofs.Following.{changed_entries}
 use Rattle.watch_laws.proofs.Grounds.{IsBase, fewer_wait, starts, tracked, turn_base}
 use Rattle.watch_laws.proofs.Lanes.{Sends, Ticks, all_left, is_anew, served_marked, ticks, turn_sends}
-use Rattle.watch_laws.proofs.Minding.{tended}
-use Rattle.watch_laws.proofs.Moving.{all_over, fewer_over}
 use Rattle.watch_laws.proofs.Requests.{anew_none, any_gives, later_than, none_passes, one_left, quick_if, round_of_lanes, some_lane, take_one, whole_after}
-use Rattle.watch_laws.proofs.Shapes.{turn_shape}
-use Rattle.watch_laws.proofs.Spacing.{looked_out}
 
 -- every request is whole
 pub all_whole : (quick late since : ℕ) → is_request_whole (without_outage quick late) since ≡ true

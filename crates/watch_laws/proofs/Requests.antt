@@ -2,15 +2,13 @@
 -- laws of recovery, starts and outages.
 use Rattle.std.proofs.Common.{◌≡◌, ◌∙◌, ℕ, zero, suc, ◌+◌, ◌*◌, ◌<◌, ◌≤◌, Bool, true, false, ◌&&◌, ◌||◌, ◌==◌, List, [], ◌∷◌, All, length, nat_le, refl, sym, ap, arith, inl, inr}
 use Rattle.std.proofs.Math.Nat.{mul-suc, mul-zero}
-use Rattle.std.proofs.lemmas.Bool.{cases_Bool, cond-true, or_parts}
 use Rattle.std.proofs.lemmas.Bool.Decides.{nat_tests}
+use Rattle.std.proofs.lemmas.Bool.{cases_Bool, cond-true, or_parts}
 use Rattle.std.proofs.lemmas.List.Elements.{All-head, All-nil, All-cons, All-tail}
 use Rattle.std.specs.List.{list_any}
-use Rattle.watch_machine.specs.declared.lanes.Out.{Out}
-use Rattle.watch_machine.specs.State.{WatchState}
+use Rattle.watch_machine.specs.{declared.lanes.Out.Out, State.WatchState}
 use Rattle.watch_laws.specs.Outage.{Outage, how_many, is_request_whole, outage_settled_by}
-use Rattle.watch_laws.proofs.Counting.{none}
-use Rattle.watch_laws.proofs.Lanes.{is_anew}
+use Rattle.watch_laws.proofs.{Counting.none, Lanes.is_anew}
 
 -- what is true whatever request is out that passes, where one is
 pub any_gives : (P : Type 0) (test : Out → Bool) (out : List Out) → list_any test out ≡ true → All (λ (q : Out). test q ≡ true → P) out → P

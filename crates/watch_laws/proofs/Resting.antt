@@ -1,26 +1,19 @@
 -- Resting: after a request of an entry its try is a second away, or is the renewal right after its lookup. What every part of a step
 -- keeps of that. For the laws of load.
-use Rattle.std.proofs.Common.{◌≡◌, ◌⊎◌, ◌∙◌, ℕ, ◌+◌, ◌-◌, ◌*◌, ◌^◌, ◌/◌, ◌<◌, ◌≤◌, min, max, Bool, true, false, not, ◌&&◌, ◌||◌, ◌==◌, if◌then◌else◌, List, Option, Some, None, IfSome, nat_le, nat_lt, refl, sym, ap, arith, inl, inr, true≢false}
+use Rattle.std.proofs.Common.{◌≡◌, ◌⊎◌, ◌∙◌, ℕ, ◌+◌, ◌-◌, ◌*◌, ◌^◌, ◌/◌, ◌<◌, ◌≤◌, min, max, Bool, true, false, ◌&&◌, ◌||◌, ◌==◌, if◌then◌else◌, List, Option, Some, None, IfSome, nat_le, nat_lt, refl, sym, ap, arith, inl, inr, true≢false}
 use Rattle.std.proofs.Math.Nat.{le-max_left, le-max_right}
-use Rattle.std.proofs.lemmas.Bool.{cond-true}
-use Rattle.std.proofs.lemmas.Nat.{pow_pos}
+use Rattle.std.proofs.lemmas.{Bool.cond-true, Nat.pow_pos}
 use Rattle.std.specs.List.{list_any}
 use Rattle.plan_forest.specs.declared.entry.Entry.{Entry}
+use Rattle.watch_machine.specs.{declared.event.WatchReply.WatchReply, declared.track.Track.Track, declared.track.Try.Try, Clocks.ms, Clocks.sec, Lines.rested, Settling.settled_track, Settling.settled_try, Step.told_earlier}
 use Rattle.watch_machine.specs.declared.event.Operation.TheVariants.{Look, Renew}
-use Rattle.watch_machine.specs.declared.event.WatchReply.{WatchReply}
-use Rattle.watch_machine.specs.declared.event.WatchReply.TheVariants.{Told, Refused, Busy, Lost}
-use Rattle.watch_machine.specs.declared.track.Track.{Track}
-use Rattle.watch_machine.specs.declared.track.Try.{Try}
+use Rattle.watch_machine.specs.declared.event.WatchReply.TheVariants.{Told, Refused}
 use Rattle.watch_machine.specs.Answers.{back_track, back_try, due_again, failing}
 use Rattle.watch_machine.specs.Beginning.{hastened, owed, owing, owing_lookup, owing_past, soon, sooner_try, untopped_track}
-use Rattle.watch_machine.specs.Clocks.{ms, sec}
-use Rattle.watch_machine.specs.Lines.{rested}
 use Rattle.watch_machine.specs.Looked.{at_once, refused_try, told_try, untold, untold_track, untold_try}
 use Rattle.watch_machine.specs.Pauses.{cap, cap_of, doubled, left_to, pause}
 use Rattle.watch_machine.specs.Press.{asked_track, dropped, is_fresh, let_go, press, pressed_track, track_asked_in}
 use Rattle.watch_machine.specs.Renewed.{granted_from, granted_try, ungranted, ungranted_track}
-use Rattle.watch_machine.specs.Settling.{settled_track, settled_try}
-use Rattle.watch_machine.specs.Step.{told_earlier}
 use Rattle.watch_machine.specs.Wanted.{is_alive, is_open, wants}
 use Rattle.watch_machine.proofs.Cases.{if_both, if_cases}
 use Rattle.watch_laws.specs.Load.{Sent}

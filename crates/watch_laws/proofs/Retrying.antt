@@ -1,49 +1,33 @@
 -- Retrying: after the clock that sets its pause, an entry that failed may be asked again within its longest pause. For the law of retries.
-use Rattle.std.proofs.Common.{◌≡◌, ◌⊎◌, ◌∙◌, ℕ, zero, suc, ◌+◌, ◌*◌, ◌<◌, ◌≤◌, Bool, true, false, max, min, not, ◌&&◌, ◌||◌, ◌==◌, if◌then◌else◌, List, [], ◌∷◌, Option, Some, None, Result, Ok, Err, is_none, length, map, nat_le, refl, sym, ap, subst, arith, inl, inr, true≢false}
+use Rattle.std.proofs.Common.{◌≡◌, ◌⊎◌, ◌∙◌, ℕ, zero, suc, ◌+◌, ◌*◌, ◌<◌, ◌≤◌, Bool, true, false, max, min, ◌&&◌, ◌||◌, ◌==◌, if◌then◌else◌, List, [], ◌∷◌, Option, Some, None, Result, Ok, Err, is_none, length, map, nat_le, refl, sym, ap, subst, arith, inl, inr, true≢false}
 use Rattle.std.proofs.lemmas.Bool.{and_from, and_parts, cases_Bool, cases_lt, cond-false, cond-true}
 use Rattle.std.specs.List.{list_any}
-use Rattle.plan_forest.specs.declared.entry.Entry.{Entry}
-use Rattle.plan_forest.specs.Forest.{Forest, entry_at}
-use Rattle.watch_machine.specs.declared.command.WatchOutput.{WatchOutput}
-use Rattle.watch_machine.specs.declared.command.WatchRequest.{WatchRequest}
-use Rattle.watch_machine.specs.declared.event.WatchEvent.{WatchEvent}
-use Rattle.watch_machine.specs.declared.event.WatchEvent.TheVariants.{Clock, Looked, Renewed, Need, Begin, Known}
+use Rattle.plan_forest.specs.{declared.entry.Entry.Entry, Forest.Forest, Forest.entry_at}
+use Rattle.watch_machine.specs.{declared.command.WatchOutput.WatchOutput, declared.command.WatchRequest.WatchRequest, declared.event.WatchEvent.WatchEvent, declared.event.WatchReply.WatchReply, declared.event.WatchTerms.WatchTerms}
+use Rattle.watch_machine.specs.{declared.fault.WatchFault.WatchFault, declared.lanes.LaneAnswer.LaneAnswer, declared.lanes.Out.Out, declared.lanes.Presence.Presence, declared.notes.BeginReason.BeginReason, declared.track.Track.Track}
+use Rattle.watch_machine.specs.{declared.track.Try.Try, Clocks.ms, Clocks.sec, Refusal.request_out, Round.asked_by_round as round_of}
+use Rattle.watch_machine.specs.declared.event.WatchEvent.TheVariants.{Clock, Looked, Renewed, Known}
 use Rattle.watch_machine.specs.declared.event.Operation.TheVariants.{Look, Renew}
-use Rattle.watch_machine.specs.declared.event.WatchReply.{WatchReply}
 use Rattle.watch_machine.specs.declared.event.WatchReply.TheVariants.{Told, Refused, Busy, Lost}
-use Rattle.watch_machine.specs.declared.event.WatchTerms.{WatchTerms}
-use Rattle.watch_machine.specs.declared.fault.WatchFault.{WatchFault}
-use Rattle.watch_machine.specs.declared.lanes.LaneAnswer.{LaneAnswer}
-use Rattle.watch_machine.specs.declared.lanes.Out.{Out}
-use Rattle.watch_machine.specs.declared.lanes.Presence.{Presence}
-use Rattle.watch_machine.specs.declared.notes.BeginReason.{BeginReason}
-use Rattle.watch_machine.specs.declared.track.Track.{Track}
-use Rattle.watch_machine.specs.declared.track.Try.{Try}
 use Rattle.watch_machine.specs.Answers.{answers_all, back_track, lane_freed, noted, replied, silent}
 use Rattle.watch_machine.specs.Beginning.{begun, hastened, is_called, is_start, owed, owing, owing_lookup, soon, sooner_try, untopped, untopped_track}
-use Rattle.watch_machine.specs.Clocks.{ms, sec}
 use Rattle.watch_machine.specs.History.{History, Turn, Turned}
 use Rattle.watch_machine.specs.Lines.{is_first, later_at, ready, rested}
 use Rattle.watch_machine.specs.Looked.{looked, told_state, told_track, untold_track, with_told_try}
 use Rattle.watch_machine.specs.Pauses.{cap, cap_of, doubled, left_to, pause}
 use Rattle.watch_machine.specs.Press.{asked_track, dropped, is_fresh, let_go, press, pressed, pressed_alone, pressed_track, track_asked_in}
-use Rattle.watch_machine.specs.Refusal.{request_out}
 use Rattle.watch_machine.specs.Renewed.{granted_from, renewed_track, state_renewed, ungranted_track}
-use Rattle.watch_machine.specs.Round.{asked_by_round as round_of}
 use Rattle.watch_machine.specs.Sending.{sent, sent_in, sent_track}
 use Rattle.watch_machine.specs.Settling.{count_after, held, held_back, held_by, held_try, hold_after, is_real, is_silent, presence_after, settled, settled_track, settled_try, timed}
 use Rattle.watch_machine.specs.State.{WatchState, attempt_at, fresh_track, no_track, track_at, track_in}
 use Rattle.watch_machine.specs.Step.{Step, StepClock, StepLooked, StepRenewed, known, readied, why}
 use Rattle.watch_machine.specs.Wanted.{is_open, least, need_of, wants}
-use Rattle.watch_machine.proofs.Cases.{if_both, not_both}
-use Rattle.watch_machine.proofs.Leasts.{least_start}
+use Rattle.watch_machine.proofs.{Cases.if_both, Cases.not_both, Leasts.least_start}
 use Rattle.watch_laws.specs.Failures.{AllKeepLoss}
 use Rattle.watch_laws.specs.Waiting.{AllRetried, IsHeldBack, IsSoon, TryFails}
+use Rattle.watch_laws.proofs.{Holding.looked_presence, Holding.ready_presence, Minding.some_within, Resting.cap_above}
 use Rattle.watch_laws.proofs.Answering.{looked_leaves, renewed_leaves, rest_of}
 use Rattle.watch_laws.proofs.Clocking.{begun_some, clock_rises, readied_clocks, refused_stays, sent_by}
-use Rattle.watch_laws.proofs.Holding.{looked_presence, ready_presence}
-use Rattle.watch_laws.proofs.Minding.{some_within}
-use Rattle.watch_laws.proofs.Resting.{cap_above}
 use Rattle.watch_laws.proofs.Tracking.{back_kept, each_holds, each_kept, known_is, set_kept}
 
 -- the bounds that every turn keeps: nothing was asked later than now, and nothing is held back while the broker is there

@@ -1,43 +1,26 @@
 -- Rounds: when a round opens and whom it names. For the laws of rounds, of Asks and of hope.
 use Rattle.std.proofs.Common.{◌≡◌, ◌∙◌, ℕ, ◌+◌, ◌*◌, ◌/◌, ◌<◌, Bool, true, false, cond, not, ◌&&◌, ◌||◌, List, [], Option, Some, None, Result, is_some, length, map, min, nat_le, nat_lt, refl, sym, ap, ap₂, subst, arith, inl, inr, if◌then◌else◌}
-use Rattle.std.proofs.lemmas.Bool.{and_parts, cases_Bool, cond-false, cond-true}
 use Rattle.std.proofs.lemmas.Bool.Decides.{nat_tests}
+use Rattle.std.proofs.lemmas.Bool.{and_parts, cases_Bool, cond-false, cond-true}
 use Rattle.std.proofs.Math.Path.{fun_ext}
 use Rattle.std.specs.List.{range_with_len}
-use Rattle.plan_forest.specs.declared.entry.Entry.{Entry}
-use Rattle.plan_forest.specs.declared.forest.TheConstants.{END_MAX}
-use Rattle.plan_forest.specs.Carried.{carried}
+use Rattle.plan_forest.specs.{declared.entry.Entry.Entry, declared.forest.TheConstants.END_MAX, Carried.carried, Over.chain, Push.IsForest, Renewal.capped, Renewal.renewal}
 use Rattle.plan_forest.specs.Forest.{Forest, end_of, entry_at}
-use Rattle.plan_forest.specs.Over.{chain}
-use Rattle.plan_forest.specs.Push.{IsForest}
-use Rattle.plan_forest.specs.Renewal.{capped, renewal}
 use Rattle.plan_rule.specs.Asks.{asks}
-use Rattle.watch_machine.specs.declared.command.WatchOutput.{WatchOutput}
-use Rattle.watch_machine.specs.declared.command.WatchRequest.{WatchRequest}
-use Rattle.watch_machine.specs.declared.event.WatchEvent.{WatchEvent}
-use Rattle.watch_machine.specs.declared.fault.WatchFault.{WatchFault}
-use Rattle.watch_machine.specs.declared.track.End.{End}
-use Rattle.watch_machine.specs.declared.track.End.TheVariants.{Unknown, At, Never}
-use Rattle.watch_machine.specs.declared.track.Track.{Track}
-use Rattle.watch_machine.specs.Beginning.{is_pressed}
-use Rattle.watch_machine.specs.History.{Turn}
+use Rattle.watch_machine.specs.{declared.command.WatchOutput.WatchOutput, declared.command.WatchRequest.WatchRequest, declared.event.WatchEvent.WatchEvent, declared.fault.WatchFault.WatchFault, declared.track.End.End}
+use Rattle.watch_machine.specs.{declared.track.Track.Track, Beginning.is_pressed, History.Turn, Press.is_fresh, Press.pressed, Sending.sent, Step.readied}
+use Rattle.watch_machine.specs.declared.track.End.TheVariants.{Unknown, At}
 use Rattle.watch_machine.specs.Margins.{asking_margin, has_come, own_margin, time, time_before}
-use Rattle.watch_machine.specs.Press.{is_fresh, pressed}
 use Rattle.watch_machine.specs.Round.{IsRound, IsSecond, RoundAsks, asked_by_round, is_hoped, opens, opens_some, plan_view}
-use Rattle.watch_machine.specs.Sending.{sent}
 use Rattle.watch_machine.specs.State.{WatchState, entry_of, has_last_try, second, track_at}
-use Rattle.watch_machine.specs.Step.{readied}
 use Rattle.watch_machine.specs.Wanted.{believed, free_need, is_alive, is_fixed, is_known, is_unknown, is_wanted, least_over, limit, need_here, need_of, seen_entry, wanted_need, wants}
 use Rattle.watch_laws.specs.Calm.{ends, in_plan_at, lead_at, planned_need}
 use Rattle.watch_laws.specs.Rounds.{AreAsks, AsksLaw, FindAllSame, HopeLaw, IsOpener, RoundLaw, granted_forest, granted_terms, hoped_ends, is_hidden, is_hoped_for}
 use Rattle.watch_laws.specs.Time.{round_of}
+use Rattle.watch_laws.proofs.{Forested.readied_forest, Needing.is_not, Needing.wants_parts, OnPlan.bears_alike, Opener.mid_bears, Opener.opened_at_clock}
 use Rattle.watch_laws.proofs.Calming.{AreAlike, ends_alike, free_alike, free_by, free_is, lead_alike, least_same, limit_at, plan_alike, term_of, terms_alike}
-use Rattle.watch_laws.proofs.Forested.{readied_forest}
 use Rattle.watch_laws.proofs.Hoping.{asks_hoped, hopes, needs_view}
-use Rattle.watch_laws.proofs.Needing.{is_not, wants_parts}
 use Rattle.watch_laws.proofs.OfPlan.{all_six, come_at, hoped_at, hoped_entry, no_hope, none_opens, opens_at, own_entry, planned_at, planned_is, some_opens}
-use Rattle.watch_laws.proofs.OnPlan.{bears_alike}
-use Rattle.watch_laws.proofs.Opener.{mid_bears, opened_at_clock}
 use Rattle.watch_laws.proofs.Presses.{clock_of, come_is, readied_keeps, wanted_is}
 
 -- what is known of an entry that opens one

@@ -2,26 +2,13 @@
 use Rattle.std.proofs.Common.{◌≡◌, ◌∙◌, List, [], ◌∷◌, Option, Some, None, Result, Ok, Err, length, refl, ap}
 use Rattle.std.proofs.lemmas.List.{length-set}
 use Rattle.plan_forest.specs.Forest.{Forest}
-use Rattle.watch_machine.specs.declared.command.WatchOutput.{WatchOutput}
-use Rattle.watch_machine.specs.declared.event.WatchEvent.{WatchEvent}
-use Rattle.watch_machine.specs.declared.event.WatchEvent.TheVariants.{Clock, Looked, Renewed, Need, Begin, Known}
+use Rattle.watch_machine.specs.{declared.command.WatchOutput.WatchOutput, declared.event.WatchEvent.WatchEvent, declared.event.WatchReply.WatchReply, declared.event.WatchReply.TheVariants.Told, declared.event.WatchTerms.WatchTerms}
+use Rattle.watch_machine.specs.{declared.fault.WatchFault.WatchFault, declared.lanes.Out.Out, Answers.noted, Answers.replied, Looked.looked, Refusal.request_out, Renewed.state_renewed, State.WatchState}
+use Rattle.watch_machine.specs.declared.event.WatchEvent.TheVariants.{Clock, Looked, Renewed, Need}
 use Rattle.watch_machine.specs.declared.event.Operation.TheVariants.{Look, Renew}
-use Rattle.watch_machine.specs.declared.event.WatchReply.{WatchReply}
-use Rattle.watch_machine.specs.declared.event.WatchReply.TheVariants.{Told, Refused, Busy, Lost}
-use Rattle.watch_machine.specs.declared.event.WatchTerms.{WatchTerms}
-use Rattle.watch_machine.specs.declared.fault.WatchFault.{WatchFault}
-use Rattle.watch_machine.specs.declared.lanes.Out.{Out}
-use Rattle.watch_machine.specs.Answers.{noted, replied}
 use Rattle.watch_machine.specs.History.{History, Turn, Turned, after_all}
-use Rattle.watch_machine.specs.Looked.{looked}
-use Rattle.watch_machine.specs.Refusal.{request_out}
-use Rattle.watch_machine.specs.Renewed.{state_renewed}
-use Rattle.watch_machine.specs.State.{WatchState}
 use Rattle.watch_machine.specs.Step.{Step, StepLooked, StepRenewed, with_need_until}
-use Rattle.watch_laws.proofs.Clocking.{refused_stays}
-use Rattle.watch_laws.proofs.Lanes.{ticks}
-use Rattle.watch_laws.proofs.Lasting.{clock_forest}
-use Rattle.watch_laws.proofs.Tracking.{replied_forest}
+use Rattle.watch_laws.proofs.{Clocking.refused_stays, Lanes.ticks, Lasting.clock_forest, Tracking.replied_forest}
 
 -- no turn changes how many entries there are, nor the margin
 abbrev pub Shape : WatchState → WatchState → Type 0

@@ -2,55 +2,38 @@
 -- between.
 use Rattle.std.proofs.Common.{◌≡◌, ◌≢◌, ◌⊎◌, ◌∙◌, ℕ, ◌+◌, ◌-◌, ◌<◌, ◌≤◌, min, max, Bool, true, false, not, ◌&&◌, ◌||◌, ◌==◌, if◌then◌else◌, List, [], ◌∷◌, Option, Some, None, Result, Ok, Err, IfSome, All, filter, is_none, get_or, length, map, refl, sym, ap, subst, arith, inl, inr, true≢false}
 use Rattle.std.proofs.Math.Nat.{le-max_right}
-use Rattle.std.proofs.lemmas.Bool.{and_parts, cases_Bool, cases_lt, cond-false, cond-true, eqb-true}
 use Rattle.std.proofs.lemmas.Bool.Decides.{nat_tests}
+use Rattle.std.proofs.lemmas.Bool.{and_parts, cases_Bool, cases_lt, cond-false, cond-true, eqb-true}
 use Rattle.std.proofs.lemmas.List.{get_or_past, get_or-set_other, get_or-set_same, length-set}
 use Rattle.std.proofs.lemmas.List.Elements.{All-append, All-cons, All-filter, All-map, All-nil, All-weaker, filter_passes}
 use Rattle.std.specs.List.{find, list_any}
-use Rattle.plan_forest.specs.declared.entry.Entry.{Entry}
-use Rattle.plan_forest.specs.Forest.{entry_at}
-use Rattle.watch_machine.specs.declared.command.WatchCommand.{WatchCommand}
+use Rattle.plan_forest.specs.{declared.entry.Entry.Entry, Forest.entry_at}
+use Rattle.watch_machine.specs.{declared.command.WatchCommand.WatchCommand, declared.command.WatchOutput.WatchOutput, declared.command.WatchRequest.WatchRequest, declared.event.WatchEvent.WatchEvent, declared.event.Operation.Operation}
+use Rattle.watch_machine.specs.{declared.event.WatchReply.WatchReply, declared.event.WatchTerms.WatchTerms, declared.fault.WatchFault.WatchFault, declared.lanes.Out.Out, declared.lanes.Presence.Presence}
+use Rattle.watch_machine.specs.{declared.notes.BeginReason.BeginReason, declared.track.Track.Track, declared.track.Try.Try, Clocks.sec, History.Turn, Refusal.is_same, Refusal.request_out, Round.asked_by_round as round_of}
 use Rattle.watch_machine.specs.declared.command.WatchCommand.TheVariants.{Go, Taken}
-use Rattle.watch_machine.specs.declared.command.WatchOutput.{WatchOutput}
-use Rattle.watch_machine.specs.declared.command.WatchRequest.{WatchRequest}
-use Rattle.watch_machine.specs.declared.event.WatchEvent.{WatchEvent}
 use Rattle.watch_machine.specs.declared.event.WatchEvent.TheVariants.{Clock, Looked, Renewed, Need, Begin, Known}
-use Rattle.watch_machine.specs.declared.event.Operation.{Operation}
 use Rattle.watch_machine.specs.declared.event.Operation.TheVariants.{Look, Renew}
-use Rattle.watch_machine.specs.declared.event.WatchReply.{WatchReply}
 use Rattle.watch_machine.specs.declared.event.WatchReply.TheVariants.{Told, Refused, Busy, Lost}
-use Rattle.watch_machine.specs.declared.event.WatchTerms.{WatchTerms}
-use Rattle.watch_machine.specs.declared.fault.WatchFault.{WatchFault}
-use Rattle.watch_machine.specs.declared.lanes.Out.{Out}
-use Rattle.watch_machine.specs.declared.lanes.Presence.{Presence}
-use Rattle.watch_machine.specs.declared.notes.BeginReason.{BeginReason}
-use Rattle.watch_machine.specs.declared.track.Track.{Track}
-use Rattle.watch_machine.specs.declared.track.Try.{Try}
 use Rattle.watch_machine.specs.Answers.{answers_all, back_track, heard, lane_freed, noted, replied, silent, without_request}
 use Rattle.watch_machine.specs.Beginning.{begun, is_called, is_start, owing, owing_lookup, soon, sooner_try, untopped, untopped_track}
-use Rattle.watch_machine.specs.Clocks.{sec}
-use Rattle.watch_machine.specs.History.{Turn}
 use Rattle.watch_machine.specs.Lines.{is_due, is_due_try, is_first, later_at, ready, rested}
 use Rattle.watch_machine.specs.Looked.{is_called_for, looked, told_state, told_track, told_try}
 use Rattle.watch_machine.specs.Press.{asked_track, dropped, is_fresh, press, pressed, pressed_alone, pressed_track, track_asked_in}
-use Rattle.watch_machine.specs.Refusal.{is_same, request_out}
 use Rattle.watch_machine.specs.Renewed.{from_try, renewed_track, state_renewed}
-use Rattle.watch_machine.specs.Round.{asked_by_round as round_of}
 use Rattle.watch_machine.specs.Sending.{out_at, sent as sent_state, sent_in, sent_track}
 use Rattle.watch_machine.specs.Settling.{is_real, settled, settled_track, timed}
 use Rattle.watch_machine.specs.State.{WatchState, entry_of, no_track, track_at, track_in}
 use Rattle.watch_machine.specs.Step.{Step, StepClock, StepCommand, StepLooked, StepRenewed, known, readied, why, with_need_until}
 use Rattle.watch_machine.specs.Wanted.{is_open, need_of, wants}
+use Rattle.watch_machine.proofs.{Seeing.each_read, Within.out_all, Written.each_length}
 use Rattle.watch_machine.proofs.Cases.{if_both, if_cases, not_both, value_is}
-use Rattle.watch_machine.proofs.Seeing.{each_read}
-use Rattle.watch_machine.proofs.Within.{out_all}
-use Rattle.watch_machine.proofs.Written.{each_length}
 use Rattle.watch_laws.specs.Load.{AreApartFrom, IsApart, Sent, SentAreApart, requests_asked_by, requests_at_turn, sent_at}
+use Rattle.watch_laws.proofs.Topping.{readied_count}
 use Rattle.watch_laws.proofs.Answering.{looked_leaves, renewed_leaves, rest_of}
 use Rattle.watch_laws.proofs.Clocking.{begun_some, clock_rises, readied_clocks, refused_stays}
 use Rattle.watch_laws.proofs.Going.{Goes, asks_by, entry_by, goes, named_of, one_sent, operation_of, request_at, sent_of}
 use Rattle.watch_laws.proofs.Resting.{Follows, IsReady, MayFollow, Rests, asked_ready, back_rests, granted_rests, known_rests, owing_ready, pressed_ready, rested_is, settled_ready, told_rests, ungranted_rests, untold_rests, untopped_ready}
-use Rattle.watch_laws.proofs.Topping.{readied_count}
 use Rattle.watch_laws.proofs.Tracking.{back_kept, each_at, each_kept, known_out, set_kept}
 
 -- a due try goes out a second after r, or is the renewal right after it

@@ -1,17 +1,12 @@
 -- Spans: how long lanes are kept, added up. For the law of partial outages.
 use Rattle.std.proofs.Common.{◌≡◌, ◌∙◌, ℕ, zero, suc, ◌+◌, ◌-◌, ◌*◌, ◌<◌, ◌≤◌, Bool, true, false, not, ◌&&◌, ◌||◌, ◌==◌, if◌then◌else◌, List, [], ◌∷◌, ◌++◌, All, drop, filter, length, map, refl, sym, ap, ap₂, subst, arith, inl, inr}
 use Rattle.std.proofs.Math.Nat.{mul-add, mul-suc, mul-zero}
-use Rattle.std.proofs.lemmas.Bool.{cases_Bool, cases_eq, cond-false, cond-true, eqb-true, or_left, or_right}
 use Rattle.std.proofs.lemmas.Bool.Decides.{nat_tests}
+use Rattle.std.proofs.lemmas.Bool.{cases_Bool, cases_eq, cond-false, cond-true, eqb-true, or_left, or_right}
 use Rattle.std.proofs.lemmas.List.Elements.{All-cons, All-head, All-nil, All-tail}
 use Rattle.std.specs.List.{list_any}
-use Rattle.watch_machine.specs.declared.command.WatchRequest.{WatchRequest}
-use Rattle.watch_machine.specs.declared.event.WatchReply.{WatchReply}
-use Rattle.watch_machine.specs.declared.lanes.Out.{Out}
+use Rattle.watch_machine.specs.{declared.command.WatchRequest.WatchRequest, declared.event.WatchReply.WatchReply, declared.lanes.Out.Out, Sending.out_at, Settling.is_real, State.WatchState}
 use Rattle.watch_machine.specs.Answers.{answers_all, heard, lane_freed, replied, silent, without_request}
-use Rattle.watch_machine.specs.Sending.{out_at}
-use Rattle.watch_machine.specs.Settling.{is_real}
-use Rattle.watch_machine.specs.State.{WatchState}
 use Rattle.watch_machine.proofs.Cases.{if_both}
 use Rattle.watch_laws.specs.Outage.{how_many, one_where}
 use Rattle.watch_laws.specs.Partial.{Partial, keeps_lane, partial_settled_by, total}

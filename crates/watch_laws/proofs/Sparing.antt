@@ -1,58 +1,34 @@
 -- Sparing: while the broker is away, the later tries that go out until the hold is set anew are all out at once. For the law of sparing.
 use Rattle.std.proofs.Common.{◌≡◌, ◌⊎◌, ◌∙◌, ℕ, suc, ◌+◌, ◌-◌, ◌<◌, ◌≤◌, Bool, true, false, cond, max, not, ◌&&◌, ◌||◌, ◌==◌, if◌then◌else◌, List, [], ◌∷◌, ◌++◌, Option, Some, None, Result, Ok, Err, filter, is_none, length, map, refl, sym, ap, subst, arith, inl, inr}
 use Rattle.std.proofs.Math.Nat.{le-max_left}
+use Rattle.std.proofs.lemmas.{Bool.Decides.nat_tests, List.length-append, List.length-map, List.Sums.count_by-le-length, List.Sums.length-filter}
 use Rattle.std.proofs.lemmas.Bool.{and_from, and_parts, cases_Bool, cond-false, cond-true, or_right}
-use Rattle.std.proofs.lemmas.Bool.Decides.{nat_tests}
-use Rattle.std.proofs.lemmas.List.{length-append, length-map}
 use Rattle.std.proofs.lemmas.List.Elements.{All-head, All-tail, filter-append}
-use Rattle.std.proofs.lemmas.List.Sums.{count_by-le-length, length-filter}
 use Rattle.std.specs.List.{All, find, list_any}
-use Rattle.watch_machine.specs.declared.command.WatchCommand.{WatchCommand}
+use Rattle.watch_machine.specs.{declared.command.WatchCommand.WatchCommand, declared.command.WatchOutput.WatchOutput, declared.command.WatchRequest.WatchRequest, declared.event.WatchEvent.WatchEvent, declared.event.Operation.Operation}
+use Rattle.watch_machine.specs.{declared.event.WatchReply.WatchReply, declared.event.WatchReply.TheVariants.Told, declared.event.WatchTerms.WatchTerms, declared.fault.WatchFault.WatchFault, declared.lanes.LaneAnswer.LaneAnswer}
+use Rattle.watch_machine.specs.{declared.lanes.Out.Out, declared.lanes.Presence.Presence, declared.notes.BeginReason.BeginReason, declared.track.Track.Track, declared.track.Try.Try, Beginning.begun, Clocks.sec, Looked.looked, Press.pressed}
+use Rattle.watch_machine.specs.{Refusal.is_same, Refusal.request_out, Renewed.state_renewed, Round.asked_by_round as round_of}
 use Rattle.watch_machine.specs.declared.command.WatchCommand.TheVariants.{Go, Taken}
-use Rattle.watch_machine.specs.declared.command.WatchOutput.{WatchOutput}
-use Rattle.watch_machine.specs.declared.command.WatchRequest.{WatchRequest}
-use Rattle.watch_machine.specs.declared.event.WatchEvent.{WatchEvent}
 use Rattle.watch_machine.specs.declared.event.WatchEvent.TheVariants.{Clock, Looked, Renewed, Need, Begin, Known}
-use Rattle.watch_machine.specs.declared.event.Operation.{Operation}
 use Rattle.watch_machine.specs.declared.event.Operation.TheVariants.{Look, Renew}
-use Rattle.watch_machine.specs.declared.event.WatchReply.{WatchReply}
-use Rattle.watch_machine.specs.declared.event.WatchReply.TheVariants.{Told, Refused, Busy, Lost}
-use Rattle.watch_machine.specs.declared.event.WatchTerms.{WatchTerms}
-use Rattle.watch_machine.specs.declared.fault.WatchFault.{WatchFault}
-use Rattle.watch_machine.specs.declared.lanes.LaneAnswer.{LaneAnswer}
-use Rattle.watch_machine.specs.declared.lanes.Out.{Out}
-use Rattle.watch_machine.specs.declared.lanes.Presence.{Presence}
-use Rattle.watch_machine.specs.declared.notes.BeginReason.{BeginReason}
-use Rattle.watch_machine.specs.declared.track.Track.{Track}
-use Rattle.watch_machine.specs.declared.track.Try.{Try}
 use Rattle.watch_machine.specs.Answers.{answers_all, back_track, heard, is_back, lane_freed, noted, presence_gone, replied, silent, without_request}
-use Rattle.watch_machine.specs.Beginning.{begun}
-use Rattle.watch_machine.specs.Clocks.{sec}
 use Rattle.watch_machine.specs.History.{AllHappen, Changed, Changes, Hands, Happening, IsChanged, Turn}
 use Rattle.watch_machine.specs.Lines.{is_due, is_due_try, is_first, later_at, ready}
-use Rattle.watch_machine.specs.Looked.{looked}
-use Rattle.watch_machine.specs.Press.{pressed}
-use Rattle.watch_machine.specs.Refusal.{is_same, request_out}
-use Rattle.watch_machine.specs.Renewed.{state_renewed}
-use Rattle.watch_machine.specs.Round.{asked_by_round as round_of}
 use Rattle.watch_machine.specs.Sending.{out_at, sent, sent_in, sent_track}
 use Rattle.watch_machine.specs.Settling.{count_after, held_back, hold_after, is_real, is_silent, presence_after, settled, timed}
 use Rattle.watch_machine.specs.State.{WatchState, attempt_at, each, track_in}
 use Rattle.watch_machine.specs.Step.{Step, StepClock, StepCommand, StepLooked, StepRenewed, known, readied, why, with_need_until}
-use Rattle.watch_machine.proofs.Cases.{if_both, not_both, value_is}
 use Rattle.watch_machine.proofs.Within.{out_entry}
-use Rattle.watch_laws.specs.Absence.{AllAway, NoneSets, Sets, SparedLaw, is_later, is_later_try, laters}
+use Rattle.watch_machine.proofs.Cases.{if_both, not_both, value_is}
 use Rattle.watch_laws.specs.Load.{requests_asked_by, requests_at_turn}
-use Rattle.watch_laws.proofs.Answering.{looked_rest}
+use Rattle.watch_laws.specs.Absence.{AllAway, NoneSets, Sets, SparedLaw, is_later, is_later_try, laters}
+use Rattle.watch_laws.proofs.{Answering.looked_rest, Holding.looked_presence, Holding.ready_presence, Spacing.looked_out, Spacing.readied_out, Tracking.each_kept, Width.Fits, Width.turn_fits}
 use Rattle.watch_laws.proofs.Alone.{IsAlone, lanes_of, turn_alone}
 use Rattle.watch_laws.proofs.Bases.{changed_alone, changed_fits, reached_base}
 use Rattle.watch_laws.proofs.Clocking.{begun_some, clock_rises, readied_clocks, readied_width, refused_stays}
 use Rattle.watch_laws.proofs.Following.{IsCounted, changed_counted, filter_after, reached_counted, turn_counted}
 use Rattle.watch_laws.proofs.Going.{Goes, entry_by, goes, request_at}
-use Rattle.watch_laws.proofs.Holding.{looked_presence, ready_presence}
-use Rattle.watch_laws.proofs.Spacing.{looked_out, readied_out}
-use Rattle.watch_laws.proofs.Tracking.{each_kept}
-use Rattle.watch_laws.proofs.Width.{Fits, turn_fits}
 
 -- how many of those that are out have heard of no answer
 abbrev unheard : List Out → ℕ

@@ -1,16 +1,9 @@
 -- Stages: how an outage goes by for an entry, stage by stage, and the sums of each. For the law of outages.
 use Rattle.std.proofs.Common.{◌≡◌, ◌⊎◌, ℕ, suc, ◌+◌, ◌-◌, ◌*◌, ◌/◌, ◌<◌, ◌≤◌, true, false, max, All, length, arith, inl, inr}
 use Rattle.std.proofs.Math.Nat.{mul-suc}
-use Rattle.watch_machine.specs.declared.lanes.Out.{Out}
-use Rattle.watch_machine.specs.declared.track.End.TheVariants.{At}
-use Rattle.watch_machine.specs.Beginning.{is_pressed}
-use Rattle.watch_machine.specs.Clocks.{ms}
-use Rattle.watch_machine.specs.Outlook.{time_of}
-use Rattle.watch_machine.specs.State.{WatchState, track_at}
+use Rattle.watch_machine.specs.{declared.lanes.Out.Out, declared.track.End.TheVariants.At, Beginning.is_pressed, Clocks.ms, Outlook.time_of, State.WatchState, State.track_at}
 use Rattle.watch_laws.specs.Outage.{IsShortFor, Outage, again, granted_by, how_many, is_request_served, is_request_whole, outage_settled_by}
-use Rattle.watch_laws.proofs.Enduring.{Endures, cut}
-use Rattle.watch_laws.proofs.Grounds.{IsBase}
-use Rattle.watch_laws.proofs.Lanes.{is_anew}
+use Rattle.watch_laws.proofs.{Enduring.Endures, Enduring.cut, Grounds.IsBase, Lanes.is_anew}
 
 -- what does not change: the outage, the entry, how many there are, the width, the moment from which on the entry may be asked, its end, and
 -- what is left to that
@@ -43,14 +36,12 @@ pub record IsGoing (f : Facts) (due : ℕ) (s : WatchState) : Type 0 where
   pub entries : length s.forest.entries ≡ f.n
   pub time : is_pressed (track_at s f.i) ≡ false → ms (time_of s f.i) ≤ f.time
   pub end_is : (track_at s f.i).end ≡ At f.end
-  pub timely : All (λ (q : Out). due ≤ outage_settled_by f.o q.since + f.o.late) s.out
   pub ahead : s.clocks.at < ms f.end
   pub by : s.clocks.at ≤ granted_by f.o f.time f.end
 
 -- before the outage, or after it: r rounds from base on hold those that wait, but for those that went out after from
 pub record IsEarly (f : Facts) (due k : ℕ) (s : WatchState) : Type 0 where
   pub endures : Endures f.o f.i f.end f.time due ⊥ s
-  pub idle : (track_at s f.i).out ≡ false
   pub whole : All (λ (q : Out). is_request_whole f.o q.since ≡ true) s.out
   pub r : ℕ
   pub from : ℕ

@@ -1,29 +1,19 @@
 -- Starting: from a clock on at which an entry is at work, it is answered within few rounds. For the law of a start.
 use Rattle.std.proofs.Common.{◌≡◌, ◌∙◌, ℕ, suc, ◌+◌, ◌*◌, ◌<◌, ◌≤◌, Bool, true, false, cond, not, ◌&&◌, List, [], ◌∷◌, Result, All, filter, get_or, is_some, length, nat_le, refl, ap, subst, arith, inl, inr}
 use Rattle.std.proofs.Math.Nat.{mul-suc}
-use Rattle.std.proofs.lemmas.Bool.{cases_Bool}
-use Rattle.std.proofs.lemmas.Bool.Decides.{nat_tests}
+use Rattle.std.proofs.lemmas.{Bool.cases_Bool, Bool.Decides.nat_tests}
 use Rattle.std.proofs.lemmas.List.Elements.{All-head, All-nil, All-tail}
-use Rattle.watch_machine.specs.declared.lanes.Out.{Out}
-use Rattle.watch_machine.specs.declared.command.WatchOutput.{WatchOutput}
-use Rattle.watch_machine.specs.declared.event.WatchEvent.{WatchEvent}
-use Rattle.watch_machine.specs.declared.fault.WatchFault.{WatchFault}
-use Rattle.watch_machine.specs.History.{Turn, after_all}
-use Rattle.watch_machine.specs.State.{WatchState, opened}
-use Rattle.watch_machine.specs.Wait.{wait}
-use Rattle.watch_laws.specs.Outage.{Outage, coming_through, how_many, is_request_served, is_request_whole, is_tried, one_where, outage_next_by, outage_settled_by, waiting, waits_to_be_asked}
+use Rattle.watch_machine.specs.{declared.lanes.Out.Out, declared.command.WatchOutput.WatchOutput, declared.event.WatchEvent.WatchEvent, declared.fault.WatchFault.WatchFault, History.Turn, History.after_all, State.WatchState, State.opened}
+use Rattle.watch_machine.specs.{Wait.wait}
 use Rattle.watch_laws.specs.Recovery.{without_outage}
+use Rattle.watch_laws.specs.Outage.{Outage, coming_through, how_many, is_request_served, is_request_whole, is_tried, one_where, outage_next_by, outage_settled_by, waiting, waits_to_be_asked}
 use Rattle.watch_laws.specs.Starts.{AllSoon, AreWorked, NobodyLaw, StartLaw, all_asked, of_nobody}
-use Rattle.watch_laws.proofs.Bases.{last_base}
+use Rattle.watch_laws.proofs.{Bases.last_base, Reached.ran_keeps, Retrying.IsPast, Retrying.turn_past, Shapes.ran_shape, Topping.turn_count}
 use Rattle.watch_laws.proofs.Counting.{lanes_apart, lanes_past, least_all, more, none, some, sums}
 use Rattle.watch_laws.proofs.Grounds.{Bounds, IsBase, opened_base, starts, tracked, turn_bounds}
 use Rattle.watch_laws.proofs.Lanes.{anew_served, is_anew, served_tried}
-use Rattle.watch_laws.proofs.Reached.{ran_keeps}
 use Rattle.watch_laws.proofs.Recovering.{Timely, all_whole, full_lanes, soon_next}
 use Rattle.watch_laws.proofs.Requests.{anew_none, one_left, take_one}
-use Rattle.watch_laws.proofs.Retrying.{IsPast, turn_past}
-use Rattle.watch_laws.proofs.Shapes.{ran_shape}
-use Rattle.watch_laws.proofs.Topping.{turn_count}
 use Rattle.watch_laws.proofs.Working.{Stage, along, served_now, soon_after}
 
 -- whoever waits or is being asked has something to be asked

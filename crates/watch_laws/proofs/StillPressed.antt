@@ -1,29 +1,20 @@
 -- StillPressed: a clock leaves an entry pressed that was, as long as it is wanted. For the laws of outages.
-use Rattle.std.proofs.Common.{◌≡◌, ℕ, ◌+◌, Bool, true, false, not, ◌&&◌, ◌||◌, ◌==◌, if◌then◌else◌, List, Option, Some, None, nat_le, refl, sym, subst}
+use Rattle.std.proofs.Common.{◌≡◌, ℕ, ◌+◌, Bool, true, false, ◌&&◌, ◌||◌, ◌==◌, if◌then◌else◌, List, Option, Some, None, nat_le, refl, sym, subst}
 use Rattle.std.proofs.lemmas.Bool.{or_parts}
 use Rattle.std.specs.List.{list_any}
-use Rattle.plan_forest.specs.declared.entry.Entry.{Entry}
-use Rattle.plan_forest.specs.Forest.{entry_at}
-use Rattle.watch_machine.specs.declared.command.WatchOutput.{WatchOutput}
-use Rattle.watch_machine.specs.declared.command.WatchRequest.{WatchRequest}
-use Rattle.watch_machine.specs.declared.notes.BeginReason.{BeginReason}
-use Rattle.watch_machine.specs.declared.track.Track.{Track}
-use Rattle.watch_machine.specs.declared.track.Try.{Try}
+use Rattle.plan_forest.specs.{declared.entry.Entry.Entry, Forest.entry_at}
+use Rattle.watch_machine.specs.{declared.command.WatchOutput.WatchOutput, declared.command.WatchRequest.WatchRequest, declared.notes.BeginReason.BeginReason, declared.track.Track.Track, declared.track.Try.Try, Clocks.sec, Lines.rested}
+use Rattle.watch_machine.specs.{Pauses.pause, Step.readied, Step.why}
 use Rattle.watch_machine.specs.Beginning.{begun, is_called, is_pressed, is_pressed_try, is_start, owing, owing_lookup, soon, sooner_try, untopped, untopped_track}
-use Rattle.watch_machine.specs.Clocks.{sec}
-use Rattle.watch_machine.specs.Lines.{rested}
-use Rattle.watch_machine.specs.Pauses.{pause}
 use Rattle.watch_machine.specs.Press.{asked_track, dropped, is_fresh, press, pressed, pressed_alone, pressed_track, track_asked_in}
 use Rattle.watch_machine.specs.Sending.{sent, sent_in, sent_track}
 use Rattle.watch_machine.specs.Settling.{settled, settled_track, settled_try, timed}
 use Rattle.watch_machine.specs.State.{WatchState, no_track, track_at, track_in}
-use Rattle.watch_machine.specs.Step.{readied, why}
 use Rattle.watch_machine.specs.Wanted.{is_open, is_wanted, need_of, wants}
+use Rattle.watch_machine.proofs.Unseen.{pressed_seen, sent_seen}
 use Rattle.watch_machine.proofs.Cases.{if_both, if_cases, not_both}
 use Rattle.watch_machine.proofs.Seeing.{SameSeen, both_seen, need_same}
-use Rattle.watch_machine.proofs.Unseen.{pressed_seen, sent_seen}
-use Rattle.watch_laws.proofs.Lanes.{Ticks}
-use Rattle.watch_laws.proofs.Tracking.{each_holds, each_kept}
+use Rattle.watch_laws.proofs.{Lanes.Ticks, Tracking.each_holds, Tracking.each_kept}
 
 -- before the time of others is looked at
 abbrev Keeps : Track → Track → Type 0

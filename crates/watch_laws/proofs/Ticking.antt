@@ -1,49 +1,29 @@
 -- Ticking: what a clock makes of the stages of an outage. For the law of outages.
 use Rattle.std.proofs.Common.{◌≡◌, ◌⊎◌, ◌∙◌, ℕ, suc, ◌+◌, ◌*◌, ◌<◌, ◌≤◌, Bool, true, false, max, not, ◌&&◌, ◌||◌, ◌==◌, List, [], ◌∷◌, Some, All, get_or, length, map, nat_le, nat_lt, refl, sym, ap, subst, arith, inl, inr}
 use Rattle.std.proofs.Math.Nat.{mul-suc}
+use Rattle.std.proofs.lemmas.{Bool.Decides.nat_tests, List.Elements.All-weaker}
 use Rattle.std.proofs.lemmas.Bool.{and_from, and_parts, cases_Bool, cases_lt, eqb-true, or_parts}
-use Rattle.std.proofs.lemmas.Bool.Decides.{nat_tests}
-use Rattle.std.proofs.lemmas.List.Elements.{All-weaker}
 use Rattle.std.specs.List.{list_any}
-use Rattle.watch_machine.specs.declared.command.WatchOutput.{WatchOutput}
-use Rattle.watch_machine.specs.declared.command.WatchRequest.{WatchRequest}
-use Rattle.watch_machine.specs.declared.lanes.Out.{Out}
-use Rattle.watch_machine.specs.declared.lanes.Presence.{Presence}
-use Rattle.watch_machine.specs.declared.track.Track.{Track}
-use Rattle.watch_machine.specs.declared.track.Try.{Try}
-use Rattle.watch_machine.specs.Beginning.{is_pressed}
-use Rattle.watch_machine.specs.Clocks.{ms, sec}
+use Rattle.watch_machine.specs.{declared.command.WatchOutput.WatchOutput, declared.command.WatchRequest.WatchRequest, declared.lanes.Out.Out, declared.lanes.Presence.Presence, declared.track.Track.Track, declared.track.Try.Try}
+use Rattle.watch_machine.specs.{Beginning.is_pressed, Clocks.ms, Clocks.sec, Press.pressed, Outlook.time_of, Step.readied, Wait.wait, Wanted.is_wanted}
 use Rattle.watch_machine.specs.Lines.{is_due, is_first, ready, rested}
-use Rattle.watch_machine.specs.Press.{pressed}
-use Rattle.watch_machine.specs.Outlook.{time_of}
 use Rattle.watch_machine.specs.Sending.{sent, sent_in, sent_track}
 use Rattle.watch_machine.specs.Settling.{is_silent, presence_after, timed}
 use Rattle.watch_machine.specs.State.{WatchState, attempt_at, second, track_at, track_in}
-use Rattle.watch_machine.specs.Step.{readied}
-use Rattle.watch_machine.specs.Wait.{wait}
-use Rattle.watch_machine.specs.Wanted.{is_wanted}
-use Rattle.watch_machine.proofs.Cases.{if_both, if_cases, not_both}
 use Rattle.watch_machine.proofs.Leasts.{least_start}
+use Rattle.watch_machine.proofs.Cases.{if_both, if_cases, not_both}
 use Rattle.watch_laws.specs.Outage.{Outage, again, comes, granted_by, how_many, is_request_served, is_request_whole, is_tried, outage_next_by, outage_settled_by, waiting, waits_to_be_asked}
-use Rattle.watch_laws.proofs.Clocking.{readied_clocks}
+use Rattle.watch_laws.proofs.{Clocking.readied_clocks, Holding.ready_presence, Lasting.Same, Lasting.same_time, Minding.end_tended, Minding.tended, Retrying.ready_first, Retrying.ready_later, Sparing.readied_answers}
+use Rattle.watch_laws.proofs.{StillPressed.still_pressed_at, Topping.readied_count, Tracking.each_kept, Undisturbed.Undisturbed, Undisturbed.clock_undisturbed}
 use Rattle.watch_laws.proofs.Counting.{lanes_apart, lanes_most, least_all, some}
 use Rattle.watch_laws.proofs.Enduring.{Cutting, Endures, Kept, Missed, Steady, clock_held, clock_steady, cut, cut_off, later_endures}
 use Rattle.watch_laws.proofs.Going.{entry_by, named_of, one_sent}
 use Rattle.watch_laws.proofs.Grounds.{IsBase, fewer_wait, tracked}
-use Rattle.watch_laws.proofs.Holding.{ready_presence}
 use Rattle.watch_laws.proofs.Lanes.{Sends, Ticks, all_sent, goes_out_now, is_anew, is_of, pressed_count, served_marked, served_tried, stays_free, still_out}
-use Rattle.watch_laws.proofs.Lasting.{Same, same_time}
 use Rattle.watch_laws.proofs.Marked.{any_time, free_lanes, none_of, not_out}
-use Rattle.watch_laws.proofs.Minding.{end_tended, tended}
 use Rattle.watch_laws.proofs.Requests.{any_gives, anew_none, later_than, none_passes, one_left, quick_if, some_lane, take_one, whole_after}
-use Rattle.watch_laws.proofs.Retrying.{ready_first, ready_later}
-use Rattle.watch_laws.proofs.Sparing.{readied_answers}
 use Rattle.watch_laws.proofs.Spacing.{free_of, mid_flag, passed_over, went}
 use Rattle.watch_laws.proofs.Stages.{Facts, IsBack, IsCut, IsEarly, IsGoing, IsLate, IsPlanned, IsServed, IsThrough, free_from, late_base, late_holds, room_back, turn_of}
-use Rattle.watch_laws.proofs.StillPressed.{still_pressed_at}
-use Rattle.watch_laws.proofs.Topping.{readied_count}
-use Rattle.watch_laws.proofs.Tracking.{each_kept}
-use Rattle.watch_laws.proofs.Undisturbed.{Undisturbed, clock_undisturbed}
 
 pub before_second : (s : WatchState) (n : ℕ) → second s < n → s.clocks.at < ms n
 unfolding sec

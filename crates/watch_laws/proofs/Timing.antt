@@ -1,12 +1,9 @@
 -- Timing: when the time of an entry comes, and which entries are in the plan. For the laws of margins.
 use Rattle.std.proofs.Common.{◌≡◌, ◌↔◌, ℕ, ◌-◌, ◌*◌, ◌≤◌, true, Option, Some, None, IfSome, nat_le, refl, ap, arith, ◌/◌, if◌then◌else◌}
-use Rattle.std.proofs.lemmas.Bool.{eqb-true}
-use Rattle.std.proofs.lemmas.Bool.Decides.{nat_tests}
-use Rattle.watch_machine.specs.declared.track.End.{End}
+use Rattle.std.proofs.lemmas.{Bool.eqb-true, Bool.Decides.nat_tests}
+use Rattle.watch_machine.specs.{declared.track.End.End, declared.track.Grant.Grant, Outlook.time_of}
 use Rattle.watch_machine.specs.declared.track.End.TheVariants.{Unknown, At, Never}
-use Rattle.watch_machine.specs.declared.track.Grant.{Grant}
 use Rattle.watch_machine.specs.Margins.{asking_margin, has_come, is_in_plan, lead, own_by, own_margin, time, time_before}
-use Rattle.watch_machine.specs.Outlook.{time_of}
 use Rattle.watch_machine.specs.State.{WatchState, entry_of, has_last_try, second, track_at}
 use Rattle.watch_laws.specs.Margins.{InPlanLaw, IsTimeBefore, TimeLaw, asked_before, least_granted, own_before}
 

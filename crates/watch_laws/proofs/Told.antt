@@ -1,55 +1,30 @@
 -- Told: what a lookup that tells makes of its entry, and what writes the forest. For the laws of what is told.
 use Rattle.std.proofs.Common.{◌≡◌, ◌∙◌, ℕ, ◌+◌, ◌<◌, ◌≤◌, Bool, true, false, ◌&&◌, if◌then◌else◌, Option, Some, None, Result, Ok, Err, is_some, length, min, nat_lt, option_map, refl, slice_set, sym, ap, subst, arith, true≢false}
-use Rattle.std.proofs.lemmas.Bool.{cond-false, cond-true}
-use Rattle.std.proofs.lemmas.Bool.Decides.{nat_tests}
-use Rattle.std.proofs.lemmas.List.{get_or-set_same, length-set}
+use Rattle.std.proofs.lemmas.{Bool.cond-false, Bool.cond-true, Bool.Decides.nat_tests, List.get_or-set_same, List.length-set}
 use Rattle.base_moment.specs.declared.moment.TheConstants.{LAST}
-use Rattle.plan_forest.specs.declared.entry.Entry.{Entry}
-use Rattle.plan_forest.specs.declared.forest.TheConstants.{END_MAX}
-use Rattle.plan_forest.specs.Forest.{Forest, entry_at}
+use Rattle.plan_forest.specs.{declared.entry.Entry.Entry, declared.forest.TheConstants.END_MAX, Forest.Forest, Forest.entry_at}
 use Rattle.plan_forest.proofs.Entries.{entry_at_set_other, entry_at_set_same}
-use Rattle.watch_machine.specs.declared.clocks.Clocks.{Clocks}
-use Rattle.watch_machine.specs.declared.command.WatchOutput.{WatchOutput}
-use Rattle.watch_machine.specs.declared.event.WatchEvent.{WatchEvent}
-use Rattle.watch_machine.specs.declared.event.WatchEvent.TheVariants.{Clock, Looked, Renewed, Need, Begin, Known}
+use Rattle.watch_machine.specs.{declared.clocks.Clocks.Clocks, declared.command.WatchOutput.WatchOutput, declared.event.WatchEvent.WatchEvent, declared.event.WatchReply.WatchReply, declared.event.WatchReply.TheVariants.Told}
+use Rattle.watch_machine.specs.{declared.event.WatchTerms.WatchTerms, declared.fault.WatchFault.WatchFault, declared.lanes.Out.Out, declared.notes.BeginReason.BeginReason, declared.track.Track.Track, declared.track.Try.Try, Clocks.sec}
+use Rattle.watch_machine.specs.{History.Turn, Lines.rested, Press.pressed, Refusal.request_out, Round.asked_by_round, Settling.settled, Settling.timed}
+use Rattle.watch_machine.specs.declared.event.WatchEvent.TheVariants.{Clock, Looked, Renewed, Need, Known}
 use Rattle.watch_machine.specs.declared.event.Operation.TheVariants.{Look, Renew}
-use Rattle.watch_machine.specs.declared.event.WatchReply.{WatchReply}
-use Rattle.watch_machine.specs.declared.event.WatchReply.TheVariants.{Told, Refused, Busy, Lost}
-use Rattle.watch_machine.specs.declared.event.WatchTerms.{WatchTerms}
-use Rattle.watch_machine.specs.declared.fault.WatchFault.{WatchFault}
-use Rattle.watch_machine.specs.declared.lanes.Out.{Out}
-use Rattle.watch_machine.specs.declared.notes.BeginReason.{BeginReason}
-use Rattle.watch_machine.specs.declared.track.Track.{Track}
-use Rattle.watch_machine.specs.declared.track.Try.{Try}
 use Rattle.watch_machine.specs.declared.track.End.TheVariants.{At, Never}
 use Rattle.watch_machine.specs.Answers.{back_track, back_try, due_again, failing, noted, replied}
 use Rattle.watch_machine.specs.Beginning.{begun, owed, owing_lookup, owing_past, soon, sooner_try}
-use Rattle.watch_machine.specs.Clocks.{sec}
-use Rattle.watch_machine.specs.History.{Turn}
-use Rattle.watch_machine.specs.Lines.{rested}
 use Rattle.watch_machine.specs.Looked.{at_once, by_terms, is_called_for, looked, step_told, told_state, told_track, told_try, with_told_try}
-use Rattle.watch_machine.specs.Press.{pressed}
-use Rattle.watch_machine.specs.Refusal.{request_out}
 use Rattle.watch_machine.specs.Renewed.{granted_from, granted_try, state_renewed}
-use Rattle.watch_machine.specs.Round.{asked_by_round}
-use Rattle.watch_machine.specs.Settling.{settled, timed}
 use Rattle.watch_machine.specs.State.{WatchState, attempt_at, entry_of, no_track, second, track_at}
 use Rattle.watch_machine.specs.Step.{Step, StepClock, StepLooked, StepRenewed, readied, told_earlier, why}
 use Rattle.watch_machine.specs.Wanted.{believed, is_alive, is_wanted, need_of, wanted_need, wants}
+use Rattle.watch_machine.proofs.Within.{out_entry}
 use Rattle.watch_machine.proofs.Cases.{if_both, not_both, value_is}
 use Rattle.watch_machine.proofs.Seeing.{SameSeen, need_same, sight}
-use Rattle.watch_machine.proofs.Within.{out_entry}
-use Rattle.watch_laws.specs.Absence.{is_event_taken}
-use Rattle.watch_laws.specs.Time.{is_come}
+use Rattle.watch_laws.specs.{Absence.is_event_taken, Time.is_come}
 use Rattle.watch_laws.specs.Told.{DoneLaw, EndsTooSoon, ForestWrittenLaw, GoesOnAsRenewal, IsHandedIn, IsToldByLookup, OneIs, OwesLater, ToldLaw, ceiling_by, entry_by, step_by, writes}
-use Rattle.watch_laws.proofs.Answering.{replied_rest}
-use Rattle.watch_laws.proofs.CalmGrant.{no_try}
-use Rattle.watch_laws.proofs.Clocking.{refused_stays, sent_by}
+use Rattle.watch_laws.proofs.{Answering.replied_rest, CalmGrant.no_try, Clocking.refused_stays, Clocking.sent_by, Opener.bearing, Opener.wants_same, Presses.again_is, Reasons.told_come}
 use Rattle.watch_laws.proofs.Failures.{Free, back_free, set_free}
 use Rattle.watch_laws.proofs.GrantedFrom.{back_end, counts_from, made, turn_holds}
-use Rattle.watch_laws.proofs.Opener.{bearing, wants_same}
-use Rattle.watch_laws.proofs.Presses.{again_is}
-use Rattle.watch_laws.proofs.Reasons.{told_come}
 use Rattle.watch_laws.proofs.Tracking.{back_kept, known_is, replied_forest, set_kept}
 
 -- what is wanted and whose time has come is so with or without a try

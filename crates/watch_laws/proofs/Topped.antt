@@ -2,8 +2,7 @@
 use Rattle.std.proofs.Common.{◌≡◌, ℕ, ◌<◌, List, [], ◌∷◌, ◌++◌, Option, Some, None, length, refl, sym, ap, subst, arith}
 use Rattle.std.proofs.lemmas.List.{append_assoc, length-map}
 use Rattle.plan_forest.specs.Forest.{Forest}
-use Rattle.watch_machine.specs.declared.track.Track.{Track}
-use Rattle.watch_machine.specs.Change.{former_at}
+use Rattle.watch_machine.specs.{declared.track.Track.Track, Change.former_at}
 use Rattle.watch_machine.specs.History.{AllHappen, Changed, Changes, Happening, Hands, IsChanged, Turn, Turned, state_after_all, stood, stood_at_some}
 use Rattle.watch_machine.specs.State.{WatchState, fresh_track, opened, track_at}
 use Rattle.watch_laws.specs.Tops.{Granted, ToppedLaw, grant_of_some, grants_through}

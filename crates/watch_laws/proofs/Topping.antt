@@ -1,45 +1,28 @@
 -- Topping: what every turn keeps of the last grants of an entry. For the law of the top.
 use Rattle.std.proofs.Common.{◌≡◌, ◌≢◌, ◌∙◌, ℕ, ◌+◌, ◌-◌, ◌<◌, ◌≤◌, Bool, true, ◌&&◌, ◌||◌, ◌==◌, if◌then◌else◌, List, [], ◌∷◌, ◌++◌, Option, Some, None, Result, Ok, Err, length, map, min, nat_le, nat_lt, refl, sym, ap, subst, arith, inl, inr, ◌⊎◌, not, ap₂, false}
-use Rattle.std.proofs.lemmas.Bool.{and_parts, cases_Bool, cond-true, cond-false, eqb-true}
 use Rattle.std.proofs.lemmas.Bool.Decides.{nat_tests}
+use Rattle.std.proofs.lemmas.Bool.{and_parts, cases_Bool, cond-true, cond-false, eqb-true}
 use Rattle.std.proofs.lemmas.List.{append-nil, get_or-map, get_or-set_other, get_or-set_same}
 use Rattle.std.specs.List.{list_any}
-use Rattle.plan_forest.specs.declared.entry.Entry.{Entry}
-use Rattle.plan_forest.specs.Forest.{entry_at, no_entry}
-use Rattle.watch_machine.specs.declared.command.WatchOutput.{WatchOutput}
-use Rattle.watch_machine.specs.declared.command.WatchRequest.{WatchRequest}
-use Rattle.watch_machine.specs.declared.event.WatchEvent.{WatchEvent}
+use Rattle.plan_forest.specs.{declared.entry.Entry.Entry, Forest.entry_at, Forest.no_entry}
+use Rattle.watch_machine.specs.{declared.command.WatchOutput.WatchOutput, declared.command.WatchRequest.WatchRequest, declared.event.WatchEvent.WatchEvent, declared.event.WatchReply.WatchReply, declared.event.WatchTerms.WatchTerms}
+use Rattle.watch_machine.specs.{declared.fault.WatchFault.WatchFault, declared.lanes.Out.Out, declared.notes.BeginReason.BeginReason, declared.track.End.End, declared.track.End.TheVariants.At, declared.track.Grant.Grant}
+use Rattle.watch_machine.specs.{declared.track.Track.Track, Clocks.sec, History.Turn, Refusal.request_out, Round.asked_by_round}
 use Rattle.watch_machine.specs.declared.event.WatchEvent.TheVariants.{Clock, Looked, Renewed, Need, Begin, Known}
 use Rattle.watch_machine.specs.declared.event.Operation.TheVariants.{Look, Renew}
-use Rattle.watch_machine.specs.declared.event.WatchReply.{WatchReply}
 use Rattle.watch_machine.specs.declared.event.WatchReply.TheVariants.{Told, Refused, Busy, Lost}
-use Rattle.watch_machine.specs.declared.event.WatchTerms.{WatchTerms}
-use Rattle.watch_machine.specs.declared.fault.WatchFault.{WatchFault}
-use Rattle.watch_machine.specs.declared.lanes.Out.{Out}
-use Rattle.watch_machine.specs.declared.notes.BeginReason.{BeginReason}
-use Rattle.watch_machine.specs.declared.track.End.{End}
-use Rattle.watch_machine.specs.declared.track.End.TheVariants.{Unknown, At, Never}
-use Rattle.watch_machine.specs.declared.track.Grant.{Grant}
-use Rattle.watch_machine.specs.declared.track.Track.{Track}
 use Rattle.watch_machine.specs.Answers.{back_track, noted, replied}
 use Rattle.watch_machine.specs.Beginning.{begun, is_called, is_start, owing, owing_lookup, owing_past, soon, sooner_try, untopped, untopped_track}
-use Rattle.watch_machine.specs.Clocks.{sec}
-use Rattle.watch_machine.specs.History.{Turn}
 use Rattle.watch_machine.specs.Looked.{looked, told_state, told_track, untold_track}
 use Rattle.watch_machine.specs.Press.{asked_track, dropped, is_fresh, press, pressed, pressed_alone, pressed_track, track_asked_in}
-use Rattle.watch_machine.specs.Refusal.{request_out}
 use Rattle.watch_machine.specs.Renewed.{from_try, granted_from, is_no_further, renewed_track, state_renewed, track_renewed, ungranted_track}
-use Rattle.watch_machine.specs.Round.{asked_by_round}
 use Rattle.watch_machine.specs.Sending.{sent, sent_in, sent_track}
 use Rattle.watch_machine.specs.Settling.{settled, settled_track, timed}
 use Rattle.watch_machine.specs.State.{WatchState, entry_of, fresh_track, keeps_last_try, no_track, track_at, track_in}
 use Rattle.watch_machine.specs.Step.{Step, StepClock, StepLooked, StepRenewed, readied, told_earlier, why}
 use Rattle.watch_machine.specs.Wanted.{believed, is_open, need_of, wants}
-use Rattle.watch_machine.proofs.Cases.{if_both, not_both}
-use Rattle.watch_machine.proofs.Within.{out_entry}
-use Rattle.watch_machine.proofs.Written.{each_length}
-use Rattle.watch_laws.specs.Absence.{is_event_taken}
-use Rattle.watch_laws.specs.Presence.{is_told}
+use Rattle.watch_machine.proofs.{Cases.if_both, Cases.not_both, Within.out_entry, Written.each_length}
+use Rattle.watch_laws.specs.{Absence.is_event_taken, Presence.is_told}
 use Rattle.watch_laws.specs.Tops.{EndNoFurther, Granted, grant_by, grant_of, grant_told, is_grant_of}
 use Rattle.watch_laws.proofs.Clocking.{refused_stays, sent_by}
 use Rattle.watch_laws.proofs.Tracking.{back_kept, each_kept, known_is, looked_count, renewed_count, set_count, set_kept}

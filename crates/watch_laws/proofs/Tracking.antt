@@ -1,25 +1,13 @@
 -- Tracking: what holds between each track and what a step makes of it. For laws that speak of one entry.
 use Rattle.std.proofs.Common.{◌≡◌, ◌∙◌, ℕ, zero, suc, if◌then◌else◌, List, [], ◌∷◌, length, refl, sym, subst, inl, inr, Bool, true, false, Some}
-use Rattle.std.proofs.lemmas.Bool.{cases_lt}
-use Rattle.std.proofs.lemmas.List.{get_or_past, length-set}
+use Rattle.std.proofs.lemmas.{Bool.cases_lt, List.get_or_past, List.length-set}
 use Rattle.std.specs.Prelude.{slice_set}
-use Rattle.watch_machine.specs.declared.event.WatchReply.{WatchReply}
-use Rattle.watch_machine.specs.declared.event.WatchReply.TheVariants.{Told, Refused, Busy, Lost}
-use Rattle.watch_machine.specs.declared.event.WatchTerms.{WatchTerms}
-use Rattle.watch_machine.specs.declared.lanes.Out.{Out}
-use Rattle.watch_machine.specs.declared.track.Track.{Track}
+use Rattle.watch_machine.specs.{declared.event.WatchReply.WatchReply, declared.event.WatchReply.TheVariants.Told, declared.event.WatchTerms.WatchTerms, declared.lanes.Out.Out, declared.track.Track.Track, Clocks.sec, Looked.looked}
+use Rattle.watch_machine.specs.{Renewed.state_renewed, Settling.is_real, Step.told_earlier, Wanted.is_alive}
 use Rattle.watch_machine.specs.Answers.{answers_all, back_track, lane_freed, noted, replied, silent, with_track}
 use Rattle.watch_machine.specs.Beginning.{owing_lookup, owing_past, soon, sooner_try}
-use Rattle.watch_machine.specs.Clocks.{sec}
-use Rattle.watch_machine.specs.Looked.{looked}
-use Rattle.watch_machine.specs.Renewed.{state_renewed}
-use Rattle.watch_machine.specs.Settling.{is_real}
 use Rattle.watch_machine.specs.State.{WatchState, each, no_track, track_at, track_in}
-use Rattle.watch_machine.specs.Step.{told_earlier}
-use Rattle.watch_machine.specs.Wanted.{is_alive}
-use Rattle.watch_machine.proofs.Cases.{if_both, if_cases}
-use Rattle.watch_machine.proofs.Seeing.{each_past, each_read}
-use Rattle.watch_machine.proofs.Written.{each_length}
+use Rattle.watch_machine.proofs.{Cases.if_both, Cases.if_cases, Seeing.each_past, Seeing.each_read, Written.each_length}
 
 -- a relation between what is made of a track and the track holds at each index, if it holds past the last one
 pub each_kept :

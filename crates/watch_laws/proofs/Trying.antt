@@ -2,13 +2,8 @@
 use Rattle.std.proofs.Common.{◌≡◌, ◌∙◌, ℕ, ◌/◌, ◌≤◌, Bool, true, false, ◌&&◌, if◌then◌else◌, List, Option, ap, subst, sym, arith, inl, inr}
 use Rattle.std.proofs.lemmas.Bool.{cases_Bool, cond-false, cond-true}
 use Rattle.plan_forest.specs.declared.entry.Entry.{Entry}
-use Rattle.watch_machine.specs.declared.clocks.Clocks.{Clocks}
-use Rattle.watch_machine.specs.declared.track.End.{End}
-use Rattle.watch_machine.specs.declared.track.End.TheVariants.{Unknown, At, Never}
-use Rattle.watch_machine.specs.declared.track.Grant.{Grant}
-use Rattle.watch_machine.specs.declared.track.Track.{Track}
+use Rattle.watch_machine.specs.{declared.clocks.Clocks.Clocks, declared.track.End.End, declared.track.End.TheVariants.At, declared.track.Grant.Grant, declared.track.Track.Track, State.has_last_try, State.track_in}
 use Rattle.watch_machine.specs.Margins.{asking_margin, lead, own_by, own_margin, time, time_before}
-use Rattle.watch_machine.specs.State.{has_last_try, track_in}
 use Rattle.watch_machine.specs.Wanted.{cut_need, free_need, need_of}
 
 -- the need of an entry that is not at its top is cut to its limit; and that of one with its last try is not

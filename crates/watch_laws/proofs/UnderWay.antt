@@ -1,67 +1,40 @@
 -- UnderWay: while the broker is there, an entry that is wanted and on its first try is being asked or may go out after each clock. For the
 -- law of a wanted entry's start.
 use Rattle.std.proofs.Common.{◌≡◌, ◌≢◌, ◌∙◌, ℕ, ◌+◌, ◌<◌, ◌≤◌, Bool, true, false, max, min, not, ◌&&◌, ◌||◌, ◌==◌, if◌then◌else◌, List, [], ◌∷◌, Option, Some, None, IfSome, Result, Ok, Err, length, map, nat_lt, refl, sym, ap, subst, arith, inl, inr}
-use Rattle.std.proofs.lemmas.Bool.{and_parts, cases_Bool, cond-false, cond-true, eqb-true}
 use Rattle.std.proofs.lemmas.Bool.Decides.{nat_tests}
+use Rattle.std.proofs.lemmas.Bool.{and_parts, cases_Bool, cond-false, cond-true, eqb-true}
 use Rattle.std.proofs.lemmas.List.{get_or-set_other, get_or-set_same, length-set}
 use Rattle.std.specs.List.{list_any}
 use Rattle.plan_forest.specs.declared.entry.Entry.{Entry}
-use Rattle.watch_machine.specs.declared.command.WatchOutput.{WatchOutput}
-use Rattle.watch_machine.specs.declared.event.WatchEvent.{WatchEvent}
+use Rattle.watch_machine.specs.{declared.command.WatchOutput.WatchOutput, declared.event.WatchEvent.WatchEvent, declared.event.Operation.Operation, declared.event.WatchReply.WatchReply, declared.event.WatchTerms.WatchTerms}
+use Rattle.watch_machine.specs.{declared.fault.WatchFault.WatchFault, declared.lanes.Out.Out, declared.lanes.Presence.Presence, declared.notes.BeginReason.BeginReason, declared.track.Track.Track, declared.track.Try.Try, Clocks.sec}
+use Rattle.watch_machine.specs.{Change.former_at, Margins.has_come, Press.is_fresh, Press.pressed, Refusal.request_out, Round.asked_by_round as round_of, Sending.sent}
 use Rattle.watch_machine.specs.declared.event.WatchEvent.TheVariants.{Clock, Looked, Renewed, Need, Begin, Known}
-use Rattle.watch_machine.specs.declared.event.Operation.{Operation}
 use Rattle.watch_machine.specs.declared.event.Operation.TheVariants.{Look, Renew}
-use Rattle.watch_machine.specs.declared.event.WatchReply.{WatchReply}
 use Rattle.watch_machine.specs.declared.event.WatchReply.TheVariants.{Told, Refused, Busy, Lost}
-use Rattle.watch_machine.specs.declared.event.WatchTerms.{WatchTerms}
-use Rattle.watch_machine.specs.declared.fault.WatchFault.{WatchFault}
-use Rattle.watch_machine.specs.declared.lanes.Out.{Out}
-use Rattle.watch_machine.specs.declared.lanes.Presence.{Presence}
-use Rattle.watch_machine.specs.declared.notes.BeginReason.{BeginReason}
-use Rattle.watch_machine.specs.declared.track.Track.{Track}
-use Rattle.watch_machine.specs.declared.track.Try.{Try}
 use Rattle.watch_machine.specs.Answers.{failing, heard, lane_freed, noted, replied, with_track, without_request}
 use Rattle.watch_machine.specs.Beginning.{begun, hastened, is_called, is_pressed, is_pressed_try, is_start, owed, owing, owing_lookup, owing_past, soon, sooner_try, untopped, untopped_track}
-use Rattle.watch_machine.specs.Clocks.{sec}
-use Rattle.watch_machine.specs.Change.{former_at}
 use Rattle.watch_machine.specs.History.{AllHappen, Changed, Changes, Happening, Hands, IsChanged, Turn}
 use Rattle.watch_machine.specs.Lines.{is_first, later_at, ready}
 use Rattle.watch_machine.specs.Looked.{after_look, at_once, is_called_for, looked, refused_try, told_state, told_track, told_try, untold, untold_track}
-use Rattle.watch_machine.specs.Margins.{has_come}
-use Rattle.watch_machine.specs.Press.{is_fresh, pressed}
-use Rattle.watch_machine.specs.Refusal.{request_out}
 use Rattle.watch_machine.specs.Renewed.{after_renewal, from_try, granted_from, granted_try, renewed_track, state_renewed, track_renewed, ungranted, ungranted_track}
-use Rattle.watch_machine.specs.Round.{asked_by_round as round_of}
-use Rattle.watch_machine.specs.Sending.{sent}
 use Rattle.watch_machine.specs.Settling.{is_real, settled, settled_track, settled_try, timed}
 use Rattle.watch_machine.specs.State.{WatchState, attempt_at, entry_of, no_track, second, track_at}
 use Rattle.watch_machine.specs.Step.{Step, StepClock, StepLooked, StepRenewed, known, readied, told_earlier, why, with_need_until}
 use Rattle.watch_machine.specs.Wanted.{is_alive, is_open, is_wanted, need_of, wanted_need, wants}
-use Rattle.watch_machine.proofs.Cases.{if_both, not_both}
+use Rattle.watch_machine.proofs.{Cases.if_both, Cases.not_both, Unseen.pressed_seen, Unseen.sent_seen}
 use Rattle.watch_machine.proofs.Seeing.{SameSeen, both_seen, need_same}
-use Rattle.watch_machine.proofs.Unseen.{pressed_seen, sent_seen}
-use Rattle.watch_laws.specs.Outage.{IsReplyInOutage, Outage, is_request_served, is_request_whole, outage_next_after}
 use Rattle.watch_laws.specs.Recovery.{without_outage}
+use Rattle.watch_laws.specs.Outage.{IsReplyInOutage, Outage, is_request_served, is_request_whole, outage_next_after}
 use Rattle.watch_laws.specs.Starts.{AreUnderWay, AreWorked, BrokerIsThere, FirstTryIsUnderWay, IsAtWork, IsThereAt, IsWorked, IsWorking, SoonLaw, is_first_try}
-use Rattle.watch_laws.proofs.Answering.{looked_rest}
+use Rattle.watch_laws.proofs.{Answering.looked_rest, Changing.low as low_over, Grounds.IsBase, Grounds.turn_base, Holding.looked_presence, Holding.ready_presence, Minding.some_within, Moving.served_over, Once.names_none, Opener.mid_bears}
+use Rattle.watch_laws.proofs.{Recovering.all_whole, Resting.IsUntold, Retrying.rises, Shapes.turn_shape, Starting.starts_soon}
 use Rattle.watch_laws.proofs.Bases.{changed_base, kept_flag, last_base}
-use Rattle.watch_laws.proofs.Changing.{low as low_over}
 use Rattle.watch_laws.proofs.Clocking.{readied_clocks, refused_stays, sent_by}
 use Rattle.watch_laws.proofs.Following.{changed_entries, kept_over, owed_is}
-use Rattle.watch_laws.proofs.Grounds.{IsBase, turn_base}
-use Rattle.watch_laws.proofs.Holding.{looked_presence, ready_presence}
 use Rattle.watch_laws.proofs.Lanes.{goes_out_now, replied_lane, still_out, ticks}
-use Rattle.watch_laws.proofs.Minding.{some_within}
-use Rattle.watch_laws.proofs.Moving.{served_over}
-use Rattle.watch_laws.proofs.Once.{names_none}
 use Rattle.watch_laws.proofs.OnPlan.{attempt_sent, presence_away, stays}
-use Rattle.watch_laws.proofs.Opener.{mid_bears}
-use Rattle.watch_laws.proofs.Recovering.{all_whole}
-use Rattle.watch_laws.proofs.Resting.{IsUntold}
-use Rattle.watch_laws.proofs.Retrying.{rises}
-use Rattle.watch_laws.proofs.Shapes.{turn_shape}
 use Rattle.watch_laws.proofs.Spacing.{looked_other, looked_out, same_index}
-use Rattle.watch_laws.proofs.Starting.{starts_soon}
 use Rattle.watch_laws.proofs.Tracking.{each_kept, known_is, known_out, set_kept}
 
 -- ---- a first try

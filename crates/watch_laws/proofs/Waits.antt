@@ -1,30 +1,15 @@
 -- Waits: until when a clock waits. For the law of the wait.
 use Rattle.std.proofs.Common.{◌≡◌, ◌⊎◌, ◌∙◌, ℕ, zero, suc, ◌+◌, ◌<◌, ◌≤◌, Bool, true, false, not, ◌&&◌, Option, Some, None, Result, Ok, Err, length, map, min, nat_lt, refl, sym, ap, subst, arith, inl, inr}
-use Rattle.std.proofs.lemmas.Bool.{and_parts, cases_Bool, cases_lt, cond-false, cond-true}
 use Rattle.std.proofs.lemmas.Bool.Decides.{nat_tests}
+use Rattle.std.proofs.lemmas.Bool.{and_parts, cases_Bool, cases_lt, cond-false, cond-true}
 use Rattle.std.specs.List.{range_with_len}
 use Rattle.plan_forest.specs.declared.entry.Entry.{Entry}
-use Rattle.watch_machine.specs.declared.command.WatchCommand.{WatchCommand}
+use Rattle.watch_machine.specs.{declared.command.WatchCommand.WatchCommand, declared.command.WatchOutput.WatchOutput, declared.event.WatchEvent.WatchEvent, declared.event.WatchReply.WatchReply, declared.event.WatchTerms.WatchTerms}
+use Rattle.watch_machine.specs.{declared.fault.WatchFault.WatchFault, declared.lanes.Out.Out, declared.lanes.Presence.Presence, declared.track.Track.Track, declared.track.Try.Try, Beginning.is_pressed, Clocks.ms, History.Turn, Lines.ready}
+use Rattle.watch_machine.specs.{Margins.time, Press.pressed, Refusal.request_out, Round.asked_by_round}
 use Rattle.watch_machine.specs.declared.command.WatchCommand.TheVariants.{Go, Taken}
-use Rattle.watch_machine.specs.declared.command.WatchOutput.{WatchOutput}
-use Rattle.watch_machine.specs.declared.event.WatchEvent.{WatchEvent}
-use Rattle.watch_machine.specs.declared.event.WatchEvent.TheVariants.{Clock, Looked, Renewed, Need, Begin, Known}
+use Rattle.watch_machine.specs.declared.event.WatchEvent.TheVariants.{Clock, Looked, Renewed}
 use Rattle.watch_machine.specs.declared.event.Operation.TheVariants.{Look, Renew}
-use Rattle.watch_machine.specs.declared.event.WatchReply.{WatchReply}
-use Rattle.watch_machine.specs.declared.event.WatchTerms.{WatchTerms}
-use Rattle.watch_machine.specs.declared.fault.WatchFault.{WatchFault}
-use Rattle.watch_machine.specs.declared.lanes.Out.{Out}
-use Rattle.watch_machine.specs.declared.lanes.Presence.{Presence}
-use Rattle.watch_machine.specs.declared.track.Track.{Track}
-use Rattle.watch_machine.specs.declared.track.Try.{Try}
-use Rattle.watch_machine.specs.Beginning.{is_pressed}
-use Rattle.watch_machine.specs.Clocks.{ms}
-use Rattle.watch_machine.specs.History.{Turn}
-use Rattle.watch_machine.specs.Lines.{ready}
-use Rattle.watch_machine.specs.Margins.{time}
-use Rattle.watch_machine.specs.Press.{pressed}
-use Rattle.watch_machine.specs.Refusal.{request_out}
-use Rattle.watch_machine.specs.Round.{asked_by_round}
 use Rattle.watch_machine.specs.State.{WatchState, entry_of, track_at}
 use Rattle.watch_machine.specs.Step.{Step, StepCommand, StepLooked, StepRenewed, readied}
 use Rattle.watch_machine.specs.Wait.{latest, next_of, time_at, try_at, wait}

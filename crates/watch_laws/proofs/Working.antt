@@ -1,46 +1,28 @@
 -- Working: while the broker is there, an entry that is being asked or may go out is answered within few rounds. For the law of a start.
 use Rattle.std.proofs.Common.{◌≡◌, ◌≢◌, ◌⊎◌, ◌∙◌, ℕ, suc, ◌+◌, ◌*◌, ◌<◌, ◌≤◌, Bool, true, false, not, ◌&&◌, ◌||◌, ◌==◌, if◌then◌else◌, List, [], ◌∷◌, Option, Some, None, All, Result, Ok, Err, get_or, length, nat_le, refl, sym, ap, subst, arith, inl, inr}
 use Rattle.std.proofs.Math.Nat.{mul-suc}
+use Rattle.std.proofs.lemmas.{Bool.Decides.nat_tests, List.Elements.All-head, List.Elements.All-tail}
 use Rattle.std.proofs.lemmas.Bool.{and_from, and_parts, cases_Bool, eqb-true}
-use Rattle.std.proofs.lemmas.Bool.Decides.{nat_tests}
-use Rattle.std.proofs.lemmas.List.Elements.{All-head, All-tail}
 use Rattle.std.specs.List.{list_any}
-use Rattle.watch_machine.specs.declared.command.WatchOutput.{WatchOutput}
-use Rattle.watch_machine.specs.declared.event.WatchEvent.{WatchEvent}
+use Rattle.watch_machine.specs.{declared.command.WatchOutput.WatchOutput, declared.event.WatchEvent.WatchEvent, declared.event.WatchReply.WatchReply, declared.fault.WatchFault.WatchFault, declared.lanes.Out.Out, Change.former_at}
+use Rattle.watch_machine.specs.{Looked.looked, Refusal.request_out, Renewed.state_renewed, Settling.timed, State.WatchState, Wait.wait}
 use Rattle.watch_machine.specs.declared.event.WatchEvent.TheVariants.{Clock, Looked, Renewed, Need, Begin, Known}
 use Rattle.watch_machine.specs.declared.event.Operation.TheVariants.{Look, Renew}
-use Rattle.watch_machine.specs.declared.event.WatchReply.{WatchReply}
-use Rattle.watch_machine.specs.declared.fault.WatchFault.{WatchFault}
-use Rattle.watch_machine.specs.declared.lanes.Out.{Out}
 use Rattle.watch_machine.specs.Answers.{noted, replied, without_request}
-use Rattle.watch_machine.specs.Change.{former_at}
 use Rattle.watch_machine.specs.History.{AllHappen, Changed, Changes, Happening, Hands, IsChanged, Turn, Turned}
-use Rattle.watch_machine.specs.Looked.{looked}
-use Rattle.watch_machine.specs.Refusal.{request_out}
-use Rattle.watch_machine.specs.Renewed.{state_renewed}
-use Rattle.watch_machine.specs.Settling.{timed}
-use Rattle.watch_machine.specs.State.{WatchState}
 use Rattle.watch_machine.specs.Step.{Step, StepLooked, StepRenewed}
-use Rattle.watch_machine.specs.Wait.{wait}
-use Rattle.watch_machine.proofs.Cases.{not_both}
-use Rattle.watch_machine.proofs.Within.{out_entry}
-use Rattle.watch_laws.specs.Absence.{is_event_taken}
+use Rattle.watch_machine.proofs.{Cases.not_both, Within.out_entry}
+use Rattle.watch_laws.specs.{Absence.is_event_taken, Recovery.without_outage}
 use Rattle.watch_laws.specs.Outage.{Outage, comes, comes_over, coming_through, how_many, is_request_served, is_tried, is_request_whole, outage_next_after, outage_next_after_command, outage_next_by, outage_settled_by, waiting, waits_to_be_asked}
-use Rattle.watch_laws.specs.Recovery.{without_outage}
 use Rattle.watch_laws.specs.Starts.{AllSoon, AreWorked, IsAtWork, IsWorked, IsWorking, is_answer_to, later_by}
+use Rattle.watch_laws.proofs.{Bases.changed_base, Changing.low as low_over, Clocking.readied_clocks, Clocking.refused_stays, Following.any_over, Following.changed_entries, Requests.any_gives, Requests.one_left, Shapes.turn_shape}
+use Rattle.watch_laws.proofs.{Spacing.looked_out, Spacing.same_index}
 use Rattle.watch_laws.proofs.Alone.{lanes_of, none_left, replied_lanes}
-use Rattle.watch_laws.proofs.Bases.{changed_base}
-use Rattle.watch_laws.proofs.Changing.{low as low_over}
-use Rattle.watch_laws.proofs.Clocking.{readied_clocks, refused_stays}
 use Rattle.watch_laws.proofs.Counting.{least_all, more as more_pass, no_lane, some}
-use Rattle.watch_laws.proofs.Following.{any_over, changed_entries}
 use Rattle.watch_laws.proofs.Grounds.{IsBase, fewer_wait, tracked, turn_base}
 use Rattle.watch_laws.proofs.Lanes.{Sends, Ticks, is_anew, is_of, passes, replied_any, replied_lane, served_tried, still_out, ticks, turn_sends}
 use Rattle.watch_laws.proofs.Moving.{all_over, fewer_over, served_over}
 use Rattle.watch_laws.proofs.Recovering.{Passes, Quiet, Timely, change_passes, clock_passes, looked_quiet, quiet_passes, renewed_quiet, same_quiet, settles_so}
-use Rattle.watch_laws.proofs.Requests.{any_gives, one_left}
-use Rattle.watch_laws.proofs.Shapes.{turn_shape}
-use Rattle.watch_laws.proofs.Spacing.{looked_out, same_index}
 
 -- a request of i is out that went out by then
 abbrev pub since_by : ℕ → ℕ → List Out → Bool

@@ -2,16 +2,10 @@
 -- Source: this project's own.
 use Rattle.std.specs.Prelude.{◌≡◌, ℕ, ◌+◌, ◌≤◌, Bool, true, false, not, List, [], ◌∷◌, ◌++◌, Option, Some, None, Result, Ok, Err, filter, length}
 use Rattle.std.specs.List.{list_any}
-use Rattle.watch_machine.specs.declared.command.WatchOutput.{WatchOutput}
-use Rattle.watch_machine.specs.declared.command.WatchRequest.{WatchRequest}
-use Rattle.watch_machine.specs.declared.event.WatchEvent.{WatchEvent}
+use Rattle.watch_machine.specs.{declared.command.WatchOutput.WatchOutput, declared.command.WatchRequest.WatchRequest, declared.event.WatchEvent.WatchEvent, declared.fault.WatchFault.WatchFault, declared.track.Try.Try, Lines.is_first}
+use Rattle.watch_machine.specs.{Settling.is_silent, State.WatchState, State.attempt_at}
 use Rattle.watch_machine.specs.declared.event.WatchEvent.TheVariants.{Clock, Looked, Renewed, Need, Begin, Known}
-use Rattle.watch_machine.specs.declared.fault.WatchFault.{WatchFault}
-use Rattle.watch_machine.specs.declared.track.Try.{Try}
 use Rattle.watch_machine.specs.History.{AllHappen, Changes, Happening, Hands, IsReached, Turned, state_after, state_after_all}
-use Rattle.watch_machine.specs.Lines.{is_first}
-use Rattle.watch_machine.specs.Settling.{is_silent}
-use Rattle.watch_machine.specs.State.{WatchState, attempt_at}
 use Rattle.watch_laws.specs.Load.{requests_at_turn}
 
 -- the broker is away after all of this

@@ -1,14 +1,9 @@
 -- AtTop: by which grants an entry comes to be called topped. The law is the contract of a public function without a body.
 -- Source: this project's own, over Vault, "Lease, renew, and revoke" (a renewal counts from its own moment; maximum TTL).
 use Rattle.std.specs.Prelude.{◌≡◌, ◌↔◌, ℕ, ◌+◌, ◌-◌, ◌<◌, ◌≤◌, Bool, true, [], ◌∷◌, Option, Some, length}
-use Rattle.watch_machine.specs.declared.event.WatchEvent.TheVariants.{Renewed}
-use Rattle.watch_machine.specs.declared.event.WatchReply.TheVariants.{Told}
-use Rattle.watch_machine.specs.declared.track.End.TheVariants.{At}
-use Rattle.watch_machine.specs.declared.track.Grant.{Grant}
-use Rattle.watch_machine.specs.Clocks.{sec}
-use Rattle.watch_machine.specs.History.{History, Turned}
+use Rattle.watch_machine.specs.{declared.event.WatchEvent.TheVariants.Renewed, declared.event.WatchReply.TheVariants.Told, declared.track.End.TheVariants.At, declared.track.Grant.Grant, Clocks.sec, History.History, History.Turned}
+use Rattle.watch_machine.specs.{Wanted.believed}
 use Rattle.watch_machine.specs.State.{WatchState, entry_of, track_at}
-use Rattle.watch_machine.specs.Wanted.{believed}
 use Rattle.watch_laws.specs.Absence.{is_event_taken}
 
 -- a grant of i that counts from that second is at the top: it and the one before count from seconds two apart or more, both are less than the

@@ -2,14 +2,10 @@
 -- a public function without a body.
 -- Source: this project's own.
 use Rattle.std.specs.Prelude.{◌≡◌, ◌≢◌, ◌==◌, ℕ, Bool, true, false, ◌&&◌, if◌then◌else◌, [], ◌∷◌, Option, Some, min}
-use Rattle.watch_machine.specs.declared.event.WatchEvent.{WatchEvent}
+use Rattle.watch_machine.specs.{declared.event.WatchEvent.WatchEvent, declared.track.Try.Try, History.History, History.Turned}
 use Rattle.watch_machine.specs.declared.event.WatchEvent.TheVariants.{Clock, Looked, Renewed, Need, Begin, Known}
-use Rattle.watch_machine.specs.declared.track.Try.{Try}
-use Rattle.watch_machine.specs.History.{History, Turned}
 use Rattle.watch_machine.specs.State.{WatchState, attempt_at, track_at}
-use Rattle.watch_laws.specs.Absence.{is_event_taken}
-use Rattle.watch_laws.specs.Presence.{is_answer_taken}
-use Rattle.watch_laws.specs.Presses.{asked_again_at}
+use Rattle.watch_laws.specs.{Absence.is_event_taken, Presence.is_answer_taken, Presses.asked_again_at}
 
 -- a reply to a request of i is taken
 abbrev pub replies_to : ℕ → WatchEvent → Bool

@@ -4,27 +4,15 @@
 use Rattle.std.specs.Prelude.{◌≡◌, ◌⊎◌, ◌==◌, ℕ, ◌+◌, ◌<◌, ◌≤◌, Bool, true, false, not, ◌&&◌, List, [], ◌∷◌, ◌++◌, Option, Some, None, Result, Ok, Err, filter, is_some, length, min}
 use Rattle.std.specs.List.{list_any}
 use Rattle.plan_forest.specs.declared.forest.TheConstants.{END_MAX}
-use Rattle.watch_machine.specs.declared.clocks.WallOffset.{WallOffset}
-use Rattle.watch_machine.specs.declared.command.WatchOutput.{WatchOutput}
-use Rattle.watch_machine.specs.declared.command.WatchRequest.{WatchRequest}
-use Rattle.watch_machine.specs.declared.event.WatchEvent.{WatchEvent}
+use Rattle.watch_machine.specs.{declared.clocks.WallOffset.WallOffset, declared.command.WatchOutput.WatchOutput, declared.command.WatchRequest.WatchRequest, declared.event.WatchEvent.WatchEvent, declared.event.Operation.TheVariants.Look}
+use Rattle.watch_machine.specs.{declared.event.WatchReply.WatchReply, declared.fault.WatchFault.WatchFault, declared.lanes.Out.Out, declared.notes.BeginReason.BeginReason, declared.notes.BeginReason.TheVariants.Start}
+use Rattle.watch_machine.specs.{declared.reading.TheConstants.READING_MAX, declared.track.Try.Try, Beginning.is_called, Refusal.is_same}
 use Rattle.watch_machine.specs.declared.event.WatchEvent.TheVariants.{Clock, Looked, Renewed, Need, Begin, Known}
-use Rattle.watch_machine.specs.declared.event.Operation.TheVariants.{Look}
-use Rattle.watch_machine.specs.declared.event.WatchReply.{WatchReply}
 use Rattle.watch_machine.specs.declared.event.WatchReply.TheVariants.{Told, Refused, Busy, Lost}
-use Rattle.watch_machine.specs.declared.fault.WatchFault.{WatchFault}
-use Rattle.watch_machine.specs.declared.lanes.Out.{Out}
-use Rattle.watch_machine.specs.declared.notes.BeginReason.{BeginReason}
-use Rattle.watch_machine.specs.declared.notes.BeginReason.TheVariants.{Start}
-use Rattle.watch_machine.specs.declared.reading.TheConstants.{READING_MAX}
-use Rattle.watch_machine.specs.declared.track.Try.{Try}
-use Rattle.watch_machine.specs.Beginning.{is_called}
 use Rattle.watch_machine.specs.History.{AllHappen, Changes, Happening, Hands, History, IsReached, Turned, after_all, state_after_all}
-use Rattle.watch_machine.specs.Refusal.{is_same}
 use Rattle.watch_machine.specs.State.{WatchState, attempt_at, second, track_at}
 use Rattle.watch_machine.specs.Wanted.{is_alive, is_open, is_wanted}
-use Rattle.watch_laws.specs.Load.{requests_at_turn}
-use Rattle.watch_laws.specs.Outage.{is_tried}
+use Rattle.watch_laws.specs.{Load.requests_at_turn, Outage.is_tried}
 
 -- why everything is looked up anew at a turn, None where it is not
 abbrev pub why_begun : Result WatchOutput WatchFault → Option BeginReason

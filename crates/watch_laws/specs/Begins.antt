@@ -1,16 +1,10 @@
 -- Begins: when a clock begins anew, and what is known from then on. The law is the contract of a public function without a body.
 -- Source: this project's own.
 use Rattle.std.specs.Prelude.{◌≡◌, ◌⊎◌, ℕ, ◌+◌, ◌<◌, ◌≤◌, true, false, [], ◌∷◌, Some, None, is_some, length, min}
-use Rattle.watch_machine.specs.declared.event.WatchEvent.TheVariants.{Begin}
-use Rattle.watch_machine.specs.declared.notes.BeginReason.TheVariants.{Day}
-use Rattle.watch_machine.specs.declared.reading.TheConstants.{READING_MAX}
-use Rattle.watch_machine.specs.Beginning.{is_pressed}
+use Rattle.watch_machine.specs.{declared.event.WatchEvent.TheVariants.Begin, declared.notes.BeginReason.TheVariants.Day, declared.reading.TheConstants.READING_MAX, Beginning.is_pressed, Wanted.believed}
 use Rattle.watch_machine.specs.History.{History, IsReached, Turned}
 use Rattle.watch_machine.specs.State.{WatchState, second, track_at}
-use Rattle.watch_machine.specs.Wanted.{believed}
-use Rattle.watch_laws.specs.Absence.{is_event_taken}
-use Rattle.watch_laws.specs.Beginnings.{HasParted, why_begun}
-use Rattle.watch_laws.specs.Clocks.{IsClock}
+use Rattle.watch_laws.specs.{Absence.is_event_taken, Beginnings.HasParted, Beginnings.why_begun, Clocks.IsClock}
 
 -- somebody is pressed whose end is after that second
 abbrev pub SomebodyIsUrgent : WatchState → ℕ → Type 0

@@ -2,35 +2,16 @@
 -- Source: this project's own.
 use Rattle.std.specs.Prelude.{◌≡◌, ◌⊎◌, ℕ, ◌+◌, ◌-◌, ◌<◌, ◌≤◌, true, false, not, ◌&&◌, Bool, List, [], ◌∷◌, Option, Some, None, IfSome, Result, Ok, Err, is_none, length, map}
 use Rattle.std.specs.List.{All, range_with_len}
-use Rattle.plan_forest.specs.declared.entry.Entry.{Entry}
-use Rattle.plan_forest.specs.Forest.{Forest}
-use Rattle.plan_forest.specs.Push.{IsForest}
-use Rattle.plan_forest.specs.Renewal.{renewal}
-use Rattle.plan_rule.specs.declared.wake.Wake.{Wake}
+use Rattle.plan_forest.specs.{declared.entry.Entry.Entry, Forest.Forest, Push.IsForest, Renewal.renewal}
+use Rattle.plan_rule.specs.{declared.wake.Wake.Wake, Ends.ends_after_wake_up, Ends.is_asked, Least.IsLeastAndLatest, Unkeepable.AllKeepable}
 use Rattle.plan_rule.specs.Asks.{asks, first_of, with_asks}
-use Rattle.plan_rule.specs.Ends.{ends_after_wake_up, is_asked}
-use Rattle.plan_rule.specs.Least.{IsLeastAndLatest}
-use Rattle.plan_rule.specs.Unkeepable.{AllKeepable}
-use Rattle.watch_machine.specs.declared.command.WatchOutput.{WatchOutput}
-use Rattle.watch_machine.specs.declared.event.WatchEvent.{WatchEvent}
+use Rattle.watch_machine.specs.{declared.command.WatchOutput.WatchOutput, declared.event.WatchEvent.WatchEvent, declared.event.Operation.TheVariants.Renew, declared.event.WatchReply.TheVariants.Told, declared.fault.WatchFault.WatchFault}
+use Rattle.watch_machine.specs.{declared.lanes.Out.Out, Beginning.is_pressed, Clocks.sec, Margins.is_in_plan, Margins.lead, Outlook.time_of, Refusal.request_out, Settling.timed, Step.readied, Step.why}
 use Rattle.watch_machine.specs.declared.event.WatchEvent.TheVariants.{Clock, Renewed}
-use Rattle.watch_machine.specs.declared.event.Operation.TheVariants.{Renew}
-use Rattle.watch_machine.specs.declared.event.WatchReply.TheVariants.{Told}
-use Rattle.watch_machine.specs.declared.fault.WatchFault.{WatchFault}
-use Rattle.watch_machine.specs.declared.lanes.Out.{Out}
-use Rattle.watch_machine.specs.Beginning.{is_pressed}
-use Rattle.watch_machine.specs.Clocks.{sec}
 use Rattle.watch_machine.specs.History.{AllHappen, Changes, Happening, Hands, History, IsReached, Turned}
-use Rattle.watch_machine.specs.Margins.{is_in_plan, lead}
-use Rattle.watch_machine.specs.Outlook.{time_of}
-use Rattle.watch_machine.specs.Refusal.{request_out}
-use Rattle.watch_machine.specs.Settling.{timed}
 use Rattle.watch_machine.specs.State.{WatchState, attempt_at, entry_of, second, track_at}
-use Rattle.watch_machine.specs.Step.{readied, why}
 use Rattle.watch_machine.specs.Wanted.{believed, cut_need, is_wanted, seen_entry}
-use Rattle.watch_laws.specs.Grants.{time_left}
-use Rattle.watch_laws.specs.Load.{requests_at_turn}
-use Rattle.watch_laws.specs.Time.{round_of}
+use Rattle.watch_laws.specs.{Grants.time_left, Load.requests_at_turn, Time.round_of}
 
 -- the believed ends
 unfoldable pub ends : WatchState → ℕ → ℕ

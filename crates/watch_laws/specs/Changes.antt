@@ -3,27 +3,13 @@
 -- Source: this project's own.
 use Rattle.std.specs.Prelude.{◌≡◌, ◌≢◌, ℕ, ◌<◌, ◌≤◌, true, false, not, ◌&&◌, List, [], ◌∷◌, Option, Some, None, Result, Ok, Err, length, max, min, option_map}
 use Rattle.std.specs.List.{All}
-use Rattle.plan_forest.specs.declared.entry.Entry.{Entry}
-use Rattle.plan_forest.specs.Forest.{Forest, entry_at}
-use Rattle.plan_forest.specs.Push.{IsForest, is_lease}
+use Rattle.plan_forest.specs.{declared.entry.Entry.Entry, Forest.Forest, Forest.entry_at, Push.IsForest, Push.is_lease}
+use Rattle.watch_machine.specs.{declared.command.WatchOutput.WatchOutput, declared.event.Operation.Operation, declared.event.Operation.TheVariants.Look, declared.fault.WatchFault.WatchFault, declared.lanes.Out.Out}
+use Rattle.watch_machine.specs.{declared.notes.Notes.Notes, declared.track.End.TheVariants.Unknown, declared.track.Track.Track, declared.track.Try.Try, Change.place_now, Change.was_at, Refusal.request_out, Step.nothing_noted}
 use Rattle.watch_machine.specs.declared.change.Was.TheVariants.{New, Same, Retold}
-use Rattle.watch_machine.specs.declared.command.WatchOutput.{WatchOutput}
-use Rattle.watch_machine.specs.declared.event.Operation.{Operation}
-use Rattle.watch_machine.specs.declared.event.Operation.TheVariants.{Look}
-use Rattle.watch_machine.specs.declared.fault.WatchFault.{WatchFault}
-use Rattle.watch_machine.specs.declared.lanes.Out.{Out}
-use Rattle.watch_machine.specs.declared.notes.Notes.{Notes}
-use Rattle.watch_machine.specs.declared.track.End.TheVariants.{Unknown}
-use Rattle.watch_machine.specs.declared.track.Track.{Track}
-use Rattle.watch_machine.specs.declared.track.Try.{Try}
-use Rattle.watch_machine.specs.Change.{place_now, was_at}
 use Rattle.watch_machine.specs.History.{Changed, History, IsChanged, IsReached, Turned}
-use Rattle.watch_machine.specs.Refusal.{request_out}
 use Rattle.watch_machine.specs.State.{WatchState, entry_of, track_at}
-use Rattle.watch_machine.specs.Step.{nothing_noted}
-use Rattle.watch_laws.specs.Backs.{is_reply_to}
-use Rattle.watch_laws.specs.Presence.{IsIndexNow}
-use Rattle.watch_laws.specs.Presses.{asked_again_at}
+use Rattle.watch_laws.specs.{Backs.is_reply_to, Presence.IsIndexNow, Presses.asked_again_at}
 
 -- ---- an entry that was watched before
 

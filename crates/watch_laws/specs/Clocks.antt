@@ -4,19 +4,11 @@
 use Rattle.std.specs.Prelude.{◌≡◌, ◌≢◌, ℕ, ◌+◌, ◌<◌, ◌≤◌, Bool, true, false, ◌&&◌, List, [], ◌∷◌, ◌++◌, Option, Some, None, All, is_some, max, min}
 use Rattle.std.specs.List.{list_any}
 use Rattle.base_moment.specs.declared.moment.TheConstants.{LAST}
-use Rattle.watch_machine.specs.declared.clocks.Clocks.{Clocks}
-use Rattle.watch_machine.specs.declared.event.WatchEvent.{WatchEvent}
+use Rattle.watch_machine.specs.{declared.clocks.Clocks.Clocks, declared.event.WatchEvent.WatchEvent, declared.event.WatchReply.WatchReply, declared.lanes.Out.Out, declared.reading.TheConstants.READING_MAX, Clocks.sec, State.WatchState}
 use Rattle.watch_machine.specs.declared.event.WatchEvent.TheVariants.{Clock, Looked, Renewed, Need, Begin, Known}
-use Rattle.watch_machine.specs.declared.event.WatchReply.{WatchReply}
 use Rattle.watch_machine.specs.declared.event.WatchReply.TheVariants.{Told, Refused, Busy, Lost}
-use Rattle.watch_machine.specs.declared.lanes.Out.{Out}
-use Rattle.watch_machine.specs.declared.reading.TheConstants.{READING_MAX}
-use Rattle.watch_machine.specs.Clocks.{sec}
 use Rattle.watch_machine.specs.History.{History, IsReached, Turned}
-use Rattle.watch_machine.specs.State.{WatchState}
-use Rattle.watch_laws.specs.Absence.{is_event_taken}
-use Rattle.watch_laws.specs.Beginnings.{HasParted}
-use Rattle.watch_laws.specs.Presence.{is_asked_at_turn}
+use Rattle.watch_laws.specs.{Absence.is_event_taken, Beginnings.HasParted, Presence.is_asked_at_turn}
 
 -- the date of a reply
 abbrev pub date_told : WatchReply → Option ℕ

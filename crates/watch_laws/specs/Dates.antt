@@ -2,13 +2,9 @@
 -- Source: this project's own; a reply's date is RFC 9110, 5.6.7 and 6.6.1.
 use Rattle.std.specs.Prelude.{◌≡◌, ◌⊎◌, ℕ, ◌+◌, ◌<◌, true, false, [], ◌∷◌, Some, None, is_none, min}
 use Rattle.base_moment.specs.declared.moment.TheConstants.{LAST}
-use Rattle.watch_machine.specs.declared.clocks.BrokerOffset.{BrokerOffset}
-use Rattle.watch_machine.specs.declared.lanes.LaneAnswer.{LaneAnswer}
-use Rattle.watch_machine.specs.Clocks.{sec}
+use Rattle.watch_machine.specs.{declared.clocks.BrokerOffset.BrokerOffset, declared.lanes.LaneAnswer.LaneAnswer, Clocks.sec, State.WatchState, State.second}
 use Rattle.watch_machine.specs.History.{History, IsReached, Turned}
-use Rattle.watch_machine.specs.State.{WatchState, second}
-use Rattle.watch_laws.specs.Beginnings.{why_begun}
-use Rattle.watch_laws.specs.Clocks.{IsClock, date_told}
+use Rattle.watch_laws.specs.{Beginnings.why_begun, Clocks.IsClock, Clocks.date_told}
 
 -- a date is more than two seconds ahead of what the broker's clock, as it was set, shows in a second of this one; or more than three behind what
 -- it showed in that of the request

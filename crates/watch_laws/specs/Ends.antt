@@ -4,17 +4,12 @@
 use Rattle.std.specs.Prelude.{◌≡◌, ◌==◌, ℕ, ◌+◌, ◌≤◌, Bool, false, ◌&&◌, if◌then◌else◌, List, [], ◌∷◌, Option, Some, None, map}
 use Rattle.std.specs.List.{list_any}
 use Rattle.plan_forest.specs.Forest.{Forest}
-use Rattle.watch_machine.specs.declared.event.WatchEvent.{WatchEvent}
+use Rattle.watch_machine.specs.{declared.event.WatchEvent.WatchEvent, declared.event.WatchReply.WatchReply, declared.track.End.TheVariants.At, Clocks.ms}
 use Rattle.watch_machine.specs.declared.event.WatchEvent.TheVariants.{Clock, Looked, Renewed, Need, Begin, Known}
-use Rattle.watch_machine.specs.declared.event.WatchReply.{WatchReply}
 use Rattle.watch_machine.specs.declared.event.WatchReply.TheVariants.{Told, Refused, Busy, Lost}
-use Rattle.watch_machine.specs.declared.track.End.TheVariants.{At}
-use Rattle.watch_machine.specs.Clocks.{ms}
 use Rattle.watch_machine.specs.History.{Changes, Happening, Happens, Hands, Turned, state_after, stood}
 use Rattle.watch_machine.specs.State.{WatchState, opened, track_at}
-use Rattle.watch_laws.specs.Absence.{is_event_taken}
-use Rattle.watch_laws.specs.Load.{requests_at_turn}
-use Rattle.watch_laws.specs.Presence.{is_told}
+use Rattle.watch_laws.specs.{Absence.is_event_taken, Load.requests_at_turn, Presence.is_told}
 
 -- the world beside a watch. Moments of it are milliseconds of real time: what the clock that never steps shows at each, and by
 -- how much it may have fallen behind between two

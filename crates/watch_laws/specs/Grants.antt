@@ -1,17 +1,8 @@
 -- Grants: what is believed of an entry when it is granted. The laws are the contract of public functions without a body.
 -- Source: this project's own, over Vault, "Lease, renew, and revoke".
 use Rattle.std.specs.Prelude.{◌≡◌, ℕ, ◌+◌, ◌-◌, ◌*◌, ◌/◌, ◌<◌, ◌≤◌, Bool, true, [], ◌∷◌, Option, Some, None, IfSome, length, min}
-use Rattle.watch_machine.specs.declared.event.WatchEvent.TheVariants.{Renewed}
-use Rattle.watch_machine.specs.declared.event.Operation.TheVariants.{Renew}
-use Rattle.watch_machine.specs.declared.event.WatchReply.TheVariants.{Told}
-use Rattle.watch_machine.specs.declared.lanes.Out.{Out}
-use Rattle.watch_machine.specs.declared.track.End.TheVariants.{At}
-use Rattle.watch_machine.specs.declared.track.Grant.{Grant}
-use Rattle.watch_machine.specs.declared.track.Track.{Track}
-use Rattle.watch_machine.specs.declared.track.Try.{Try}
-use Rattle.watch_machine.specs.Clocks.{sec}
-use Rattle.watch_machine.specs.History.{History, Turned}
-use Rattle.watch_machine.specs.Refusal.{request_out}
+use Rattle.watch_machine.specs.{declared.event.WatchEvent.TheVariants.Renewed, declared.event.Operation.TheVariants.Renew, declared.event.WatchReply.TheVariants.Told, declared.lanes.Out.Out, declared.track.End.TheVariants.At}
+use Rattle.watch_machine.specs.{declared.track.Grant.Grant, declared.track.Track.Track, declared.track.Try.Try, Clocks.sec, History.History, History.Turned, Refusal.request_out}
 use Rattle.watch_machine.specs.State.{WatchState, attempt_at, entry_of, second, track_at}
 use Rattle.watch_laws.specs.Absence.{is_event_taken}
 

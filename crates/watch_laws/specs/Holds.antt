@@ -2,13 +2,10 @@
 -- Source: this project's own.
 use Rattle.std.specs.Prelude.{◌≡◌, ℕ, ◌+◌, ◌-◌, ◌*◌, ◌^◌, ◌<◌, ◌≤◌, Bool, true, false, ◌&&◌, if◌then◌else◌, [], ◌∷◌, Some, length, min}
 use Rattle.std.specs.List.{list_any}
-use Rattle.watch_machine.specs.declared.track.Try.{Try}
+use Rattle.watch_machine.specs.{declared.track.Try.Try, Pauses.cap, Settling.is_silent}
 use Rattle.watch_machine.specs.History.{History, IsReached, Turned}
-use Rattle.watch_machine.specs.Pauses.{cap}
-use Rattle.watch_machine.specs.Settling.{is_silent}
 use Rattle.watch_machine.specs.State.{WatchState, attempt_at, track_at}
-use Rattle.watch_laws.specs.Absence.{is_clock, is_event_taken}
-use Rattle.watch_laws.specs.Clocks.{IsClock}
+use Rattle.watch_laws.specs.{Absence.is_clock, Absence.is_event_taken, Clocks.IsClock}
 
 -- no entry that is pressed may pause for less than so long at a moment
 abbrev pub NonePausesLess : WatchState → ℕ → ℕ → Type 0

@@ -1,19 +1,10 @@
 -- Line: from when on a try may go out, and who goes out before whom. The laws are the contract of a public function without a body.
 -- Source: this project's own.
 use Rattle.std.specs.Prelude.{◌≡◌, ◌⊎◌, ◌==◌, ℕ, ◌+◌, ◌<◌, Bool, not, ◌&&◌, if◌then◌else◌, [], ◌∷◌, Option, Some, None, All, max, min}
-use Rattle.watch_machine.specs.declared.command.WatchRequest.{WatchRequest}
-use Rattle.watch_machine.specs.declared.event.Operation.TheVariants.{Renew}
-use Rattle.watch_machine.specs.declared.track.End.{End}
-use Rattle.watch_machine.specs.declared.track.Try.{Try}
-use Rattle.watch_machine.specs.History.{History, Turned}
-use Rattle.watch_machine.specs.Lines.{ready}
-use Rattle.watch_machine.specs.Refusal.{is_same}
+use Rattle.watch_machine.specs.{declared.command.WatchRequest.WatchRequest, declared.event.Operation.TheVariants.Renew, declared.track.End.End, declared.track.Try.Try, History.History, History.Turned, Lines.ready, Refusal.is_same}
+use Rattle.watch_machine.specs.{Wanted.believed, Wanted.is_alive}
 use Rattle.watch_machine.specs.State.{WatchState, attempt_at, second, track_at}
-use Rattle.watch_machine.specs.Wanted.{believed, is_alive}
-use Rattle.watch_laws.specs.Load.{requests_at_turn}
-use Rattle.watch_laws.specs.Presses.{asked_again_at}
-use Rattle.watch_laws.specs.Recovery.{MayGo}
-use Rattle.watch_laws.specs.Time.{is_come}
+use Rattle.watch_laws.specs.{Load.requests_at_turn, Presses.asked_again_at, Recovery.MayGo, Time.is_come}
 
 -- the moment from which on a try may go out. A first try goes out from its own moment on, whatever the broker answered to others. Any other
 -- waits until the hold is over, and for its own moment; or, if it was lost and the broker is away, until a second after its entry was last asked,

@@ -3,11 +3,9 @@
 -- Source: this project's own.
 use Rattle.std.specs.Prelude.{◌≡◌, ◌↔◌, ℕ, ◌-◌, ◌*◌, ◌/◌, ◌<◌, ◌≤◌, true, if◌then◌else◌, Option, Some, None, IfSome, min}
 use Rattle.base_moment.specs.declared.moment.TheConstants.{LAST}
-use Rattle.watch_machine.specs.declared.track.End.{End}
+use Rattle.watch_machine.specs.{declared.track.End.End, declared.track.Grant.Grant, Outlook.time_of}
 use Rattle.watch_machine.specs.declared.track.End.TheVariants.{Unknown, At, Never}
-use Rattle.watch_machine.specs.declared.track.Grant.{Grant}
 use Rattle.watch_machine.specs.Margins.{has_come, is_in_plan, own_margin}
-use Rattle.watch_machine.specs.Outlook.{time_of}
 use Rattle.watch_machine.specs.State.{WatchState, entry_of, has_last_try, second, track_at}
 
 -- the least that an entry is granted, as far as is known: its step, or its last grant where that is less

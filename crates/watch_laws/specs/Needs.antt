@@ -3,14 +3,9 @@
 use Rattle.std.specs.Prelude.{◌≡◌, ◌⊎◌, ◌↔◌, ℕ, ◌+◌, ◌<◌, ◌≤◌, Bool, true, false, if◌then◌else◌, map, min, length}
 use Rattle.std.specs.List.{range_with_len}
 use Rattle.base_moment.specs.declared.moment.TheConstants.{LAST}
-use Rattle.plan_forest.specs.declared.entry.Entry.{Entry}
-use Rattle.plan_forest.specs.Carried.{carried}
-use Rattle.plan_forest.specs.Over.{Over}
-use Rattle.watch_machine.specs.declared.clocks.Clocks.{Clocks}
-use Rattle.watch_machine.specs.declared.track.End.{End}
+use Rattle.plan_forest.specs.{declared.entry.Entry.Entry, Carried.carried, Over.Over}
+use Rattle.watch_machine.specs.{declared.clocks.Clocks.Clocks, declared.track.End.End, Beginning.is_called, Clocks.sec}
 use Rattle.watch_machine.specs.declared.track.End.TheVariants.{Unknown, At, Never}
-use Rattle.watch_machine.specs.Beginning.{is_called}
-use Rattle.watch_machine.specs.Clocks.{sec}
 use Rattle.watch_machine.specs.State.{WatchState, entry_of, has_last_try, second, track_at}
 use Rattle.watch_machine.specs.Wanted.{is_wanted, limit, need_here, seen_entry, wants}
 

@@ -3,30 +3,16 @@
 use Rattle.std.specs.Prelude.{◌≡◌, ◌≢◌, ◌⊎◌, ◌==◌, ℕ, zero, suc, ◌+◌, ◌-◌, ◌*◌, ◌/◌, ◌<◌, ◌≤◌, Bool, true, false, not, ◌&&◌, ◌||◌, if◌then◌else◌, List, [], ◌∷◌, ◌++◌, Option, Some, None, Result, Ok, Err, IfSome, is_some, length, map, max, nat_le}
 use Rattle.std.specs.List.{All, list_any}
 use Rattle.plan_forest.specs.Forest.{Forest}
-use Rattle.watch_machine.specs.declared.command.WatchCommand.{WatchCommand}
+use Rattle.watch_machine.specs.{declared.command.WatchCommand.WatchCommand, declared.command.WatchOutput.WatchOutput, declared.event.WatchEvent.WatchEvent, declared.event.WatchReply.WatchReply, declared.fault.WatchFault.WatchFault}
+use Rattle.watch_machine.specs.{declared.lanes.Out.Out, declared.track.Try.Try, Beginning.is_pressed, Change.former_at, Clocks.ms, Lines.is_first, Lines.rested, Margins.is_in_plan, Outlook.time_of, Refusal.request_out, Settling.timed}
 use Rattle.watch_machine.specs.declared.command.WatchCommand.TheVariants.{Go, Taken}
-use Rattle.watch_machine.specs.declared.command.WatchOutput.{WatchOutput}
-use Rattle.watch_machine.specs.declared.event.WatchEvent.{WatchEvent}
 use Rattle.watch_machine.specs.declared.event.WatchEvent.TheVariants.{Clock, Looked, Renewed, Need, Begin, Known}
 use Rattle.watch_machine.specs.declared.event.Operation.TheVariants.{Look, Renew}
-use Rattle.watch_machine.specs.declared.event.WatchReply.{WatchReply}
 use Rattle.watch_machine.specs.declared.event.WatchReply.TheVariants.{Told, Refused, Busy, Lost}
-use Rattle.watch_machine.specs.declared.fault.WatchFault.{WatchFault}
-use Rattle.watch_machine.specs.declared.lanes.Out.{Out}
-use Rattle.watch_machine.specs.declared.track.Try.{Try}
-use Rattle.watch_machine.specs.Beginning.{is_pressed}
-use Rattle.watch_machine.specs.Change.{former_at}
-use Rattle.watch_machine.specs.Clocks.{ms}
 use Rattle.watch_machine.specs.History.{AllHappen, Changed, Changes, Happening, Hands, History, IsReached, Turned}
-use Rattle.watch_machine.specs.Lines.{is_first, rested}
-use Rattle.watch_machine.specs.Margins.{is_in_plan}
-use Rattle.watch_machine.specs.Outlook.{time_of}
-use Rattle.watch_machine.specs.Refusal.{request_out}
-use Rattle.watch_machine.specs.Settling.{timed}
 use Rattle.watch_machine.specs.State.{WatchState, attempt_at, entry_of, opened, second, track_at}
 use Rattle.watch_machine.specs.Wanted.{believed, is_known, is_wanted, least}
-use Rattle.watch_laws.specs.Absence.{is_clock, is_event_taken}
-use Rattle.watch_laws.specs.Presence.{is_told}
+use Rattle.watch_laws.specs.{Absence.is_clock, Absence.is_event_taken, Presence.is_told}
 
 -- an outage, in milliseconds of the watch's clock: when it begins and ends; by when a request is settled while the broker is there,
 -- and by when at all; how late a clock is handed in at most; and how many rounds of all lanes hold those that wait and come to wait

@@ -2,16 +2,10 @@
 -- Source: this project's own.
 use Rattle.std.specs.Prelude.{◌≡◌, ◌≢◌, ℕ, ◌-◌, ◌/◌, Bool, true, false, ◌&&◌, if◌then◌else◌, List, [], ◌∷◌, ◌++◌, All, max, min}
 use Rattle.std.specs.List.{list_any}
-use Rattle.watch_machine.specs.declared.event.WatchEvent.{WatchEvent}
+use Rattle.watch_machine.specs.{declared.event.WatchEvent.WatchEvent, declared.event.WatchReply.WatchReply, declared.lanes.LaneAnswer.LaneAnswer, declared.lanes.Out.Out, State.WatchState}
 use Rattle.watch_machine.specs.declared.event.WatchEvent.TheVariants.{Clock, Looked, Renewed, Need, Begin, Known}
-use Rattle.watch_machine.specs.declared.event.WatchReply.{WatchReply}
-use Rattle.watch_machine.specs.declared.lanes.LaneAnswer.{LaneAnswer}
-use Rattle.watch_machine.specs.declared.lanes.Out.{Out}
 use Rattle.watch_machine.specs.History.{History, Turned, after_all}
-use Rattle.watch_machine.specs.State.{WatchState}
-use Rattle.watch_laws.specs.Absence.{is_clock, is_event_taken}
-use Rattle.watch_laws.specs.Clocks.{IsClock}
-use Rattle.watch_laws.specs.Presence.{is_answered, is_asked_at_turn}
+use Rattle.watch_laws.specs.{Absence.is_clock, Absence.is_event_taken, Clocks.IsClock, Presence.is_answered, Presence.is_asked_at_turn}
 
 -- how long an answer took: from the clock at which its request went out to the one after it, a day at most
 abbrev pub time_taken : ℕ → LaneAnswer → ℕ

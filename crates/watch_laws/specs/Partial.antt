@@ -2,32 +2,17 @@
 -- Source: this project's own.
 use Rattle.std.specs.Prelude.{◌≡◌, ◌≢◌, ◌==◌, ℕ, zero, suc, ◌+◌, ◌*◌, ◌≤◌, ◌<◌, Bool, true, false, not, ◌&&◌, ◌||◌, if◌then◌else◌, List, [], ◌∷◌, ◌++◌, Option, Some, None, Result, Ok, Err, length, map, max, min, nat_lt}
 use Rattle.std.specs.List.{All}
-use Rattle.watch_machine.specs.declared.command.WatchCommand.{WatchCommand}
+use Rattle.watch_machine.specs.{declared.command.WatchCommand.WatchCommand, declared.command.WatchOutput.WatchOutput, declared.command.Patience.Patience, declared.command.WatchRequest.WatchRequest, declared.event.WatchEvent.WatchEvent}
+use Rattle.watch_machine.specs.{declared.event.Operation.TheVariants.Renew, declared.fault.WatchFault.WatchFault, declared.lanes.Out.Out, declared.track.Try.Try, Beginning.is_pressed, Lines.is_first, Refusal.is_same, Sending.is_partial}
+use Rattle.watch_machine.specs.{Settling.timed}
 use Rattle.watch_machine.specs.declared.command.WatchCommand.TheVariants.{Go, Taken}
-use Rattle.watch_machine.specs.declared.command.WatchOutput.{WatchOutput}
-use Rattle.watch_machine.specs.declared.command.Patience.{Patience}
 use Rattle.watch_machine.specs.declared.command.Patience.TheVariants.{Full, AtMost}
-use Rattle.watch_machine.specs.declared.command.WatchRequest.{WatchRequest}
-use Rattle.watch_machine.specs.declared.event.WatchEvent.{WatchEvent}
 use Rattle.watch_machine.specs.declared.event.WatchEvent.TheVariants.{Clock, Looked, Renewed, Need, Begin, Known}
-use Rattle.watch_machine.specs.declared.event.Operation.TheVariants.{Renew}
-use Rattle.watch_machine.specs.declared.fault.WatchFault.{WatchFault}
-use Rattle.watch_machine.specs.declared.lanes.Out.{Out}
-use Rattle.watch_machine.specs.declared.track.Try.{Try}
-use Rattle.watch_machine.specs.Beginning.{is_pressed}
 use Rattle.watch_machine.specs.Change.{former_at, index_or, place_now}
 use Rattle.watch_machine.specs.History.{AllHappen, Changed, Changes, Happening, Hands, IsReached, Turned, state_after_all}
-use Rattle.watch_machine.specs.Lines.{is_first}
-use Rattle.watch_machine.specs.Refusal.{is_same}
-use Rattle.watch_machine.specs.Sending.{is_partial}
-use Rattle.watch_machine.specs.Settling.{timed}
 use Rattle.watch_machine.specs.State.{WatchState, attempt_at, second, track_at}
 use Rattle.watch_machine.specs.Wanted.{believed, is_alive, is_wanted, least}
-use Rattle.watch_laws.specs.Absence.{is_clock, is_event_taken}
-use Rattle.watch_laws.specs.Outage.{how_many, one_where}
-use Rattle.watch_laws.specs.Presence.{is_told}
-use Rattle.watch_laws.specs.Recovery.{MayGo}
-use Rattle.watch_laws.specs.Time.{is_come}
+use Rattle.watch_laws.specs.{Absence.is_clock, Absence.is_event_taken, Outage.how_many, Outage.one_where, Presence.is_told, Recovery.MayGo, Time.is_come}
 
 -- a partial outage, in milliseconds of the watch's clock: which entries are hung, so that each of their requests may be silent until
 -- its patience is over; how long the request of an entry takes that goes out at a moment; within what those of the others are answered; the

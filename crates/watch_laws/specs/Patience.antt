@@ -2,15 +2,10 @@
 -- a body.
 -- Source: this project's own.
 use Rattle.std.specs.Prelude.{◌≡◌, ◌⊎◌, ◌↔◌, ℕ, ◌-◌, ◌*◌, ◌^◌, ◌<◌, true, false, [], ◌∷◌, Some, All, max, min}
-use Rattle.watch_machine.specs.declared.command.Patience.{Patience}
+use Rattle.watch_machine.specs.{declared.command.Patience.Patience, declared.command.WatchRequest.WatchRequest, declared.track.End.TheVariants.Unknown, declared.track.Try.Try, History.History, History.Turned, Sending.is_partial}
+use Rattle.watch_machine.specs.{Wanted.believed}
 use Rattle.watch_machine.specs.declared.command.Patience.TheVariants.{Full, AtMost}
-use Rattle.watch_machine.specs.declared.command.WatchRequest.{WatchRequest}
-use Rattle.watch_machine.specs.declared.track.End.TheVariants.{Unknown}
-use Rattle.watch_machine.specs.declared.track.Try.{Try}
-use Rattle.watch_machine.specs.History.{History, Turned}
-use Rattle.watch_machine.specs.Sending.{is_partial}
 use Rattle.watch_machine.specs.State.{WatchState, attempt_at, second, track_at}
-use Rattle.watch_machine.specs.Wanted.{believed}
 use Rattle.watch_laws.specs.Load.{requests_at_turn}
 
 -- an entry is alone: its try was lost though others were answered, and its end is ahead or unknown

@@ -1,15 +1,10 @@
 -- Pauses: how long an entry that failed waits. The laws are the contract of public functions without a body.
 -- Source: this project's own.
 use Rattle.std.specs.Prelude.{◌≡◌, ℕ, ◌+◌, ◌-◌, ◌*◌, ◌/◌, ◌^◌, ◌<◌, ◌≤◌, Bool, true, false, ◌&&◌, if◌then◌else◌, [], ◌∷◌, Option, Some, None, max, min, nat_le}
+use Rattle.watch_machine.specs.{declared.track.Track.Track, declared.track.Try.Try, History.History, History.Turned, Pauses.cap}
 use Rattle.watch_machine.specs.declared.track.End.TheVariants.{Unknown, At, Never}
-use Rattle.watch_machine.specs.declared.track.Track.{Track}
-use Rattle.watch_machine.specs.declared.track.Try.{Try}
-use Rattle.watch_machine.specs.History.{History, Turned}
-use Rattle.watch_machine.specs.Pauses.{cap}
 use Rattle.watch_machine.specs.State.{WatchState, attempt_at, track_at}
-use Rattle.watch_laws.specs.Absence.{is_clock, is_event_taken}
-use Rattle.watch_laws.specs.Beginnings.{why_begun}
-use Rattle.watch_laws.specs.Waiting.{TryFails}
+use Rattle.watch_laws.specs.{Absence.is_clock, Absence.is_event_taken, Beginnings.why_begun, Waiting.TryFails}
 
 -- so many milliseconds are left at a moment to the end of an entry, which is ahead
 pub record IsLeft (at : ℕ) (x : Track) (left : ℕ) : Type 0 where

@@ -2,17 +2,11 @@
 -- Source: this project's own.
 use Rattle.std.specs.Prelude.{◌≡◌, ◌≢◌, ◌==◌, ℕ, ◌≤◌, Bool, true, false, not, ◌&&◌, List, [], ◌∷◌, ◌++◌, Option, Some, None, All, length}
 use Rattle.std.specs.List.{list_any}
-use Rattle.watch_machine.specs.declared.command.WatchRequest.{WatchRequest}
-use Rattle.watch_machine.specs.declared.event.WatchEvent.{WatchEvent}
+use Rattle.watch_machine.specs.{declared.command.WatchRequest.WatchRequest, declared.event.WatchEvent.WatchEvent, declared.event.WatchReply.WatchReply, declared.lanes.Out.Out, Change.place_now, State.WatchState}
 use Rattle.watch_machine.specs.declared.event.WatchEvent.TheVariants.{Clock, Looked, Renewed, Need, Begin, Known}
-use Rattle.watch_machine.specs.declared.event.WatchReply.{WatchReply}
 use Rattle.watch_machine.specs.declared.event.WatchReply.TheVariants.{Told, Refused, Busy, Lost}
-use Rattle.watch_machine.specs.declared.lanes.Out.{Out}
-use Rattle.watch_machine.specs.Change.{place_now}
 use Rattle.watch_machine.specs.History.{AllHappen, Changes, Happening, Happens, Hands, History, Turned, state_after, state_after_all}
-use Rattle.watch_machine.specs.State.{WatchState}
-use Rattle.watch_laws.specs.Absence.{is_event_taken}
-use Rattle.watch_laws.specs.Load.{requests_at_turn}
+use Rattle.watch_laws.specs.{Absence.is_event_taken, Load.requests_at_turn}
 
 -- the broker answered, whatever it said
 abbrev pub is_answered : WatchReply → Bool

@@ -2,12 +2,9 @@
 -- contract of a public function without a body.
 -- Source: this project's own.
 use Rattle.std.specs.Prelude.{◌≡◌, ◌⊎◌, ℕ, ◌+◌, ◌<◌, true, false, if◌then◌else◌, List, [], ◌∷◌, Option, Some, None, length, max}
+use Rattle.watch_machine.specs.{declared.track.Try.Try, Beginning.is_pressed, History.History, History.Turned, Wanted.is_alive, Wanted.is_wanted}
 use Rattle.watch_machine.specs.declared.event.Operation.TheVariants.{Look, Renew}
-use Rattle.watch_machine.specs.declared.track.Try.{Try}
-use Rattle.watch_machine.specs.Beginning.{is_pressed}
-use Rattle.watch_machine.specs.History.{History, Turned}
 use Rattle.watch_machine.specs.State.{WatchState, attempt_at, second, track_at}
-use Rattle.watch_machine.specs.Wanted.{is_alive, is_wanted}
 use Rattle.watch_laws.specs.Clocks.{IsClock}
 use Rattle.watch_laws.specs.Time.{is_come, is_named_in_round, round_of}
 

@@ -2,21 +2,13 @@
 -- Source: this project's own, over Vault, "Lease, renew, and revoke".
 use Rattle.std.specs.Prelude.{◌≡◌, ℕ, ◌<◌, ◌≤◌, Bool, true, false, not, ◌&&◌, ◌||◌, if◌then◌else◌, List, [], ◌∷◌, Option, Some, None, is_some, length, map}
 use Rattle.std.specs.List.{range_with_len}
-use Rattle.plan_forest.specs.declared.entry.Entry.{Entry}
-use Rattle.plan_forest.specs.Carried.{carried}
-use Rattle.plan_forest.specs.Forest.{Forest}
-use Rattle.plan_forest.specs.Push.{IsForest}
-use Rattle.plan_forest.specs.Renewal.{renewal}
-use Rattle.plan_rule.specs.Asks.{asks}
-use Rattle.plan_rule.specs.Forced.{bound}
-use Rattle.plan_rule.specs.Schedule.{IsNextMoment}
-use Rattle.watch_machine.specs.Beginning.{is_pressed}
-use Rattle.watch_machine.specs.History.{History, Turned}
+use Rattle.plan_forest.specs.{declared.entry.Entry.Entry, Carried.carried, Forest.Forest, Push.IsForest, Renewal.renewal}
+use Rattle.plan_rule.specs.{Asks.asks, Forced.bound, Schedule.IsNextMoment}
+use Rattle.watch_machine.specs.{Beginning.is_pressed, History.History, History.Turned}
 use Rattle.watch_machine.specs.State.{WatchState, second, track_at}
 use Rattle.watch_machine.specs.Wanted.{is_alive, is_unknown, is_wanted}
+use Rattle.watch_laws.specs.{Clocks.IsClock, Time.is_come, Time.round_of}
 use Rattle.watch_laws.specs.Calm.{ends, in_plan_at, lead_at, terms}
-use Rattle.watch_laws.specs.Clocks.{IsClock}
-use Rattle.watch_laws.specs.Time.{is_come, round_of}
 
 -- an entry opens a round at a clock that finds one state and leaves another: it is wanted, in the plan, its time has come, its end is ahead,
 -- and it was neither pressed nor out before

@@ -4,26 +4,14 @@
 use Rattle.std.specs.Prelude.{◌≡◌, ◌⊎◌, ◌==◌, ℕ, ◌+◌, ◌*◌, ◌<◌, ◌≤◌, Bool, true, false, ◌&&◌, if◌then◌else◌, List, [], ◌∷◌, Option, Some, None, Result, Ok, Err, IfSome, filter, length, nat_le}
 use Rattle.std.specs.List.{All}
 use Rattle.plan_forest.specs.Forest.{Forest}
-use Rattle.watch_machine.specs.declared.command.WatchOutput.{WatchOutput}
-use Rattle.watch_machine.specs.declared.event.WatchEvent.{WatchEvent}
+use Rattle.watch_machine.specs.{declared.command.WatchOutput.WatchOutput, declared.event.WatchEvent.WatchEvent, declared.fault.WatchFault.WatchFault, declared.lanes.Out.Out, declared.track.Try.Try, Change.former_at, Lines.is_first}
+use Rattle.watch_machine.specs.{Refusal.request_out, Settling.timed, Wanted.is_alive, Wanted.is_wanted}
 use Rattle.watch_machine.specs.declared.event.WatchEvent.TheVariants.{Clock, Looked, Renewed, Need, Begin, Known}
 use Rattle.watch_machine.specs.declared.event.Operation.TheVariants.{Look, Renew}
-use Rattle.watch_machine.specs.declared.fault.WatchFault.{WatchFault}
-use Rattle.watch_machine.specs.declared.lanes.Out.{Out}
-use Rattle.watch_machine.specs.declared.track.Try.{Try}
-use Rattle.watch_machine.specs.Change.{former_at}
 use Rattle.watch_machine.specs.History.{AllHappen, Changes, Happening, Hands, History, IsReached, IsWatchRun, Turned, after_all}
-use Rattle.watch_machine.specs.Lines.{is_first}
-use Rattle.watch_machine.specs.Refusal.{request_out}
-use Rattle.watch_machine.specs.Settling.{timed}
 use Rattle.watch_machine.specs.State.{WatchState, attempt_at, opened, second, track_at}
-use Rattle.watch_machine.specs.Wanted.{is_alive, is_wanted}
-use Rattle.watch_laws.specs.Absence.{is_clock, is_event_taken}
-use Rattle.watch_laws.specs.Load.{requests_at_turn}
+use Rattle.watch_laws.specs.{Absence.is_clock, Absence.is_event_taken, Load.requests_at_turn, Partial.stands_before, Recovery.MayGo, Recovery.without_outage, Time.is_come}
 use Rattle.watch_laws.specs.Outage.{IsReplyInOutage, Outage, coming_through, how_many, is_request_served, is_tried, outage_next_after}
-use Rattle.watch_laws.specs.Partial.{stands_before}
-use Rattle.watch_laws.specs.Recovery.{MayGo, without_outage}
-use Rattle.watch_laws.specs.Time.{is_come}
 
 -- i is being asked, or may go out by now
 abbrev pub IsAtWork : Outage → WatchState → ℕ → Type 0

@@ -3,25 +3,15 @@
 -- Source: this project's own, over Vault, HTTP API: `auth/token`, "Lookup a token (self)"; `sys/leases`, "Read lease".
 use Rattle.std.specs.Prelude.{◌≡◌, ◌≢◌, ℕ, ◌+◌, ◌<◌, ◌≤◌, Bool, true, false, not, ◌&&◌, if◌then◌else◌, [], ◌∷◌, Option, Some, None, is_some, length, max, min, nat_lt}
 use Rattle.base_moment.specs.declared.moment.TheConstants.{LAST}
-use Rattle.plan_forest.specs.declared.entry.Entry.{Entry}
-use Rattle.plan_forest.specs.declared.forest.TheConstants.{END_MAX}
-use Rattle.plan_forest.specs.Push.{is_lease}
-use Rattle.watch_machine.specs.declared.event.WatchEvent.{WatchEvent}
+use Rattle.plan_forest.specs.{declared.entry.Entry.Entry, declared.forest.TheConstants.END_MAX, Push.is_lease}
+use Rattle.watch_machine.specs.{declared.event.WatchEvent.WatchEvent, declared.event.WatchReply.TheVariants.Told, declared.event.WatchTerms.WatchTerms, declared.lanes.Out.Out, declared.track.Try.Try, Clocks.sec}
+use Rattle.watch_machine.specs.{History.History, History.Turned, Refusal.request_out}
 use Rattle.watch_machine.specs.declared.event.WatchEvent.TheVariants.{Clock, Looked, Renewed, Need, Begin, Known}
 use Rattle.watch_machine.specs.declared.event.Operation.TheVariants.{Look, Renew}
-use Rattle.watch_machine.specs.declared.event.WatchReply.TheVariants.{Told}
-use Rattle.watch_machine.specs.declared.event.WatchTerms.{WatchTerms}
-use Rattle.watch_machine.specs.declared.lanes.Out.{Out}
 use Rattle.watch_machine.specs.declared.track.End.TheVariants.{At, Never}
-use Rattle.watch_machine.specs.declared.track.Try.{Try}
-use Rattle.watch_machine.specs.Clocks.{sec}
-use Rattle.watch_machine.specs.History.{History, Turned}
-use Rattle.watch_machine.specs.Refusal.{request_out}
 use Rattle.watch_machine.specs.State.{WatchState, attempt_at, entry_of, second, track_at}
 use Rattle.watch_machine.specs.Wanted.{believed, is_alive, is_wanted}
-use Rattle.watch_laws.specs.Absence.{is_event_taken}
-use Rattle.watch_laws.specs.Presses.{asked_again_at}
-use Rattle.watch_laws.specs.Time.{is_come}
+use Rattle.watch_laws.specs.{Absence.is_event_taken, Presses.asked_again_at, Time.is_come}
 
 -- the try u that goes on as a renewal from the lookup of the try t: at once, as one that has not failed. It is the same try where that was
 -- pressed; else it begins now

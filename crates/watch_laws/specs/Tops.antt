@@ -2,24 +2,13 @@
 -- Source: this project's own, over Vault, "Lease, renew, and revoke" (a renewal counts from its own moment; maximum TTL).
 use Rattle.std.specs.Prelude.{◌≡◌, ℕ, ◌+◌, ◌-◌, ◌/◌, ◌<◌, ◌≤◌, Bool, true, false, not, ◌&&◌, ◌==◌, if◌then◌else◌, List, [], ◌∷◌, ◌++◌, Result, Ok, Err, All, length, min, Option, Some, None}
 use Rattle.plan_forest.specs.Over.{Over}
-use Rattle.watch_machine.specs.declared.command.WatchOutput.{WatchOutput}
-use Rattle.watch_machine.specs.declared.event.WatchEvent.{WatchEvent}
+use Rattle.watch_machine.specs.{declared.command.WatchOutput.WatchOutput, declared.event.WatchEvent.WatchEvent, declared.event.WatchReply.WatchReply, declared.fault.WatchFault.WatchFault, declared.track.End.TheVariants.At}
+use Rattle.watch_machine.specs.{Beginning.is_pressed, Wanted.believed, Wanted.is_wanted}
 use Rattle.watch_machine.specs.declared.event.WatchEvent.TheVariants.{Clock, Looked, Renewed, Need, Begin, Known}
-use Rattle.watch_machine.specs.declared.event.WatchReply.{WatchReply}
 use Rattle.watch_machine.specs.declared.event.WatchReply.TheVariants.{Told, Refused, Busy, Lost}
-use Rattle.watch_machine.specs.declared.fault.WatchFault.{WatchFault}
-use Rattle.watch_machine.specs.declared.track.End.TheVariants.{At}
-use Rattle.watch_machine.specs.Beginning.{is_pressed}
 use Rattle.watch_machine.specs.History.{Changes, Happening, Hands, History, IsReached, Turned, stood}
 use Rattle.watch_machine.specs.State.{WatchState, entry_of, second, track_at}
-use Rattle.watch_machine.specs.Wanted.{believed, is_wanted}
-use Rattle.watch_laws.specs.Absence.{is_event_taken}
-use Rattle.watch_laws.specs.Clocks.{IsClock}
-use Rattle.watch_laws.specs.Margins.{own_before}
-use Rattle.watch_laws.specs.Needs.{IsNeedUntil}
-use Rattle.watch_laws.specs.Presence.{is_told}
-use Rattle.watch_laws.specs.Presses.{HasPressed}
-use Rattle.watch_laws.specs.Time.{is_come}
+use Rattle.watch_laws.specs.{Absence.is_event_taken, Clocks.IsClock, Margins.own_before, Needs.IsNeedUntil, Presence.is_told, Presses.HasPressed, Time.is_come}
 
 -- a grant: the seconds that the broker told, and the second from which they count
 pub record Granted : Type 0 where

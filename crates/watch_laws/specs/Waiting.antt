@@ -2,19 +2,11 @@
 -- Source: this project's own.
 use Rattle.std.specs.Prelude.{◌≡◌, ◌⊎◌, ℕ, ◌+◌, ◌<◌, ◌≤◌, true, false, List, [], ◌∷◌, Some, Result, Ok, Err, length}
 use Rattle.std.specs.List.{list_any}
-use Rattle.watch_machine.specs.declared.command.WatchCommand.{WatchCommand}
+use Rattle.watch_machine.specs.{declared.command.WatchCommand.WatchCommand, declared.command.WatchOutput.WatchOutput, declared.fault.WatchFault.WatchFault, declared.track.Try.Try, Clocks.ms, Lines.ready, Pauses.cap, Outlook.time_of}
+use Rattle.watch_machine.specs.{Settling.is_silent, Wanted.is_wanted}
 use Rattle.watch_machine.specs.declared.command.WatchCommand.TheVariants.{Go, Taken}
-use Rattle.watch_machine.specs.declared.command.WatchOutput.{WatchOutput}
-use Rattle.watch_machine.specs.declared.fault.WatchFault.{WatchFault}
-use Rattle.watch_machine.specs.declared.track.Try.{Try}
-use Rattle.watch_machine.specs.Clocks.{ms}
 use Rattle.watch_machine.specs.History.{History, IsReached, Turned}
-use Rattle.watch_machine.specs.Lines.{ready}
-use Rattle.watch_machine.specs.Pauses.{cap}
-use Rattle.watch_machine.specs.Outlook.{time_of}
-use Rattle.watch_machine.specs.Settling.{is_silent}
 use Rattle.watch_machine.specs.State.{WatchState, attempt_at, second, track_at}
-use Rattle.watch_machine.specs.Wanted.{is_wanted}
 use Rattle.watch_laws.specs.Absence.{is_clock, is_event_taken}
 
 -- a request of i is out

@@ -1,17 +1,10 @@
 -- Waits: until when a clock waits, exactly. The law is the contract of a public function without a body.
 -- Source: this project's own.
 use Rattle.std.specs.Prelude.{◌≡◌, ◌⊎◌, ℕ, ◌+◌, ◌*◌, ◌<◌, ◌≤◌, true, false, [], ◌∷◌, Some, Result, Ok, Err, length, max, min}
-use Rattle.watch_machine.specs.declared.command.WatchCommand.{WatchCommand}
+use Rattle.watch_machine.specs.{declared.command.WatchCommand.WatchCommand, declared.command.WatchOutput.WatchOutput, declared.fault.WatchFault.WatchFault, declared.track.Try.Try, Beginning.is_pressed, Lines.ready}
+use Rattle.watch_machine.specs.{History.History, History.Turned, Outlook.time_of, Wanted.is_wanted}
 use Rattle.watch_machine.specs.declared.command.WatchCommand.TheVariants.{Go, Taken}
-use Rattle.watch_machine.specs.declared.command.WatchOutput.{WatchOutput}
-use Rattle.watch_machine.specs.declared.fault.WatchFault.{WatchFault}
-use Rattle.watch_machine.specs.declared.track.Try.{Try}
-use Rattle.watch_machine.specs.Beginning.{is_pressed}
-use Rattle.watch_machine.specs.Lines.{ready}
-use Rattle.watch_machine.specs.History.{History, Turned}
-use Rattle.watch_machine.specs.Outlook.{time_of}
 use Rattle.watch_machine.specs.State.{WatchState, attempt_at, track_at}
-use Rattle.watch_machine.specs.Wanted.{is_wanted}
 
 -- the latest moment: half a minute from now, or a quarter of the margin if that is less, but a second at least
 abbrev pub latest_wait : WatchState → ℕ

@@ -5,20 +5,12 @@ use Rattle.std.proofs.Math.Path.{fun_ext}
 use Rattle.std.proofs.lemmas.Bool.{cases_lt}
 use Rattle.std.specs.List.{list_any, range_with_len}
 use Rattle.base_moment.specs.declared.moment.TheConstants.{LAST}
-use Rattle.plan_forest.specs.declared.entry.Entry.{Entry}
-use Rattle.plan_forest.specs.declared.forest.TheConstants.{END_MAX}
-use Rattle.plan_forest.specs.Carried.{carried, carried_of}
-use Rattle.plan_forest.specs.Forest.{entry_at}
+use Rattle.plan_forest.specs.{declared.entry.Entry.Entry, declared.forest.TheConstants.END_MAX, Carried.carried, Carried.carried_of, Forest.entry_at}
 use Rattle.plan_forest.specs.Over.{chain, chain_of, is_over}
 use Rattle.plan_forest.proofs.Carrying.{carried_at_least, carried_is_of}
-use Rattle.watch_machine.specs.declared.clocks.BrokerOffset.{BrokerOffset}
-use Rattle.watch_machine.specs.declared.clocks.Clocks.{Clocks}
-use Rattle.watch_machine.specs.declared.clocks.WallOffset.{WallOffset}
-use Rattle.watch_machine.specs.declared.track.Track.{Track}
+use Rattle.watch_machine.specs.{declared.clocks.BrokerOffset.BrokerOffset, declared.clocks.Clocks.Clocks, declared.clocks.WallOffset.WallOffset, declared.track.Track.Track, State.has_last_try, State.track_in, code.Lull.GoesOn}
 use Rattle.watch_machine.specs.Clocks.{of_wall, sec, to_here}
-use Rattle.watch_machine.specs.State.{has_last_try, track_in}
 use Rattle.watch_machine.specs.Wanted.{believed, cut_need, free_entry, free_need, limit, need_here, need_of, seen_entry}
-use Rattle.watch_machine.specs.code.Lull.{GoesOn}
 
 -- while time passes, no more is carried
 pub carried_less : (es : List Entry) (s t i : ℕ) → s ≤ t → carried es t i ≤ carried es s i

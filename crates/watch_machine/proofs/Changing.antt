@@ -1,16 +1,13 @@
 -- Changing: where entries are after a change, what is written of them, and the requests that are out. For `change`.
 use Rattle.std.proofs.Common.{◌≡◌, ◌∙◌, ℕ, suc, ◌+◌, ◌<◌, ◌++◌, true, false, List, [], ◌∷◌, Option, Some, None, IfSome, drop, get_or, length, map, option_map, set, take, refl, sym, ap, arith}
-use Rattle.std.proofs.lemmas.Bool.{cond-false, cond-true}
+use Rattle.std.proofs.lemmas.{Bool.cond-false, Bool.cond-true, List.FromFn.length-map-range_with_len}
 use Rattle.std.proofs.lemmas.List.{append_assoc, drop_more, get_or_at, length-take, set-get_or, set_at, take_more}
 use Rattle.std.proofs.lemmas.List.Elements.{All-cons, All-head, All-tail}
-use Rattle.std.proofs.lemmas.List.FromFn.{length-map-range_with_len}
 use Rattle.std.specs.List.{All}
 use Rattle.plan_forest.specs.declared.entry.Entry.{Entry}
 use Rattle.plan_forest.specs.Forest.{Forest, entry_at, no_entry}
-use Rattle.watch_machine.specs.declared.change.Was.{Was}
+use Rattle.watch_machine.specs.{declared.change.Was.Was, declared.lanes.Out.Out, declared.track.Track.Track}
 use Rattle.watch_machine.specs.declared.change.Was.TheVariants.{New, Same, Retold}
-use Rattle.watch_machine.specs.declared.lanes.Out.{Out}
-use Rattle.watch_machine.specs.declared.track.Track.{Track}
 use Rattle.watch_machine.specs.Change.{entry_by, former, forest_after, is_former, moved_out, out_after, place_now, track_by, tracks_after, was_at}
 
 -- where an entry is, if it is among those from an index on
@@ -61,10 +58,6 @@ module _ (was : List Was) where
   pub all_after : (P : Out → Type 0) → ((k : ℕ) (r : Out) → P r → P (moved_out was k r)) → (n : ℕ) (out : List Out) → All P out → All P (out_after was n out)
   all_after P kept n [] all = all
   all_after P kept n (r ∷ rest) all = All-cons P (moved_out was n r) (out_after was (suc n) rest) (kept n r (All-head P r rest all)) (all_after P kept (suc n) rest (All-tail P r rest all))
-
-  pub map_after : {X : Type 0} (f : Out → X) → ((k : ℕ) (r : Out) → f (moved_out was k r) ≡ f r) → (n : ℕ) (out : List Out) → map f (out_after was n out) ≡ map f out
-  map_after f kept n [] = refl
-  map_after f kept n (r ∷ rest) = ap (λ x. x ∷ map f (out_after was (suc n) rest)) (kept n r) ∙ ap (λ xs. f r ∷ xs) (map_after f kept (suc n) rest)
 
 -- one request more
 pub out_more :

@@ -1,26 +1,15 @@
 -- ClockParts: the parts of a clock are together the step of the definitions. For `clock`.
 use Rattle.std.proofs.Common.{◌≡◌, ◌∙◌, ℕ, ◌-◌, ◌<◌, ◌++◌, Bool, List, [], Option, Some, None, length, map, sym, ap, subst}
 use Rattle.plan_forest.specs.Forest.{Forest, entry_at}
-use Rattle.watch_machine.specs.declared.clocks.Clocks.{Clocks}
-use Rattle.watch_machine.specs.declared.command.WatchCommand.TheVariants.{Go}
-use Rattle.watch_machine.specs.declared.command.WatchRequest.{WatchRequest}
-use Rattle.watch_machine.specs.declared.lanes.Presence.{Presence}
-use Rattle.watch_machine.specs.declared.notes.Notes.{Notes}
-use Rattle.watch_machine.specs.declared.notes.BeginReason.{BeginReason}
-use Rattle.watch_machine.specs.declared.track.Track.{Track}
+use Rattle.watch_machine.specs.{declared.clocks.Clocks.Clocks, declared.command.WatchCommand.TheVariants.Go, declared.command.WatchRequest.WatchRequest, declared.lanes.Presence.Presence, declared.notes.Notes.Notes}
+use Rattle.watch_machine.specs.{declared.notes.BeginReason.BeginReason, declared.track.Track.Track, Press.pressed, Press.pressed_tracks, Round.IsRound, Round.asked_by_round, Wanted.least, Wanted.need_of, code.Lull.wait_by}
 use Rattle.watch_machine.specs.Beginning.{beginning, begun, begun_tracks, noted_begun}
-use Rattle.watch_machine.specs.Press.{pressed, pressed_tracks}
-use Rattle.watch_machine.specs.Round.{IsRound, asked_by_round}
 use Rattle.watch_machine.specs.Sending.{IsGoing, out_at, sent, sent_in}
 use Rattle.watch_machine.specs.Settling.{clocks_after, has_jumped, has_stepped, presence_after, settled, settled_track, timed}
 use Rattle.watch_machine.specs.State.{WatchState, each, track_in}
 use Rattle.watch_machine.specs.Step.{StepClock, StepCommand, nothing_noted, readied, why}
 use Rattle.watch_machine.specs.Wait.{latest, next_of, wait}
-use Rattle.watch_machine.specs.Wanted.{least, need_of}
-use Rattle.watch_machine.specs.code.Lull.{wait_by}
-use Rattle.watch_machine.proofs.Seeing.{both_seen, need_same}
-use Rattle.watch_machine.proofs.Unseen.{pressed_seen, sent_seen}
-use Rattle.watch_machine.proofs.Written.{range_same}
+use Rattle.watch_machine.proofs.{Seeing.both_seen, Seeing.need_same, Unseen.pressed_seen, Unseen.sent_seen, Written.range_same}
 
 -- so much each entry carries
 abbrev pub AreNeeds : Forest → List Track → Clocks → (ℕ → ℕ) → Type 0

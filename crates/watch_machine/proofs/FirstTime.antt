@@ -1,11 +1,8 @@
 -- FirstTime: the first time so far, one entry after another; and when the first of all is the next. For `first_time` and `Watch::next`.
 use Rattle.std.proofs.Common.{◌≡◌, ◌∙◌, ◌&&◌, nat_lt, ℕ, ◌+◌, ◌<◌, ◌≤◌, Bool, true, false, nat_le, Option, Some, None, refl, sym, ap, subst, arith, inl, inr}
-use Rattle.std.proofs.lemmas.Bool.{cases_eq}
-use Rattle.std.proofs.lemmas.Bool.Decides.{nat_tests}
-use Rattle.watch_machine.specs.declared.outlook.Next.{Next}
+use Rattle.std.proofs.lemmas.{Bool.cases_eq, Bool.Decides.nat_tests}
+use Rattle.watch_machine.specs.{declared.outlook.Next.Next, State.WatchState, State.second, code.Outlook.earlier_next, code.Outlook.is_first_ahead}
 use Rattle.watch_machine.specs.Outlook.{IsFirst, IsFirstOf, IsNextTime, is_timed_at, time_of}
-use Rattle.watch_machine.specs.State.{WatchState, second}
-use Rattle.watch_machine.specs.code.Outlook.{earlier_next, is_first_ahead}
 use Rattle.watch_machine.proofs.Cases.{if_cases}
 
 module _ (counts : ℕ → Bool) (s : WatchState) (n : ℕ) where

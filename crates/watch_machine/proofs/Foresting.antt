@@ -1,25 +1,16 @@
 -- Foresting: a forest of which is written what lookups have told stays a forest, one entry after another. For the laws.
 use Rattle.std.proofs.Common.{◌≡◌, ◌∙◌, ℕ, zero, suc, ◌<◌, ◌≤◌, false, not, ◌&&◌, List, Option, Some, None, length, min, nat_lt, option_map, set, refl, sym, ap, subst, arith, inl, inr}
+use Rattle.std.proofs.lemmas.{Bool.Decides.nat_tests, List.length-set, List.set-set, List.FromFn.fill_by_all}
 use Rattle.std.proofs.lemmas.Bool.{cases_Bool, cond-false, cond-true}
-use Rattle.std.proofs.lemmas.Bool.Decides.{nat_tests}
-use Rattle.std.proofs.lemmas.List.{length-set, set-set}
-use Rattle.std.proofs.lemmas.List.FromFn.{fill_by_all}
-use Rattle.plan_forest.specs.declared.entry.Entry.{Entry}
-use Rattle.plan_forest.specs.declared.forest.TheConstants.{END_MAX}
+use Rattle.plan_forest.specs.{declared.entry.Entry.Entry, declared.forest.TheConstants.END_MAX}
 use Rattle.plan_forest.specs.Forest.{Forest, entry_at, no_entry}
 use Rattle.plan_forest.specs.Push.{IsForest, is_lease, is_too_high}
-use Rattle.plan_forest.proofs.Carrying.{and_right}
-use Rattle.plan_forest.proofs.Entries.{entry_at_set_other, entry_at_set_same}
+use Rattle.plan_forest.proofs.{Carrying.and_right, Entries.entry_at_set_other, Entries.entry_at_set_same}
 use Rattle.plan_forest.proofs.Placed.{Replaces, orphaned_is_forest, range_from_parts, range_parts, replaced_is_forest}
-use Rattle.watch_machine.specs.declared.change.Was.{Was}
+use Rattle.watch_machine.specs.{declared.change.Was.Was, declared.event.WatchTerms.WatchTerms, Looked.by_terms, Looked.step_told}
 use Rattle.watch_machine.specs.declared.change.Was.TheVariants.{New, Same, Retold}
-use Rattle.watch_machine.specs.declared.event.WatchTerms.{WatchTerms}
 use Rattle.watch_machine.specs.Change.{entry_by, forest_after, terms_left, was_at}
-use Rattle.watch_machine.specs.Looked.{by_terms, step_told}
-use Rattle.watch_machine.proofs.Cases.{if_cases}
-use Rattle.watch_machine.proofs.Changing.{unwritten}
-use Rattle.watch_machine.proofs.Tests.{not_true}
-use Rattle.watch_machine.proofs.View.{written_more}
+use Rattle.watch_machine.proofs.{Cases.if_cases, Changing.unwritten, Tests.not_true, View.written_more}
 
 -- ---- an entry by the terms that were told
 

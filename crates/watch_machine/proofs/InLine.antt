@@ -1,24 +1,16 @@
 -- InLine: those that are due, sorted by the order that is derived of their places, stand in line as the definition says. For the
 -- requests that go out at a clock.
 use Rattle.std.proofs.Common.{◌≡◌, ◌∙◌, ℕ, ◌+◌, ◌<◌, Bool, true, false, cond, ◌&&◌, ◌||◌, ◌==◌, List, [], ◌∷◌, ◌++◌, IsPermutation, IsSortedBy, filter, get_or, length, map, min, nat_lt, take, refl, sym, ap, subst, arith}
-use Rattle.std.proofs.lemmas.Bool.{cond-true, cond-false}
+use Rattle.std.proofs.lemmas.{Bool.cond-true, Bool.cond-false, List.Sorted.IsPermutation-map}
 use Rattle.std.proofs.lemmas.List.{append-nil, get_or-map, length-map, map-append, map_push, take-map, take_min}
-use Rattle.std.proofs.lemmas.List.Sorted.{IsPermutation-map}
 use Rattle.std.specs.List.{range_with_len}
 use Rattle.std.specs.Ordering.{is_lt, nat_cmp, ordering_then}
 use Rattle.std.specs.declared.cmp.Ordering.TheVariants.{Less, Equal, Greater}
 use Rattle.plan_search.proofs.Wanted.{asked_more}
 use Rattle.plan_forest.specs.Forest.{Forest}
-use Rattle.watch_machine.specs.declared.command.WatchRequest.{WatchRequest}
-use Rattle.watch_machine.specs.declared.lanes.Presence.{Presence}
-use Rattle.watch_machine.specs.declared.sending.Place.{Place}
-use Rattle.watch_machine.specs.declared.track.Track.{Track}
-use Rattle.watch_machine.specs.Clocks.{sec}
-use Rattle.watch_machine.specs.Lines.{is_due}
-use Rattle.watch_machine.specs.Sending as Sending
+use Rattle.watch_machine.specs.{declared.command.WatchRequest.WatchRequest, declared.lanes.Presence.Presence, declared.sending.Place.Place, declared.track.Track.Track, Clocks.sec, Lines.is_due, State.track_in, code.Places.place_is}
 use Rattle.watch_machine.specs.Sending.{IsGoing, IsSendingOrder, due, is_before, place, request}
-use Rattle.watch_machine.specs.State.{track_in}
-use Rattle.watch_machine.specs.code.Places.{place_is}
+use Rattle.watch_machine.specs.Sending as Sending
 
 -- the places of those below n that may go out now
 abbrev pub due_below : Forest → Presence → ℕ → List Track → ℕ → List Sending.Place

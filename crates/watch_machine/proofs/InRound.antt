@@ -1,26 +1,13 @@
 -- InRound: before the moment at which something is to be done of an entry a clock leaves it as it is, and it stands in line where it
 -- stood. For clocks at which lanes are filled.
 use Rattle.std.proofs.Common.{◌≡◌, ◌∙◌, ℕ, ◌+◌, ◌<◌, ◌≤◌, Bool, true, false, min, not, ◌&&◌, ◌||◌, if◌then◌else◌, Option, Some, None, nat_le, nat_lt, refl, sym, ap, ap₂, subst, arith, inl, inr}
-use Rattle.std.proofs.lemmas.Bool.{cases_Bool, cond-false, cond-true}
 use Rattle.std.proofs.lemmas.Bool.Decides.{nat_tests}
+use Rattle.std.proofs.lemmas.Bool.{cases_Bool, cond-false, cond-true}
 use Rattle.plan_forest.specs.declared.entry.Entry.{Entry}
-use Rattle.watch_machine.specs.declared.event.Operation.TheVariants.{Renew}
-use Rattle.watch_machine.specs.declared.lanes.Presence.{Presence}
-use Rattle.watch_machine.specs.declared.lull.TheConstants.{NEVER}
-use Rattle.watch_machine.specs.declared.reading.TheConstants.{READING_MAX}
-use Rattle.watch_machine.specs.declared.track.Track.{Track}
-use Rattle.watch_machine.specs.declared.track.Try.{Try}
-use Rattle.watch_machine.specs.Clocks.{sec}
+use Rattle.watch_machine.specs.{declared.event.Operation.TheVariants.Renew, declared.lanes.Presence.Presence, declared.lull.TheConstants.NEVER, declared.reading.TheConstants.READING_MAX, declared.track.Track.Track, declared.track.Try.Try}
+use Rattle.watch_machine.specs.{Clocks.sec, Margins.has_come, Press.pressed_track, Refusal.is_same, Round.opens, Sending.Place, Sending.place_of, Settling.settled_track, Wanted.is_alive, Wanted.wants, code.Line.left_at, code.Line.try_left}
 use Rattle.watch_machine.specs.Lines.{is_due, is_due_try, is_first, part_of_later, rank, ready}
-use Rattle.watch_machine.specs.Margins.{has_come}
-use Rattle.watch_machine.specs.Press.{pressed_track}
-use Rattle.watch_machine.specs.Refusal.{is_same}
-use Rattle.watch_machine.specs.Round.{opens}
-use Rattle.watch_machine.specs.Sending.{Place, place_of}
-use Rattle.watch_machine.specs.Settling.{settled_track}
 use Rattle.watch_machine.specs.Wait.{latest, next_of, time_at, try_at}
-use Rattle.watch_machine.specs.Wanted.{is_alive, wants}
-use Rattle.watch_machine.specs.code.Line.{left_at, try_left}
 use Rattle.watch_machine.specs.code.Lull.{is_failed_try, is_owed_alone, time_due}
 use Rattle.watch_machine.proofs.Quiet.{idle_time, is_kept, is_settled, never_waits, next_free, next_out, not_yet, opens_none, out_due, out_fresh, stays, time_waits, unwanted_fresh}
 

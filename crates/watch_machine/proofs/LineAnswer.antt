@@ -1,34 +1,17 @@
 -- LineAnswer: an answer after which nothing is to be asked of its entry, and that leaves what the others carry, keeps the line. For
 -- `line_renewed`.
 use Rattle.std.proofs.Common.{◌≡◌, ◌∙◌, ℕ, ◌<◌, ◌≤◌, Bool, true, false, not, ◌&&◌, if◌then◌else◌, List, [], ◌∷◌, None, filter, length, map, min, get_or, set, refl, sym, ap, ap₂, subst, arith, inl, inr}
+use Rattle.std.proofs.lemmas.List.FromFn.{length-map-range_with_len}
 use Rattle.std.proofs.lemmas.Bool.{cases_Bool, cases_eq, cases_lt, cond-false, cond-true}
 use Rattle.std.proofs.lemmas.List.{get_or-set_other, get_or-set_same, length-set}
-use Rattle.std.proofs.lemmas.List.FromFn.{length-map-range_with_len}
-use Rattle.plan_forest.specs.declared.entry.Entry.{Entry}
-use Rattle.plan_forest.specs.declared.forest.TheConstants.{END_MAX}
-use Rattle.plan_forest.specs.Forest.{Forest, entry_at}
-use Rattle.plan_forest.specs.Over.{chain}
+use Rattle.plan_forest.specs.{declared.entry.Entry.Entry, declared.forest.TheConstants.END_MAX, Forest.Forest, Forest.entry_at, Over.chain}
 use Rattle.plan_forest.proofs.Entries.{entry_at_past}
-use Rattle.watch_machine.specs.declared.clocks.Clocks.{Clocks}
-use Rattle.watch_machine.specs.declared.lanes.Presence.{Presence}
-use Rattle.watch_machine.specs.declared.line.Line.{Line}
-use Rattle.watch_machine.specs.declared.lull.TheConstants.{NEVER}
-use Rattle.watch_machine.specs.declared.sending.Place.{Place}
-use Rattle.watch_machine.specs.declared.track.Track.{Track}
-use Rattle.watch_machine.specs.Clocks.{ms, sec}
-use Rattle.watch_machine.specs.Lines.{is_due, is_due_try}
-use Rattle.watch_machine.specs.Margins.{time}
-use Rattle.watch_machine.specs.Sending.{is_alone_try, place_of}
+use Rattle.watch_machine.specs.{declared.clocks.Clocks.Clocks, declared.lanes.Presence.Presence, declared.line.Line.Line, declared.lull.TheConstants.NEVER, declared.sending.Place.Place, declared.track.Track.Track, Clocks.ms, Clocks.sec}
+use Rattle.watch_machine.specs.{Lines.is_due, Lines.is_due_try, Margins.time, Sending.is_alone_try, Sending.place_of, code.Lull.is_failed_try}
 use Rattle.watch_machine.specs.State.{has_last_try, no_track, track_in}
 use Rattle.watch_machine.specs.Wanted.{believed, cut_need, fixed_ends, free_need, is_fixed, least, least_over, limit, need_here, need_of, seen_entry, view, wants}
 use Rattle.watch_machine.specs.code.Line.{IsInLine, IsLine, IsPlain, entries_of, has, left_at, left_of, rest_of, time_in}
-use Rattle.watch_machine.specs.code.Lull.{is_failed_try}
-use Rattle.watch_machine.proofs.Carries.{carries_alike}
-use Rattle.watch_machine.proofs.Cases.{if_cases, not_both}
-use Rattle.watch_machine.proofs.Leasts.{least_capped}
-use Rattle.watch_machine.proofs.LineSent.{any_kept, each_has}
-use Rattle.watch_machine.proofs.Opening.{seen_at}
-use Rattle.watch_machine.proofs.Tests.{and_no}
+use Rattle.watch_machine.proofs.{Carries.carries_alike, Cases.if_cases, Cases.not_both, Leasts.least_capped, LineSent.any_kept, LineSent.each_has, Opening.seen_at, Tests.and_no}
 
 -- the believed ends of those that are led no further depend on these alone
 ends_same : (ys xs : List Track) (as' : List ℕ) → ((a : ℕ) → is_fixed (track_in ys a) ≡ is_fixed (track_in xs a)) →

@@ -1,38 +1,19 @@
 -- LineClock: while a line lasts a clock leaves all entries as they are, and those who wait are all that are due. For `round_until`.
 use Rattle.std.proofs.Common.{◌≡◌, ◌∙◌, ℕ, suc, ◌<◌, ◌≤◌, ◌==◌, Bool, true, false, ◌&&◌, ◌||◌, List, [], ◌∷◌, IsPermutation, filter, length, map, min, get_or, nat_le, refl, sym, ap, ap₂, subst, arith, inl, inr}
-use Rattle.std.proofs.lemmas.Bool.{cases_lt, or_parts}
-use Rattle.std.proofs.lemmas.Bool.Decides.{nat_tests}
-use Rattle.std.proofs.lemmas.List.Sorted.{IsPermutation-map}
+use Rattle.std.proofs.lemmas.{Bool.cases_lt, Bool.or_parts, Bool.Decides.nat_tests, List.Sorted.IsPermutation-map}
 use Rattle.std.specs.List.{All, list_any, range_with_len}
 use Rattle.plan_forest.specs.Forest.{Forest, entry_at}
-use Rattle.watch_machine.specs.declared.clocks.Clocks.{Clocks}
-use Rattle.watch_machine.specs.declared.lanes.Presence.{Presence}
-use Rattle.watch_machine.specs.declared.line.Line.{Line}
-use Rattle.watch_machine.specs.declared.reading.TheConstants.{READING_MAX}
-use Rattle.watch_machine.specs.declared.sending.Place.{Place}
-use Rattle.watch_machine.specs.declared.track.Track.{Track}
-use Rattle.watch_machine.specs.Clocks.{sec}
-use Rattle.watch_machine.specs.Lines.{is_due}
-use Rattle.watch_machine.specs.Margins.{has_come}
-use Rattle.watch_machine.specs.Press.{pressed_alone, pressed_track}
-use Rattle.watch_machine.specs.Round.{opens, opens_some}
-use Rattle.watch_machine.specs.Sending as Sending
+use Rattle.watch_machine.specs.{declared.clocks.Clocks.Clocks, declared.lanes.Presence.Presence, declared.line.Line.Line, declared.reading.TheConstants.READING_MAX, declared.sending.Place.Place, declared.track.Track.Track, Clocks.sec}
+use Rattle.watch_machine.specs.{Lines.is_due, Margins.has_come, Press.pressed_alone, Press.pressed_track, Round.opens, Round.opens_some, Settling.settled_track, State.each, State.track_in, Wait.latest, Wait.next_of}
+use Rattle.watch_machine.specs.{code.Lull.GoesOn, code.Lull.wait_by, code.Places.place_is}
 use Rattle.watch_machine.specs.Sending.{IsSendingOrder, due, is_alone, is_alone_try, is_partial, place}
-use Rattle.watch_machine.specs.Settling.{settled_track}
-use Rattle.watch_machine.specs.State.{each, track_in}
-use Rattle.watch_machine.specs.Wait.{latest, next_of}
 use Rattle.watch_machine.specs.Wanted.{believed, is_alive, is_open, need_of}
 use Rattle.watch_machine.specs.code.Line.{IsLine, entries_of, first_left, has, left_at, left_by, rest_of, time_in}
-use Rattle.watch_machine.specs.code.Lull.{GoesOn, wait_by}
-use Rattle.watch_machine.specs.code.Places.{place_is}
-use Rattle.watch_machine.proofs.Carries.{need_on}
+use Rattle.watch_machine.specs.Sending as Sending
+use Rattle.watch_machine.proofs.{Carries.need_on, Leasts.least_capped, Leasts.least_each, LineSent.each_has, Opening.none_opens, Quiet.latest_low}
 use Rattle.watch_machine.proofs.InRound.{IsLeft, is_due_paced, left_is, next_paced, place_on}
-use Rattle.watch_machine.proofs.Leasts.{least_capped, least_each}
-use Rattle.watch_machine.proofs.LineSent.{each_has}
 use Rattle.watch_machine.proofs.Lulls.{alive_alike, each_kept, later}
 use Rattle.watch_machine.proofs.Members.{members_order, passing_distinct, passing_past, passing_within}
-use Rattle.watch_machine.proofs.Opening.{none_opens}
-use Rattle.watch_machine.proofs.Quiet.{latest_low}
 
 -- places by their entries
 pub places_by : (f : ℕ → Sending.Place) (qs : List Place) → All (λ (q : Place). place_is q ≡ f q.entry) qs → map place_is qs ≡ map f (entries_of qs)

@@ -1,35 +1,18 @@
 -- LineMade: what a clock finds of the entries is a line, and those in its front go out. For `Line::of` and a whole clock.
 use Rattle.std.proofs.Common.{◌≡◌, ◌∙◌, ℕ, zero, suc, ◌<◌, ◌≤◌, ◌==◌, Bool, true, false, Option, Some, None, List, [], ◌∷◌, IsPermutation, filter, length, map, min, get_or, refl, sym, ap, ap₂, subst, arith, inl, inr}
-use Rattle.std.proofs.lemmas.Bool.{cases_lt}
-use Rattle.std.proofs.lemmas.List.{get_or-map, length-map}
-use Rattle.std.proofs.lemmas.Bool.Decides.{nat_tests}
-use Rattle.std.proofs.lemmas.List.Folds.{list_any_at}
+use Rattle.std.proofs.lemmas.{Bool.cases_lt, List.get_or-map, List.length-map, Bool.Decides.nat_tests, List.Folds.list_any_at, Map.Keys.IsDistinct-IsPermutation}
 use Rattle.std.proofs.lemmas.List.Sorted.{All-permutation, IsPermutation-map, list_any-IsPermutation}
-use Rattle.std.proofs.lemmas.Map.Keys.{IsDistinct-IsPermutation}
 use Rattle.std.specs.List.{All, list_any, range_with_len}
-use Rattle.plan_forest.specs.declared.entry.Entry.{Entry}
-use Rattle.plan_forest.specs.Forest.{Forest, entry_at}
-use Rattle.watch_machine.specs.declared.clocks.Clocks.{Clocks}
-use Rattle.watch_machine.specs.declared.lanes.Presence.{Presence}
-use Rattle.watch_machine.specs.declared.line.Line.{Line}
-use Rattle.watch_machine.specs.declared.lull.TheConstants.{NEVER}
-use Rattle.watch_machine.specs.declared.sending.Place.{Place}
-use Rattle.watch_machine.specs.declared.track.Track.{Track}
-use Rattle.watch_machine.specs.declared.track.Try.{Try}
-use Rattle.watch_machine.specs.Clocks.{sec}
-use Rattle.watch_machine.specs.Lines.{is_due}
-use Rattle.watch_machine.specs.Sending as Sending
+use Rattle.plan_forest.specs.{declared.entry.Entry.Entry, Forest.Forest, Forest.entry_at}
+use Rattle.watch_machine.specs.{declared.clocks.Clocks.Clocks, declared.lanes.Presence.Presence, declared.line.Line.Line, declared.lull.TheConstants.NEVER, declared.sending.Place.Place, declared.track.Track.Track, declared.track.Try.Try}
+use Rattle.watch_machine.specs.{Clocks.sec, Lines.is_due, State.track_in, code.Places.place_is}
 use Rattle.watch_machine.specs.Sending.{IsSendingOrder, due, is_alone_try, place, place_of}
-use Rattle.watch_machine.specs.State.{track_in}
 use Rattle.watch_machine.specs.Wanted.{believed, least, need_of}
 use Rattle.watch_machine.specs.code.Line.{IsInLine, IsLine, calm, entries_of, first_left, has, left_at, left_by, rest_of, time_in}
-use Rattle.watch_machine.specs.code.Places.{place_is}
 use Rattle.watch_machine.specs.code.View.{HasNeeds, Loads, need_at}
-use Rattle.watch_machine.proofs.Cases.{not_both}
-use Rattle.watch_machine.proofs.InRound.{is_due_paced}
-use Rattle.watch_machine.proofs.Leasts.{least_min}
+use Rattle.watch_machine.specs.Sending as Sending
+use Rattle.watch_machine.proofs.{Cases.not_both, InRound.is_due_paced, Leasts.least_min, Written.range_same}
 use Rattle.watch_machine.proofs.Members.{flips, passing_distinct, passing_past, passing_within}
-use Rattle.watch_machine.proofs.Written.{range_same}
 
 -- a line, by what the entries are found to carry
 module _ (g : Forest) (xs : List Track) (c : Clocks) (p : Presence) (needs : Loads) (line : Line) (clocks_are : line.clocks ≡ c) (now : ℕ) (now_is : now ≡ sec c.at) (has' : HasNeeds g.entries xs c needs) where

@@ -1,34 +1,17 @@
 -- LineSent: after the first of a line have gone out the others stand in it, and nothing else is to be done than before. For a clock.
 use Rattle.std.proofs.Common.{◌≡◌, ◌∙◌, ℕ, zero, suc, ◌+◌, ◌<◌, ◌≤◌, ◌==◌, Bool, true, false, ◌||◌, if◌then◌else◌, List, [], ◌∷◌, Option, Some, None, drop, length, map, min, get_or, take, refl, sym, ap, subst, arith, inl, inr}
+use Rattle.std.proofs.lemmas.{Bool.Decides.nat_tests, List.Elements.All-drop}
 use Rattle.std.proofs.lemmas.Bool.{cases_Bool, cases_lt, cond-false, cond-true, or_parts}
-use Rattle.std.proofs.lemmas.Bool.Decides.{nat_tests}
 use Rattle.std.proofs.lemmas.List.{drop-drop, drop-map, drop_all, get_or-drop, get_or_default, length-drop, take-append-drop, take-map}
-use Rattle.std.proofs.lemmas.List.Elements.{All-drop}
 use Rattle.std.proofs.lemmas.List.Folds.{list_any-append, list_any_at, list_any_none}
 use Rattle.std.specs.List.{list_any}
-use Rattle.plan_forest.specs.declared.entry.Entry.{Entry}
-use Rattle.plan_forest.specs.Forest.{Forest, entry_at}
-use Rattle.watch_machine.specs.declared.command.WatchRequest.{WatchRequest}
-use Rattle.watch_machine.specs.declared.lanes.Presence.{Presence}
-use Rattle.watch_machine.specs.declared.line.Line.{Line}
-use Rattle.watch_machine.specs.declared.lull.TheConstants.{NEVER}
-use Rattle.watch_machine.specs.declared.sending.Place.{Place}
-use Rattle.watch_machine.specs.declared.track.Track.{Track}
-use Rattle.watch_machine.specs.declared.track.Try.{Try}
-use Rattle.watch_machine.specs.Clocks.{sec}
-use Rattle.watch_machine.specs.Lines.{is_due}
-use Rattle.watch_machine.specs.Margins.{time}
+use Rattle.plan_forest.specs.{declared.entry.Entry.Entry, Forest.Forest, Forest.entry_at}
+use Rattle.watch_machine.specs.{declared.command.WatchRequest.WatchRequest, declared.lanes.Presence.Presence, declared.line.Line.Line, declared.lull.TheConstants.NEVER, declared.sending.Place.Place, declared.track.Track.Track}
+use Rattle.watch_machine.specs.{declared.track.Try.Try, Clocks.sec, Lines.is_due, Margins.time, State.no_track, State.track_in, Wanted.believed, Wanted.need_of, code.Lull.is_failed_try, code.Places.place_is}
 use Rattle.watch_machine.specs.Sending.{is_alone_try, is_before, is_partial, place, place_of, request, request_of, sent_in, sent_track}
-use Rattle.watch_machine.specs.State.{no_track, track_in}
-use Rattle.watch_machine.specs.Wanted.{believed, need_of}
 use Rattle.watch_machine.specs.code.Line.{IsInLine, IsLine, entries_of, has, left_at, left_of, moved, requests_of, rest_of, sent_on, time_in}
-use Rattle.watch_machine.specs.code.Lull.{is_failed_try}
-use Rattle.watch_machine.specs.code.Places.{place_is}
-use Rattle.watch_machine.proofs.Leasts.{least_capped}
+use Rattle.watch_machine.proofs.{Leasts.least_capped, Seeing.each_read, Seeing.need_same, Unseen.sent_seen, Written.each_length}
 use Rattle.watch_machine.proofs.Members.{AreDistinct, drop_distinct, left_has}
-use Rattle.watch_machine.proofs.Seeing.{each_read, need_same}
-use Rattle.watch_machine.proofs.Unseen.{sent_seen}
-use Rattle.watch_machine.proofs.Written.{each_length}
 
 -- requests are of the entries of their places
 asked_of : (away partial : Bool) (pace i : ℕ) (o : Option Try) → (request_of away partial pace i o).entry ≡ i

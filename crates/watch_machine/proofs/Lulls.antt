@@ -1,36 +1,20 @@
 -- Lulls: while a lull lasts a clock leaves all entries as they are. For `quiet_until`, and for what begins a lull and keeps it.
 use Rattle.std.proofs.Common.{◌≡◌, ◌∙◌, ℕ, zero, suc, ◌+◌, ◌<◌, ◌≤◌, Bool, true, false, ◌&&◌, List, [], ◌∷◌, filter, length, map, min, nat_lt, IfSome, Option, Some, None, refl, sym, ap, ap₂, arith, inl, inr}
-use Rattle.std.proofs.lemmas.Bool.{cases_lt, cond-false}
-use Rattle.std.proofs.lemmas.Bool.Decides.{nat_tests}
+use Rattle.std.proofs.lemmas.{Bool.cases_lt, Bool.cond-false, Bool.Decides.nat_tests}
 use Rattle.std.specs.List.{list_any, range_with_len}
 use Rattle.plan_forest.specs.Forest.{Forest, entry_at}
-use Rattle.watch_machine.specs.declared.clocks.Clocks.{Clocks}
-use Rattle.watch_machine.specs.declared.lanes.LaneAnswer.{LaneAnswer}
-use Rattle.watch_machine.specs.declared.lanes.Presence.{Presence}
-use Rattle.watch_machine.specs.declared.lull.Lull.{Lull}
-use Rattle.watch_machine.specs.declared.lull.TheConstants.{NEVER}
-use Rattle.watch_machine.specs.declared.outlook.Next.{Next}
-use Rattle.watch_machine.specs.declared.reading.TheConstants.{READING_MAX}
-use Rattle.watch_machine.specs.declared.track.Track.{Track}
-use Rattle.watch_machine.specs.Beginning.{beginning}
-use Rattle.watch_machine.specs.Clocks.{sec}
-use Rattle.watch_machine.specs.Lines.{is_due}
+use Rattle.watch_machine.specs.{declared.clocks.Clocks.Clocks, declared.lanes.LaneAnswer.LaneAnswer, declared.lanes.Presence.Presence, declared.lull.Lull.Lull, declared.lull.TheConstants.NEVER, declared.outlook.Next.Next}
+use Rattle.watch_machine.specs.{declared.reading.TheConstants.READING_MAX, declared.track.Track.Track, Beginning.beginning, Clocks.sec, Lines.is_due, Press.pressed_track, Round.opens, Round.opens_some, Sending.due, Sending.place}
+use Rattle.watch_machine.specs.{Wait.latest, Wait.next_of}
 use Rattle.watch_machine.specs.Outlook.{IsFirst, IsNextBy, IsNextTime, is_ahead_at, is_timed, is_timed_at}
-use Rattle.watch_machine.specs.Press.{pressed_track}
-use Rattle.watch_machine.specs.Round.{opens, opens_some}
-use Rattle.watch_machine.specs.Sending.{due, place}
 use Rattle.watch_machine.specs.Settling.{count_after, held_back, hold_after, is_silent, pace_after, presence_after, settled_track}
 use Rattle.watch_machine.specs.State.{WatchState, each, track_in}
-use Rattle.watch_machine.specs.Wait.{latest, next_of}
 use Rattle.watch_machine.specs.Wanted.{believed, is_alive, least, need_of, wants}
 use Rattle.watch_machine.specs.code.Lull.{GoesOn, IsLull, IsQuiet, due_at, next_due, paced_by, shown_by, wait_by}
 use Rattle.watch_machine.specs.code.View.{HasNeeds, Loads, need_at}
-use Rattle.watch_machine.proofs.Carries.{need_on}
+use Rattle.watch_machine.proofs.{Carries.need_on, Opening.none_opens, Seeing.each_id, Written.each_same, Written.range_same}
 use Rattle.watch_machine.proofs.Leasts.{least_capped, least_each, least_min}
-use Rattle.watch_machine.proofs.Opening.{none_opens}
 use Rattle.watch_machine.proofs.Quiet.{IsStill, due_paced, latest_low, still}
-use Rattle.watch_machine.proofs.Seeing.{each_id}
-use Rattle.watch_machine.proofs.Written.{each_same, range_same}
 
 -- tracks that are left as they are
 pub each_kept : (f : ℕ → Track → Track) (xs : List Track) → ((i : ℕ) → i < length xs → f i (track_in xs i) ≡ track_in xs i) → each f xs ≡ xs

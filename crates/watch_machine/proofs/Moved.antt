@@ -1,17 +1,10 @@
 -- Moved: where an entry is after a change, what is known of it and written of it there, and which requests are out. For the laws of a change.
 use Rattle.std.proofs.Common.{◌≡◌, ◌∙◌, ◌==◌, ◌&&◌, ℕ, zero, suc, ◌+◌, ◌<◌, ◌≤◌, Bool, true, false, if◌then◌else◌, List, [], ◌∷◌, Option, Some, None, cond, count_by, find, inl, inr, length, option_map, refl, sym, ap, arith}
+use Rattle.std.proofs.lemmas.{Bool.Decides.nat_tests, List.get_or_past, List.FromFn.get_or-map-range_with_len, List.Sums.sum_by-cons}
 use Rattle.std.proofs.lemmas.Bool.{and_parts, cases_Bool, cases_eq, cases_lt, cond-false, cond-true, eqb-true}
-use Rattle.std.proofs.lemmas.Bool.Decides.{nat_tests}
-use Rattle.std.proofs.lemmas.List.{get_or_past}
-use Rattle.std.proofs.lemmas.List.FromFn.{get_or-map-range_with_len}
-use Rattle.std.proofs.lemmas.List.Sums.{sum_by-cons}
 use Rattle.plan_forest.specs.Forest.{Forest, entry_at, no_entry}
-use Rattle.watch_machine.specs.declared.change.Was.{Was}
-use Rattle.watch_machine.specs.declared.change.Was.TheVariants.{New}
-use Rattle.watch_machine.specs.declared.event.Operation.{Operation}
-use Rattle.watch_machine.specs.declared.lanes.Out.{Out}
+use Rattle.watch_machine.specs.{declared.change.Was.Was, declared.change.Was.TheVariants.New, declared.event.Operation.Operation, declared.lanes.Out.Out, Refusal.is_same, Refusal.request_out}
 use Rattle.watch_machine.specs.Change.{IsChange, changed, entry_by, forest_after, former, former_at, index_or, is_former, moved_out, out_after, place_now, track_by, tracks_after, was_at}
-use Rattle.watch_machine.specs.Refusal.{is_same, request_out}
 use Rattle.watch_machine.specs.State.{WatchState, entry_of, no_track, track_at}
 use Rattle.watch_machine.proofs.Cases.{value_is}
 

@@ -1,27 +1,18 @@
 -- Needed: what entries would carry with no limit at all is what a view carries in which their needs are written so; and what counts for each is
 -- found. For `Needs` and `need_of`.
 use Rattle.std.proofs.Common.{◌≡◌, ◌∙◌, ℕ, ◌+◌, ◌<◌, ◌≤◌, ◌&&◌, Bool, true, false, if◌then◌else◌, List, Option, Some, None, length, map, max, nat_lt, set, refl, sym, ap, ap₂, subst, arith, inl, inr}
+use Rattle.std.proofs.lemmas.{List.get_or_past, List.Folds.list_any_at, List.FromFn.get_or-map-range_with_len, List.FromFn.length-map-range_with_len}
 use Rattle.std.proofs.lemmas.Bool.{cases_eq, cases_lt, cond-false}
-use Rattle.std.proofs.lemmas.List.{get_or_past}
-use Rattle.std.proofs.lemmas.List.Folds.{list_any_at}
-use Rattle.std.proofs.lemmas.List.FromFn.{get_or-map-range_with_len, length-map-range_with_len}
 use Rattle.std.specs.List.{list_any, range_with_len}
 use Rattle.plan_needs.specs.Carried.{CarriedNeed, IsCarried, load_at}
-use Rattle.plan_forest.specs.declared.entry.Entry.{Entry}
-use Rattle.plan_forest.specs.Carried.{carried, carried_of}
+use Rattle.plan_forest.specs.{declared.entry.Entry.Entry, Carried.carried, Carried.carried_of, Over.is_over}
 use Rattle.plan_forest.specs.Forest.{Forest, entry_at, no_entry}
-use Rattle.plan_forest.specs.Over.{is_over}
 use Rattle.plan_forest.proofs.Entries.{entry_at_past, entry_at_set_other, entry_at_set_same}
-use Rattle.watch_machine.specs.declared.clocks.Clocks.{Clocks}
-use Rattle.watch_machine.specs.declared.track.Track.{Track}
-use Rattle.watch_machine.specs.Clocks.{sec}
+use Rattle.watch_machine.specs.{declared.clocks.Clocks.Clocks, declared.track.Track.Track, Clocks.sec}
 use Rattle.watch_machine.specs.State.{has_last_try, no_track, track_in}
 use Rattle.watch_machine.specs.Wanted.{cut_need, free_entry, free_need, need_here, need_of, seen_entry, view}
 use Rattle.watch_machine.specs.code.View.{HasNeeds, IsFree, IsView, Loads, Sees, last_by, need_by}
-use Rattle.watch_machine.proofs.Carries.{carries_alike, over_alike}
-use Rattle.watch_machine.proofs.Cases.{not_both}
-use Rattle.watch_machine.proofs.Seeing.{has_cut}
-use Rattle.watch_machine.proofs.View.{at_shape, carried_more}
+use Rattle.watch_machine.proofs.{Carries.carries_alike, Carries.over_alike, Cases.not_both, Seeing.has_cut, View.at_shape, View.carried_more}
 
 -- one need more that is written
 pub need_written :

@@ -1,21 +1,14 @@
 -- Nobody: an answer to a request whose entry is no more makes nothing of any entry, and nothing is noted of it. For `looked` and `renewed`.
 use Rattle.std.proofs.Common.{◌≡◌, ◌∙◌, ℕ, ◌≤◌, false, not, ◌&&◌, Some, None, if◌then◌else◌, is_some, length, ap, arith, refl, subst}
-use Rattle.std.proofs.lemmas.Bool.Decides.{nat_tests}
-use Rattle.std.proofs.lemmas.List.{get_or_past, set_past}
-use Rattle.plan_forest.specs.declared.entry.Entry.{Entry}
-use Rattle.plan_forest.specs.Push.{is_lease}
+use Rattle.std.proofs.lemmas.{Bool.Decides.nat_tests, List.get_or_past, List.set_past}
+use Rattle.plan_forest.specs.{declared.entry.Entry.Entry, Push.is_lease}
 use Rattle.plan_forest.proofs.Entries.{entry_at_past}
-use Rattle.watch_machine.specs.declared.event.WatchReply.{WatchReply}
+use Rattle.watch_machine.specs.{declared.event.WatchReply.WatchReply, declared.event.WatchTerms.WatchTerms, declared.lanes.Out.Out, declared.track.Track.Track, Answers.with_track, Wanted.is_never}
 use Rattle.watch_machine.specs.declared.event.WatchReply.TheVariants.{Told, Refused, Busy, Lost}
-use Rattle.watch_machine.specs.declared.event.WatchTerms.{WatchTerms}
-use Rattle.watch_machine.specs.declared.lanes.Out.{Out}
-use Rattle.watch_machine.specs.declared.track.Track.{Track}
-use Rattle.watch_machine.specs.Answers.{with_track}
 use Rattle.watch_machine.specs.Looked.{is_orphaned, looked, told_state, with_terms, with_told_try}
 use Rattle.watch_machine.specs.Renewed.{granted_from, renewed_track, state_renewed, top_by, track_renewed}
 use Rattle.watch_machine.specs.State.{WatchState, entry_of, no_track, track_at}
 use Rattle.watch_machine.specs.Step.{is_watched, notes_of, nothing_noted}
-use Rattle.watch_machine.specs.Wanted.{is_never}
 use Rattle.watch_machine.proofs.Tests.{and_no}
 
 -- an index past the last entry, and past the last track

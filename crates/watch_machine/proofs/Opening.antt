@@ -1,27 +1,18 @@
 -- Opening: a round opens, and asks along, as the definitions say. For step 4 of a clock.
 use Rattle.std.proofs.Common.{◌≡◌, ◌∙◌, ℕ, zero, suc, ◌+◌, ◌*◌, ◌/◌, ◌<◌, ◌≤◌, ◌==◌, Bool, true, false, ◌&&◌, ◌||◌, if◌then◌else◌, List, Option, Some, None, length, min, get_or, nat_lt, not, set, refl, sym, ap, arith, inl, inr}
+use Rattle.std.proofs.lemmas.{Bool.Decides.nat_tests, List.ext_get_or, List.FromFn.get_or-map-range_with_len, List.FromFn.length-map-range_with_len}
 use Rattle.std.proofs.lemmas.Bool.{cases_eq, cases_lt, cond-true, cond-false, or_left, or_right}
-use Rattle.std.proofs.lemmas.Bool.Decides.{nat_tests}
-use Rattle.std.proofs.lemmas.List.{ext_get_or}
-use Rattle.std.proofs.lemmas.List.FromFn.{get_or-map-range_with_len, length-map-range_with_len}
 use Rattle.std.specs.List.{list_any, range_with_len}
-use Rattle.plan_forest.specs.declared.entry.Entry.{Entry}
+use Rattle.plan_forest.specs.{declared.entry.Entry.Entry, Push.IsForest, Renewal.capped}
 use Rattle.plan_forest.specs.Forest.{Forest, entry_at, no_entry}
-use Rattle.plan_forest.specs.Push.{IsForest}
 use Rattle.plan_forest.proofs.Placed.{parents_first}
-use Rattle.plan_forest.specs.Renewal.{capped}
 use Rattle.plan_forest.proofs.Entries.{entry_at_past, entry_at_set_other, entry_at_set_same}
-use Rattle.watch_machine.specs.declared.clocks.Clocks.{Clocks}
-use Rattle.watch_machine.specs.declared.track.Track.{Track}
-use Rattle.watch_machine.specs.Clocks.{sec}
+use Rattle.watch_machine.specs.{declared.clocks.Clocks.Clocks, declared.track.Track.Track, Clocks.sec, State.no_track}
 use Rattle.watch_machine.specs.Margins.{is_in_plan, lead, own_margin}
 use Rattle.watch_machine.specs.Round.{entry_planned, is_hoped, opens, opens_some, plan_view, planned_by, step_in_plan}
-use Rattle.watch_machine.specs.State.{no_track}
 use Rattle.watch_machine.specs.Wanted.{need_of, seen_entry, view}
 use Rattle.watch_machine.specs.code.View.{HasNeeds, IsView, Loads, need_at, shape}
-use Rattle.watch_machine.proofs.Cases.{if_both}
-use Rattle.watch_machine.proofs.Shorting.{IsAlike}
-use Rattle.watch_machine.proofs.View.{at_shape}
+use Rattle.watch_machine.proofs.{Cases.if_both, Shorting.IsAlike, View.at_shape}
 
 -- a test of numbers in a row
 any_at : (p : ℕ → Bool) (n a i : ℕ) → a ≤ i → i < a + n → p i ≡ true → list_any p (range_with_len a n) ≡ true

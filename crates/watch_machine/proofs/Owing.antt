@@ -3,16 +3,12 @@
 use Rattle.std.proofs.Common.{◌≡◌, ◌∙◌, ℕ, ◌<◌, Bool, List, [], length, refl, sym, ap, ap₂, subst}
 use Rattle.plan_needs.specs.Carried.{CarriedNeed, IsCarried, load_at}
 use Rattle.plan_forest.specs.Forest.{Forest, entry_at}
-use Rattle.watch_machine.specs.declared.clocks.Clocks.{Clocks}
-use Rattle.watch_machine.specs.declared.track.Track.{Track}
+use Rattle.watch_machine.specs.{declared.clocks.Clocks.Clocks, declared.track.Track.Track, State.each, State.track_in, Wanted.cut_need, Wanted.need_of}
 use Rattle.watch_machine.specs.Beginning.{called_by, is_called, owing, owing_all}
 use Rattle.watch_machine.specs.Press.{pressed_alone, pressed_track, pressed_tracks, track_asked_in}
-use Rattle.watch_machine.specs.State.{each, track_in}
-use Rattle.watch_machine.specs.Wanted.{cut_need, need_of}
 use Rattle.watch_machine.specs.code.View.{HasNeeds, Loads, Sees, need_at}
+use Rattle.watch_machine.proofs.{Unseen.owing_seen, Written.each_same}
 use Rattle.watch_machine.proofs.Seeing.{each_id, has_cut, sees_same}
-use Rattle.watch_machine.proofs.Unseen.{owing_seen}
-use Rattle.watch_machine.proofs.Written.{each_same}
 
 module _ (g : Forest) (xs : List Track) (c : Clocks) (loads : Loads) (beside : length xs ≡ length g.entries) where
   owes_same :

@@ -1,22 +1,14 @@
 -- Quiet: before the moment at which something is to be done of an entry a clock leaves it as it is. For a clock at which all is quiet.
 use Rattle.std.proofs.Common.{◌≡◌, ◌∙◌, ℕ, ◌/◌, ◌<◌, ◌≤◌, Bool, true, false, min, not, ◌&&◌, ◌||◌, if◌then◌else◌, Option, Some, None, nat_lt, refl, sym, ap, ap₂, subst, arith, inl, inr}
-use Rattle.std.proofs.lemmas.Bool.{and_from, and_parts, cases_Bool, cond-false, cond-true}
 use Rattle.std.proofs.lemmas.Bool.Decides.{nat_tests}
+use Rattle.std.proofs.lemmas.Bool.{and_from, and_parts, cases_Bool, cond-false, cond-true}
 use Rattle.plan_forest.specs.declared.entry.Entry.{Entry}
-use Rattle.watch_machine.specs.declared.lanes.Presence.{Presence}
-use Rattle.watch_machine.specs.declared.lull.TheConstants.{NEVER}
-use Rattle.watch_machine.specs.declared.reading.TheConstants.{READING_MAX}
-use Rattle.watch_machine.specs.declared.track.Track.{Track}
-use Rattle.watch_machine.specs.declared.track.Try.{Try}
-use Rattle.watch_machine.specs.Beginning.{is_pressed}
-use Rattle.watch_machine.specs.Clocks.{ms, sec}
+use Rattle.watch_machine.specs.{declared.lanes.Presence.Presence, declared.lull.TheConstants.NEVER, declared.reading.TheConstants.READING_MAX, declared.track.Track.Track, declared.track.Try.Try, Beginning.is_pressed, Clocks.ms, Clocks.sec}
+use Rattle.watch_machine.specs.{Round.opens, Settling.settled_track, Settling.settled_try, Wanted.is_alive, Wanted.wants}
 use Rattle.watch_machine.specs.Lines.{is_due, is_due_try, ready}
 use Rattle.watch_machine.specs.Margins.{has_come, is_in_plan, time}
 use Rattle.watch_machine.specs.Press.{dropped, is_fresh, let_go, press, pressed_track}
-use Rattle.watch_machine.specs.Round.{opens}
-use Rattle.watch_machine.specs.Settling.{settled_track, settled_try}
 use Rattle.watch_machine.specs.Wait.{latest, next_of, time_at, try_at}
-use Rattle.watch_machine.specs.Wanted.{is_alive, wants}
 use Rattle.watch_machine.specs.code.Lull.{due_at, is_failed_try, is_owed_alone, time_due, try_due}
 use Rattle.watch_machine.proofs.Tests.{and_no, not_true}
 

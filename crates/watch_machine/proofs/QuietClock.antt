@@ -1,23 +1,13 @@
 -- QuietClock: a clock at which nothing is to be done is a step of the definitions. For `clock`.
 use Rattle.std.proofs.Common.{◌≡◌, ◌∙◌, ℕ, zero, suc, ◌-◌, Bool, List, [], None, IsPermutation, length, take, refl, sym, ap, subst, arith}
-use Rattle.std.proofs.lemmas.List.{append-nil}
-use Rattle.std.proofs.lemmas.List.Sorted.{IsPermutation-refl}
+use Rattle.std.proofs.lemmas.{List.append-nil, List.Sorted.IsPermutation-refl}
 use Rattle.plan_forest.specs.Forest.{Forest}
-use Rattle.watch_machine.specs.declared.clocks.Clocks.{Clocks}
-use Rattle.watch_machine.specs.declared.command.WatchCommand.TheVariants.{Go}
-use Rattle.watch_machine.specs.declared.lanes.Out.{Out}
-use Rattle.watch_machine.specs.declared.lanes.Presence.{Presence}
-use Rattle.watch_machine.specs.declared.track.Track.{Track}
-use Rattle.watch_machine.specs.Press.{pressed_tracks}
+use Rattle.watch_machine.specs.{declared.clocks.Clocks.Clocks, declared.command.WatchCommand.TheVariants.Go, declared.lanes.Out.Out, declared.lanes.Presence.Presence, declared.track.Track.Track, Press.pressed_tracks}
+use Rattle.watch_machine.specs.{State.WatchState, State.each, Step.StepClock, Step.nothing_noted, Wanted.need_of}
 use Rattle.watch_machine.specs.Sending.{IsGoing, Place, due, sent_in}
 use Rattle.watch_machine.specs.Settling.{clocks_after, has_jumped, has_stepped, pace_after}
-use Rattle.watch_machine.specs.State.{WatchState, each}
-use Rattle.watch_machine.specs.Step.{StepClock, nothing_noted}
-use Rattle.watch_machine.specs.Wanted.{need_of}
 use Rattle.watch_machine.specs.code.Lull.{IsQuiet, paced_by, quieted, wait_by}
-use Rattle.watch_machine.proofs.ClockParts.{clock_step}
-use Rattle.watch_machine.proofs.Owing.{none_asked}
-use Rattle.watch_machine.proofs.Seeing.{each_id}
+use Rattle.watch_machine.proofs.{ClockParts.clock_step, Owing.none_asked, Seeing.each_id}
 
 -- where none is due nothing goes out
 none_taken : (n : ℕ) → take {A = Place} n [] ≡ []

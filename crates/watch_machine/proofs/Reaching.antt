@@ -2,9 +2,7 @@
 use Rattle.std.proofs.Common.{◌≡◌, ◌∙◌, ℕ, Bool, true, false, ◌||◌, List, Some, None, map, min, sym, ap}
 use Rattle.std.proofs.lemmas.Bool.{or_left}
 use Rattle.std.specs.List.{list_any}
-use Rattle.plan_forest.specs.declared.entry.Entry.{Entry}
-use Rattle.plan_forest.specs.Forest.{entry_at}
-use Rattle.plan_forest.specs.Over.{chain, chain_of}
+use Rattle.plan_forest.specs.{declared.entry.Entry.Entry, Forest.entry_at, Over.chain, Over.chain_of}
 use Rattle.plan_forest.proofs.Chains.{ParentsFirst, chain_child, chain_root}
 use Rattle.watch_machine.specs.Wanted.{least}
 

@@ -6,39 +6,16 @@ use Rattle.std.proofs.lemmas.Bool.{cond-false, cond-true}
 use Rattle.std.proofs.lemmas.List.{length-map, length-take, take-map, take_min}
 use Rattle.std.specs.List.{list_any}
 use Rattle.plan_forest.specs.Forest.{Forest}
-use Rattle.watch_machine.specs.declared.clocks.Clocks.{Clocks}
-use Rattle.watch_machine.specs.declared.command.WatchCommand.TheVariants.{Go}
-use Rattle.watch_machine.specs.declared.command.WatchOutput.{WatchOutput}
-use Rattle.watch_machine.specs.declared.command.WatchRequest.{WatchRequest}
-use Rattle.watch_machine.specs.declared.event.WatchReply.{WatchReply}
-use Rattle.watch_machine.specs.declared.lanes.Out.{Out}
-use Rattle.watch_machine.specs.declared.lanes.Presence.{Presence}
-use Rattle.watch_machine.specs.declared.line.Line.{Line}
-use Rattle.watch_machine.specs.declared.reading.TheConstants.{READING_MAX}
-use Rattle.watch_machine.specs.declared.sending.Place.{Place}
-use Rattle.watch_machine.specs.declared.track.Track.{Track}
+use Rattle.watch_machine.specs.{declared.clocks.Clocks.Clocks, declared.command.WatchCommand.TheVariants.Go, declared.command.WatchOutput.WatchOutput, declared.command.WatchRequest.WatchRequest, declared.event.WatchReply.WatchReply}
+use Rattle.watch_machine.specs.{declared.lanes.Out.Out, declared.lanes.Presence.Presence, declared.line.Line.Line, declared.reading.TheConstants.READING_MAX, declared.sending.Place.Place, declared.track.Track.Track, Beginning.beginning}
+use Rattle.watch_machine.specs.{Clocks.sec, Press.pressed_tracks, State.WatchState, State.each, Step.StepClock, Step.nothing_noted, Wait.latest, Wanted.need_of, code.Places.place_is}
 use Rattle.watch_machine.specs.Answers.{heard, replied, without_request}
-use Rattle.watch_machine.specs.Beginning.{beginning}
-use Rattle.watch_machine.specs.Clocks.{sec}
-use Rattle.watch_machine.specs.Press.{pressed_tracks}
 use Rattle.watch_machine.specs.Sending.{IsGoing, IsSendingOrder, request, sent_in}
 use Rattle.watch_machine.specs.Settling.{clocks_after, has_jumped, has_stepped, is_real, is_silent, pace_after}
-use Rattle.watch_machine.specs.State.{WatchState, each}
-use Rattle.watch_machine.specs.Step.{StepClock, nothing_noted}
-use Rattle.watch_machine.specs.Wait.{latest}
-use Rattle.watch_machine.specs.Wanted.{need_of}
 use Rattle.watch_machine.specs.code.Line.{IsLine, IsRoundClock, IsServed, calm, moved, requests_of, rest_of, sent_on, served}
 use Rattle.watch_machine.specs.code.Lull.{GoesOn, paced_by, wait_by}
-use Rattle.watch_machine.specs.code.Places.{place_is}
-use Rattle.watch_machine.proofs.ClockParts.{clock_step}
-use Rattle.watch_machine.proofs.InLine.{each_place}
+use Rattle.watch_machine.proofs.{ClockParts.clock_step, InLine.each_place, LineSent.asked_are, LineSent.line_sent, Lulls.paced_alone, Owing.none_asked, Seeing.need_same, Unseen.sent_seen, Written.each_length}
 use Rattle.watch_machine.proofs.LineClock.{all_pressed, all_settled, nobody_alone, none_open, order_on, waits_on}
-use Rattle.watch_machine.proofs.LineSent.{asked_are, line_sent}
-use Rattle.watch_machine.proofs.Lulls.{paced_alone}
-use Rattle.watch_machine.proofs.Owing.{none_asked}
-use Rattle.watch_machine.proofs.Seeing.{need_same}
-use Rattle.watch_machine.proofs.Unseen.{sent_seen}
-use Rattle.watch_machine.proofs.Written.{each_length}
 
 module _ (s : WatchState) (line : Line) (is : IsLine s.forest s.tracks (calm s.presence) line) (beside : length s.tracks ≡ length s.forest.entries) (c : Clocks) (on : GoesOn c line.clocks) (low : c.at ≤ READING_MAX) (far : latest s.forest.margin c.at ≤ line.beyond) (before : c.at < line.next) (early : sec c.at < line.lasting) where
   abbrev g : Forest

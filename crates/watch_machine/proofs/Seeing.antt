@@ -2,22 +2,13 @@
 -- their top and have their last try. For the steps of a clock that write none of these.
 use Rattle.std.proofs.Common.{◌≡◌, ◌∙◌, ℕ, ◌<◌, ◌≤◌, if◌then◌else◌, List, filter, length, map, sym, ap, ap₂, arith, inl, inr}
 use Rattle.std.proofs.Math.Path.{fun_ext}
-use Rattle.std.proofs.lemmas.Bool.{cases_lt}
-use Rattle.std.proofs.lemmas.List.{ext_get_or, get_or_past}
-use Rattle.std.proofs.lemmas.List.FromFn.{get_or-map-range_with_len, length-map-range_with_len}
+use Rattle.std.proofs.lemmas.{Bool.cases_lt, List.ext_get_or, List.get_or_past, List.FromFn.get_or-map-range_with_len, List.FromFn.length-map-range_with_len}
 use Rattle.std.specs.List.{range_with_len}
 use Rattle.plan_needs.specs.Carried.{CarriedNeed, IsCarried, load_at}
-use Rattle.plan_forest.specs.declared.entry.Entry.{Entry}
-use Rattle.plan_forest.specs.declared.forest.TheConstants.{END_MAX}
-use Rattle.plan_forest.specs.Carried.{carried}
-use Rattle.plan_forest.specs.Forest.{Forest}
-use Rattle.plan_forest.specs.Over.{chain}
-use Rattle.watch_machine.specs.declared.clocks.Clocks.{Clocks}
-use Rattle.watch_machine.specs.declared.track.Track.{Track}
-use Rattle.watch_machine.specs.Clocks.{sec}
+use Rattle.plan_forest.specs.{declared.entry.Entry.Entry, declared.forest.TheConstants.END_MAX, Carried.carried, Forest.Forest, Over.chain}
+use Rattle.watch_machine.specs.{declared.clocks.Clocks.Clocks, declared.track.Track.Track, Clocks.sec, code.View.Loads, code.View.Sees}
 use Rattle.watch_machine.specs.State.{each, has_last_try, no_track, track_in}
 use Rattle.watch_machine.specs.Wanted.{believed, cut_need, free_need, is_fixed, least, least_over, limit, need_of, seen_entry, view}
-use Rattle.watch_machine.specs.code.View.{Loads, Sees}
 use Rattle.watch_machine.proofs.Written.{each_length}
 
 -- what of a track is seen

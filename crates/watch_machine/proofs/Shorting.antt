@@ -1,21 +1,17 @@
 -- Shorting: the first bound that falls short gives the moment of the next round, and the entries carry for the Asks what they carry
 -- as they are seen. For step 4 of a clock.
 use Rattle.std.proofs.Common.{◌≡◌, ◌∙◌, ℕ, zero, suc, ◌+◌, ◌-◌, ◌<◌, ◌≤◌, ◌==◌, true, false, ◌&&◌, if◌then◌else◌, List, Option, Some, None, length, max, min, nat_lt, refl, sym, ap, subst, arith, inl, inr}
-use Rattle.std.proofs.lemmas.Bool.{and_from, cases_eq, cases_lt, cond-true, cond-false}
 use Rattle.std.proofs.lemmas.Bool.Decides.{nat_tests}
+use Rattle.std.proofs.lemmas.Bool.{and_from, cases_eq, cases_lt, cond-true, cond-false}
 use Rattle.std.specs.List.{list_any}
 use Rattle.base_moment.specs.declared.moment.TheConstants.{LAST}
 use Rattle.plan_needs.specs.Carried.{CarriedNeed, IsCarried, NamesFrom, load_at}
 use Rattle.plan_rule.specs.Forced.{bound, latest_end}
 use Rattle.plan_rule.proofs.Lists.{need_within}
 use Rattle.plan_schedule.proofs.Bridge.{carried_past}
-use Rattle.plan_forest.specs.declared.entry.Entry.{Entry}
-use Rattle.plan_forest.specs.Carried.{carried, carried_of}
+use Rattle.plan_forest.specs.{declared.entry.Entry.Entry, Carried.carried, Carried.carried_of, Over.is_over, Push.IsForest}
 use Rattle.plan_forest.specs.Forest.{Forest, end_of, entry_at}
-use Rattle.plan_forest.specs.Over.{is_over}
-use Rattle.plan_forest.specs.Push.{IsForest}
-use Rattle.plan_forest.proofs.Carrying.{carried_is_of}
-use Rattle.plan_forest.proofs.Chains.{ParentsFirst, chain_same}
+use Rattle.plan_forest.proofs.{Carrying.carried_is_of, Chains.ParentsFirst, Chains.chain_same}
 use Rattle.watch_machine.specs.Round.{IsSecond}
 use Rattle.watch_machine.specs.code.Rounds.{IsEarliest, IsFirstShort, first_with, is_sooner}
 use Rattle.watch_machine.proofs.Tests.{and_no}

@@ -1,17 +1,11 @@
 -- Taking: what the parts of a step say of it is a turn of the definitions. For `step`.
 use Rattle.std.proofs.Common.{◌≡◌, ℕ, Option, Some, None, Result, Ok, Err, IfErr, IfOk, OnErr, refl}
-use Rattle.watch_machine.specs.declared.command.WatchOutput.{WatchOutput}
-use Rattle.watch_machine.specs.declared.event.WatchEvent.{WatchEvent}
+use Rattle.watch_machine.specs.{declared.command.WatchOutput.WatchOutput, declared.event.WatchEvent.WatchEvent, declared.event.Operation.Operation, declared.fault.WatchFault.WatchFault, declared.lanes.Out.Out, History.Turn}
+use Rattle.watch_machine.specs.{State.WatchState, Step.Step, Step.TurnMayWantMemory}
 use Rattle.watch_machine.specs.declared.event.WatchEvent.TheVariants.{Clock, Looked, Renewed, Need, Begin, Known}
-use Rattle.watch_machine.specs.declared.event.Operation.{Operation}
 use Rattle.watch_machine.specs.declared.event.Operation.TheVariants.{Look, Renew}
-use Rattle.watch_machine.specs.declared.fault.WatchFault.{WatchFault}
 use Rattle.watch_machine.specs.declared.fault.WatchFault.TheVariants.{NotAsked, BadIndex, OutOfMemory}
-use Rattle.watch_machine.specs.declared.lanes.Out.{Out}
-use Rattle.watch_machine.specs.History.{Turn}
 use Rattle.watch_machine.specs.Refusal.{refusal, request_out, unless_asked, unless_some, unless_within}
-use Rattle.watch_machine.specs.State.{WatchState}
-use Rattle.watch_machine.specs.Step.{Step, TurnMayWantMemory}
 use Rattle.watch_machine.proofs.Cases.{if_both}
 
 -- no event is refused for lack of memory

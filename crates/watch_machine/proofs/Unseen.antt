@@ -1,16 +1,10 @@
 -- Unseen: a beginning, a pressing and a sending write nothing of what is seen of entries. For the steps of a clock.
 use Rattle.std.proofs.Common.{◌≡◌, ℕ, Bool, true, ◌&&◌, ◌||◌, ◌==◌, List, Some, refl}
 use Rattle.std.specs.List.{list_any}
-use Rattle.plan_forest.specs.declared.entry.Entry.{Entry}
-use Rattle.plan_forest.specs.Forest.{Forest, entry_at}
-use Rattle.watch_machine.specs.declared.clocks.Clocks.{Clocks}
-use Rattle.watch_machine.specs.declared.command.WatchRequest.{WatchRequest}
-use Rattle.watch_machine.specs.declared.track.Track.{Track}
+use Rattle.plan_forest.specs.{declared.entry.Entry.Entry, Forest.Forest, Forest.entry_at}
+use Rattle.watch_machine.specs.{declared.clocks.Clocks.Clocks, declared.command.WatchRequest.WatchRequest, declared.track.Track.Track, Clocks.sec, Sending.sent_in, Sending.sent_track, State.each}
 use Rattle.watch_machine.specs.Beginning.{is_called, owing, owing_all, owing_lookup, soon, sooner_try}
-use Rattle.watch_machine.specs.Clocks.{sec}
 use Rattle.watch_machine.specs.Press.{asked_track, dropped, is_fresh, press, pressed_alone, pressed_track, pressed_tracks, track_asked_in}
-use Rattle.watch_machine.specs.Sending.{sent_in, sent_track}
-use Rattle.watch_machine.specs.State.{each}
 use Rattle.watch_machine.specs.Wanted.{is_open, need_of, wants}
 use Rattle.watch_machine.proofs.Cases.{if_both}
 use Rattle.watch_machine.proofs.Seeing.{SameSeen, both_seen, each_seen, sight}

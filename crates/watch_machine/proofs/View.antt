@@ -2,29 +2,17 @@
 -- that write a view.
 use Rattle.std.proofs.Common.{◌≡◌, ◌∙◌, ℕ, suc, ◌+◌, ◌<◌, ◌≤◌, Bool, true, false, ◌&&◌, if◌then◌else◌, List, [], ◌∷◌, Option, Some, None, filter, IfSome, get_or, length, map, min, max, nat_lt, not, set, sym, ap, subst, arith, inl, inr}
 use Rattle.std.proofs.Math.Seq.{map-set_same}
+use Rattle.std.proofs.lemmas.{Bool.Decides.nat_tests, List.FromFn.get_or-map-range_with_len, List.FromFn.length-map-range_with_len}
 use Rattle.std.proofs.lemmas.Bool.{cases_Bool, cases_eq, cond-true, cond-false}
-use Rattle.std.proofs.lemmas.Bool.Decides.{nat_tests}
 use Rattle.std.proofs.lemmas.List.{ext_get_or, get_or-map, length-set, map-set, set-get_or, set-set}
-use Rattle.std.proofs.lemmas.List.FromFn.{get_or-map-range_with_len, length-map-range_with_len}
-use Rattle.plan_forest.specs.declared.entry.Entry.{Entry}
-use Rattle.plan_forest.specs.declared.forest.TheConstants.{END_MAX}
+use Rattle.plan_forest.specs.{declared.entry.Entry.Entry, declared.forest.TheConstants.END_MAX, Over.chain, Over.is_over, Carried.carried_of, Push.is_lease, Push.is_too_high}
 use Rattle.plan_forest.specs.Forest.{Forest, entry_at, no_entry}
-use Rattle.plan_forest.specs.Over.{chain}
-use Rattle.plan_forest.specs.Carried.{carried_of}
-use Rattle.plan_forest.specs.Over.{is_over}
-use Rattle.plan_forest.specs.Push.{is_lease, is_too_high}
-use Rattle.plan_forest.proofs.Chains.{ParentsFirst, chain_child, chain_root}
 use Rattle.plan_forest.proofs.Entries.{entry_at_set_other, entry_at_set_same}
-use Rattle.watch_machine.specs.declared.event.WatchTerms.{WatchTerms}
-use Rattle.watch_machine.specs.declared.track.Track.{Track}
-use Rattle.watch_machine.specs.declared.clocks.Clocks.{Clocks}
-use Rattle.watch_machine.specs.State.{no_track}
-use Rattle.watch_machine.specs.declared.track.End.{End}
+use Rattle.plan_forest.proofs.Chains.{ParentsFirst, chain_child, chain_root}
+use Rattle.watch_machine.specs.{declared.event.WatchTerms.WatchTerms, declared.track.Track.Track, declared.clocks.Clocks.Clocks, State.no_track, declared.track.End.End, Looked.by_terms, Looked.orphaned, code.Bounds.IsEnd}
+use Rattle.watch_machine.specs.{code.View.IsView, code.View.shape}
 use Rattle.watch_machine.specs.declared.track.End.TheVariants.{Unknown, At, Never}
-use Rattle.watch_machine.specs.Looked.{by_terms, orphaned}
-use Rattle.watch_machine.specs.code.Bounds.{IsEnd}
 use Rattle.watch_machine.specs.Wanted.{believed, ceiling_here, fixed_ends, is_fixed, least, least_over, need_here, seen_entry, view}
-use Rattle.watch_machine.specs.code.View.{IsView, shape}
 
 pub at_shape : (v g : Forest) (i : ℕ) → IsView v g → i < length g.entries → shape (entry_at v.entries i) ≡ shape (entry_at g.entries i)
 unfolding entry_at

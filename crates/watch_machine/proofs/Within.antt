@@ -1,14 +1,11 @@
 -- Within: an event that is not refused is an answer to a request that is out, or of an entry of the forest, or of none. For `step`.
 use Rattle.std.proofs.Common.{◌≡◌, ◌≢◌, ◌∙◌, ◌<◌, ℕ, suc, Bool, true, ◌==◌, ◌&&◌, List, [], ◌∷◌, Option, Some, None, IfSome, length, arith, inl, inr, nat_le, sym, ap, subst}
-use Rattle.std.proofs.lemmas.Bool.{and_parts, cases_Bool, cases_lt, cond-true, cond-false, eqb-true}
 use Rattle.std.proofs.lemmas.Bool.Decides.{nat_tests}
+use Rattle.std.proofs.lemmas.Bool.{and_parts, cases_Bool, cases_lt, cond-true, cond-false, eqb-true}
 use Rattle.std.specs.List.{All, find}
-use Rattle.watch_machine.specs.declared.event.Operation.{Operation}
-use Rattle.watch_machine.specs.declared.fault.WatchFault.{WatchFault}
+use Rattle.watch_machine.specs.{declared.event.Operation.Operation, declared.fault.WatchFault.WatchFault, declared.lanes.Out.Out, State.WatchState}
 use Rattle.watch_machine.specs.declared.fault.WatchFault.TheVariants.{BadIndex, NotAsked}
-use Rattle.watch_machine.specs.declared.lanes.Out.{Out}
 use Rattle.watch_machine.specs.Refusal.{is_same, request_out, unless_asked, unless_some, unless_within}
-use Rattle.watch_machine.specs.State.{WatchState}
 use Rattle.watch_machine.proofs.Cases.{if_both, if_cases, value_is}
 
 pub within_none : (s : WatchState) (i : ℕ) (other : Option WatchFault) → unless_within s i other ≡ None → i < length s.forest.entries

@@ -1,17 +1,9 @@
 -- Answers: what a failure makes of a try, and what any answer says of the broker and of the requests that are out.
 -- Source: Vault, HTTP API, "HTTP status codes"; the rest is this project's own.
 use Rattle.std.specs.Prelude.{ℕ, ◌+◌, Bool, true, false, not, ◌||◌, ◌==◌, if◌then◌else◌, List, [], ◌∷◌, ◌++◌, Option, Some, None, filter, map, min, slice_set}
-use Rattle.watch_machine.specs.declared.event.Operation.{Operation}
-use Rattle.watch_machine.specs.declared.event.WatchReply.{WatchReply}
-use Rattle.watch_machine.specs.declared.lanes.Out.{Out}
-use Rattle.watch_machine.specs.declared.lanes.Presence.{Presence}
-use Rattle.watch_machine.specs.declared.notes.Link.{Link}
+use Rattle.watch_machine.specs.{declared.event.Operation.Operation, declared.event.WatchReply.WatchReply, declared.lanes.Out.Out, declared.lanes.Presence.Presence, declared.notes.Link.Link, declared.track.Track.Track}
+use Rattle.watch_machine.specs.{declared.track.Try.Try, Lines.rested, Settling.is_real, State.WatchState, State.each}
 use Rattle.watch_machine.specs.declared.notes.Link.TheVariants.{Away, Back}
-use Rattle.watch_machine.specs.declared.track.Track.{Track}
-use Rattle.watch_machine.specs.declared.track.Try.{Try}
-use Rattle.watch_machine.specs.Lines.{rested}
-use Rattle.watch_machine.specs.Settling.{is_real}
-use Rattle.watch_machine.specs.State.{WatchState, each}
 
 -- a try that failed: what is asked next, whether no answer came or the broker was busy, and whether others were answered meanwhile
 abbrev pub failing : Try → Operation → Bool → Bool → Try

@@ -2,16 +2,9 @@
 -- Source: this project's own.
 use Rattle.std.specs.Prelude.{ℕ, ◌+◌, Bool, true, false, not, ◌&&◌, ◌||◌, if◌then◌else◌, List, Option, Some, None, is_none, max, min, nat_le, nat_lt}
 use Rattle.std.specs.List.{list_any}
-use Rattle.plan_forest.specs.Carried.{carried}
-use Rattle.plan_forest.specs.Forest.{Forest}
-use Rattle.watch_machine.specs.declared.clocks.Clocks.{Clocks}
-use Rattle.watch_machine.specs.declared.event.Operation.TheVariants.{Look}
-use Rattle.watch_machine.specs.declared.notes.BeginReason.{BeginReason}
+use Rattle.plan_forest.specs.{Carried.carried, Forest.Forest}
+use Rattle.watch_machine.specs.{declared.clocks.Clocks.Clocks, declared.event.Operation.TheVariants.Look, declared.notes.BeginReason.BeginReason, declared.track.Track.Track, declared.track.Try.Try, Clocks.sec, Lines.rested}
 use Rattle.watch_machine.specs.declared.notes.BeginReason.TheVariants.{Start, Asked, Jump, Day}
-use Rattle.watch_machine.specs.declared.track.Track.{Track}
-use Rattle.watch_machine.specs.declared.track.Try.{Try}
-use Rattle.watch_machine.specs.Clocks.{sec}
-use Rattle.watch_machine.specs.Lines.{rested}
 use Rattle.watch_machine.specs.State.{WatchState, each, keeps_last_try}
 use Rattle.watch_machine.specs.Wanted.{cut_need, is_alive, is_open}
 

@@ -2,16 +2,9 @@
 -- Source: this project's own.
 use Rattle.std.specs.Prelude.{◌≡◌, ℕ, suc, ◌<◌, ◌==◌, Bool, false, if◌then◌else◌, List, [], ◌∷◌, Option, Some, None, is_none, length, map, option_map, slice_index_or}
 use Rattle.std.specs.List.{range_with_len}
-use Rattle.plan_forest.specs.declared.entry.Entry.{Entry}
-use Rattle.plan_forest.specs.Forest.{Forest, entry_at}
-use Rattle.plan_forest.specs.Push.{IsForest}
-use Rattle.watch_machine.specs.declared.change.Was.{Was}
+use Rattle.plan_forest.specs.{declared.entry.Entry.Entry, Forest.Forest, Forest.entry_at, Push.IsForest}
+use Rattle.watch_machine.specs.{declared.change.Was.Was, declared.event.WatchTerms.WatchTerms, declared.lanes.Out.Out, declared.track.Track.Track, Beginning.owing_lookup, Beginning.untopped_track, Looked.by_terms}
 use Rattle.watch_machine.specs.declared.change.Was.TheVariants.{New, Same, Retold}
-use Rattle.watch_machine.specs.declared.event.WatchTerms.{WatchTerms}
-use Rattle.watch_machine.specs.declared.lanes.Out.{Out}
-use Rattle.watch_machine.specs.declared.track.Track.{Track}
-use Rattle.watch_machine.specs.Beginning.{owing_lookup, untopped_track}
-use Rattle.watch_machine.specs.Looked.{by_terms}
 use Rattle.watch_machine.specs.State.{WatchState, fresh_track, track_in}
 
 -- ---- where entries were, and where they are

@@ -1,9 +1,7 @@
 -- Clocks: the moment of this clock, and how the broker's clock and the wall's go beside it.
 -- Source: this project's own; a reply's date is RFC 9110, 5.6.7 and 6.6.1.
 use Rattle.std.specs.Prelude.{ℕ, ◌+◌, ◌-◌, ◌*◌, ◌/◌, ◌%◌, Bool, true, false, ◌||◌, if◌then◌else◌, max, min, nat_lt}
-use Rattle.watch_machine.specs.declared.clocks.BrokerOffset.{BrokerOffset}
-use Rattle.watch_machine.specs.declared.clocks.Clocks.{Clocks}
-use Rattle.watch_machine.specs.declared.clocks.WallOffset.{WallOffset}
+use Rattle.watch_machine.specs.{declared.clocks.BrokerOffset.BrokerOffset, declared.clocks.Clocks.Clocks, declared.clocks.WallOffset.WallOffset}
 use Rattle.base_moment.specs.declared.moment.TheConstants.{LAST}
 
 -- the second of a moment in milliseconds

@@ -2,15 +2,9 @@
 -- Source: this project's own.
 use Rattle.std.specs.Prelude.{◌≡◌, ℕ, List, [], ◌∷◌, Option, Some, None, Result, Ok, Err, length}
 use Rattle.plan_forest.specs.Forest.{Forest}
-use Rattle.watch_machine.specs.declared.change.Was.{Was}
-use Rattle.watch_machine.specs.declared.command.WatchOutput.{WatchOutput}
-use Rattle.watch_machine.specs.declared.event.WatchEvent.{WatchEvent}
-use Rattle.watch_machine.specs.declared.fault.WatchFault.{WatchFault}
-use Rattle.watch_machine.specs.declared.fault.WatchFault.TheVariants.{OutOfMemory}
+use Rattle.watch_machine.specs.{declared.change.Was.Was, declared.command.WatchOutput.WatchOutput, declared.event.WatchEvent.WatchEvent, declared.fault.WatchFault.WatchFault, declared.fault.WatchFault.TheVariants.OutOfMemory}
+use Rattle.watch_machine.specs.{Refusal.refusal, State.WatchState, State.opened, Step.Step, Step.TurnMayWantMemory}
 use Rattle.watch_machine.specs.Change.{IsChange, changed, former_at}
-use Rattle.watch_machine.specs.Refusal.{refusal}
-use Rattle.watch_machine.specs.State.{WatchState, opened}
-use Rattle.watch_machine.specs.Step.{Step, TurnMayWantMemory}
 
 -- what an event gives: a step; or a refusal, which leaves the state. Lack of memory may take the place of a step
 abbrev pub Turn : WatchState → WatchEvent → Result WatchOutput WatchFault → WatchState → Type 0

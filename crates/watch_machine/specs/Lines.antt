@@ -2,13 +2,7 @@
 -- Source: this project's own.
 use Rattle.std.specs.Prelude.{ℕ, ◌+◌, Bool, false, not, ◌&&◌, ◌==◌, if◌then◌else◌, Option, Some, None, max, min, nat_le}
 use Rattle.plan_forest.specs.declared.entry.Entry.{Entry}
-use Rattle.watch_machine.specs.declared.event.Operation.TheVariants.{Renew}
-use Rattle.watch_machine.specs.declared.lanes.Presence.{Presence}
-use Rattle.watch_machine.specs.declared.track.Track.{Track}
-use Rattle.watch_machine.specs.declared.track.Try.{Try}
-use Rattle.watch_machine.specs.Margins.{has_come}
-use Rattle.watch_machine.specs.Refusal.{is_same}
-use Rattle.watch_machine.specs.Wanted.{believed, is_alive}
+use Rattle.watch_machine.specs.{declared.event.Operation.TheVariants.Renew, declared.lanes.Presence.Presence, declared.track.Track.Track, declared.track.Try.Try, Margins.has_come, Refusal.is_same, Wanted.believed, Wanted.is_alive}
 
 -- the moment from which an entry may be asked again: a second after it was last asked
 abbrev pub rested : Option ℕ → ℕ

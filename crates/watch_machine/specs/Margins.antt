@@ -1,13 +1,9 @@
 -- Margins: how long before its end an entry is asked.
 -- Source: this project's own, over Vault, "Lease, renew, and revoke" (a grant may be shorter than the increment).
 use Rattle.std.specs.Prelude.{ℕ, ◌-◌, ◌*◌, ◌/◌, Bool, ◌==◌, if◌then◌else◌, Option, Some, None, min, nat_le}
-use Rattle.plan_forest.specs.declared.entry.Entry.{Entry}
-use Rattle.plan_forest.specs.declared.forest.TheConstants.{END_MAX}
-use Rattle.watch_machine.specs.declared.track.End.{End}
+use Rattle.plan_forest.specs.{declared.entry.Entry.Entry, declared.forest.TheConstants.END_MAX}
+use Rattle.watch_machine.specs.{declared.track.End.End, declared.track.Grant.Grant, declared.track.Track.Track, State.has_last_try}
 use Rattle.watch_machine.specs.declared.track.End.TheVariants.{Unknown, At, Never}
-use Rattle.watch_machine.specs.declared.track.Grant.{Grant}
-use Rattle.watch_machine.specs.declared.track.Track.{Track}
-use Rattle.watch_machine.specs.State.{has_last_try}
 
 -- how far a renewal is taken to lead: the lesser of the step and the last grant
 abbrev pub lead : ℕ → Option Grant → ℕ

@@ -2,10 +2,7 @@
 -- Source: this project's own.
 use Rattle.std.specs.Prelude.{◌≡◌, ℕ, ◌<◌, ◌≤◌, Bool, true, false, ◌&&◌, Option, Some, None, length, min, nat_lt}
 use Rattle.plan_forest.specs.declared.forest.TheConstants.{END_MAX}
-use Rattle.watch_machine.specs.declared.outlook.Next.{Next}
-use Rattle.watch_machine.specs.declared.track.Track.{Track}
-use Rattle.watch_machine.specs.Clocks.{to_broker}
-use Rattle.watch_machine.specs.Margins.{time}
+use Rattle.watch_machine.specs.{declared.outlook.Next.Next, declared.track.Track.Track, Clocks.to_broker, Margins.time}
 use Rattle.watch_machine.specs.State.{WatchState, entry_of, second, track_at}
 use Rattle.watch_machine.specs.Wanted.{is_alive, wanted_need, wants}
 

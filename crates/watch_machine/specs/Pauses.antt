@@ -1,11 +1,8 @@
 -- Pauses: how long after a failure an entry is not asked.
 -- Source: this project's own.
 use Rattle.std.specs.Prelude.{ℕ, ◌-◌, ◌*◌, ◌/◌, ◌^◌, Bool, ◌&&◌, if◌then◌else◌, Option, Some, None, max, min, nat_le, nat_lt}
-use Rattle.watch_machine.specs.declared.track.End.{End}
+use Rattle.watch_machine.specs.{declared.track.End.End, declared.track.Track.Track, declared.track.Try.Try, Clocks.ms}
 use Rattle.watch_machine.specs.declared.track.End.TheVariants.{Unknown, At, Never}
-use Rattle.watch_machine.specs.declared.track.Track.{Track}
-use Rattle.watch_machine.specs.declared.track.Try.{Try}
-use Rattle.watch_machine.specs.Clocks.{ms}
 
 -- the milliseconds from at to an end, where that is ahead. An unknown end counts as so much ahead after a loss
 abbrev pub left_to : ℕ → ℕ → End → Bool → Option ℕ

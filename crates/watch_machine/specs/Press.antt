@@ -2,17 +2,9 @@
 -- Source: this project's own.
 use Rattle.std.specs.Prelude.{ℕ, Bool, true, false, not, ◌&&◌, ◌||◌, ◌==◌, if◌then◌else◌, List, Option, Some, None, max}
 use Rattle.std.specs.List.{list_any}
-use Rattle.plan_forest.specs.declared.entry.Entry.{Entry}
-use Rattle.plan_forest.specs.Forest.{Forest, entry_at}
-use Rattle.watch_machine.specs.declared.clocks.Clocks.{Clocks}
+use Rattle.plan_forest.specs.{declared.entry.Entry.Entry, Forest.Forest, Forest.entry_at}
+use Rattle.watch_machine.specs.{declared.clocks.Clocks.Clocks, declared.track.Track.Track, declared.track.Try.Try, Beginning.is_pressed, Beginning.soon, Clocks.sec, Lines.rested, Margins.has_come, State.WatchState, State.each}
 use Rattle.watch_machine.specs.declared.event.Operation.TheVariants.{Look, Renew}
-use Rattle.watch_machine.specs.declared.track.Track.{Track}
-use Rattle.watch_machine.specs.declared.track.Try.{Try}
-use Rattle.watch_machine.specs.Beginning.{is_pressed, soon}
-use Rattle.watch_machine.specs.Clocks.{sec}
-use Rattle.watch_machine.specs.Lines.{rested}
-use Rattle.watch_machine.specs.Margins.{has_come}
-use Rattle.watch_machine.specs.State.{WatchState, each}
 use Rattle.watch_machine.specs.Wanted.{is_alive, need_of, wants}
 
 -- an entry with that need is wanted, its time has come, and it is neither pressed nor out

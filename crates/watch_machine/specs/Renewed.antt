@@ -2,22 +2,12 @@
 -- Source: Vault, HTTP API: `auth/token`, "Renew a token (self)"; `sys/leases`, "Renew lease". Vault, "Lease, renew, and revoke" (the
 -- TTL counts from the renewal; maximum TTL).
 use Rattle.std.specs.Prelude.{ℕ, ◌+◌, ◌-◌, Bool, true, false, not, ◌&&◌, ◌||◌, if◌then◌else◌, Option, Some, None, min, nat_le, nat_lt}
-use Rattle.watch_machine.specs.declared.event.Operation.{Operation}
+use Rattle.watch_machine.specs.{declared.event.Operation.Operation, declared.event.WatchReply.WatchReply, declared.lanes.Out.Out, declared.track.End.End, declared.track.Grant.Grant, declared.track.Track.Track, declared.track.Try.Try}
+use Rattle.watch_machine.specs.{Answers.failing, Answers.with_track, Beginning.owed, Clocks.sec, Margins.own_by, Wanted.is_alive}
 use Rattle.watch_machine.specs.declared.event.Operation.TheVariants.{Look, Renew}
-use Rattle.watch_machine.specs.declared.event.WatchReply.{WatchReply}
 use Rattle.watch_machine.specs.declared.event.WatchReply.TheVariants.{Told, Refused, Busy, Lost}
-use Rattle.watch_machine.specs.declared.lanes.Out.{Out}
-use Rattle.watch_machine.specs.declared.track.End.{End}
 use Rattle.watch_machine.specs.declared.track.End.TheVariants.{Unknown, At, Never}
-use Rattle.watch_machine.specs.declared.track.Grant.{Grant}
-use Rattle.watch_machine.specs.declared.track.Track.{Track}
-use Rattle.watch_machine.specs.declared.track.Try.{Try}
-use Rattle.watch_machine.specs.Answers.{failing, with_track}
-use Rattle.watch_machine.specs.Beginning.{owed}
-use Rattle.watch_machine.specs.Clocks.{sec}
-use Rattle.watch_machine.specs.Margins.{own_by}
 use Rattle.watch_machine.specs.State.{WatchState, entry_of, keeps_last_try, track_at}
-use Rattle.watch_machine.specs.Wanted.{is_alive}
 
 -- the time of an entry with that step, after a grant of so many seconds that counts from a second
 abbrev pub time_from : ℕ → ℕ → ℕ → ℕ → ℕ

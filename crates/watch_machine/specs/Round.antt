@@ -2,20 +2,10 @@
 -- Source: this project's own, over Vault, "Lease, renew, and revoke".
 use Rattle.std.specs.Prelude.{◌≡◌, ℕ, ◌+◌, ◌≤◌, Bool, true, false, not, ◌&&◌, ◌||◌, if◌then◌else◌, List, [], Option, Some, None, length, map}
 use Rattle.std.specs.List.{list_any, range_with_len}
-use Rattle.plan_forest.specs.declared.entry.Entry.{Entry}
-use Rattle.plan_forest.specs.Carried.{carried}
+use Rattle.plan_forest.specs.{declared.entry.Entry.Entry, Carried.carried, Renewal.capped}
 use Rattle.plan_forest.specs.Forest.{Forest, end_of, entry_at}
-use Rattle.plan_forest.specs.Renewal.{capped}
-use Rattle.plan_rule.specs.Asks.{asks}
-use Rattle.plan_rule.specs.Forced.{bound}
-use Rattle.plan_rule.specs.Schedule.{IsNextMoment}
-use Rattle.watch_machine.specs.declared.clocks.Clocks.{Clocks}
-use Rattle.watch_machine.specs.declared.track.Track.{Track}
-use Rattle.watch_machine.specs.Beginning.{is_pressed}
-use Rattle.watch_machine.specs.Clocks.{sec}
-use Rattle.watch_machine.specs.Margins.{is_in_plan, lead}
-use Rattle.watch_machine.specs.Press.{is_fresh}
-use Rattle.watch_machine.specs.State.{track_in}
+use Rattle.plan_rule.specs.{Asks.asks, Forced.bound, Schedule.IsNextMoment}
+use Rattle.watch_machine.specs.{declared.clocks.Clocks.Clocks, declared.track.Track.Track, Beginning.is_pressed, Clocks.sec, Margins.is_in_plan, Margins.lead, Press.is_fresh, State.track_in}
 use Rattle.watch_machine.specs.Wanted.{is_alive, is_unknown, need_of, seen_entry, wants}
 
 -- an entry with that need opens a round: it is pressed now, in the plan, and its end is ahead

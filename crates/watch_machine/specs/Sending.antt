@@ -2,20 +2,12 @@
 -- Source: this project's own.
 use Rattle.std.specs.Prelude.{◌≡◌, ◌==◌, ℕ, ◌-◌, ◌*◌, ◌^◌, Bool, true, false, ◌&&◌, ◌||◌, if◌then◌else◌, List, ◌++◌, Option, Some, None, IsPermutation, IsSortedBy, filter, length, map, max, min, nat_lt, take}
 use Rattle.std.specs.List.{list_any, range_with_len}
-use Rattle.plan_forest.specs.declared.entry.Entry.{Entry}
-use Rattle.plan_forest.specs.Forest.{Forest, entry_at}
-use Rattle.watch_machine.specs.declared.command.Patience.{Patience}
+use Rattle.plan_forest.specs.{declared.entry.Entry.Entry, Forest.Forest, Forest.entry_at}
+use Rattle.watch_machine.specs.{declared.command.Patience.Patience, declared.command.WatchRequest.WatchRequest, declared.event.Operation.TheVariants.Look, declared.lanes.Out.Out, declared.lanes.Presence.Presence, declared.track.Track.Track}
+use Rattle.watch_machine.specs.{declared.track.Try.Try, Clocks.sec, Wanted.is_open}
 use Rattle.watch_machine.specs.declared.command.Patience.TheVariants.{Full, AtMost}
-use Rattle.watch_machine.specs.declared.command.WatchRequest.{WatchRequest}
-use Rattle.watch_machine.specs.declared.event.Operation.TheVariants.{Look}
-use Rattle.watch_machine.specs.declared.lanes.Out.{Out}
-use Rattle.watch_machine.specs.declared.lanes.Presence.{Presence}
-use Rattle.watch_machine.specs.declared.track.Track.{Track}
-use Rattle.watch_machine.specs.declared.track.Try.{Try}
-use Rattle.watch_machine.specs.Clocks.{sec}
 use Rattle.watch_machine.specs.Lines.{is_due, is_first, part, rank}
 use Rattle.watch_machine.specs.State.{WatchState, each, track_in}
-use Rattle.watch_machine.specs.Wanted.{is_open}
 
 -- where an entry stands in the line
 pub record Place : Type 0 where

@@ -3,18 +3,11 @@
 use Rattle.std.specs.Prelude.{ℕ, ◌+◌, ◌-◌, ◌/◌, Bool, true, false, not, ◌&&◌, ◌||◌, if◌then◌else◌, List, [], ◌∷◌, Option, Some, None, fold, is_none, map, max, min, nat_le}
 use Rattle.std.specs.List.{list_any}
 use Rattle.base_moment.specs.declared.moment.TheConstants.{LAST}
-use Rattle.watch_machine.specs.declared.clocks.Clocks.{Clocks}
-use Rattle.watch_machine.specs.declared.event.WatchReply.{WatchReply}
+use Rattle.watch_machine.specs.{declared.clocks.Clocks.Clocks, declared.event.WatchReply.WatchReply, declared.lanes.LaneAnswer.LaneAnswer, declared.lanes.Presence.Presence, declared.track.Track.Track, declared.track.Try.Try, Lines.rested}
+use Rattle.watch_machine.specs.{State.WatchState, State.each, Wanted.least}
 use Rattle.watch_machine.specs.declared.event.WatchReply.TheVariants.{Told, Refused, Busy, Lost}
-use Rattle.watch_machine.specs.declared.lanes.LaneAnswer.{LaneAnswer}
-use Rattle.watch_machine.specs.declared.lanes.Presence.{Presence}
-use Rattle.watch_machine.specs.declared.track.Track.{Track}
-use Rattle.watch_machine.specs.declared.track.Try.{Try}
 use Rattle.watch_machine.specs.Clocks.{dated_by, first_clocks, is_ahead, is_stepped, moment_at_reading, reading, walled}
-use Rattle.watch_machine.specs.Lines.{rested}
 use Rattle.watch_machine.specs.Pauses.{cap, doubled, pause}
-use Rattle.watch_machine.specs.State.{WatchState, each}
-use Rattle.watch_machine.specs.Wanted.{least}
 
 -- the reply shows that the broker is there
 abbrev pub is_real : WatchReply → Bool

@@ -2,14 +2,11 @@
 -- Source: Vault, "Tokens" (explicit max TTL; a token's end ends its children and its leases); Vault, "Lease, renew, and revoke"
 -- (maximum TTL).
 use Rattle.std.specs.Prelude.{ℕ, ◌==◌, Bool, not, ◌&&◌, ◌||◌, if◌then◌else◌, Option, Some, None, map, nat_lt, ◌+◌, true, nat_le}
-use Rattle.std.specs.List.{list_any}
-use Rattle.std.specs.Option.{unwrap_or}
+use Rattle.std.specs.{List.list_any, Option.unwrap_or}
 use Rattle.plan_rule.specs.Reach.{reach_of}
-use Rattle.plan_forest.specs.declared.forest.TheConstants.{END_MAX}
-use Rattle.plan_forest.specs.Over.{chain}
-use Rattle.watch_machine.specs.declared.track.End.{End}
+use Rattle.plan_forest.specs.{declared.forest.TheConstants.END_MAX, Over.chain}
+use Rattle.watch_machine.specs.{declared.track.End.End, Outlook.broker_moment, Outlook.broker_now}
 use Rattle.watch_machine.specs.declared.track.End.TheVariants.{Unknown, At, Never}
-use Rattle.watch_machine.specs.Outlook.{broker_moment, broker_now}
 use Rattle.watch_machine.specs.State.{WatchState, entry_of, second, track_at}
 use Rattle.watch_machine.specs.Wanted.{is_alive, is_fixed, is_never, is_unknown, least}
 

@@ -3,33 +3,19 @@
 use Rattle.std.specs.Prelude.{◌≡◌, ℕ, Bool, true, false, not, ◌&&◌, if◌then◌else◌, List, Option, Some, None, length, min, nat_lt, slice_set}
 use Rattle.base_moment.specs.declared.moment.TheConstants.{LAST}
 use Rattle.plan_forest.specs.declared.forest.TheConstants.{END_MAX}
-use Rattle.watch_machine.specs.declared.command.WatchCommand.{WatchCommand}
+use Rattle.watch_machine.specs.{declared.command.WatchCommand.WatchCommand, declared.command.WatchOutput.WatchOutput, declared.event.WatchEvent.WatchEvent, declared.event.WatchReply.WatchReply, declared.event.WatchTerms.WatchTerms}
+use Rattle.watch_machine.specs.{declared.lanes.Out.Out, declared.notes.Link.Link, declared.notes.Notes.Notes, declared.notes.BeginReason.BeginReason, declared.track.End.TheVariants.At, declared.track.Track.Track, Press.pressed}
+use Rattle.watch_machine.specs.{Refusal.request_out, Round.IsRound, Round.asked_by_round, Sending.RequestsAreSent, Wait.wait, Wanted.is_never}
 use Rattle.watch_machine.specs.declared.command.WatchCommand.TheVariants.{Go, Taken}
-use Rattle.watch_machine.specs.declared.command.WatchOutput.{WatchOutput}
-use Rattle.watch_machine.specs.declared.event.WatchEvent.{WatchEvent}
 use Rattle.watch_machine.specs.declared.event.WatchEvent.TheVariants.{Clock, Looked, Renewed, Need, Begin, Known}
 use Rattle.watch_machine.specs.declared.event.Operation.TheVariants.{Look, Renew}
-use Rattle.watch_machine.specs.declared.event.WatchReply.{WatchReply}
 use Rattle.watch_machine.specs.declared.event.WatchReply.TheVariants.{Told, Refused, Busy, Lost}
-use Rattle.watch_machine.specs.declared.event.WatchTerms.{WatchTerms}
-use Rattle.watch_machine.specs.declared.lanes.Out.{Out}
-use Rattle.watch_machine.specs.declared.notes.Link.{Link}
-use Rattle.watch_machine.specs.declared.notes.Notes.{Notes}
-use Rattle.watch_machine.specs.declared.notes.BeginReason.{BeginReason}
-use Rattle.watch_machine.specs.declared.track.End.TheVariants.{At}
-use Rattle.watch_machine.specs.declared.track.Track.{Track}
 use Rattle.watch_machine.specs.Answers.{link, noted, replied, with_track}
 use Rattle.watch_machine.specs.Beginning.{begun, beginning, owing_past}
 use Rattle.watch_machine.specs.Looked.{is_orphaned, looked, status_of}
-use Rattle.watch_machine.specs.Press.{pressed}
-use Rattle.watch_machine.specs.Refusal.{request_out}
 use Rattle.watch_machine.specs.Renewed.{state_renewed, top_by, track_renewed}
-use Rattle.watch_machine.specs.Round.{IsRound, asked_by_round}
-use Rattle.watch_machine.specs.Sending.{RequestsAreSent}
 use Rattle.watch_machine.specs.Settling.{has_jumped, settled, timed}
 use Rattle.watch_machine.specs.State.{WatchState, entry_of, track_at}
-use Rattle.watch_machine.specs.Wait.{wait}
-use Rattle.watch_machine.specs.Wanted.{is_never}
 
 -- nothing is noted
 abbrev pub nothing_noted : Notes

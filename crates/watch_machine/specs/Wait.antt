@@ -3,13 +3,7 @@
 use Rattle.std.specs.Prelude.{ℕ, ◌+◌, ◌*◌, not, ◌&&◌, if◌then◌else◌, Option, Some, None, length, map, max, min, nat_lt}
 use Rattle.std.specs.List.{range_with_len}
 use Rattle.plan_forest.specs.declared.entry.Entry.{Entry}
-use Rattle.watch_machine.specs.declared.lanes.Presence.{Presence}
-use Rattle.watch_machine.specs.declared.track.Track.{Track}
-use Rattle.watch_machine.specs.declared.track.Try.{Try}
-use Rattle.watch_machine.specs.Beginning.{is_pressed}
-use Rattle.watch_machine.specs.Clocks.{ms}
-use Rattle.watch_machine.specs.Lines.{ready}
-use Rattle.watch_machine.specs.Margins.{time}
+use Rattle.watch_machine.specs.{declared.lanes.Presence.Presence, declared.track.Track.Track, declared.track.Try.Try, Beginning.is_pressed, Clocks.ms, Lines.ready, Margins.time}
 use Rattle.watch_machine.specs.State.{WatchState, entry_of, track_at}
 use Rattle.watch_machine.specs.Wanted.{least, wanted_need, wants}
 

@@ -14,13 +14,13 @@ ghost use Rattle.watch_machine.specs.declared.fault.WatchFault.TheVariants.{OutO
 
 use crate::beginning::{clear_tops, is_any_urgent, is_past, is_start, owe_all};
 use crate::clocks::{Clocks, goes_on};
-use crate::command::{WatchCommand, WatchOutput, Requests};
+use crate::command::{Requests, WatchCommand, WatchOutput};
 use crate::fault::WatchFault;
 use crate::lanes::Presence;
 use crate::line::Line;
 use crate::lull::Lull;
 use crate::needs::{Needs, needs_of};
-use crate::notes::{Notes, BeginReason};
+use crate::notes::{BeginReason, Notes};
 use crate::press::{press_alone, press_round};
 use crate::reading::{Millis, moment_at, reading, second};
 use crate::round::round;
@@ -157,7 +157,12 @@ impl Watch {
     }
 
     /// A clock at which all entries are gone through. Refused, for lack of memory alone, it leaves the watch as it was.
-    fn whole_clock(&mut self, alloc: Global, wall: u64, elapsed: u64) -> Result<WatchOutput, WatchFault>
+    fn whole_clock(
+        &mut self,
+        alloc: Global,
+        wall: u64,
+        elapsed: u64,
+    ) -> Result<WatchOutput, WatchFault>
         ensures step { IfOk result (λ output. StepClock self.old wall elapsed output self.new) }
         ensures refused { IfErr result (λ fault. fault ≡ OutOfMemory) }
         ensures unchanged { OnErr result (self.new ≡ self.old) }

@@ -46,11 +46,11 @@ mod watch;
 
 pub use change::Was;
 pub use clocks::{BrokerOffset, Clocks, WallOffset};
-pub use command::{WatchCommand, WatchOutput, Patience, WatchRequest, Requests};
-pub use event::{WatchEvent, Operation, WatchReply, WatchTerms};
+pub use command::{Patience, Requests, WatchCommand, WatchOutput, WatchRequest};
+pub use event::{Operation, WatchEvent, WatchReply, WatchTerms};
 pub use fault::WatchFault;
 pub use lanes::{LaneAnswer, Out, Presence};
-pub use notes::{Link, Notes, BeginReason};
+pub use notes::{BeginReason, Link, Notes};
 pub use outlook::Next;
 pub use reading::{BrokerSeconds, Millis, READING_MAX, Seconds, WallMillis};
 pub use track::{End, Grant, Track, Try};

@@ -8,7 +8,7 @@ ghost use Rattle.watch_machine.specs.code.Line.{IsLineOf, IsPlain, IsRoundClock,
 ghost use Rattle.watch_machine.specs.declared.fault.WatchFault.TheVariants.{OutOfMemory};
 
 use crate::clock_step::Shown;
-use crate::command::{WatchCommand, WatchOutput, Requests};
+use crate::command::{Requests, WatchCommand, WatchOutput};
 use crate::event::WatchReply;
 use crate::fault::WatchFault;
 use crate::lanes::{Out, Presence};

@@ -188,7 +188,9 @@ impl Watch {
                 self.set_after(request.entry);
                 notes
             }
-            WatchReply::Refused { .. } | WatchReply::Busy | WatchReply::Lost => self.tell_nothing(request, reply),
+            WatchReply::Refused { .. } | WatchReply::Busy | WatchReply::Lost => self.tell_nothing(
+                request, reply,
+            ),
         }
     }
 

@@ -2,7 +2,7 @@ ghost use Rattle.std.specs.Prelude.{◌≡◌, ◌==◌, ◌&&◌, IfSome};
 ghost use Rattle.watch_machine.specs.code.Bounds.{WentOutAtReading};
 ghost use Rattle.watch_machine.specs.Refusal.{is_same, refusal, request_out, unless_asked, unless_within};
 
-use crate::event::{WatchEvent, Operation};
+use crate::event::{Operation, WatchEvent};
 use crate::fault::WatchFault;
 use crate::lanes::Out;
 use crate::watch::Watch;

@@ -11,7 +11,7 @@ ghost use Rattle.watch_machine.specs.declared.event.Operation.TheVariants.{Look,
 
 use crate::answers::{back_all, hear_all, is_back, is_gone, take_out};
 use crate::command::{WatchCommand, WatchOutput};
-use crate::event::{WatchEvent, Operation, WatchReply, WatchTerms};
+use crate::event::{Operation, WatchEvent, WatchReply, WatchTerms};
 use crate::fault::WatchFault;
 use crate::lanes::{LaneAnswer, Out};
 use crate::notes::{Link, Notes};
@@ -72,7 +72,12 @@ impl Watch {
     }
 
     /// Takes the answer to a lookup. The only error is lack of memory, where the request is out.
-    fn take_looked(&mut self, entry: u32, reply: WatchReply, terms: WatchTerms) -> Result<WatchOutput, WatchFault>
+    fn take_looked(
+        &mut self,
+        entry: u32,
+        reply: WatchReply,
+        terms: WatchTerms,
+    ) -> Result<WatchOutput, WatchFault>
         ensures step { IfOk result (λ output. StepLooked self.old (request_out self.old.out entry Look) reply terms output self.new) }
         ensures refused { request_out self.old.out entry Look ≢ None → IfErr result (λ fault. fault ≡ OutOfMemory) }
         ensures unchanged { OnErr result (self.new ≡ self.old) }

@@ -1,13 +1,11 @@
 -- Coming: entries that come up one after another. For `look`, and for whoever holds a scout.
 use Rattle.std.proofs.Common.{◌≡◌, ◌∙◌, ℕ, zero, suc, ◌+◌, ◌-◌, ◌<◌, true, false, Option, Some, None, length, nat_lt, refl, ap, arith, inl, inr}
-use Rattle.std.proofs.lemmas.Bool.{and_from, cases_Bool, cond-false, cond-true}
 use Rattle.std.proofs.lemmas.List.{length-set}
-use Rattle.watch_machine.specs.State.{WatchState}
-use Rattle.watch_machine.specs.Wanted.{is_wanted}
+use Rattle.std.proofs.lemmas.Bool.{and_from, cases_Bool, cond-false, cond-true}
+use Rattle.watch_machine.specs.{State.WatchState, Wanted.is_wanted}
 use Rattle.watch_machine.proofs.Cases.{if_both, not_both}
-use Rattle.watch_scout.specs.Hearing.{freed, freed_where}
+use Rattle.watch_scout.specs.{Hearing.freed, Hearing.freed_where, State.ScoutState, State.seen_at}
 use Rattle.watch_scout.specs.Looking.{Found, came_up, first_from, found, goes_out, had_look, is_at_hand, looked_up, passed_over}
-use Rattle.watch_scout.specs.State.{ScoutState, seen_at}
 
 -- there is one more to come
 one_left : (i n : ℕ) → i < n → n - i ≡ suc (n - suc i)

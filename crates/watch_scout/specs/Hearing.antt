@@ -1,16 +1,11 @@
 -- Hearing: what the watch is told of an answer to a lookup.
 -- Source: this project's own, over Vault, HTTP API: `auth/token`, "Lookup a token (self)"; `sys/leases`, "Read lease".
 use Rattle.std.specs.Prelude.{ℕ, ◌+◌, ◌-◌, Bool, false, not, ◌&&◌, if◌then◌else◌, Option, Some, None, nat_lt}
-use Rattle.watch_machine.specs.declared.event.WatchEvent.{WatchEvent}
-use Rattle.watch_machine.specs.declared.event.WatchEvent.TheVariants.{Known}
-use Rattle.watch_machine.specs.declared.event.WatchReply.{WatchReply}
+use Rattle.watch_machine.specs.{declared.event.WatchEvent.WatchEvent, declared.event.WatchEvent.TheVariants.Known, declared.event.WatchReply.WatchReply, declared.track.End.End, Clocks.sec}
 use Rattle.watch_machine.specs.declared.event.WatchReply.TheVariants.{Told, Refused, Busy, Lost}
-use Rattle.watch_machine.specs.declared.track.End.{End}
 use Rattle.watch_machine.specs.declared.track.End.TheVariants.{Unknown, At, Never}
-use Rattle.watch_machine.specs.Clocks.{sec}
 use Rattle.watch_machine.specs.State.{WatchState, second, track_at}
-use Rattle.watch_scout.specs.Looking.{with_seen}
-use Rattle.watch_scout.specs.State.{ScoutState, seen_at}
+use Rattle.watch_scout.specs.{Looking.with_seen, State.ScoutState, State.seen_at}
 
 -- an end is later than the believed one, where that is known
 abbrev pub is_later : End → ℕ → Bool

@@ -2,14 +2,10 @@
 -- Source: this project's own.
 use Rattle.std.specs.Prelude.{ℕ, zero, suc, ◌+◌, ◌-◌, ◌*◌, ◌==◌, Bool, false, not, ◌&&◌, if◌then◌else◌, Option, Some, None, is_none, length, map, nat_le, nat_lt, slice_set}
 use Rattle.std.specs.List.{range_with_len}
-use Rattle.watch_machine.specs.declared.track.End.{End}
+use Rattle.watch_machine.specs.{declared.track.End.End, Clocks.ms, Outlook.time_of, Wanted.is_wanted, Wanted.least}
 use Rattle.watch_machine.specs.declared.track.End.TheVariants.{Unknown, At, Never}
-use Rattle.watch_machine.specs.Clocks.{ms}
-use Rattle.watch_machine.specs.Outlook.{time_of}
 use Rattle.watch_machine.specs.State.{WatchState, second, track_at}
-use Rattle.watch_machine.specs.Wanted.{is_wanted, least}
-use Rattle.watch_scout.specs.declared.scout.Seen.{Seen}
-use Rattle.watch_scout.specs.State.{ScoutState, seen_at}
+use Rattle.watch_scout.specs.{declared.scout.Seen.Seen, State.ScoutState, State.seen_at}
 
 -- ---- when
 

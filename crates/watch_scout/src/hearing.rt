@@ -5,7 +5,7 @@ ghost use Rattle.watch_scout.specs.Hearing.{end_told, event_by, event_of, freed,
 use crate::scout::{Scout, Seen};
 use crate::second::second;
 use base_moment::Span;
-use watch_machine::{End, WatchEvent, Millis, WatchReply, Seconds, Watch};
+use watch_machine::{End, Millis, Seconds, Watch, WatchEvent, WatchReply};
 
 /// Whether an end is later than the believed one, where that is known.
 fn is_later(believed: End, end: Seconds) -> bool

@@ -1,38 +1,23 @@
 -- Handing: what a scout hands in, and what the watch makes of it. For the laws of what is handed in, and of outages.
 use Rattle.std.proofs.Common.{◌≡◌, ◌∙◌, ℕ, ◌-◌, ◌<◌, ◌≤◌, Bool, true, false, not, ◌&&◌, Option, Some, None, Result, Ok, Err, length, min, nat_le, nat_lt, refl, sym, ap, subst, arith}
+use Rattle.std.proofs.lemmas.{Bool.Decides.nat_tests, List.get_or-set_same}
 use Rattle.std.proofs.lemmas.Bool.{and_parts, cond-false, cond-true}
-use Rattle.std.proofs.lemmas.Bool.Decides.{nat_tests}
-use Rattle.std.proofs.lemmas.List.{get_or-set_same}
-use Rattle.plan_forest.specs.declared.entry.Entry.{Entry}
-use Rattle.plan_forest.specs.declared.forest.TheConstants.{END_MAX}
-use Rattle.watch_machine.specs.declared.command.WatchOutput.{WatchOutput}
-use Rattle.watch_machine.specs.declared.event.WatchEvent.{WatchEvent}
-use Rattle.watch_machine.specs.declared.event.WatchEvent.TheVariants.{Clock, Looked, Renewed, Need, Begin, Known}
-use Rattle.watch_machine.specs.declared.event.WatchReply.{WatchReply}
+use Rattle.plan_forest.specs.{declared.entry.Entry.Entry, declared.forest.TheConstants.END_MAX}
+use Rattle.watch_machine.specs.{declared.command.WatchOutput.WatchOutput, declared.event.WatchEvent.WatchEvent, declared.event.WatchEvent.TheVariants.Known, declared.event.WatchReply.WatchReply, declared.fault.WatchFault.WatchFault}
+use Rattle.watch_machine.specs.{declared.track.End.End, declared.track.End.TheVariants.At, declared.track.Track.Track, Answers.with_track, Clocks.sec, History.Turn, Lines.rested, Outlook.time_of, Refusal.refusal, Step.told_earlier}
 use Rattle.watch_machine.specs.declared.event.WatchReply.TheVariants.{Told, Refused, Busy, Lost}
-use Rattle.watch_machine.specs.declared.fault.WatchFault.{WatchFault}
-use Rattle.watch_machine.specs.declared.fault.WatchFault.TheVariants.{NotAsked, BadIndex, OutOfMemory}
-use Rattle.watch_machine.specs.declared.track.End.{End}
-use Rattle.watch_machine.specs.declared.track.End.TheVariants.{Unknown, At, Never}
-use Rattle.watch_machine.specs.declared.track.Track.{Track}
-use Rattle.watch_machine.specs.Answers.{with_track}
+use Rattle.watch_machine.specs.declared.fault.WatchFault.TheVariants.{BadIndex, OutOfMemory}
 use Rattle.watch_machine.specs.Beginning.{is_pressed, owing_lookup, owing_past}
-use Rattle.watch_machine.specs.Clocks.{sec}
-use Rattle.watch_machine.specs.History.{Turn}
-use Rattle.watch_machine.specs.Lines.{rested}
 use Rattle.watch_machine.specs.Margins.{asking_margin, is_in_plan, own_margin, time, time_before}
-use Rattle.watch_machine.specs.Outlook.{time_of}
-use Rattle.watch_machine.specs.Refusal.{refusal}
 use Rattle.watch_machine.specs.State.{WatchState, entry_of, no_track, second, track_at}
-use Rattle.watch_machine.specs.Step.{told_earlier}
 use Rattle.watch_machine.specs.Wanted.{believed, is_alive, is_wanted}
 use Rattle.watch_machine.proofs.Cases.{if_cases, value_is}
 use Rattle.watch_laws.specs.Absence.{is_event_taken}
 use Rattle.watch_laws.specs.Outage.{IsBefore, IsIncident, Outage}
-use Rattle.watch_scout.specs.Hearing.{end_told, event_by, event_of, event_where, is_later, is_news}
 use Rattle.watch_scout.specs.State.{seen_at}
-use Rattle.watch_scout_laws.specs.Behind.{HandedLaw, IsKept, IsLaterEnd, KeptLaw, later_track}
+use Rattle.watch_scout.specs.Hearing.{end_told, event_by, event_of, event_where, is_later, is_news}
 use Rattle.watch_scout_laws.specs.Resting.{IsStillBefore}
+use Rattle.watch_scout_laws.specs.Behind.{HandedLaw, IsKept, IsLaterEnd, KeptLaw, later_track}
 
 lt_from : (m n : ℕ) → nat_lt m n ≡ true → m < n
 lt_from m n h = grind (arith, nat_tests)

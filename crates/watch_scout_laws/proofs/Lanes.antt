@@ -1,15 +1,12 @@
 -- Lanes: how many lookups are out. For the law of the lanes.
 use Rattle.std.proofs.Common.{◌≡◌, ◌⊎◌, ◌∙◌, ℕ, zero, suc, ◌+◌, ◌-◌, ◌<◌, ◌≤◌, Bool, true, false, ◌==◌, List, [], ◌∷◌, Option, Some, None, is_some, length, nat_lt, replicate, refl, sym, ap, subst, arith, inl, inr}
-use Rattle.std.proofs.lemmas.Bool.{cases_eq, cases_lt}
-use Rattle.std.proofs.lemmas.Bool.Decides.{nat_tests}
+use Rattle.std.proofs.lemmas.{Bool.cases_eq, Bool.cases_lt, Bool.Decides.nat_tests}
 use Rattle.std.proofs.lemmas.List.{get_or-set_same, get_or_past, length-set}
-use Rattle.watch_machine.specs.State.{WatchState, track_at}
-use Rattle.watch_machine.specs.Wanted.{is_wanted}
+use Rattle.watch_machine.specs.{State.WatchState, State.track_at, Wanted.is_wanted}
 use Rattle.watch_machine.proofs.Cases.{if_both, if_cases}
 use Rattle.watch_laws.specs.Outage.{how_many, one_where}
 use Rattle.watch_laws.proofs.Counting.{either, more, none, one_more}
-use Rattle.watch_scout.specs.declared.scout.Seen.{Seen}
-use Rattle.watch_scout.specs.Hearing.{freed, freed_where}
+use Rattle.watch_scout.specs.{declared.scout.Seen.Seen, Hearing.freed, Hearing.freed_where}
 use Rattle.watch_scout.specs.Looking.{Found, came_up, first_from, found, goes_out, had_look, is_at_hand, known_end, looked_up, passed_over, with_seen}
 use Rattle.watch_scout.specs.State.{ScoutState, opened_scout, seen_at, seen_in, unseen}
 use Rattle.watch_scout.proofs.Coming.{none_out, same_width}

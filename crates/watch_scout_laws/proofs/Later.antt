@@ -1,28 +1,16 @@
 -- Later: an end that is later leaves an entry as well off in an outage, with that end in the place of the one before. For the law of outages
 -- of an agent that stands behind another.
-use Rattle.std.proofs.Common.{◌≡◌, ◌⊎◌, ◌∙◌, ℕ, ◌+◌, ◌-◌, ◌*◌, ◌<◌, ◌≤◌, Bool, true, max, All, List, [], ◌∷◌, Result, Ok, Err, length, refl, sym, ap, subst, arith, inl, inr}
-use Rattle.std.proofs.lemmas.Bool.{cases_lt}
-use Rattle.std.proofs.lemmas.List.Elements.{All-weaker}
-use Rattle.watch_machine.specs.declared.command.WatchOutput.{WatchOutput}
-use Rattle.watch_machine.specs.declared.event.WatchEvent.TheVariants.{Known}
-use Rattle.watch_machine.specs.declared.fault.WatchFault.{WatchFault}
-use Rattle.watch_machine.specs.declared.lanes.Out.{Out}
-use Rattle.watch_machine.specs.declared.track.Track.{Track}
-use Rattle.watch_machine.specs.Answers.{with_track}
-use Rattle.watch_machine.specs.Beginning.{is_pressed}
-use Rattle.watch_machine.specs.Clocks.{ms}
+use Rattle.std.proofs.Common.{◌≡◌, ◌⊎◌, ◌∙◌, ℕ, ◌+◌, ◌-◌, ◌<◌, ◌≤◌, Bool, true, max, All, List, [], ◌∷◌, Result, Ok, Err, length, refl, sym, ap, subst, arith, inl, inr}
+use Rattle.std.proofs.lemmas.{Bool.cases_lt, List.Elements.All-weaker}
+use Rattle.watch_machine.specs.{declared.command.WatchOutput.WatchOutput, declared.event.WatchEvent.TheVariants.Known, declared.fault.WatchFault.WatchFault, declared.lanes.Out.Out, declared.track.Track.Track, Answers.with_track}
+use Rattle.watch_machine.specs.{Beginning.is_pressed, Clocks.ms, Lines.is_first, Lines.rested, Outlook.time_of, State.WatchState, State.track_at, Wanted.believed}
 use Rattle.watch_machine.specs.History.{AllHappen, Changes, Happening, Hands, Turn, Turned}
-use Rattle.watch_machine.specs.Lines.{is_first, rested}
-use Rattle.watch_machine.specs.Outlook.{time_of}
-use Rattle.watch_machine.specs.State.{WatchState, track_at}
-use Rattle.watch_machine.specs.Wanted.{believed}
 use Rattle.watch_laws.specs.Outage.{IsShortFor, Outage, again, comes, coming_through, granted_by, how_many, outage_next_after, outage_next_after_command, outage_settled_by, waiting}
+use Rattle.watch_laws.proofs.{Lasting.turn_same, Postponing.short_more, Postponing.short_some}
 use Rattle.watch_laws.proofs.Enduring.{Cutting, Endures, Kept, Missed, cut}
 use Rattle.watch_laws.proofs.Grounds.{IsBase, fewer_wait, turn_base}
 use Rattle.watch_laws.proofs.Lanes.{Sends, is_anew, turn_sends}
-use Rattle.watch_laws.proofs.Lasting.{turn_same}
 use Rattle.watch_laws.proofs.Outliving.{Stays, changed_stays, facts_after, turn_stays}
-use Rattle.watch_laws.proofs.Postponing.{short_more, short_some}
 use Rattle.watch_laws.proofs.Stages.{Facts, IsPlanned, IsThrough, free_from, margin_holds}
 use Rattle.watch_scout_laws.specs.Behind.{later_track}
 use Rattle.watch_scout_laws.specs.Resting.{AllAhead, AreLivedBehind, EndIsAhead, IsToldByScout}

@@ -1,22 +1,14 @@
 -- Leaving: an entry that is left alone is not renewed. For the law of what is left to the agent in front.
 use Rattle.std.proofs.Common.{◌≡◌, ◌∙◌, ℕ, Bool, true, false, ◌&&◌, ◌||◌, ◌==◌, if◌then◌else◌, List, [], ◌∷◌, ◌++◌, Option, Some, None, Result, Ok, Err, refl, sym, ap, subst, inl, inr, true≢false}
 use Rattle.std.proofs.lemmas.Bool.{and_parts, cases_Bool, cond-false, cond-true, eqb-true, false_from_ne_true}
-use Rattle.watch_machine.specs.declared.command.WatchOutput.{WatchOutput}
-use Rattle.watch_machine.specs.declared.event.WatchEvent.{WatchEvent}
-use Rattle.watch_machine.specs.declared.event.WatchEvent.TheVariants.{Clock, Looked, Renewed, Need, Begin, Known}
-use Rattle.watch_machine.specs.declared.event.WatchReply.{WatchReply}
-use Rattle.watch_machine.specs.declared.event.WatchReply.TheVariants.{Told, Refused, Busy, Lost}
-use Rattle.watch_machine.specs.declared.fault.WatchFault.{WatchFault}
+use Rattle.watch_machine.specs.{declared.command.WatchOutput.WatchOutput, declared.event.WatchEvent.WatchEvent, declared.event.WatchReply.WatchReply, declared.event.WatchReply.TheVariants.Told, declared.fault.WatchFault.WatchFault}
+use Rattle.watch_machine.specs.{State.WatchState, State.opened}
+use Rattle.watch_machine.specs.declared.event.WatchEvent.TheVariants.{Clock, Looked, Renewed}
 use Rattle.watch_machine.specs.History.{AllHappen, Changes, Happening, Hands, Turn, Turned, state_after, stood}
-use Rattle.watch_machine.specs.State.{WatchState, opened}
 use Rattle.watch_machine.proofs.Cases.{not_both}
-use Rattle.watch_laws.specs.Absence.{is_event_taken}
-use Rattle.watch_laws.specs.Load.{requests_at_turn}
-use Rattle.watch_laws.specs.Outage.{tells}
-use Rattle.watch_laws.specs.Presence.{is_told}
+use Rattle.watch_laws.specs.{Absence.is_event_taken, Load.requests_at_turn, Outage.tells, Presence.is_told}
 use Rattle.watch_laws.specs.Time.{AllReasoned, IsReasonedAt, is_come, is_named_in_round, reason, reason_answered, reason_at, renewal_goes_out}
-use Rattle.watch_laws.proofs.Reasons.{early}
-use Rattle.watch_laws.proofs.Rounds.{opened_rightly}
+use Rattle.watch_laws.proofs.{Reasons.early, Rounds.opened_rightly}
 use Rattle.watch_scout_laws.specs.Behind.{AllLeft, IsLeft, IsLeftAt, IsToldAhead, IsUnrenewed, LeaveLaw, NoneRenewed}
 
 -- ---- what is left of a run

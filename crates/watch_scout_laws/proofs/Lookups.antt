@@ -1,18 +1,13 @@
 -- Lookups: what coming up leaves of what was seen of an entry, and whose lookups go out. For the laws of looks.
 use Rattle.std.proofs.Common.{◌≡◌, ◌≢◌, ◌⊎◌, ◌∙◌, ℕ, zero, suc, ◌+◌, ◌-◌, ◌<◌, ◌≤◌, Bool, true, false, not, ◌&&◌, ◌==◌, ◌*◌, List, [], ◌∷◌, Option, Some, None, is_none, length, nat_le, nat_lt, refl, sym, ap, subst, arith, inl, inr}
-use Rattle.std.proofs.lemmas.Bool.{and_parts, cases_Bool, cases_eq, cases_lt, cond-true, eqb-true, false_from_ne_true}
 use Rattle.std.proofs.lemmas.Bool.Decides.{nat_tests}
+use Rattle.std.proofs.lemmas.Bool.{and_parts, cases_Bool, cases_eq, cases_lt, cond-true, eqb-true, false_from_ne_true}
 use Rattle.std.proofs.lemmas.List.{get_or-set_other, get_or-set_same, get_or_past, length-set}
-use Rattle.watch_machine.specs.declared.track.End.{End}
-use Rattle.watch_machine.specs.declared.track.End.TheVariants.{Unknown, At, Never}
-use Rattle.watch_machine.specs.Clocks.{ms}
-use Rattle.watch_machine.specs.Outlook.{time_of}
+use Rattle.watch_machine.specs.{declared.track.End.End, declared.track.End.TheVariants.At, Clocks.ms, Outlook.time_of, Wanted.is_wanted}
 use Rattle.watch_machine.specs.State.{WatchState, second, track_at}
-use Rattle.watch_machine.specs.Wanted.{is_wanted}
 use Rattle.watch_machine.proofs.Cases.{if_both, if_cases, not_both, value_is}
 use Rattle.watch_laws.specs.Outage.{one_where}
-use Rattle.watch_scout.specs.declared.scout.Seen.{Seen}
-use Rattle.watch_scout.specs.Hearing.{freed, freed_where}
+use Rattle.watch_scout.specs.{declared.scout.Seen.Seen, Hearing.freed, Hearing.freed_where}
 use Rattle.watch_scout.specs.Looking.{Found, awaits, came_up, first_from, found, goes_out, had_look, is_at_hand, is_for, is_new, known_end, look_moment, looked_up, passed_over, with_seen}
 use Rattle.watch_scout.specs.State.{ScoutState, seen_at, unseen}
 use Rattle.watch_scout.proofs.Coming.{all_seen}

@@ -1,15 +1,11 @@
 -- Resting: nothing rests on the agent in front. For the law of outages of an agent that stands behind another.
 use Rattle.std.proofs.Common.{◌≡◌, true, length, sym, ap, subst, arith}
-use Rattle.watch_machine.specs.declared.event.WatchEvent.TheVariants.{Known}
-use Rattle.watch_machine.specs.Clocks.{ms}
-use Rattle.watch_machine.specs.Outlook.{time_of}
-use Rattle.watch_machine.specs.State.{WatchState}
-use Rattle.watch_machine.specs.Wanted.{is_wanted}
+use Rattle.watch_machine.specs.{declared.event.WatchEvent.TheVariants.Known, Clocks.ms, Outlook.time_of, State.WatchState, Wanted.is_wanted}
 use Rattle.watch_laws.specs.Outage.{IsShortFor, granted_next, outage_next_after}
 use Rattle.watch_laws.proofs.Outliving.{facts_of, may_at_time, outlives_from_clock, outlives_from_told}
 use Rattle.watch_scout_laws.specs.Resting.{IsStillBefore, RestLaw}
-use Rattle.watch_scout_laws.proofs.Handing.{another, end_in, hands, keeps, still}
 use Rattle.watch_scout_laws.proofs.Later.{along_behind}
+use Rattle.watch_scout_laws.proofs.Handing.{another, end_in, hands, keeps, still}
 
 pub rests : RestLaw
 rests = record {

@@ -1,16 +1,13 @@
 -- Truly: an end that a true reply tells a scout comes no later than the real one. For the laws of real ends.
 use Rattle.std.proofs.Common.{◌≡◌, ℕ, ◌+◌, List, [], ◌∷◌, Option, Some, None, ap, subst}
-use Rattle.watch_machine.specs.declared.event.WatchEvent.{WatchEvent}
-use Rattle.watch_machine.specs.declared.event.WatchEvent.TheVariants.{Clock, Looked, Renewed, Need, Begin, Known}
-use Rattle.watch_machine.specs.declared.event.WatchReply.{WatchReply}
+use Rattle.watch_machine.specs.{declared.event.WatchEvent.WatchEvent, declared.event.WatchEvent.TheVariants.Known, declared.event.WatchReply.WatchReply, State.WatchState, State.opened}
 use Rattle.watch_machine.specs.declared.event.WatchReply.TheVariants.{Told, Refused, Busy, Lost}
 use Rattle.watch_machine.specs.History.{Changes, Happening, Hands, state_after, stood}
-use Rattle.watch_machine.specs.State.{WatchState, opened}
 use Rattle.watch_machine.proofs.Cases.{value_is}
 use Rattle.watch_laws.specs.Ends.{AreLivedFrom, IsHonest, IsNoLater, IsTrueAt, IsTrueEvent, IsTrueReply, Lived, TimedWorld, asked_at, happened}
 use Rattle.watch_laws.proofs.Ends.{never_past, told_end}
-use Rattle.watch_scout.specs.Hearing.{end_told, event_of, event_where}
 use Rattle.watch_scout.specs.State.{seen_at}
+use Rattle.watch_scout.specs.Hearing.{end_told, event_of, event_where}
 use Rattle.watch_scout_laws.specs.RealEnds.{AreLivedBehind, BehindLaw, HarmlessLaw, IsSinceBy, IsTrueBehind, IsTrueThere}
 use Rattle.watch_scout_laws.proofs.Handing.{end_in, told_news}
 

@@ -1,28 +1,14 @@
 -- Behind: what an agent that stands behind another leaves to that one. Each law is the contract of a public function without a body.
 -- Source: this project's own.
 use Rattle.std.specs.Prelude.{◌≡◌, ℕ, ◌-◌, ◌<◌, ◌≤◌, Bool, true, false, List, [], ◌∷◌, ◌++◌, Option, Some, None, Result, Ok, Err, length}
-use Rattle.plan_forest.specs.declared.forest.TheConstants.{END_MAX}
-use Rattle.plan_forest.specs.Forest.{Forest}
-use Rattle.watch_machine.specs.declared.command.WatchOutput.{WatchOutput}
-use Rattle.watch_machine.specs.declared.event.WatchEvent.{WatchEvent}
+use Rattle.plan_forest.specs.{declared.forest.TheConstants.END_MAX, Forest.Forest}
+use Rattle.watch_machine.specs.{declared.command.WatchOutput.WatchOutput, declared.event.WatchEvent.WatchEvent, declared.event.WatchReply.WatchReply, declared.fault.WatchFault.WatchFault, declared.track.End.TheVariants.At}
+use Rattle.watch_machine.specs.{declared.track.Track.Track, Answers.with_track, Margins.asking_margin, Outlook.time_of, Wanted.is_wanted}
 use Rattle.watch_machine.specs.declared.event.WatchEvent.TheVariants.{Clock, Looked, Renewed, Need, Begin, Known}
-use Rattle.watch_machine.specs.declared.event.WatchReply.{WatchReply}
-use Rattle.watch_machine.specs.declared.fault.WatchFault.{WatchFault}
-use Rattle.watch_machine.specs.declared.track.End.TheVariants.{At}
-use Rattle.watch_machine.specs.declared.track.Track.{Track}
-use Rattle.watch_machine.specs.Answers.{with_track}
 use Rattle.watch_machine.specs.History.{Changes, Happening, Hands, IsRun, Turn, Turned, stood}
-use Rattle.watch_machine.specs.Margins.{asking_margin}
-use Rattle.watch_machine.specs.Outlook.{time_of}
 use Rattle.watch_machine.specs.State.{WatchState, entry_of, second, track_at}
-use Rattle.watch_machine.specs.Wanted.{is_wanted}
-use Rattle.watch_laws.specs.Absence.{is_event_taken}
-use Rattle.watch_laws.specs.Load.{requests_at_turn}
-use Rattle.watch_laws.specs.Outage.{tells}
-use Rattle.watch_laws.specs.Presence.{is_told}
-use Rattle.watch_laws.specs.Time.{is_come, renewal_goes_out}
-use Rattle.watch_scout.specs.Hearing.{event_of}
-use Rattle.watch_scout.specs.State.{ScoutState}
+use Rattle.watch_laws.specs.{Absence.is_event_taken, Load.requests_at_turn, Outage.tells, Presence.is_told, Time.is_come, Time.renewal_goes_out}
+use Rattle.watch_scout.specs.{Hearing.event_of, State.ScoutState}
 
 -- ---- what a scout hands in
 

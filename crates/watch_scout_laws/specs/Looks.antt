@@ -2,10 +2,8 @@
 -- Source: this project's own.
 use Rattle.std.specs.Prelude.{◌≡◌, ◌==◌, ℕ, ◌+◌, ◌<◌, ◌≤◌, Bool, true, false, List, [], ◌∷◌, Option, Some, None, is_some, length}
 use Rattle.plan_forest.specs.Forest.{Forest}
-use Rattle.watch_machine.specs.declared.track.End.TheVariants.{At}
-use Rattle.watch_machine.specs.Outlook.{time_of}
+use Rattle.watch_machine.specs.{declared.track.End.TheVariants.At, Outlook.time_of, Wanted.is_wanted}
 use Rattle.watch_machine.specs.State.{WatchState, second, track_at}
-use Rattle.watch_machine.specs.Wanted.{is_wanted}
 use Rattle.watch_laws.specs.Outage.{how_many, one_where}
 use Rattle.watch_scout.specs.Looking.{look_moment}
 use Rattle.watch_scout.specs.State.{ScoutState, opened_scout, seen_at}

@@ -3,14 +3,10 @@
 -- Source: this project's own, over Vault, HTTP API: `auth/token`, "Lookup a token (self)"; `sys/leases`, "Read lease".
 use Rattle.std.specs.Prelude.{◌≡◌, ℕ, ◌+◌, ◌≤◌, Bool, List, [], ◌∷◌, Option, Some, None}
 use Rattle.plan_forest.specs.Forest.{Forest}
-use Rattle.watch_machine.specs.declared.event.WatchEvent.{WatchEvent}
-use Rattle.watch_machine.specs.declared.event.WatchEvent.TheVariants.{Known}
-use Rattle.watch_machine.specs.declared.event.WatchReply.{WatchReply}
+use Rattle.watch_machine.specs.{declared.event.WatchEvent.WatchEvent, declared.event.WatchEvent.TheVariants.Known, declared.event.WatchReply.WatchReply, State.WatchState, State.opened}
 use Rattle.watch_machine.specs.History.{Changes, Happening, Happens, Hands, state_after, stood}
-use Rattle.watch_machine.specs.State.{WatchState, opened}
 use Rattle.watch_laws.specs.Ends.{AllNoLater, IsHonest, IsNoLater, IsTrueEvent, IsTrueReading, IsTrueReply, Lived, Origin, TimedWorld, asked_at, happened, no_origin}
-use Rattle.watch_scout.specs.Hearing.{event_of}
-use Rattle.watch_scout.specs.State.{ScoutState, seen_at}
+use Rattle.watch_scout.specs.{Hearing.event_of, State.ScoutState, State.seen_at}
 
 -- the clock at which a lookup went out was shown at that moment, or earlier
 abbrev pub IsSinceBy : Option ℕ → ℕ → Type 0

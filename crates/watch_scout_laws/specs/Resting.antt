@@ -3,20 +3,13 @@
 -- Source: this project's own.
 use Rattle.std.specs.Prelude.{◌≡◌, ◌≢◌, ◌⊎◌, ℕ, ◌-◌, ◌*◌, ◌<◌, ◌≤◌, Bool, true, List, [], ◌∷◌, Some, length}
 use Rattle.plan_forest.specs.declared.forest.TheConstants.{END_MAX}
-use Rattle.watch_machine.specs.declared.event.WatchEvent.{WatchEvent}
-use Rattle.watch_machine.specs.declared.event.WatchEvent.TheVariants.{Known}
-use Rattle.watch_machine.specs.declared.event.WatchReply.{WatchReply}
-use Rattle.watch_machine.specs.Change.{former_at}
-use Rattle.watch_machine.specs.Clocks.{ms}
+use Rattle.watch_machine.specs.{declared.event.WatchEvent.WatchEvent, declared.event.WatchEvent.TheVariants.Known, declared.event.WatchReply.WatchReply, Change.former_at, Clocks.ms, Outlook.time_of, State.WatchState, State.track_at}
+use Rattle.watch_machine.specs.{Wanted.believed, Wanted.is_wanted}
 use Rattle.watch_machine.specs.History.{AllHappen, Changes, Happening, Hands, IsReached, Turn, Turned}
-use Rattle.watch_machine.specs.Outlook.{time_of}
-use Rattle.watch_machine.specs.State.{WatchState, track_at}
-use Rattle.watch_machine.specs.Wanted.{believed, is_wanted}
 use Rattle.watch_laws.specs.Absence.{is_clock, is_event_taken}
 use Rattle.watch_laws.specs.Outage.{IsBefore, IsGrant, IsIncident, IsLived, IsLivedChange, IsShortFor, IsShortOutage, Outage, granted_next, in_line, outage_next_after}
 use Rattle.plan_spread.specs.Behind.{margin_behind}
-use Rattle.watch_scout.specs.Hearing.{event_of}
-use Rattle.watch_scout.specs.State.{ScoutState}
+use Rattle.watch_scout.specs.{Hearing.event_of, State.ScoutState}
 
 -- i is before its time after an event as it was before it, its time comes no sooner, and its believed end is later
 pub record IsStillBefore (old new : WatchState) (i : ℕ) : Type 0 where

@@ -1,12 +1,8 @@
 -- Steps: what a scout does, one step after another, beside a watch that may be in any state.
 -- Source: this project's own.
 use Rattle.std.specs.Prelude.{◌≡◌, ℕ, List, [], ◌∷◌, Option}
-use Rattle.watch_machine.specs.declared.event.WatchEvent.{WatchEvent}
-use Rattle.watch_machine.specs.declared.event.WatchReply.{WatchReply}
-use Rattle.watch_machine.specs.State.{WatchState}
-use Rattle.watch_scout.specs.Hearing.{event_of, freed}
-use Rattle.watch_scout.specs.Looking.{found}
-use Rattle.watch_scout.specs.State.{ScoutState}
+use Rattle.watch_machine.specs.{declared.event.WatchEvent.WatchEvent, declared.event.WatchReply.WatchReply, State.WatchState}
+use Rattle.watch_scout.specs.{Hearing.event_of, Hearing.freed, Looking.found, State.ScoutState}
 
 -- it was asked for a lookup that is to go out, from an index on: the watch beside it, the entry that was found, and the scout after it
 pub record Sought : Type 0 where

@@ -1,12 +1,10 @@
 -- Words for the look for another entry that has a credential, by what is held. No public clause cites them.
 -- Source: this project's own.
 use Rattle.std.specs.Prelude.{ℕ, Bool, not, ◌&&◌, List, is_none, bytes_eq}
-use Rattle.std.specs.Bool.{beq}
-use Rattle.std.specs.List.{list_any}
+use Rattle.std.specs.{Bool.beq, List.list_any}
 use Rattle.plan_forest.specs.Push.{is_lease}
-use Rattle.state_changes.specs.declared.row.Row.{Row}
+use Rattle.state_changes.specs.{declared.row.Row.Row, declared.secret.Secret.Secret}
 use Rattle.state_secrets.specs.Outcomes.{has_it, is_own_file}
-use Rattle.state_changes.specs.declared.secret.Secret.{Secret}
 
 -- another entry of the kind
 abbrev pub is_other : Row → Row → Bool

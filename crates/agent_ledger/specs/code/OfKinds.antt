@@ -1,14 +1,10 @@
 -- Words for the credentials of later rows, by kind. No public clause cites them.
 -- Source: this project's own.
 use Rattle.std.specs.Prelude.{◌≡◌, ℕ, Bool, List}
-use Rattle.std.specs.BTreeSet.{BTreeSet, contains}
-use Rattle.std.specs.Cmp.Lexicographic.{slice_cmp}
-use Rattle.std.specs.List.{list_any}
+use Rattle.std.specs.{BTreeSet.BTreeSet, BTreeSet.contains, Cmp.Lexicographic.slice_cmp, List.list_any, declared.cmp.Ordering.Ordering}
 use Rattle.std.specs.Ordering.{bool_cmp, nat_cmp, ordering_then}
-use Rattle.std.specs.declared.cmp.Ordering.{Ordering}
 use Rattle.state_changes.specs.declared.row.Row.{Row}
-use Rattle.agent_ledger.specs.Shared.{has_of_kind}
-use Rattle.agent_ledger.specs.declared.shared.OfKind.{OfKind}
+use Rattle.agent_ledger.specs.{Shared.has_of_kind, declared.shared.OfKind.OfKind}
 
 abbrev pub of_kind_cmp : OfKind → OfKind → Ordering
 of_kind_cmp a b = ordering_then (bool_cmp a.is_lease b.is_lease) (slice_cmp nat_cmp a.credential b.credential)

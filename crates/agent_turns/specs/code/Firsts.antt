@@ -3,12 +3,8 @@
 use Rattle.std.specs.Prelude.{◌≡◌, ℕ, List, [], ◌∷◌}
 use Rattle.vault_asking.specs.Sending.{GoesOut}
 use Rattle.vault_lanes.specs.declared.lanes.Answered.{Answered}
-use Rattle.watch_machine.specs.declared.command.WatchRequest.{WatchRequest}
-use Rattle.watch_machine.specs.Clocks.{second_of_wall}
-use Rattle.agent_turns.specs.Calls.{call_of_answer}
-use Rattle.agent_turns.specs.Held.{Held, ServingSide}
-use Rattle.agent_turns.specs.Neighbours.{NeighbourCall}
-use Rattle.agent_turns.specs.Stages.{AnswerIsTaken}
+use Rattle.watch_machine.specs.{declared.command.WatchRequest.WatchRequest, Clocks.second_of_wall}
+use Rattle.agent_turns.specs.{Calls.call_of_answer, Held.Held, Held.ServingSide, Neighbours.NeighbourCall, Stages.AnswerIsTaken}
 
 -- the first request that was not sent goes out
 pub record GoesFirst (port : ℕ) (old new : ServingSide) : Type 0 where

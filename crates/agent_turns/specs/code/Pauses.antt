@@ -2,13 +2,9 @@
 -- Source: this project's own.
 use Rattle.std.specs.Prelude.{◌≡◌, ℕ, List, [], ◌∷◌, Option, Some, None}
 use Rattle.agent_standing.specs.Agent.{Agent}
-use Rattle.base_clock.specs.Seen.{read_call}
-use Rattle.base_clock.specs.declared.reading.Reading.{Reading}
+use Rattle.base_clock.specs.{Seen.read_call, declared.reading.Reading.Reading}
+use Rattle.agent_turns.specs.{Changes.AllGiven, Changes.given_by, Held.ServingSide, Neighbours.AllCalled, Neighbours.NeighbourCall, declared.change.AgentChange.AgentChange}
 use Rattle.agent_turns.specs.Apart.{Ending, EndsBy, IsPause, IsShown, IsShownAt, Pause, called_at, called_in, clocked_at, given_at}
-use Rattle.agent_turns.specs.Changes.{AllGiven, given_by}
-use Rattle.agent_turns.specs.Held.{ServingSide}
-use Rattle.agent_turns.specs.Neighbours.{AllCalled, NeighbourCall}
-use Rattle.agent_turns.specs.declared.change.AgentChange.{AgentChange}
 
 -- a pause by what was read, but for its wait: nothing is another
 pub record IsPausedApart {N : Type 0} (does : NeighbourCall → N → N → Type 0) (until : ℕ) (reading : Option Reading) (millis : ℕ) (seen shown : Agent) (old new : ServingSide) (before given : Option (List AgentChange)) (a b : N) : Type 0 where

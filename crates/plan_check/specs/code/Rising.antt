@@ -1,11 +1,8 @@
 -- Rising runs, and the tree of the gaps between their moments. No public clause cites them.
 use Rattle.std.specs.Prelude.{◌≡◌, ℕ, List}
-use Rattle.plan_rule.specs.declared.run.Run.{Run}
-use Rattle.plan_rule.specs.Runs.{all_wakes, moments_of}
-use Rattle.plan_rule.specs.Schedule.{RisesStrictly}
-use Rattle.plan_check.specs.declared.gap_tree.GapTree.{GapTree}
+use Rattle.plan_rule.specs.{declared.run.Run.Run, Runs.all_wakes, Runs.moments_of, Schedule.RisesStrictly}
+use Rattle.plan_check.specs.{declared.gap_tree.GapTree.GapTree, code.Steps.AllFit}
 use Rattle.plan_check.specs.code.Gaps.{HasMarks, gaps_in, gaps_of}
-use Rattle.plan_check.specs.code.Steps.{AllFit}
 
 -- runs, and the moment from which on they rise
 pub record Rising : Type 0 where

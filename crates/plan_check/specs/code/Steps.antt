@@ -1,15 +1,10 @@
 -- Words for the steps of the code, which goes run by run. No public clause cites them.
 use Rattle.std.specs.Prelude.{◌≡◌, ℕ, ◌+◌, ◌*◌, ◌≤◌, ◌<◌, ◌⊎◌, max, min, slice_index, true, false, List, [], ◌∷◌, ◌++◌, length, Option, Some, None}
 use Rattle.std.specs.List.{AllByRecursion}
-use Rattle.plan_forest.specs.declared.entry.Entry.{Entry}
+use Rattle.plan_forest.specs.{declared.entry.Entry.Entry, Renewal.all_last, Renewal.renewal}
 use Rattle.plan_forest.specs.Forest.{Forest, end_of, entry_at}
-use Rattle.plan_forest.specs.Renewal.{all_last, renewal}
-use Rattle.plan_rule.specs.Forced.{latest_end}
-use Rattle.plan_rule.specs.declared.force.Force.{Force}
-use Rattle.plan_rule.specs.declared.run.Run.{Run}
-use Rattle.plan_check.specs.declared.answer.Cause.{Cause}
-use Rattle.plan_check.specs.Fit.{RunIsFit}
-use Rattle.plan_check.specs.Walk.{fault}
+use Rattle.plan_rule.specs.{Forced.latest_end, declared.force.Force.Force, declared.run.Run.Run}
+use Rattle.plan_check.specs.{declared.answer.Cause.Cause, Fit.RunIsFit, Walk.fault}
 
 -- what a walk over the wake-ups us finds, by the present ends, whatever follows them: with no fault in them it goes on
 -- after one at last with the k'-th

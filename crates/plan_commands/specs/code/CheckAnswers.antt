@@ -2,16 +2,12 @@
 use Rattle.std.specs.Prelude.{◌≡◌, ◌⊎◌, ℕ, ◌<◌, List, Option, codes}
 use Rattle.plan_forest.specs.Forest.{Forest}
 use Rattle.plan_certificate.specs.declared.cert.Cert.{Cert}
+use Rattle.plan_check.specs.{declared.answer.Cause.Cause, Answer.IsCertificateAnswer, Laws.ClaimHolds}
 use Rattle.plan_check.specs.declared.answer.Answer.TheVariants.{No, Yes}
-use Rattle.plan_check.specs.declared.answer.Cause.{Cause}
 use Rattle.plan_check.specs.declared.answer.Cause.TheVariants.{NotForced, NotKept, NotRising, NotUnkeepable}
-use Rattle.plan_check.specs.Answer.{IsCertificateAnswer}
-use Rattle.plan_check.specs.Laws.{ClaimHolds}
 use Rattle.program_report.specs.declared.exit.Exit.{Exit}
 use Rattle.program_report.specs.declared.exit.Exit.TheVariants as exits
-use Rattle.plan_commands.specs.CheckRun.{StartsAsAsked}
-use Rattle.plan_commands.specs.CheckText.{no_line}
-use Rattle.plan_commands.specs.Running.{Texts}
+use Rattle.plan_commands.specs.{CheckRun.StartsAsAsked, CheckText.no_line, Running.Texts}
 
 -- the entry that a cause names is one of n
 abbrev pub CauseIsNamed : ℕ → Cause → Type 0

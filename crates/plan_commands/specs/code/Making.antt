@@ -2,23 +2,15 @@
 use Rattle.std.specs.Prelude.{◌≡◌, ◌⊎◌, ℕ, List, Result, Ok, Err, slice_index}
 use Rattle.base_device.specs.Seen.{Change}
 use Rattle.base_moment.specs.declared.text.Text.{Text}
-use Rattle.plan_forest.specs.declared.entry.Entry.{Entry}
-use Rattle.plan_forest.specs.Forest.{Forest}
+use Rattle.plan_forest.specs.{declared.entry.Entry.Entry, Forest.Forest}
 use Rattle.plan_search.specs.declared.decision.Decision.{Decision}
 use Rattle.plan_search.specs.declared.decision.Decision.TheVariants as decision
-use Rattle.vault_inventory.specs.declared.fault.InvFault.{InvFault}
-use Rattle.vault_inventory.specs.Inventories.{Inventory}
-use Rattle.program_report.specs.declared.exit.Exit.{Exit}
-use Rattle.program_report.specs.declared.exit.Exit.TheVariants as exits
-use Rattle.program_report.specs.declared.stop.Stop.{Stop}
-use Rattle.program_report.specs.declared.stop.Stop.TheVariants as stops
-use Rattle.program_report.specs.Exits.{exit_of}
+use Rattle.vault_inventory.specs.{declared.fault.InvFault.InvFault, Inventories.Inventory}
+use Rattle.program_report.specs.{declared.exit.Exit.Exit, declared.stop.Stop.Stop, Exits.exit_of, Told.Reports, FaultLine.line_of_stop}
 use Rattle.program_report.specs.Sent.{IsAll, IsUntouched, SendsText}
-use Rattle.program_report.specs.Told.{Reports}
-use Rattle.plan_commands.specs.declared.outcome.Outcome.{Outcome}
-use Rattle.plan_commands.specs.PlanDates.{AreRunsInDates, IsPairInDates}
-use Rattle.plan_commands.specs.Running.{Halts, Texts}
-use Rattle.program_report.specs.FaultLine.{line_of_stop}
+use Rattle.program_report.specs.declared.exit.Exit.TheVariants as exits
+use Rattle.program_report.specs.declared.stop.Stop.TheVariants as stops
+use Rattle.plan_commands.specs.{declared.outcome.Outcome.Outcome, PlanDates.AreRunsInDates, PlanDates.IsPairInDates, Running.Halts, Running.Texts}
 
 -- what a command makes of a forest
 abbrev pub MakesOf : Texts → Halts → Forest → Result Outcome Stop → Type 0

@@ -1,13 +1,10 @@
 -- Words for the parts of the run `margin`. No public clause cites them.
 use Rattle.std.specs.Prelude.{◌≡◌, ℕ, ◌<◌, List, Option, length}
 use Rattle.plan_forest.specs.Forest.{Forest}
-use Rattle.plan_search.specs.Decides.{NoneKeeps}
-use Rattle.plan_search.specs.Shortfall.{IsShortfall}
+use Rattle.plan_search.specs.{Decides.NoneKeeps, Shortfall.IsShortfall}
 use Rattle.program_report.specs.declared.exit.Exit.{Exit}
 use Rattle.program_report.specs.declared.exit.Exit.TheVariants as exits
-use Rattle.plan_commands.specs.MarginRun.{HasNoCount}
-use Rattle.plan_commands.specs.MarginText.{IsMarginText, IsNoMargin}
-use Rattle.plan_commands.specs.Running.{Halts, Texts}
+use Rattle.plan_commands.specs.{MarginRun.HasNoCount, MarginText.IsMarginText, MarginText.IsNoMargin, Running.Halts, Running.Texts}
 
 -- the texts about a forest as it stands, and the reason for none
 abbrev pub TextsFrom : ℕ → Option ℕ → Texts

@@ -1,10 +1,7 @@
 -- Words for the pass that carries needs up, which holds a need and an index for each entry. No public clause cites them.
 use Rattle.std.specs.Prelude.{◌≡◌, ℕ, ◌≤◌, ◌<◌, List, Some, None, ◌==◌, ◌⊎◌, if◌then◌else◌, length, nat_lt, slice_index_or}
-use Rattle.plan_forest.specs.declared.entry.Entry.{Entry}
-use Rattle.plan_forest.specs.Forest.{entry_at}
-use Rattle.plan_forest.specs.Over.{Over}
-use Rattle.plan_needs.specs.declared.load.Load.{Load}
-use Rattle.plan_needs.specs.Carried.{CarriedNeed}
+use Rattle.plan_forest.specs.{declared.entry.Entry.Entry, Forest.entry_at, Over.Over}
+use Rattle.plan_needs.specs.{declared.load.Load.Load, Carried.CarriedNeed}
 
 -- what callers see of a load
 abbrev pub seen_load : Load → CarriedNeed

@@ -1,8 +1,6 @@
 -- Words for the replay, which holds ends in a list and carries down what lasts over an entry. No public clause cites them.
 use Rattle.std.specs.Prelude.{◌≡◌, ℕ, ◌+◌, ◌&&◌, if◌then◌else◌, ◌≤◌, ◌<◌, List, length, nat_le, slice_index}
-use Rattle.plan_forest.specs.declared.entry.Entry.{Entry}
-use Rattle.plan_forest.specs.Forest.{entry_at}
-use Rattle.plan_forest.specs.Renewal.{all_last, renewal}
+use Rattle.plan_forest.specs.{declared.entry.Entry.Entry, Forest.entry_at, Renewal.all_last, Renewal.renewal}
 use Rattle.plan_rule.specs.Keeps.{Alive}
 
 -- a list of ends as the function from an index to its end, 0 past the last

@@ -2,14 +2,9 @@
 -- Source: this project's own.
 use Rattle.std.specs.Prelude.{◌≡◌, ℕ, ◌+◌, ◌*◌, ◌≤◌, ◌<◌, ◌⊎◌, List, [], length, Option, Some, None}
 use Rattle.std.specs.List.{All, Contains}
-use Rattle.plan_schedule.specs.declared.groups.Groups.{Groups}
-use Rattle.plan_schedule.specs.declared.groups.Next.{Next}
-use Rattle.plan_schedule.specs.declared.groups.Next.TheVariants.{Done, Joined, Waiting}
-use Rattle.plan_schedule.specs.declared.groups.Turn.{Turn}
-use Rattle.plan_schedule.specs.declared.groups.Turn.TheVariants.{Comes, Empty, Leaves, Steady}
-use Rattle.plan_schedule.specs.code.Line.{IsFirstInLine, Spot, spot}
-use Rattle.plan_schedule.specs.Prospect.{Prospect, terms_of}
-use Rattle.plan_schedule.specs.Terms.{Ahead, Terms, lasts_until}
+use Rattle.plan_schedule.specs.{declared.groups.Groups.Groups, declared.groups.Next.Next, declared.groups.Next.TheVariants.Done, declared.groups.Next.TheVariants.Joined, declared.groups.Next.TheVariants.Waiting, declared.groups.Turn.Turn}
+use Rattle.plan_schedule.specs.{declared.groups.Turn.TheVariants.Comes, declared.groups.Turn.TheVariants.Empty, declared.groups.Turn.TheVariants.Leaves, declared.groups.Turn.TheVariants.Steady}
+use Rattle.plan_schedule.specs.{code.Line.IsFirstInLine, code.Line.Spot, code.Line.spot, Prospect.Prospect, Prospect.terms_of, Terms.Ahead, Terms.Terms, Terms.lasts_until}
 
 -- a wake-up at prev reaches the end that the entry has now
 abbrev pub HasJoined : Terms → Option ℕ → ℕ → Type 0

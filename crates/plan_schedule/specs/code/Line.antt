@@ -1,10 +1,7 @@
 -- Line: entries in the order of a key, of equal keys by index. No public clause cites it.
 -- Source: this project's own.
 use Rattle.std.specs.Prelude.{◌≡◌, ℕ, List, [], Option, Some, None}
-use Rattle.std.specs.declared.cmp.Ordering.{Ordering}
-use Rattle.std.specs.declared.cmp.Reverse.{Reverse}
-use Rattle.std.specs.List.{All, Contains}
-use Rattle.std.specs.Ordering.{nat_cmp, ordering_then}
+use Rattle.std.specs.{declared.cmp.Ordering.Ordering, declared.cmp.Reverse.Reverse, List.All, List.Contains, Ordering.nat_cmp, Ordering.ordering_then}
 use Rattle.plan_schedule.specs.Terms.{Ahead}
 
 -- a key and an index

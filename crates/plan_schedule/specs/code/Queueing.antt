@@ -2,13 +2,9 @@
 -- Source: this project's own.
 use Rattle.std.specs.Prelude.{◌≡◌, ℕ, ◌+◌, ◌-◌, ◌≤◌, ◌<◌, length, Option, Some}
 use Rattle.std.specs.List.{Contains}
-use Rattle.plan_schedule.specs.declared.groups.Groups.{Groups}
-use Rattle.plan_schedule.specs.declared.groups.Next.{Next}
-use Rattle.plan_schedule.specs.declared.groups.Next.TheVariants.{Done, Joined, Waiting}
-use Rattle.plan_schedule.specs.code.Groups.{IsGrouped, IsHeadOfJoined, IsKeyed, Joins, StandsWaiting, size_of_groups}
-use Rattle.plan_schedule.specs.code.Line.{IsFirstInLine, Lined, spot}
-use Rattle.plan_schedule.specs.Prospect.{Prospect, terms_of}
-use Rattle.plan_schedule.specs.Terms.{Ahead, Leads, lasts_until}
+use Rattle.plan_schedule.specs.{declared.groups.Groups.Groups, declared.groups.Next.Next, declared.groups.Next.TheVariants.Done, declared.groups.Next.TheVariants.Joined, declared.groups.Next.TheVariants.Waiting}
+use Rattle.plan_schedule.specs.{code.Groups.IsGrouped, code.Groups.IsHeadOfJoined, code.Groups.IsKeyed, code.Groups.Joins, code.Groups.StandsWaiting, code.Groups.size_of_groups, code.Line.IsFirstInLine, code.Line.Lined, code.Line.spot}
+use Rattle.plan_schedule.specs.{Prospect.Prospect, Prospect.terms_of, Terms.Ahead, Terms.Leads, Terms.lasts_until}
 
 -- how many runs at most are still to come: an entry ends one when it joins, and one when it leaves
 abbrev pub runs_left : Groups → Next → ℕ

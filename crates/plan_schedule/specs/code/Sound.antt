@@ -2,8 +2,7 @@
 -- Source: this project's own.
 use Rattle.std.specs.Prelude.{◌≡◌, ℕ, ◌≤◌, ◌<◌, length}
 use Rattle.base_moment.specs.declared.moment.TheConstants.{LAST}
-use Rattle.plan_schedule.specs.Prospect.{Prospect, terms_of}
-use Rattle.plan_schedule.specs.Terms.{Terms}
+use Rattle.plan_schedule.specs.{Prospect.Prospect, Prospect.terms_of, Terms.Terms}
 
 -- each entry that falls short can be asked the margin before its end, gains by it, and is needed at a moment at most
 pub record TermsAreSound (t : Terms) : Type 0 where

@@ -2,12 +2,8 @@
 -- Source: this project's own.
 use Rattle.std.specs.Prelude.{◌≡◌, ℕ, ◌+◌, ◌-◌, ◌*◌, ◌≤◌, ◌<◌, Some}
 use Rattle.base_moment.specs.declared.moment.TheConstants.{LAST}
-use Rattle.plan_schedule.specs.declared.groups.Groups.{Groups}
-use Rattle.plan_schedule.specs.declared.groups.Next.{Next}
-use Rattle.plan_schedule.specs.declared.groups.Next.TheVariants.{Done, Joined, Waiting}
-use Rattle.plan_schedule.specs.code.Groups.{SettlesGroups}
-use Rattle.plan_schedule.specs.Prospect.{Prospect, terms_of}
-use Rattle.plan_schedule.specs.Terms.{Leads, Terms}
+use Rattle.plan_schedule.specs.{declared.groups.Groups.Groups, declared.groups.Next.Next, declared.groups.Next.TheVariants.Done, declared.groups.Next.TheVariants.Joined, declared.groups.Next.TheVariants.Waiting, code.Groups.SettlesGroups}
+use Rattle.plan_schedule.specs.{Prospect.Prospect, Prospect.terms_of, Terms.Leads, Terms.Terms}
 
 -- f leads after each of n wake-ups, the first at w, d apart
 abbrev pub LeadsAll : Terms → ℕ → ℕ → ℕ → ℕ → Type 0

@@ -1,10 +1,7 @@
 -- Words for the loop that collects the runs of a schedule. No public clause cites them.
 -- Source: this project's own.
 use Rattle.std.specs.Prelude.{◌≡◌, ℕ, ◌+◌, ◌≤◌, ◌<◌, ◌++◌, List, [], ◌∷◌, length}
-use Rattle.plan_rule.specs.declared.force.Force.{Force}
-use Rattle.plan_rule.specs.declared.run.Run.{Run}
-use Rattle.plan_rule.specs.Runs.{AreRuns, all_wakes, wakes}
-use Rattle.plan_rule.specs.declared.limit.TheConstants.{LIMIT}
+use Rattle.plan_rule.specs.{declared.force.Force.Force, declared.run.Run.Run, Runs.AreRuns, Runs.all_wakes, Runs.wakes, declared.limit.TheConstants.LIMIT}
 use Rattle.plan_search.specs.Decides.{AreLongest}
 
 -- the runs are those of the list to come, at most so many of them

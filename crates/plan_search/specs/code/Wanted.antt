@@ -1,8 +1,7 @@
 -- Words for the pass over the entries that says which are to be asked. No public clause cites them.
 -- Source: this project's own.
 use Rattle.std.specs.Prelude.{ℕ, ◌+◌, Bool, ◌&&◌, List, Option, Some, None, nat_lt}
-use Rattle.plan_forest.specs.Forest.{Forest, end_of}
-use Rattle.plan_forest.specs.Renewal.{renewed}
+use Rattle.plan_forest.specs.{Forest.Forest, Forest.end_of, Renewal.renewed}
 use Rattle.plan_rule.specs.Asks.{is_end_due}
 use Rattle.plan_needs.specs.Carried.{CarriedNeed, load_at}
 

@@ -1,9 +1,7 @@
 -- Widening: how far a bisection of margins has come.
 use Rattle.std.specs.Prelude.{ℕ, ◌<◌, ◌≤◌}
-use Rattle.plan_forest.specs.Forest.{Forest}
-use Rattle.plan_forest.specs.Margins.{IsMargin}
-use Rattle.plan_search.specs.declared.widest.Widest.{Widest}
-use Rattle.plan_search.specs.Widest.{IsEnough, IsFewest}
+use Rattle.plan_forest.specs.{Forest.Forest, Margins.IsMargin}
+use Rattle.plan_search.specs.{declared.widest.Widest.Widest, Widest.IsEnough, Widest.IsFewest}
 
 -- low is 0, or enough with its fewest wake-ups; and none over high is enough
 pub record WidestIsBetween (g : Forest) (s most : ℕ) (low : Widest) (high : ℕ) : Type 0 where

@@ -2,13 +2,11 @@
 -- Source: this project's own.
 use Rattle.std.specs.Prelude.{◌≡◌, ℕ, ◌+◌, ◌-◌, ◌<◌, ◌≤◌, List, [], ◌∷◌, Option, None, Some, length, min}
 use Rattle.std.specs.Io.KnownBytes.{Consumes}
-use Rattle.base_device.specs.Seen.{Change}
-use Rattle.base_device.specs.Whole.{MakesAtMost}
+use Rattle.base_device.specs.{Seen.Change, Whole.MakesAtMost}
 use Rattle.program_report.specs.declared.stop.Stop.{Stop}
+use Rattle.program_lines.specs.{declared.limits.InputLimits.InputLimits, declared.limits.TheConstants.MOST_LINE}
 use Rattle.program_lines.specs.Hearing.{Hearing, IsSaidWhole, counted_line}
 use Rattle.program_lines.specs.Listening.{IsHeardFirst, ListeningHalts, MakesAtLeast}
-use Rattle.program_lines.specs.declared.limits.InputLimits.{InputLimits}
-use Rattle.program_lines.specs.declared.limits.TheConstants.{MOST_LINE}
 
 -- as many of so many bytes as may be heard where so many are left
 abbrev pub part_left_to_hear : Option ℕ → ℕ → ℕ

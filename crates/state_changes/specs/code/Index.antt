@@ -1,12 +1,8 @@
 -- Words for the look-up of rows by name. No public clause cites them.
 -- Source: this project's own.
 use Rattle.std.specs.Prelude.{ℕ, suc, Bool, true, false, ◌&&◌, List, [], ◌∷◌, Option, Some, None, is_none, is_some, nat_le, Vec}
-use Rattle.std.specs.BTreeMap.{BTreeMap, get_by}
-use Rattle.std.specs.Cmp.Lexicographic.{slice_cmp}
-use Rattle.std.specs.Ordering.{nat_cmp}
-use Rattle.std.specs.declared.alloc.Global.{Global}
-use Rattle.state_changes.specs.declared.row.Row.{Row}
-use Rattle.state_changes.specs.Rows.{is_row_named, named}
+use Rattle.std.specs.{BTreeMap.BTreeMap, BTreeMap.get_by, Cmp.Lexicographic.slice_cmp, Ordering.nat_cmp, declared.alloc.Global.Global}
+use Rattle.state_changes.specs.{declared.row.Row.Row, Rows.is_row_named, Rows.named}
 
 -- what a map has at these bytes
 abbrev pub at_bytes : BTreeMap (Vec ℕ Global) ℕ → List ℕ → Option ℕ

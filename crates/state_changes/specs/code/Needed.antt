@@ -1,14 +1,8 @@
 -- Words for the needs of later records, by which those before them are void. No public clause cites them.
 -- Source: this project's own.
 use Rattle.std.specs.Prelude.{◌≡◌, ℕ, List}
-use Rattle.std.specs.BTreeSet.{BTreeSet, contains}
-use Rattle.std.specs.Cmp.Lexicographic.{slice_cmp}
-use Rattle.std.specs.List.{list_any}
-use Rattle.std.specs.Ordering.{nat_cmp, ordering_then}
-use Rattle.std.specs.declared.cmp.Ordering.{Ordering}
-use Rattle.state_changes.specs.declared.change.Record.{Record}
-use Rattle.state_changes.specs.declared.compaction.Needed.{Needed}
-use Rattle.state_changes.specs.Compaction.{is_need_of}
+use Rattle.std.specs.{BTreeSet.BTreeSet, BTreeSet.contains, Cmp.Lexicographic.slice_cmp, List.list_any, Ordering.nat_cmp, Ordering.ordering_then, declared.cmp.Ordering.Ordering}
+use Rattle.state_changes.specs.{declared.change.Record.Record, declared.compaction.Needed.Needed, Compaction.is_need_of}
 
 abbrev pub needed_cmp : Needed → Needed → Ordering
 needed_cmp a b = ordering_then (slice_cmp nat_cmp a.name b.name) (slice_cmp nat_cmp a.was b.was)

@@ -1,18 +1,10 @@
 -- Words for a change that is about to be taken. No public clause cites them.
 -- Source: this project's own.
-use Rattle.std.specs.Prelude.{◌≡◌, ◌⊎◌, ℕ, List, true, Result, Ok, string_bytes, Some, None}
-use Rattle.state_changes.specs.declared.change.Change.{Change}
-use Rattle.state_changes.specs.declared.change.ChangeKind.{ChangeKind}
-use Rattle.state_changes.specs.declared.row.Row.{Row}
-use Rattle.state_changes.specs.Changes.{change_refusal, rows_changed}
-use Rattle.state_changes.specs.Compaction.{is_need}
-use Rattle.state_changes.specs.Records.{IsRecord}
-use Rattle.state_changes.specs.Replay.{is_as_then}
+use Rattle.std.specs.Prelude.{◌≡◌, ℕ, List, true, Ok, string_bytes, Some, None}
+use Rattle.state_changes.specs.{declared.change.Change.Change, declared.change.ChangeKind.ChangeKind, declared.row.Row.Row, Changes.change_refusal, Changes.rows_changed, Compaction.is_need, Records.IsRecord, Replay.is_as_then}
 use Rattle.base_journal.specs.Records.{IsRecordLine}
-use Rattle.state_store.specs.declared.entering.Entered.{Entered}
-use Rattle.state_store.specs.declared.fault.TakeFault.{TakeFault}
-use Rattle.state_store.specs.declared.fault.TakeFault.TheVariants.{NoRecord, Refused, Unwritten, Disk, OutOfMemory}
-use Rattle.state_store.specs.Books.{Book, IsTextOf}
+use Rattle.state_store.specs.{declared.entering.Entered.Entered, declared.fault.TakeFault.TakeFault, Books.Book, Books.IsTextOf}
+use Rattle.state_store.specs.declared.fault.TakeFault.TheVariants.{NoRecord, Refused, Unwritten, OutOfMemory}
 use Rattle.state_store.specs.Entering.{IsReadAs, line_for_change, record_for}
 
 -- the line is that of the change, which is read in it; and a replay makes that

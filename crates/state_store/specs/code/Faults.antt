@@ -1,23 +1,18 @@
 -- Words for the faults of the crates below, as this one tells them. No public clause cites them.
 -- Source: this project's own.
 use Rattle.std.specs.Prelude.{◌≡◌, Bool, true, false, Option, Some, None}
-use Rattle.state_changes.specs.declared.change.Change.{Change}
-use Rattle.state_changes.specs.declared.change.Record.{Record}
+use Rattle.state_changes.specs.{declared.change.Change.Change, declared.change.Record.Record, declared.fault.ChangeFault.ChangeFault}
 use Rattle.state_changes.specs.declared.change.Record.TheVariants.{Made, Settling}
-use Rattle.state_changes.specs.declared.fault.ChangeFault.{ChangeFault}
 use Rattle.state_changes.specs.declared.fault.ChangeFault.TheVariants as changes
-use Rattle.base_disk.specs.State.{IsNotTooLong}
-use Rattle.base_disk.specs.declared.fault.DiskFault.{DiskFault}
+use Rattle.base_disk.specs.{State.IsNotTooLong, declared.fault.DiskFault.DiskFault}
 use Rattle.base_disk.specs.declared.fault.DiskFault.TheVariants as disks
 use Rattle.vault_inventory.specs.declared.fault.InvFault.{InvFault}
 use Rattle.vault_inventory.specs.declared.fault.InvFault.TheVariants as inventories
 use Rattle.state_file.specs.declared.fault.SettleFault.{SettleFault}
 use Rattle.state_file.specs.declared.fault.SettleFault.TheVariants as settles
-use Rattle.state_store.specs.declared.fault.FileFault.{FileFault}
+use Rattle.state_store.specs.{declared.fault.FileFault.FileFault, declared.fault.TakeFault.TakeFault, declared.fault.Unsettled.Unsettled}
 use Rattle.state_store.specs.declared.fault.FileFault.TheVariants as files
-use Rattle.state_store.specs.declared.fault.TakeFault.{TakeFault}
 use Rattle.state_store.specs.declared.fault.TakeFault.TheVariants as takes
-use Rattle.state_store.specs.declared.fault.Unsettled.{Unsettled}
 use Rattle.state_store.specs.declared.fault.Unsettled.TheVariants as unsettles
 
 -- lack of memory is told as such, wherever it comes from

@@ -2,12 +2,10 @@
 -- Source: this project's own.
 use Rattle.std.specs.Prelude.{◌≡◌, ℕ, Bool, false, List, is_some, map, string_bytes}
 use Rattle.std.specs.Str.{bytes_eq}
-use Rattle.state_changes.specs.Records.{record_of}
-use Rattle.state_changes.specs.Words.{fingerprint}
+use Rattle.state_changes.specs.{Records.record_of, Words.fingerprint}
 use Rattle.vault_inventory.specs.Served.{Served}
 use Rattle.base_journal.specs.Records.{IsRecordLine}
-use Rattle.state_store.specs.declared.settling.Moving.{Moving}
-use Rattle.state_store.specs.Books.{Book}
+use Rattle.state_store.specs.{declared.settling.Moving.Moving, Books.Book}
 use Rattle.state_store.specs.Moved.{IsMovedBook, SaysAllKept, mark_line}
 
 -- its text says all that is kept, which is another than the file has; the line is that of its mark; and the book is that of it

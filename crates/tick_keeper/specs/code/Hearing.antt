@@ -1,11 +1,8 @@
 -- Hearing: words for the code of an answer. No public clause cites them.
 -- Source: this project's own.
 use Rattle.std.specs.Prelude.{◌==◌, ℕ, ◌+◌, Bool, false, ◌&&◌, List, [], Option, Some, None}
-use Rattle.plan_forest.specs.declared.entry.Entry.{Entry}
-use Rattle.plan_forest.specs.Renewal.{renewal}
-use Rattle.tick_keeper.specs.declared.event.Event.{Event}
-use Rattle.tick_keeper.specs.declared.event.Event.TheVariants.{Told}
-use Rattle.tick_keeper.specs.State.{CoreState, Round}
+use Rattle.plan_forest.specs.{declared.entry.Entry.Entry, Renewal.renewal}
+use Rattle.tick_keeper.specs.{declared.event.Event.Event, declared.event.Event.TheVariants.Told, State.CoreState, State.Round}
 use Rattle.tick_keeper.specs.Step.{entry_of_event, left, state_after_answer, without_index}
 
 -- whether an answer to a round at this moment gives its entry the rule's end and leaves it renewable

@@ -3,21 +3,12 @@
 use Rattle.std.specs.Prelude.{◌≡◌, ℕ, ◌≤◌, ◌<◌, Bool, true, false, not, ◌&&◌, if◌then◌else◌, List, ◌∷◌, Option, Some, None, filter, length, slice_index_or}
 use Rattle.std.specs.List.{range_with_len}
 use Rattle.base_moment.specs.declared.moment.TheConstants.{LAST}
+use Rattle.plan_forest.specs.{Push.IsForest, Renewal.renewal}
 use Rattle.plan_forest.specs.Forest.{Forest, end_of, entry_at}
-use Rattle.plan_forest.specs.Push.{IsForest}
-use Rattle.plan_forest.specs.Renewal.{renewal}
-use Rattle.plan_rule.specs.Asks.{asking, first_of}
-use Rattle.plan_rule.specs.Ends.{is_asked}
+use Rattle.plan_rule.specs.{Asks.asking, Asks.first_of, Ends.is_asked, declared.force.Force.Force, Runs.moments_of, declared.limit.TheConstants.LIMIT}
 use Rattle.plan_needs.specs.Carried.{IsCarried}
-use Rattle.plan_rule.specs.declared.force.Force.{Force}
-use Rattle.plan_rule.specs.Runs.{moments_of}
-use Rattle.plan_rule.specs.declared.limit.TheConstants.{LIMIT}
 use Rattle.plan_search.specs.Planned.{Planned, to_come}
-use Rattle.tick_keeper.specs.declared.round.OpenRound.{OpenRound}
-use Rattle.tick_keeper.specs.InForce.{AllForcedAs}
-use Rattle.tick_keeper.specs.Replan.{IsPlanOf}
-use Rattle.tick_keeper.specs.State.{Round}
-use Rattle.tick_keeper.specs.States.{RoundIsOpened}
+use Rattle.tick_keeper.specs.{declared.round.OpenRound.OpenRound, InForce.AllForcedAs, Replan.IsPlanOf, State.Round, States.RoundIsOpened}
 
 -- whether the answer of an entry is waited for
 abbrev pub flag_of : List Bool → ℕ → Bool

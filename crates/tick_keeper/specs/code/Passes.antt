@@ -2,8 +2,7 @@
 -- Source: this project's own.
 use Rattle.std.specs.Prelude.{◌≡◌, ℕ, ◌<◌, if◌then◌else◌, List, Option, Some, None, length, map, nat_lt, slice_index, slice_index_or}
 use Rattle.std.specs.List.{range_with_len}
-use Rattle.plan_forest.specs.declared.entry.Entry.{Entry}
-use Rattle.plan_forest.specs.Forest.{Forest, entry_at}
+use Rattle.plan_forest.specs.{declared.entry.Entry.Entry, Forest.Forest, Forest.entry_at}
 use Rattle.plan_search.specs.Decides.{PlanIsTooLong}
 use Rattle.tick_keeper.specs.declared.fault.StepFault.{StepFault}
 use Rattle.tick_keeper.specs.declared.fault.StepFault.TheVariants.{TooLong, OutOfMemory}

@@ -2,15 +2,10 @@
 -- Source: this project's own.
 use Rattle.std.specs.Prelude.{◌≡◌, ◌==◌, ℕ, ◌<◌, Bool, false, List, [], ◌∷◌, Option, Some, None, IfSome, length, nat_lt}
 use Rattle.std.specs.List.{list_any}
-use Rattle.plan_forest.specs.Forest.{Forest, end_of}
-use Rattle.plan_forest.specs.Push.{IsForest}
+use Rattle.plan_forest.specs.{Forest.Forest, Forest.end_of, Push.IsForest}
 use Rattle.plan_rule.specs.Asks.{asks, first_of}
-use Rattle.tick_keeper.specs.declared.event.Output.{Output}
+use Rattle.tick_keeper.specs.{declared.event.Output.Output, declared.opening.Opening.Opening, code.Keeping.flag_of, code.Keeping.waited_for, State.CoreState, Step.round_opened}
 use Rattle.tick_keeper.specs.declared.event.Output.TheVariants as out
-use Rattle.tick_keeper.specs.declared.opening.Opening.{Opening}
-use Rattle.tick_keeper.specs.code.Keeping.{flag_of, waited_for}
-use Rattle.tick_keeper.specs.State.{CoreState}
-use Rattle.tick_keeper.specs.Step.{round_opened}
 
 -- whether the next wake-up comes before t
 abbrev pub is_late : ℕ → Option ℕ → Bool

@@ -1,32 +1,20 @@
 -- Playing: words for the parts of a rehearsal. No public clause cites them.
 -- Source: this project's own.
 use Rattle.std.specs.Prelude.{◌≡◌, ◌≢◌, ℕ, ◌<◌, ◌≤◌, ◌++◌, ◌⊎◌, List, [], Option, Some, None, Result, Ok, Err, length, map}
-use Rattle.std.specs.Io.KnownBytes.{Keeps}
-use Rattle.std.specs.List.{All, flat_map}
-use Rattle.base_device.specs.Seen.{Change, ReceivesFront}
+use Rattle.std.specs.{Io.KnownBytes.Keeps, List.All, List.flat_map}
+use Rattle.base_device.specs.{Seen.Change, Seen.ReceivesFront, Failures.HasFailed}
 use Rattle.base_moment.specs.declared.moment.TheConstants.{LAST}
 use Rattle.plan_rule.specs.Schedule.{RisesStrictly}
 use Rattle.vault_inventory.specs.Inventories.{Inventory}
 use Rattle.vault_exchange.specs.Exchanges.{Behind}
-use Rattle.tick_keeper.specs.declared.event.Event.{Event}
-use Rattle.tick_keeper.specs.declared.event.Event.TheVariants.{Tick}
-use Rattle.tick_keeper.specs.declared.event.Output.{Output}
-use Rattle.tick_keeper.specs.declared.event.Output.TheVariants as out
-use Rattle.tick_keeper.specs.declared.fault.StepFault.{StepFault}
+use Rattle.tick_keeper.specs.{declared.event.Event.Event, declared.event.Event.TheVariants.Tick, declared.event.Output.Output, declared.fault.StepFault.StepFault, History.CoreTurn, State.CoreState}
 use Rattle.tick_keeper.specs.declared.fault.StepFault.TheVariants.{TooLong, OutOfMemory}
-use Rattle.tick_keeper.specs.History.{CoreTurn}
-use Rattle.tick_keeper.specs.State.{CoreState}
-use Rattle.tick_runs.specs.declared.rehearse.playing.TheConstants.{MOST_WAKES}
-use Rattle.tick_runs.specs.declared.rehearse.waking.Opened.{Opened}
-use Rattle.tick_runs.specs.declared.rehearse.waking.Woken.{Woken}
+use Rattle.tick_keeper.specs.declared.event.Output.TheVariants as out
+use Rattle.tick_runs.specs.{declared.rehearse.playing.TheConstants.MOST_WAKES, declared.rehearse.waking.Opened.Opened, declared.rehearse.waking.Woken.Woken, Replies.IsAnswerOf, Stops.WakeUpIsDue, Stops.both}
 use Rattle.tick_runs.specs.Closed.{AreAnswered, Beat, Exchanged, Played, RequestIsAnswered, World, closing, request_count, rounds, shorts_taken}
-use Rattle.base_device.specs.Failures.{HasFailed}
-use Rattle.program_report.specs.declared.stop.Stop.{Stop}
-use Rattle.program_report.specs.declared.stop.Stop.TheVariants as stops
-use Rattle.program_report.specs.Sent.{IsAll}
-use Rattle.tick_runs.specs.Replies.{IsAnswerOf}
-use Rattle.tick_runs.specs.Stops.{WakeUpIsDue, both}
 use Rattle.tick_runs.specs.Text.{answer_text, beat_text, done_text, inventory_with, short_need_lines, wake_line_of_output}
+use Rattle.program_report.specs.{declared.stop.Stop.Stop, Sent.IsAll}
+use Rattle.program_report.specs.declared.stop.Stop.TheVariants as stops
 
 -- ---- what the keeper takes
 

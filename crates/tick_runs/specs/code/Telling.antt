@@ -1,19 +1,15 @@
 -- Telling: words for the parts of a live tick, whose answers are told one by one. No public clause cites them.
 -- Source: this project's own.
 use Rattle.std.specs.Prelude.{◌≡◌, ℕ, ◌⊎◌, IsTrue, List, [], ◌∷◌, ◌++◌, Option, Result, Ok, Err, map, take}
-use Rattle.std.specs.Io.KnownBytes.{Keeps}
-use Rattle.std.specs.List.{flat_map}
+use Rattle.std.specs.{Io.KnownBytes.Keeps, List.flat_map}
+use Rattle.base_device.specs.Failures.{HasFailed}
 use Rattle.base_device.specs.Seen.{Change, Receives, ReceivesFront}
 use Rattle.tick_keeper.specs.declared.event.Output.{Output}
-use Rattle.base_device.specs.Failures.{HasFailed}
-use Rattle.program_report.specs.declared.stop.Stop.{Stop}
+use Rattle.program_report.specs.{declared.stop.Stop.Stop, Sent.IsAll}
 use Rattle.program_report.specs.declared.stop.Stop.TheVariants as stops
-use Rattle.program_report.specs.Sent.{IsAll}
+use Rattle.tick_runs.specs.{Hearing.IsAskLeft, Hearing.NeedIsOverlong, code.Playing.Answers, code.Playing.AnswersAll, Text.answer_text, Text.inventory_with}
 use Rattle.tick_runs.specs.Closed.{AreAnswered, Exchanged, World}
-use Rattle.tick_runs.specs.Hearing.{IsAskLeft, NeedIsOverlong}
 use Rattle.program_lines.specs.declared.event_line.HeardLine.{HeardLine}
-use Rattle.tick_runs.specs.code.Playing.{Answers, AnswersAll}
-use Rattle.tick_runs.specs.Text.{answer_text, inventory_with}
 
 -- all of a text was written and flushed, and no call failed
 abbrev pub IsSentWhole : List ℕ → Change → Type 0

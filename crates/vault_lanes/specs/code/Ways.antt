@@ -1,21 +1,11 @@
 -- A request on its way over a connection, or what came of it, as the code has it.
 use Rattle.std.specs.Prelude.{◌≡◌, ◌⊎◌, ℕ, ◌<◌, ◌≤◌, List, [], ◌∷◌, Bool, IsTrue, true, false, Option, Some, None, IfSome, filter, map, min, not, vec_capacity, if◌then◌else◌}
 use Rattle.std.specs.List.{list_any}
-use Rattle.vault_lanes.specs.declared.reason.ConnectReason.{ConnectReason}
-use Rattle.vault_lanes.specs.Allowed.{deadline, millis_after}
+use Rattle.vault_lanes.specs.{declared.reason.ConnectReason.ConnectReason, Allowed.deadline, Allowed.millis_after, Failing.FailsAs, Failing.FailsMore, Losses.Answer, Serving.allowed, code.Courses.came_by, code.Courses.is_unjudged}
+use Rattle.vault_lanes.specs.{declared.allowance.Allowance.Allowance, declared.lane.Lane.Lane, declared.lanes.Answered.Answered, declared.seats.Seat.Seat, declared.stage.RequestStage.TheVariants.Connecting, declared.way.Way.Way}
 use Rattle.vault_lanes.specs.Calls.{LanesCall, Renamed, Sent, StoodStill, Unsent, WentOn}
-use Rattle.vault_lanes.specs.Failing.{FailsAs, FailsMore}
 use Rattle.vault_lanes.specs.Lanes.{AreWaitedFor, Came, FrontIsWritten, IsJudgedFirst, ReplyIsHeard, RequestIsSettled, to_come}
-use Rattle.vault_lanes.specs.Losses.{Answer}
 use Rattle.vault_lanes.specs.Seats.{SeatIsPut, answers_of, under}
-use Rattle.vault_lanes.specs.Serving.{allowed}
-use Rattle.vault_lanes.specs.code.Courses.{came_by, is_unjudged}
-use Rattle.vault_lanes.specs.declared.allowance.Allowance.{Allowance}
-use Rattle.vault_lanes.specs.declared.lane.Lane.{Lane}
-use Rattle.vault_lanes.specs.declared.lanes.Answered.{Answered}
-use Rattle.vault_lanes.specs.declared.seats.Seat.{Seat}
-use Rattle.vault_lanes.specs.declared.stage.RequestStage.TheVariants.{Connecting}
-use Rattle.vault_lanes.specs.declared.way.Way.{Way}
 use Rattle.vault_lanes.specs.declared.way.Way.TheVariants.{Out, Over}
 use Rattle.vault_http.specs.Written.{request_text}
 

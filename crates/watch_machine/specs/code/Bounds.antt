@@ -3,13 +3,8 @@
 use Rattle.std.specs.Prelude.{◌≤◌, IfSome}
 use Rattle.base_moment.specs.declared.moment.TheConstants.{LAST}
 use Rattle.plan_forest.specs.declared.forest.TheConstants.{END_MAX}
-use Rattle.watch_machine.specs.declared.clocks.Clocks.{Clocks}
-use Rattle.watch_machine.specs.declared.lanes.Out.{Out}
-use Rattle.watch_machine.specs.declared.reading.TheConstants.{READING_MAX}
-use Rattle.watch_machine.specs.declared.track.End.{End}
+use Rattle.watch_machine.specs.{declared.clocks.Clocks.Clocks, declared.lanes.Out.Out, declared.reading.TheConstants.READING_MAX, declared.track.End.End, declared.track.Track.Track, declared.track.Try.Try}
 use Rattle.watch_machine.specs.declared.track.End.TheVariants.{Unknown, At, Never}
-use Rattle.watch_machine.specs.declared.track.Track.{Track}
-use Rattle.watch_machine.specs.declared.track.Try.{Try}
 
 -- all are readings
 pub record IsClocks (c : Clocks) : Type 0 where

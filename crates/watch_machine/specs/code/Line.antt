@@ -3,31 +3,15 @@
 -- Source: this project's own.
 use Rattle.std.specs.Prelude.{◌≡◌, ℕ, ◌+◌, ◌-◌, ◌<◌, ◌≤◌, ◌==◌, Bool, true, false, if◌then◌else◌, List, [], ◌++◌, Option, Some, None, IsSortedBy, IsTrue, drop, length, map, min, nat_le, take}
 use Rattle.std.specs.List.{All, IsDistinct, list_any, range_with_len}
-use Rattle.plan_forest.specs.declared.entry.Entry.{Entry}
-use Rattle.plan_forest.specs.Forest.{Forest, entry_at}
-use Rattle.watch_machine.specs.declared.clocks.Clocks.{Clocks}
-use Rattle.watch_machine.specs.declared.command.WatchCommand.TheVariants.{Go}
-use Rattle.watch_machine.specs.declared.command.WatchOutput.{WatchOutput}
-use Rattle.watch_machine.specs.declared.command.WatchRequest.{WatchRequest}
-use Rattle.watch_machine.specs.declared.lanes.Presence.{Presence}
-use Rattle.watch_machine.specs.declared.line.Line.{Line}
-use Rattle.watch_machine.specs.declared.lull.TheConstants.{NEVER}
-use Rattle.watch_machine.specs.declared.sending.Place.{Place}
-use Rattle.watch_machine.specs.declared.track.Track.{Track}
-use Rattle.watch_machine.specs.declared.track.Try.{Try}
-use Rattle.watch_machine.specs.Beginning.{beginning}
-use Rattle.watch_machine.specs.Clocks.{sec}
-use Rattle.watch_machine.specs.Lines.{is_due, ready}
-use Rattle.watch_machine.specs.Margins.{time}
-use Rattle.watch_machine.specs.Press.{pressed_alone}
-use Rattle.watch_machine.specs.Round.{opens_some}
+use Rattle.plan_forest.specs.{declared.entry.Entry.Entry, Forest.Forest, Forest.entry_at}
+use Rattle.watch_machine.specs.{declared.clocks.Clocks.Clocks, declared.command.WatchCommand.TheVariants.Go, declared.command.WatchOutput.WatchOutput, declared.command.WatchRequest.WatchRequest, declared.lanes.Presence.Presence}
+use Rattle.watch_machine.specs.{declared.line.Line.Line, declared.lull.TheConstants.NEVER, declared.sending.Place.Place, declared.track.Track.Track, declared.track.Try.Try, Beginning.beginning, Clocks.sec, Lines.is_due, Lines.ready}
+use Rattle.watch_machine.specs.{Margins.time, Press.pressed_alone, Round.opens_some, Step.nothing_noted, code.Places.place_is}
 use Rattle.watch_machine.specs.Sending.{IsSendingOrder, is_alone_try, is_before, is_partial, out_at, place, request, sent_in}
 use Rattle.watch_machine.specs.Settling.{pace_after, presence_after, settled_track}
 use Rattle.watch_machine.specs.State.{WatchState, each, has_last_try, track_in}
-use Rattle.watch_machine.specs.Step.{nothing_noted}
 use Rattle.watch_machine.specs.Wanted.{believed, is_fixed, least, need_of, wants}
 use Rattle.watch_machine.specs.code.Lull.{is_failed_try, is_owed_alone, paced_by, time_due, wait_by}
-use Rattle.watch_machine.specs.code.Places.{place_is}
 
 -- the presence, whatever answers take
 abbrev pub calm : Presence → Presence

@@ -2,25 +2,12 @@
 -- Source: this project's own.
 use Rattle.std.specs.Prelude.{◌≡◌, ℕ, ◌<◌, ◌≤◌, Bool, true, false, not, ◌&&◌, if◌then◌else◌, List, [], Option, Some, None, length, map, min}
 use Rattle.std.specs.List.{range_with_len}
-use Rattle.plan_forest.specs.declared.entry.Entry.{Entry}
-use Rattle.plan_forest.specs.Forest.{Forest, entry_at}
-use Rattle.watch_machine.specs.declared.clocks.Clocks.{Clocks}
-use Rattle.watch_machine.specs.declared.lanes.Presence.{Presence}
-use Rattle.watch_machine.specs.declared.lull.Lull.{Lull}
-use Rattle.watch_machine.specs.declared.lull.TheConstants.{NEVER}
-use Rattle.watch_machine.specs.declared.track.Track.{Track}
-use Rattle.watch_machine.specs.declared.track.Try.{Try}
-use Rattle.watch_machine.specs.Beginning.{beginning, is_pressed}
-use Rattle.watch_machine.specs.Clocks.{ms, sec}
-use Rattle.watch_machine.specs.Lines.{ready}
-use Rattle.watch_machine.specs.Margins.{time}
-use Rattle.watch_machine.specs.Outlook.{IsFirst, is_timed_at}
-use Rattle.watch_machine.specs.Press.{pressed_alone}
-use Rattle.watch_machine.specs.Round.{opens_some}
-use Rattle.watch_machine.specs.Sending.{due}
+use Rattle.plan_forest.specs.{declared.entry.Entry.Entry, Forest.Forest, Forest.entry_at}
+use Rattle.watch_machine.specs.{declared.clocks.Clocks.Clocks, declared.lanes.Presence.Presence, declared.lull.Lull.Lull, declared.lull.TheConstants.NEVER, declared.track.Track.Track, declared.track.Try.Try}
+use Rattle.watch_machine.specs.{Beginning.beginning, Beginning.is_pressed, Clocks.ms, Clocks.sec, Lines.ready, Margins.time, Outlook.IsFirst, Outlook.is_timed_at, Press.pressed_alone, Round.opens_some, Sending.due}
+use Rattle.watch_machine.specs.{Wait.latest, Wait.next_of}
 use Rattle.watch_machine.specs.Settling.{pace_after, presence_after, settled_track}
 use Rattle.watch_machine.specs.State.{WatchState, each, opened, track_in}
-use Rattle.watch_machine.specs.Wait.{latest, next_of}
 use Rattle.watch_machine.specs.Wanted.{believed, is_alive, least, need_of, wants}
 
 -- a try that failed since the last clock

@@ -1,10 +1,8 @@
 -- Outlook: the steps of what a watch says of itself. No public clause cites it.
 -- Source: this project's own.
 use Rattle.std.specs.Prelude.{ℕ, Bool, true, false, ◌&&◌, if◌then◌else◌, Option, Some, None, nat_le, nat_lt}
-use Rattle.watch_machine.specs.declared.outlook.Next.{Next}
-use Rattle.watch_machine.specs.declared.track.Track.{Track}
+use Rattle.watch_machine.specs.{declared.outlook.Next.Next, declared.track.Track.Track, State.WatchState}
 use Rattle.watch_machine.specs.Outlook.{IsFirst, is_ahead_at, is_timed, is_timed_at}
-use Rattle.watch_machine.specs.State.{WatchState}
 
 -- the earlier of the first time so far and of that of an entry of a higher index
 abbrev pub earlier_next : Option Next → ℕ → ℕ → Option Next

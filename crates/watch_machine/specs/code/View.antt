@@ -3,12 +3,8 @@
 use Rattle.std.specs.Prelude.{◌≡◌, ℕ, ◌<◌, false, if◌then◌else◌, List, [], Option, Some, None, length, map, slice_index_or}
 use Rattle.std.specs.List.{list_any, range_with_len}
 use Rattle.plan_needs.specs.Carried.{CarriedNeed, IsCarried, load_at}
-use Rattle.plan_forest.specs.declared.entry.Entry.{Entry}
-use Rattle.plan_forest.specs.Forest.{Forest}
-use Rattle.watch_machine.specs.declared.clocks.Clocks.{Clocks}
-use Rattle.watch_machine.specs.declared.track.Track.{Track}
-use Rattle.watch_machine.specs.Clocks.{sec}
-use Rattle.watch_machine.specs.State.{has_last_try, track_in}
+use Rattle.plan_forest.specs.{declared.entry.Entry.Entry, Forest.Forest}
+use Rattle.watch_machine.specs.{declared.clocks.Clocks.Clocks, declared.track.Track.Track, Clocks.sec, State.has_last_try, State.track_in}
 use Rattle.watch_machine.specs.Wanted as wanted
 
 -- an entry without what is written of it

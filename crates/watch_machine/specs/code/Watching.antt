@@ -3,16 +3,9 @@
 use Rattle.std.specs.Prelude.{◌≡◌, List, Option, IfSome, length}
 use Rattle.std.specs.List.{All}
 use Rattle.plan_forest.specs.Forest.{Forest}
-use Rattle.watch_machine.specs.declared.clocks.Clocks.{Clocks}
-use Rattle.watch_machine.specs.declared.lanes.Out.{Out}
-use Rattle.watch_machine.specs.declared.lanes.Presence.{Presence}
-use Rattle.watch_machine.specs.declared.line.Line.{Line}
-use Rattle.watch_machine.specs.declared.lull.Lull.{Lull}
-use Rattle.watch_machine.specs.declared.track.Track.{Track}
+use Rattle.watch_machine.specs.{declared.clocks.Clocks.Clocks, declared.lanes.Out.Out, declared.lanes.Presence.Presence, declared.line.Line.Line, declared.lull.Lull.Lull, declared.track.Track.Track, code.Line.IsKnown, code.Lull.IsLull}
+use Rattle.watch_machine.specs.{code.View.IsView}
 use Rattle.watch_machine.specs.code.Bounds.{IsClocks, IsTrack, WentOutAtReading}
-use Rattle.watch_machine.specs.code.Line.{IsKnown}
-use Rattle.watch_machine.specs.code.Lull.{IsLull}
-use Rattle.watch_machine.specs.code.View.{IsView}
 
 -- a track for each entry of the forest, a view of it, numbers within bounds, and what is known of a lull and of a line, if anything
 pub record IsWatch (forest view : Forest) (xs : List Track) (os : List Out) (c : Clocks) (p : Presence) (known : Option Lull) (waiting : Line) : Type 0 where

@@ -2,11 +2,9 @@
 use Rattle.std.proofs.Common.{◌∙◌, Ok, ap, sym}
 use Rattle.serde_json.specs.Written.{compact_text}
 use Rattle.agent_control.specs.Answer.{◌>>=◌}
+use Rattle.agent_control.specs.{Words.tree_of_words, declared.fault.RequestFault.TheVariants.NotWords}
 use Rattle.agent_control.specs.Requests.{is_request_text, line_for, tree_for, words_for}
-use Rattle.agent_control.specs.Words.{tree_of_words}
-use Rattle.agent_control.specs.declared.fault.RequestFault.TheVariants.{NotWords}
-use Rattle.agent_control.proofs.Chosen.{granted, ok_same}
-use Rattle.agent_control.proofs.WordTrees.{without_floats}
+use Rattle.agent_control.proofs.{Chosen.granted, Chosen.ok_same, WordTrees.without_floats}
 use Rattle.agent_control.proofs.writer.line_for.Goals as goal
 
 pub returns : goal.returns

@@ -1,6 +1,6 @@
 -- The reader is tried where the house goes on, which is once.
-use Rattle.agent_laws.proofs.Reached.{reader_of, reader_of_behind, reader_of_day}
 use Rattle.agent_laws.proofs.Tries.{tries_law}
+use Rattle.agent_laws.proofs.Reached.{reader_of, reader_of_behind, reader_of_day}
 use Rattle.agent_laws.proofs.laws.a_turn_tries_the_reader_little.Goals as goal
 
 pub returns-clause-house : goal.returns-clause-house

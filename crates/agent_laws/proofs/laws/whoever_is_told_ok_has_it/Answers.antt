@@ -1,7 +1,5 @@
 -- What is asked for is done where the ledger has taken it.
-use Rattle.agent_laws.proofs.Reaching.{reaches_behind, reaches_day}
-use Rattle.agent_laws.proofs.Recorded.{are_done}
-use Rattle.agent_laws.proofs.Truths.{reaches_house, turns_tell}
+use Rattle.agent_laws.proofs.{Reaching.reaches_behind, Reaching.reaches_day, Recorded.are_done, Truths.reaches_house, Truths.turns_tell}
 use Rattle.agent_laws.proofs.laws.whoever_is_told_ok_has_it.Goals as goal
 
 pub returns : goal.returns

@@ -1,7 +1,5 @@
-use Rattle.std.proofs.Common.{◌≡◌, ℕ, true, List, ap, subst}
-use Rattle.agent_ledger.specs.Openings.{RecordsNeeds}
-use Rattle.agent_ledger.specs.declared.late.Shut.{Shut}
-use Rattle.agent_ledger.specs.declared.opening.NeedMeanwhile.{NeedMeanwhile}
+use Rattle.std.proofs.Common.{ℕ, true, List, ap, subst}
+use Rattle.agent_ledger.specs.{Openings.RecordsNeeds, declared.opening.NeedMeanwhile.NeedMeanwhile}
 use Rattle.agent_ledger.proofs.late.open.Goals as goal
 
 pub returns-then-record_needs : goal.returns-then-record_needs

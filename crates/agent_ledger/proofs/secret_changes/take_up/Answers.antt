@@ -1,8 +1,6 @@
 -- What was read is taken, kept and told.
 use Rattle.std.proofs.Common.{◌≡◌, ◌∙◌, ℕ, List, ap}
-use Rattle.state_secrets.specs.Looking.{is_held, seen_of}
-use Rattle.state_secrets.specs.Outcomes.{news_about}
-use Rattle.state_secrets.specs.declared.looking.FileMark.{FileMark}
+use Rattle.state_secrets.specs.{Looking.is_held, Looking.seen_of, Outcomes.news_about, declared.looking.FileMark.FileMark}
 use Rattle.state_keeping.specs.States.{book_in}
 use Rattle.state_changes.specs.declared.secret.Secret.{Secret}
 use Rattle.agent_ledger.proofs.TakenUp.{taken_up}

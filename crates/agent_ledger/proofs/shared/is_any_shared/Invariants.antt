@@ -1,7 +1,6 @@
 -- Whether two of the rows from the place on share a credential is known, and so are the credentials of these.
 use Rattle.std.proofs.Common.{◌≡◌, ◌≤◌, drop, length}
-use Rattle.agent_ledger.specs.Shared.{is_any_shared}
-use Rattle.agent_ledger.specs.code.OfKinds.{AreCredentialsOf}
+use Rattle.agent_ledger.specs.{Shared.is_any_shared, code.OfKinds.AreCredentialsOf}
 use Rattle.agent_ledger.proofs.shared.is_any_shared.Given as goal
 
 abbrev pub invariant-loop-index : goal.invariant-loop-index

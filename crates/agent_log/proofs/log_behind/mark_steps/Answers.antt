@@ -1,7 +1,6 @@
 -- One request more is marked, if the agent steps in by it.
 use Rattle.std.proofs.Common.{◌≡◌, ◌∙◌, ◌+◌, [], ap, arith, drop, sym}
-use Rattle.std.proofs.lemmas.Grind.{common_steps}
-use Rattle.std.proofs.lemmas.List.{drop_more}
+use Rattle.std.proofs.lemmas.{Grind.common_steps, List.drop_more}
 use Rattle.agent_log.specs.LinesBehind.{with_steps}
 use Rattle.agent_log.proofs.log_behind.mark_steps.Goals as goal
 

@@ -1,12 +1,8 @@
 -- What is said of a request comes before what is said of those to come.
 use Rattle.std.proofs.Common.{◌≡◌, ◌+◌, [], arith, drop, get_or, refl, subst, sym}
-use Rattle.std.proofs.lemmas.Grind.{common_steps}
-use Rattle.std.proofs.lemmas.List.{drop_more}
-use Rattle.watch_machine.specs.declared.command.Patience.TheVariants.{Full}
-use Rattle.watch_machine.specs.declared.command.WatchRequest.{WatchRequest}
-use Rattle.watch_machine.specs.declared.event.Operation.TheVariants.{Look}
-use Rattle.agent_log.specs.LinesBehind.{steps_in_line, steps_in_lines}
-use Rattle.agent_log.specs.Lines.{AreSaid}
+use Rattle.std.proofs.lemmas.{Grind.common_steps, List.drop_more}
+use Rattle.watch_machine.specs.{declared.command.Patience.TheVariants.Full, declared.command.WatchRequest.WatchRequest, declared.event.Operation.TheVariants.Look}
+use Rattle.agent_log.specs.{LinesBehind.steps_in_line, LinesBehind.steps_in_lines, Lines.AreSaid}
 use Rattle.agent_log.proofs.Said.{both_said}
 use Rattle.agent_log.proofs.log_behind.say_steps.Goals as goal
 

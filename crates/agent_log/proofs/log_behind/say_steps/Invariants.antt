@@ -1,8 +1,6 @@
 -- Once the requests to come are said, all of them are.
 use Rattle.std.proofs.Common.{drop}
-use Rattle.agent_log.specs.LinesBehind.{steps_in_lines}
-use Rattle.agent_log.specs.Lines.{AreSaid}
-use Rattle.agent_log.specs.Rooms.{Rooms}
+use Rattle.agent_log.specs.{LinesBehind.steps_in_lines, Lines.AreSaid, Rooms.Rooms}
 use Rattle.agent_log.proofs.log_behind.say_steps.Given as goal
 
 abbrev pub invariant-loop-request : goal.invariant-loop-request

@@ -1,7 +1,6 @@
 -- Once the texts to come are said, all of them are.
 use Rattle.std.proofs.Common.{drop, map}
-use Rattle.agent_log.specs.Lines.{AreSaid, text_line}
-use Rattle.agent_log.specs.Rooms.{Rooms}
+use Rattle.agent_log.specs.{Lines.AreSaid, Lines.text_line, Rooms.Rooms}
 use Rattle.agent_log.proofs.log_changes.say_each.Given as goal
 
 abbrev pub invariant-loop-text : goal.invariant-loop-text

@@ -1,9 +1,7 @@
 -- A need that is said is the first of those to come.
 use Rattle.std.proofs.Common.{◌≡◌, [], arith, drop, map, refl, subst, sym}
-use Rattle.std.proofs.lemmas.Grind.{common_steps}
-use Rattle.std.proofs.lemmas.List.{drop_more}
-use Rattle.agent_log.specs.LinesOfClocks.{short_log_line}
-use Rattle.agent_log.specs.Lines.{AreSaid}
+use Rattle.std.proofs.lemmas.{Grind.common_steps, List.drop_more}
+use Rattle.agent_log.specs.{LinesOfClocks.short_log_line, Lines.AreSaid}
 use Rattle.agent_log.proofs.log_clock.say_each_short.Goals as goal
 
 pub loop-short-preserved : goal.loop-short-preserved

@@ -1,8 +1,6 @@
 -- Once the needs to come are said, all of them are.
 use Rattle.std.proofs.Common.{drop, map}
-use Rattle.agent_log.specs.LinesOfClocks.{short_log_line}
-use Rattle.agent_log.specs.Lines.{AreSaid}
-use Rattle.agent_log.specs.Rooms.{Rooms}
+use Rattle.agent_log.specs.{LinesOfClocks.short_log_line, Lines.AreSaid, Rooms.Rooms}
 use Rattle.agent_log.proofs.log_clock.say_each_short.Given as goal
 
 abbrev pub invariant-loop-short : goal.invariant-loop-short

@@ -1,5 +1,5 @@
 -- One mark more is made.
-use Rattle.std.proofs.Common.{◌≡◌, ◌∙◌, ◌<◌, ap, arith, length}
+use Rattle.std.proofs.Common.{arith}
 use Rattle.agent_log.specs.LinesOfClocks.{marks_clocked, with_ended}
 use Rattle.agent_log.proofs.Marking.{marked_all, marked_more, marked_none}
 use Rattle.agent_log.proofs.log_ended.mark_ended.Goals as goal

@@ -1,10 +1,7 @@
 -- An entry of which it is said is the first of those to come.
 use Rattle.std.proofs.Common.{◌≡◌, ◌+◌, ◌∷◌, [], arith, drop, refl, subst, sym}
-use Rattle.std.proofs.lemmas.Grind.{common_steps}
-use Rattle.std.proofs.lemmas.List.{drop_more}
-use Rattle.agent_log.specs.LinesOfClocks.{ended_line, ended_lines}
-use Rattle.agent_log.specs.Lines.{AreSaid}
-use Rattle.agent_log.specs.Marks.{fresh_mark, mark_at}
+use Rattle.std.proofs.lemmas.{Grind.common_steps, List.drop_more}
+use Rattle.agent_log.specs.{LinesOfClocks.ended_line, LinesOfClocks.ended_lines, Lines.AreSaid, Marks.fresh_mark, Marks.mark_at}
 use Rattle.agent_log.proofs.Said.{both_said}
 use Rattle.agent_log.proofs.log_ended.say_ended.Goals as goal
 

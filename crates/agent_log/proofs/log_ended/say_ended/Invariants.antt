@@ -1,8 +1,6 @@
 -- Once it is said of the entries to come, it is said of all.
 use Rattle.std.proofs.Common.{drop}
-use Rattle.agent_log.specs.LinesOfClocks.{ended_lines}
-use Rattle.agent_log.specs.Lines.{AreSaid}
-use Rattle.agent_log.specs.Rooms.{Rooms}
+use Rattle.agent_log.specs.{LinesOfClocks.ended_lines, Lines.AreSaid, Rooms.Rooms}
 use Rattle.agent_log.proofs.log_ended.say_ended.Given as goal
 
 abbrev pub invariant-loop-entry : goal.invariant-loop-entry

@@ -1,7 +1,5 @@
 -- One range more does not take it.
-use Rattle.std.proofs.Common.{◌∙◌}
-use Rattle.agent_pages.specs.Accept.{takes_range}
-use Rattle.agent_pages.proofs.Ranges.{later, shorter}
+use Rattle.agent_pages.proofs.Ranges.{shorter}
 use Rattle.agent_pages.proofs.accept.takes_value.Goals as goal
 
 pub loop-range-smaller : goal.loop-range-smaller

@@ -1,9 +1,8 @@
 -- There is no head in the bytes that may be looked at.
-use Rattle.std.proofs.Common.{ℕ, arith, subst, take}
+use Rattle.std.proofs.Common.{arith, subst, take}
 use Rattle.std.proofs.lemmas.List.{take_all}
-use Rattle.agent_pages.specs.Questions.{IsHeadFront}
+use Rattle.agent_pages.specs.{Questions.IsHeadFront, declared.asked.TheConstants.HEAD_MAX}
 use Rattle.agent_pages.specs.declared.asked.Front.TheVariants as fronts
-use Rattle.agent_pages.specs.declared.asked.TheConstants.{HEAD_MAX}
 use Rattle.agent_pages.proofs.asked.read_question.Goals as goal
 
 pub returns-in-Open : goal.returns-in-Open

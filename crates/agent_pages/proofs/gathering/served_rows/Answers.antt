@@ -1,9 +1,8 @@
 -- The row of one entry more.
-use Rattle.std.proofs.Common.{◌≡◌, ◌∙◌, ◌++◌, ◌∷◌, [], ℕ, ap, arith, map, sym}
+use Rattle.std.proofs.Common.{◌∙◌, ◌++◌, ◌∷◌, [], ℕ, ap, arith, map, sym}
 use Rattle.std.proofs.lemmas.List.FromFn.{map-range_with_len_more}
 use Rattle.std.specs.List.{range_with_len}
-use Rattle.agent_pages.specs.Board.{row_of}
-use Rattle.agent_pages.specs.declared.board.BoardRow.{BoardRow}
+use Rattle.agent_pages.specs.{Board.row_of, declared.board.BoardRow.BoardRow}
 use Rattle.agent_pages.proofs.gathering.served_rows.Goals as goal
 
 pub loop-index-preserved : goal.loop-index-preserved

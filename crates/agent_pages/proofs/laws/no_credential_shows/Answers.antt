@@ -1,15 +1,11 @@
 -- A board follows from the machine, the forest, the standings and the beginnings, from what is around the agent, and from what is told of the
 -- entries that are named.
 use Rattle.std.proofs.Common.{◌∙◌, ℕ, List, [], ap, map}
-use Rattle.agent_standing.specs.Agent.{Agent}
-use Rattle.agent_standing.specs.declared.standing.EntryStanding.{EntryStanding}
+use Rattle.agent_standing.specs.{Agent.Agent, declared.standing.EntryStanding.EntryStanding}
 use Rattle.plan_forest.specs.Forest.{Forest}
-use Rattle.watch_machine.specs.Outlook.{broker_now}
-use Rattle.watch_machine.specs.State.{WatchState}
-use Rattle.agent_pages.specs.Board.{board_of, row_of, rows_of, served_rows}
-use Rattle.agent_pages.specs.Naming.{Named, named_by}
-use Rattle.agent_pages.specs.declared.board.Board.{Board}
-use Rattle.agent_pages.specs.declared.board.Surroundings.{Surroundings}
+use Rattle.watch_machine.specs.{Outlook.broker_now, State.WatchState}
+use Rattle.agent_pages.specs.{Naming.Named, Naming.named_by, declared.board.Board.Board, declared.board.Surroundings.Surroundings}
+use Rattle.agent_pages.specs.Board.{row_of, rows_of, served_rows}
 use Rattle.agent_pages.proofs.laws.no_credential_shows.Goals as goal
 
 pub returns : goal.returns

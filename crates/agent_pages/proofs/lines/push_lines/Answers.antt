@@ -1,7 +1,6 @@
 -- A line that is written is the first of those to come.
 use Rattle.std.proofs.Common.{◌≡◌, ◌++◌, ◌+◌, ◌∷◌, [], ℕ, List, arith, drop, refl, sym, ◌∙◌, subst}
-use Rattle.std.proofs.lemmas.Grind.{common_steps}
-use Rattle.std.proofs.lemmas.List.{append-nil, drop_more}
+use Rattle.std.proofs.lemmas.{Grind.common_steps, List.append-nil, List.drop_more}
 use Rattle.agent_pages.specs.Lines.{AreEntryLines}
 use Rattle.agent_pages.proofs.lines.push_lines.Goals as goal
 

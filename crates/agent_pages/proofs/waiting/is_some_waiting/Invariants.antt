@@ -1,7 +1,6 @@
 -- Whether one waits hangs on those to come.
 use Rattle.std.proofs.Common.{◌≡◌, drop, map}
-use Rattle.agent_pages.specs.Naming.{named_by}
-use Rattle.agent_pages.specs.Waiting.{is_some_waiting}
+use Rattle.agent_pages.specs.{Naming.named_by, Waiting.is_some_waiting}
 use Rattle.agent_pages.proofs.waiting.is_some_waiting.Given as goal
 
 abbrev pub invariant-loop-row : goal.invariant-loop-row

@@ -3,8 +3,7 @@ use Rattle.std.proofs.Common.{◌≡◌, ◌∙◌, ◌++◌, ℕ, List, ap, ari
 use Rattle.std.proofs.lemmas.List.{flat_map_more}
 use Rattle.std.specs.List.{range_with_len}
 use Rattle.plan_forest.proofs.Ranges.{range_more}
-use Rattle.agent_pages.specs.Waiting.{row_if_waiting, rows_among}
-use Rattle.agent_pages.specs.declared.board.BoardRow.{BoardRow}
+use Rattle.agent_pages.specs.{Waiting.row_if_waiting, Waiting.rows_among, declared.board.BoardRow.BoardRow}
 use Rattle.agent_pages.proofs.waiting.push_among.Goals as goal
 
 pub loop-index-preserved : goal.loop-index-preserved

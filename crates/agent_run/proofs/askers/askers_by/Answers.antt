@@ -1,5 +1,5 @@
 -- One more is there.
-use Rattle.std.proofs.Common.{rules, ◌≡◌, ◌+◌, ◌++◌, ◌∷◌, [], ap, length, subst, sym}
+use Rattle.std.proofs.Common.{rules, ap, length, subst, sym}
 use Rattle.std.proofs.lemmas.List.Elements.{All-nil, All-push}
 use Rattle.std.specs.List.{All}
 use Rattle.agent_run.specs.Run.{IsAskerFor}

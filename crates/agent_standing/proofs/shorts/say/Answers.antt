@@ -1,7 +1,6 @@
 -- Where nothing is to be said, all is said.
 use Rattle.std.proofs.Common.{◌∙◌, sym}
-use Rattle.std.proofs.lemmas.Bool.{eqb-true}
-use Rattle.std.proofs.lemmas.List.{nil_from_length}
+use Rattle.std.proofs.lemmas.{Bool.eqb-true, List.nil_from_length}
 use Rattle.agent_standing.proofs.Saying.{nothing_said}
 use Rattle.agent_standing.proofs.shorts.say.Goals as goal
 

@@ -2,8 +2,7 @@
 use Rattle.std.proofs.Common.{◌≡◌, ◌∙◌, ◌<◌, ap, arith, length}
 use Rattle.std.proofs.lemmas.List.Elements.{All-set}
 use Rattle.plan_forest.specs.Forest.{Forest}
-use Rattle.agent_standing.specs.Agent.{IsStanding}
-use Rattle.agent_standing.specs.Shorts.{said_standing, said_standings}
+use Rattle.agent_standing.specs.{Agent.IsStanding, Shorts.said_standing, Shorts.said_standings}
 use Rattle.agent_standing.proofs.Saying.{said_all, said_more, said_none}
 use Rattle.agent_standing.proofs.shorts.say_all.Goals as goal
 

@@ -1,7 +1,6 @@
 -- Those before the index are said.
 use Rattle.std.specs.List.{All}
-use Rattle.agent_standing.specs.Agent.{IsStanding}
-use Rattle.agent_standing.specs.Shorts.{said_standing}
+use Rattle.agent_standing.specs.{Agent.IsStanding, Shorts.said_standing}
 use Rattle.agent_standing.proofs.Saying.{Said}
 use Rattle.agent_standing.proofs.shorts.say_all.Given as goal
 

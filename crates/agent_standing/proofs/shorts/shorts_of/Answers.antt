@@ -1,12 +1,10 @@
 -- The news of one entry more.
 use Rattle.std.proofs.Common.{◌≡◌, ◌∙◌, ◌++◌, ℕ, List, ap, arith, flat_map, length}
 use Rattle.std.specs.List.{range_with_len}
-use Rattle.vault_inventory.specs.Inventories.{terms_at}
-use Rattle.vault_inventory.specs.declared.terms.Terms.{Terms}
+use Rattle.vault_inventory.specs.{Inventories.terms_at, declared.terms.Terms.Terms}
 use Rattle.plan_forest.specs.Forest.{Forest}
-use Rattle.agent_standing.specs.declared.shorts.Short.{Short}
+use Rattle.agent_standing.specs.{declared.shorts.Short.Short, Standings.standing_in}
 use Rattle.agent_standing.specs.Shorts.{news_of_entry, short_at, shorts_in}
-use Rattle.agent_standing.specs.Standings.{standing_in}
 use Rattle.agent_standing.proofs.Saying.{news_more}
 use Rattle.agent_standing.proofs.shorts.shorts_of.Goals as goal
 

@@ -2,8 +2,7 @@
 use Rattle.std.proofs.Common.{◌≡◌, flat_map}
 use Rattle.std.specs.List.{range_with_len}
 use Rattle.vault_inventory.specs.Inventories.{terms_at}
-use Rattle.agent_standing.specs.Shorts.{news_of_entry, short_at}
-use Rattle.agent_standing.specs.Standings.{standing_in}
+use Rattle.agent_standing.specs.{Shorts.news_of_entry, Shorts.short_at, Standings.standing_in}
 use Rattle.agent_standing.proofs.shorts.shorts_of.Given as goal
 
 abbrev pub invariant-loop-entry : goal.invariant-loop-entry

@@ -1,5 +1,5 @@
 -- What a start says is that of the state that was opened, and of its ledger.
-use Rattle.std.proofs.Common.{◌≡◌, refl}
+use Rattle.std.proofs.Common.{refl}
 use Rattle.agent_start.proofs.Telling.{says_start}
 use Rattle.agent_start.proofs.folder.start_with.Goals as goal
 

@@ -1,7 +1,6 @@
 -- One line more is added; at the end all are.
 use Rattle.std.proofs.Common.{◌++◌, ◌∙◌, ap, append-nil, map, map-id, rules, sym}
-use Rattle.std.proofs.lemmas.Iterator.Adapters.{YieldsList-from_vec}
-use Rattle.std.proofs.lemmas.Iterator.Consumers.{YieldsList-end}
+use Rattle.std.proofs.lemmas.{Iterator.Adapters.YieldsList-from_vec, Iterator.Consumers.YieldsList-end}
 use Rattle.agent_system.specs.Saying.{said_as}
 use Rattle.agent_system.proofs.Saying.{adds_on}
 use Rattle.agent_system.proofs.said.push_each.Goals as goal

@@ -1,8 +1,8 @@
 -- Standard output is looked at first, and then the folder of the ends, with what is said of the first.
 use Rattle.std.proofs.Common.{◌≡◌, ◌++◌, OnOk, ℕ, List, Option, Result, Ok, Err, codes, subst}
 use Rattle.std.specs.declared.alloc.AllocError.{AllocError}
-use Rattle.state_secrets.specs.Stamps.{FileCall, Made, Stamped}
 use Rattle.state_secrets.specs.declared.secret_files.FileStamp.{FileStamp}
+use Rattle.state_secrets.specs.Stamps.{FileCall, Made, Stamped}
 use Rattle.agent_system.specs.Stalls.{WarnsBy, WarnsOfEnds, log_warning}
 use Rattle.agent_words.specs.declared.said.SaidLine.{SaidLine}
 use Rattle.agent_system.proofs.stalls.warn_by.Goals as goal

@@ -1,6 +1,5 @@
 -- nothing_else_is_heard: turns are what follows from their words, and that is one way only.
-use Rattle.agent_turns.proofs.Heard.{words_law}
-use Rattle.agent_turns.proofs.OneWay.{one_way_law}
+use Rattle.agent_turns.proofs.{Heard.words_law, OneWay.one_way_law}
 use Rattle.agent_turns.proofs.laws.nothing_else_is_heard.Goals as goal
 
 pub returns-clause-words : goal.returns-clause-words

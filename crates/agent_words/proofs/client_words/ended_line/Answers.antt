@@ -1,5 +1,5 @@
 -- The date stands after the words.
-use Rattle.std.proofs.Common.{◌≡◌, ◌∙◌, ◌∷◌, ◌++◌, ap}
+use Rattle.std.proofs.Common.{◌∙◌, ◌++◌, ap}
 use Rattle.std.specs.Prelude.{codes}
 use Rattle.agent_words.proofs.client_words.ended_line.Goals as goal
 

@@ -1,7 +1,6 @@
 -- The seven pieces are appended one after another.
 use Rattle.std.proofs.Common.{◌∙◌, ap, codes, decimal, ◌++◌}
-use Rattle.agent_words.specs.Refusing.{remedy_where}
-use Rattle.agent_words.specs.Starts.{least_margin}
+use Rattle.agent_words.specs.{Refusing.remedy_where, Starts.least_margin}
 use Rattle.agent_words.proofs.Pieces.{seven_pieces}
 use Rattle.agent_words.proofs.fault_line.push_small.Goals as goal
 

@@ -1,7 +1,6 @@
 -- The entry is the first of those to come.
-use Rattle.std.proofs.Common.{◌≡◌, ◌∙◌, ◌++◌, ◌∷◌, [], ◌+◌, ap, arith, drop, sym}
-use Rattle.std.proofs.lemmas.Bool.{cond-false, cond-true}
-use Rattle.std.proofs.lemmas.Grind.{common_steps}
+use Rattle.std.proofs.Common.{◌≡◌, ◌∙◌, ◌++◌, [], ◌+◌, ap, arith, drop, sym}
+use Rattle.std.proofs.lemmas.{Bool.cond-false, Bool.cond-true, Grind.common_steps}
 use Rattle.agent_words.specs.Starts.{bare_faults, first_listed_fault}
 use Rattle.agent_words.proofs.Behind.{first_behind}
 use Rattle.agent_words.proofs.first_fault.first_bare.Goals as goal

@@ -1,7 +1,7 @@
 -- The fault of the first of those to come is said, where it has one.
 use Rattle.std.proofs.Common.{◌≡◌, ◌∙◌, ◌++◌, ◌+◌, [], ap, append-nil, append_assoc, arith, drop, sym}
 use Rattle.std.proofs.lemmas.Grind.{common_steps}
-use Rattle.agent_words.specs.Starts.{bare_at, bare_faults, fault_list}
+use Rattle.agent_words.specs.Starts.{bare_at, bare_faults}
 use Rattle.agent_words.proofs.Behind.{first_behind}
 use Rattle.agent_words.proofs.first_fault.push_bare.Goals as goal
 

@@ -1,11 +1,8 @@
 -- The words of the first of those to come are said.
 use Rattle.std.proofs.Common.{◌≡◌, ◌∙◌, ◌++◌, ◌∷◌, ◌+◌, List, ℕ, [], ap, append-nil, append_assoc, arith, drop, get_or, map, sym}
-use Rattle.std.proofs.lemmas.Grind.{common_steps}
-use Rattle.std.proofs.lemmas.List.{drop_more}
+use Rattle.std.proofs.lemmas.{Grind.common_steps, List.drop_more}
 use Rattle.vault_inventory.specs.declared.fault.InvFault.TheVariants.{NotToml}
-use Rattle.agent_words.specs.Reasons.{file_words}
-use Rattle.agent_words.specs.declared.fault.StartFault.{StartFault}
-use Rattle.agent_words.specs.declared.fault.StartFault.TheVariants.{Inventory}
+use Rattle.agent_words.specs.{Reasons.file_words, declared.fault.StartFault.StartFault, declared.fault.StartFault.TheVariants.Inventory}
 use Rattle.agent_words.proofs.unserved.each_said.Goals as goal
 
 pub loop-place-preserved : goal.loop-place-preserved

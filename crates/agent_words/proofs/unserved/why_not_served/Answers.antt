@@ -1,8 +1,7 @@
 -- There is a fault.
 use Rattle.std.proofs.Common.{◌∙◌, ◌==◌, List, ap, length, subst, sym}
 use Rattle.std.proofs.lemmas.Bool.{eqb-false}
-use Rattle.agent_words.specs.Noting.{AreWhysNotServed}
-use Rattle.agent_words.specs.declared.fault.StartFault.{StartFault}
+use Rattle.agent_words.specs.{Noting.AreWhysNotServed, declared.fault.StartFault.StartFault}
 use Rattle.agent_words.proofs.Faulty.{says_each}
 use Rattle.agent_words.proofs.unserved.why_not_served.Goals as goal
 

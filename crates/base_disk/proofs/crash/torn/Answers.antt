@@ -1,8 +1,6 @@
 use Rattle.std.proofs.Common.{◌≡◌, List, ℕ, length, Option, Some, sym, ap, subst, arith}
 use Rattle.std.proofs.lemmas.Result.{IfOk-weaker}
-use Rattle.base_disk.specs.Image.{File, with_bytes, overwritten}
-use Rattle.base_disk.specs.Torn.{Torn, IsTornFile}
-use Rattle.base_disk.specs.Memory.{held_file}
+use Rattle.base_disk.specs.{Image.File, Image.with_bytes, Image.overwritten, Torn.Torn, Torn.IsTornFile, Memory.held_file}
 use Rattle.base_disk.proofs.Left.{torn_in_file}
 use Rattle.base_disk.proofs.crash.torn.Goals as goal
 

@@ -1,7 +1,5 @@
 use Rattle.std.proofs.Common.{inl, refl}
-use Rattle.base_disk.specs.Image.{File}
-use Rattle.base_disk.specs.State.{IsAfter}
-use Rattle.base_disk.specs.Torn.{MovesFile}
+use Rattle.base_disk.specs.{Image.File, State.IsAfter, Torn.MovesFile}
 use Rattle.base_disk.proofs.Moments.{started, goes_on}
 use Rattle.base_disk.proofs.replacing.replace.Goals as goal
 

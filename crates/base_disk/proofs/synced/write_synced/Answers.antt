@@ -1,8 +1,6 @@
 use Rattle.std.proofs.Common.{length}
-use Rattle.base_disk.specs.Torn.{Torn, Tears}
-use Rattle.base_disk.specs.State.{IsAfter}
-use Rattle.base_disk.proofs.Moments.{started, goes_on}
-use Rattle.base_disk.proofs.Torn.{torn_not, tears_not}
+use Rattle.base_disk.specs.{Torn.Torn, Torn.Tears, State.IsAfter}
+use Rattle.base_disk.proofs.{Moments.started, Moments.goes_on, Torn.torn_not, Torn.tears_not}
 use Rattle.base_disk.proofs.synced.write_synced.Goals as goal
 
 pub returns-in_err-write_at-clause-any_moment : goal.returns-in_err-write_at-clause-any_moment

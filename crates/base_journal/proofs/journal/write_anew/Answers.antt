@@ -1,6 +1,5 @@
 use Rattle.std.proofs.Common.{◌≡◌, ◌-◌, ◌<◌, length, ◌∙◌, ap, arith, List, ℕ}
-use Rattle.base_journal.specs.Records.{at_rest}
-use Rattle.base_journal.specs.declared.journal.TheConstants.{MOST_BYTES}
+use Rattle.base_journal.specs.{Records.at_rest, declared.journal.TheConstants.MOST_BYTES}
 use Rattle.base_journal.proofs.Writing.{made_anew}
 use Rattle.base_journal.proofs.journal.write_anew.Goals as goal
 

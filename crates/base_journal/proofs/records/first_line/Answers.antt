@@ -1,7 +1,5 @@
 use Rattle.std.proofs.Common.{ℕ, ◌+◌, ◌-◌, List, ◌∷◌, ◌++◌, length, take, drop, slice_index, sym, ◌∙◌, ap, arith, length-drop}
-use Rattle.std.proofs.lemmas.Bool.{eqb-true}
-use Rattle.std.proofs.lemmas.List.{take_all}
-use Rattle.std.proofs.lemmas.Option.{MatchOption-at_some, MatchOption-at_none}
+use Rattle.std.proofs.lemmas.{Bool.eqb-true, List.take_all, Option.MatchOption-at_some, Option.MatchOption-at_none}
 use Rattle.memchr.specs.Find.{Nowhere, Passes, NoneBefore, is_byte}
 use Rattle.base_journal.proofs.Readings.{no_feed, line_before, split_at_feed}
 use Rattle.base_journal.proofs.records.first_line.Goals as goal

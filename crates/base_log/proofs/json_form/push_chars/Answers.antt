@@ -1,7 +1,6 @@
 -- At the end all characters came.
 use Rattle.std.proofs.Common.{◌++◌, flat_map, sym, ap, ◌∙◌, map-id}
-use Rattle.std.proofs.lemmas.Iterator.{YieldsList-from_chars}
-use Rattle.std.proofs.lemmas.Iterator.Consumers.{YieldsList-end}
+use Rattle.std.proofs.lemmas.{Iterator.YieldsList-from_chars, Iterator.Consumers.YieldsList-end}
 use Rattle.base_log.specs.Forms.{json_char}
 use Rattle.base_log.proofs.json_form.push_chars.Goals as goal
 

@@ -1,7 +1,6 @@
 -- A word that is written is the first of those to come.
 use Rattle.std.proofs.Common.{◌≡◌, ◌++◌, ◌+◌, ◌∷◌, [], arith, drop, refl, sym, ◌∙◌, subst}
-use Rattle.std.proofs.lemmas.Grind.{common_steps}
-use Rattle.std.proofs.lemmas.List.{append-nil, drop_more}
+use Rattle.std.proofs.lemmas.{Grind.common_steps, List.append-nil, List.drop_more}
 use Rattle.base_log.specs.Forms.{SayEach}
 use Rattle.base_log.proofs.Pieces.{each_then}
 use Rattle.base_log.proofs.json_form.push_each.Goals as goal

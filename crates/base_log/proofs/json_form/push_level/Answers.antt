@@ -3,8 +3,7 @@ use Rattle.std.proofs.Common.{arith}
 use Rattle.std.proofs.lemmas.Grind.{common_steps}
 use Rattle.std.specs.Prelude.{codes}
 use Rattle.base_log.proofs.Pieces.{three_pushed}
-use Rattle.base_log.specs.Forms.{json_event}
-use Rattle.base_log.specs.Lines.{level_name}
+use Rattle.base_log.specs.{Forms.json_event, Lines.level_name}
 use Rattle.base_log.proofs.json_form.push_level.Goals as goal
 
 pub returns : goal.returns

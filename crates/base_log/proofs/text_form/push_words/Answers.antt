@@ -1,7 +1,6 @@
 -- A word that is written is the first of those to come.
-use Rattle.std.proofs.Common.{◌≡◌, ◌++◌, ◌+◌, ◌∷◌, [], ℕ, List, arith, drop, refl, sym, ap, ◌∙◌, subst}
-use Rattle.std.proofs.lemmas.Grind.{common_steps}
-use Rattle.std.proofs.lemmas.List.{append-nil, drop_more}
+use Rattle.std.proofs.Common.{◌≡◌, ◌++◌, ◌+◌, ◌∷◌, [], arith, drop, refl, sym, ◌∙◌, subst}
+use Rattle.std.proofs.lemmas.{Grind.common_steps, List.append-nil, List.drop_more}
 use Rattle.base_log.specs.Forms.{SayWords}
 use Rattle.base_log.proofs.Pieces.{said_then}
 use Rattle.base_log.proofs.text_form.push_words.Goals as goal

@@ -1,7 +1,6 @@
 -- One digit more makes the number so far longer, or takes it past the bound for good.
 use Rattle.std.proofs.Common.{◌+◌, ◌<◌, arith, sym}
-use Rattle.std.proofs.lemmas.Bool.{cond-false, lt-leb}
-use Rattle.std.proofs.lemmas.Str.Parse.{digits_value-take-le}
+use Rattle.std.proofs.lemmas.{Bool.cond-false, Bool.lt-leb, Str.Parse.digits_value-take-le}
 use Rattle.std.specs.Str.Parse.{digits_value}
 use Rattle.base_words.proofs.Digits.{one_digit_more}
 use Rattle.base_words.proofs.number.value_of.Goals as goal

@@ -1,7 +1,5 @@
 -- The law, as it is proved of the definitions.
-use Rattle.broker_alike.proofs.Dated.{step_dated}
-use Rattle.broker_alike.proofs.Kept.{renewals_both}
-use Rattle.broker_alike.proofs.Looks.{looks_both}
+use Rattle.broker_alike.proofs.{Dated.step_dated, Kept.renewals_both, Looks.looks_both}
 use Rattle.broker_alike.proofs.laws.secrets_change_no_step.Goals as goal
 
 pub returns-clause-renewals : goal.returns-clause-renewals

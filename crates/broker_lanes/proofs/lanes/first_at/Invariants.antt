@@ -1,7 +1,6 @@
 -- The first of those looked at is the first of the last of them.
 use Rattle.std.proofs.Common.{◌≡◌, ◌≤◌, Some, drop, length}
-use Rattle.vault_lanes.specs.Out.{first_at}
-use Rattle.vault_lanes.specs.Seats.{outs}
+use Rattle.vault_lanes.specs.{Out.first_at, Seats.outs}
 use Rattle.broker_lanes.proofs.lanes.first_at.Given as goal
 
 abbrev pub invariant-loop-at : goal.invariant-loop-at

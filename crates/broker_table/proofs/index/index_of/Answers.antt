@@ -1,8 +1,7 @@
 -- One slot more is entered under a credential that is new, and after the last all slots are.
 use Rattle.std.proofs.Common.{◌≡◌, ap, arith, length, subst, sym}
-use Rattle.broker_table.specs.declared.slot.Slot.{Slot}
+use Rattle.broker_table.specs.{declared.slot.Slot.Slot, Index.IsFresh, Index.IsIndexOf}
 use Rattle.broker_rule.specs.declared.row.BrokerRow.{BrokerRow}
-use Rattle.broker_table.specs.Index.{IsFresh, IsIndexOf}
 use Rattle.broker_table.proofs.Indexed.{fresh_next}
 use Rattle.broker_table.proofs.index.index_of.Goals as goal
 

@@ -2,8 +2,7 @@
 use Rattle.std.proofs.Common.{◌≡◌, ◌==◌, ◌<◌, ◌≤◌, ◌∷◌, [], false, IfSome, length, arith, rules, subst}
 use Rattle.std.proofs.lemmas.Bool.Decides.{nat_tests}
 use Rattle.std.specs.Io.KnownBytes.{Consumes}
-use Rattle.broker_table.specs.MomentLine.{BreaksOff}
-use Rattle.broker_table.specs.declared.moment_line.TheConstants.{MOST_LINE}
+use Rattle.broker_table.specs.{MomentLine.BreaksOff, declared.moment_line.TheConstants.MOST_LINE}
 use Rattle.broker_table.proofs.MomentLines.{broken_off, none_so_long}
 use Rattle.broker_table.proofs.moment_line.read_line.Goals as goal
 

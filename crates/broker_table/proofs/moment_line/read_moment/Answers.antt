@@ -1,8 +1,7 @@
 -- Where there is no line, or one that spells no moment, the input has no moment in front, and its line is passed.
 use Rattle.std.proofs.Common.{◌∙◌, ◌<◌, ◌++◌, ◌∷◌, [], ℕ, List, Option, Vec, Global, IfSome, Ok, ap, inl, length, subst}
 use Rattle.std.specs.Io.KnownBytes.{Consumes}
-use Rattle.broker_table.specs.declared.moment_line.TheConstants.{MOST_LINE}
-use Rattle.broker_table.specs.MomentLine.{IsOneLine}
+use Rattle.broker_table.specs.{declared.moment_line.TheConstants.MOST_LINE, MomentLine.IsOneLine}
 use Rattle.broker_table.proofs.MomentLines.{no_line_no_moment, other_line}
 use Rattle.broker_table.proofs.moment_line.read_moment.Goals as goal
 

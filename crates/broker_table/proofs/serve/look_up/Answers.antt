@@ -1,8 +1,7 @@
 -- The row that a lookup finds names a text, so that the reply can have its body.
 use Rattle.std.proofs.Common.{◌∙◌, Ok, ap, subst, sym}
-use Rattle.broker_table.specs.declared.slot.Slot.{Slot}
+use Rattle.broker_table.specs.{declared.slot.Slot.Slot, Slots.listed_rows, Slots.slot_at}
 use Rattle.broker_table.specs.Found.{NamesText, SubjectNamesText, subject_at}
-use Rattle.broker_table.specs.Slots.{listed_rows, slot_at}
 use Rattle.broker_table.proofs.Texts.{subject_names_text}
 use Rattle.broker_table.proofs.serve.look_up.Goals as goal
 

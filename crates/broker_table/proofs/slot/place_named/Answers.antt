@@ -1,7 +1,6 @@
 -- The place that a name finds is that of a listed row, the one of that name.
 use Rattle.std.proofs.Common.{◌∙◌, ap, bytes_eq, option_map}
-use Rattle.broker_rule.specs.declared.row.BrokerRow.{BrokerRow}
-use Rattle.broker_rule.specs.Rows.{row_named}
+use Rattle.broker_rule.specs.{declared.row.BrokerRow.BrokerRow, Rows.row_named}
 use Rattle.broker_table.specs.Slots.{slot_at}
 use Rattle.broker_table.proofs.Listed.{place_found, place_within}
 use Rattle.broker_table.proofs.slot.place_named.Goals as goal

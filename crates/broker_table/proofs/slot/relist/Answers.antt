@@ -1,7 +1,6 @@
 -- A slot that is judged changes in nothing but whether it is listed.
 use Rattle.std.proofs.Common.{◌≡◌, ◌∙◌, ap, get_or, set, sym}
-use Rattle.broker_table.specs.declared.slot.Slot.{Slot}
-use Rattle.broker_table.specs.Slots.{slot_at}
+use Rattle.broker_table.specs.{declared.slot.Slot.Slot, Slots.slot_at}
 use Rattle.broker_table.proofs.Listed.{slot_read}
 use Rattle.broker_table.proofs.slot.relist.Goals as goal
 

@@ -1,10 +1,7 @@
 -- With another end in a row, the rows, the soonest end and the credentials are what they should be.
 use Rattle.std.proofs.Common.{◌∙◌, ap, min, subst, sym}
-use Rattle.broker_table.specs.Slots.{AreKept, listed_rows}
-use Rattle.broker_table.specs.Index.{credentials_of}
-use Rattle.broker_table.proofs.Indexed.{ended_credentials}
-use Rattle.broker_table.proofs.Keeping.{ended_kept}
-use Rattle.broker_table.proofs.Replaced.{ended_rows}
+use Rattle.broker_table.specs.{Slots.AreKept, Slots.listed_rows, Index.credentials_of}
+use Rattle.broker_table.proofs.{Indexed.ended_credentials, Keeping.ended_kept, Replaced.ended_rows}
 use Rattle.broker_table.proofs.slot.set_end.Goals as goal
 
 pub returns-clause-rows : goal.returns-clause-rows

@@ -1,8 +1,6 @@
 -- The parent of an entry is not lacking, so that its name may be asked.
 use Rattle.std.proofs.Common.{◌≡◌, ◌∙◌, ap, subst}
-use Rattle.plan_forest.specs.declared.entry.Entry.{Entry}
-use Rattle.plan_forest.specs.Forest.{Forest, entry_at}
-use Rattle.plan_forest.specs.Push.{IsForest, lacks_parent}
+use Rattle.plan_forest.specs.{declared.entry.Entry.Entry, Forest.Forest, Forest.entry_at, Push.IsForest, Push.lacks_parent}
 use Rattle.broker_table.proofs.Loaded.{has_parent}
 use Rattle.broker_table.proofs.slot.slot_of.Goals as goal
 

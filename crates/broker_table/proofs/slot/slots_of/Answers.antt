@@ -1,9 +1,7 @@
 -- One slot more is made, and all of them together are sound and have no credential twice.
 use Rattle.std.proofs.Common.{◌≡◌, ◌∙◌, ap, arith, length, subst, sym}
-use Rattle.plan_forest.specs.Forest.{Forest}
-use Rattle.plan_forest.specs.Push.{IsForest}
-use Rattle.broker_table.specs.Index.{AreUnlike}
-use Rattle.broker_table.specs.Slots.{AreSlots}
+use Rattle.plan_forest.specs.{Forest.Forest, Push.IsForest}
+use Rattle.broker_table.specs.{Index.AreUnlike, Slots.AreSlots}
 use Rattle.broker_table.proofs.Loaded.{all_slots, slots_are_sound, slots_are_unlike, slots_more}
 use Rattle.broker_table.proofs.slot.slots_of.Goals as goal
 

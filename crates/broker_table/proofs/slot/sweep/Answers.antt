@@ -1,10 +1,8 @@
 -- A sweep judges all slots, and before the soonest end it has nothing to change.
 use Rattle.std.proofs.Common.{◌<◌, ◌∙◌, ap, arith, length, subst, sym}
-use Rattle.broker_table.specs.Slots.{AreKept, EndFrom, listed_rows}
 use Rattle.broker_table.specs.Index.{credentials_of}
-use Rattle.broker_table.proofs.Indexed.{swept_credentials}
-use Rattle.broker_table.proofs.Keeping.{swept_before, swept_kept}
-use Rattle.broker_table.proofs.Living.{swept_rows}
+use Rattle.broker_table.specs.Slots.{AreKept, EndFrom, listed_rows}
+use Rattle.broker_table.proofs.{Indexed.swept_credentials, Keeping.swept_before, Keeping.swept_kept, Living.swept_rows}
 use Rattle.broker_table.proofs.slot.sweep.Goals as goal
 
 pub returns-then-soonest-get-clause-rows : goal.returns-then-soonest-get-clause-rows

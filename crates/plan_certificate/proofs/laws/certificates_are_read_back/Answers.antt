@@ -1,7 +1,5 @@
 -- What is read is what the text writes, and a text that writes a certificate is read as it.
-use Rattle.plan_certificate.proofs.FoundRuns.{read_is_written}
-use Rattle.plan_certificate.proofs.ReadBackAll.{written_is_read}
-use Rattle.plan_certificate.proofs.Stated.{start_stated}
+use Rattle.plan_certificate.proofs.{FoundRuns.read_is_written, ReadBackAll.written_is_read, Stated.start_stated}
 use Rattle.plan_certificate.proofs.laws.certificates_are_read_back.Goals as goal
 
 pub returns-clause-found : goal.returns-clause-found

@@ -1,11 +1,10 @@
 -- One line more adds its run, ends the runs, or has the fault that the whole text has.
 use Rattle.std.proofs.Common.{◌≡◌, ◌+◌, ◌++◌, ◌∷◌, ◌<◌, ◌≤◌, [], true, false, bytes_eq, ap, arith, length, length-append, sym, ◌∙◌}
 use Rattle.std.proofs.lemmas.Result.{err_from_is_err_and}
-use Rattle.plan_certificate.specs.declared.cert.TheConstants.{MAX_LINES}
+use Rattle.plan_certificate.specs.{declared.cert.TheConstants.MAX_LINES, Lines.line_at, Lines.lines}
+use Rattle.plan_certificate.specs.Reading.{ending, run_in_line, run_keyword, runs_of}
 use Rattle.plan_rule.specs.Runs.{wake_count}
 use Rattle.base_words.specs.Pieces.{keyword}
-use Rattle.plan_certificate.specs.Lines.{line_at, lines}
-use Rattle.plan_certificate.specs.Reading.{ending, run_in_line, run_keyword, runs_of}
 use Rattle.plan_certificate.proofs.Answering.{fails_along}
 use Rattle.plan_certificate.proofs.Turns.{Behind, counted_push, full_done, full_fault, no_turn, other_done, other_fault, run_fault, run_more}
 use Rattle.plan_certificate.proofs.run_lines.runs_of.Goals as goal

@@ -1,9 +1,7 @@
 -- The lines from here on, after the runs that were found, are the whole from the start.
 use Rattle.std.proofs.Common.{◌≡◌, ◌≤◌, ◌*◌, [], length}
-use Rattle.plan_rule.specs.declared.limit.TheConstants.{LIMIT}
-use Rattle.plan_rule.specs.Runs.{wake_count}
-use Rattle.plan_certificate.specs.Lines.{lines}
-use Rattle.plan_certificate.specs.Reading.{runs_of}
+use Rattle.plan_rule.specs.{declared.limit.TheConstants.LIMIT, Runs.wake_count}
+use Rattle.plan_certificate.specs.{Lines.lines, Reading.runs_of}
 use Rattle.plan_certificate.proofs.run_lines.runs_of.Given as goal
 
 abbrev pub invariant-loop-read : goal.invariant-loop-read

@@ -1,8 +1,7 @@
 -- What the certificate claims holds where the answer to its runs, or to its pair, is Yes.
 use Rattle.std.proofs.Common.{◌≡◌, subst, sym}
 use Rattle.plan_rule.specs.Runs.{all_wakes}
-use Rattle.plan_check.specs.declared.answer.Answer.TheVariants.{Yes}
-use Rattle.plan_check.specs.Answer.{IsBodyAnswer, IsWalkAnswer}
+use Rattle.plan_check.specs.{declared.answer.Answer.TheVariants.Yes, Answer.IsBodyAnswer, Answer.IsWalkAnswer}
 use Rattle.plan_check.proofs.Answers.{yes_of_body}
 use Rattle.plan_check.proofs.checker.check.Goals as goal
 

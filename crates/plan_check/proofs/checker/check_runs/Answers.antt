@@ -2,10 +2,7 @@
 use Rattle.std.proofs.Common.{◌≡◌, None, Some, subst}
 use Rattle.plan_forest.specs.Forest.{end_of}
 use Rattle.plan_rule.specs.Runs.{all_wakes, moments_of}
-use Rattle.plan_check.specs.Answer.{first_fault}
-use Rattle.plan_check.specs.Kept.{own}
-use Rattle.plan_check.specs.code.Steps.{FirstShort}
-use Rattle.plan_check.specs.code.Rising.{Rising}
+use Rattle.plan_check.specs.{Answer.first_fault, Kept.own, code.Steps.FirstShort, code.Rising.Rising}
 use Rattle.plan_check.proofs.Judged.{walk_fault, walk_rises, walk_unkept, walk_yes}
 use Rattle.plan_check.proofs.checker.check_runs.Goals as goal
 

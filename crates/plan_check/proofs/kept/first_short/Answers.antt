@@ -1,11 +1,9 @@
 -- One entry more lasts until its need, or is the lowest over which one falls short.
 use Rattle.std.proofs.Common.{◌≡◌, ◌∙◌, ◌+◌, ◌<◌, ◌≤◌, ap, arith, length, subst, sym}
-use Rattle.plan_forest.specs.declared.entry.Entry.{Entry}
-use Rattle.plan_forest.specs.Forest.{end_of, entry_at}
+use Rattle.plan_forest.specs.{declared.entry.Entry.Entry, Forest.end_of, Forest.entry_at}
 use Rattle.plan_rule.proofs.Rounds.{LastsBelow}
 use Rattle.plan_rule.specs.Runs.{all_wakes, moments_of}
-use Rattle.plan_check.specs.Kept.{own}
-use Rattle.plan_check.specs.code.Steps.{least_with}
+use Rattle.plan_check.specs.{Kept.own, code.Steps.least_with}
 use Rattle.plan_check.proofs.Lasts.{all_last_more, least_here, least_pushed, short_here}
 use Rattle.plan_check.proofs.kept.first_short.Goals as goal
 use Rattle.plan_check.proofs.kept.first_short.Goals.{else-start-need-via-then-start-need+else-last-need, else-start-need-via-else-start-need}

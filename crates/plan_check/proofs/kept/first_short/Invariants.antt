@@ -3,8 +3,7 @@ use Rattle.std.proofs.Common.{◌≡◌, vec_len}
 use Rattle.plan_forest.specs.Forest.{end_of}
 use Rattle.plan_rule.proofs.Rounds.{LastsBelow}
 use Rattle.plan_rule.specs.Runs.{all_wakes, moments_of}
-use Rattle.plan_check.specs.Kept.{own}
-use Rattle.plan_check.specs.code.Steps.{AllLast}
+use Rattle.plan_check.specs.{Kept.own, code.Steps.AllLast}
 use Rattle.plan_check.proofs.kept.first_short.Given as goal
 
 abbrev pub invariant-loop-index : goal.invariant-loop-index

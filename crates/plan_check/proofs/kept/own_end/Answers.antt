@@ -1,7 +1,6 @@
 -- An entry that can be renewed has the end of its renewals, and one that cannot keeps its own.
 use Rattle.std.proofs.Common.{◌∙◌, ap, sym}
-use Rattle.plan_forest.specs.declared.entry.Entry.{Entry}
-use Rattle.plan_forest.specs.Forest.{end_of, entry_at}
+use Rattle.plan_forest.specs.{declared.entry.Entry.Entry, Forest.end_of, Forest.entry_at}
 use Rattle.plan_rule.specs.Runs.{all_wakes, moments_of}
 use Rattle.plan_check.specs.Kept.{own, own_end}
 use Rattle.plan_check.proofs.OwnEnds.{own_all_fixed}

@@ -2,13 +2,11 @@
 use Rattle.std.proofs.Common.{◌≡◌, ◌∙◌, ◌+◌, ◌-◌, List, ap, arith, drop, get_or, length, inl, inr, max, subst, sym}
 use Rattle.std.proofs.lemmas.List.{drop_all, drop_more}
 use Rattle.plan_forest.specs.Renewal.{renewal}
-use Rattle.plan_rule.proofs.Keeping.{IsRising}
-use Rattle.plan_rule.specs.declared.run.Run.{Run}
-use Rattle.plan_rule.specs.Runs.{all_wakes, moments_of}
+use Rattle.plan_rule.proofs.{Keeping.IsRising, Schedule.rising_strictly}
+use Rattle.plan_rule.specs.{declared.run.Run.Run, Runs.all_wakes, Runs.moments_of}
 use Rattle.plan_check.specs.Kept.{own_end}
 use Rattle.plan_check.specs.code.Gaps.{AllNarrow, IsIdleAt, gaps_of}
 use Rattle.plan_check.proofs.Jumps.{fit_at, jumps, rising_from, skips}
-use Rattle.plan_rule.proofs.Schedule.{rising_strictly}
 use Rattle.plan_check.proofs.OwnRuns.{blank, own_done, own_nothing, own_turn}
 use Rattle.plan_check.proofs.kept.renewed_end.Goals as goal
 

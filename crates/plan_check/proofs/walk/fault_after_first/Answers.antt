@@ -1,13 +1,9 @@
 -- After its first wake-up a run fails at the second, or where the bound first reaches the need, or nowhere.
 use Rattle.std.proofs.Common.{◌≡◌, ◌∙◌, ℕ, ◌+◌, ◌-◌, ◌*◌, ◌<◌, ◌≤◌, ◌++◌, Some, refl, ap, subst, arith, inl, inr}
 use Rattle.std.proofs.Math.Nat.{mul-le-mul_left}
-use Rattle.plan_forest.specs.declared.entry.Entry.{Entry}
-use Rattle.plan_forest.specs.Forest.{end_of, entry_at}
-use Rattle.plan_rule.specs.Forced.{latest_end}
-use Rattle.plan_rule.specs.Runs.{wakes_of}
-use Rattle.plan_check.specs.declared.answer.Cause.TheVariants.{NotRising}
-use Rattle.plan_check.specs.code.Steps.{LongFrom}
-use Rattle.plan_check.specs.Walk.{fault}
+use Rattle.plan_forest.specs.{declared.entry.Entry.Entry, Forest.end_of, Forest.entry_at}
+use Rattle.plan_rule.specs.{Forced.latest_end, Runs.wakes_of}
+use Rattle.plan_check.specs.{declared.answer.Cause.TheVariants.NotRising, code.Steps.LongFrom, Walk.fault}
 use Rattle.plan_check.proofs.Run.{Going, could_wait, stands_still, walks_all, walks_into}
 use Rattle.plan_check.proofs.walk.fault_after_first.Goals as goal
 

@@ -2,10 +2,8 @@
 use Rattle.std.proofs.Common.{◌≡◌, ◌∙◌, ◌+◌, ◌-◌, ◌*◌, ◌<◌, ◌∷◌, ◌++◌, sym, ap, subst, arith}
 use Rattle.plan_forest.specs.Forest.{end_of}
 use Rattle.plan_rule.proofs.Keeping.{end_below_bound}
-use Rattle.plan_rule.specs.declared.force.Force.{Force}
-use Rattle.plan_rule.specs.Runs.{wakes_of}
-use Rattle.plan_check.specs.code.Steps.{WalkFinds}
-use Rattle.plan_check.specs.Walk.{fault}
+use Rattle.plan_rule.specs.{declared.force.Force.Force, Runs.wakes_of}
+use Rattle.plan_check.specs.{code.Steps.WalkFinds, Walk.fault}
 use Rattle.plan_check.proofs.Answers.{first_rises, forced_parts}
 use Rattle.plan_check.proofs.Run.{falls, found_behind, run_first, unforced}
 use Rattle.plan_check.proofs.walk.fault_of_run.Goals as goal

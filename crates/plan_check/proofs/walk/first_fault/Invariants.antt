@@ -3,9 +3,7 @@ use Rattle.std.proofs.Common.{◌≡◌, ◌+◌, ◌≤◌, IfSome, drop, lengt
 use Rattle.base_moment.specs.declared.moment.TheConstants.{LAST}
 use Rattle.plan_forest.specs.Forest.{end_of}
 use Rattle.plan_rule.specs.Runs.{all_wakes, wake_count}
-use Rattle.plan_check.specs.Answer.{first_fault}
-use Rattle.plan_check.specs.code.Steps.{AllFit}
-use Rattle.plan_check.specs.Walk.{fault}
+use Rattle.plan_check.specs.{Answer.first_fault, code.Steps.AllFit, Walk.fault}
 use Rattle.plan_check.proofs.walk.first_fault.Given as goal
 
 -- what the whole walk finds is what the walk from here finds

@@ -1,7 +1,6 @@
 -- A root binds itself, and a child is bound by itself or by what binds its parent.
 use Rattle.std.proofs.Common.{◌≡◌, ◌∙◌, ◌<◌, Some, ap, inl, inr, length, subst, sym}
-use Rattle.plan_forest.specs.declared.entry.Entry.{Entry}
-use Rattle.plan_forest.specs.Forest.{entry_at}
+use Rattle.plan_forest.specs.{declared.entry.Entry.Entry, Forest.entry_at}
 use Rattle.plan_forest.proofs.Placed.{parents_first}
 use Rattle.plan_commands.proofs.Reaching.{child_binds, root_binds}
 use Rattle.plan_commands.proofs.bound.+bound_of.Goals as goal

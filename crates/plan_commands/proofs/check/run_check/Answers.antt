@@ -1,6 +1,5 @@
 -- The exit, the text and the fault line of `check` are what its text, once delivered, calls for.
-use Rattle.plan_commands.specs.CheckRun.{CheckTexts}
-use Rattle.plan_commands.specs.Running.{NoHalts}
+use Rattle.plan_commands.specs.{CheckRun.CheckTexts, Running.NoHalts}
 use Rattle.plan_commands.proofs.Delivered.{run_delivered}
 use Rattle.plan_commands.proofs.check.run_check.Goals as goal
 

@@ -2,8 +2,7 @@
 use Rattle.std.proofs.Common.{◌∙◌, ◌++◌, ap, sym}
 use Rattle.std.proofs.lemmas.List.{append-nil, append_assoc}
 use Rattle.plan_forest.specs.Forest.{entry_at}
-use Rattle.plan_commands.specs.code.Making.{at_index}
-use Rattle.plan_commands.specs.EndsText.{end_lines, name_end_line}
+use Rattle.plan_commands.specs.{code.Making.at_index, EndsText.end_lines, EndsText.name_end_line}
 use Rattle.plan_commands.proofs.Lines.{end_lines_more, end_lines_none}
 use Rattle.plan_commands.proofs.ends_text.push_lines.Goals as goal
 

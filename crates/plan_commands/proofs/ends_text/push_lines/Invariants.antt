@@ -1,7 +1,6 @@
 -- The text so far has gained the lines of the entries before the index, with their ends.
 use Rattle.std.proofs.Common.{◌≡◌, ◌++◌}
-use Rattle.plan_commands.specs.code.Making.{at_index}
-use Rattle.plan_commands.specs.EndsText.{end_lines}
+use Rattle.plan_commands.specs.{code.Making.at_index, EndsText.end_lines}
 use Rattle.plan_commands.proofs.ends_text.push_lines.Given as goal
 
 abbrev pub invariant-loop-index : goal.invariant-loop-index

@@ -1,9 +1,7 @@
 -- The lines of the ends and the line `keeps` are what asking every entry at the moments comes to.
 use Rattle.std.proofs.Common.{◌≡◌, ◌∙◌, ◌++◌, ◌↔◌, IsTrue, None, ap, refl, length, subst}
 use Rattle.plan_forest.specs.Forest.{end_of}
-use Rattle.plan_rule.specs.Ends.{ends_after, ends_listed}
-use Rattle.plan_rule.specs.Keeps.{Keeps}
-use Rattle.plan_rule.specs.Plans.{wake_fault}
+use Rattle.plan_rule.specs.{Ends.ends_after, Ends.ends_listed, Keeps.Keeps, Plans.wake_fault}
 use Rattle.plan_commands.specs.code.Making.{at_index}
 use Rattle.plan_commands.specs.EndsText.{all_asked, end_lines, keeps_line}
 use Rattle.plan_commands.proofs.Lines.{at_index_listed, end_lines_same, length_listed}

@@ -1,8 +1,6 @@
 -- Of inventories with one forest, each command writes one text with one exit.
-use Rattle.plan_commands.proofs.Dated.{one_plan_in_dates}
-use Rattle.plan_commands.proofs.Margins.{one_margin_text}
+use Rattle.plan_commands.proofs.{Dated.one_plan_in_dates, Margins.one_margin_text, Reaching.one_reach_text}
 use Rattle.plan_commands.proofs.OneText.{one_check_text, one_ends_text, one_plan_text}
-use Rattle.plan_commands.proofs.Reaching.{one_reach_text}
 use Rattle.plan_commands.proofs.laws.no_secret_shows.Goals as goal
 
 pub returns-clause-ends : goal.returns-clause-ends

@@ -1,6 +1,5 @@
 -- A certificate that is printed, or that `plan` writes, gets nothing but Yes.
-use Rattle.plan_commands.proofs.Own.{own_accepted}
-use Rattle.plan_commands.proofs.OwnText.{own_text}
+use Rattle.plan_commands.proofs.{Own.own_accepted, OwnText.own_text}
 use Rattle.plan_commands.proofs.laws.own_certificates_are_accepted.Goals as goal
 
 pub returns-clause-printed : goal.returns-clause-printed

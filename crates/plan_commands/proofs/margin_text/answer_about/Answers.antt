@@ -1,8 +1,7 @@
 -- The text about the ends as they are, or renewed, is the one that is asked for.
 use Rattle.std.proofs.Common.{subst}
 use Rattle.plan_forest.specs.Forest.{Forest}
-use Rattle.plan_commands.specs.code.Making.{MakesOf}
-use Rattle.plan_commands.specs.code.MarginMaking.{HaltsFrom, TextsFrom}
+use Rattle.plan_commands.specs.{code.Making.MakesOf, code.MarginMaking.HaltsFrom, code.MarginMaking.TextsFrom}
 use Rattle.plan_commands.proofs.Margins.{asked_makes}
 use Rattle.plan_commands.proofs.margin_text.answer_about.Goals as goal
 

@@ -1,7 +1,6 @@
 -- The plan for the forest's own margin, where it keeps, has the fewest wake-ups.
 use Rattle.std.proofs.Common.{subst, sym}
-use Rattle.plan_search.specs.Decides.{Decides, IsBestPlan}
-use Rattle.plan_search.specs.Widest.{IsFewest}
+use Rattle.plan_search.specs.{Decides.Decides, Decides.IsBestPlan, Widest.IsFewest}
 use Rattle.plan_search.proofs.Widening.{kept_fewest}
 use Rattle.plan_commands.proofs.margin_text.own_and_widest.Goals as goal
 

@@ -1,6 +1,5 @@
 -- The exit, the text and the fault line of `plan --dates` are what its text, once delivered, calls for.
-use Rattle.plan_commands.specs.PlanDates.{PlanDatesTexts}
-use Rattle.plan_commands.specs.PlanRun.{PlanHalts}
+use Rattle.plan_commands.specs.{PlanDates.PlanDatesTexts, PlanRun.PlanHalts}
 use Rattle.plan_commands.proofs.Delivered.{run_delivered}
 use Rattle.plan_commands.proofs.plan_dates.run_plan_dates.Goals as goal
 

@@ -1,6 +1,5 @@
 -- The exit, the text and the fault line of `reach` are what its text, once delivered, calls for.
-use Rattle.plan_commands.specs.ReachRun.{ReachTexts}
-use Rattle.plan_commands.specs.Running.{NoHalts}
+use Rattle.plan_commands.specs.{ReachRun.ReachTexts, Running.NoHalts}
 use Rattle.plan_commands.proofs.Delivered.{run_delivered}
 use Rattle.plan_commands.proofs.reach.run_reach.Goals as goal
 

@@ -1,8 +1,6 @@
 -- The end that a renewal leaves is within the range of ends.
 use Rattle.std.proofs.Common.{◌<◌, ◌≤◌, ◌^◌, subst, sym}
-use Rattle.plan_forest.specs.declared.entry.Entry.{Entry}
-use Rattle.plan_forest.specs.declared.forest.TheConstants.{END_MAX}
-use Rattle.plan_forest.specs.Forest.{entry_at}
+use Rattle.plan_forest.specs.{declared.entry.Entry.Entry, declared.forest.TheConstants.END_MAX, Forest.entry_at}
 use Rattle.plan_commands.proofs.Renewals.{renewed_within}
 use Rattle.plan_commands.proofs.renewed.renewed_end.Goals as goal
 

@@ -2,9 +2,7 @@
 use Rattle.std.proofs.Common.{◌≡◌, ◌++◌, List, drop, length, map, ap, arith, subst, sym, take}
 use Rattle.std.proofs.lemmas.List.{take_at}
 use Rattle.plan_forest.proofs.Placed.{parents_first}
-use Rattle.plan_needs.specs.declared.load.Load.{Load}
-use Rattle.plan_needs.specs.Carried.{IsCarried}
-use Rattle.plan_needs.specs.code.Loads.{AllOwn, seen_load}
+use Rattle.plan_needs.specs.{declared.load.Load.Load, Carried.IsCarried, code.Loads.AllOwn, code.Loads.seen_load}
 use Rattle.plan_needs.proofs.HandedUp.{handed_is_carried}
 use Rattle.plan_needs.proofs.carried.carry.Goals as goal
 

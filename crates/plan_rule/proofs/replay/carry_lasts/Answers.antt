@@ -3,9 +3,8 @@ use Rattle.std.proofs.Common.{ℕ, ◌<◌, ◌∙◌, ap, arith, length, subst,
 use Rattle.plan_forest.specs.declared.entry.Entry.{Entry}
 use Rattle.plan_forest.proofs.Placed.{parents_first}
 use Rattle.plan_rule.specs.code.Replay.{shown_ends}
-use Rattle.plan_rule.proofs.Rounds.{LastsBelow, lasts_child, lasts_root}
+use Rattle.plan_rule.proofs.{Rounds.LastsBelow, Rounds.lasts_child, Rounds.lasts_root, replay.carry_lasts.Goals.in-None, replay.carry_lasts.Goals.in-Some}
 use Rattle.plan_rule.proofs.replay.carry_lasts.Goals as goal
-use Rattle.plan_rule.proofs.replay.carry_lasts.Goals.{in-None, in-Some}
 
 pub loop-index-preserved : goal.loop-index-preserved
 loop-index-preserved c =

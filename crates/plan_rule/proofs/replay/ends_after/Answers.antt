@@ -2,10 +2,8 @@
 use Rattle.std.proofs.Common.{◌≡◌, ◌∙◌, ◌+◌, ◌∷◌, ap, arith, drop, length, subst, sym}
 use Rattle.std.proofs.lemmas.List.{drop_all}
 use Rattle.plan_forest.specs.Forest.{end_of}
-use Rattle.plan_rule.specs.Ends.{ends_after, ends_after_wake_up, ends_listed}
-use Rattle.plan_rule.specs.code.Replay.{shown_ends}
-use Rattle.plan_rule.proofs.Lists.{listed_shown, rewritten, unrolled}
-use Rattle.plan_rule.proofs.Walk.{Rises, ends_after_cons, ends_after_nil, rises}
+use Rattle.plan_rule.specs.{Ends.ends_after, Ends.ends_after_wake_up, Ends.ends_listed, code.Replay.shown_ends}
+use Rattle.plan_rule.proofs.{Lists.listed_shown, Lists.rewritten, Lists.unrolled, Walk.Rises, Walk.ends_after_cons, Walk.ends_after_nil, Walk.rises}
 use Rattle.plan_rule.proofs.replay.ends_after.Goals as goal
 
 pub loop-wake-init : goal.loop-wake-init

@@ -1,8 +1,7 @@
 -- The wake-ups that are left lead from the ends so far to those that all of them lead to.
 use Rattle.std.proofs.Common.{◌≡◌, ℕ, drop, length, vec_len}
 use Rattle.plan_forest.specs.Forest.{end_of}
-use Rattle.plan_rule.specs.Ends.{ends_after}
-use Rattle.plan_rule.specs.code.Replay.{shown_ends}
+use Rattle.plan_rule.specs.{Ends.ends_after, code.Replay.shown_ends}
 use Rattle.plan_rule.proofs.Walk.{Rises}
 use Rattle.plan_rule.proofs.replay.ends_after.Given as goal
 

@@ -2,11 +2,8 @@
 use Rattle.std.proofs.Common.{◌≡◌, ◌∙◌, ◌+◌, ◌↔◌, ◌++◌, ◌∷◌, ◌&&◌, [], ℕ, IsTrue, ap, arith, drop, length, subst, sym, take}
 use Rattle.std.proofs.lemmas.List.{drop_all}
 use Rattle.plan_forest.specs.Forest.{end_of}
-use Rattle.plan_rule.specs.Ends.{ends_after_wake_up}
-use Rattle.plan_rule.specs.Keeps.{Keeps}
-use Rattle.plan_rule.specs.code.Replay.{KeptBetween, Lasts, shown_ends}
-use Rattle.plan_rule.proofs.Lists.{need_within, rewritten, unrolled}
-use Rattle.plan_rule.proofs.Walk.{Rises, kept_first, kept_last, kept_more, rises}
+use Rattle.plan_rule.specs.{Ends.ends_after_wake_up, Keeps.Keeps, code.Replay.KeptBetween, code.Replay.Lasts, code.Replay.shown_ends}
+use Rattle.plan_rule.proofs.{Lists.need_within, Lists.rewritten, Lists.unrolled, Walk.Rises, Walk.kept_first, Walk.kept_last, Walk.kept_more, Walk.rises}
 use Rattle.plan_rule.proofs.replay.keeps.Goals as goal
 
 pub loop-wake-init : goal.loop-wake-init

@@ -1,8 +1,7 @@
 -- All is kept exactly where it was kept so far, and those that are left keep it from the ends so far.
 use Rattle.std.proofs.Common.{◌≡◌, ◌↔◌, IsTrue, drop, length, vec_len}
 use Rattle.plan_forest.specs.Forest.{end_of}
-use Rattle.plan_rule.specs.Keeps.{Keeps}
-use Rattle.plan_rule.specs.code.Replay.{shown_ends}
+use Rattle.plan_rule.specs.{Keeps.Keeps, code.Replay.shown_ends}
 use Rattle.plan_rule.proofs.Walk.{Rises}
 use Rattle.plan_rule.proofs.replay.keeps.Given as goal
 

@@ -1,10 +1,7 @@
 -- An entry is alive until a moment and its need exactly where it lasts until the sooner of the two.
 use Rattle.std.proofs.Common.{◌≡◌, ◌∙◌, ◌+◌, ◌-◌, ◌<◌, ◌≤◌, ap, arith, get_or, inl, inr, length, nat_le, refl, subst, sym, true}
-use Rattle.std.proofs.lemmas.Bool.{cases_eq, cases_lt}
-use Rattle.std.proofs.lemmas.Bool.Decides.{nat_tests}
-use Rattle.plan_forest.specs.declared.entry.Entry.{Entry}
-use Rattle.plan_forest.specs.Forest.{entry_at}
-use Rattle.plan_forest.specs.Renewal.{all_last}
+use Rattle.std.proofs.lemmas.{Bool.cases_eq, Bool.cases_lt, Bool.Decides.nat_tests}
+use Rattle.plan_forest.specs.{declared.entry.Entry.Entry, Forest.entry_at, Renewal.all_last}
 use Rattle.plan_forest.proofs.Entries.{entry_at_past}
 use Rattle.plan_rule.specs.Keeps.{Alive}
 use Rattle.plan_rule.proofs.Alive.{alive_from_last, last_from_alive}

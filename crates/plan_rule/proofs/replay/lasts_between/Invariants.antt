@@ -1,8 +1,7 @@
 -- The entries before the index are alive at each moment of the stretch that comes before their needs.
 use Rattle.std.proofs.Common.{ℕ, ◌≤◌, ◌<◌}
 use Rattle.plan_forest.specs.Forest.{entry_at}
-use Rattle.plan_rule.specs.Keeps.{Alive}
-use Rattle.plan_rule.specs.code.Replay.{Lasts}
+use Rattle.plan_rule.specs.{Keeps.Alive, code.Replay.Lasts}
 use Rattle.plan_rule.proofs.replay.lasts_between.Given as goal
 
 abbrev pub invariant-loop-index : goal.invariant-loop-index

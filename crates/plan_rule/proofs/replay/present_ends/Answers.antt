@@ -1,8 +1,7 @@
 -- One end more is listed, and a list with the end of each entry shows the present ends.
 use Rattle.std.proofs.Common.{◌≡◌, ap, arith, length}
 use Rattle.std.proofs.lemmas.Grind.{common_steps}
-use Rattle.plan_forest.specs.declared.entry.Entry.{Entry}
-use Rattle.plan_forest.specs.Forest.{end_of, entry_at}
+use Rattle.plan_forest.specs.{declared.entry.Entry.Entry, Forest.end_of, Forest.entry_at}
 use Rattle.plan_rule.proofs.Lists.{shown_present}
 use Rattle.plan_rule.proofs.replay.present_ends.Goals as goal
 

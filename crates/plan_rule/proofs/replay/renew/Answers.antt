@@ -2,8 +2,7 @@
 use Rattle.std.proofs.Common.{◌<◌, ◌+◌, ℕ, ap, arith, get_or, length, refl, set, subst, sym}
 use Rattle.std.proofs.lemmas.List.{take_all}
 use Rattle.plan_rule.specs.code.Replay.{shown_ends}
-use Rattle.plan_rule.proofs.Lists.{read_within}
-use Rattle.plan_rule.proofs.Rounds.{ServedTo, served_all, served_more}
+use Rattle.plan_rule.proofs.{Lists.read_within, Rounds.ServedTo, Rounds.served_all, Rounds.served_more}
 use Rattle.plan_rule.proofs.replay.renew.Goals as goal
 
 pub loop-index-init : goal.loop-index-init

@@ -1,11 +1,8 @@
 -- All over an entry last until a moment where the entry itself does and, if it has a parent, all over that do.
 use Rattle.std.proofs.Common.{◌≡◌, ◌&&◌, ◌∙◌, Some, None, true, false, ap, arith, nat_le, sym}
 use Rattle.std.proofs.lemmas.Bool.Decides.{nat_tests}
-use Rattle.plan_forest.specs.declared.entry.Entry.{Entry}
-use Rattle.plan_forest.specs.Forest.{end_of, entry_at}
-use Rattle.plan_forest.specs.Renewal.{all_last}
-use Rattle.plan_forest.proofs.Chains.{all_last_child, all_last_head, all_last_root}
-use Rattle.plan_forest.proofs.Placed.{parents_first}
+use Rattle.plan_forest.specs.{declared.entry.Entry.Entry, Forest.end_of, Forest.entry_at, Renewal.all_last}
+use Rattle.plan_forest.proofs.{Chains.all_last_child, Chains.all_last_head, Chains.all_last_root, Placed.parents_first}
 use Rattle.plan_rule.proofs.rule.+all_last.Goals as goal
 
 pub returns-then-entry-moment : goal.returns-then-entry-moment

@@ -2,8 +2,7 @@
 use Rattle.std.proofs.Common.{◌≡◌, ◌+◌, ◌∙◌, ap, arith, drop, is_some, sym, true, false}
 use Rattle.std.proofs.lemmas.List.{drop_all}
 use Rattle.plan_rule.specs.Plans.{fault_from, wake_fault, wake_fault_at}
-use Rattle.plan_rule.proofs.Lists.{unrolled}
-use Rattle.plan_rule.proofs.Walk.{fault_from_cons, fault_from_nil, first_some_none, first_some_some}
+use Rattle.plan_rule.proofs.{Lists.unrolled, Walk.fault_from_cons, Walk.fault_from_nil, Walk.first_some_none, Walk.first_some_some}
 use Rattle.plan_rule.proofs.wake.wake_fault.Goals as goal
 
 pub returns-then-is_some : goal.returns-then-is_some

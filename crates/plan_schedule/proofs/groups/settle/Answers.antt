@@ -1,7 +1,6 @@
 -- A turn either moves an entry, so that the groups shrink, or tells what forces the next wake-up.
 use Rattle.std.proofs.Common.{◌+◌, ◌≤◌, subst, arith}
-use Rattle.plan_schedule.specs.code.Groups.{IsTurnOfGroups}
-use Rattle.plan_schedule.specs.Prospect.{terms_of}
+use Rattle.plan_schedule.specs.{code.Groups.IsTurnOfGroups, Prospect.terms_of}
 use Rattle.plan_schedule.proofs.Moves.{turn_joined, turn_left}
 use Rattle.plan_schedule.proofs.groups.settle.Goals as goal
 

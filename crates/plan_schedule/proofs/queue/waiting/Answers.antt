@@ -2,12 +2,9 @@
 use Rattle.std.proofs.Common.{◌+◌, ◌∷◌, subst, sym, arith}
 use Rattle.std.proofs.lemmas.List.Sorted.{length_permutation}
 use Rattle.std.specs.List.Sorted.{IsPermutation}
-use Rattle.plan_schedule.specs.code.Line.{spot}
-use Rattle.plan_schedule.specs.Prospect.{terms_of}
-use Rattle.plan_schedule.specs.code.Queueing.{FillsLine}
-use Rattle.plan_schedule.proofs.Queueing.{fills_added, fills_kept}
+use Rattle.plan_schedule.specs.{code.Line.spot, Prospect.terms_of, code.Queueing.FillsLine}
+use Rattle.plan_schedule.proofs.{Queueing.fills_added, Queueing.fills_kept, queue.waiting.Goals.else-end-need, queue.waiting.Goals.then-end-need}
 use Rattle.plan_schedule.proofs.queue.waiting.Goals as goal
-use Rattle.plan_schedule.proofs.queue.waiting.Goals.{else-end-need, then-end-need}
 
 pub loop-index-preserved : goal.loop-index-preserved
 loop-index-preserved c =

@@ -1,7 +1,6 @@
 -- The leader of all entries is the one that leads when the last of them was passed.
 use Rattle.std.proofs.Common.{◌≡◌, length, subst, arith}
-use Rattle.plan_schedule.specs.code.Scanning.{LeadsBelow}
-use Rattle.plan_schedule.specs.Prospect.{terms_of}
+use Rattle.plan_schedule.specs.{code.Scanning.LeadsBelow, Prospect.terms_of}
 use Rattle.plan_schedule.proofs.Taking.{leader_of}
 use Rattle.plan_schedule.proofs.scan.leader.Goals as goal
 

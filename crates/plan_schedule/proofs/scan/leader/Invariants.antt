@@ -1,8 +1,7 @@
 -- The entry found so far leads those before the index, and is an entry of the forest.
 use Rattle.std.proofs.Common.{◌<◌, length}
 use Rattle.std.specs.Option.{IfSome}
-use Rattle.plan_schedule.specs.code.Scanning.{LeadsBelow}
-use Rattle.plan_schedule.specs.Prospect.{terms_of}
+use Rattle.plan_schedule.specs.{code.Scanning.LeadsBelow, Prospect.terms_of}
 use Rattle.plan_schedule.proofs.scan.leader.Given as goal
 
 abbrev pub invariant-loop-index : goal.invariant-loop-index

@@ -1,12 +1,8 @@
 -- Before the moment that is given, no entry that waits or has joined comes in front of the one that leads.
 use Rattle.std.proofs.Common.{◌+◌, Some, length, subst, arith}
-use Rattle.plan_schedule.specs.code.Line.{FirstOf}
-use Rattle.plan_schedule.specs.Prospect.{terms_of}
-use Rattle.plan_schedule.proofs.Extending.{until_front}
-use Rattle.plan_schedule.proofs.Leading.{ahead}
-use Rattle.plan_schedule.proofs.Moves.{first_key}
+use Rattle.plan_schedule.specs.{code.Line.FirstOf, Prospect.terms_of}
+use Rattle.plan_schedule.proofs.{Extending.until_front, Leading.ahead, Moves.first_key, stretch.until.Goals.else-entry-front, stretch.until.Goals.then-entry-front}
 use Rattle.plan_schedule.proofs.stretch.until.Goals as goal
-use Rattle.plan_schedule.proofs.stretch.until.Goals.{else-entry-front, then-entry-front}
 
 pub overflow_add-over : goal.overflow_add-over
 overflow_add-over c =

@@ -1,7 +1,6 @@
 -- One entry more is asked exactly where it is wanted, and the entries that are wanted are the Asks.
 use Rattle.std.proofs.Common.{◌≡◌, ◌∙◌, ◌++◌, ◌∷◌, [], true, false, ap, arith, filter, sym}
-use Rattle.std.proofs.lemmas.Bool.{cond-true, cond-false}
-use Rattle.std.proofs.lemmas.List.{append-nil}
+use Rattle.std.proofs.lemmas.{Bool.cond-true, Bool.cond-false, List.append-nil}
 use Rattle.std.specs.List.{range_with_len}
 use Rattle.plan_forest.specs.Forest.{end_of}
 use Rattle.plan_rule.specs.Asks.{is_to_be_asked}

@@ -1,16 +1,13 @@
 -- The first entry that falls short is the lowest of an unkeepable pair; where none does, no pair is unkeepable.
 use Rattle.std.proofs.Common.{◌≡◌, ◌∙◌, ◌<◌, Some, length, ap, arith, subst, sym, inl, inr}
 use Rattle.std.proofs.lemmas.Bool.{cases_lt}
-use Rattle.plan_forest.specs.Carried.{carried}
-use Rattle.plan_forest.specs.Forest.{end_of}
+use Rattle.plan_forest.specs.{Carried.carried, Forest.end_of}
 use Rattle.plan_forest.proofs.Carrying.{carried_at_least}
-use Rattle.plan_rule.specs.Reach.{reach}
-use Rattle.plan_rule.specs.Unkeepable.{Unkeepable}
+use Rattle.plan_rule.specs.{Reach.reach, Unkeepable.Unkeepable}
 use Rattle.plan_needs.specs.Carried.{NamesFrom}
 use Rattle.plan_schedule.proofs.Bridge.{carried_past}
 use Rattle.plan_search.specs.code.FallingShort.{falls_short}
-use Rattle.plan_search.proofs.Deciding.{none_keeps, some_keeps}
-use Rattle.plan_search.proofs.Unkeepables.{not_unkeepable, unkeepable_from}
+use Rattle.plan_search.proofs.{Deciding.none_keeps, Deciding.some_keeps, Unkeepables.not_unkeepable, Unkeepables.unkeepable_from}
 use Rattle.plan_search.proofs.falling_short.shortfall.Goals as goal
 
 pub returns-then-falls_short-clause-pair : goal.returns-then-falls_short-clause-pair

@@ -1,7 +1,6 @@
 -- The runs of the whole list are the least and latest plan, and an overlong list makes it too long.
 use Rattle.plan_schedule.specs.Courses.{IsToCome}
-use Rattle.plan_search.specs.code.Collecting.{ListIsOverlong, RunsAreWhole}
-use Rattle.plan_search.specs.Decides.{AreBest, PlanIsTooLong}
+use Rattle.plan_search.specs.{code.Collecting.ListIsOverlong, code.Collecting.RunsAreWhole, Decides.AreBest, Decides.PlanIsTooLong}
 use Rattle.plan_search.proofs.Deciding.{best_of, each_case, too_long}
 use Rattle.plan_search.proofs.planning.best_runs.Goals as goal
 

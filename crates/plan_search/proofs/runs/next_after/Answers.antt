@@ -1,8 +1,7 @@
 -- A run with a wake-up after the moment answers for all runs, and one without is passed.
 use Rattle.std.proofs.Common.{◌∙◌, ◌+◌, ap, arith, drop, get_or, subst, sym}
 use Rattle.std.proofs.lemmas.List.{drop_more}
-use Rattle.plan_rule.specs.declared.run.Run.{Run}
-use Rattle.plan_rule.specs.Runs.{AreRuns, all_wakes, wakes}
+use Rattle.plan_rule.specs.{declared.run.Run.Run, Runs.AreRuns, Runs.all_wakes, Runs.wakes}
 use Rattle.plan_search.specs.Planned.{next_after}
 use Rattle.plan_search.proofs.Nexts.{found, next_in_front, next_later, none_found}
 use Rattle.plan_search.proofs.runs.next_after.Goals as goal

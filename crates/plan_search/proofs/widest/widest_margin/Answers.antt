@@ -1,7 +1,6 @@
 -- The margin that is found is the widest, or none is enough where it is 0, and the forest gets its own margin back.
 use Rattle.std.proofs.Common.{List, arith, subst, sym}
-use Rattle.plan_forest.specs.declared.entry.Entry.{Entry}
-use Rattle.plan_forest.specs.Margins.{IsMargin}
+use Rattle.plan_forest.specs.{declared.entry.Entry.Entry, Margins.IsMargin}
 use Rattle.plan_forest.proofs.Margins.{own_allowed}
 use Rattle.plan_search.proofs.widest.widest_margin.Goals as goal
 

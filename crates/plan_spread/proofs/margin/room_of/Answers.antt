@@ -1,7 +1,6 @@
 -- With one entry more, the room is the lesser of that before and three quarters of the entry's step.
 use Rattle.std.proofs.Common.{◌≡◌, ◌*◌, ◌/◌, ◌<◌, length, drop, min, arith, ap, ◌∙◌}
-use Rattle.plan_forest.specs.declared.entry.Entry.{Entry}
-use Rattle.plan_forest.specs.Forest.{entry_at}
+use Rattle.plan_forest.specs.{declared.entry.Entry.Entry, Forest.entry_at}
 use Rattle.plan_spread.proofs.Rooms.{next, none_left, small}
 use Rattle.plan_spread.specs.Margins.{room_of}
 use Rattle.plan_spread.proofs.margin.room_of.Goals as goal

@@ -1,8 +1,7 @@
 -- A reason that is told is the first of those to come; where the device gives up, a front of them is told.
 use Rattle.std.proofs.Common.{◌≡◌, ◌∷◌, ◌∙◌, ◌+◌, [], List, ℕ, Ok, ap, arith, drop, refl, subst, sym}
 use Rattle.std.proofs.KnownBytes.{Appends-nil}
-use Rattle.std.proofs.lemmas.Grind.{common_steps}
-use Rattle.std.proofs.lemmas.List.{drop_more}
+use Rattle.std.proofs.lemmas.{Grind.common_steps, List.drop_more}
 use Rattle.base_device.specs.Seen.{change}
 use Rattle.program_report.proofs.Pieces.{handed_on, piece_cut, piece_more}
 use Rattle.program_report.specs.Sent.{Puts}

@@ -1,7 +1,6 @@
 -- Once the reasons to come are told, or a front of them, all of them are, or a front.
 use Rattle.std.proofs.Common.{Result, drop}
-use Rattle.base_device.specs.Seen.{Seen, change}
-use Rattle.base_device.specs.declared.fault.SinkFault.{SinkFault}
+use Rattle.base_device.specs.{Seen.Seen, Seen.change, declared.fault.SinkFault.SinkFault}
 use Rattle.program_report.specs.Sent.{Puts}
 use Rattle.program_calls.specs.Lines.{call_lines}
 use Rattle.program_calls.proofs.telling.put_call_lines.Given as goal

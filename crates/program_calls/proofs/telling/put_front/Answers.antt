@@ -2,9 +2,8 @@
 use Rattle.std.proofs.Common.{◌∙◌, Ok, ap, sym}
 use Rattle.base_device.specs.Seen.{change}
 use Rattle.program_report.proofs.Pieces.{piece_more, piece_named}
-use Rattle.program_calls.specs.Asking.{command_word}
+use Rattle.program_calls.specs.{Asking.command_word, Lines.call_front}
 use Rattle.program_report.specs.FaultLine.{before_colon}
-use Rattle.program_calls.specs.Lines.{call_front}
 use Rattle.program_calls.proofs.telling.put_front.Goals as goal
 
 pub returns : goal.returns

@@ -2,10 +2,8 @@
 use Rattle.std.proofs.Common.{◌∙◌, Ok, ap, sym}
 use Rattle.serde_json.specs.Written.{compact_text}
 use Rattle.agent_control.specs.Answer.{◌>>=◌}
-use Rattle.agent_control.specs.Words.{tree_of_words}
-use Rattle.agent_control.specs.declared.fault.RequestFault.TheVariants.{NotWords}
-use Rattle.agent_control.proofs.Chosen.{granted, ok_same}
-use Rattle.agent_control.proofs.WordTrees.{without_floats}
+use Rattle.agent_control.specs.{Words.tree_of_words, declared.fault.RequestFault.TheVariants.NotWords}
+use Rattle.agent_control.proofs.{Chosen.granted, Chosen.ok_same, WordTrees.without_floats}
 use Rattle.program_calls.specs.Asking.{is_ask_text, tree_for_ask, words_for_ask, words_line}
 use Rattle.program_calls.proofs.words.words_line.Goals as goal
 

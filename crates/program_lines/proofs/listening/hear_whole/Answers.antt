@@ -4,8 +4,8 @@ use Rattle.std.specs.Result.{IfErr}
 use Rattle.base_device.specs.Seen.{Change, change}
 use Rattle.program_report.specs.declared.stop.Stop.{Stop}
 use Rattle.base_words.specs.Pieces.{pieces}
-use Rattle.program_lines.specs.Hearing.{EndsBetweenLines, HearsLine, counted_line, joined_changes}
 use Rattle.program_lines.specs.code.LineByLine.{HaltsWithin, HearsUpTo}
+use Rattle.program_lines.specs.Hearing.{EndsBetweenLines, HearsLine, counted_line, joined_changes}
 use Rattle.program_lines.proofs.LineByLine.{behind_line, handed_on, heard_on, stopped_on}
 use Rattle.program_lines.proofs.listening.hear_whole.Goals as goal
 

@@ -2,8 +2,7 @@
 use Rattle.std.proofs.Common.{◌≡◌, ◌-◌, ◌≤◌, drop, length}
 use Rattle.base_device.specs.Seen.{change}
 use Rattle.base_words.specs.Pieces.{pieces}
-use Rattle.program_lines.specs.Hearing.{counted_line}
-use Rattle.program_lines.specs.code.LineByLine.{HearsUpTo}
+use Rattle.program_lines.specs.{Hearing.counted_line, code.LineByLine.HearsUpTo}
 use Rattle.program_lines.proofs.listening.hear_whole.Given as goal
 
 abbrev pub invariant-loop-line : goal.invariant-loop-line

@@ -5,8 +5,8 @@ use Rattle.std.specs.Result.{IfErr}
 use Rattle.base_device.specs.Seen.{Change, change}
 use Rattle.program_report.specs.declared.stop.Stop.{Stop}
 use Rattle.program_report.specs.declared.stop.Stop.TheVariants as stops
-use Rattle.program_lines.specs.Hearing.{EndsBetweenLines, counted_line, joined_changes}
 use Rattle.program_lines.specs.Listening.{Listens}
+use Rattle.program_lines.specs.Hearing.{EndsBetweenLines, counted_line, joined_changes}
 use Rattle.program_lines.specs.code.LineByLine.{HaltsWithin, HearsUpTo, IsListening, left_after, part_left_to_hear}
 use Rattle.program_lines.proofs.LineByLine.{handed_on}
 use Rattle.program_lines.proofs.LinesRead.{ended_as, halted, listening_first, listening_more, no_memory, no_more, not_begun, read_failed, too_many}

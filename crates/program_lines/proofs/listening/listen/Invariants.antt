@@ -1,9 +1,7 @@
 -- What was read so far is heard line by line.
 use Rattle.std.proofs.Common.{◌≡◌, length}
 use Rattle.base_device.specs.Seen.{change}
-use Rattle.program_lines.specs.Hearing.{counted_line}
-use Rattle.program_lines.specs.code.LineByLine.{IsListening}
-use Rattle.program_lines.specs.declared.limits.TheConstants.{ROOM}
+use Rattle.program_lines.specs.{Hearing.counted_line, code.LineByLine.IsListening, declared.limits.TheConstants.ROOM}
 use Rattle.program_lines.proofs.listening.listen.Given as goal
 
 abbrev pub invariant-loop : goal.invariant-loop

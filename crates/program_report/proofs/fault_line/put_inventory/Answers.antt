@@ -2,9 +2,8 @@
 use Rattle.std.proofs.Common.{ℕ, List, ◌++◌, ◌∷◌, Some, subst, sym}
 use Rattle.std.specs.Prelude.{codes}
 use Rattle.vault_inventory.specs.declared.fault.InvFault.{InvFault}
-use Rattle.program_report.specs.FaultLine.{inventory_words, place_word}
+use Rattle.program_report.specs.{FaultLine.inventory_words, FaultLine.place_word, Sent.Puts}
 use Rattle.base_device.specs.Seen.{change}
-use Rattle.program_report.specs.Sent.{Puts}
 use Rattle.program_report.proofs.fault_line.put_inventory.Goals as goal
 
 pub returns-in-NotToml : goal.returns-in-NotToml

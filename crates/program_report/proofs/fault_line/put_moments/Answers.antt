@@ -1,8 +1,7 @@
 -- The words of a wake-up that asks past the entries are written with its number.
 use Rattle.std.proofs.Common.{subst, sym}
-use Rattle.program_report.specs.FaultLine.{moments_words}
+use Rattle.program_report.specs.{FaultLine.moments_words, Sent.Puts}
 use Rattle.base_device.specs.Seen.{change}
-use Rattle.program_report.specs.Sent.{Puts}
 use Rattle.program_report.proofs.fault_line.put_moments.Goals as goal
 
 pub returns-in-BadIndex : goal.returns-in-BadIndex

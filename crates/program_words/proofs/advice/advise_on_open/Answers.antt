@@ -1,8 +1,7 @@
 -- The first entry whose table leaves its end to a lookup is one of the forest's, and its name is told.
 use Rattle.std.proofs.Common.{◌∙◌, ℕ, List, ap, codes, subst}
 use Rattle.base_device.specs.Seen.{change}
-use Rattle.plan_forest.specs.declared.entry.Entry.{Entry}
-use Rattle.plan_forest.specs.Forest.{Forest, entry_at}
+use Rattle.plan_forest.specs.{declared.entry.Entry.Entry, Forest.Forest, Forest.entry_at}
 use Rattle.vault_inventory.specs.Inventories.{Inventory}
 use Rattle.program_report.specs.Told.{Reports}
 use Rattle.program_words.specs.Advice.{advice_line}

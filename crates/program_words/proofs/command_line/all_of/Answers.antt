@@ -1,8 +1,7 @@
 -- What is collected are all words that there are.
 use Rattle.std.proofs.Common.{refl}
 use Rattle.std.specs.Vec.Iter.{into_iter_items}
-use Rattle.std.proofs.lemmas.Iterator.{items_from_collect}
-use Rattle.std.proofs.lemmas.Iterator.Adapters.{YieldsList-from_vec}
+use Rattle.std.proofs.lemmas.{Iterator.items_from_collect, Iterator.Adapters.YieldsList-from_vec}
 use Rattle.program_words.proofs.command_line.all_of.Goals as goal
 
 pub returns : goal.returns

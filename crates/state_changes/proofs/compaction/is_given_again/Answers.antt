@@ -1,7 +1,6 @@
 -- The need that is given again is among those that come later.
 use Rattle.std.proofs.Common.{rules, ◌≡◌, true, refl}
-use Rattle.state_changes.specs.declared.compaction.Needed.{Needed}
-use Rattle.state_changes.specs.Compaction.{is_need}
+use Rattle.state_changes.specs.{declared.compaction.Needed.Needed, Compaction.is_need}
 use Rattle.state_changes.proofs.Later.{given_again}
 use Rattle.state_changes.proofs.compaction.is_given_again.Goals as goal
 

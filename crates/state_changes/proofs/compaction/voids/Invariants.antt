@@ -1,7 +1,6 @@
 -- The answers so far are those of the records from the place on, the last first, and the needs of these are known.
 use Rattle.std.proofs.Common.{◌≡◌, ◌≤◌, drop, length, reverse}
-use Rattle.state_changes.specs.Compaction.{voids}
-use Rattle.state_changes.specs.code.Needed.{AreNeedsOf}
+use Rattle.state_changes.specs.{Compaction.voids, code.Needed.AreNeedsOf}
 use Rattle.state_changes.proofs.compaction.voids.Given as goal
 
 abbrev pub invariant-loop-index : goal.invariant-loop-index

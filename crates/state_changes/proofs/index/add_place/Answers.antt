@@ -1,8 +1,6 @@
 -- One name more in the map: the flag stays where the name was in no place.
 use Rattle.std.proofs.Common.{◌≡◌, ◌++◌, ◌∷◌, [], Bool, true, false, not, ℕ, length, Some, is_none, is_some, ap, sym, subst, Vec, Global}
-use Rattle.std.specs.BTreeMap.{Updates}
-use Rattle.std.specs.Cmp.Lexicographic.{slice_cmp}
-use Rattle.std.specs.Ordering.{nat_cmp}
+use Rattle.std.specs.{BTreeMap.Updates, Cmp.Lexicographic.slice_cmp, Ordering.nat_cmp}
 use Rattle.state_changes.specs.code.Index.{is_index}
 use Rattle.state_changes.proofs.Finding.{index_off, index_step}
 use Rattle.state_changes.proofs.index.add_place.Goals as goal

@@ -1,8 +1,6 @@
 -- Going back from the place that the map has, the row of the name is found, or none has it.
-use Rattle.std.proofs.Common.{◌≡◌, ℕ, List, None, IfSome, drop, sym, subst, true}
-use Rattle.state_changes.specs.declared.row.Row.{Row}
-use Rattle.state_changes.specs.Rows.{named}
-use Rattle.state_changes.specs.code.Index.{begins_with}
+use Rattle.std.proofs.Common.{◌≡◌, List, None, IfSome, drop, sym, subst, true}
+use Rattle.state_changes.specs.{declared.row.Row.Row, Rows.named, code.Index.begins_with}
 use Rattle.state_changes.proofs.Finding.{placed}
 use Rattle.state_changes.proofs.index.found_place.Goals as goal
 

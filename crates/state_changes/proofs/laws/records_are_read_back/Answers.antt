@@ -1,6 +1,5 @@
 -- A record is read back from its text, which is one line, and from no other.
-use Rattle.state_changes.proofs.Found.{read_is_written}
-use Rattle.state_changes.proofs.ReadBack.{line_law, written_is_read}
+use Rattle.state_changes.proofs.{Found.read_is_written, ReadBack.line_law, ReadBack.written_is_read}
 use Rattle.state_changes.proofs.laws.records_are_read_back.Goals as goal
 
 pub returns-clause-found : goal.returns-clause-found

@@ -1,5 +1,5 @@
 -- The need of an entry of a forest is a moment.
-use Rattle.std.proofs.Common.{rules, arith}
+use Rattle.std.proofs.Common.{rules}
 use Rattle.plan_forest.proofs.Placed.{read_range}
 use Rattle.state_changes.proofs.listed.need_of.Goals as goal
 

@@ -2,8 +2,8 @@
 use Rattle.std.proofs.Common.{◌≡◌, ℕ, List, ◌++◌, false, sym, ap, subst, ◌∙◌}
 use Rattle.std.specs.Str.{bytes_eq}
 use Rattle.base_disk.specs.Image.{File, Image}
+use Rattle.base_journal.specs.Records.{lines_taken_out}
 use Rattle.base_journal.specs.Journals.{bytes_of_file, lines_of_journal, path_of_journal}
-use Rattle.base_journal.specs.Records.{StandsFor, lines_taken_out}
 use Rattle.state_store.specs.Compacted.{damages}
 use Rattle.state_keeping.proofs.Starting.{begun, lock_is, none_damaged, none_holds, stands_before, then_aside}
 use Rattle.state_keeping.proofs.recovering.recover.Goals as goal

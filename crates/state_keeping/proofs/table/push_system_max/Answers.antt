@@ -1,5 +1,5 @@
 -- Three texts that are appended one after another are appended as one.
-use Rattle.std.proofs.Common.{◌≡◌, ◌∙◌, ◌++◌, ◌∷◌, [], ℕ, List, ap, append_assoc}
+use Rattle.std.proofs.Common.{◌∙◌, ◌++◌, ◌∷◌, [], ℕ, List, ap, append_assoc}
 use Rattle.std.specs.Prelude.{codes, decimal}
 use Rattle.state_keeping.proofs.table.push_system_max.Goals as goal
 

@@ -2,8 +2,7 @@
 use Rattle.std.proofs.Common.{◌∙◌, ap}
 use Rattle.plan_forest.specs.declared.entry.Entry.{Entry}
 use Rattle.plan_forest.proofs.Placed.{read_range}
-use Rattle.tick_keeper.proofs.Hearing.{answer_back}
-use Rattle.tick_keeper.proofs.Taken.{on_err}
+use Rattle.tick_keeper.proofs.{Hearing.answer_back, Taken.on_err}
 use Rattle.tick_keeper.proofs.answer.replan_with_answer.Goals as goal
 
 pub set_end-requires-clause-range : goal.set_end-requires-clause-range

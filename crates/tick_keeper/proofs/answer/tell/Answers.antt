@@ -1,7 +1,6 @@
 -- An entry that was told has its new end, and one that was refused can no longer be renewed.
 use Rattle.std.proofs.Common.{◌∙◌, ◌+◌, ap, set, sym}
-use Rattle.plan_forest.specs.declared.entry.Entry.{Entry}
-use Rattle.plan_forest.specs.Forest.{Forest, entry_at}
+use Rattle.plan_forest.specs.{declared.entry.Entry.Entry, Forest.Forest, Forest.entry_at}
 use Rattle.tick_keeper.specs.Step.{entry_after_answer, with_entry_changed}
 use Rattle.tick_keeper.proofs.Hearing.{set_own, set_then, untouched}
 use Rattle.tick_keeper.proofs.answer.tell.Goals as goal

@@ -1,7 +1,6 @@
 -- The least reach over a root is its own, and over a child the lesser of its own and its parent's.
 use Rattle.std.proofs.Common.{◌≡◌, ◌∙◌, Some, ap, sym}
-use Rattle.plan_forest.specs.declared.entry.Entry.{Entry}
-use Rattle.plan_forest.specs.Forest.{entry_at}
+use Rattle.plan_forest.specs.{declared.entry.Entry.Entry, Forest.entry_at}
 use Rattle.plan_forest.proofs.Placed.{parents_first}
 use Rattle.tick_keeper.specs.Shorten.{least_reach, lesser}
 use Rattle.tick_keeper.proofs.Passing.{least_child, least_root}

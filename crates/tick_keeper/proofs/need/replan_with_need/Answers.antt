@@ -1,7 +1,6 @@
 -- Where planning with a new need is refused, the entry gets back the need that it had.
 use Rattle.std.proofs.Common.{◌≡◌, ◌∙◌, ap, arith}
-use Rattle.plan_forest.specs.declared.entry.Entry.{Entry}
-use Rattle.plan_forest.specs.Forest.{entry_at}
+use Rattle.plan_forest.specs.{declared.entry.Entry.Entry, Forest.entry_at}
 use Rattle.plan_rule.proofs.Lists.{need_within}
 use Rattle.tick_keeper.proofs.Taken.{moment_is, need_back, on_err}
 use Rattle.tick_keeper.proofs.need.replan_with_need.Goals as goal

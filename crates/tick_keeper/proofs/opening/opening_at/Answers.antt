@@ -1,13 +1,9 @@
 -- The Asks at a moment that is due are entries, and what opens the round waits for each of them.
 use Rattle.std.proofs.Common.{◌≡◌, ◌∙◌, ◌≤◌, ◌<◌, ℕ, List, ◌∷◌, ap, arith, false, length, refl, subst, sym}
 use Rattle.plan_forest.specs.Forest.{end_of}
-use Rattle.plan_rule.specs.Asks.{asks, first_of}
-use Rattle.plan_rule.specs.Plans.{asks_past}
-use Rattle.plan_rule.specs.declared.force.Force.{Force}
-use Rattle.plan_rule.specs.Runs.{moments_of}
+use Rattle.plan_rule.specs.{Asks.asks, Asks.first_of, Plans.asks_past, declared.force.Force.Force, Runs.moments_of}
 use Rattle.plan_search.specs.Planned.{next_after, to_come}
-use Rattle.tick_keeper.specs.Replan.{IsPlanOf}
-use Rattle.tick_keeper.specs.code.Waking.{AreFlags}
+use Rattle.tick_keeper.specs.{Replan.IsPlanOf, code.Waking.AreFlags}
 use Rattle.tick_keeper.proofs.Standing.{someone}
 use Rattle.tick_keeper.proofs.Waking.{asked_now, asks_few, asks_inside, asks_waited}
 use Rattle.tick_keeper.proofs.opening.opening_at.Goals as goal

@@ -1,7 +1,6 @@
 -- The needs that are set are those that shortening leaves, and its pairs are noted after those of before.
 use Rattle.std.proofs.Common.{◌∙◌, ◌++◌, ap, subst, sym}
-use Rattle.tick_keeper.specs.code.Passes.{AreNeeds}
-use Rattle.tick_keeper.specs.Shorten.{need_left}
+use Rattle.tick_keeper.specs.{code.Passes.AreNeeds, Shorten.need_left}
 use Rattle.tick_keeper.proofs.Passing.{shortened_set}
 use Rattle.tick_keeper.proofs.replan.shorten.Goals as goal
 

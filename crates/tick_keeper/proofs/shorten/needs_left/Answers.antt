@@ -1,8 +1,7 @@
 -- What is left of one need more is a moment, which the least reach over the entry decides.
 use Rattle.std.proofs.Common.{◌≡◌, ◌∙◌, ◌+◌, ◌<◌, ℕ, IfSome, Option, ap, arith, length, subst, sym, unwrap_or}
 use Rattle.plan_forest.specs.declared.entry.Entry.{Entry}
-use Rattle.tick_keeper.specs.code.Passes.{AreNeeds}
-use Rattle.tick_keeper.specs.Shorten.{need_left}
+use Rattle.tick_keeper.specs.{code.Passes.AreNeeds, Shorten.need_left}
 use Rattle.tick_keeper.proofs.Passing.{left_found, left_within, needs_more}
 use Rattle.tick_keeper.proofs.shorten.needs_left.Goals as goal
 

@@ -1,7 +1,6 @@
 -- The need of one entry more is a moment, and is listed as it is.
 use Rattle.std.proofs.Common.{◌≡◌, ◌+◌, ◌∙◌, ℕ, IfSome, Option, ap, arith, subst, sym}
-use Rattle.plan_forest.specs.declared.entry.Entry.{Entry}
-use Rattle.plan_forest.specs.Forest.{entry_at}
+use Rattle.plan_forest.specs.{declared.entry.Entry.Entry, Forest.entry_at}
 use Rattle.plan_rule.proofs.Lists.{need_within}
 use Rattle.tick_keeper.specs.code.Passes.{AreNeeds}
 use Rattle.tick_keeper.proofs.Passing.{needs_more}

@@ -3,8 +3,7 @@ use Rattle.std.proofs.Common.{◌≡◌, ◌∙◌, ap, arith, length, subst, sy
 use Rattle.plan_forest.specs.Forest.{Forest, end_of}
 use Rattle.plan_rule.specs.Unkeepable.{AllKeepable}
 use Rattle.tick_keeper.specs.code.Passes.{ForestHasNeeds, PlanRefused}
-use Rattle.tick_keeper.proofs.Passing.{fails, taken_back}
-use Rattle.tick_keeper.proofs.Shortening.{shorten_count, shorten_keepable}
+use Rattle.tick_keeper.proofs.{Passing.fails, Passing.taken_back, Shortening.shorten_count, Shortening.shorten_keepable}
 use Rattle.tick_keeper.proofs.tick.replan_late.Goals as goal
 
 pub plan_late-requires : goal.plan_late-requires

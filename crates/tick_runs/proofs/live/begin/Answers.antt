@@ -4,18 +4,12 @@ use Rattle.base_device.specs.Seen.{Change, change}
 use Rattle.program_report.specs.declared.stop.Stop.TheVariants as stops
 use Rattle.plan_forest.specs.Forest.{Forest}
 use Rattle.tick_keeper.specs.State.{CoreState}
-use Rattle.tick_runs.specs.Agent.{RunAgent}
-use Rattle.tick_runs.specs.Hearing.{IsBetweenEvents}
-use Rattle.tick_runs.specs.LiveRun.{RunIsOpened}
-use Rattle.tick_runs.specs.Text.{short_need_lines}
-use Rattle.tick_runs.proofs.Rehearsed.{fit_opened, ready_opened}
-use Rattle.vault_inventory.specs.Inventories.{Inventory}
-use Rattle.tick_runs.specs.Looking.{Looked, first_indices}
-use Rattle.tick_runs.proofs.LookedUp.{same_count}
-use Rattle.vault_start.proofs.Started.{kept_credentials}
+use Rattle.tick_runs.specs.{Agent.RunAgent, Hearing.IsBetweenEvents, LiveRun.RunIsOpened, Text.short_need_lines, Looking.Looked, Looking.first_indices}
+use Rattle.tick_runs.proofs.{Rehearsed.fit_opened, Rehearsed.ready_opened, LookedUp.same_count, Within.AreOf, Within.replan_within}
 use Rattle.tick_runs.proofs.LiveOpening.{for_err, memory_ends, opens, planning_ends, sending_ends}
 use Rattle.tick_runs.proofs.Opened.{planned_as, refused_as, stopped_as}
-use Rattle.tick_runs.proofs.Within.{AreOf, replan_within}
+use Rattle.vault_inventory.specs.Inventories.{Inventory}
+use Rattle.vault_start.proofs.Started.{kept_credentials}
 use Rattle.tick_runs.proofs.live.begin.Goals as goal
 
 pub push_short_lines-requires : goal.push_short_lines-requires

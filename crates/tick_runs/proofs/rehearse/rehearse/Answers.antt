@@ -5,14 +5,10 @@ use Rattle.base_moment.specs.declared.moment.TheConstants.{LAST}
 use Rattle.plan_forest.specs.Forest.{Forest}
 use Rattle.tick_keeper.specs.State.{CoreState}
 use Rattle.broker_rule.specs.Table.{BrokerTable}
-use Rattle.tick_runs.specs.Agent.{RunAgent}
-use Rattle.tick_runs.specs.Hearing.{IsBetweenEvents}
-use Rattle.tick_runs.specs.code.Playing.{MayCome, Plays}
-use Rattle.tick_runs.specs.Stops.{both}
-use Rattle.tick_runs.specs.Text.{short_need_lines}
+use Rattle.tick_runs.specs.{Agent.RunAgent, Hearing.IsBetweenEvents, code.Playing.MayCome, code.Playing.Plays, Stops.both, Text.short_need_lines}
+use Rattle.tick_runs.proofs.Within.{AreOf, replan_within}
 use Rattle.tick_runs.proofs.Rehearsed.{comes_first, fit_opened, ready_opened, memory_stopped, opening_stopped, plays_on, words_stopped}
 use Rattle.tick_runs.proofs.Opened.{planned_as, refused_as, stopped_as}
-use Rattle.tick_runs.proofs.Within.{AreOf, replan_within}
 use Rattle.vault_start.specs.Start.{inventory_at}
 use Rattle.tick_runs.proofs.rehearse.rehearse.Goals as goal
 

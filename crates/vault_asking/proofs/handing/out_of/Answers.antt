@@ -1,7 +1,6 @@
 -- What is found is the request that is out of the entry.
 use Rattle.std.proofs.Common.{◌≡◌, ◌∙◌, ◌==◌, Bool, Bor, Option, Some, None, option_map, refl, rules, tests}
-use Rattle.std.proofs.lemmas.Iterator.{YieldsList-from_slice}
-use Rattle.std.proofs.lemmas.Iterator.Search.{find_from_yields_List}
+use Rattle.std.proofs.lemmas.{Iterator.YieldsList-from_slice, Iterator.Search.find_from_yields_List}
 use Rattle.std.specs.Option.{option_copied}
 use Rattle.watch_machine.specs.declared.lanes.Out.{Out}
 use Rattle.vault_asking.proofs.handing.out_of.Goals as goal

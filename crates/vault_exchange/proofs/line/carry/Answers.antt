@@ -1,9 +1,7 @@
 -- What is read after the request is read of the bytes that were there, and a read that failed is counted.
 use Rattle.std.proofs.Common.{Err, subst, sym}
 use Rattle.std.specs.Io.KnownBytes.{Appends}
-use Rattle.vault_http.specs.declared.known.TheConstants.{MOST_MESSAGE}
-use Rattle.vault_http.specs.Reading.{SettlesReply}
-use Rattle.vault_http.specs.Written.{request_text}
+use Rattle.vault_http.specs.{declared.known.TheConstants.MOST_MESSAGE, Reading.SettlesReply, Written.request_text}
 use Rattle.base_device.specs.Seen.{Input, Output}
 use Rattle.vault_exchange.proofs.Counted.{counts_behind}
 use Rattle.vault_exchange.proofs.line.carry.Goals as goal

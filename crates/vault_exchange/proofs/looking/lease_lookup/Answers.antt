@@ -1,9 +1,7 @@
 -- The request that looks a lease up can be written, and its text is within the limit of a message.
 use Rattle.std.proofs.Common.{◌≤◌, length, subst, sym}
 use Rattle.vault_exchange.proofs.Sendable.{lease_look, lease_look_short}
-use Rattle.vault_http.specs.declared.request.Request.{Request}
-use Rattle.vault_http.specs.RoundTripRequest.{IsWritable}
-use Rattle.vault_http.specs.Written.{request_text}
+use Rattle.vault_http.specs.{declared.request.Request.Request, RoundTripRequest.IsWritable, Written.request_text}
 use Rattle.vault_exchange.proofs.looking.lease_lookup.Goals as goal
 
 pub lease_message-requires : goal.lease_message-requires

@@ -1,10 +1,8 @@
 -- One chunk more, and what stops the walk.
 use Rattle.std.proofs.Common.{◌≡◌, ◌+◌, ◌-◌, [], ◌++◌, take, drop, arith, refl, sym, ap, ◌∙◌, subst, append-nil, Ok, Err}
 use Rattle.std.proofs.lemmas.List.{take_rest}
-use Rattle.vault_http.specs.declared.body.BodyFault.TheVariants.{Truncated}
+use Rattle.vault_http.specs.{declared.body.BodyFault.TheVariants.Truncated, Chunks.StopsAt, Chunks.IsChunked, Chunks.HasChunks, Steps.IsStep}
 use Rattle.vault_http.specs.declared.chunk.Step.TheVariants as step
-use Rattle.vault_http.specs.Chunks.{StopsAt, IsChunked, HasChunks}
-use Rattle.vault_http.specs.Steps.{IsStep}
 use Rattle.vault_http.proofs.ChunkLoop.{one_chunk, chunks_end, unless_fault}
 use Rattle.vault_http.proofs.chunk.judge_chunks.Goals as goal
 

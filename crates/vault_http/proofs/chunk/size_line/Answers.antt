@@ -1,7 +1,6 @@
 -- How many digits there are and what stands after them settle what the line of a size is; and digits always give a number.
 use Rattle.std.proofs.Common.{◌<◌, length, arith, sym, ap, subst}
-use Rattle.std.proofs.lemmas.Bool.{eqb-true, eqb-false}
-use Rattle.std.proofs.lemmas.List.{take_rest, nil_from_length}
+use Rattle.std.proofs.lemmas.{Bool.eqb-true, Bool.eqb-false, List.take_rest, List.nil_from_length}
 use Rattle.vault_http.specs.declared.chunk.Ending.TheVariants as ending
 use Rattle.vault_http.specs.Steps.{IsEnding}
 use Rattle.vault_http.proofs.SizeLines.{too_many, none_yet, no_digit, open_line, bad_line, whole_line, no_number}

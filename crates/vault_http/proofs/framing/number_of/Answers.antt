@@ -1,11 +1,7 @@
 -- One more digit.
 use Rattle.std.proofs.Common.{◌≡◌, ℕ, ◌+◌, ◌*◌, ◌<◌, ◌≤◌, ◌^◌, List, length, get_or, take, true, sym, ap, ◌∙◌, arith}
-use Rattle.std.specs.Char.{digit_value}
-use Rattle.std.proofs.lemmas.Bool.{lt-ltb, and_from}
-use Rattle.std.proofs.lemmas.List.Folds.{list_all_more}
-use Rattle.std.proofs.lemmas.Int.Digits.{digits_value_more}
-use Rattle.std.specs.List.{list_all}
-use Rattle.std.specs.Str.Parse.{digits_value}
+use Rattle.std.specs.{Char.digit_value, List.list_all, Str.Parse.digits_value}
+use Rattle.std.proofs.lemmas.{Bool.lt-ltb, Bool.and_from, List.Folds.list_all_more, Int.Digits.digits_value_more}
 use Rattle.vault_http.specs.Framing.{is_digit}
 use Rattle.vault_http.proofs.Numbers.{small_step, small_power}
 use Rattle.vault_http.proofs.framing.number_of.Goals as goal

@@ -1,7 +1,6 @@
 -- The number so far is that of the digits that were passed.
 use Rattle.std.proofs.Common.{◌≡◌, ◌<◌, ◌^◌, take, true}
-use Rattle.std.specs.List.{list_all}
-use Rattle.std.specs.Str.Parse.{digits_value}
+use Rattle.std.specs.{List.list_all, Str.Parse.digits_value}
 use Rattle.vault_http.specs.Framing.{is_digit}
 use Rattle.vault_http.proofs.framing.number_of.Given as goal
 

@@ -1,11 +1,8 @@
 -- One more field is passed.
 use Rattle.std.proofs.Common.{◌≡◌, ℕ, ◌+◌, ◌<◌, Bool, List, length, get_or, take, map, All, sym, ap, ◌∙◌, subst}
 use Rattle.std.proofs.lemmas.List.Elements.{All-get_or}
-use Rattle.httparse.specs.declared.spans.HeaderSpan.{HeaderSpan}
-use Rattle.httparse.specs.Spans.{header_bytes, span_bytes, IsHeaderWithin}
-use Rattle.vault_http.specs.Fields.{is_field_named, values_of}
-use Rattle.vault_http.specs.NamedField.{IsLone, and_lone}
-use Rattle.vault_http.specs.declared.named_field.Lone.{Lone}
+use Rattle.httparse.specs.{declared.spans.HeaderSpan.HeaderSpan, Spans.header_bytes, Spans.span_bytes, Spans.IsHeaderWithin}
+use Rattle.vault_http.specs.{Fields.is_field_named, Fields.values_of, NamedField.IsLone, NamedField.and_lone, declared.named_field.Lone.Lone}
 use Rattle.vault_http.proofs.FieldValues.{IsLone-and, values_of_more, and_value}
 use Rattle.vault_http.proofs.named_field.lone_value.Goals as goal
 

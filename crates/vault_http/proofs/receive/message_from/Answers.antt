@@ -3,11 +3,8 @@
 use Rattle.std.proofs.Common.{◌≡◌, ℕ, List, [], ◌++◌, arith, IsTrue, not, refl, sym, ◌∙◌, subst, rules}
 use Rattle.std.proofs.lemmas.Bool.{not-true}
 use Rattle.std.specs.Io.KnownBytes.{Keeps}
-use Rattle.vault_http.specs.Holding.{HandedNone}
-use Rattle.vault_http.specs.Known.{StaysKnown}
-use Rattle.vault_http.specs.Messages.{UnlessMemory}
-use Rattle.vault_http.proofs.MessageLemmas.{settled, counted}
-use Rattle.vault_http.proofs.Waiting.{handed_none, known_on, late, waited}
+use Rattle.vault_http.specs.{Holding.HandedNone, Known.StaysKnown, Messages.UnlessMemory}
+use Rattle.vault_http.proofs.{MessageLemmas.settled, MessageLemmas.counted, Waiting.handed_none, Waiting.known_on, Waiting.late, Waiting.waited}
 use Rattle.vault_http.proofs.receive.message_from.Goals as goal
 
 pub go_on-requires : goal.go_on-requires

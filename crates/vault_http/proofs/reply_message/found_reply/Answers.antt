@@ -1,10 +1,7 @@
 -- What the head of a reply says of it.
 use Rattle.std.proofs.Common.{◌++◌, Err, sym, subst, take}
-use Rattle.vault_http.specs.declared.reply.Reply.{Reply}
-use Rattle.vault_http.specs.Heads.{FoundReply}
-use Rattle.vault_http.specs.Messages.{IsHttpReply}
-use Rattle.vault_http.proofs.MessageLemmas.{unless}
-use Rattle.vault_http.proofs.ReplyLaws.{final, headed, informational_reply, lengthless_reply}
+use Rattle.vault_http.specs.{declared.reply.Reply.Reply, Heads.FoundReply, Messages.IsHttpReply}
+use Rattle.vault_http.proofs.{MessageLemmas.unless, ReplyLaws.final, ReplyLaws.headed, ReplyLaws.informational_reply, ReplyLaws.lengthless_reply}
 use Rattle.vault_http.proofs.reply_message.found_reply.Goals as goal
 
 pub returns-then-status-lt200 : goal.returns-then-status-lt200

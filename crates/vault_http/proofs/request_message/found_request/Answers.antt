@@ -1,13 +1,7 @@
 -- What the head of a request says of it.
 use Rattle.std.proofs.Common.{◌≡◌, ◌++◌, ◌∙◌, ap, Err, refl, sym, subst, take}
-use Rattle.vault_http.specs.declared.request.Request.{Request}
-use Rattle.vault_http.specs.Heads.{FoundRequest}
-use Rattle.vault_http.specs.Known.{IsHeaded}
-use Rattle.vault_http.specs.Messages.{IsHttpRequest, length_fault, request_with}
-use Rattle.vault_http.specs.Starts.{IsStart}
-use Rattle.vault_http.proofs.MessageLemmas.{unless}
-use Rattle.vault_http.proofs.RequestLaws.{bodiless, headed}
-use Rattle.vault_http.proofs.RequestLemmas.{headed_request, start_of}
+use Rattle.vault_http.specs.{declared.request.Request.Request, Heads.FoundRequest, Known.IsHeaded, Messages.IsHttpRequest, Messages.length_fault, Messages.request_with, Starts.IsStart}
+use Rattle.vault_http.proofs.{MessageLemmas.unless, RequestLaws.bodiless, RequestLaws.headed, RequestLemmas.headed_request, RequestLemmas.start_of}
 use Rattle.vault_http.proofs.request_message.found_request.Goals as goal
 
 pub bodiless-requires : goal.bodiless-requires

@@ -1,7 +1,6 @@
 -- The digits that were passed stand at the front.
 use Rattle.std.proofs.Common.{◌≡◌, ◌≤◌, ◌+◌, drop, length, take, true}
-use Rattle.std.specs.Char.{is_ascii_digit}
-use Rattle.std.specs.List.{list_all}
+use Rattle.std.specs.{Char.is_ascii_digit, List.list_all}
 use Rattle.vault_inventory.specs.Durations.{digits_before}
 use Rattle.vault_inventory.proofs.duration.digits_before.Given as goal
 

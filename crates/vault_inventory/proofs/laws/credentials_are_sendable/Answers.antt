@@ -1,6 +1,5 @@
 -- Each credential of the inventory of a text can be sent, and what can be sent is UTF-8.
-use Rattle.vault_inventory.proofs.Inventoried.{sendable_law}
-use Rattle.vault_inventory.proofs.Inventories.{text_law}
+use Rattle.vault_inventory.proofs.{Inventoried.sendable_law, Inventories.text_law}
 use Rattle.vault_inventory.proofs.laws.credentials_are_sendable.Goals as goal
 
 pub returns-clause-inventory : goal.returns-clause-inventory

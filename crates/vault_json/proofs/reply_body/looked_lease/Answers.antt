@@ -2,8 +2,7 @@
 use Rattle.std.proofs.Common.{IsUtf8, refl, sym, subst, ap, ◌∙◌}
 use Rattle.std.proofs.lemmas.Result.{IfOk-weaker}
 use Rattle.vault_json.specs.Trees.{looked_lease_tree}
-use Rattle.vault_json.proofs.Dates.{date_utf8}
-use Rattle.vault_json.proofs.Texts.{spelled, looked_lease_text_is}
+use Rattle.vault_json.proofs.{Dates.date_utf8, Texts.spelled, Texts.looked_lease_text_is}
 use Rattle.vault_json.proofs.reply_body.looked_lease.Goals as goal
 
 pub text_of-date-requires : goal.text_of-date-requires

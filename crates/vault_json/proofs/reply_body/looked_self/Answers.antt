@@ -1,7 +1,6 @@
 -- The value that is written is the tree, and the tree's text is the body: with a period, or without one.
 use Rattle.std.proofs.Common.{◌≡◌, ◌≢◌, refl, sym, ap, ◌∙◌, arith}
-use Rattle.vault_json.specs.Trees.{looked_plain_tree, looked_periodic_tree}
-use Rattle.vault_json.specs.Written.{looked_self_text}
+use Rattle.vault_json.specs.{Trees.looked_plain_tree, Trees.looked_periodic_tree, Written.looked_self_text}
 use Rattle.vault_json.proofs.Texts.{spelled, looked_plain_text_is, looked_periodic_text_is}
 use Rattle.vault_json.proofs.reply_body.looked_self.Goals as goal
 

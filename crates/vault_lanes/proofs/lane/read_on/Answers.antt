@@ -1,14 +1,10 @@
 -- An answer is that of the bytes that have come and of those that may follow them; without one they are held, and more is waited for.
 use Rattle.std.proofs.Common.{◌≡◌, ◌^◌, ◌<◌, ◌∙◌, [], arith, inr, IsTrue, Some, subst, sym}
 use Rattle.std.proofs.KnownBytes.{Keeps-trans}
-use Rattle.vault_lanes.specs.Allowed.{most_reads}
-use Rattle.vault_lanes.specs.Failing.{FailsMore, failures_in}
+use Rattle.vault_lanes.specs.{Allowed.most_reads, Failing.FailsMore, Failing.failures_in, code.Courses.came_by}
 use Rattle.vault_lanes.specs.Lanes.{AnswerIsTold, AreWaitedFor, Came, IsCounted, IsToldBy, ReplyIsHeard, RequestIsSettled, to_come}
-use Rattle.vault_lanes.specs.code.Courses.{came_by}
+use Rattle.vault_lanes.proofs.{Failed.counted_as, Failed.kept_then, Judged.waited_first, Moved.on_refused}
 use Rattle.vault_lanes.proofs.Arrives.{came_as, came_then, cut_answer, heard_answer, heard_failed, heard_late, heard_none}
-use Rattle.vault_lanes.proofs.Failed.{counted_as, kept_then}
-use Rattle.vault_lanes.proofs.Judged.{waited_first}
-use Rattle.vault_lanes.proofs.Moved.{on_refused}
 use Rattle.vault_lanes.proofs.Lost.{coming_on, counted_more, settled_by}
 use Rattle.vault_lanes.proofs.lane.read_on.Goals as goal
 

@@ -1,11 +1,8 @@
 -- What came so far is held, and each piece of it that was judged is counted; what was not judged at first is judged first.
 use Rattle.std.proofs.Common.{◌≡◌, ◌<◌, ◌≤◌, ◌⊎◌, IsTrue, length, vec_capacity}
 use Rattle.std.specs.Io.KnownBytes.{Keeps}
-use Rattle.vault_lanes.specs.Failing.{FailsMore}
+use Rattle.vault_lanes.specs.{Failing.FailsMore, Stages.reads_with, code.Courses.came_by, code.Courses.is_unjudged, declared.stage.RequestStage.TheVariants.Connecting}
 use Rattle.vault_lanes.specs.Lanes.{AreWaitedFor, Came, to_come}
-use Rattle.vault_lanes.specs.Stages.{reads_with}
-use Rattle.vault_lanes.specs.code.Courses.{came_by, is_unjudged}
-use Rattle.vault_lanes.specs.declared.stage.RequestStage.TheVariants.{Connecting}
 use Rattle.vault_lanes.proofs.Judged.{IsStill}
 use Rattle.vault_lanes.proofs.lane.read_on.Given as goal
 

@@ -1,9 +1,7 @@
 -- The piece that was taken follows on what was written before.
 use Rattle.std.proofs.Common.{◌≡◌, ℕ, ◌+◌, ◌-◌, List, length, take, drop, arith, Option, subst, sym, ap}
-use Rattle.std.proofs.lemmas.List.{take_rest}
-use Rattle.std.proofs.Math.Seq.{take-add}
-use Rattle.std.proofs.lemmas.Grind.{common_steps}
-use Rattle.std.proofs.KnownBytes.{Appends-trans, Keeps-trans}
+use Rattle.std.proofs.lemmas.{List.take_rest, Grind.common_steps}
+use Rattle.std.proofs.{Math.Seq.take-add, KnownBytes.Appends-trans, KnownBytes.Keeps-trans}
 use Rattle.std.specs.Io.KnownBytes.{Appends}
 use Rattle.vault_lanes.proofs.Failed.{kept_then}
 use Rattle.vault_lanes.proofs.lane.write.Goals as goal

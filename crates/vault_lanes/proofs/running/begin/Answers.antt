@@ -1,5 +1,5 @@
 -- It goes on from its begin.
-use Rattle.std.proofs.Common.{◌≡◌, ◌≤◌, ◌∙◌, [], IfSome, arith, length, subst, sym, vec_capacity}
+use Rattle.std.proofs.Common.{◌≡◌, ◌≤◌, [], IfSome, arith, length, subst, sym, vec_capacity}
 use Rattle.vault_lanes.proofs.Moved.{begun, refused_then}
 use Rattle.vault_lanes.specs.code.Courses.{came_by}
 use Rattle.vault_http.specs.Written.{request_text}

@@ -1,7 +1,6 @@
 -- Those so far went on, and the others are as they were.
 use Rattle.std.proofs.Common.{◌≡◌, None, drop, length, take}
-use Rattle.vault_lanes.specs.Seats.{outs}
-use Rattle.vault_lanes.specs.code.Ways.{Move}
+use Rattle.vault_lanes.specs.{Seats.outs, code.Ways.Move}
 use Rattle.vault_lanes.proofs.running.go_on.Given as goal
 
 abbrev pub invariant-loop-seat : goal.invariant-loop-seat

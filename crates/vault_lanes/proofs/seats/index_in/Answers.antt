@@ -1,7 +1,6 @@
 -- It is found where it stands, or stands further on, or at no place.
 use Rattle.std.proofs.Common.{◌≡◌, ◌∙◌, ◌==◌, ◌+◌, true, false, ap, arith, drop, get_or, sym}
-use Rattle.std.proofs.lemmas.Bool.Decides.{nat_tests}
-use Rattle.std.proofs.lemmas.List.{drop_all}
+use Rattle.std.proofs.lemmas.{Bool.Decides.nat_tests, List.drop_all}
 use Rattle.vault_lanes.specs.Out.{index_in}
 use Rattle.vault_lanes.proofs.Renamed.{in_both, in_front, in_no_first, in_no_second, in_rest}
 use Rattle.vault_lanes.proofs.seats.index_in.Goals as goal

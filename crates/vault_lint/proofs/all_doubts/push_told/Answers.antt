@@ -1,7 +1,6 @@
 -- What is told of the first of the rest is appended.
 use Rattle.std.proofs.Common.{◌≡◌, ◌∙◌, ◌++◌, ◌+◌, [], None, ap, append-nil, append_assoc, arith, drop, get_or, sym}
-use Rattle.std.proofs.lemmas.Grind.{common_steps}
-use Rattle.std.proofs.lemmas.List.{drop_more}
+use Rattle.std.proofs.lemmas.{Grind.common_steps, List.drop_more}
 use Rattle.vault_lint.specs.Doubts.{told, told_of}
 use Rattle.vault_lint.proofs.all_doubts.push_told.Goals as goal
 

@@ -1,8 +1,7 @@
 -- The value at a key is the member of that name in the view of the table.
 use Rattle.std.proofs.Common.{◌≡◌, List, ℕ, subst}
 use Rattle.std.specs.Option.{option_map}
-use Rattle.toml.specs.Data.{get_member}
-use Rattle.toml.specs.View.{view, table_view}
+use Rattle.toml.specs.{Data.get_member, View.view, View.table_view}
 use Rattle.toml.proofs.Views.{table_get}
 use Rattle.vault_lint.proofs.fault_names.at.Goals as goal
 

@@ -1,7 +1,6 @@
 -- Bytes are UTF-8 exactly if they are read as a text.
 use Rattle.std.proofs.Common.{◌≡◌, ◌∙◌, Bor, IsUtf8, List, MatchResult, Ok, Err, Result, is_ok, sym, ℕ}
-use Rattle.std.proofs.lemmas.Bool.{false_from_ne_true}
-use Rattle.std.proofs.lemmas.Str.{IsUtf8-from_is_utf8, is_utf8-from_IsUtf8}
+use Rattle.std.proofs.lemmas.{Bool.false_from_ne_true, Str.IsUtf8-from_is_utf8, Str.is_utf8-from_IsUtf8}
 use Rattle.std.specs.Str.{IsValidUpTo, is_utf8, valid_up_to}
 use Rattle.vault_lint.proofs.fault_words.is_utf8.Goals as goal
 

@@ -1,8 +1,7 @@
 -- The note that is read is that of the entry.
 use Rattle.std.proofs.Common.{◌∙◌, ◌<◌, List, ap, arith, get_or, length, sym}
 use Rattle.std.proofs.lemmas.List.{get_or_read}
-use Rattle.vault_inventory.specs.Served.{no_note, note_at}
-use Rattle.vault_inventory.specs.declared.note.EntryNote.{EntryNote}
+use Rattle.vault_inventory.specs.{Served.no_note, Served.note_at, declared.note.EntryNote.EntryNote}
 use Rattle.vault_lint.specs.Limits.{is_told}
 use Rattle.vault_lint.proofs.judging.is_told.Goals as goal
 

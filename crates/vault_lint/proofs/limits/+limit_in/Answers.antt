@@ -1,8 +1,7 @@
 -- The first limit is the entry's own, else that of its parent and of those over it.
 use Rattle.std.proofs.Common.{◌≡◌, ◌∙◌, Some, None, ap, sym}
 use Rattle.plan_forest.proofs.Placed.{parents_first}
-use Rattle.plan_forest.specs.Forest.{Forest, entry_at}
-use Rattle.plan_forest.specs.declared.entry.Entry.{Entry}
+use Rattle.plan_forest.specs.{Forest.Forest, Forest.entry_at, declared.entry.Entry.Entry}
 use Rattle.vault_lint.specs.Limits.{limit_at}
 use Rattle.vault_lint.proofs.FirstLimit.{limit_child, limit_own, limit_root}
 use Rattle.vault_lint.proofs.limits.+limit_in.Goals as goal

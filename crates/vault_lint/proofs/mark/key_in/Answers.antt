@@ -1,10 +1,8 @@
 -- What is found is the first key with that text.
 use Rattle.std.proofs.Common.{◌≡◌, ◌∙◌, Bool, Bor, Option, Some, None, bytes_eq, option_map, refl, rules, tests}
-use Rattle.std.proofs.lemmas.Iterator.{YieldsList-from_slice}
-use Rattle.std.proofs.lemmas.Iterator.Search.{find_from_yields_List}
+use Rattle.std.proofs.lemmas.{Iterator.YieldsList-from_slice, Iterator.Search.find_from_yields_List}
 use Rattle.std.specs.Option.{option_copied}
-use Rattle.vault_inventory.specs.Keys.{key_text}
-use Rattle.vault_inventory.specs.declared.key.Key.{Key}
+use Rattle.vault_inventory.specs.{Keys.key_text, declared.key.Key.Key}
 use Rattle.vault_lint.proofs.mark.key_in.Goals as goal
 
 copied_is : (o : Option (Bor Key)) → option_copied o ≡ option_map (λ (r : Bor Key). r.now) o

@@ -1,7 +1,6 @@
 -- The first of the lines to come is appended, where it begins such a table.
 use Rattle.std.proofs.Common.{◌≡◌, ◌∙◌, ◌++◌, ◌+◌, [], ap, append-nil, append_assoc, arith, drop, get_or, sym}
-use Rattle.std.proofs.lemmas.Grind.{common_steps}
-use Rattle.std.proofs.lemmas.List.{drop_more}
+use Rattle.std.proofs.lemmas.{Grind.common_steps, List.drop_more}
 use Rattle.vault_lint.specs.Places.{head_at, heads_from}
 use Rattle.plan_forest.specs.declared.entry.Kind.TheVariants as kinds
 use Rattle.vault_lint.specs.declared.mark.Mark.TheVariants as marks

@@ -1,7 +1,6 @@
 -- What is read twice is the same, and there is a note and a load for each entry.
 use Rattle.std.proofs.Common.{◌∙◌, ap, arith, length, refl, subst}
-use Rattle.vault_inventory.specs.Inventories.{Inventory}
-use Rattle.vault_inventory.specs.Served.{Served}
+use Rattle.vault_inventory.specs.{Inventories.Inventory, Served.Served}
 use Rattle.plan_needs.specs.Carried.{IsCarried}
 use Rattle.plan_forest.specs.Forest.{Forest}
 use Rattle.vault_lint.proofs.GoodOnes.{good_count, good_of}

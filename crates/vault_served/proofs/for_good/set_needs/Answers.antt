@@ -1,8 +1,7 @@
 -- One need more is set, and after the last each entry has the one at its index.
 use Rattle.std.proofs.Common.{◌≡◌, ◌∙◌, ◌<◌, List, ap, arith, get_or, length, refl, set}
 use Rattle.std.proofs.lemmas.List.{get_or_read}
-use Rattle.plan_forest.specs.declared.entry.Entry.{Entry}
-use Rattle.plan_forest.specs.Forest.{Forest, entry_at}
+use Rattle.plan_forest.specs.{declared.entry.Entry.Entry, Forest.Forest, Forest.entry_at}
 use Rattle.vault_inventory.specs.Inventories.{Inventory, inventory_with_need}
 use Rattle.vault_served.specs.ForGood.{inventory_with_needs}
 use Rattle.vault_served.proofs.ForGood.{all_set, one_set, so_far_count}

@@ -1,6 +1,5 @@
 -- doubled_law: the laws as they are proved in Pausing and Doubling.
-use Rattle.watch_laws.proofs.Doubling.{others_go_on, pauses_double}
-use Rattle.watch_laws.proofs.Pausing.{longest_so}
+use Rattle.watch_laws.proofs.{Doubling.others_go_on, Doubling.pauses_double, Pausing.longest_so}
 use Rattle.watch_laws.proofs.laws_of_pauses.doubled_law.Goals as goal
 
 pub returns-clause-longest : goal.returns-clause-longest

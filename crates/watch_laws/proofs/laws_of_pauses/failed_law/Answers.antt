@@ -1,6 +1,5 @@
 -- failed_law: the laws as they are proved in Failing and Always.
-use Rattle.watch_laws.proofs.Always.{stays_lost}
-use Rattle.watch_laws.proofs.Failing.{failed_so}
+use Rattle.watch_laws.proofs.{Always.stays_lost, Failing.failed_so}
 use Rattle.watch_laws.proofs.laws_of_pauses.failed_law.Goals as goal
 
 pub returns-clause-failed : goal.returns-clause-failed

@@ -1,8 +1,7 @@
 -- Each track is made anew after those before it, and in the end all are.
 use Rattle.std.proofs.Common.{◌∙◌, ◌<◌, ap, arith, length, refl}
 use Rattle.std.proofs.lemmas.List.Elements.{All-set}
-use Rattle.watch_machine.specs.Answers.{back_track}
-use Rattle.watch_machine.specs.code.Bounds.{IsTrack}
+use Rattle.watch_machine.specs.{Answers.back_track, code.Bounds.IsTrack}
 use Rattle.watch_machine.proofs.Written.{written_all, written_more, written_none, written_read}
 use Rattle.watch_machine.proofs.answers.back_all.Goals as goal
 

@@ -1,7 +1,6 @@
 -- The tracks before the index are made anew.
 use Rattle.std.specs.List.{All}
-use Rattle.watch_machine.specs.Answers.{back_track}
-use Rattle.watch_machine.specs.code.Bounds.{IsTrack}
+use Rattle.watch_machine.specs.{Answers.back_track, code.Bounds.IsTrack}
 use Rattle.watch_machine.proofs.Written.{Written}
 use Rattle.watch_machine.proofs.answers.back_all.Given as goal
 

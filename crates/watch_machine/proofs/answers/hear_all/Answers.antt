@@ -1,10 +1,8 @@
 -- Each request has heard of it after those before it, and in the end all have.
 use Rattle.std.proofs.Common.{◌∙◌, ◌<◌, ◌++◌, ap, arith, drop, length, map, set}
+use Rattle.std.proofs.lemmas.{List.Edits.map_over_more, List.Elements.All-set}
 use Rattle.std.proofs.lemmas.List.{append-nil, drop_all, get_or_default, take_all}
-use Rattle.std.proofs.lemmas.List.Edits.{map_over_more}
-use Rattle.std.proofs.lemmas.List.Elements.{All-set}
-use Rattle.watch_machine.specs.Answers.{heard}
-use Rattle.watch_machine.specs.code.Bounds.{WentOutAtReading}
+use Rattle.watch_machine.specs.{Answers.heard, code.Bounds.WentOutAtReading}
 use Rattle.watch_machine.proofs.answers.hear_all.Goals as goal
 
 pub loop-index-preserved : goal.loop-index-preserved

@@ -1,8 +1,7 @@
 -- The requests before the index have heard of it.
 use Rattle.std.proofs.Common.{◌≡◌, ◌++◌, drop, map, take}
 use Rattle.std.specs.List.{All}
-use Rattle.watch_machine.specs.Answers.{heard}
-use Rattle.watch_machine.specs.code.Bounds.{WentOutAtReading}
+use Rattle.watch_machine.specs.{Answers.heard, code.Bounds.WentOutAtReading}
 use Rattle.watch_machine.proofs.answers.hear_all.Given as goal
 
 abbrev pub invariant-loop-index : goal.invariant-loop-index

@@ -1,10 +1,8 @@
 -- What is kept are the requests of others.
 use Rattle.std.proofs.Common.{◌≡◌, ◌==◌, not, rules, subst, sym}
-use Rattle.std.proofs.lemmas.Fn.{filter_same}
-use Rattle.std.proofs.lemmas.List.Elements.{All-filter}
+use Rattle.std.proofs.lemmas.{Fn.filter_same, List.Elements.All-filter}
 use Rattle.std.specs.List.{All}
-use Rattle.watch_machine.specs.Answers.{without_request}
-use Rattle.watch_machine.specs.code.Bounds.{WentOutAtReading}
+use Rattle.watch_machine.specs.{Answers.without_request, code.Bounds.WentOutAtReading}
 use Rattle.watch_machine.proofs.answers.take_out.Goals as goal
 
 pub returns-clause-value : goal.returns-clause-value

@@ -1,7 +1,6 @@
 -- The tracks before the index are made anew.
 use Rattle.std.specs.List.{All}
-use Rattle.watch_machine.specs.Beginning.{untopped_track}
-use Rattle.watch_machine.specs.code.Bounds.{IsTrack}
+use Rattle.watch_machine.specs.{Beginning.untopped_track, code.Bounds.IsTrack}
 use Rattle.watch_machine.proofs.Written.{Written}
 use Rattle.watch_machine.proofs.beginning.clear_tops.Given as goal
 

@@ -2,9 +2,7 @@
 use Rattle.std.proofs.Common.{◌≡◌, ◌∙◌, ℕ, ◌<◌, Bool, arith, length, refl}
 use Rattle.std.proofs.lemmas.List.Elements.{All-set}
 use Rattle.plan_needs.specs.Carried.{load_at}
-use Rattle.watch_machine.specs.declared.track.Track.{Track}
-use Rattle.watch_machine.specs.Beginning.{called_by, owing}
-use Rattle.watch_machine.specs.code.Bounds.{IsTrack}
+use Rattle.watch_machine.specs.{declared.track.Track.Track, Beginning.called_by, Beginning.owing, code.Bounds.IsTrack}
 use Rattle.watch_machine.proofs.Written.{written_all, written_more, written_none, written_read}
 use Rattle.watch_machine.proofs.beginning.owe_all.Goals as goal
 

@@ -1,8 +1,7 @@
 -- The tracks before the index are made anew.
 use Rattle.std.specs.List.{All}
 use Rattle.plan_needs.specs.Carried.{load_at}
-use Rattle.watch_machine.specs.Beginning.{called_by, owing}
-use Rattle.watch_machine.specs.code.Bounds.{IsTrack}
+use Rattle.watch_machine.specs.{Beginning.called_by, Beginning.owing, code.Bounds.IsTrack}
 use Rattle.watch_machine.proofs.Written.{Written}
 use Rattle.watch_machine.proofs.beginning.owe_all.Given as goal
 

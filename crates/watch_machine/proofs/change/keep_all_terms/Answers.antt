@@ -1,14 +1,12 @@
 -- Each entry is written after those before it, and in the end all are.
 use Rattle.std.proofs.Common.{◌≡◌, ◌∙◌, ◌<◌, ℕ, IfSome, ap, arith, length, set, subst, sym}
-use Rattle.std.proofs.lemmas.List.{length-set}
-use Rattle.std.proofs.lemmas.List.FromFn.{fill_by_all}
+use Rattle.std.proofs.lemmas.{List.length-set, List.FromFn.fill_by_all}
 use Rattle.plan_forest.specs.declared.entry.Entry.{Entry}
 use Rattle.plan_forest.specs.Forest.{Forest, entry_at, no_entry}
 use Rattle.plan_forest.proofs.Entries.{entry_at_set_other}
 use Rattle.watch_machine.specs.declared.change.Was.{Was}
 use Rattle.watch_machine.specs.Change.{entry_by, forest_after, former, former_at, was_at}
-use Rattle.watch_machine.proofs.Changing.{within_some}
-use Rattle.watch_machine.proofs.View.{written_more}
+use Rattle.watch_machine.proofs.{Changing.within_some, View.written_more}
 use Rattle.watch_machine.proofs.change.keep_all_terms.Goals as goal
 
 pub keep_terms-requires-clause-within : goal.keep_terms-requires-clause-within

@@ -1,9 +1,8 @@
 -- Each request is moved after those before it, and in the end all are.
 use Rattle.std.proofs.Common.{◌∙◌, ◌<◌, ◌++◌, ap, arith, drop, length}
-use Rattle.std.proofs.lemmas.List.{append-nil, drop_all, get_or_default, take_all}
 use Rattle.std.proofs.lemmas.List.Elements.{All-set}
-use Rattle.watch_machine.specs.Change.{out_after}
-use Rattle.watch_machine.specs.code.Bounds.{WentOutAtReading}
+use Rattle.std.proofs.lemmas.List.{append-nil, drop_all, get_or_default, take_all}
+use Rattle.watch_machine.specs.{Change.out_after, code.Bounds.WentOutAtReading}
 use Rattle.watch_machine.proofs.Changing.{out_more}
 use Rattle.watch_machine.proofs.change.move_all.Goals as goal
 

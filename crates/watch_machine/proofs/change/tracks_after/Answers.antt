@@ -1,14 +1,10 @@
 -- Each track is made after those before it.
 use Rattle.std.proofs.Common.{◌≡◌, ◌∙◌, ◌<◌, ◌++◌, ◌∷◌, [], ℕ, IfSome, ap, arith, length, map, subst, sym}
-use Rattle.std.proofs.lemmas.List.Elements.{All-push}
-use Rattle.std.proofs.lemmas.List.FromFn.{map-range_with_len_more}
+use Rattle.std.proofs.lemmas.{List.Elements.All-push, List.FromFn.map-range_with_len_more}
 use Rattle.std.specs.List.{All, range_with_len}
-use Rattle.plan_forest.specs.declared.entry.Entry.{Entry}
-use Rattle.plan_forest.specs.Forest.{entry_at}
-use Rattle.watch_machine.specs.declared.change.Was.{Was}
-use Rattle.watch_machine.specs.declared.track.Track.{Track}
+use Rattle.plan_forest.specs.{declared.entry.Entry.Entry, Forest.entry_at}
+use Rattle.watch_machine.specs.{declared.change.Was.Was, declared.track.Track.Track, code.Bounds.IsTrack}
 use Rattle.watch_machine.specs.Change.{former, former_at, track_by, tracks_after, was_at}
-use Rattle.watch_machine.specs.code.Bounds.{IsTrack}
 use Rattle.watch_machine.proofs.Changing.{within_some}
 use Rattle.watch_machine.proofs.change.tracks_after.Goals as goal
 

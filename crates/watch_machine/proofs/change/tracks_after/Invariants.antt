@@ -2,8 +2,7 @@
 use Rattle.std.proofs.Common.{◌≡◌, map}
 use Rattle.std.specs.List.{All, range_with_len}
 use Rattle.plan_forest.specs.Forest.{entry_at}
-use Rattle.watch_machine.specs.Change.{track_by, was_at}
-use Rattle.watch_machine.specs.code.Bounds.{IsTrack}
+use Rattle.watch_machine.specs.{Change.track_by, Change.was_at, code.Bounds.IsTrack}
 use Rattle.watch_machine.proofs.change.tracks_after.Given as goal
 
 abbrev pub invariant-loop-index : goal.invariant-loop-index

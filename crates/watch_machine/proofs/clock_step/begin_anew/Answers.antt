@@ -1,10 +1,9 @@
 -- By what the entries carry, everybody who is called owes a lookup.
 use Rattle.std.proofs.Common.{◌≡◌, ◌∙◌, List, ap, length, subst}
 use Rattle.plan_needs.specs.Carried.{CarriedNeed, IsCarried, load_at}
-use Rattle.watch_machine.specs.Beginning.{called_by, owing, owing_all}
 use Rattle.watch_machine.specs.State.{each}
-use Rattle.watch_machine.proofs.Owing.{owed_are, owed_sees}
-use Rattle.watch_machine.proofs.Written.{each_length}
+use Rattle.watch_machine.specs.Beginning.{called_by, owing, owing_all}
+use Rattle.watch_machine.proofs.{Owing.owed_are, Owing.owed_sees, Written.each_length}
 use Rattle.watch_machine.proofs.clock_step.begin_anew.Goals as goal
 
 pub returns-clause-tracks : goal.returns-clause-tracks

@@ -1,10 +1,8 @@
 -- By what the entries carry, those are pressed whose time has come, and those whom a round asks.
 use Rattle.std.proofs.Common.{◌≡◌, ◌∙◌, ap, sym}
+use Rattle.watch_machine.specs.{Round.asked_by_round, State.each}
 use Rattle.watch_machine.specs.Press.{pressed_alone, pressed_tracks, track_asked_in}
-use Rattle.watch_machine.specs.Round.{asked_by_round}
-use Rattle.watch_machine.specs.State.{each}
-use Rattle.watch_machine.proofs.Owing.{none_asked, pressed_are}
-use Rattle.watch_machine.proofs.clock_step.press.Goals.{in-Some, in_default}
+use Rattle.watch_machine.proofs.{Owing.none_asked, Owing.pressed_are, clock_step.press.Goals.in-Some, clock_step.press.Goals.in_default}
 use Rattle.watch_machine.proofs.clock_step.press.Goals as goal
 
 pub round-requires-clause-needs : goal.round-requires-clause-needs

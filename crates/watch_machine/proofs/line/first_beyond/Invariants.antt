@@ -1,10 +1,7 @@
 -- The moment is no later than that of each entry before the index that is due.
 use Rattle.std.proofs.Common.{◌≡◌, ℕ, ◌<◌, ◌≤◌, true}
 use Rattle.plan_forest.specs.Forest.{entry_at}
-use Rattle.watch_machine.specs.Lines.{is_due}
-use Rattle.watch_machine.specs.State.{track_in}
-use Rattle.watch_machine.specs.code.Line.{left_at}
-use Rattle.watch_machine.specs.code.View.{need_at}
+use Rattle.watch_machine.specs.{Lines.is_due, State.track_in, code.Line.left_at, code.View.need_at}
 use Rattle.watch_machine.proofs.line.first_beyond.Given as goal
 
 abbrev pub invariant-loop-index : goal.invariant-loop-index

@@ -1,13 +1,8 @@
 -- Each time that is ahead, of one that is due, is compared with the first one before it.
 use Rattle.std.proofs.Common.{◌≡◌, ◌∙◌, ℕ, ◌≤◌, true, ap, arith, length, sym, inl, inr}
-use Rattle.std.proofs.lemmas.Bool.{cases_eq}
-use Rattle.std.proofs.lemmas.List.{get_or_default}
-use Rattle.plan_forest.specs.declared.entry.Entry.{Entry}
-use Rattle.plan_forest.specs.Forest.{entry_at}
-use Rattle.watch_machine.specs.declared.track.Track.{Track}
-use Rattle.watch_machine.specs.Lines.{is_due}
-use Rattle.watch_machine.specs.Margins.{time}
-use Rattle.watch_machine.specs.State.{no_track, track_in}
+use Rattle.std.proofs.lemmas.{Bool.cases_eq, List.get_or_default}
+use Rattle.plan_forest.specs.{declared.entry.Entry.Entry, Forest.entry_at}
+use Rattle.watch_machine.specs.{declared.track.Track.Track, Lines.is_due, Margins.time, State.no_track, State.track_in}
 use Rattle.watch_machine.proofs.line.first_coming.Goals as goal
 
 -- the time of an entry, by what was read of it

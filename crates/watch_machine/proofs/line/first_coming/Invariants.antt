@@ -1,9 +1,7 @@
 -- The second is no later than each time that is ahead, of an entry before the index that is due.
 use Rattle.std.proofs.Common.{◌≡◌, ℕ, ◌<◌, ◌≤◌, true}
 use Rattle.plan_forest.specs.Forest.{entry_at}
-use Rattle.watch_machine.specs.Lines.{is_due}
-use Rattle.watch_machine.specs.Margins.{time}
-use Rattle.watch_machine.specs.State.{track_in}
+use Rattle.watch_machine.specs.{Lines.is_due, Margins.time, State.track_in}
 use Rattle.watch_machine.proofs.line.first_coming.Given as goal
 
 abbrev pub invariant-loop-index : goal.invariant-loop-index

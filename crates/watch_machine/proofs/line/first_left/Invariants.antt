@@ -2,11 +2,7 @@
 use Rattle.std.proofs.Common.{◌≡◌, map}
 use Rattle.std.specs.List.{range_with_len}
 use Rattle.plan_forest.specs.Forest.{entry_at}
-use Rattle.watch_machine.specs.declared.lull.TheConstants.{NEVER}
-use Rattle.watch_machine.specs.State.{track_in}
-use Rattle.watch_machine.specs.Wanted.{least}
-use Rattle.watch_machine.specs.code.Line.{left_at}
-use Rattle.watch_machine.specs.code.View.{need_at}
+use Rattle.watch_machine.specs.{declared.lull.TheConstants.NEVER, State.track_in, Wanted.least, code.Line.left_at, code.View.need_at}
 use Rattle.watch_machine.proofs.line.first_left.Given as goal
 
 abbrev pub invariant-loop-index : goal.invariant-loop-index

@@ -1,11 +1,7 @@
 -- No need and no end of an entry so far is past before the second; in the end none is.
 use Rattle.std.proofs.Common.{◌≡◌, ◌∙◌, ◌<◌, ◌≤◌, false, get_or, ap, arith, inl, inr, subst, sym}
-use Rattle.std.proofs.lemmas.Bool.{cases_eq}
-use Rattle.std.proofs.lemmas.List.{get_or_default}
-use Rattle.watch_machine.specs.declared.track.Track.{Track}
-use Rattle.watch_machine.specs.State.{no_track, track_in}
-use Rattle.watch_machine.specs.Wanted.{believed}
-use Rattle.watch_machine.specs.code.View.{need_at}
+use Rattle.std.proofs.lemmas.{Bool.cases_eq, List.get_or_default}
+use Rattle.watch_machine.specs.{declared.track.Track.Track, State.no_track, State.track_in, Wanted.believed, code.View.need_at}
 use Rattle.watch_machine.proofs.lull.first_past.Goals as goal
 
 -- what the code reads past the last track

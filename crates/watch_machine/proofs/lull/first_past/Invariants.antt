@@ -1,8 +1,6 @@
 -- The second is the first in which a need, or an end that is ahead, of the entries before the index is past.
 use Rattle.std.proofs.Common.{ℕ, ◌<◌, ◌≤◌}
-use Rattle.watch_machine.specs.State.{track_in}
-use Rattle.watch_machine.specs.Wanted.{believed}
-use Rattle.watch_machine.specs.code.View.{need_at}
+use Rattle.watch_machine.specs.{State.track_in, Wanted.believed, code.View.need_at}
 use Rattle.watch_machine.proofs.lull.first_past.Given as goal
 
 abbrev pub invariant-loop-index : goal.invariant-loop-index

@@ -1,12 +1,9 @@
 -- What counts for each entry is found after those before it.
 use Rattle.std.proofs.Common.{◌≡◌, ◌∙◌, ℕ, ◌++◌, ◌∷◌, [], ap, arith, length, map, sym}
-use Rattle.std.proofs.lemmas.List.{get_or_default}
-use Rattle.std.proofs.lemmas.List.FromFn.{map-range_with_len_more}
+use Rattle.std.proofs.lemmas.{List.get_or_default, List.FromFn.map-range_with_len_more}
 use Rattle.std.specs.List.{range_with_len}
 use Rattle.plan_needs.specs.Carried.{load_at}
-use Rattle.watch_machine.specs.declared.track.Track.{Track}
-use Rattle.watch_machine.specs.State.{no_track, track_in}
-use Rattle.watch_machine.specs.code.View.{need_by}
+use Rattle.watch_machine.specs.{declared.track.Track.Track, State.no_track, State.track_in, code.View.need_by}
 use Rattle.watch_machine.proofs.needs.last_needs.Goals as goal
 
 -- what counts for an entry, by what was read of it

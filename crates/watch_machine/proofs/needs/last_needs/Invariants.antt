@@ -2,8 +2,7 @@
 use Rattle.std.proofs.Common.{◌≡◌, map}
 use Rattle.std.specs.List.{range_with_len}
 use Rattle.plan_needs.specs.Carried.{load_at}
-use Rattle.watch_machine.specs.State.{track_in}
-use Rattle.watch_machine.specs.code.View.{need_by}
+use Rattle.watch_machine.specs.{State.track_in, code.View.need_by}
 use Rattle.watch_machine.proofs.needs.last_needs.Given as goal
 
 abbrev pub invariant-loop-index : goal.invariant-loop-index

@@ -1,9 +1,7 @@
 -- Where no token is told to be an orphan, the forest stays.
 use Rattle.std.proofs.Common.{◌≡◌, ◌∙◌, ◌&&◌, true, false, not, ap, set, sym}
-use Rattle.plan_forest.specs.Forest.{entry_at}
-use Rattle.plan_forest.specs.Push.{is_lease}
-use Rattle.watch_machine.proofs.Tests.{not_false, not_true}
-use Rattle.watch_machine.proofs.View.{not_orphaned, now_orphaned}
+use Rattle.plan_forest.specs.{Forest.entry_at, Push.is_lease}
+use Rattle.watch_machine.proofs.{Tests.not_false, Tests.not_true, View.not_orphaned, View.now_orphaned}
 use Rattle.watch_machine.proofs.new_terms.take_orphan.Goals as goal
 
 pub returns-then-not-terms : goal.returns-then-not-terms

@@ -1,11 +1,9 @@
 -- The terms that are told may be set, and the forest with them is that of the definitions.
 use Rattle.std.proofs.Common.{◌≡◌, ap, arith, set, ◌∙◌}
-use Rattle.plan_forest.specs.declared.entry.Entry.{Entry}
-use Rattle.plan_forest.specs.Forest.{entry_at}
+use Rattle.plan_forest.specs.{declared.entry.Entry.Entry, Forest.entry_at}
 use Rattle.plan_forest.proofs.Placed.{read_step}
 use Rattle.watch_machine.specs.Looked.{by_terms, orphaned, step_told}
-use Rattle.watch_machine.proofs.Steps.{past_margin}
-use Rattle.watch_machine.proofs.View.{set_again}
+use Rattle.watch_machine.proofs.{Steps.past_margin, View.set_again}
 use Rattle.watch_machine.proofs.new_terms.take_terms.Goals as goal
 
 pub set_terms-requires-clause-step : goal.set_terms-requires-clause-step

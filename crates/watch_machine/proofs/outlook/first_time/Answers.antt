@@ -1,18 +1,10 @@
 -- Each time is compared with the first one before it; in the end that is the first of all.
 use Rattle.std.proofs.Common.{◌≡◌, ◌∙◌, ℕ, ◌+◌, ◌<◌, Bool, true, false, length, refl, sym, subst, arith}
 use Rattle.std.proofs.lemmas.List.{get_or_default}
-use Rattle.plan_forest.specs.declared.entry.Entry.{Entry}
-use Rattle.plan_forest.specs.Forest.{entry_at}
-use Rattle.watch_machine.specs.declared.track.Track.{Track}
-use Rattle.watch_machine.specs.Clocks.{sec}
-use Rattle.watch_machine.specs.Margins.{time}
-use Rattle.watch_machine.specs.Outlook.{IsFirstOf, time_of}
+use Rattle.plan_forest.specs.{declared.entry.Entry.Entry, Forest.entry_at}
+use Rattle.watch_machine.specs.{declared.track.Track.Track, Clocks.sec, Margins.time, Outlook.IsFirstOf, Outlook.time_of, Wanted.need_of, Wanted.wanted_need, code.Lull.shown_by, code.Outlook.counts, code.Outlook.is_counted}
 use Rattle.watch_machine.specs.State.{WatchState, no_track, second, track_at, track_in}
-use Rattle.watch_machine.specs.Wanted.{need_of, wanted_need}
-use Rattle.watch_machine.specs.code.Lull.{shown_by}
-use Rattle.watch_machine.specs.code.Outlook.{counts, is_counted}
-use Rattle.watch_machine.proofs.FirstTime.{is_timed_more, not_timed}
-use Rattle.watch_machine.proofs.outlook.first_time.Goals.{then-is_counted, else-is_counted}
+use Rattle.watch_machine.proofs.{FirstTime.is_timed_more, FirstTime.not_timed, outlook.first_time.Goals.then-is_counted, outlook.first_time.Goals.else-is_counted}
 use Rattle.watch_machine.proofs.outlook.first_time.Goals as goal
 
 -- whether an entry is counted, and its time, by what was read of it

@@ -1,8 +1,5 @@
 -- The first time of the entries before the index is found.
-use Rattle.watch_machine.specs.Outlook.{IsFirstOf}
-use Rattle.watch_machine.specs.code.Lull.{shown_by}
-use Rattle.watch_machine.specs.code.Outlook.{counts}
-use Rattle.watch_machine.specs.code.View.{HasNeeds}
+use Rattle.watch_machine.specs.{Outlook.IsFirstOf, code.Lull.shown_by, code.Outlook.counts, code.View.HasNeeds}
 use Rattle.watch_machine.proofs.outlook.first_time.Given as goal
 
 -- the first time so far

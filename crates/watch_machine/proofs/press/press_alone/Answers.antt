@@ -1,12 +1,8 @@
 -- Each entry is pressed or let go after those before it, and in the end all are.
 use Rattle.std.proofs.Common.{◌≡◌, ◌∙◌, ℕ, ◌<◌, arith, length, refl}
 use Rattle.std.proofs.lemmas.List.Elements.{All-set}
-use Rattle.plan_forest.specs.declared.entry.Entry.{Entry}
-use Rattle.plan_forest.specs.Forest.{entry_at}
-use Rattle.watch_machine.specs.declared.track.Track.{Track}
-use Rattle.watch_machine.specs.Press.{pressed_track}
-use Rattle.watch_machine.specs.code.Bounds.{IsTrack}
-use Rattle.watch_machine.specs.code.View.{need_at}
+use Rattle.plan_forest.specs.{declared.entry.Entry.Entry, Forest.entry_at}
+use Rattle.watch_machine.specs.{declared.track.Track.Track, Press.pressed_track, code.Bounds.IsTrack, code.View.need_at}
 use Rattle.watch_machine.proofs.Written.{written_all, written_more, written_none, written_read}
 use Rattle.watch_machine.proofs.press.press_alone.Goals as goal
 

@@ -1,9 +1,7 @@
 -- The entries before the index are pressed or let go.
 use Rattle.std.specs.List.{All}
 use Rattle.plan_forest.specs.Forest.{entry_at}
-use Rattle.watch_machine.specs.Press.{pressed_track}
-use Rattle.watch_machine.specs.code.Bounds.{IsTrack}
-use Rattle.watch_machine.specs.code.View.{need_at}
+use Rattle.watch_machine.specs.{Press.pressed_track, code.Bounds.IsTrack, code.View.need_at}
 use Rattle.watch_machine.proofs.Written.{Written}
 use Rattle.watch_machine.proofs.press.press_alone.Given as goal
 

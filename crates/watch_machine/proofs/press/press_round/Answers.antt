@@ -1,17 +1,12 @@
 -- Each entry that the round asks is pressed after those before it, and in the end all are.
 use Rattle.std.proofs.Common.{◌≡◌, ◌∙◌, ℕ, ◌+◌, ◌<◌, ◌≤◌, if◌then◌else◌, Option, Some, ap, arith, get_or, length, refl, set, subst, sym, inl, inr}
+use Rattle.std.proofs.lemmas.{List.get_or_default, List.set_past, List.Elements.All-set}
 use Rattle.std.proofs.lemmas.Bool.{cases_Bool, cond-true, cond-false}
-use Rattle.std.proofs.lemmas.List.{get_or_default, set_past}
-use Rattle.std.proofs.lemmas.List.Elements.{All-set}
 use Rattle.std.specs.List.{All}
-use Rattle.watch_machine.specs.declared.track.Track.{Track}
-use Rattle.watch_machine.specs.declared.track.Try.{Try}
-use Rattle.watch_machine.specs.Press.{asked_track, press}
-use Rattle.watch_machine.specs.State.{no_track, track_in}
-use Rattle.watch_machine.specs.code.Bounds.{IsTrack}
+use Rattle.watch_machine.specs.{declared.track.Track.Track, declared.track.Try.Try, Press.asked_track, Press.press, State.no_track, State.track_in, code.Bounds.IsTrack}
+use Rattle.watch_machine.proofs.press.press_round.Goals.{then-index-tracks, else-index-tracks}
 use Rattle.watch_machine.proofs.Marked.{Marked, marked_all, marked_more, marked_none}
 use Rattle.watch_machine.proofs.press.press_round.Goals as goal
-use Rattle.watch_machine.proofs.press.press_round.Goals.{then-index-tracks, else-index-tracks}
 
 -- one that is asked twice is asked once
 abbrev ask : (Track → Try) → Track → Track

@@ -1,8 +1,7 @@
 -- Those whom the round asks before the index are pressed.
 use Rattle.std.proofs.Common.{ℕ}
 use Rattle.std.specs.List.{All}
-use Rattle.watch_machine.specs.Press.{asked_track}
-use Rattle.watch_machine.specs.code.Bounds.{IsTrack}
+use Rattle.watch_machine.specs.{Press.asked_track, code.Bounds.IsTrack}
 use Rattle.watch_machine.proofs.Marked.{Marked}
 use Rattle.watch_machine.proofs.press.press_round.Given as goal
 

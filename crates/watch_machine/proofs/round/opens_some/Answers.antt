@@ -1,12 +1,8 @@
 -- Whether an entry opens a round is told of each after those before it.
 use Rattle.std.proofs.Common.{◌≡◌, ◌∙◌, ℕ, Bool, true, false, below_more, get_or, length, sym, arith}
 use Rattle.std.proofs.lemmas.List.{get_or_default}
-use Rattle.plan_forest.specs.declared.entry.Entry.{Entry}
-use Rattle.plan_forest.specs.Forest.{entry_at}
-use Rattle.watch_machine.specs.declared.track.Track.{Track}
-use Rattle.watch_machine.specs.Round.{opens}
-use Rattle.watch_machine.specs.State.{no_track}
-use Rattle.watch_machine.specs.code.View.{need_at}
+use Rattle.plan_forest.specs.{declared.entry.Entry.Entry, Forest.entry_at}
+use Rattle.watch_machine.specs.{declared.track.Track.Track, Round.opens, State.no_track, code.View.need_at}
 use Rattle.watch_machine.proofs.Opening.{none_opens, opens_any, some_opens}
 use Rattle.watch_machine.proofs.round.opens_some.Goals as goal
 

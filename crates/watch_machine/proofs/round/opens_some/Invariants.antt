@@ -1,9 +1,7 @@
 -- Whether an entry before the index opens a round is known.
 use Rattle.std.proofs.Common.{◌≡◌, ◌<◌, ℕ, false, get_or}
 use Rattle.plan_forest.specs.Forest.{entry_at}
-use Rattle.watch_machine.specs.Round.{opens}
-use Rattle.watch_machine.specs.State.{no_track}
-use Rattle.watch_machine.specs.code.View.{need_at}
+use Rattle.watch_machine.specs.{Round.opens, State.no_track, code.View.need_at}
 use Rattle.watch_machine.proofs.round.opens_some.Given as goal
 
 -- none so far does

@@ -5,8 +5,7 @@ use Rattle.plan_rule.specs.Asks.{asks}
 use Rattle.plan_forest.specs.Forest.{end_of}
 use Rattle.watch_machine.specs.Clocks.{sec}
 use Rattle.watch_machine.specs.Round.{IsSecond, opens_some, plan_view}
-use Rattle.watch_machine.proofs.Opening.{plan_alike}
-use Rattle.watch_machine.proofs.Shorting.{carries_alike}
+use Rattle.watch_machine.proofs.{Opening.plan_alike, Shorting.carries_alike}
 use Rattle.watch_machine.proofs.round.round.Goals as goal
 
 pub returns-then-not-opens_some-clause-round : goal.returns-then-not-opens_some-clause-round

@@ -1,16 +1,10 @@
 -- Each entry is written as it is planned, after those before it.
 use Rattle.std.proofs.Common.{◌≡◌, ◌∙◌, ◌<◌, ℕ, List, length, ap, arith}
 use Rattle.std.proofs.lemmas.List.{get_or_default}
-use Rattle.plan_forest.specs.declared.entry.Entry.{Entry}
-use Rattle.plan_forest.specs.Forest.{Forest, entry_at}
-use Rattle.watch_machine.specs.declared.clocks.Clocks.{Clocks}
-use Rattle.watch_machine.specs.declared.track.Track.{Track}
-use Rattle.watch_machine.specs.Clocks.{sec}
-use Rattle.watch_machine.specs.Round.{entry_planned, planned_by}
-use Rattle.watch_machine.specs.State.{no_track, track_in}
-use Rattle.watch_machine.specs.Wanted.{need_of, seen_entry}
-use Rattle.watch_machine.proofs.Opening.{halfway_end, halfway_more, halfway_start, plan_written, seen_at, shape_planned}
+use Rattle.plan_forest.specs.{declared.entry.Entry.Entry, Forest.Forest, Forest.entry_at}
+use Rattle.watch_machine.specs.{declared.clocks.Clocks.Clocks, declared.track.Track.Track, Clocks.sec, Round.entry_planned, Round.planned_by, State.no_track, State.track_in, Wanted.need_of, Wanted.seen_entry}
 use Rattle.watch_machine.proofs.View.{view_set}
+use Rattle.watch_machine.proofs.Opening.{halfway_end, halfway_more, halfway_start, plan_written, seen_at, shape_planned}
 use Rattle.watch_machine.proofs.round.write_plan_view.Goals as goal
 
 -- an entry as the Asks take it, by what was read of it

@@ -1,12 +1,10 @@
 -- An entry is written as it is planned, within its bounds.
 use Rattle.std.proofs.Common.{◌≡◌, ◌∙◌, ◌+◌, false, true, set, sym, ap, arith}
-use Rattle.plan_forest.specs.declared.entry.Entry.{Entry}
-use Rattle.plan_forest.specs.Forest.{entry_at}
-use Rattle.plan_forest.specs.Renewal.{capped}
+use Rattle.plan_forest.specs.{declared.entry.Entry.Entry, Forest.entry_at, Renewal.capped}
 use Rattle.plan_forest.proofs.Placed.{read_range}
 use Rattle.watch_machine.specs.Round.{is_hoped, step_in_plan}
-use Rattle.watch_machine.proofs.Opening.{capped_least, hoped_is, kept_is}
 use Rattle.watch_machine.proofs.View.{ceiling_low, set_again}
+use Rattle.watch_machine.proofs.Opening.{capped_least, hoped_is, kept_is}
 use Rattle.watch_machine.proofs.round.write_planned.Goals as goal
 
 pub set_end-requires-clause-range : goal.set_end-requires-clause-range

@@ -2,11 +2,7 @@
 use Rattle.std.proofs.Common.{◌≡◌, ◌∙◌, ℕ, ◌<◌, Bool, ap, arith, length, map, sym}
 use Rattle.std.proofs.lemmas.List.{get_or_default}
 use Rattle.plan_forest.specs.declared.entry.Entry.{Entry}
-use Rattle.watch_machine.specs.declared.track.Track.{Track}
-use Rattle.watch_machine.specs.Lines.{is_due}
-use Rattle.watch_machine.specs.Sending.{place_of}
-use Rattle.watch_machine.specs.State.{no_track, track_in}
-use Rattle.watch_machine.specs.code.Places.{place_is}
+use Rattle.watch_machine.specs.{declared.track.Track.Track, Lines.is_due, Sending.place_of, State.no_track, State.track_in, code.Places.place_is}
 use Rattle.watch_machine.proofs.InLine.{due_left, due_taken}
 use Rattle.watch_machine.proofs.sending.due.Goals as goal
 use Rattle.watch_machine.proofs.sending.due.Goals.{then-is_due+in_ok-push, else-is_due}

@@ -1,11 +1,7 @@
 -- The places of those before the index that are due are gathered.
 use Rattle.std.proofs.Common.{◌≡◌, filter, map}
 use Rattle.std.specs.List.{range_with_len}
-use Rattle.watch_machine.specs.Clocks.{sec}
-use Rattle.watch_machine.specs.Lines.{is_due}
-use Rattle.watch_machine.specs.Sending.{place}
-use Rattle.watch_machine.specs.State.{track_in}
-use Rattle.watch_machine.specs.code.Places.{place_is}
+use Rattle.watch_machine.specs.{Clocks.sec, Lines.is_due, Sending.place, State.track_in, code.Places.place_is}
 use Rattle.watch_machine.proofs.sending.due.Given as goal
 
 abbrev pub invariant-loop-index : goal.invariant-loop-index

@@ -1,13 +1,7 @@
 -- As many of the line as lanes are free go out.
 use Rattle.std.proofs.Common.{◌≡◌, ◌∙◌, ap, length, map, min, take, vec_len}
-use Rattle.watch_machine.specs.declared.sending.Place.{Place}
-use Rattle.watch_machine.specs.Clocks.{sec}
-use Rattle.watch_machine.specs.Sending.{request}
-use Rattle.watch_machine.specs.code.Line.{requests_of}
-use Rattle.watch_machine.specs.code.Places.{place_is}
-use Rattle.watch_machine.proofs.InLine.{going_is, line_is}
-use Rattle.watch_machine.proofs.RoundClock.{front_many}
-use Rattle.watch_machine.proofs.sending.going.Goals.{In_ok-requests}
+use Rattle.watch_machine.specs.{declared.sending.Place.Place, Clocks.sec, Sending.request, code.Line.requests_of, code.Places.place_is}
+use Rattle.watch_machine.proofs.{InLine.going_is, InLine.line_is, RoundClock.front_many, sending.going.Goals.In_ok-requests}
 use Rattle.watch_machine.proofs.sending.going.Goals as goal
 
 made : (c : In_ok-requests) → c.in_ok-requests.requests.items ≡ requests_of c.args.presence (sec c.args.at) c.args.tracks.now c.min-picked.result c.in_order-line.result.items

@@ -1,10 +1,9 @@
 -- Each request is out after those before it.
 use Rattle.std.proofs.Common.{◌∙◌, ◌<◌, ◌++◌, ◌∷◌, [], ap, arith, length, map, subst, sym, take}
-use Rattle.std.proofs.lemmas.List.{append_assoc, map_more, take_all}
 use Rattle.std.proofs.lemmas.List.Elements.{All-push}
+use Rattle.std.proofs.lemmas.List.{append_assoc, map_more, take_all}
 use Rattle.std.specs.List.{All}
-use Rattle.watch_machine.specs.Sending.{out_at}
-use Rattle.watch_machine.specs.code.Bounds.{WentOutAtReading}
+use Rattle.watch_machine.specs.{Sending.out_at, code.Bounds.WentOutAtReading}
 use Rattle.watch_machine.proofs.sending.out_with.Goals as goal
 
 pub loop-request-preserved : goal.loop-request-preserved

@@ -1,8 +1,7 @@
 -- The requests before the index are out, after those that were.
 use Rattle.std.proofs.Common.{◌≡◌, ◌++◌, map, take}
 use Rattle.std.specs.List.{All}
-use Rattle.watch_machine.specs.Sending.{out_at}
-use Rattle.watch_machine.specs.code.Bounds.{WentOutAtReading}
+use Rattle.watch_machine.specs.{Sending.out_at, code.Bounds.WentOutAtReading}
 use Rattle.watch_machine.proofs.sending.out_with.Given as goal
 
 abbrev pub invariant-loop-request : goal.invariant-loop-request

@@ -1,12 +1,7 @@
 -- Each place's request is made after those before it.
 use Rattle.std.proofs.Common.{◌≡◌, ◌∙◌, ◌<◌, ◌++◌, ◌∷◌, [], Bool, List, ap, arith, get_or, length, map, sym, take}
 use Rattle.std.proofs.lemmas.List.{map_more, take_all}
-use Rattle.watch_machine.specs.declared.command.WatchRequest.{WatchRequest}
-use Rattle.watch_machine.specs.declared.lanes.Presence.{Presence}
-use Rattle.watch_machine.specs.declared.sending.Place.{Place}
-use Rattle.watch_machine.specs.declared.track.Track.{Track}
-use Rattle.watch_machine.specs.Sending.{request_of}
-use Rattle.watch_machine.specs.State.{track_in}
+use Rattle.watch_machine.specs.{declared.command.WatchRequest.WatchRequest, declared.lanes.Presence.Presence, declared.sending.Place.Place, declared.track.Track.Track, Sending.request_of, State.track_in}
 use Rattle.watch_machine.proofs.sending.requests_by.Goals as goal
 
 -- the request of a place, by what was read of it

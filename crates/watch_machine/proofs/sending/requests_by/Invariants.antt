@@ -1,8 +1,6 @@
 -- The requests of the places before the index are made.
 use Rattle.std.proofs.Common.{◌≡◌, map, take}
-use Rattle.watch_machine.specs.declared.sending.Place.{Place}
-use Rattle.watch_machine.specs.Sending.{request_of}
-use Rattle.watch_machine.specs.State.{track_in}
+use Rattle.watch_machine.specs.{declared.sending.Place.Place, Sending.request_of, State.track_in}
 use Rattle.watch_machine.proofs.sending.requests_by.Given as goal
 
 abbrev pub invariant-loop-place : goal.invariant-loop-place

@@ -1,18 +1,12 @@
 -- Each entry whose request goes out is noted after those before it, and in the end all are.
 use Rattle.std.proofs.Common.{◌≡◌, ◌∙◌, ℕ, ◌+◌, ◌<◌, ◌≤◌, List, ap, arith, get_or, length, refl, set, subst, sym}
-use Rattle.std.proofs.lemmas.List.{get_or_default, set_past}
-use Rattle.std.proofs.lemmas.List.Elements.{All-set}
+use Rattle.std.proofs.lemmas.{List.get_or_default, List.set_past, List.Elements.All-set}
 use Rattle.std.specs.List.{All}
-use Rattle.watch_machine.specs.declared.command.Patience.TheVariants.{Full}
-use Rattle.watch_machine.specs.declared.command.WatchRequest.{WatchRequest}
-use Rattle.watch_machine.specs.declared.event.Operation.TheVariants.{Look}
-use Rattle.watch_machine.specs.declared.track.Track.{Track}
-use Rattle.watch_machine.specs.Sending.{sent_track}
-use Rattle.watch_machine.specs.State.{no_track, track_in}
-use Rattle.watch_machine.specs.code.Bounds.{IsTrack}
+use Rattle.watch_machine.specs.{declared.command.Patience.TheVariants.Full, declared.command.WatchRequest.WatchRequest, declared.event.Operation.TheVariants.Look, declared.track.Track.Track, Sending.sent_track}
+use Rattle.watch_machine.specs.{State.no_track, State.track_in, code.Bounds.IsTrack}
+use Rattle.watch_machine.proofs.sending.send_all.Goals.{then-index-tracks, else-index-tracks}
 use Rattle.watch_machine.proofs.Marked.{Marked, marked_all, marked_more, marked_none}
 use Rattle.watch_machine.proofs.sending.send_all.Goals as goal
-use Rattle.watch_machine.proofs.sending.send_all.Goals.{then-index-tracks, else-index-tracks}
 
 -- what is read past the last request
 no_request : WatchRequest

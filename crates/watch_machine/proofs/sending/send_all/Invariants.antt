@@ -1,8 +1,6 @@
 -- Those whose requests are before the index go out.
 use Rattle.std.specs.List.{All}
-use Rattle.watch_machine.specs.declared.command.WatchRequest.{WatchRequest}
-use Rattle.watch_machine.specs.Sending.{sent_track}
-use Rattle.watch_machine.specs.code.Bounds.{IsTrack}
+use Rattle.watch_machine.specs.{declared.command.WatchRequest.WatchRequest, Sending.sent_track, code.Bounds.IsTrack}
 use Rattle.watch_machine.proofs.Marked.{Marked}
 use Rattle.watch_machine.proofs.sending.send_all.Given as goal
 

@@ -1,7 +1,6 @@
 -- The clocks are dated by the answers before the index.
 use Rattle.std.proofs.Common.{◌≡◌, ◌||◌, drop}
-use Rattle.watch_machine.specs.Settling.{dated_by_all, steps}
-use Rattle.watch_machine.specs.code.Bounds.{IsClocks}
+use Rattle.watch_machine.specs.{Settling.dated_by_all, Settling.steps, code.Bounds.IsClocks}
 use Rattle.watch_machine.proofs.settling.dated_by_all.Given as goal
 
 abbrev pub invariant-loop-answer : goal.invariant-loop-answer

@@ -1,7 +1,6 @@
 -- The least time of the tracks before the index is found.
 use Rattle.std.proofs.Common.{◌≡◌, ◌≤◌, map, take}
-use Rattle.watch_machine.specs.Wanted.{least}
-use Rattle.watch_machine.specs.Settling.{held_by}
+use Rattle.watch_machine.specs.{Wanted.least, Settling.held_by}
 use Rattle.watch_machine.proofs.settling.held.Given as goal
 
 abbrev pub invariant-loop-track : goal.invariant-loop-track

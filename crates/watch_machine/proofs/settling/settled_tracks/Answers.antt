@@ -1,13 +1,8 @@
 -- Each track is settled after those before it.
 use Rattle.std.proofs.Common.{◌∙◌, ◌++◌, ◌∷◌, [], ap, arith, map, slice_index_or, subst, sym}
-use Rattle.std.proofs.lemmas.List.{get_or_default}
-use Rattle.std.proofs.lemmas.List.Elements.{All-push}
-use Rattle.std.proofs.lemmas.List.FromFn.{map-range_with_len_more}
+use Rattle.std.proofs.lemmas.{List.get_or_default, List.Elements.All-push, List.FromFn.map-range_with_len_more}
 use Rattle.std.specs.List.{All, range_with_len}
-use Rattle.watch_machine.specs.State.{no_track}
-use Rattle.watch_machine.specs.code.Bounds.{IsTrack}
-use Rattle.watch_machine.specs.Settling.{settled_track}
-use Rattle.watch_machine.specs.State.{each}
+use Rattle.watch_machine.specs.{State.no_track, State.each, code.Bounds.IsTrack, Settling.settled_track}
 use Rattle.watch_machine.proofs.settling.settled_tracks.Goals as goal
 
 pub loop-track-preserved : goal.loop-track-preserved

@@ -1,9 +1,7 @@
 -- The tracks before the index are settled.
 use Rattle.std.proofs.Common.{◌≡◌, map, slice_index_or}
 use Rattle.std.specs.List.{All, range_with_len}
-use Rattle.watch_machine.specs.Settling.{settled_track}
-use Rattle.watch_machine.specs.State.{no_track}
-use Rattle.watch_machine.specs.code.Bounds.{IsTrack}
+use Rattle.watch_machine.specs.{Settling.settled_track, State.no_track, code.Bounds.IsTrack}
 use Rattle.watch_machine.proofs.settling.settled_tracks.Given as goal
 
 abbrev pub invariant-loop-track : goal.invariant-loop-track

@@ -1,17 +1,9 @@
 -- Each moment is compared with the least one before it; in the end that is the wait.
 use Rattle.std.proofs.Common.{◌≡◌, ◌∙◌, ℕ, ap, arith, length, map, min, sym}
-use Rattle.std.proofs.lemmas.List.{get_or_default}
-use Rattle.std.proofs.lemmas.List.FromFn.{map-range_with_len_more}
-use Rattle.std.proofs.lemmas.List.Sums.{fold_push}
+use Rattle.std.proofs.lemmas.{List.get_or_default, List.FromFn.map-range_with_len_more, List.Sums.fold_push}
 use Rattle.std.specs.List.{range_with_len}
-use Rattle.plan_forest.specs.declared.entry.Entry.{Entry}
-use Rattle.plan_forest.specs.Forest.{entry_at}
-use Rattle.watch_machine.specs.declared.lanes.Presence.{Presence}
-use Rattle.watch_machine.specs.declared.track.Track.{Track}
-use Rattle.watch_machine.specs.State.{no_track, track_in}
-use Rattle.watch_machine.specs.Wait.{latest, next_of}
-use Rattle.watch_machine.specs.Wanted.{least}
-use Rattle.watch_machine.specs.code.View.{need_at}
+use Rattle.plan_forest.specs.{declared.entry.Entry.Entry, Forest.entry_at}
+use Rattle.watch_machine.specs.{declared.lanes.Presence.Presence, declared.track.Track.Track, State.no_track, State.track_in, Wait.latest, Wait.next_of, Wanted.least, code.View.need_at}
 use Rattle.watch_machine.proofs.waiting.wait.Goals as goal
 
 -- the moment of an entry, by what was read of it

@@ -2,10 +2,7 @@
 use Rattle.std.proofs.Common.{◌≡◌, map}
 use Rattle.std.specs.List.{range_with_len}
 use Rattle.plan_forest.specs.Forest.{entry_at}
-use Rattle.watch_machine.specs.State.{track_in}
-use Rattle.watch_machine.specs.Wait.{latest, next_of}
-use Rattle.watch_machine.specs.Wanted.{least}
-use Rattle.watch_machine.specs.code.View.{need_at}
+use Rattle.watch_machine.specs.{State.track_in, Wait.latest, Wait.next_of, Wanted.least, code.View.need_at}
 use Rattle.watch_machine.proofs.waiting.wait.Given as goal
 
 abbrev pub invariant-loop-index : goal.invariant-loop-index

@@ -3,8 +3,7 @@ use Rattle.std.proofs.Common.{◌≡◌, ◌∙◌, arith, None, Some, if◌then
 use Rattle.std.proofs.lemmas.List.{get_or_default}
 use Rattle.plan_forest.specs.Forest.{entry_at}
 use Rattle.plan_forest.proofs.Placed.{parents_first}
-use Rattle.watch_machine.specs.State.{no_track}
-use Rattle.watch_machine.specs.Wanted.{believed, is_fixed}
+use Rattle.watch_machine.specs.{State.no_track, Wanted.believed, Wanted.is_fixed}
 use Rattle.watch_machine.proofs.View.{limit_child, limit_root}
 use Rattle.watch_machine.proofs.wanted.+limit.Goals as goal
 

@@ -1,11 +1,9 @@
 -- Each need is written as it is on this clock, after those before it.
 use Rattle.std.proofs.Common.{◌∙◌, ◌<◌, length, refl, ap, arith}
-use Rattle.plan_forest.specs.declared.entry.Entry.{Entry}
-use Rattle.plan_forest.specs.Forest.{Forest, entry_at}
+use Rattle.plan_forest.specs.{declared.entry.Entry.Entry, Forest.Forest, Forest.entry_at}
 use Rattle.plan_forest.proofs.Placed.{read_range}
 use Rattle.watch_machine.specs.Wanted.{need_here}
-use Rattle.watch_machine.proofs.Needed.{need_written}
-use Rattle.watch_machine.proofs.View.{view_set}
+use Rattle.watch_machine.proofs.{Needed.need_written, View.view_set}
 use Rattle.watch_machine.proofs.wanted.write_free.Goals as goal
 
 pub need_here-need-requires-clause-need : goal.need_here-need-requires-clause-need

@@ -1,12 +1,9 @@
 -- An entry is written as it is seen, within its bounds.
 use Rattle.std.proofs.Common.{◌≡◌, ◌∙◌, ◌<◌, false, get_or, length, min, set, refl, ap, arith}
 use Rattle.std.proofs.lemmas.List.{get_or_default}
-use Rattle.plan_forest.specs.declared.entry.Entry.{Entry}
-use Rattle.plan_forest.specs.declared.forest.TheConstants.{END_MAX}
-use Rattle.plan_forest.specs.Forest.{Forest}
+use Rattle.plan_forest.specs.{declared.entry.Entry.Entry, declared.forest.TheConstants.END_MAX, Forest.Forest}
 use Rattle.plan_forest.proofs.Placed.{read_range, read_step}
-use Rattle.watch_machine.specs.declared.track.Track.{Track}
-use Rattle.watch_machine.specs.State.{no_track}
+use Rattle.watch_machine.specs.{declared.track.Track.Track, State.no_track}
 use Rattle.watch_machine.specs.Wanted.{believed, least_over, need_here}
 use Rattle.watch_machine.proofs.View.{believed_within, ceiling_low, seen_is, set_again, view_set}
 use Rattle.watch_machine.proofs.wanted.write_seen.Goals as goal

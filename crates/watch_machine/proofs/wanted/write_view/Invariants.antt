@@ -1,8 +1,7 @@
 -- The entries before the index are written as they are seen.
 use Rattle.std.proofs.Common.{◌≡◌, ◌<◌, ℕ}
 use Rattle.plan_forest.specs.Forest.{entry_at}
-use Rattle.watch_machine.specs.Wanted.{seen_entry}
-use Rattle.watch_machine.specs.code.View.{IsView}
+use Rattle.watch_machine.specs.{Wanted.seen_entry, code.View.IsView}
 use Rattle.watch_machine.proofs.wanted.write_view.Given as goal
 
 -- those so far are written as they are seen

@@ -1,11 +1,9 @@
 -- Each track is made after those before it.
 use Rattle.std.proofs.Common.{◌∙◌, ◌<◌, ◌++◌, ◌∷◌, [], ap, arith, length, map, subst, sym, take}
-use Rattle.std.proofs.lemmas.List.{map_more, take_all}
-use Rattle.std.proofs.lemmas.List.Elements.{All-push}
+use Rattle.std.proofs.lemmas.{List.map_more, List.take_all, List.Elements.All-push}
 use Rattle.std.specs.List.{All}
 use Rattle.plan_forest.specs.Forest.{entry_at, no_entry}
-use Rattle.watch_machine.specs.State.{fresh_track}
-use Rattle.watch_machine.specs.code.Bounds.{IsTrack}
+use Rattle.watch_machine.specs.{State.fresh_track, code.Bounds.IsTrack}
 use Rattle.watch_machine.proofs.watch.fresh_tracks.Goals as goal
 
 pub loop-index-preserved : goal.loop-index-preserved

@@ -1,8 +1,7 @@
 -- The tracks of the entries before the index are made.
 use Rattle.std.proofs.Common.{◌≡◌, map, take}
 use Rattle.std.specs.List.{All}
-use Rattle.watch_machine.specs.State.{fresh_track}
-use Rattle.watch_machine.specs.code.Bounds.{IsTrack}
+use Rattle.watch_machine.specs.{State.fresh_track, code.Bounds.IsTrack}
 use Rattle.watch_machine.proofs.watch.fresh_tracks.Given as goal
 
 abbrev pub invariant-loop-index : goal.invariant-loop-index

@@ -1,5 +1,5 @@
 -- It goes on by what it calls, one after another.
-use Rattle.std.proofs.Common.{◌≡◌, ◌∙◌, Bool, true, false, ap, sym}
+use Rattle.std.proofs.Common.{◌∙◌, true, false, ap, sym}
 use Rattle.std.specs.Prelude.{◌||◌}
 use Rattle.agent_house.proofs.house.HouseNeighbours.go_on.Goals as goal
 

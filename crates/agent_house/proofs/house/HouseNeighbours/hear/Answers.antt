@@ -1,15 +1,12 @@
 -- It says what it hears of.
-use Rattle.std.proofs.Common.{◌≡◌, ◌⊎◌, ℕ, inl, inr, ap, refl, subst, sym}
+use Rattle.std.proofs.Common.{◌≡◌, ℕ, inl, inr, ap, refl, subst, sym}
 use Rattle.std.specs.Prelude.{option_map}
 use Rattle.agent_standing.specs.Agent.{Agent}
 use Rattle.vault_asking.specs.declared.told.Said.{Said}
 use Rattle.agent_turns.specs.Neighbours.{thing_of}
-use Rattle.watch_machine.specs.declared.event.Operation.{Operation}
-use Rattle.watch_machine.specs.declared.notes.Notes.{Notes}
+use Rattle.watch_machine.specs.{declared.event.Operation.Operation, declared.notes.Notes.Notes}
 use Rattle.agent_log.specs.LogDesk.{Desk, HearsAnswer}
-use Rattle.agent_house.specs.Doing.{HearsOf}
-use Rattle.agent_house.specs.Ends.{HearsEnd, after_answer}
-use Rattle.agent_house.specs.declared.house.House.{House}
+use Rattle.agent_house.specs.{Doing.HearsOf, Ends.HearsEnd, Ends.after_answer, declared.house.House.House}
 use Rattle.agent_house.proofs.house.HouseNeighbours.hear.Goals as goal
 
 pub returns-in-Clocked-clause-does : goal.returns-in-Clocked-clause-does

@@ -1,10 +1,7 @@
 -- What is served is heard of first, where that was made; then the change is settled.
 use Rattle.std.proofs.Common.{◌≡◌, ◌∙◌, Bool, true, false, ap, refl, subst, sym}
 use Rattle.std.specs.Prelude.{◌&&◌}
-use Rattle.agent_house.specs.Commands.{is_served}
-use Rattle.agent_house.specs.Doing.{HearsServedIf}
-use Rattle.agent_house.specs.Ends.{HearsServed}
-use Rattle.agent_house.specs.declared.house.House.{House}
+use Rattle.agent_house.specs.{Commands.is_served, Doing.HearsServedIf, Ends.HearsServed, declared.house.House.House}
 use Rattle.agent_house.proofs.house.HouseNeighbours.settle.Goals as goal
 use Rattle.agent_house.proofs.house.HouseNeighbours.settle.Goals.{then-is_made+then-is_served, else-is_made, else-is_made-via-then-is_made+else-is_served, else-is_made-via-else-is_made}
 

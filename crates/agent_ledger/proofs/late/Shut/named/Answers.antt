@@ -1,6 +1,5 @@
-use Rattle.std.proofs.Common.{◌≡◌, None, Option, List, ap, sym}
-use Rattle.state_changes.specs.Rows.{named}
-use Rattle.state_changes.specs.declared.row.Row.{Row}
+use Rattle.std.proofs.Common.{None, Option, List, ap, sym}
+use Rattle.state_changes.specs.{Rows.named, declared.row.Row.Row}
 use Rattle.agent_ledger.specs.Lates.{shut_rows}
 use Rattle.agent_ledger.proofs.late.Shut.named.Goals as goal
 

@@ -1,10 +1,8 @@
 -- The entry still names the file, and what that holds is taken or refused by the verdict.
 use Rattle.std.proofs.Common.{◌≡◌, ◌∙◌, ℕ, List, Result, true, ap, inr, subst, sym}
 use Rattle.vault_asking.specs.Sending.{lanes_of}
-use Rattle.state_changes.specs.Rows.{named}
-use Rattle.state_changes.specs.declared.row.Row.{Row}
-use Rattle.state_secrets.specs.Outcomes.{names_file}
-use Rattle.state_secrets.specs.declared.looking.SecretTrouble.{SecretTrouble}
+use Rattle.state_changes.specs.{Rows.named, declared.row.Row.Row}
+use Rattle.state_secrets.specs.{Outcomes.names_file, declared.looking.SecretTrouble.SecretTrouble}
 use Rattle.state_keeping.specs.States.{book_in}
 use Rattle.agent_ledger.specs.Takings.{TakesBeside}
 use Rattle.agent_ledger.proofs.ledger.Ledger.judge_file.Goals as goal

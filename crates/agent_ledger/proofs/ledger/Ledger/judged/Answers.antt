@@ -1,7 +1,6 @@
 -- What was read may not be served.
 use Rattle.std.proofs.Common.{Option, subst, sym}
-use Rattle.agent_words.specs.Outcomes.{Whys}
-use Rattle.agent_words.specs.Noting.{SaysFaults, SaysIfFaulty}
+use Rattle.agent_words.specs.{Outcomes.Whys, Noting.SaysFaults, Noting.SaysIfFaulty}
 use Rattle.agent_ledger.specs.Rereading.{AreBytesOf, IsWhyNotReread}
 use Rattle.agent_ledger.proofs.WhyUnserved.{unserved_why}
 use Rattle.agent_ledger.proofs.ledger.Ledger.judged.Goals as goal

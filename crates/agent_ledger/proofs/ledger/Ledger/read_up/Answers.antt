@@ -1,5 +1,5 @@
 -- What was read is looked up.
-use Rattle.std.proofs.Common.{◌≡◌, List, ℕ, Ok, ap, subst, sym}
+use Rattle.std.proofs.Common.{Ok, subst}
 use Rattle.state_secrets.specs.Outcomes.{ReadsFile}
 use Rattle.agent_ledger.proofs.ledger.Ledger.read_up.Goals as goal
 

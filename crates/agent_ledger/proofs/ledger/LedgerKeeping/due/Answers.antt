@@ -1,7 +1,6 @@
 -- What is served is the inventory that is due, with the margin that is demanded.
 use Rattle.std.proofs.Common.{subst}
-use Rattle.state_keeping.specs.States.{book_in}
-use Rattle.state_keeping.specs.Keepers.{InventoryIsGiven, waiting_in}
+use Rattle.state_keeping.specs.{States.book_in, Keepers.InventoryIsGiven, Keepers.waiting_in}
 use Rattle.agent_words.specs.Reading.{IsWide}
 use Rattle.agent_ledger.proofs.ledger.LedgerKeeping.due.Goals as goal
 

@@ -1,12 +1,9 @@
 -- One standing more is carried over.
 use Rattle.std.proofs.Common.{◌≡◌, ◌∙◌, ◌++◌, ◌∷◌, [], ℕ, ap, arith, length, map, subst, sym}
-use Rattle.std.proofs.lemmas.List.Elements.{All-push}
-use Rattle.std.proofs.lemmas.List.FromFn.{map-range_with_len_more}
+use Rattle.std.proofs.lemmas.{List.Elements.All-push, List.FromFn.map-range_with_len_more}
 use Rattle.std.specs.List.{All, range_with_len}
 use Rattle.plan_forest.specs.Forest.{Forest}
-use Rattle.agent_standing.specs.declared.standing.EntryStanding.{EntryStanding}
-use Rattle.agent_standing.specs.Agent.{IsStanding}
-use Rattle.agent_standing.specs.Changed.{carried_standing}
+use Rattle.agent_standing.specs.{declared.standing.EntryStanding.EntryStanding, Agent.IsStanding, Changed.carried_standing}
 use Rattle.agent_standing.proofs.agent.Agent.carried.Goals as goal
 
 pub loop-index-preserved : goal.loop-index-preserved

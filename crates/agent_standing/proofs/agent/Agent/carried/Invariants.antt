@@ -1,8 +1,7 @@
 -- The standings of the entries before the index are carried over.
 use Rattle.std.proofs.Common.{◌≡◌, map}
 use Rattle.std.specs.List.{All, range_with_len}
-use Rattle.agent_standing.specs.Agent.{IsStanding}
-use Rattle.agent_standing.specs.Changed.{carried_standing}
+use Rattle.agent_standing.specs.{Agent.IsStanding, Changed.carried_standing}
 use Rattle.agent_standing.proofs.agent.Agent.carried.Given as goal
 
 abbrev pub invariant-loop-index : goal.invariant-loop-index

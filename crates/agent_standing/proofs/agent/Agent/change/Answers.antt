@@ -1,13 +1,9 @@
 -- The Watch goes on over the forest of what is served from then on, and what is said of its entries follows.
 use Rattle.std.proofs.Common.{◌≡◌, ◌∙◌, ap, length, map, refl, subst, sym}
 use Rattle.std.specs.List.{range_with_len}
-use Rattle.watch_machine.specs.Change.{IsChange, changed}
-use Rattle.watch_machine.specs.History.{IsChanged}
-use Rattle.watch_machine.specs.State.{WatchState}
-use Rattle.agent_standing.specs.Agent.{Agent, IsAgent}
-use Rattle.agent_standing.specs.Changed.{all_was, carried_standing}
-use Rattle.agent_standing.proofs.Onward.{changed_is_agent}
-use Rattle.agent_standing.proofs.WasOf.{all_was_is_change}
+use Rattle.watch_machine.specs.{Change.IsChange, Change.changed, History.IsChanged, State.WatchState}
+use Rattle.agent_standing.specs.{Agent.Agent, Agent.IsAgent, Changed.all_was, Changed.carried_standing}
+use Rattle.agent_standing.proofs.{Onward.changed_is_agent, WasOf.all_was_is_change}
 use Rattle.agent_standing.proofs.agent.Agent.change.Goals as goal
 
 pub change-requires : goal.change-requires

@@ -2,9 +2,7 @@
 use Rattle.std.proofs.Common.{◌≡◌, ◌∙◌, List, ap, length, replicate, subst, sym}
 use Rattle.plan_forest.specs.Forest.{Forest}
 use Rattle.watch_machine.specs.State.{WatchState, opened}
-use Rattle.agent_standing.specs.declared.standing.EntryStanding.{EntryStanding}
-use Rattle.agent_standing.specs.Agent.{IsAgent}
-use Rattle.agent_standing.specs.Standings.{fresh_standing}
+use Rattle.agent_standing.specs.{declared.standing.EntryStanding.EntryStanding, Agent.IsAgent, Standings.fresh_standing}
 use Rattle.agent_standing.proofs.Fresh.{fresh_is_agent}
 use Rattle.agent_standing.proofs.agent.Agent.new.Goals as goal
 

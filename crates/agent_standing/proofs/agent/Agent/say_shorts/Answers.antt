@@ -2,9 +2,8 @@
 use Rattle.std.proofs.Common.{◌≡◌, ◌∙◌, List, ap, subst, sym}
 use Rattle.std.specs.List.{All}
 use Rattle.watch_machine.proofs.Rewritten.{once}
-use Rattle.agent_standing.specs.declared.standing.EntryStanding.{EntryStanding}
+use Rattle.agent_standing.specs.{declared.standing.EntryStanding.EntryStanding, Shorts.said_standings}
 use Rattle.agent_standing.specs.Agent.{Agent, IsAgent, IsStanding}
-use Rattle.agent_standing.specs.Shorts.{said_standings}
 use Rattle.agent_standing.proofs.Saying.{said_is_agent}
 use Rattle.agent_standing.proofs.agent.Agent.say_shorts.Goals as goal
 

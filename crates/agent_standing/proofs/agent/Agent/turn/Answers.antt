@@ -1,11 +1,8 @@
 -- Once the Watch has taken the event, the rest of the agent follows it.
 use Rattle.std.proofs.Common.{◌∙◌, List, ap, length, subst, sym}
 use Rattle.watch_machine.proofs.Rewritten.{once}
-use Rattle.agent_standing.specs.declared.standing.EntryStanding.{EntryStanding}
-use Rattle.agent_standing.specs.Agent.{Agent, IsAgent}
-use Rattle.agent_standing.specs.Standings.{standings_after}
-use Rattle.agent_standing.proofs.Left.{left_turn}
-use Rattle.agent_standing.proofs.Turned.{turned_is_agent}
+use Rattle.agent_standing.specs.{declared.standing.EntryStanding.EntryStanding, Agent.Agent, Agent.IsAgent, Standings.standings_after}
+use Rattle.agent_standing.proofs.{Left.left_turn, Turned.turned_is_agent}
 use Rattle.agent_standing.proofs.agent.Agent.turn.Goals as goal
 
 pub stand-requires-clause-count : goal.stand-requires-clause-count

@@ -1,8 +1,7 @@
 -- Once the time is handed in, what is commanded goes out.
 use Rattle.std.proofs.Common.{true, false, is_ok, refl}
 use Rattle.vault_asking.specs.Sending.{Lanes, lanes_of}
-use Rattle.agent_turns.specs.Calls.{calls_of_reading, calls_of_readings}
-use Rattle.agent_turns.specs.Held.{serving_side}
+use Rattle.agent_turns.specs.{Calls.calls_of_reading, Calls.calls_of_readings, Held.serving_side}
 use Rattle.agent_turns.specs.Stages.{OnHeld, SendsRequests, TakesReadings, nothing}
 use Rattle.agent_turns.proofs.InStep.{in_step_read}
 use Rattle.agent_turns.proofs.Called.{both_with, first_with, held_with, not_ok}

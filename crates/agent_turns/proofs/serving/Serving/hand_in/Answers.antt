@@ -1,8 +1,8 @@
 -- Once what was left over is sent, what comes after follows.
 use Rattle.std.proofs.Common.{is_ok, refl, subst, sym}
 use Rattle.vault_asking.specs.Sending.{Lanes, lanes_of}
-use Rattle.agent_turns.specs.Calls.{InStage, calls_of_answering, calls_of_reading}
 use Rattle.agent_turns.specs.Held.{IsInStep, serving_side}
+use Rattle.agent_turns.specs.Calls.{InStage, calls_of_answering, calls_of_reading}
 use Rattle.agent_turns.specs.Stages.{OnHeld, SendsRequests, TakesAnswers, TakesUp, Then, nothing, of_left}
 use Rattle.agent_turns.proofs.InStep.{in_step_gone}
 use Rattle.agent_turns.proofs.Called.{both_with, first_with, not_ok}

@@ -1,8 +1,8 @@
 -- Once the answers are handed in, what comes after follows.
 use Rattle.std.proofs.Common.{true, false, is_ok}
 use Rattle.vault_asking.specs.Sending.{Lanes, lanes_of}
-use Rattle.agent_turns.specs.Calls.{calls_of_answering, calls_of_reading, calls_of_taking}
 use Rattle.agent_turns.specs.Held.{serving_side}
+use Rattle.agent_turns.specs.Calls.{calls_of_answering, calls_of_reading, calls_of_taking}
 use Rattle.agent_turns.specs.Stages.{Commands, OnHeld, TakesAnswers, of_commands}
 use Rattle.agent_turns.proofs.InStep.{in_step_taken}
 use Rattle.agent_turns.proofs.Called.{both_with, first_with, held_with, not_ok}

@@ -1,10 +1,7 @@
 -- A change is made, or there was none.
 use Rattle.std.proofs.Common.{◌∷◌, List, Option, Some, None, [], ap, refl, subst, sym}
 use Rattle.agent_standing.specs.Agent.{Agent}
-use Rattle.agent_turns.specs.Changes.{AllGiven}
-use Rattle.agent_turns.specs.Held.{Held}
-use Rattle.agent_turns.specs.Neighbours.{Give, Settle}
-use Rattle.agent_turns.specs.declared.change.AgentChange.{AgentChange}
+use Rattle.agent_turns.specs.{Changes.AllGiven, Held.Held, Neighbours.Give, Neighbours.Settle, declared.change.AgentChange.AgentChange}
 use Rattle.agent_turns.proofs.Called.{called_once, called_twice}
 use Rattle.agent_turns.proofs.serving.Serving.make_change.Goals as goal
 

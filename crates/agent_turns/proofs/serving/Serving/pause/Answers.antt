@@ -1,13 +1,10 @@
 -- A pause, or the end of the wait.
-use Rattle.std.proofs.Common.{◌≡◌, ◌∙◌, ◌||◌, not, List, [], None, Option, Some, ap, subst, sym, arith}
+use Rattle.std.proofs.Common.{◌∙◌, ◌||◌, not, List, [], None, Option, Some, ap, subst, sym}
 use Rattle.agent_standing.specs.Agent.{Agent}
 use Rattle.vault_asking.specs.Sending.{Lanes, lanes_of}
 use Rattle.base_clock.specs.declared.reading.Reading.{Reading}
-use Rattle.agent_turns.specs.Changes.{AllGiven}
+use Rattle.agent_turns.specs.{Changes.AllGiven, Neighbours.Give, Neighbours.GoOn, code.Pauses.IsEnded, code.Pauses.IsPausedApart, declared.change.AgentChange.AgentChange}
 use Rattle.agent_turns.specs.Held.{Held, ServingSide, serving_side}
-use Rattle.agent_turns.specs.Neighbours.{Give, GoOn}
-use Rattle.agent_turns.specs.code.Pauses.{IsEnded, IsPausedApart}
-use Rattle.agent_turns.specs.declared.change.AgentChange.{AgentChange}
 use Rattle.agent_turns.proofs.Waited.{ended_changed, ended_over, given_once, paused_with, paused_without}
 use Rattle.agent_turns.proofs.serving.Serving.pause.Goals as goal
 

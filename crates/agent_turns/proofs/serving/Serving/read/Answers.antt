@@ -1,12 +1,8 @@
 -- The time was handed in: what is commanded is to be sent, and what is short was said.
 use Rattle.std.proofs.Common.{◌∙◌, IfSome, List, Ok, ap, subst, sym}
-use Rattle.agent_standing.specs.Agent.{Agent}
-use Rattle.agent_standing.specs.Turns.{AgentTurn}
-use Rattle.watch_machine.specs.declared.command.WatchRequest.{WatchRequest}
-use Rattle.watch_machine.specs.declared.event.WatchEvent.TheVariants.{Clock}
-use Rattle.agent_turns.specs.Held.{Held}
-use Rattle.agent_turns.specs.Neighbours.{Hear, Time}
-use Rattle.agent_turns.specs.Outlook.{IsOutlook}
+use Rattle.agent_standing.specs.{Agent.Agent, Turns.AgentTurn}
+use Rattle.watch_machine.specs.{declared.command.WatchRequest.WatchRequest, declared.event.WatchEvent.TheVariants.Clock}
+use Rattle.agent_turns.specs.{Held.Held, Neighbours.Hear, Neighbours.Time, Outlook.IsOutlook}
 use Rattle.agent_turns.proofs.Read.{read_whole, ready_is}
 use Rattle.agent_turns.proofs.serving.Serving.read.Goals as goal
 

@@ -2,13 +2,9 @@
 use Rattle.std.proofs.Common.{◌∙◌, ◌++◌, ◌∷◌, [], refl, subst}
 use Rattle.vault_asking.specs.Sending.{Lanes, lanes_of}
 use Rattle.base_clock.proofs.Joined.{none_law}
-use Rattle.agent_turns.specs.Calls.{calls_in}
-use Rattle.agent_turns.specs.Held.{serving_side}
-use Rattle.agent_turns.specs.Neighbours.{WithCalls}
-use Rattle.agent_turns.specs.Turns.{IsServingTurn}
-use Rattle.agent_turns.proofs.Called.{turns_on}
+use Rattle.agent_turns.specs.{Calls.calls_in, Held.serving_side, Neighbours.WithCalls, Turns.IsServingTurn}
+use Rattle.agent_turns.proofs.{Called.turns_on, Turned.given_none}
 use Rattle.agent_turns.proofs.Run.{calls_on, changes_run, one_more}
-use Rattle.agent_turns.proofs.Turned.{given_none}
 use Rattle.agent_turns.proofs.serving.Serving.run.Goals as goal
 
 pub loop-init : goal.loop-init

@@ -2,12 +2,8 @@
 use Rattle.std.proofs.Common.{◌≡◌, List, length}
 use Rattle.vault_asking.specs.Sending.{lanes_of}
 use Rattle.base_clock.specs.Seen.{AllMade}
-use Rattle.agent_turns.specs.Changes.{AllGiven}
-use Rattle.agent_turns.specs.Held.{IsInStep, serving_side}
-use Rattle.agent_turns.specs.Calls.{calls_of}
-use Rattle.agent_turns.specs.Neighbours.{WithCalls}
+use Rattle.agent_turns.specs.{Changes.AllGiven, Held.IsInStep, Held.serving_side, Calls.calls_of, Neighbours.WithCalls, Turns.ServingTurn}
 use Rattle.agent_turns.specs.Runs.{AreTurns, all_calls, all_changes}
-use Rattle.agent_turns.specs.Turns.{ServingTurn}
 use Rattle.agent_turns.proofs.serving.Serving.run.Given as goal
 
 abbrev pub invariant-loop : goal.invariant-loop

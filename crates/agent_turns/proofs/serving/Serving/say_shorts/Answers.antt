@@ -1,13 +1,9 @@
 -- What is short was said, or memory was wanting for that.
 use Rattle.std.proofs.Common.{◌∙◌, ap, subst, sym}
 use Rattle.agent_standing.specs.Shorts.{all_said, shorts_of}
-use Rattle.agent_turns.specs.Calls.{needs_of}
-use Rattle.agent_turns.specs.Held.{Held}
-use Rattle.agent_turns.specs.Neighbours.{Hear}
-use Rattle.agent_turns.specs.Stages.{ShortsAreSaid}
-use Rattle.agent_turns.proofs.Read.{said_not, said_so}
+use Rattle.agent_turns.specs.{Calls.needs_of, Held.Held, Neighbours.Hear, Stages.ShortsAreSaid}
+use Rattle.agent_turns.proofs.{Read.said_not, Read.said_so, serving.Serving.say_shorts.Goals.in-Ok, serving.Serving.say_shorts.Goals.in-Err}
 use Rattle.agent_turns.proofs.serving.Serving.say_shorts.Goals as goal
-use Rattle.agent_turns.proofs.serving.Serving.say_shorts.Goals.{in-Ok, in-Err}
 
 pub returns-clause-said : goal.returns-clause-said
 returns-clause-said g c =

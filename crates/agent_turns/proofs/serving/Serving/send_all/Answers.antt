@@ -1,10 +1,8 @@
 -- One request more goes out.
 use Rattle.std.proofs.Common.{◌∙◌, ap, arith, length, subst, sym}
 use Rattle.vault_asking.specs.Sending.{Lanes, lanes_of}
-use Rattle.agent_turns.specs.Held.{IsInStep, serving_side}
-use Rattle.agent_turns.specs.code.Firsts.{GoesFirst}
-use Rattle.agent_turns.proofs.InStep.{in_step_gone}
-use Rattle.agent_turns.proofs.Sent.{gone_on}
+use Rattle.agent_turns.specs.{Held.IsInStep, Held.serving_side, code.Firsts.GoesFirst}
+use Rattle.agent_turns.proofs.{InStep.in_step_gone, Sent.gone_on}
 use Rattle.agent_turns.proofs.serving.Serving.send_all.Goals as goal
 
 pub send_first-requires-clause-in_step : goal.send_first-requires-clause-in_step

@@ -1,8 +1,7 @@
 -- The requests so far have gone out.
 use Rattle.std.proofs.Common.{◌≡◌, ◌+◌, length}
 use Rattle.vault_asking.specs.Sending.{lanes_of}
-use Rattle.agent_turns.specs.Held.{serving_side}
-use Rattle.agent_turns.specs.Stages.{HaveGone}
+use Rattle.agent_turns.specs.{Held.serving_side, Stages.HaveGone}
 use Rattle.agent_turns.proofs.serving.Serving.send_all.Given as goal
 
 abbrev pub invariant-loop : goal.invariant-loop

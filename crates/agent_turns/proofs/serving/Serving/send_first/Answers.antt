@@ -2,8 +2,7 @@
 use Rattle.std.proofs.Common.{◌≡◌, length, ap, arith, slice_index_or}
 use Rattle.vault_asking.specs.Sending.{lanes_of}
 use Rattle.agent_turns.specs.Held.{Held}
-use Rattle.agent_turns.proofs.InStep.{first_within}
-use Rattle.agent_turns.proofs.Sent.{kept_back, on_err}
+use Rattle.agent_turns.proofs.{InStep.first_within, Sent.kept_back, Sent.on_err}
 use Rattle.agent_turns.proofs.serving.Serving.send_first.Goals as goal
 
 pub ask_for-requires-clause-within : goal.ask_for-requires-clause-within

@@ -1,12 +1,9 @@
 -- What is out has room in the second list, too, and another inventory is served.
 use Rattle.std.proofs.Common.{◌≡◌, ◌∙◌, List, Option, ap, ap₂, arith, length, map, sym}
-use Rattle.vault_asking.specs.InStep.{entries_out}
-use Rattle.vault_asking.specs.Sending.{Lanes, lanes_of}
+use Rattle.vault_asking.specs.{InStep.entries_out, Sending.Lanes, Sending.lanes_of}
 use Rattle.vault_lanes.specs.Out as lanes
-use Rattle.vault_lanes.specs.Out.{renamed}
-use Rattle.vault_lanes.specs.Serving.{BehindLanes}
-use Rattle.watch_machine.specs.declared.lanes.Out.{Out}
-use Rattle.watch_machine.specs.State.{WatchState}
+use Rattle.vault_lanes.specs.{Out.renamed, Serving.BehindLanes}
+use Rattle.watch_machine.specs.{declared.lanes.Out.Out, State.WatchState}
 use Rattle.agent_turns.specs.Held.{Held}
 use Rattle.agent_turns.proofs.Changed.{another_served, as_many_out, both_none}
 use Rattle.agent_turns.proofs.serving.Serving.serve_another.Goals as goal

@@ -1,8 +1,7 @@
 -- One answer more is handed in; and then none is left, or memory was wanting for one.
 use Rattle.std.proofs.Common.{◌∙◌, ap, arith, is_ok, length, refl}
 use Rattle.agent_turns.specs.Held.{Held}
-use Rattle.agent_turns.proofs.Called.{not_ok}
-use Rattle.agent_turns.proofs.InStep.{in_step_taken}
+use Rattle.agent_turns.proofs.{Called.not_ok, InStep.in_step_taken}
 use Rattle.agent_turns.proofs.Taken.{none_left, none_taken, some_left, taken_on}
 use Rattle.agent_turns.proofs.serving.Serving.take_all.Goals as goal
 

@@ -1,8 +1,6 @@
 -- The answers so far were handed in, and heard of.
 use Rattle.std.proofs.Common.{◌≡◌, ◌+◌, length}
-use Rattle.agent_turns.specs.Calls.{calls_of_taken}
-use Rattle.agent_turns.specs.Neighbours.{WithCalls}
-use Rattle.agent_turns.specs.Stages.{HaveTaken}
+use Rattle.agent_turns.specs.{Calls.calls_of_taken, Neighbours.WithCalls, Stages.HaveTaken}
 use Rattle.agent_turns.proofs.serving.Serving.take_all.Given as goal
 
 abbrev pub invariant-loop : goal.invariant-loop

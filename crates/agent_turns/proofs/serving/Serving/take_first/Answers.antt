@@ -1,15 +1,11 @@
 -- The first answer that waits is to a request that is out, and the neighbours hear of it.
 use Rattle.std.proofs.Common.{◌≡◌, ◌≢◌, ◌∷◌, None, Ok, Some, ap, rules, slice_index_or, subst, sym}
 use Rattle.agent_standing.specs.Turns.{AgentTurn}
-use Rattle.vault_asking.specs.Handing.{out_of}
-use Rattle.vault_asking.specs.Told.{event_as, said_to}
-use Rattle.vault_asking.specs.declared.told.Said.{Said}
+use Rattle.vault_asking.specs.{Handing.out_of, Told.event_as, Told.said_to, declared.told.Said.Said}
 use Rattle.vault_lanes.specs.declared.lanes.Answered.{Answered}
-use Rattle.watch_machine.specs.declared.command.WatchOutput.{WatchOutput}
-use Rattle.watch_machine.specs.declared.lanes.Out.{Out}
+use Rattle.watch_machine.specs.{declared.command.WatchOutput.WatchOutput, declared.lanes.Out.Out}
 use Rattle.agent_turns.specs.Held.{Held}
-use Rattle.agent_turns.proofs.InStep.{first_out}
-use Rattle.agent_turns.proofs.Taken.{first_heard}
+use Rattle.agent_turns.proofs.{InStep.first_out, Taken.first_heard}
 use Rattle.agent_turns.proofs.serving.Serving.take_first.Goals as goal
 
 pub request_of-request-requires : goal.request_of-request-requires

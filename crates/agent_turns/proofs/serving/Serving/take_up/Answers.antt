@@ -1,8 +1,8 @@
 -- Once the answers came off their lanes, what comes after follows.
 use Rattle.std.proofs.Common.{is_ok, refl, subst, sym}
 use Rattle.vault_asking.specs.Sending.{Lanes, lanes_of}
-use Rattle.agent_turns.specs.Calls.{InStage, calls_of_answering, calls_of_reading}
 use Rattle.agent_turns.specs.Held.{IsInStep, serving_side}
+use Rattle.agent_turns.specs.Calls.{InStage, calls_of_answering, calls_of_reading}
 use Rattle.agent_turns.specs.Stages.{AnswersCome, HandsInAnswers, nothing, of_answers}
 use Rattle.agent_turns.proofs.InStep.{in_step_come}
 use Rattle.agent_turns.proofs.Called.{both_with, first_with, not_ok}

@@ -1,9 +1,7 @@
 -- Where the clocks could not be read nothing is handed in.
 use Rattle.std.proofs.Common.{ℕ, [], ◌∷◌, None, Option, Some, subst, sym}
 use Rattle.vault_asking.specs.Sending.{Lanes, lanes_of}
-use Rattle.base_clock.specs.Seen.{AllMade, read_call}
-use Rattle.base_clock.specs.declared.reading.Reading.{Reading}
-use Rattle.base_clock.specs.declared.call.ClockCall.TheVariants.{Wait}
+use Rattle.base_clock.specs.{Seen.AllMade, Seen.read_call, declared.reading.Reading.Reading, declared.call.ClockCall.TheVariants.Wait}
 use Rattle.base_clock.proofs.Joined.{joined_law}
 use Rattle.agent_turns.specs.Held.{serving_side}
 use Rattle.agent_turns.proofs.Turned.{given_none, unread, unread_turn}

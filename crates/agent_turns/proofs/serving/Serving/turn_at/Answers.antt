@@ -2,13 +2,10 @@
 use Rattle.std.proofs.Common.{◌≡◌, ◌∙◌, ◌||◌, Some, ap, is_ok, refl, subst, sym}
 use Rattle.agent_standing.specs.Agent.{Agent}
 use Rattle.vault_asking.specs.Sending.{Lanes, lanes_of}
-use Rattle.agent_turns.specs.Calls.{heard_of_want}
+use Rattle.agent_turns.specs.{Calls.heard_of_want, Neighbours.AllCalled, Neighbours.GoOn, Turns.turn_wait_by}
 use Rattle.agent_turns.specs.Changes.{AllGiven, given_by, is_one_made}
 use Rattle.agent_turns.specs.Held.{Held, IsInStep, serving_side}
-use Rattle.agent_turns.specs.Neighbours.{AllCalled, GoOn}
-use Rattle.agent_turns.specs.Turns.{turn_wait_by}
-use Rattle.agent_turns.proofs.Changed.{made_keeps}
-use Rattle.agent_turns.proofs.Staged.{goes_keeps}
+use Rattle.agent_turns.proofs.{Changed.made_keeps, Staged.goes_keeps}
 use Rattle.agent_turns.proofs.Turned.{due_known, turned, whole_turn}
 use Rattle.agent_turns.proofs.serving.Serving.turn_at.Goals as goal
 

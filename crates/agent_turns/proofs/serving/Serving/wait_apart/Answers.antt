@@ -1,8 +1,7 @@
 -- One pause more, or the end of the wait.
-use Rattle.std.proofs.Common.{◌≡◌, ◌∙◌, List, [], ◌∷◌, Option, ap, refl, subst, sym, arith}
+use Rattle.std.proofs.Common.{◌≡◌, ◌∙◌, [], ◌∷◌, Option, ap, refl, subst, sym, arith}
 use Rattle.vault_asking.specs.Sending.{Lanes, lanes_of}
-use Rattle.base_clock.specs.Seen.{AllMade, read_call}
-use Rattle.base_clock.specs.declared.reading.Reading.{Reading}
+use Rattle.base_clock.specs.{Seen.AllMade, Seen.read_call, declared.reading.Reading.Reading}
 use Rattle.agent_turns.specs.Held.{IsInStep, ServingSide, serving_side}
 use Rattle.agent_turns.proofs.Waited.{ArePaused, ended_in_step, none_paused, one_paused, waited_less, waited_long}
 use Rattle.agent_turns.proofs.serving.Serving.wait_apart.Goals as goal

@@ -1,7 +1,6 @@
 -- The guest at that place is given it.
 use Rattle.base_clients.proofs.Placed.{became_at}
-use Rattle.base_clients.specs.Guests.{is_stage_asked}
-use Rattle.base_clients.specs.Tables.{guest_answered}
+use Rattle.base_clients.specs.{Guests.is_stage_asked, Tables.guest_answered}
 use Rattle.base_clients.proofs.clients.Clients.answer_first.Goals as goal
 
 pub returns-in-Some : goal.returns-in-Some

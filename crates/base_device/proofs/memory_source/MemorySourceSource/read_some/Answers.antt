@@ -1,8 +1,7 @@
 -- The bytes that are handed out are the next ones, and the rest stays.
 use Rattle.std.proofs.Common.{◌≡◌, ℕ, ◌+◌, ◌-◌, ◌<◌, ◌≤◌, inl, inr, subst, length-drop, length, take, drop, List, ◌++◌, arith, ap, sym, ◌∙◌}
-use Rattle.std.proofs.lemmas.List.{drop-drop}
+use Rattle.std.proofs.lemmas.{List.drop-drop, Grind.common_steps}
 use Rattle.std.proofs.Math.Seq.{length-take-le}
-use Rattle.std.proofs.lemmas.Grind.{common_steps}
 use Rattle.base_device.specs.Memory.{handed_out, reads_of}
 use Rattle.base_device.proofs.Handing.{handed_front, none_handed, rest_empty, next_pieces, fewer_reads}
 use Rattle.base_device.proofs.memory_source.MemorySourceSource.read_some.Goals as goal

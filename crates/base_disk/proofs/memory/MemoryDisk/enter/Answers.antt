@@ -1,9 +1,6 @@
 use Rattle.std.proofs.Common.{sym, ◌∙◌, subst, Bool, true, false, if◌then◌else◌, Ok, Err}
-use Rattle.base_disk.specs.Memory.{HasEntered, EntersCall, is_turn}
-use Rattle.base_disk.specs.declared.call.CallMade.{CallMade}
-use Rattle.base_disk.specs.declared.fault.DiskTrouble.{DiskTrouble}
+use Rattle.base_disk.specs.{Memory.HasEntered, Memory.EntersCall, Memory.is_turn, declared.call.CallMade.CallMade, declared.fault.DiskTrouble.DiskTrouble, declared.memory.MemoryDisk.MemoryDisk}
 use Rattle.base_disk.specs.declared.fault.DiskFault.TheVariants as faults
-use Rattle.base_disk.specs.declared.memory.MemoryDisk.{MemoryDisk}
 use Rattle.base_disk.proofs.memory.MemoryDisk.enter.Goals as goal
 
 -- a call that fails is entered too

@@ -1,8 +1,6 @@
 use Rattle.std.proofs.Common.{sym, ◌∙◌, ap, arith, List}
 use Rattle.std.proofs.lemmas.List.{drop_all}
-use Rattle.base_disk.specs.History.{file_after_all}
-use Rattle.base_disk.specs.Memory.{at_first, image_of, kept_of, held_file}
-use Rattle.base_disk.specs.declared.call.DiskCall.{DiskCall}
+use Rattle.base_disk.specs.{History.file_after_all, Memory.at_first, Memory.image_of, Memory.kept_of, Memory.held_file, declared.call.DiskCall.DiskCall}
 use Rattle.base_disk.proofs.Runs.{seen_at}
 use Rattle.base_disk.proofs.memory.MemoryDisk.file.Goals as goal
 

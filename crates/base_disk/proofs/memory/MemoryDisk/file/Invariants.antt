@@ -1,6 +1,5 @@
 use Rattle.std.proofs.Common.{◌≡◌, drop}
-use Rattle.base_disk.specs.History.{file_after_all}
-use Rattle.base_disk.specs.Memory.{image_of, held_file}
+use Rattle.base_disk.specs.{History.file_after_all, Memory.image_of, Memory.held_file}
 use Rattle.base_disk.proofs.memory.MemoryDisk.file.Given as goal
 
 abbrev pub invariant-loop-call : goal.invariant-loop-call

@@ -1,12 +1,8 @@
 use Rattle.std.proofs.Common.{◌≡◌, ◌<◌, List, length, get_or, take, sym, ◌∙◌, ap, subst, Option, Bool, arith}
 use Rattle.std.proofs.lemmas.Slice.Eq.{bytes_eq-Decides}
 use Rattle.std.specs.Str.{bytes_eq}
-use Rattle.base_disk.specs.Image.{File}
-use Rattle.base_disk.specs.State.{DiskState}
-use Rattle.base_disk.specs.History.{file_after, sound_after, state_after_call, state_after_calls}
-use Rattle.base_disk.specs.Memory.{at_first, image_of, kept_of, held_file}
-use Rattle.base_disk.specs.Left.{PathIsFollowed}
-use Rattle.base_disk.specs.declared.call.DiskCall.{DiskCall}
+use Rattle.base_disk.specs.{Image.File, State.DiskState, History.sound_after, History.state_after_call, History.state_after_calls, Memory.at_first, Memory.image_of, Memory.kept_of, Memory.held_file, Left.PathIsFollowed}
+use Rattle.base_disk.specs.{declared.call.DiskCall.DiskCall}
 use Rattle.base_disk.proofs.Left.{state_more, followed_here, followed_past, elsewhere, not_elsewhere}
 use Rattle.base_disk.proofs.memory.MemoryDisk.left.Goals as goal
 

@@ -1,7 +1,5 @@
 use Rattle.std.proofs.Common.{take}
-use Rattle.base_disk.specs.History.{state_after_calls}
-use Rattle.base_disk.specs.Memory.{at_first, image_of, kept_of, held_file}
-use Rattle.base_disk.specs.Left.{PathIsFollowed}
+use Rattle.base_disk.specs.{History.state_after_calls, Memory.at_first, Memory.image_of, Memory.kept_of, Memory.held_file, Left.PathIsFollowed}
 use Rattle.base_disk.proofs.memory.MemoryDisk.left.Given as goal
 
 abbrev pub invariant-loop-call : goal.invariant-loop-call

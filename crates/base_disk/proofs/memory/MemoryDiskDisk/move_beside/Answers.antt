@@ -1,9 +1,6 @@
 use Rattle.std.proofs.Common.{◌≡◌, sym, ◌∙◌, ap, subst, not, true, Option}
 use Rattle.std.proofs.lemmas.Result.{on_ok_weaker}
-use Rattle.base_disk.specs.Image.{File, with_file_at}
-use Rattle.base_disk.specs.Torn.{MovesFile}
-use Rattle.base_disk.specs.State.{Beside, OutcomesFollow}
-use Rattle.base_disk.specs.Memory.{memory_state, beside_of}
+use Rattle.base_disk.specs.{Image.File, Image.with_file_at, Torn.MovesFile, State.Beside, State.OutcomesFollow, Memory.memory_state, Memory.beside_of}
 use Rattle.base_disk.specs.declared.call.CallMade.TheVariants as what
 use Rattle.base_disk.proofs.Runs.{touches, elapses, at_ok, moved, not_moved, move_crash, file_of}
 use Rattle.base_disk.proofs.memory.MemoryDiskDisk.move_beside.Goals as goal

@@ -1,9 +1,6 @@
 use Rattle.std.proofs.Common.{◌≡◌, ℕ, List, length, ◌∙◌, ap, subst, not}
 use Rattle.std.proofs.lemmas.Result.{on_ok_weaker}
-use Rattle.base_disk.specs.Image.{image_changed, with_bytes, overwritten}
-use Rattle.base_disk.specs.Torn.{Torn, Tears}
-use Rattle.base_disk.specs.State.{OutcomesFollow}
-use Rattle.base_disk.specs.Memory.{memory_state}
+use Rattle.base_disk.specs.{Image.image_changed, Image.with_bytes, Image.overwritten, Torn.Torn, Torn.Tears, State.OutcomesFollow, Memory.memory_state}
 use Rattle.base_disk.specs.declared.call.CallMade.TheVariants as what
 use Rattle.base_disk.proofs.Runs.{touches, elapses, at_ok, wrote, write_crash}
 use Rattle.base_disk.proofs.memory.MemoryDiskDisk.write_at.Goals as goal

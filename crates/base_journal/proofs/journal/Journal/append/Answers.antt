@@ -1,6 +1,5 @@
 use Rattle.std.proofs.Common.{◌+◌, length}
-use Rattle.base_disk.specs.Torn.{Torn, Tears}
-use Rattle.base_disk.specs.State.{IsAfter}
+use Rattle.base_disk.specs.{Torn.Torn, Torn.Tears, State.IsAfter}
 use Rattle.base_disk.proofs.Moments.{weaker, and_then}
 use Rattle.base_journal.specs.Records.{IsBeforeOrAfter, StandsFor}
 use Rattle.base_journal.specs.Journals.{CrashLeaves, path_of_journal, lines_of_journal}

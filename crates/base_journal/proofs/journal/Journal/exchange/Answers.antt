@@ -1,12 +1,9 @@
-use Rattle.base_disk.specs.Image.{File}
-use Rattle.base_disk.specs.Torn.{MovesFile}
-use Rattle.base_disk.specs.State.{IsAfter}
+use Rattle.base_disk.specs.{Image.File, Torn.MovesFile, State.IsAfter}
 use Rattle.base_disk.proofs.Moments.{weaker}
-use Rattle.base_journal.specs.Records.{StandsFor}
-use Rattle.base_journal.specs.Journals.{Exchanging, path_of_journal}
+use Rattle.base_journal.specs.{Records.StandsFor, Journals.Exchanging, Journals.path_of_journal}
 use Rattle.std.proofs.Common.{◌∙◌}
-use Rattle.base_journal.proofs.Steps.{first_in_place, moves_elsewhere, on_any}
 use Rattle.base_journal.proofs.Runs.{in_place, there_past}
+use Rattle.base_journal.proofs.Steps.{first_in_place, moves_elsewhere, on_any}
 use Rattle.base_journal.proofs.journal.Journal.exchange.Goals as goal
 
 pub returns-in_err-replace-clause-any_moment : goal.returns-in_err-replace-clause-any_moment

@@ -2,8 +2,7 @@
 use Rattle.std.proofs.Common.{List, ℕ, sym, subst, ◌∙◌}
 use Rattle.std.proofs.lemmas.Bool.{true≢false}
 use Rattle.base_disk.specs.State.{LeavesOnly}
-use Rattle.base_journal.specs.Records.{StandsFor}
-use Rattle.base_journal.specs.Journals.{CrashLeaves, path_of_journal}
+use Rattle.base_journal.specs.{Records.StandsFor, Journals.CrashLeaves, Journals.path_of_journal}
 use Rattle.base_journal.proofs.Steps.{on_refused}
 use Rattle.base_journal.proofs.journal.Journal.put.Goals as goal
 

@@ -3,9 +3,7 @@ use Rattle.base_disk.specs.State.{LeavesOnly}
 use Rattle.base_journal.specs.declared.journal.TheConstants.{MOST_BYTES}
 use Rattle.base_journal.specs.Records.{IsBeforeOrAfter, StandsFor, at_rest, blocks}
 use Rattle.base_journal.specs.Journals.{JournalIsAtRest, CrashLeaves, path_of_journal, lines_of_journal}
-use Rattle.base_journal.proofs.Runs.{put_leaves, unput_leaves}
-use Rattle.base_journal.proofs.Steps.{on_refused}
-use Rattle.base_journal.proofs.Writing.{longer}
+use Rattle.base_journal.proofs.{Runs.put_leaves, Runs.unput_leaves, Steps.on_refused, Writing.longer}
 use Rattle.base_journal.proofs.journal.Journal.write.Goals as goal
 
 pub returns-in_err-append-clause-any_moment : goal.returns-in_err-append-clause-any_moment

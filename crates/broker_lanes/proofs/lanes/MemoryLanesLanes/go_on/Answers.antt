@@ -1,9 +1,7 @@
 -- Those that are there at the moment are handed back, and no others.
 use Rattle.std.proofs.Common.{Some, IfOk, subst}
-use Rattle.vault_lanes.specs.Out.{AreThereAt}
+use Rattle.vault_lanes.specs.{Out.AreThereAt, Seats.outs, declared.coming.Coming.Coming}
 use Rattle.broker_lanes.specs.InMemory.{InMemory}
-use Rattle.vault_lanes.specs.Seats.{outs}
-use Rattle.vault_lanes.specs.declared.coming.Coming.{Coming}
 use Rattle.broker_lanes.proofs.There.{left_due, there_at}
 use Rattle.broker_lanes.proofs.lanes.MemoryLanesLanes.go_on.Goals as goal
 

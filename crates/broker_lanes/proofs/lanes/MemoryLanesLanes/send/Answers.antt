@@ -1,10 +1,8 @@
 -- One more is out, with what comes of it; where memory was wanting the table is left as it may be.
 use Rattle.std.proofs.Common.{Some, inl, refl, subst}
-use Rattle.vault_lanes.specs.Out.{OutIsPut}
+use Rattle.vault_lanes.specs.{Out.OutIsPut, Seats.outs, declared.coming.Coming.Coming}
 use Rattle.vault_lanes.specs.Serving.{BehindLanes, BrokerIsLeft, RequestIsSent}
 use Rattle.broker_lanes.specs.InMemory.{InMemory}
-use Rattle.vault_lanes.specs.Seats.{outs}
-use Rattle.vault_lanes.specs.declared.coming.Coming.{Coming}
 use Rattle.broker_lanes.proofs.Sent.{left_in_memory, on_err, sent_with}
 use Rattle.broker_lanes.proofs.lanes.MemoryLanesLanes.send.Goals as goal
 

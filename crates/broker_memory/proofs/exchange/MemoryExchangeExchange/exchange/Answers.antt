@@ -1,12 +1,9 @@
 -- The table serves the request that is heard, whether its reply is delivered, lost or out of memory.
 use Rattle.std.proofs.Common.{◌≡◌, Some, Result, Ok, Err, ◌++◌, ◌∙◌, ap, refl, subst}
 use Rattle.broker_rule.specs.Table.{BrokerTable}
-use Rattle.vault_exchange.specs.Exchanges.{Exchanges, received}
-use Rattle.vault_exchange.specs.declared.fault.ExchangeFault.{ExchangeFault}
-use Rattle.vault_exchange.specs.declared.fault.ExchangeFault.TheVariants.{OutOfMemory}
+use Rattle.vault_exchange.specs.{Exchanges.Exchanges, Exchanges.received, declared.fault.ExchangeFault.ExchangeFault, declared.fault.ExchangeFault.TheVariants.OutOfMemory}
 use Rattle.broker_table.specs.Stream.{bytes_sent_of}
-use Rattle.vault_http.specs.declared.reply.Reply.{Reply}
-use Rattle.vault_http.specs.Written.{reply_text, request_text}
+use Rattle.vault_http.specs.{declared.reply.Reply.Reply, Written.request_text}
 use Rattle.broker_memory.proofs.Carried.{exchanged, given_up, is_memory, may_send, text_received}
 use Rattle.broker_memory.proofs.exchange.MemoryExchangeExchange.exchange.Goals as goal
 

@@ -1,7 +1,6 @@
 -- Where no fault was given, no number has one.
 use Rattle.std.proofs.Common.{List, ap, sym, ◌∙◌}
-use Rattle.broker_rule.specs.declared.fault.NumberedFault.{NumberedFault}
-use Rattle.broker_rule.specs.Faults.{fault_at}
+use Rattle.broker_rule.specs.{declared.fault.NumberedFault.NumberedFault, Faults.fault_at}
 use Rattle.broker_table.proofs.Pending.{none_pending, numbered_none}
 use Rattle.broker_table.proofs.faults.Faults.new.Goals as goal
 

@@ -1,7 +1,6 @@
 -- By a lease id the index finds the place of the listed lease row, and none where it is listed no more.
 use Rattle.std.proofs.Common.{◌≡◌, ◌<◌, ◌∙◌, IfSome, ap, length, option_map, subst, sym, true}
-use Rattle.broker_table.specs.Index.{if_listed}
-use Rattle.broker_table.specs.Slots.{listed_rows, slot_at}
+use Rattle.broker_table.specs.{Index.if_listed, Slots.listed_rows, Slots.slot_at}
 use Rattle.broker_rule.specs.Subject.{is_lease_with, lease_with}
 use Rattle.broker_table.proofs.Indexed.{listed_by_index, place_is_within, row_by_index}
 use Rattle.broker_table.proofs.slots.Slots.lease.Goals as goal

@@ -1,8 +1,6 @@
 -- Another end of one slot leaves the credentials, so the index, and the slots are kept until their soonest end.
 use Rattle.std.proofs.Common.{◌≡◌, List, subst, sym}
-use Rattle.broker_table.specs.declared.slot.Slot.{Slot}
-use Rattle.broker_table.specs.Index.{IsIndexed, credentials_of}
-use Rattle.broker_table.specs.Slots.{AreKept}
+use Rattle.broker_table.specs.{declared.slot.Slot.Slot, Index.IsIndexed, Index.credentials_of, Slots.AreKept}
 use Rattle.base_device.proofs.Lent.{written_back}
 use Rattle.broker_table.proofs.Indexed.{indexed_like, same_length}
 use Rattle.broker_table.proofs.slots.Slots.set_end.Goals as goal

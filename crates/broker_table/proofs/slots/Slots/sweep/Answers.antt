@@ -1,8 +1,6 @@
 -- A sweep changes no credential, so that the index fits the slots that it leaves.
 use Rattle.std.proofs.Common.{◌≡◌, List, subst, sym}
-use Rattle.broker_table.specs.declared.slot.Slot.{Slot}
-use Rattle.broker_table.specs.Index.{IsIndexed, credentials_of}
-use Rattle.broker_table.specs.Slots.{AreKept}
+use Rattle.broker_table.specs.{declared.slot.Slot.Slot, Index.IsIndexed, Index.credentials_of, Slots.AreKept}
 use Rattle.base_device.proofs.Lent.{written_back}
 use Rattle.broker_table.proofs.Indexed.{indexed_like, same_length}
 use Rattle.broker_table.proofs.slots.Slots.sweep.Goals as goal

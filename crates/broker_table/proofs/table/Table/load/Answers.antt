@@ -1,8 +1,6 @@
 -- The slots of an inventory make a table of its rows, with no faults and no request counted.
 use Rattle.std.proofs.Common.{◌≡◌, ◌∙◌, ap, List, []}
-use Rattle.broker_rule.specs.declared.row.BrokerRow.{BrokerRow}
-use Rattle.broker_rule.specs.Faults.{Faults}
-use Rattle.broker_rule.specs.Table.{BrokerTable}
+use Rattle.broker_rule.specs.{declared.row.BrokerRow.BrokerRow, Faults.Faults, Table.BrokerTable}
 use Rattle.broker_table.specs.Slots.{listed_rows}
 use Rattle.broker_table.proofs.Loaded.{rows_of_slots}
 use Rattle.broker_table.proofs.table.Table.load.Goals as goal

@@ -1,7 +1,6 @@
 -- A renewal that is granted names a text, so that its reply can have its body.
 use Rattle.std.proofs.Common.{subst, sym}
-use Rattle.broker_table.specs.Found.{GrantNamesText}
-use Rattle.broker_table.specs.Slots.{listed_rows}
+use Rattle.broker_table.specs.{Found.GrantNamesText, Slots.listed_rows}
 use Rattle.broker_table.proofs.Texts.{grant_names_text}
 use Rattle.broker_table.proofs.table.Table.renew.Goals as goal
 

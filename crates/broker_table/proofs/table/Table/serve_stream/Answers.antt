@@ -3,8 +3,7 @@ use Rattle.std.proofs.Common.{OnErr, subst, sym}
 use Rattle.std.proofs.KnownBytes.{Keeps-refl}
 use Rattle.std.proofs.lemmas.Result.{err_from_is_err_and}
 use Rattle.std.specs.Io.KnownBytes.{Appends, Keeps}
-use Rattle.vault_http.specs.declared.known.TheConstants.{MOST_MESSAGE}
-use Rattle.vault_http.specs.Reading.{SettlesRequest}
+use Rattle.vault_http.specs.{declared.known.TheConstants.MOST_MESSAGE, Reading.SettlesRequest}
 use Rattle.base_device.specs.Front.{AppendsFront}
 use Rattle.base_device.specs.Seen.{Change, Input, change}
 use Rattle.broker_table.specs.Stream.{Handles, IsFlushed, IsHandled, StreamFails, bytes_sent_of}

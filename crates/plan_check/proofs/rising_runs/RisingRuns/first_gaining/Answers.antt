@@ -1,14 +1,10 @@
 -- The first moments of runs rise, so those that gain nothing are in front, and the last of them is found.
 use Rattle.std.proofs.Common.{◌≡◌, ◌⊎◌, arith, get_or, inl, inr, leb, leb-true, le-leb, rules, subst, sym}
-use Rattle.std.proofs.lemmas.Bool.{cases_eq}
-use Rattle.std.proofs.lemmas.List.Sorted.{IsPartitionPoint-from_clause, IsPartitionedBy-leb}
-use Rattle.plan_rule.specs.declared.run.Run.{Run}
-use Rattle.plan_rule.specs.Runs.{all_wakes, moments_of}
-use Rattle.plan_check.specs.code.Gaps.{IsIdleAt}
-use Rattle.plan_check.specs.code.Rising.{Rising}
-use Rattle.plan_check.proofs.Jumps.{firsts_rise}
+use Rattle.std.proofs.lemmas.{Bool.cases_eq, List.Sorted.IsPartitionPoint-from_clause, List.Sorted.IsPartitionedBy-leb}
+use Rattle.plan_rule.specs.{declared.run.Run.Run, Runs.all_wakes, Runs.moments_of}
+use Rattle.plan_check.specs.{code.Gaps.IsIdleAt, code.Rising.Rising}
+use Rattle.plan_check.proofs.{Jumps.firsts_rise, OwnRuns.blank}
 use Rattle.plan_rule.proofs.Schedule.{rising_strictly}
-use Rattle.plan_check.proofs.OwnRuns.{blank}
 use Rattle.plan_check.proofs.rising_runs.RisingRuns.first_gaining.Goals as goal
 
 pub returns-in-Some-clause-idle : goal.returns-in-Some-clause-idle

@@ -1,9 +1,9 @@
 -- The gaps before the place that is found are narrow, and the one there is too wide.
 use Rattle.std.proofs.Common.{◌≡◌, ◌∙◌, ◌<◌, ◌≤◌, ap, arith, get_or, length, subst, sym}
-use Rattle.plan_check.specs.code.Gaps.{AllNarrow, IsFirstFrom, gaps_of}
 use Rattle.plan_check.specs.code.Rising.{Rising}
-use Rattle.plan_check.proofs.GapTrees.{until_narrow, until_wide, until_within}
+use Rattle.plan_check.specs.code.Gaps.{AllNarrow, IsFirstFrom, gaps_of}
 use Rattle.plan_check.proofs.Jumps.{length-gaps}
+use Rattle.plan_check.proofs.GapTrees.{until_narrow, until_wide, until_within}
 use Rattle.plan_check.proofs.rising_runs.RisingRuns.wide_from.Goals as goal
 
 pub first_from-requires-clause-few : goal.first_from-requires-clause-few

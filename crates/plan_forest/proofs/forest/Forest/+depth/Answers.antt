@@ -1,11 +1,7 @@
 -- A root has the depth 1, and any other entry one more than its parent; no depth is over the limit.
 use Rattle.std.proofs.Common.{◌≡◌, ◌∙◌, ap, arith, length, sym, Some, ◌≤◌}
-use Rattle.plan_forest.specs.declared.entry.Entry.{Entry}
-use Rattle.plan_forest.specs.declared.forest.TheConstants.{MAX_DEPTH}
-use Rattle.plan_forest.specs.Forest.{entry_at}
-use Rattle.plan_forest.specs.Over.{chain}
-use Rattle.plan_forest.proofs.Chains.{chain_child, chain_root}
-use Rattle.plan_forest.proofs.Placed.{parents_first}
+use Rattle.plan_forest.specs.{declared.entry.Entry.Entry, declared.forest.TheConstants.MAX_DEPTH, Forest.entry_at, Over.chain}
+use Rattle.plan_forest.proofs.{Chains.chain_child, Chains.chain_root, Placed.parents_first}
 use Rattle.plan_forest.proofs.forest.Forest.+depth.Goals as goal
 
 pub returns-in-None-clause-value : goal.returns-in-None-clause-value

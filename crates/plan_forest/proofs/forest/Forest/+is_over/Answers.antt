@@ -1,10 +1,8 @@
 -- An entry is over itself, over no other root, and over a child exactly where it is the child or over its parent.
 use Rattle.std.proofs.Common.{◌≡◌, ◌∙◌, ◌||◌, ◌==◌, true, false, ap, arith, sym, subst}
 use Rattle.std.proofs.lemmas.Bool.Decides.{nat_tests}
-use Rattle.plan_forest.specs.declared.entry.Entry.{Entry}
-use Rattle.plan_forest.specs.Over.{is_over}
-use Rattle.plan_forest.proofs.Chains.{over_child, over_root, over_self}
-use Rattle.plan_forest.proofs.Placed.{parents_first}
+use Rattle.plan_forest.specs.{declared.entry.Entry.Entry, Over.is_over}
+use Rattle.plan_forest.proofs.{Chains.over_child, Chains.over_root, Chains.over_self, Placed.parents_first}
 use Rattle.plan_forest.proofs.forest.Forest.+is_over.Goals as goal
 
 pub returns-then-above-below : goal.returns-then-above-below

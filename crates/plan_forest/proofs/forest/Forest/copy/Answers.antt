@@ -1,9 +1,7 @@
 -- The copy has the same entries and margin, and finds each name where the original does.
 use Rattle.std.proofs.Common.{◌≡◌, ◌∙◌, List, ap, subst, sym}
 use Rattle.std.specs.List.{each_same}
-use Rattle.plan_forest.specs.declared.entry.Entry.{Entry}
-use Rattle.plan_forest.specs.Forest.{index_named}
-use Rattle.plan_forest.specs.Push.{IsForest}
+use Rattle.plan_forest.specs.{declared.entry.Entry.Entry, Forest.index_named, Push.IsForest}
 use Rattle.plan_forest.proofs.Names.{names_copied}
 use Rattle.plan_forest.proofs.forest.Forest.copy.Goals as goal
 

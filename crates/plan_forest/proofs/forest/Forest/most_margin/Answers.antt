@@ -1,7 +1,6 @@
 -- With one entry more, the greatest margin is the lesser of that before and the entry's step less one.
 use Rattle.std.proofs.Common.{◌≡◌, ◌+◌, ◌-◌, ◌<◌, length, min, arith, subst, sym}
-use Rattle.plan_forest.specs.declared.entry.Entry.{Entry}
-use Rattle.plan_forest.specs.Forest.{entry_at}
+use Rattle.plan_forest.specs.{declared.entry.Entry.Entry, Forest.entry_at}
 use Rattle.plan_forest.proofs.Margins.{IsMostOf, most_of_more}
 use Rattle.plan_forest.proofs.forest.Forest.most_margin.Goals as goal
 

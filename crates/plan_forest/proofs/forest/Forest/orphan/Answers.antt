@@ -1,10 +1,7 @@
 -- A token that loses its parent leaves a forest, in which nothing else has changed.
 use Rattle.std.proofs.Common.{◌≡◌, ◌<◌, ◌∙◌, None, ap, false, length, set, subst, sym}
-use Rattle.plan_forest.specs.declared.entry.Entry.{Entry}
-use Rattle.plan_forest.specs.Forest.{Forest, entry_at}
-use Rattle.plan_forest.specs.Push.{IsForest, is_lease}
-use Rattle.plan_forest.proofs.Entries.{entry_read, index_named_set}
-use Rattle.plan_forest.proofs.Placed.{change_returns, orphaned_is_forest}
+use Rattle.plan_forest.specs.{declared.entry.Entry.Entry, Forest.Forest, Forest.entry_at, Push.IsForest, Push.is_lease}
+use Rattle.plan_forest.proofs.{Entries.entry_read, Entries.index_named_set, Placed.change_returns, Placed.orphaned_is_forest}
 use Rattle.plan_forest.proofs.forest.Forest.orphan.Goals as goal
 
 pub invariant_of-self : goal.invariant_of-self

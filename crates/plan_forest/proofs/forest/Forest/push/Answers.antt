@@ -1,14 +1,9 @@
 -- An entry that is not refused makes a longer forest, and its name then leads to its index.
 use Rattle.std.proofs.Common.{◌≡◌, ◌∙◌, ◌++◌, ◌∷◌, [], ◌+◌, List, ℕ, Some, None, ap, arith, is_ok, length, subst, sym, true, vec_len, vec_capacity, ◌≤◌, Vec, Global}
 use Rattle.std.proofs.lemmas.Bool.{cond-true}
-use Rattle.std.specs.BTreeMap.{Updates}
-use Rattle.std.specs.Cmp.Lexicographic.{slice_cmp}
-use Rattle.std.specs.Ordering.{nat_cmp}
-use Rattle.plan_forest.specs.declared.entry.Entry.{Entry}
-use Rattle.plan_forest.specs.Forest.{Forest, index_named}
-use Rattle.plan_forest.specs.Push.{IsForest, entry_refusal}
-use Rattle.plan_forest.proofs.Names.{named_push}
-use Rattle.plan_forest.proofs.Placed.{pushed_is_forest}
+use Rattle.std.specs.{BTreeMap.Updates, Cmp.Lexicographic.slice_cmp, Ordering.nat_cmp}
+use Rattle.plan_forest.specs.{declared.entry.Entry.Entry, Forest.Forest, Forest.index_named, Push.IsForest, Push.entry_refusal}
+use Rattle.plan_forest.proofs.{Names.named_push, Placed.pushed_is_forest}
 use Rattle.plan_forest.proofs.forest.Forest.push.Goals as goal
 
 pub invariant_of-self-2 : goal.invariant_of-self-2

@@ -1,9 +1,7 @@
 -- Whether an entry can be renewed is free to change: the entries stay a forest, and only this field differs.
 use Rattle.std.proofs.Common.{◌≡◌, ◌<◌, ◌∙◌, ap, length, refl, subst, sym}
-use Rattle.plan_forest.specs.declared.entry.Entry.{Entry}
-use Rattle.plan_forest.specs.Forest.{Forest, entry_at}
-use Rattle.plan_forest.proofs.Entries.{entry_read, index_named_set}
-use Rattle.plan_forest.proofs.Placed.{change_returns, read_range, read_step, replaced_is_forest, replaces_read}
+use Rattle.plan_forest.specs.{declared.entry.Entry.Entry, Forest.Forest, Forest.entry_at}
+use Rattle.plan_forest.proofs.{Entries.entry_read, Entries.index_named_set, Placed.change_returns, Placed.read_range, Placed.read_step, Placed.replaced_is_forest, Placed.replaces_read}
 use Rattle.plan_forest.proofs.forest.Forest.set_renewable.Goals as goal
 
 pub invariant_of-self : goal.invariant_of-self

@@ -1,9 +1,7 @@
 -- A step over the margin and a ceiling within the range leave a forest, in which only these two fields differ.
 use Rattle.std.proofs.Common.{◌≡◌, ◌+◌, ◌<◌, ◌≤◌, ◌∙◌, ap, arith, length, refl, subst, sym}
-use Rattle.plan_forest.specs.declared.entry.Entry.{Entry}
-use Rattle.plan_forest.specs.Forest.{Forest, entry_at}
-use Rattle.plan_forest.proofs.Entries.{entry_read, index_named_set}
-use Rattle.plan_forest.proofs.Placed.{ceiling_within, change_returns, read_range, replaced_is_forest, replaces_read}
+use Rattle.plan_forest.specs.{declared.entry.Entry.Entry, Forest.Forest, Forest.entry_at}
+use Rattle.plan_forest.proofs.{Entries.entry_read, Entries.index_named_set, Placed.ceiling_within, Placed.change_returns, Placed.read_range, Placed.replaced_is_forest, Placed.replaces_read}
 use Rattle.plan_forest.proofs.forest.Forest.set_terms.Goals as goal
 
 pub invariant_of-self : goal.invariant_of-self

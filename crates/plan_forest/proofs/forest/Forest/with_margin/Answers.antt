@@ -1,10 +1,7 @@
 -- No entries and a margin within the range are a forest, in which no name is found.
 use Rattle.std.proofs.Common.{List, sym, subst, ap, ◌∙◌}
-use Rattle.plan_forest.specs.declared.entry.Entry.{Entry}
-use Rattle.plan_forest.specs.Forest.{index_named}
-use Rattle.plan_forest.specs.Push.{IsForest}
-use Rattle.plan_forest.proofs.Names.{none_at_bytes}
-use Rattle.plan_forest.proofs.Placed.{empty_is_forest}
+use Rattle.plan_forest.specs.{declared.entry.Entry.Entry, Forest.index_named, Push.IsForest}
+use Rattle.plan_forest.proofs.{Names.none_at_bytes, Placed.empty_is_forest}
 use Rattle.plan_forest.proofs.forest.Forest.with_margin.Goals as goal
 
 pub invariant_of-result : goal.invariant_of-result

@@ -1,12 +1,8 @@
 -- A new queue is ready for its first wake-up, and its list is that of the forces from the start on.
 use Rattle.std.proofs.Common.{◌≡◌, ◌∙◌, [], ap, length, None, subst, sym}
-use Rattle.plan_schedule.specs.declared.groups.Groups.{Groups}
-use Rattle.plan_schedule.specs.code.Line.{FirstOf}
-use Rattle.plan_schedule.specs.code.Queueing.{GroupsAreReady}
-use Rattle.plan_schedule.proofs.Queueing.{new_done, new_due}
-use Rattle.plan_schedule.proofs.Taking.{comes_forces}
+use Rattle.plan_schedule.specs.{declared.groups.Groups.Groups, code.Line.FirstOf, code.Queueing.GroupsAreReady}
+use Rattle.plan_schedule.proofs.{Queueing.new_done, Queueing.new_due, Taking.comes_forces, queue.QueueSchedule.new.Goals.in-None, queue.QueueSchedule.new.Goals.in-Some}
 use Rattle.plan_schedule.proofs.queue.QueueSchedule.new.Goals as goal
-use Rattle.plan_schedule.proofs.queue.QueueSchedule.new.Goals.{in-None, in-Some}
 
 pub invariant_of-result : goal.invariant_of-result
 invariant_of-result c =

@@ -1,13 +1,8 @@
 -- The run that is taken is the front of the list, and the queue is ready for what follows it.
 use Rattle.std.proofs.Common.{◌≡◌, ◌+◌, ◌-◌, ◌<◌, ◌⊎◌, None, Some, subst, inl, inr, arith}
-use Rattle.plan_schedule.specs.Courses.{IsToCome}
-use Rattle.plan_schedule.specs.Prospect.{terms_of}
-use Rattle.plan_schedule.specs.code.Queueing.{GroupsAreReady}
-use Rattle.plan_schedule.specs.Queues.{Queue}
-use Rattle.plan_schedule.specs.Given.{GivesRun, IsFirstRun}
-use Rattle.plan_schedule.proofs.Queueing.{gives_no_run, ready_settled, taken}
+use Rattle.plan_schedule.specs.{Courses.IsToCome, Prospect.terms_of, code.Queueing.GroupsAreReady, Queues.Queue, Given.GivesRun, Given.IsFirstRun}
+use Rattle.plan_schedule.proofs.{Queueing.gives_no_run, Queueing.ready_settled, Queueing.taken, queue.QueueSchedule.next_run.Goals.else-stretch-eq0, queue.QueueSchedule.next_run.Goals.then-stretch-eq0}
 use Rattle.plan_schedule.proofs.queue.QueueSchedule.next_run.Goals as goal
-use Rattle.plan_schedule.proofs.queue.QueueSchedule.next_run.Goals.{else-stretch-eq0, then-stretch-eq0}
 
 pub returns-in_default-clause-run : goal.returns-in_default-clause-run
 returns-in_default-clause-run c =

@@ -1,8 +1,7 @@
 -- A run of at most one wake-up is the head of the list.
 use Rattle.std.proofs.Common.{◌≡◌, subst, refl, rules}
 use Rattle.plan_rule.specs.declared.force.Force.{Force}
-use Rattle.plan_schedule.specs.Courses.{IsToCome}
-use Rattle.plan_schedule.specs.Given.{GivesRun}
+use Rattle.plan_schedule.specs.{Courses.IsToCome, Given.GivesRun}
 use Rattle.plan_schedule.proofs.Queueing.{head_of_run}
 use Rattle.plan_schedule.proofs.queue.QueueScheduleSchedule.next.Goals as goal
 

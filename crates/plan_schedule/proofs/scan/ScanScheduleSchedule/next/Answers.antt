@@ -1,10 +1,7 @@
 -- The leader forces the head of the list, and without a leader the list is empty.
 use Rattle.std.proofs.Common.{◌≡◌, ◌-◌, None, Some, subst, rules}
 use Rattle.plan_rule.specs.declared.force.Force.{Force}
-use Rattle.plan_schedule.specs.Courses.{Course, IsToCome}
-use Rattle.plan_schedule.specs.code.Scanning.{IsLeader}
-use Rattle.plan_schedule.specs.Prospect.{terms_of}
-use Rattle.plan_schedule.specs.Given.{GivesHead}
+use Rattle.plan_schedule.specs.{Courses.Course, Courses.IsToCome, code.Scanning.IsLeader, Prospect.terms_of, Given.GivesHead}
 use Rattle.plan_schedule.proofs.Taking.{gives_head, gives_none}
 use Rattle.plan_schedule.proofs.scan.ScanScheduleSchedule.next.Goals as goal
 

@@ -1,8 +1,7 @@
 -- Without its first wake-up the plan is still one, and what is to come is the tail of what was.
 use Rattle.std.proofs.Common.{◌∙◌, ◌<◌, ap, arith, drop, length, subst, sym, ◌∷◌, List}
 use Rattle.std.proofs.lemmas.List.{length-set}
-use Rattle.plan_rule.specs.declared.run.Run.{Run}
-use Rattle.plan_rule.specs.Runs.{all_wakes}
+use Rattle.plan_rule.specs.{declared.run.Run.Run, Runs.all_wakes}
 use Rattle.plan_search.specs.Planned.{IsPlanned, Planned, to_come}
 use Rattle.plan_search.proofs.Walking.{loses_head, passed_over, shortened_in_place, stands, still_planned}
 use Rattle.plan_search.proofs.plans.Plan.drop_first.Goals as goal

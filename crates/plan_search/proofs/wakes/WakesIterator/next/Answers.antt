@@ -2,8 +2,7 @@
 use Rattle.std.proofs.Common.{◌≡◌, ◌∙◌, ◌∷◌, ap, arith, length, sym, subst}
 use Rattle.std.specs.Option.{IfSome}
 use Rattle.plan_rule.specs.Runs.{AreRuns, IsRun, all_wakes}
-use Rattle.plan_search.specs.Planned.{behind_first, in_front}
-use Rattle.plan_search.specs.declared.wakes.Wakes.TheInside.{Inside}
+use Rattle.plan_search.specs.{Planned.behind_first, Planned.in_front, declared.wakes.Wakes.TheInside.Inside}
 use Rattle.plan_search.proofs.Walking.{behind_wakes}
 use Rattle.plan_search.proofs.wakes.WakesIterator.next.Goals as goal
 use Rattle.plan_search.proofs.wakes.WakesIterator.next.Goals.{in-Some, in-None+in_ok-first-in-None}

@@ -1,14 +1,10 @@
 -- A map that took a name or a credential more, or none, finds the rows, and then the new one.
 use Rattle.std.proofs.Common.{◌≡◌, ◌∙◌, ◌++◌, ◌∷◌, [], ◌+◌, ◌≤◌, List, ℕ, Some, None, ap, arith, is_ok, length, subst, sym, true, vec_len, vec_capacity, Vec, Global}
 use Rattle.std.proofs.lemmas.Bool.{cond-true}
-use Rattle.std.specs.BTreeMap.{Updates}
-use Rattle.std.specs.Cmp.Lexicographic.{slice_cmp}
-use Rattle.std.specs.Ordering.{nat_cmp}
-use Rattle.state_changes.specs.declared.row.Row.{Row}
-use Rattle.state_changes.specs.Rows.{named}
-use Rattle.state_changes.specs.code.Index.{has_seen, is_index}
-use Rattle.state_changes.proofs.Finding.{index_more, index_push, index_same, seen_same}
+use Rattle.std.specs.{BTreeMap.Updates, Cmp.Lexicographic.slice_cmp, Ordering.nat_cmp}
+use Rattle.state_changes.specs.{declared.row.Row.Row, Rows.named, code.Index.has_seen, code.Index.is_index}
 use Rattle.state_changes.proofs.Seen.{seen_push}
+use Rattle.state_changes.proofs.Finding.{index_more, index_push, index_same, seen_same}
 use Rattle.state_changes.proofs.rows.Rows.push.Goals as goal
 
 pub invariant_of-self-in_err-insert : goal.invariant_of-self-in_err-insert

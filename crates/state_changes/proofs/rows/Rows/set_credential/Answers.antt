@@ -1,11 +1,9 @@
 -- The row at the place of the name has another credential, which was seen then; where there is no place, no row has it.
 use Rattle.std.proofs.Common.{◌≡◌, ◌∙◌, List, Some, ap, sym}
 use Rattle.std.specs.List.{position}
-use Rattle.state_changes.specs.declared.row.Row.{Row}
-use Rattle.state_changes.specs.Rows.{is_row_named, with_named}
-use Rattle.state_changes.proofs.Finding.{seen_same}
+use Rattle.state_changes.specs.{declared.row.Row.Row, Rows.is_row_named, Rows.with_named}
+use Rattle.state_changes.proofs.{Finding.seen_same, Seen.seen_again}
 use Rattle.state_changes.proofs.Places.{credential_named, index_credential, nobody_has, seen_set_credential}
-use Rattle.state_changes.proofs.Seen.{seen_again}
 use Rattle.state_changes.proofs.rows.Rows.set_credential.Goals as goal
 
 pub invariant_of-self : goal.invariant_of-self

@@ -1,8 +1,7 @@
 -- The row at the place of the name has another need; where there is no place, no row has it.
 use Rattle.std.proofs.Common.{◌≡◌, ◌∙◌, List, Some, ap, sym}
 use Rattle.std.specs.List.{position}
-use Rattle.state_changes.specs.declared.row.Row.{Row}
-use Rattle.state_changes.specs.Rows.{is_row_named, with_named}
+use Rattle.state_changes.specs.{declared.row.Row.Row, Rows.is_row_named, Rows.with_named}
 use Rattle.state_changes.proofs.Places.{need_named, nobody_needs}
 use Rattle.state_changes.proofs.rows.Rows.set_need.Goals as goal
 

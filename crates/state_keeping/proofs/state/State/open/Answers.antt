@@ -1,19 +1,12 @@
 -- What was recovered, and the store over it, with the copy of the file that is served.
-use Rattle.std.proofs.Common.{◌≡◌, ℕ, IsTrue, List, option_copied, refl, sym, ap, subst, ◌∙◌}
-use Rattle.base_disk.specs.Image.{File, SameElsewhere}
-use Rattle.base_disk.specs.State.{IsAfter, LeavesOnly}
+use Rattle.std.proofs.Common.{ℕ, IsTrue, List, option_copied, refl, sym, ap, subst, ◌∙◌}
+use Rattle.base_disk.specs.{Image.SameElsewhere, State.IsAfter, State.LeavesOnly}
 use Rattle.state_changes.specs.declared.change.Record.{Record}
-use Rattle.base_journal.specs.declared.journal.Journal.{Journal}
-use Rattle.base_journal.specs.Journals.{KeepsOthers, bytes_of_file, lines_of_journal}
-use Rattle.base_journal.specs.Records.{lines_taken_out}
-use Rattle.state_store.specs.Compacted.{damages}
-use Rattle.state_store.specs.Books.{Book}
-use Rattle.state_store.specs.Records.{records_in}
+use Rattle.base_journal.specs.{declared.journal.Journal.Journal, Journals.KeepsOthers, Journals.lines_of_journal}
+use Rattle.state_store.specs.{Books.Book, Records.records_in}
 use Rattle.state_store.specs.Stores.{BookIsFrom, book_of, is_sure, journal_of}
-use Rattle.state_keeping.specs.Opens.{IsCopyOf}
-use Rattle.state_keeping.specs.Recovers.{IsAside}
-use Rattle.state_keeping.proofs.Served.{aside_records, put_past}
-use Rattle.state_keeping.proofs.Starting.{copied}
+use Rattle.state_keeping.specs.{Opens.IsCopyOf, Recovers.IsAside}
+use Rattle.state_keeping.proofs.{Served.aside_records, Served.put_past, Starting.copied}
 use Rattle.state_keeping.proofs.state.State.open.Goals as goal
 
 pub returns-clause-opened : goal.returns-clause-opened

@@ -2,27 +2,21 @@
 use Rattle.std.proofs.Common.{◌≡◌, inl, ℕ, IsTrue, List, [], ◌∷◌, ◌++◌, true, false, Option, None, Some, OnOk, refl, sym, ap, subst, ◌∙◌}
 use Rattle.std.specs.Prelude.{option_map, string_bytes}
 use Rattle.std.specs.Str.{bytes_eq}
-use Rattle.state_changes.specs.Replay.{replayed}
-use Rattle.state_changes.specs.Words.{fingerprint}
-use Rattle.base_disk.specs.Image.{File, Image}
-use Rattle.base_disk.specs.State.{LeavesAlone, LeavesOnly}
-use Rattle.base_journal.specs.Journals.{Exchanging, FileIsThere, JournalIsAtRest, bytes_of_file}
+use Rattle.state_changes.specs.{Replay.replayed, Words.fingerprint}
+use Rattle.base_disk.specs.{Image.File, Image.Image, State.LeavesAlone, State.LeavesOnly}
 use Rattle.base_journal.specs.Records.{StandsFor}
-use Rattle.state_store.specs.Books.{Book}
-use Rattle.state_store.specs.Compacted.{damaged}
-use Rattle.state_store.specs.Moved.{IsMoved, IsMovedBook, FailsInSteps, IsMovedIf, LeftByMove, MovesInSteps, mark_line}
+use Rattle.base_journal.specs.Journals.{Exchanging, FileIsThere, JournalIsAtRest, bytes_of_file}
+use Rattle.state_store.specs.{Books.Book, Compacted.damaged}
+use Rattle.state_store.specs.Moved.{IsMovedBook, FailsInSteps, IsMovedIf, LeftByMove, MovesInSteps, mark_line}
 use Rattle.state_store.specs.Stores.{FileHolds, book_of, is_sure, journal_of, lines_in, path_of_store}
-use Rattle.state_keeping.specs.Keepers.{store_of}
-use Rattle.state_keeping.specs.Lives.{SettlesInSteps}
+use Rattle.state_keeping.specs.{Keepers.store_of, Lives.SettlesInSteps, States.Kept, States.store_in}
 use Rattle.state_keeping.specs.Settles.{IsSettledState, LeftBySettling, copy_with, mode_of}
-use Rattle.state_keeping.specs.States.{Kept, store_in}
 use Rattle.base_journal.proofs.Steps.{on_refused}
-use Rattle.state_store.proofs.Copied.{on_ok}
-use Rattle.state_store.proofs.Staying.{damaged_marked}
-use Rattle.state_keeping.proofs.Filed.{holds_alone, keeps_at, keeps_handed}
+use Rattle.state_store.proofs.{Copied.on_ok, Staying.damaged_marked}
 use Rattle.state_keeping.proofs.Others.{apart_back}
+use Rattle.state_keeping.proofs.Filed.{holds_alone, keeps_at, keeps_handed}
 use Rattle.state_keeping.proofs.Renewed.{file_is_other, file_past, handed_so, not_copied, on_err, then_handed}
-use Rattle.state_keeping.proofs.Stepping.{hand_call, not_settled, nothing_moved, read_call, settled}
+use Rattle.state_keeping.proofs.Stepping.{hand_call, not_settled, read_call, settled}
 use Rattle.state_keeping.proofs.state.State.settle.Goals as goal
 
 pub returns-in_err-moved-clause-any_moment : goal.returns-in_err-moved-clause-any_moment

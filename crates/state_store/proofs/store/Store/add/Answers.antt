@@ -5,14 +5,10 @@ use Rattle.base_disk.specs.State.{LeavesOnly}
 use Rattle.base_journal.specs.declared.journal.Journal.{Journal}
 use Rattle.base_journal.specs.Journals.{CrashLeaves, JournalHolds, KeepsOthers, TellsLength, lines_of_journal, path_of_journal}
 use Rattle.base_journal.specs.Records.{IsBeforeOrAfter, StandsFor, at_rest}
-use Rattle.state_store.specs.declared.fault.TakeFault.{TakeFault}
-use Rattle.state_store.specs.declared.store.Store.{Store}
-use Rattle.state_store.specs.Entering.{FaultTellsLength, may_hold}
+use Rattle.state_store.specs.{declared.fault.TakeFault.TakeFault, declared.store.Store.Store, Entering.FaultTellsLength, Entering.may_hold}
 use Rattle.state_store.specs.Stores.{journal_of, lines_in, path_of_store}
-use Rattle.state_store.proofs.Copied.{apart_back}
-use Rattle.state_store.proofs.Entered.{surely}
+use Rattle.state_store.proofs.{Copied.apart_back, Entered.surely, Told.long_told}
 use Rattle.state_store.proofs.Kept.{but_others, held_synced, holds_past, still_leaves_all, surely_unput, then_leaves}
-use Rattle.state_store.proofs.Told.{long_told}
 use Rattle.state_store.proofs.store.Store.add.Goals as goal
 
 pub put-requires-clause-held : goal.put-requires-clause-held

@@ -4,10 +4,7 @@ use Rattle.std.specs.declared.alloc.Global.{Global}
 use Rattle.std.proofs.lemmas.Option.{MatchOption-at_some}
 use Rattle.state_changes.specs.Compaction.{voids}
 use Rattle.base_journal.specs.Records.{lines_kept}
-use Rattle.state_store.specs.declared.store.Store.{Store}
-use Rattle.state_store.specs.Compacted.{compacted_lines, is_worth}
-use Rattle.state_store.specs.Records.{records_in}
-use Rattle.state_store.specs.Stores.{lines_in}
+use Rattle.state_store.specs.{declared.store.Store.Store, Compacted.compacted_lines, Compacted.is_worth, Records.records_in, Stores.lines_in}
 use Rattle.state_store.proofs.Undamaged.{compacted_is, compacted_replays}
 use Rattle.state_store.proofs.store.Store.compact.Goals as goal
 

@@ -1,16 +1,9 @@
 -- The lines that are no records stay; the file gives the rows by itself, and so it does with them.
 use Rattle.std.proofs.Common.{◌≡◌, List, ℕ, refl, subst, ap, ◌∙◌}
-use Rattle.base_disk.specs.Image.{File}
-use Rattle.base_disk.specs.State.{LeavesOnly}
-use Rattle.base_journal.specs.Journals.{Exchanging}
-use Rattle.base_journal.specs.Records.{StandsFor, lines_kept}
-use Rattle.state_store.specs.declared.store.Store.{Store}
-use Rattle.state_store.specs.Compacted.{damaged}
-use Rattle.state_store.specs.Stores.{lines_in, path_of_store}
-use Rattle.state_store.specs.code.Moving.{written}
-use Rattle.state_store.proofs.Copied.{on_ok}
-use Rattle.state_store.proofs.Staying.{unwritten_stay}
-use Rattle.state_store.proofs.MovedOn.{handed_replays}
+use Rattle.base_disk.specs.{Image.File, State.LeavesOnly}
+use Rattle.base_journal.specs.{Journals.Exchanging, Records.StandsFor, Records.lines_kept}
+use Rattle.state_store.specs.{declared.store.Store.Store, Compacted.damaged, Stores.lines_in, Stores.path_of_store, code.Moving.written}
+use Rattle.state_store.proofs.{Copied.on_ok, Staying.unwritten_stay, MovedOn.handed_replays}
 use Rattle.state_store.proofs.store.Store.hand_over.Goals as goal
 
 pub returns-clause-taken_out : goal.returns-clause-taken_out

@@ -1,14 +1,11 @@
 -- The file is in its place; or it is looked at which one is there. The journal is left alone.
 use Rattle.std.proofs.Common.{sym, ap, subst, ◌∙◌}
 use Rattle.std.proofs.lemmas.Bool.{and_parts, true≢false}
-use Rattle.base_disk.specs.Image.{File, Image}
-use Rattle.base_disk.specs.State.{IsAfter}
-use Rattle.base_disk.specs.Torn.{MovesFile}
+use Rattle.base_disk.specs.{Image.File, Image.Image, State.IsAfter, Torn.MovesFile}
 use Rattle.base_disk.proofs.Moments.{goes_on}
 use Rattle.base_journal.specs.Journals.{bytes_of_file, lines_of_journal, path_of_journal}
 use Rattle.base_journal.proofs.Steps.{at_end}
-use Rattle.state_store.proofs.Copied.{in_place, rest_past}
-use Rattle.state_store.proofs.Marking.{rest_alone}
+use Rattle.state_store.proofs.{Copied.in_place, Copied.rest_past, Marking.rest_alone}
 use Rattle.state_store.proofs.store.Store.put_in_place.Goals as goal
 
 pub returns-in-Ok-clause-there : goal.returns-in-Ok-clause-there

@@ -1,22 +1,17 @@
 -- With the mark the old file gives the same rows, and so does the new one, which is there.
-use Rattle.std.proofs.Common.{◌≡◌, ◌⊎◌, inl, inr, ⊎_elim, ℕ, List, [], ◌∷◌, ◌++◌, refl, sym, ap, subst, ◌∙◌}
+use Rattle.std.proofs.Common.{inl, inr, ℕ, List, [], ◌∷◌, ◌++◌, refl, sym, ap, subst, ◌∙◌}
 use Rattle.std.specs.Prelude.{string_bytes}
 use Rattle.std.proofs.lemmas.Option.{MatchOption-at_some}
-use Rattle.base_disk.specs.Image.{File}
-use Rattle.base_disk.specs.State.{LeavesOnly}
+use Rattle.base_disk.specs.{Image.File, State.LeavesOnly}
 use Rattle.base_disk.proofs.Moments.{weaker}
-use Rattle.base_journal.specs.declared.journal.Journal.{Journal}
+use Rattle.base_journal.specs.{declared.journal.Journal.Journal, Records.IsBeforeOrAfter}
 use Rattle.base_journal.specs.Journals.{CrashLeaves, FileIsThere, JournalHolds, JournalIsWhole}
-use Rattle.base_journal.specs.Records.{IsBeforeOrAfter}
-use Rattle.state_store.specs.declared.store.Store.{Store}
+use Rattle.state_store.specs.{declared.store.Store.Store, code.Moving.IsMoving}
 use Rattle.state_store.specs.Moved.{LeftByMove, SaysAlready, mark_line}
 use Rattle.state_store.specs.Stores.{IsReplayed, book_of, journal_of, lines_in, path_of_store}
-use Rattle.state_store.specs.code.Moving.{IsMoving}
 use Rattle.base_journal.proofs.Steps.{on_refused}
-use Rattle.state_store.proofs.Kept.{holds_past}
-use Rattle.state_store.proofs.Marking.{first_marked}
+use Rattle.state_store.proofs.{Kept.holds_past, Marking.first_marked, Stepping.puts_file, Stepping.puts_mark}
 use Rattle.state_store.proofs.MovedOn.{marked_replays, marked_then, moved_replays, says_by_itself}
-use Rattle.state_store.proofs.Stepping.{puts_file, puts_mark}
 use Rattle.state_store.proofs.store.Store.settle.Goals as goal
 
 pub returns-in_err-put-clause-replayed : goal.returns-in_err-put-clause-replayed

@@ -1,7 +1,6 @@
 -- The copy is on the disk as it is seen, and the journal is left alone.
 use Rattle.base_journal.specs.Journals.{path_of_journal}
-use Rattle.state_store.proofs.Copied.{apart_back}
-use Rattle.state_store.proofs.Kept.{held_synced, synced_keeps}
+use Rattle.state_store.proofs.{Copied.apart_back, Kept.held_synced, Kept.synced_keeps}
 use Rattle.state_store.proofs.store.Store.sync_copy.Goals as goal
 
 pub returns-in-Ok-clause-durable : goal.returns-in-Ok-clause-durable

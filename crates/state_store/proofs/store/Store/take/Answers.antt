@@ -2,8 +2,7 @@
 use Rattle.std.proofs.Common.{false, sym, ap, ◌∙◌}
 use Rattle.std.specs.Prelude.{string_bytes}
 use Rattle.std.proofs.lemmas.Bool.{true≢false}
-use Rattle.state_store.specs.declared.store.Store.{Store}
-use Rattle.state_store.specs.Books.{Book}
+use Rattle.state_store.specs.{declared.store.Store.Store, Books.Book}
 use Rattle.state_store.proofs.Taken.{goes_on_replaying, same_replays}
 use Rattle.state_store.proofs.store.Store.take.Goals as goal
 

@@ -1,16 +1,10 @@
 -- An answer is heard while others are waited for, and closes the round where nobody is left.
 use Rattle.std.proofs.Common.{◌≡◌, ◌∙◌, ◌<◌, None, Some, ap, arith, false, length, nat_lt, subst, sym, true}
-use Rattle.std.proofs.lemmas.Result.{err_from_is_err_and}
-use Rattle.std.proofs.lemmas.Bool.Decides.{nat_tests}
+use Rattle.std.proofs.lemmas.{Result.err_from_is_err_and, Bool.Decides.nat_tests}
 use Rattle.tick_keeper.specs.declared.event.Output.TheVariants as out
-use Rattle.tick_keeper.specs.code.Hearing.{heard_in_round, others}
-use Rattle.tick_keeper.specs.Refusal.{waits_for}
-use Rattle.tick_keeper.specs.Replan.{Replan}
-use Rattle.tick_keeper.specs.State.{Round}
-use Rattle.tick_keeper.specs.Step.{entry_of_event, state_after_answer}
+use Rattle.tick_keeper.specs.{code.Hearing.heard_in_round, code.Hearing.others, Refusal.waits_for, Replan.Replan, State.Round, Step.entry_of_event, Step.state_after_answer}
+use Rattle.tick_keeper.proofs.{Hearing.waits_in, Refusals.answer_taken}
 use Rattle.tick_keeper.proofs.Heard.{as_answer, nobody, of_some, somebody, wants_turn}
-use Rattle.tick_keeper.proofs.Hearing.{waits_in}
-use Rattle.tick_keeper.proofs.Refusals.{answer_taken}
 use Rattle.tick_keeper.proofs.keeper.Keeper.answer.Goals as goal
 
 pub waits_for_others-requires-clause-within : goal.waits_for_others-requires-clause-within

@@ -1,20 +1,13 @@
 -- The last answer leaves what planning anew would, whether the rest of the plan stands or is made anew.
 use Rattle.std.proofs.Common.{◌∙◌, ◌++◌, None, Option, ap, arith, refl, subst, sym}
-use Rattle.plan_forest.specs.Forest.{entry_at}
-use Rattle.plan_forest.specs.Push.{IsForest}
+use Rattle.plan_forest.specs.{Forest.entry_at, Push.IsForest}
 use Rattle.plan_forest.proofs.Carrying.{and_left, and_right}
 use Rattle.plan_rule.specs.Runs.{moments_of}
 use Rattle.plan_search.specs.Planned.{to_come}
-use Rattle.tick_keeper.specs.declared.round.OpenRound.{OpenRound}
-use Rattle.tick_keeper.specs.code.Hearing.{is_rules}
-use Rattle.tick_keeper.specs.code.Keeping.{IsKeeper, seen_round}
-use Rattle.tick_keeper.specs.Replan.{Replan, ReplanTooLong}
-use Rattle.tick_keeper.specs.Shorten.{pairs, shorten}
-use Rattle.tick_keeper.specs.State.{CoreState}
+use Rattle.tick_keeper.specs.{declared.round.OpenRound.OpenRound, code.Hearing.is_rules, code.Keeping.IsKeeper, code.Keeping.seen_round, Replan.Replan, Replan.ReplanTooLong, Shorten.pairs, Shorten.shorten, State.CoreState}
 use Rattle.tick_keeper.specs.Step.{entry_after_answer, entry_of_event, state_after_answer, with_entry_changed}
+use Rattle.tick_keeper.proofs.{Made.made, Made.made_keeper, Shortening.shorten_forest}
 use Rattle.tick_keeper.proofs.Heard.{Stays, answer_fits, answered_keeper, handed_seconds, handed_within, hears, if_some, only_memory, others_are, state_of, stays, stays_planned}
-use Rattle.tick_keeper.proofs.Made.{made, made_keeper}
-use Rattle.tick_keeper.proofs.Shortening.{shorten_forest}
 use Rattle.tick_keeper.proofs.keeper.Keeper.close.Goals as goal
 
 pub is_rules-requires-clause-within : goal.is_rules-requires-clause-within

@@ -2,13 +2,10 @@
 use Rattle.std.proofs.Common.{◌≡◌, ◌∙◌, ◌+◌, ◌-◌, ◌<◌, ◌&&◌, false, Option, Some, ap, arith, length, refl, set, subst, sym}
 use Rattle.std.specs.Vec.{with_item}
 use Rattle.plan_forest.specs.Forest.{Forest, entry_at}
-use Rattle.tick_keeper.specs.declared.round.OpenRound.{OpenRound}
-use Rattle.tick_keeper.specs.code.Hearing.{heard_in_round, is_rules}
-use Rattle.tick_keeper.specs.code.Keeping.{seen_round, waited_for}
-use Rattle.tick_keeper.specs.State.{CoreState}
+use Rattle.tick_keeper.specs.{declared.round.OpenRound.OpenRound, code.Hearing.heard_in_round, code.Hearing.is_rules, code.Keeping.seen_round, code.Keeping.waited_for, State.CoreState}
 use Rattle.tick_keeper.specs.Step.{entry_after_answer, entry_of_event, with_entry_changed, without_index}
-use Rattle.tick_keeper.proofs.Heard.{handed_seconds, handed_within, hears, heard_keeper, others_are, state_of}
 use Rattle.tick_keeper.proofs.Hearing.{waited_set}
+use Rattle.tick_keeper.proofs.Heard.{handed_seconds, handed_within, hears, heard_keeper, others_are, state_of}
 use Rattle.tick_keeper.proofs.keeper.Keeper.hear.Goals as goal
 
 pub is_rules-requires-clause-within : goal.is_rules-requires-clause-within

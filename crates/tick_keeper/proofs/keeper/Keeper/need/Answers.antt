@@ -3,16 +3,9 @@ use Rattle.std.proofs.Common.{◌≡◌, ◌∙◌, ◌<◌, Option, None, ap, a
 use Rattle.plan_forest.specs.Push.{IsForest}
 use Rattle.plan_rule.specs.Runs.{moments_of}
 use Rattle.plan_search.specs.Planned.{to_come}
-use Rattle.tick_keeper.specs.declared.round.OpenRound.{OpenRound}
-use Rattle.tick_keeper.specs.code.Keeping.{IsKeeper, seen_round}
-use Rattle.tick_keeper.specs.Replan.{Replan}
-use Rattle.tick_keeper.specs.State.{CoreState}
-use Rattle.tick_keeper.specs.Step.{with_new_need}
-use Rattle.tick_keeper.proofs.Changed.{needed_forest}
+use Rattle.tick_keeper.specs.{declared.round.OpenRound.OpenRound, code.Keeping.IsKeeper, code.Keeping.seen_round, Replan.Replan, State.CoreState, Step.with_new_need}
+use Rattle.tick_keeper.proofs.{Changed.needed_forest, Shortening.shorten_forest, Taken.moment_is, Refusals.need_taken}
 use Rattle.tick_keeper.proofs.Made.{made, made_keeper, none_seen}
-use Rattle.tick_keeper.proofs.Shortening.{shorten_forest}
-use Rattle.tick_keeper.proofs.Taken.{moment_is}
-use Rattle.tick_keeper.proofs.Refusals.{need_taken}
 use Rattle.tick_keeper.proofs.keeper.Keeper.need.Goals as goal
 
 pub unwrap-until-requires : goal.unwrap-until-requires

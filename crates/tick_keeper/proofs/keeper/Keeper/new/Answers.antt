@@ -1,10 +1,8 @@
 -- A forest that was planned anew makes a keeper, in which no round is open.
 use Rattle.std.proofs.Common.{◌∙◌, ◌++◌, ap, subst, sym}
 use Rattle.plan_forest.specs.Push.{IsForest}
-use Rattle.tick_keeper.specs.Shorten.{pairs}
-use Rattle.tick_keeper.specs.State.{unplanned}
-use Rattle.tick_keeper.proofs.Made.{made, made_keeper}
-use Rattle.tick_keeper.proofs.Shortening.{shorten_forest}
+use Rattle.tick_keeper.specs.{Shorten.pairs, State.unplanned}
+use Rattle.tick_keeper.proofs.{Made.made, Made.made_keeper, Shortening.shorten_forest}
 use Rattle.tick_keeper.proofs.keeper.Keeper.new.Goals as goal
 
 pub invariant_of-result : goal.invariant_of-result

@@ -1,8 +1,7 @@
 -- Whenever no round is open, the plan of a keeper is in force.
 use Rattle.std.proofs.Common.{◌≡◌, ◌∙◌, None, ap, arith, subst}
 use Rattle.plan_search.specs.Planned.{to_come}
-use Rattle.tick_keeper.specs.InForce.{InForce}
-use Rattle.tick_keeper.specs.State.{CoreState}
+use Rattle.tick_keeper.specs.{InForce.InForce, State.CoreState}
 use Rattle.tick_keeper.proofs.Made.{count_moments, none_seen}
 use Rattle.tick_keeper.proofs.keeper.Keeper.plan.Goals as goal
 

@@ -1,10 +1,7 @@
 -- One event more makes the history a turn longer, and its result has its room.
 use Rattle.std.proofs.Common.{◌+◌, ◌<◌, ◌++◌, List, [], ◌∷◌, Result, arith, length, subst, sym, take}
 use Rattle.std.proofs.lemmas.List.{take_more}
-use Rattle.tick_keeper.specs.declared.event.Event.{Event}
-use Rattle.tick_keeper.specs.declared.event.Output.{Output}
-use Rattle.tick_keeper.specs.declared.fault.StepFault.{StepFault}
-use Rattle.tick_keeper.specs.History.{CoreHistory}
+use Rattle.tick_keeper.specs.{declared.event.Event.Event, declared.event.Output.Output, declared.fault.StepFault.StepFault, History.CoreHistory}
 use Rattle.tick_keeper.proofs.Stepping.{history_more}
 use Rattle.tick_keeper.proofs.keeper.Keeper.steps.Goals as goal
 

@@ -2,24 +2,12 @@
 use Rattle.std.proofs.lemmas.Result.{err_from_is_err_and}
 use Rattle.std.proofs.Common.{◌≡◌, ◌∙◌, ◌≤◌, Option, None, ap, arith, false, length, subst, sym}
 use Rattle.plan_forest.specs.Push.{IsForest}
-use Rattle.plan_rule.specs.Asks.{first_of}
-use Rattle.plan_rule.specs.Runs.{moments_of}
-use Rattle.plan_rule.specs.declared.limit.TheConstants.{LIMIT}
+use Rattle.plan_rule.specs.{Asks.first_of, Runs.moments_of, declared.limit.TheConstants.LIMIT}
 use Rattle.plan_search.specs.Planned.{to_come}
-use Rattle.tick_keeper.specs.declared.event.Event.TheVariants.{Tick}
-use Rattle.tick_keeper.specs.declared.round.OpenRound.{OpenRound}
-use Rattle.tick_keeper.specs.code.Keeping.{IsKeeper, seen_round}
-use Rattle.tick_keeper.specs.Replan.{Replan}
-use Rattle.tick_keeper.specs.State.{CoreState}
+use Rattle.tick_keeper.specs.{declared.event.Event.TheVariants.Tick, declared.round.OpenRound.OpenRound, code.Keeping.IsKeeper, code.Keeping.seen_round, Replan.Replan, State.CoreState, code.Waking.is_late}
 use Rattle.tick_keeper.specs.Step.{IsDueBy, StepMayWantMemory, StepTick}
-use Rattle.tick_keeper.specs.code.Waking.{is_late}
+use Rattle.tick_keeper.proofs.{Heard.only_memory, Opened.tick_fits, Shortening.shorten_forest, Standing.kept_plan, Standing.tick, Taken.moment_is, Refusals.tick_taken}
 use Rattle.tick_keeper.proofs.Made.{count_moments, made, made_keeper, none_seen}
-use Rattle.tick_keeper.proofs.Heard.{only_memory}
-use Rattle.tick_keeper.proofs.Opened.{tick_fits}
-use Rattle.tick_keeper.proofs.Shortening.{shorten_forest}
-use Rattle.tick_keeper.proofs.Standing.{kept_plan, tick}
-use Rattle.tick_keeper.proofs.Taken.{moment_is}
-use Rattle.tick_keeper.proofs.Refusals.{tick_taken}
 use Rattle.tick_keeper.proofs.Waking.{kept_keeper, late_due, none_before, tick_step}
 use Rattle.tick_keeper.proofs.keeper.Keeper.tick.Goals as goal
 

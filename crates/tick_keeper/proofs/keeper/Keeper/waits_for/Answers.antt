@@ -1,10 +1,7 @@
 -- The flag of an entry says whether the round waits for it, and past the flags nobody is waited for.
 use Rattle.std.proofs.Common.{◌≡◌, ◌∙◌, ◌<◌, ◌≤◌, ap, arith, false, length, nat_lt, sym}
-use Rattle.std.proofs.lemmas.Bool.Decides.{nat_tests}
-use Rattle.std.proofs.lemmas.List.{get_or_past, get_or_read}
-use Rattle.tick_keeper.specs.code.Keeping.{flag_of, seen_round}
-use Rattle.tick_keeper.specs.Refusal.{waits_for}
-use Rattle.tick_keeper.specs.State.{CoreState}
+use Rattle.std.proofs.lemmas.{Bool.Decides.nat_tests, List.get_or_past, List.get_or_read}
+use Rattle.tick_keeper.specs.{code.Keeping.flag_of, code.Keeping.seen_round, Refusal.waits_for, State.CoreState}
 use Rattle.tick_keeper.proofs.Waiting.{waits_flag}
 use Rattle.tick_keeper.proofs.keeper.Keeper.waits_for.Goals as goal
 

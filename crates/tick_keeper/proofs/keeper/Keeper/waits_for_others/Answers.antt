@@ -1,10 +1,8 @@
 -- Others are waited for exactly where more than one answer is left.
 use Rattle.std.proofs.Common.{◌∙◌, ◌<◌, ap, arith, length, nat_lt, refl, sym}
-use Rattle.tick_keeper.specs.code.Keeping.{seen_round, waited_for}
-use Rattle.tick_keeper.specs.State.{CoreState}
-use Rattle.tick_keeper.specs.Step.{without_index}
-use Rattle.tick_keeper.proofs.Heard.{flag_waits, one_more, others_are}
+use Rattle.tick_keeper.specs.{code.Keeping.seen_round, code.Keeping.waited_for, State.CoreState, Step.without_index}
 use Rattle.tick_keeper.proofs.Hearing.{waited_less, waited_set}
+use Rattle.tick_keeper.proofs.Heard.{flag_waits, one_more, others_are}
 use Rattle.tick_keeper.proofs.keeper.Keeper.waits_for_others.Goals as goal
 
 pub returns-in-Some : goal.returns-in-Some

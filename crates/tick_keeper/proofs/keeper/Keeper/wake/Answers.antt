@@ -2,12 +2,8 @@
 use Rattle.std.proofs.Common.{◌≡◌, ◌∙◌, Option, Some, None, ap, subst, sym}
 use Rattle.plan_rule.specs.Runs.{moments_of}
 use Rattle.plan_search.specs.Planned.{Planned, to_come}
-use Rattle.tick_keeper.specs.declared.opening.Opening.{Opening}
-use Rattle.tick_keeper.specs.code.Keeping.{IsKeeper}
-use Rattle.tick_keeper.specs.State.{CoreState}
-use Rattle.tick_keeper.specs.code.Waking.{IsRoundOpening, OpensRound}
-use Rattle.tick_keeper.proofs.Made.{none_seen}
-use Rattle.tick_keeper.proofs.Waking.{opened_keeper}
+use Rattle.tick_keeper.specs.{declared.opening.Opening.Opening, code.Keeping.IsKeeper, State.CoreState, code.Waking.IsRoundOpening, code.Waking.OpensRound}
+use Rattle.tick_keeper.proofs.{Made.none_seen, Waking.opened_keeper}
 use Rattle.tick_keeper.proofs.keeper.Keeper.wake.Goals as goal
 
 pub invariant_of-self : goal.invariant_of-self

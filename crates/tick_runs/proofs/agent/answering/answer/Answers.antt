@@ -1,13 +1,10 @@
 -- What a reply means is an answer of the entry that asked, which is refused only for lack of memory.
 use Rattle.std.proofs.Common.{◌≡◌, ap, ◌∙◌, ◌++◌, Err, length, sym, subst}
-use Rattle.plan_forest.specs.declared.entry.Entry.{Entry}
-use Rattle.plan_forest.specs.Forest.{Forest, entry_at}
+use Rattle.plan_forest.specs.{declared.entry.Entry.Entry, Forest.Forest, Forest.entry_at}
 use Rattle.tick_keeper.specs.State.{CoreState}
-use Rattle.tick_runs.specs.Replies.{IsAnswerOf, event_for, event_of}
 use Rattle.tick_runs.specs.Text.{answer_line, short_need_lines}
-use Rattle.tick_runs.proofs.OneAnswer.{answers_for, one_answer}
-use Rattle.tick_runs.proofs.Refusing.{answer_taken, taken_stop}
-use Rattle.tick_runs.proofs.Within.{AreOf, short_within}
+use Rattle.tick_runs.specs.Replies.{IsAnswerOf, event_for, event_of}
+use Rattle.tick_runs.proofs.{OneAnswer.answers_for, OneAnswer.one_answer, Refusing.answer_taken, Refusing.taken_stop, Within.AreOf, Within.short_within}
 use Rattle.tick_runs.proofs.agent.answering.answer.Goals as goal
 
 pub push_answer_line-requires-clause-answers : goal.push_answer_line-requires-clause-answers

@@ -1,9 +1,7 @@
 -- The shortened needs of a tick are of the forest, and only lack of memory refuses one.
 use Rattle.std.proofs.Common.{ap, ◌∙◌, ◌≤◌, Err, Ok, arith, length, sym, subst}
 use Rattle.plan_forest.specs.Forest.{Forest}
-use Rattle.tick_keeper.specs.State.{CoreState}
-use Rattle.tick_keeper.specs.States.{IsState}
-use Rattle.tick_keeper.specs.declared.event.Event.TheVariants.{Tick}
+use Rattle.tick_keeper.specs.{State.CoreState, States.IsState, declared.event.Event.TheVariants.Tick}
 use Rattle.tick_keeper.proofs.Shaped.{shape}
 use Rattle.tick_runs.proofs.Refusing.{taken_stop, tick_leaves, tick_taken}
 use Rattle.tick_runs.proofs.Within.{AreOf, short_within, asked_few}

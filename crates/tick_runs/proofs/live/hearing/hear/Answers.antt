@@ -2,8 +2,7 @@
 use Rattle.std.proofs.Common.{refl, subst}
 use Rattle.base_device.specs.Seen.{Change, change}
 use Rattle.program_report.specs.Sent.{SendsText}
-use Rattle.tick_runs.specs.Hearing.{HearsTo}
-use Rattle.tick_runs.specs.Stops.{both}
+use Rattle.tick_runs.specs.{Hearing.HearsTo, Stops.both}
 use Rattle.program_lines.proofs.LineByLine.{handed_on}
 use Rattle.tick_runs.proofs.SentTicks.{need_halts, need_sent, unknown_sent}
 use Rattle.tick_runs.proofs.live.hearing.hear.Goals as goal

@@ -2,11 +2,8 @@
 use Rattle.std.proofs.Common.{◌≤◌, ap, ◌∙◌, length, sym, subst}
 use Rattle.base_moment.specs.declared.moment.TheConstants.{LAST}
 use Rattle.plan_forest.specs.Forest.{Forest}
-use Rattle.tick_keeper.specs.declared.event.Event.TheVariants.{Need}
-use Rattle.tick_keeper.specs.State.{CoreState}
-use Rattle.tick_runs.proofs.LiveTicks.{need_stops, ready_on}
-use Rattle.tick_runs.proofs.Refusing.{need_fault, needed_closed}
-use Rattle.tick_runs.proofs.Within.{AreOf, short_within}
+use Rattle.tick_keeper.specs.{declared.event.Event.TheVariants.Need, State.CoreState}
+use Rattle.tick_runs.proofs.{LiveTicks.need_stops, LiveTicks.ready_on, Refusing.need_fault, Refusing.needed_closed, Within.AreOf, Within.short_within}
 use Rattle.tick_runs.proofs.live.hearing.hear_need.Goals as goal
 
 pub push_short_lines-requires : goal.push_short_lines-requires

@@ -5,15 +5,12 @@ use Rattle.tick_keeper.specs.declared.event.Output.TheVariants as out
 use Rattle.tick_keeper.specs.State.{CoreState}
 use Rattle.program_report.specs.declared.stop.Stop.TheVariants as stops
 use Rattle.program_report.specs.Sent.{IsAll, SendsText}
-use Rattle.tick_runs.specs.code.Telling.{IsSentWhole}
-use Rattle.tick_runs.specs.Hearing.{HearsTo, next_tick_line}
+use Rattle.tick_runs.specs.{code.Telling.IsSentWhole, code.Telling.TellsRound, Hearing.HearsTo, Hearing.next_tick_line, Stops.both}
 use Rattle.program_lines.specs.declared.event_line.HeardLine.TheVariants as heards
-use Rattle.tick_runs.specs.Stops.{both}
-use Rattle.tick_runs.specs.code.Telling.{TellsRound}
 use Rattle.program_lines.specs.Hearing.{joined_changes}
 use Rattle.program_lines.proofs.LineByLine.{handed_on}
-use Rattle.tick_runs.proofs.LiveTicks.{on_ok, only_idle, round_as, ticks_as, ticks_ready}
 use Rattle.tick_runs.proofs.Refusing.{leaves_closed, leaves_sleeping}
+use Rattle.tick_runs.proofs.LiveTicks.{on_ok, only_idle, round_as, ticks_as, ticks_ready}
 use Rattle.tick_runs.proofs.SentTicks.{late_sent, quiet_sent, round_memory, round_sent, round_stops, stops_at_first}
 use Rattle.tick_runs.proofs.live.hearing.hear_tick.Goals as goal
 

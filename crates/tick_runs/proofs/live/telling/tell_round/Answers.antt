@@ -3,14 +3,11 @@ use Rattle.std.proofs.Common.{[], Err, Ok, ◌+◌, ◌∙◌, ap, drop, get_or,
 use Rattle.std.proofs.KnownBytes.{Appends-nil}
 use Rattle.base_device.specs.Seen.{Change, change}
 use Rattle.tick_keeper.proofs.Shaped.{both_shaped, same}
-use Rattle.tick_runs.specs.Stops.{both}
-use Rattle.tick_runs.specs.code.Telling.{TellsOne, TellsRound}
-use Rattle.tick_runs.proofs.Agents.{as_begun}
+use Rattle.tick_runs.specs.{Stops.both, code.Telling.TellsOne, code.Telling.TellsRound}
+use Rattle.tick_runs.proofs.{Agents.as_begun, Rounds.none_answered, ToldRounds.stopped_on, ToldRounds.told_more}
+use Rattle.tick_runs.proofs.Refusing.{Stands, hears_leads, hears_shaped, stands_first, stands_now}
 use Rattle.program_lines.specs.Hearing.{joined_changes}
 use Rattle.program_lines.proofs.LineByLine.{handed_on}
-use Rattle.tick_runs.proofs.Refusing.{Stands, hears_leads, hears_shaped, stands_first, stands_now}
-use Rattle.tick_runs.proofs.Rounds.{none_answered}
-use Rattle.tick_runs.proofs.ToldRounds.{stopped_on, told_more}
 use Rattle.tick_runs.proofs.live.telling.tell_round.Goals as goal
 
 pub loop-i-init : goal.loop-i-init

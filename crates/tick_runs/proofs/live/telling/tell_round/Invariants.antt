@@ -2,9 +2,7 @@
 use Rattle.std.proofs.Common.{◌≡◌, List, [], ℕ, drop, take}
 use Rattle.base_device.specs.Seen.{change}
 use Rattle.tick_keeper.specs.LawsOfSteps.{IsShaped}
-use Rattle.tick_runs.specs.code.Telling.{IsSentWhole}
-use Rattle.tick_runs.specs.code.Playing.{AnswersAll}
-use Rattle.tick_runs.specs.Stops.{both}
+use Rattle.tick_runs.specs.{code.Telling.IsSentWhole, code.Playing.AnswersAll, Stops.both}
 use Rattle.tick_runs.proofs.Refusing.{Stands}
 use Rattle.tick_runs.proofs.live.telling.tell_round.Given as goal
 

@@ -2,8 +2,7 @@
 use Rattle.std.proofs.Common.{◌≡◌, ◌∙◌, ◌+◌, ◌∷◌, ◌++◌, [], None, Some, Err, ap, arith, drop, refl, sym, subst}
 use Rattle.std.proofs.Math.ListN.{drop_of_length-le}
 use Rattle.std.proofs.lemmas.List.{drop_more}
-use Rattle.broker_rule.specs.Faults.{fault_refusal}
-use Rattle.broker_rule.specs.Table.{BrokerTable}
+use Rattle.broker_rule.specs.{Faults.fault_refusal, Table.BrokerTable}
 use Rattle.tick_runs.specs.FaultWords.{SetsFaults, fault_word, faults_from}
 use Rattle.program_report.specs.declared.stop.Stop.{Stop}
 use Rattle.tick_runs.proofs.FaultWord.{free, no_more, set_stopped, word_bad, word_refused, word_taken}

@@ -1,8 +1,7 @@
 -- After the last wake-up allowed the run ends, or tells that another is due.
 use Rattle.std.proofs.Common.{subst}
 use Rattle.tick_runs.specs.code.Playing.{OpensOrEnds}
-use Rattle.tick_runs.proofs.Goes.{due_of}
-use Rattle.tick_runs.proofs.Written.{keeps_appends, last_ends}
+use Rattle.tick_runs.proofs.{Goes.due_of, Written.keeps_appends, Written.last_ends}
 use Rattle.tick_runs.proofs.rehearse.playing.last.Goals as goal
 
 pub returns-in-None : goal.returns-in-None

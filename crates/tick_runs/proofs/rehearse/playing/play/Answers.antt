@@ -1,11 +1,9 @@
 -- One wake-up more is played and its lines are written; a run that stops on the way is told as far as it came.
 use Rattle.std.proofs.Common.{◌≡◌, ◌∙◌, ◌≤◌, None, Some, arith, refl, subst}
 use Rattle.std.specs.Io.KnownBytes.{Appends}
-use Rattle.base_device.specs.Seen.{Change, change}
-use Rattle.base_device.specs.Front.{AppendsFront}
+use Rattle.base_device.specs.{Seen.Change, Seen.change, Front.AppendsFront}
+use Rattle.tick_runs.specs.{Stops.both, Text.inventory_with}
 use Rattle.tick_runs.specs.code.Playing.{MayCome, RunGoes, RunWakes, next_in, requests_in}
-use Rattle.tick_runs.specs.Stops.{both}
-use Rattle.tick_runs.specs.Text.{inventory_with}
 use Rattle.tick_runs.proofs.Written.{Going, for_memory, going_done, going_first, going_more, going_stops, going_to_end, going_unwritten, last_played, piece_goes, unwritten_before}
 use Rattle.tick_runs.proofs.rehearse.playing.play.Goals as goal
 

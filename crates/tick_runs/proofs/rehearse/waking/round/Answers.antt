@@ -2,11 +2,9 @@
 use Rattle.std.proofs.Common.{ap, ◌+◌, ◌++◌, ◌∷◌, ◌∙◌, [], drop, refl, sym, subst, take, get_or, arith}
 use Rattle.std.proofs.lemmas.List.{take_all, take_more}
 use Rattle.tick_keeper.proofs.Shaped.{both_shaped, same}
-use Rattle.tick_runs.specs.code.Playing.{Answers, AnswersAll}
-use Rattle.tick_runs.specs.Stops.{both}
-use Rattle.tick_runs.proofs.Agents.{as_begun}
+use Rattle.tick_runs.specs.{code.Playing.Answers, code.Playing.AnswersAll, Stops.both}
+use Rattle.tick_runs.proofs.{Agents.as_begun, Rounds.answers_more, Rounds.none_answered}
 use Rattle.tick_runs.proofs.Refusing.{Stands, first_waits, first_within, hears_leads, hears_shaped, stands_first, stands_last, stands_now}
-use Rattle.tick_runs.proofs.Rounds.{answers_more, none_answered}
 use Rattle.tick_runs.proofs.rehearse.waking.round.Goals as goal
 
 pub loop-i-init : goal.loop-i-init

@@ -1,8 +1,7 @@
 -- The asked entries before the index have their answers, and the round stands for those that are left.
 use Rattle.std.proofs.Common.{◌≡◌, [], drop, take}
 use Rattle.tick_keeper.specs.LawsOfSteps.{IsShaped}
-use Rattle.tick_runs.specs.code.Playing.{AnswersAll}
-use Rattle.tick_runs.specs.Stops.{both}
+use Rattle.tick_runs.specs.{code.Playing.AnswersAll, Stops.both}
 use Rattle.tick_runs.proofs.Refusing.{Stands}
 use Rattle.tick_runs.proofs.rehearse.waking.round.Given as goal
 

@@ -1,12 +1,10 @@
 -- The round that a tick opens can be played, and where nobody is asked any more the run ends.
 use Rattle.std.specs.Prelude.{◌≢◌}
 use Rattle.std.proofs.Common.{◌≡◌, ap, ◌++◌, List, [], ℕ, Some, length, sym, subst, true, false}
+use Rattle.tick_runs.specs.{Stops.both, Text.inventory_with}
 use Rattle.tick_runs.specs.code.Playing.{AnswersAll, LeavesOpen, OpensOrEnds, RoundWaits, RunGoes}
 use Rattle.tick_keeper.specs.declared.event.Output.TheVariants as out
-use Rattle.tick_runs.specs.Stops.{both}
-use Rattle.tick_runs.specs.Text.{inventory_with}
-use Rattle.tick_runs.proofs.Goes.{ends_go, round_goes_on}
-use Rattle.tick_runs.proofs.Within.{told_in_range}
+use Rattle.tick_runs.proofs.{Goes.ends_go, Goes.round_goes_on, Within.told_in_range}
 use Rattle.tick_runs.proofs.rehearse.waking.wake.Goals as goal
 
 pub unreachable-requires : goal.unreachable-requires

@@ -1,11 +1,9 @@
 -- No head yet, or one that is refused, however the bytes go on.
 use Rattle.std.proofs.Common.{subst}
 use Rattle.httparse.specs.Spans.{RequestOverflows}
-use Rattle.vault_http.specs.Messages.{IsOpenRequest}
-use Rattle.vault_http.proofs.RequestLaws.{long_request, open_request}
-use Rattle.vault_http.proofs.RequestLemmas.{refused_request}
+use Rattle.vault_http.specs.{Messages.IsOpenRequest, declared.found_head.TheConstants.MOST_FIELDS}
+use Rattle.vault_http.proofs.{RequestLaws.long_request, RequestLaws.open_request, RequestLemmas.refused_request}
 use Rattle.vault_http.proofs.request_message.RequestMessage.head.Goals as goal
-use Rattle.vault_http.specs.declared.found_head.TheConstants.{MOST_FIELDS}
 
 pub returns-in-Open : goal.returns-in-Open
 returns-in-Open c = λ more. long_request c.args.max c.args.bytes.now more c.if-bytes-max.true (subst IsOpenRequest c.front_of.ensures c.in-Open.ensures)

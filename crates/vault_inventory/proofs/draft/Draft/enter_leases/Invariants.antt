@@ -1,9 +1,7 @@
 -- To enter the leases that are left gives what it gives to enter all of them.
 use Rattle.std.proofs.Common.{◌≡◌, drop}
 use Rattle.toml.specs.View.{items_view}
-use Rattle.vault_inventory.specs.declared.key.Key.TheVariants.{Lease}
-use Rattle.vault_inventory.specs.Languages.{full}
-use Rattle.vault_inventory.specs.Inventory.{lease_entered, entered_by}
+use Rattle.vault_inventory.specs.{declared.key.Key.TheVariants.Lease, Languages.full, Inventory.lease_entered, Inventory.entered_by}
 use Rattle.vault_inventory.proofs.draft.Draft.enter_leases.Given as goal
 
 abbrev pub invariant-loop-lease : goal.invariant-loop-lease

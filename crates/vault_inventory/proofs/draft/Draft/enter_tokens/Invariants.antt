@@ -1,9 +1,7 @@
 -- To enter the tokens that are left gives what it gives to enter all of them.
 use Rattle.std.proofs.Common.{◌≡◌, drop}
 use Rattle.toml.specs.View.{items_view}
-use Rattle.vault_inventory.specs.declared.key.Key.TheVariants.{Token}
-use Rattle.vault_inventory.specs.Languages.{full}
-use Rattle.vault_inventory.specs.Inventory.{token_entered, entered_by}
+use Rattle.vault_inventory.specs.{declared.key.Key.TheVariants.Token, Languages.full, Inventory.token_entered, Inventory.entered_by}
 use Rattle.vault_inventory.proofs.draft.Draft.enter_tokens.Given as goal
 
 abbrev pub invariant-loop-token : goal.invariant-loop-token

@@ -1,9 +1,7 @@
 -- What a lookup tells, where it is not refused, has a step over the margin and leaves an inventory.
 use Rattle.std.proofs.Common.{◌≡◌, ◌∙◌, ◌<◌, ◌≤◌, ◌+◌, ap, length, subst, sym, refl, None}
-use Rattle.plan_forest.specs.Forest.{entry_at}
-use Rattle.plan_forest.specs.Push.{IsForest}
-use Rattle.vault_inventory.specs.declared.limits.TheConstants.{SPAN_MAX}
-use Rattle.vault_inventory.specs.declared.terms.Terms.{Terms}
+use Rattle.plan_forest.specs.{Forest.entry_at, Push.IsForest}
+use Rattle.vault_inventory.specs.{declared.limits.TheConstants.SPAN_MAX, declared.terms.Terms.Terms}
 use Rattle.vault_inventory.specs.Inventories.{IsInventory, Inventory, terms_at}
 use Rattle.vault_inventory.specs.Lookup.{lookup_fault, told, told_entry, told_terms}
 use Rattle.vault_inventory.proofs.Told.{entry_then, is_told, past_margin, told_is_inventory}

@@ -1,7 +1,6 @@
 -- An inventory with another need of one entry is one still.
-use Rattle.std.proofs.Common.{◌≡◌, ◌∙◌, ◌<◌, ap, length, subst, sym}
-use Rattle.plan_forest.specs.Forest.{Forest}
-use Rattle.plan_forest.specs.Push.{IsForest}
+use Rattle.std.proofs.Common.{◌∙◌, ◌<◌, ap, length, subst, sym}
+use Rattle.plan_forest.specs.{Forest.Forest, Push.IsForest}
 use Rattle.vault_inventory.specs.Inventories.{IsInventory, Inventory, inventory_with_need}
 use Rattle.vault_inventory.proofs.Told.{needed_is_inventory}
 use Rattle.vault_inventory.proofs.inventory.Inventory.set_need.Goals as goal

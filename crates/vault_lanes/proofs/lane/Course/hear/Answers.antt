@@ -1,10 +1,7 @@
 -- What is read of the bytes so far is told of all that may follow.
 use Rattle.std.proofs.Common.{ℕ, List, ◌++◌, subst}
-use Rattle.vault_http.specs.Dates.{IsDatedReply}
-use Rattle.vault_http.specs.Messages.{UnlessMemory}
-use Rattle.vault_http.specs.declared.known.TheConstants.{MOST_MESSAGE}
-use Rattle.vault_lanes.specs.Lanes.{NothingFollowsEnd}
-use Rattle.vault_lanes.specs.code.Courses.{came_by}
+use Rattle.vault_http.specs.{Dates.IsDatedReply, Messages.UnlessMemory, declared.known.TheConstants.MOST_MESSAGE}
+use Rattle.vault_lanes.specs.{Lanes.NothingFollowsEnd, code.Courses.came_by}
 use Rattle.vault_lanes.proofs.Lost.{read_counted, told_as}
 use Rattle.vault_lanes.proofs.lane.Course.hear.Goals as goal
 

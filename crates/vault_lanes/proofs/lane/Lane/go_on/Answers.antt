@@ -2,8 +2,7 @@
 use Rattle.std.proofs.Common.{◌≡◌, ◌++◌, ◌∙◌, ap, subst, sym}
 use Rattle.std.specs.Io.KnownBytes.{Keeps}
 use Rattle.std.proofs.KnownBytes.{Keeps-refl}
-use Rattle.vault_lanes.specs.code.Courses.{came_by}
-use Rattle.vault_lanes.specs.code.Ways.{left_of}
+use Rattle.vault_lanes.specs.{code.Courses.came_by, code.Ways.left_of}
 use Rattle.vault_lanes.proofs.Arrives.{heard_from}
 use Rattle.vault_lanes.proofs.lane.Lane.go_on.Goals as goal
 use Rattle.vault_lanes.proofs.lane.Lane.go_on.Goals.{then-not-is_empty+in_default+else-not-is_empty-2, else-not-is_empty}

@@ -1,7 +1,6 @@
 -- Each goes on, and the deadlines of those that went on are ahead.
 use Rattle.std.proofs.Common.{◌≡◌, ◌∙◌, ap, length}
-use Rattle.vault_lanes.proofs.Due.{back_ahead}
-use Rattle.vault_lanes.proofs.Moved.{back_moved, back_up_to}
+use Rattle.vault_lanes.proofs.{Due.back_ahead, Moved.back_moved, Moved.back_up_to}
 use Rattle.base_device.proofs.Lent.{written_back}
 use Rattle.vault_lanes.proofs.running.LanesOver.try_all.Goals as goal
 

@@ -1,6 +1,5 @@
 -- What is left is due later, and those that were over are handed back.
-use Rattle.vault_lanes.proofs.Due.{left_due}
-use Rattle.vault_lanes.proofs.Moved.{gone_on}
+use Rattle.vault_lanes.proofs.{Due.left_due, Moved.gone_on}
 use Rattle.vault_lanes.proofs.running.LanesOverLanes.go_on.Goals as goal
 
 pub returns-clause-settled : goal.returns-clause-settled

@@ -1,8 +1,6 @@
 -- One more has begun, and takes as long as it is allowed to.
 use Rattle.std.proofs.Common.{◌≡◌, subst}
-use Rattle.vault_lanes.specs.Seats.{SeatIsPut}
-use Rattle.vault_lanes.specs.Serving.{allowed}
-use Rattle.vault_lanes.specs.code.Ways.{HasBegun}
+use Rattle.vault_lanes.specs.{Seats.SeatIsPut, Serving.allowed, code.Ways.HasBegun}
 use Rattle.vault_http.specs.Written.{request_text}
 use Rattle.vault_lanes.proofs.running.LanesOverLanes.send.Goals as goal
 

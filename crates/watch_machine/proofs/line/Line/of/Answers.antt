@@ -1,10 +1,7 @@
 -- What is found of the entries is a line.
 use Rattle.std.proofs.Common.{◌∙◌, ℕ, ap, arith, refl}
-use Rattle.watch_machine.specs.declared.lull.TheConstants.{NEVER}
-use Rattle.watch_machine.specs.Lines.{is_due}
-use Rattle.watch_machine.specs.State.{track_in}
+use Rattle.watch_machine.specs.{declared.lull.TheConstants.NEVER, Lines.is_due, State.track_in, code.View.need_at}
 use Rattle.watch_machine.specs.code.Line.{calm, first_left, left_by}
-use Rattle.watch_machine.specs.code.View.{need_at}
 use Rattle.watch_machine.proofs.LineMade.{line_by}
 use Rattle.watch_machine.proofs.line.Line.of.Goals as goal
 

@@ -1,12 +1,8 @@
 -- A lookup is owed of an entry itself, or of one over its parent.
 use Rattle.std.proofs.Common.{◌≡◌, ◌∙◌, Some, sym, ap, subst}
-use Rattle.plan_forest.specs.declared.entry.Entry.{Entry}
-use Rattle.plan_forest.specs.Forest.{entry_at}
-use Rattle.plan_forest.proofs.Chains.{ParentsFirst}
-use Rattle.plan_forest.proofs.Placed.{parents_first}
-use Rattle.watch_machine.specs.declared.track.Track.{Track}
-use Rattle.watch_machine.specs.Shortness.{is_owed_over}
-use Rattle.watch_machine.specs.State.{WatchState, track_at}
+use Rattle.plan_forest.specs.{declared.entry.Entry.Entry, Forest.entry_at}
+use Rattle.plan_forest.proofs.{Chains.ParentsFirst, Placed.parents_first}
+use Rattle.watch_machine.specs.{declared.track.Track.Track, Shortness.is_owed_over, State.WatchState, State.track_at}
 use Rattle.watch_machine.proofs.Reaching.{any_child, any_own, any_root}
 use Rattle.watch_machine.proofs.watch.Watch.+is_owed_over.Goals as goal
 

@@ -1,13 +1,8 @@
 -- The least reach over an entry is the least of its own and of that over its parent.
 use Rattle.std.proofs.Common.{◌≡◌, ◌∙◌, None, Some, map, sym, ap, subst}
-use Rattle.plan_forest.specs.declared.entry.Entry.{Entry}
-use Rattle.plan_forest.specs.Forest.{entry_at}
-use Rattle.plan_forest.specs.Over.{chain}
-use Rattle.plan_forest.proofs.Chains.{ParentsFirst}
-use Rattle.plan_forest.proofs.Placed.{parents_first}
-use Rattle.watch_machine.specs.Shortness.{own_reach}
-use Rattle.watch_machine.specs.State.{WatchState}
-use Rattle.watch_machine.specs.Wanted.{least}
+use Rattle.plan_forest.specs.{declared.entry.Entry.Entry, Forest.entry_at, Over.chain}
+use Rattle.plan_forest.proofs.{Chains.ParentsFirst, Placed.parents_first}
+use Rattle.watch_machine.specs.{Shortness.own_reach, State.WatchState, Wanted.least}
 use Rattle.watch_machine.proofs.Reaching.{least_child, least_root}
 use Rattle.watch_machine.proofs.watch.Watch.+least_reach.Goals as goal
 

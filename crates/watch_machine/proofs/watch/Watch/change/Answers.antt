@@ -3,14 +3,9 @@
 use Rattle.std.proofs.Common.{◌≡◌, ◌∙◌, List, ap, arith, false, length, refl, subst, sym, true}
 use Rattle.std.specs.List.{All}
 use Rattle.plan_forest.specs.Forest.{Forest}
-use Rattle.watch_machine.specs.declared.lanes.Out.{Out}
-use Rattle.watch_machine.specs.declared.track.Track.{Track}
+use Rattle.watch_machine.specs.{declared.lanes.Out.Out, declared.track.Track.Track, State.WatchState, code.Bounds.WentOutAtReading, code.View.IsView}
 use Rattle.watch_machine.specs.Change.{changed, out_after, tracks_after}
-use Rattle.watch_machine.specs.State.{WatchState}
-use Rattle.watch_machine.specs.code.Bounds.{WentOutAtReading}
-use Rattle.watch_machine.specs.code.View.{IsView}
-use Rattle.watch_machine.proofs.Changing.{after_length, tracks_length}
-use Rattle.watch_machine.proofs.Rewritten.{once}
+use Rattle.watch_machine.proofs.{Changing.after_length, Changing.tracks_length, Rewritten.once}
 use Rattle.watch_machine.proofs.watch.Watch.change.Goals as goal
 
 pub move_all-requires-clause-count : goal.move_all-requires-clause-count

@@ -1,13 +1,7 @@
 -- A clock at which nothing is to be done is a step of the definitions, and so is one at which all entries are gone through.
 use Rattle.std.proofs.Common.{subst, sym}
-use Rattle.watch_machine.specs.declared.command.WatchOutput.{WatchOutput}
-use Rattle.watch_machine.specs.State.{WatchState}
-use Rattle.watch_machine.specs.Step.{StepClock}
-use Rattle.watch_machine.specs.code.Line.{IsRoundClock, IsServed}
-use Rattle.watch_machine.specs.code.Lull.{quieted}
-use Rattle.watch_machine.proofs.Cases.{ok_map}
-use Rattle.watch_machine.proofs.QuietClock.{quiet_step}
-use Rattle.watch_machine.proofs.RoundClock.{round_step}
+use Rattle.watch_machine.specs.{declared.command.WatchOutput.WatchOutput, State.WatchState, Step.StepClock, code.Line.IsRoundClock, code.Line.IsServed, code.Lull.quieted}
+use Rattle.watch_machine.proofs.{Cases.ok_map, QuietClock.quiet_step, RoundClock.round_step}
 use Rattle.watch_machine.proofs.watch.Watch.clock.Goals as goal
 
 pub returns-in-Some-clause-step : goal.returns-in-Some-clause-step

@@ -1,8 +1,7 @@
 -- An entry is called for where it is wanted and its time has come.
 use Rattle.std.proofs.Common.{◌≡◌, ◌∙◌, ℕ, sym, ap}
 use Rattle.plan_forest.specs.declared.entry.Entry.{Entry}
-use Rattle.watch_machine.specs.declared.track.Track.{Track}
-use Rattle.watch_machine.specs.Margins.{has_come}
+use Rattle.watch_machine.specs.{declared.track.Track.Track, Margins.has_come}
 use Rattle.watch_machine.specs.State.{WatchState, entry_of, second, track_at}
 use Rattle.watch_machine.specs.Wanted.{is_wanted, need_of, wanted_need, wants}
 use Rattle.watch_machine.proofs.Tests.{and_yes}

@@ -1,7 +1,6 @@
 -- By the need that counts for it, an entry is wanted where it is by the definitions.
 use Rattle.std.proofs.Common.{◌≡◌, ◌∙◌, ap}
-use Rattle.watch_machine.specs.declared.track.Track.{Track}
-use Rattle.watch_machine.specs.State.{WatchState, track_at}
+use Rattle.watch_machine.specs.{declared.track.Track.Track, State.WatchState, State.track_at}
 use Rattle.watch_machine.specs.Wanted.{need_of, wanted_need, wants}
 use Rattle.watch_machine.proofs.watch.Watch.is_wanted.Goals as goal
 

@@ -1,22 +1,11 @@
 -- Those in front go out, and the line is kept.
 use Rattle.std.proofs.Common.{◌≡◌, ◌∙◌, ◌-◌, ◌++◌, ℕ, List, [], ap, arith, drop, length, map, sym, subst, take}
 use Rattle.std.specs.List.{All}
-use Rattle.watch_machine.specs.declared.command.WatchCommand.TheVariants.{Go}
-use Rattle.watch_machine.specs.declared.command.WatchOutput.{WatchOutput}
-use Rattle.watch_machine.specs.declared.lanes.LaneAnswer.{LaneAnswer}
-use Rattle.watch_machine.specs.declared.lanes.Out.{Out}
-use Rattle.watch_machine.specs.declared.track.Track.{Track}
-use Rattle.watch_machine.specs.Clocks.{sec}
+use Rattle.watch_machine.specs.{declared.command.WatchCommand.TheVariants.Go, declared.command.WatchOutput.WatchOutput, declared.lanes.LaneAnswer.LaneAnswer, declared.lanes.Out.Out, declared.track.Track.Track, Clocks.sec}
+use Rattle.watch_machine.specs.{Settling.pace_after, State.WatchState, State.each, code.Bounds.IsTrack, code.Lull.paced_by}
 use Rattle.watch_machine.specs.Sending.{is_partial, out_at, sent_in}
-use Rattle.watch_machine.specs.Settling.{pace_after}
-use Rattle.watch_machine.specs.State.{WatchState, each}
-use Rattle.watch_machine.specs.code.Bounds.{IsTrack}
 use Rattle.watch_machine.specs.code.Line.{IsLine, IsRoundClock, IsServed, calm, moved, requests_of, rest_of, sent_on}
-use Rattle.watch_machine.specs.code.Lull.{paced_by}
-use Rattle.watch_machine.proofs.Rewritten.{once}
-use Rattle.watch_machine.proofs.RoundClock.{front_length, front_many}
-use Rattle.watch_machine.proofs.Written.{each_length}
-use Rattle.watch_machine.proofs.watch.Watch.line_clock.Goals.{After-none}
+use Rattle.watch_machine.proofs.{Rewritten.once, RoundClock.front_length, RoundClock.front_many, Written.each_length, watch.Watch.line_clock.Goals.After-none}
 use Rattle.watch_machine.proofs.watch.Watch.line_clock.Goals as goal
 
 -- the state before the clock, by its fields

@@ -1,18 +1,11 @@
 -- An answer that leaves what is known of the others keeps the line; any other ends it.
 use Rattle.std.proofs.Common.{◌≡◌, ◌∙◌, ◌*◌, ◌<◌, ap, arith, length, set, subst, sym}
-use Rattle.plan_forest.specs.declared.entry.Entry.{Entry}
-use Rattle.plan_forest.specs.Forest.{entry_at}
-use Rattle.watch_machine.specs.declared.line.Line.{Line}
-use Rattle.watch_machine.specs.declared.track.Track.{Track}
-use Rattle.watch_machine.specs.Answers.{replied}
-use Rattle.watch_machine.specs.Clocks.{ms}
-use Rattle.watch_machine.specs.Margins.{time}
+use Rattle.plan_forest.specs.{declared.entry.Entry.Entry, Forest.entry_at}
+use Rattle.watch_machine.specs.{declared.line.Line.Line, declared.track.Track.Track, Answers.replied, Clocks.ms, Margins.time, Wanted.believed}
 use Rattle.watch_machine.specs.Renewed.{renewed_track, state_renewed, track_renewed}
 use Rattle.watch_machine.specs.State.{WatchState, track_at, track_in}
-use Rattle.watch_machine.specs.Wanted.{believed}
 use Rattle.watch_machine.specs.code.Line.{IsLine, IsLineOf, IsPlain, calm}
-use Rattle.watch_machine.proofs.LineAnswer.{line_answered}
-use Rattle.watch_machine.proofs.RoundClock.{answered_state}
+use Rattle.watch_machine.proofs.{LineAnswer.line_answered, RoundClock.answered_state}
 use Rattle.watch_machine.proofs.watch.Watch.line_renewed.Goals as goal
 
 pub returns-clause-line : goal.returns-clause-line

@@ -1,12 +1,7 @@
 -- In a lull the first time is known, and where it is ahead it is the next.
 use Rattle.std.proofs.Common.{◌≡◌, ◌∙◌, true, subst, sym}
-use Rattle.watch_machine.specs.Outlook.{IsNextTime, is_timed_at}
-use Rattle.watch_machine.specs.State.{WatchState, second}
-use Rattle.watch_machine.specs.code.Lull.{IsLull}
-use Rattle.watch_machine.specs.code.Outlook.{is_first_ahead}
-use Rattle.watch_machine.proofs.Cases.{of_value}
-use Rattle.watch_machine.proofs.FirstTime.{first_is_next}
-use Rattle.watch_machine.proofs.Lulls.{first_shown}
+use Rattle.watch_machine.specs.{Outlook.IsNextTime, Outlook.is_timed_at, State.WatchState, State.second, code.Lull.IsLull, code.Outlook.is_first_ahead}
+use Rattle.watch_machine.proofs.{Cases.of_value, FirstTime.first_is_next, Lulls.first_shown}
 use Rattle.watch_machine.proofs.watch.Watch.next.Goals as goal
 
 pub returns-in-Some-clause-next : goal.returns-in-Some-clause-next

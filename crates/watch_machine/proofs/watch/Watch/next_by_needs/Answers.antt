@@ -1,9 +1,6 @@
 -- The next time is found by the needs that the view carries.
 use Rattle.std.proofs.Common.{subst}
-use Rattle.watch_machine.specs.Outlook.{IsNextTime}
-use Rattle.watch_machine.specs.State.{WatchState}
-use Rattle.watch_machine.specs.code.Lull.{shown_by}
-use Rattle.watch_machine.specs.code.View.{HasNeeds, Sees}
+use Rattle.watch_machine.specs.{Outlook.IsNextTime, State.WatchState, code.Lull.shown_by, code.View.HasNeeds, code.View.Sees}
 use Rattle.watch_machine.proofs.Lulls.{next_shown}
 use Rattle.watch_machine.proofs.watch.Watch.next_by_needs.Goals as goal
 

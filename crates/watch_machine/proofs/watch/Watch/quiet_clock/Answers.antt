@@ -1,7 +1,6 @@
 -- A clock at which nothing is to be done leaves the lull.
 use Rattle.std.proofs.Common.{subst, sym}
-use Rattle.watch_machine.specs.State.{WatchState}
-use Rattle.watch_machine.specs.code.Lull.{IsQuiet}
+use Rattle.watch_machine.specs.{State.WatchState, code.Lull.IsQuiet}
 use Rattle.watch_machine.proofs.Lulls.{known_on}
 use Rattle.watch_machine.proofs.watch.Watch.quiet_clock.Goals as goal
 

@@ -1,13 +1,9 @@
 -- While a lull lasts and the clocks go on as before, nothing is to be done of any entry.
 use Rattle.std.proofs.Common.{◌≡◌, ◌∙◌, ◌&&◌, false, None, ap, min, subst, sym}
 use Rattle.std.specs.List.{list_any}
-use Rattle.watch_machine.specs.Beginning.{beginning}
-use Rattle.watch_machine.specs.Settling.{is_silent}
-use Rattle.watch_machine.specs.State.{WatchState}
-use Rattle.watch_machine.specs.Wait.{latest}
+use Rattle.watch_machine.specs.{Beginning.beginning, Settling.is_silent, State.WatchState, Wait.latest}
 use Rattle.watch_machine.specs.code.Lull.{GoesOn, IsLull, IsQuiet}
-use Rattle.watch_machine.proofs.Cases.{of_value}
-use Rattle.watch_machine.proofs.Lulls.{is_quiet}
+use Rattle.watch_machine.proofs.{Cases.of_value, Lulls.is_quiet}
 use Rattle.watch_machine.proofs.watch.Watch.quiet_until.Goals as goal
 
 pub returns-in-None : goal.returns-in-None

@@ -1,12 +1,8 @@
 -- What is found is the request that is out of the entry, and it went out at a reading, as all that are out did.
 use Rattle.std.proofs.Common.{◌≡◌, ◌∙◌, ◌==◌, ◌&&◌, Bool, Bor, Option, Some, None, IfSome, option_map, ap, refl, rules, subst, sym, tests}
-use Rattle.std.proofs.lemmas.Iterator.{YieldsList-from_slice}
-use Rattle.std.proofs.lemmas.Iterator.Search.{find_from_yields_List}
+use Rattle.std.proofs.lemmas.{Iterator.YieldsList-from_slice, Iterator.Search.find_from_yields_List}
 use Rattle.std.specs.Option.{option_copied}
-use Rattle.watch_machine.specs.declared.lanes.Out.{Out}
-use Rattle.watch_machine.specs.Refusal.{is_same, request_out}
-use Rattle.watch_machine.specs.State.{WatchState}
-use Rattle.watch_machine.specs.code.Bounds.{WentOutAtReading}
+use Rattle.watch_machine.specs.{declared.lanes.Out.Out, Refusal.is_same, Refusal.request_out, State.WatchState, code.Bounds.WentOutAtReading}
 use Rattle.watch_machine.proofs.Within.{out_all}
 use Rattle.watch_machine.proofs.watch.Watch.request_out.Goals as goal
 

@@ -1,10 +1,7 @@
 -- While a line lasts and the clocks go on as before, nothing is to be done of any entry but that those in front go out.
 use Rattle.std.proofs.Common.{◌≡◌, ◌∙◌, ◌≤◌, ◌&&◌, false, None, ap, min, subst, sym}
 use Rattle.std.specs.List.{list_any}
-use Rattle.watch_machine.specs.Beginning.{beginning}
-use Rattle.watch_machine.specs.Settling.{is_silent}
-use Rattle.watch_machine.specs.State.{WatchState}
-use Rattle.watch_machine.specs.Wait.{latest}
+use Rattle.watch_machine.specs.{Beginning.beginning, Settling.is_silent, State.WatchState, Wait.latest}
 use Rattle.watch_machine.specs.code.Line.{IsLine, IsLineOf, IsRoundClock, calm}
 use Rattle.watch_machine.proofs.RoundClock.{is_round_clock}
 use Rattle.watch_machine.proofs.watch.Watch.round_until.Goals as goal

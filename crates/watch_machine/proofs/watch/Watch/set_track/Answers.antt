@@ -1,7 +1,6 @@
 -- Another track ends what is known of a lull and of a line.
 use Rattle.std.proofs.Common.{◌≡◌, ◌∙◌, false, true}
-use Rattle.std.proofs.lemmas.List.{length-set}
-use Rattle.std.proofs.lemmas.List.Elements.{All-set}
+use Rattle.std.proofs.lemmas.{List.length-set, List.Elements.All-set}
 use Rattle.watch_machine.specs.code.Bounds.{IsTrack}
 use Rattle.watch_machine.proofs.watch.Watch.set_track.Goals as goal
 

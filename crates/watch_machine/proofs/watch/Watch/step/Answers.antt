@@ -1,11 +1,9 @@
 -- A step that is not refused is that of the definitions, by each kind of event.
 use Rattle.std.proofs.Common.{◌≡◌, ◌∙◌, None, ap, subst, sym}
+use Rattle.watch_machine.specs.{History.Turn, Refusal.refusal}
 use Rattle.watch_machine.specs.declared.event.WatchEvent.TheVariants.{Clock, Looked, Renewed, Need, Known}
 use Rattle.watch_machine.specs.declared.event.Operation.TheVariants.{Look, Renew}
-use Rattle.watch_machine.specs.History.{Turn}
-use Rattle.watch_machine.specs.Refusal.{refusal}
-use Rattle.watch_machine.proofs.Taking.{refused_turn, taken_turn}
-use Rattle.watch_machine.proofs.Within.{asked_some, within_none}
+use Rattle.watch_machine.proofs.{Taking.refused_turn, Taking.taken_turn, Within.asked_some, Within.within_none}
 use Rattle.watch_machine.proofs.watch.Watch.step.Goals as goal
 
 pub need-requires : goal.need-requires

@@ -1,16 +1,10 @@
 -- An answer to a renewal is noted, taken for its entry, and then for what it says of the broker.
 use Rattle.std.proofs.Common.{◌≡◌, ◌∙◌, Option, Some, ap, subst, sym}
-use Rattle.watch_machine.specs.declared.event.Operation.TheVariants.{Renew}
-use Rattle.watch_machine.specs.declared.lanes.Out.{Out}
-use Rattle.watch_machine.specs.declared.notes.Link.{Link}
-use Rattle.watch_machine.specs.declared.notes.Notes.{Notes}
+use Rattle.watch_machine.specs.{declared.event.Operation.TheVariants.Renew, declared.lanes.Out.Out, declared.notes.Link.Link, declared.notes.Notes.Notes, Refusal.request_out, State.WatchState, code.Bounds.WentOutAtReading}
+use Rattle.watch_machine.specs.{code.Line.IsLineOf}
 use Rattle.watch_machine.specs.Answers.{link, noted, replied}
-use Rattle.watch_machine.specs.Refusal.{request_out}
 use Rattle.watch_machine.specs.Renewed.{state_renewed, top_by, track_renewed}
-use Rattle.watch_machine.specs.State.{WatchState}
 use Rattle.watch_machine.specs.Step.{StepRenewed, notes_top, nothing_noted, taken, with_link}
-use Rattle.watch_machine.specs.code.Bounds.{WentOutAtReading}
-use Rattle.watch_machine.specs.code.Line.{IsLineOf}
 use Rattle.watch_machine.proofs.Cases.{of_value}
 use Rattle.watch_machine.proofs.watch.Watch.take_renewed.Goals as goal
 

@@ -1,13 +1,8 @@
 -- What a lookup told makes of its entry, and of the forest, is what the definitions say.
 use Rattle.std.proofs.Common.{◌<◌, ◌∙◌, ◌≡◌, ap, false, length, set, subst, sym, true}
-use Rattle.std.proofs.lemmas.List.{length-set}
-use Rattle.std.proofs.lemmas.List.Elements.{All-set}
+use Rattle.std.proofs.lemmas.{List.length-set, List.Elements.All-set}
 use Rattle.plan_forest.specs.Forest.{Forest}
-use Rattle.watch_machine.specs.declared.track.Track.{Track}
-use Rattle.watch_machine.specs.Answers.{with_track}
-use Rattle.watch_machine.specs.Looked.{told_track, with_terms}
-use Rattle.watch_machine.specs.State.{WatchState, track_at}
-use Rattle.watch_machine.specs.code.Bounds.{IsTrack}
+use Rattle.watch_machine.specs.{declared.track.Track.Track, Answers.with_track, Looked.told_track, Looked.with_terms, State.WatchState, State.track_at, code.Bounds.IsTrack}
 use Rattle.watch_machine.proofs.View.{told_alike, view_both}
 use Rattle.watch_machine.proofs.watch.Watch.take_told.Goals as goal
 

@@ -1,31 +1,16 @@
 -- The parts of a clock are together the step of the definitions.
 use Rattle.std.proofs.Common.{◌≡◌, ◌∙◌, ◌-◌, ◌++◌, IfSome, List, [], ap, drop, length, map, subst, sym}
 use Rattle.std.specs.List.{All}
-use Rattle.watch_machine.specs.declared.command.WatchCommand.TheVariants.{Go}
-use Rattle.watch_machine.specs.declared.command.WatchOutput.{WatchOutput}
-use Rattle.watch_machine.specs.declared.lanes.LaneAnswer.{LaneAnswer}
-use Rattle.watch_machine.specs.declared.lanes.Out.{Out}
-use Rattle.watch_machine.specs.declared.notes.Notes.{Notes}
-use Rattle.watch_machine.specs.declared.track.Track.{Track}
+use Rattle.watch_machine.specs.{declared.command.WatchCommand.TheVariants.Go, declared.command.WatchOutput.WatchOutput, declared.lanes.LaneAnswer.LaneAnswer, declared.lanes.Out.Out, declared.notes.Notes.Notes, declared.track.Track.Track}
+use Rattle.watch_machine.specs.{Press.pressed_tracks, Round.IsRound, Round.asked_by_round, State.WatchState, State.each, Step.StepClock, code.Bounds.IsTrack, code.Lull.IsLull, code.Lull.wait_by, code.View.HasNeeds, code.View.need_at}
+use Rattle.watch_machine.specs.{Clocks.sec}
 use Rattle.watch_machine.specs.Beginning.{beginning, begun_tracks, noted_begun}
-use Rattle.watch_machine.specs.Press.{pressed_tracks}
-use Rattle.watch_machine.specs.Round.{IsRound, asked_by_round}
 use Rattle.watch_machine.specs.Sending.{IsGoing, out_at, sent_in}
 use Rattle.watch_machine.specs.Settling.{clocks_after, has_jumped, has_stepped, presence_after, settled_track}
-use Rattle.watch_machine.specs.State.{WatchState, each}
-use Rattle.watch_machine.specs.Step.{StepClock}
-use Rattle.watch_machine.specs.code.Bounds.{IsTrack}
-use Rattle.watch_machine.specs.code.Lull.{IsLull, wait_by}
-use Rattle.watch_machine.specs.code.View.{HasNeeds, need_at}
-use Rattle.watch_machine.specs.Clocks.{sec}
 use Rattle.watch_machine.specs.code.Line.{IsFrontOf, IsInLine, IsKnown, calm}
-use Rattle.watch_machine.proofs.ClockParts.{clock_step, needs_after}
-use Rattle.watch_machine.proofs.LineMade.{line_in_order}
-use Rattle.watch_machine.proofs.LineSent.{asked_are, left_in_line}
-use Rattle.watch_machine.proofs.Lulls.{some_lull}
+use Rattle.watch_machine.proofs.{ClockParts.clock_step, ClockParts.needs_after, LineMade.line_in_order, LineSent.asked_are, LineSent.left_in_line, Lulls.some_lull, Written.each_length}
+use Rattle.watch_machine.proofs.{watch.Watch.whole_clock.Goals.After-drop-needs-inside-3}
 use Rattle.watch_machine.proofs.Rewritten.{once, thrice, twice}
-use Rattle.watch_machine.proofs.Written.{each_length}
-use Rattle.watch_machine.proofs.watch.Watch.whole_clock.Goals.{After-drop-needs-inside-3}
 use Rattle.watch_machine.proofs.watch.Watch.whole_clock.Goals as goal
 
 -- the state before the clock, by its fields

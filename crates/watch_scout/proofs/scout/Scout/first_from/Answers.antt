@@ -1,8 +1,8 @@
 -- One entry more comes up: its lookup goes out, or all goes on from the next one.
 use Rattle.std.proofs.Common.{◌≡◌, ◌∙◌, ◌+◌, ◌-◌, ◌<◌, true, false, ap, arith, length, refl, sym}
 use Rattle.plan_forest.specs.Forest.{Forest}
-use Rattle.watch_scout.specs.Looking.{Found, came_up, first_from, goes_out}
 use Rattle.watch_scout.specs.State.{ScoutState}
+use Rattle.watch_scout.specs.Looking.{Found, came_up, first_from, goes_out}
 use Rattle.watch_scout.proofs.Coming.{all_seen, first_goes, next_comes, none_out, same_width}
 use Rattle.watch_scout.proofs.scout.Scout.first_from.Goals as goal
 

@@ -1,7 +1,6 @@
 -- Each look moment is compared with the least one before it.
 use Rattle.std.proofs.Common.{◌≡◌, ◌∙◌, ℕ, ap, arith, length, map, min, sym}
-use Rattle.std.proofs.lemmas.List.FromFn.{map-range_with_len_more}
-use Rattle.std.proofs.lemmas.List.Sums.{fold_push}
+use Rattle.std.proofs.lemmas.{List.FromFn.map-range_with_len_more, List.Sums.fold_push}
 use Rattle.std.specs.List.{range_with_len}
 use Rattle.plan_forest.specs.Forest.{Forest}
 use Rattle.watch_machine.specs.Wanted.{least}
