@@ -56,14 +56,14 @@ reread_as known seen demands now bytes r old mid new stand stays written keeper 
 -- or is none with them, and all is as it was
 pub none_as :
     {D : Type 0} → (known : Bool) (seen : D → DiskState) (demands : Demands) (now : ℕ) (bytes : List ℕ) (why : Option (List ℕ)) (whys : Whys) (old mid new : Kept D) →
-    AreBytesOf known seen old bytes → mid.keeper ≡ old.keeper → IfSome why (SaysNoBook bytes) → AreAtMost why whys.items → IsAsItWas mid new → ReloadsOn known seen demands now (Err whys) old new
+    AreBytesOf known seen old bytes → mid.keeper ≡ old.keeper → IfSome why (SaysNoBook (store_in mid) bytes) → AreAtMost why whys.items → IsAsItWas mid new → ReloadsOn known seen demands now (Err whys) old new
 none_as known seen demands now bytes why whys old mid new stand keeper says most same = (
   record {
     book = same.book ∙ ap (λ k. book_of (store_of k)) keeper;
     lines = same.lines ∙ ap (λ k. lines_in (store_of k)) keeper;
     waiting = same.waiting ∙ ap (λ k. waiting_in k) keeper;
   },
-  inr (bytes, (stand, inr (one_says (SaysNoBook bytes) why whys.items says most))),
+  inr (bytes, (stand, inr (one_says (SaysNoBook (store_in old) bytes) why whys.items (subst (λ k. IfSome why (SaysNoBook (store_of k) bytes)) keeper says) most))),
 )
 
 -- both steps of a reload touch the state alone

@@ -4,8 +4,8 @@ use Rattle.std.specs.Prelude.{◌≡◌, ◌⊎◌, ℕ, ◌-◌, ◌==◌, if�
 use Rattle.state_changes.specs.{declared.change.Record.Record, declared.replaying.JournalNote.JournalNote}
 use Rattle.base_disk.specs.{State.DiskState, declared.fault.DiskFault.DiskFault}
 use Rattle.state_file.specs.declared.fault.ReadFault.{ReadFault}
-use Rattle.state_keeping.specs.{Noted.note_lines, Reading.IsWhyUnread, States.Kept}
-use Rattle.state_store.specs.{Books.IsFileFaultOf, declared.fault.FileFault.FileFault}
+use Rattle.state_keeping.specs.{Noted.note_lines, Reading.IsWhyUnread, States.Kept, States.store_in}
+use Rattle.state_store.specs.{Books.IsFileFaultOf, Records.records_in, Stores.book_of, Stores.lines_in, declared.fault.FileFault.FileFault, declared.store.Store.Store}
 use Rattle.agent_words.specs.{Noting.SaysFaults, Reasons.disk_words, Reasons.unread_words, declared.demands.Demands.Demands}
 use Rattle.agent_ledger.specs.Reasons.{book_words, left_words}
 
@@ -19,9 +19,9 @@ AreBytesOf known seen kept bytes = (mode : ℕ) × (IsTrue known → (seen kept.
 abbrev pub SaysUnread : {D : Type 0} → Bool → (D → DiskState) → Kept D → List ℕ → Type 0
 SaysUnread known seen kept why = (fault : ReadFault) × ((IsTrue known → IsWhyUnread kept.places.file (seen kept.disk) fault) × (why ≡ unread_words fault))
 
--- it is none with the changes of the journal
-abbrev pub SaysNoBook : List ℕ → List ℕ → Type 0
-SaysNoBook bytes why = (fault : FileFault) × (IsFileFaultOf (Some bytes) fault × (why ≡ book_words fault))
+-- it is none with the changes of the journal, and what was taken of files of credentials
+abbrev pub SaysNoBook : Store → List ℕ → List ℕ → Type 0
+SaysNoBook store bytes why = (fault : FileFault) × (IsFileFaultOf (Some bytes) (records_in (lines_in store)) (book_of store).secrets fault × (why ≡ book_words fault))
 
 -- the reason, where there is one; or none, where memory was wanting for it
 abbrev pub AreAtMost : Option (List ℕ) → List (List ℕ) → Type 0
@@ -35,12 +35,12 @@ IsOneWhy Says (why ∷ []) = Says why
 IsOneWhy Says (why ∷ next ∷ whys) = ⊥
 
 -- what may be wrong with these bytes; nothing is said of their faults where memory was wanting for that
-abbrev pub SaysBad : Demands → List ℕ → List (List ℕ) → Type 0
-SaysBad demands bytes whys = ((whys ≡ []) ⊎ SaysFaults demands bytes whys) ⊎ IsOneWhy (SaysNoBook bytes) whys
+abbrev pub SaysBad : Demands → Store → List ℕ → List (List ℕ) → Type 0
+SaysBad demands store bytes whys = ((whys ≡ []) ⊎ SaysFaults demands bytes whys) ⊎ IsOneWhy (SaysNoBook store bytes) whys
 
 abbrev pub IsWhyNotReread : {D : Type 0} → Bool → (D → DiskState) → Demands → Kept D → List (List ℕ) → Type 0
 IsWhyNotReread known seen demands kept whys =
-    IsOneWhy (SaysUnread known seen kept) whys ⊎ ((bytes : List ℕ) × (AreBytesOf known seen kept bytes × SaysBad demands bytes whys))
+    IsOneWhy (SaysUnread known seen kept) whys ⊎ ((bytes : List ℕ) × (AreBytesOf known seen kept bytes × SaysBad demands (store_in kept) bytes whys))
 
 -- ---- what is said where it is served
 

@@ -12,7 +12,7 @@ use base_disk::Disk;
 use base_files::Inputs;
 use base_moment::Text;
 use state_secrets::{
-    DueFile, Looked, Looking, Pass, SecretFiles, SecretTrouble, has_it, names_file, read_held,
+    DueFile, Look, Looked, Looking, Pass, SecretFiles, SecretTrouble, has_it, names_file, read_held,
 };
 use std::alloc::{AllocError, Global};
 use vault_asking::SeenLanes;
@@ -37,10 +37,13 @@ impl<'a, D: Disk, I: Inputs + SecretFiles, L: Lanes> Ledger<'a, D, I, L> {
         if now.elapsed < self.looking.from {
             return quiet(false);
         }
-        let folder = self.folder.as_bytes();
-        let rows = self.state.rows().list();
-        let secrets = self.state.secrets();
-        match self.looking.pass(alloc, rows, secrets, folder, &mut self.inputs, now.elapsed) {
+        let look = Look {
+            looking: &self.looking,
+            secrets: self.state.secrets(),
+            folder: self.folder.as_bytes(),
+            elapsed: now.elapsed,
+        };
+        match look.pass(alloc, self.state.rows().list(), &mut self.inputs) {
             Pass::End => {
                 self.looking.end(now.elapsed);
                 quiet(false)

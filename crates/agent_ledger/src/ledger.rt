@@ -164,7 +164,7 @@ impl<'a, D: Disk, I: Inputs, L: Lanes> Ledger<'a, D, I, L> {
         ensures copied { IfOk result (λ r. (copy : Option DiskFault) × (IsCopied D.is_known self.old.state.places bytes.now copy (D.state self.new.state.disk) × SaysCopy copy r.unkept)) }
         ensures lines { OnOk result (lines_in (store_in self.new.state) ≡ lines_in (store_in self.old.state)) }
         ensures file { OnOk result (IsTrue D.is_known → (D.state self.new.state.disk).seen self.new.state.places.file ≡ (D.state self.old.state.disk).seen self.old.state.places.file) }
-        ensures why { IfErr result (λ why. IfSome why (SaysNoBook bytes.now)) }
+        ensures why { IfErr result (λ why. IfSome why (SaysNoBook (store_in self.old.state) bytes.now)) }
         ensures waiting { OnOk result (waiting_in self.new.state.keeper ≡ changed (waiting_in self.old.state.keeper) now) }
         ensures refused { OnErr result (IsAsItWas self.old.state self.new.state) }
         ensures rest { self.new ≡ record self.old { state = self.new.state } }

@@ -6,11 +6,11 @@ use Rattle.vault_inventory.specs.Answers.{◌>>=◌, FailsWithInvFault}
 use Rattle.vault_inventory.specs.{Inventories.Inventory, Inventory.read_served, Served.Served, declared.fault.InvFault.InvFault}
 use Rattle.vault_inventory.specs.declared.fault.InvFault.TheVariants as inventories
 use Rattle.vault_served.specs.ForGood.{inventory_for_good, served_for_good}
-use Rattle.state_file.specs.declared.fault.SettleFault.{SettleFault}
+use Rattle.state_file.specs.{Unwritten.IsWhyUnwritten, declared.fault.SettleFault.SettleFault}
 use Rattle.state_file.specs.declared.fault.SettleFault.TheVariants as settling
 use Rattle.agent_words.specs.{Faults.start_of_inventory, Faults.start_of_settling, Filling.AreFilled, Starts.first_start_fault, declared.demands.Demands.Demands, declared.fault.StartFault.StartFault}
 use Rattle.agent_words.specs.{declared.fault.StartFault.TheVariants.OutOfMemory}
-use Rattle.agent_words.specs.Reading.{IsFilledText, IsToServe, IsUnfilled, IsWide, IsWideText, NotTogether, is_as_written, is_full, keeps_margin}
+use Rattle.agent_words.specs.Reading.{IsFilledText, IsToServe, IsUnfilled, IsWide, IsWideText, NotTogether, is_as_written, is_full, keeps_margin, margin_for}
 
 -- ---- a text that can be read
 
@@ -66,23 +66,27 @@ served_filled d known folder bytes text v (Err fault) reads none named filled is
 
 -- or one does not
 pub not_filled : (d : Demands) (known : Files) (folder bytes : List ℕ) (v : Served) (fault : StartFault) → read_served bytes ≡ Ok v → first_start_fault d v ≡ None →
-    (fault ≡ OutOfMemory) ⊎ (IsUnfilled known folder v fault ⊎ NotTogether known folder v fault) → IsToServe d known folder bytes (Err fault)
+    (fault ≡ OutOfMemory) ⊎ (IsUnfilled known folder v fault ⊎ NotTogether d known folder v fault) → IsToServe d known folder bytes (Err fault)
 not_filled d known folder bytes v fault reads none (inl memory) = inl memory
 not_filled d known folder bytes v fault reads none (inr why) = inr (inr (v, (reads, inr (none, why))))
 
 -- that is handed on
 pub none_filled : (d : Demands) (known : Files) (folder bytes : List ℕ) (v : Served) (fault : StartFault) (result : Result Inventory StartFault) → read_served bytes ≡ Ok v → first_start_fault d v ≡ None →
-    (fault ≡ OutOfMemory) ⊎ (IsUnfilled known folder v fault ⊎ NotTogether known folder v fault) → IsErr result × IsErrAnd result (λ e. e ≡ fault) → IsToServe d known folder bytes result
+    (fault ≡ OutOfMemory) ⊎ (IsUnfilled known folder v fault ⊎ NotTogether d known folder v fault) → IsErr result × IsErrAnd result (λ e. e ≡ fault) → IsToServe d known folder bytes result
 none_filled d known folder bytes v fault (Ok inventory) reads none why is = absurd is.1
 none_filled d known folder bytes v fault (Err e) reads none why is = subst (λ f. IsToServe d known folder bytes (Err f)) (sym is.1) (not_filled d known folder bytes v fault reads none why)
 
 -- what they hold does not go together
-pub not_together : (known : Files) (folder : List ℕ) (v : Served) (filled : List Row) (fault : SettleFault) → AreFilled known folder (rows_of_served v) filled →
-    (start_of_settling fault ≡ OutOfMemory) ⊎ (IsUnfilled known folder v (start_of_settling fault) ⊎ NotTogether known folder v (start_of_settling fault))
-not_together known folder v filled settling.OutOfMemory are = inl refl
-not_together known folder v filled settling.TooLong are = inr (inr (settling.TooLong, (refl, (filled, are))))
-not_together known folder v filled (settling.Refused why) are = inr (inr (settling.Refused why, (refl, (filled, are))))
-not_together known folder v filled settling.Differs are = inr (inr (settling.Differs, (refl, (filled, are))))
+pub not_together : (d : Demands) (known : Files) (folder : List ℕ) (v : Served) (margin : ℕ) (filled : List Row) (fault : SettleFault) → AreFilled known folder (rows_of_served v) filled → margin ≡ margin_for d v →
+    IsWhyUnwritten (Some margin) None filled fault →
+    (start_of_settling fault ≡ OutOfMemory) ⊎ (IsUnfilled known folder v (start_of_settling fault) ⊎ NotTogether d known folder v (start_of_settling fault))
+not_together d known folder v margin filled settling.OutOfMemory are same why = inl refl
+not_together d known folder v margin filled settling.TooLong are same why =
+    inr (inr (settling.TooLong, (refl, (filled, (are, subst (λ (m : ℕ). IsWhyUnwritten (Some m) None filled settling.TooLong) same why)))))
+not_together d known folder v margin filled (settling.Refused fault) are same why =
+    inr (inr (settling.Refused fault, (refl, (filled, (are, subst (λ (m : ℕ). IsWhyUnwritten (Some m) None filled (settling.Refused fault)) same why)))))
+not_together d known folder v margin filled settling.Differs are same why =
+    inr (inr (settling.Differs, (refl, (filled, (are, subst (λ (m : ℕ). IsWhyUnwritten (Some m) None filled settling.Differs) same why)))))
 
 -- ---- the margin that is demanded
 

@@ -5,7 +5,7 @@ use Rattle.state_changes.specs.{Listed.rows_of_served, declared.row.Row.Row}
 use Rattle.base_files.specs.Files.{Files}
 use Rattle.vault_inventory.specs.{Inventories.Inventory, Inventory.read_served, Served.Served, declared.limits.TheConstants.MOST_INVENTORY, declared.note.EntryNote.EntryNote, declared.fault.InvFault.InvFault}
 use Rattle.vault_served.specs.ForGood.{inventory_for_good}
-use Rattle.state_file.specs.{Settled.TextIsSettled, declared.fault.SettleFault.SettleFault}
+use Rattle.state_file.specs.{Settled.TextIsSettled, Unwritten.IsWhyUnwritten, declared.fault.SettleFault.SettleFault}
 use Rattle.plan_spread.specs.{Behind.margin_by, Margins.room_of, Margins.wider}
 use Rattle.plan_forest.specs.Forest.{Forest}
 use Rattle.agent_words.specs.{Starts.first_start_fault, Starts.written_faults, declared.demands.Demands.Demands, declared.fault.StartFault.StartFault}
@@ -42,9 +42,10 @@ IsServedText d known folder bytes v text = ((is_as_written d v.notes ≡ true) �
 abbrev pub IsUnfilled : Files → List ℕ → Served → StartFault → Type 0
 IsUnfilled known folder v fault = FirstUnfilled known folder 0 (rows_of_served v) fault
 
--- what its files hold does not go together
-abbrev pub NotTogether : Files → List ℕ → Served → StartFault → Type 0
-NotTogether known folder v fault = (why : SettleFault) × ((fault ≡ faults.Together why) × ((filled : List Row) × AreFilled known folder (rows_of_served v) filled))
+-- what its files hold does not go together: what the entries say with it cannot be written as one file with that margin, for this reason
+abbrev pub NotTogether : Demands → Files → List ℕ → Served → StartFault → Type 0
+NotTogether d known folder v fault =
+    (why : SettleFault) × ((fault ≡ faults.Together why) × ((filled : List Row) × (AreFilled known folder (rows_of_served v) filled × IsWhyUnwritten (Some (margin_for d v)) None filled why)))
 
 -- ---- the fault of a start
 
@@ -53,7 +54,7 @@ IsNoInventory bytes fault = (why : InvFault) × ((fault ≡ faults.Inventory why
 
 -- what is served has that fault; or it has none, and a file does
 abbrev pub IsStartFaultOf : Demands → Files → List ℕ → Served → StartFault → Type 0
-IsStartFaultOf d known folder v fault = (first_start_fault d v ≡ Some fault) ⊎ ((first_start_fault d v ≡ None) × (IsUnfilled known folder v fault ⊎ NotTogether known folder v fault))
+IsStartFaultOf d known folder v fault = (first_start_fault d v ≡ Some fault) ⊎ ((first_start_fault d v ≡ None) × (IsUnfilled known folder v fault ⊎ NotTogether d known folder v fault))
 
 abbrev pub IsNotServed : Demands → Files → List ℕ → List ℕ → StartFault → Type 0
 IsNotServed d known folder bytes fault = (v : Served) × ((read_served bytes ≡ Ok v) × IsStartFaultOf d known folder v fault)

@@ -105,7 +105,7 @@ fn filled_text<I: Inputs>(
     inputs: &mut I,
 ) -> Result<String, StartFault>
     ensures filled { IfOk result (λ text. IsFilledText (I.bytes_at inputs.old) folder.now demands served.now (string_bytes text)) }
-    ensures unfilled { IfErr result (λ fault. (fault ≡ OutOfMemory) ⊎ (IsUnfilled (I.bytes_at inputs.old) folder.now served.now fault ⊎ NotTogether (I.bytes_at inputs.old) folder.now served.now fault)) }
+    ensures unfilled { IfErr result (λ fault. (fault ≡ OutOfMemory) ⊎ (IsUnfilled (I.bytes_at inputs.old) folder.now served.now fault ⊎ NotTogether demands (I.bytes_at inputs.old) folder.now served.now fault)) }
     ensures same { (path : List ℕ) → I.bytes_at inputs.new path ≡ I.bytes_at inputs.old path }
 {
     let rows = listed_rows(alloc, served)?;

@@ -1,5 +1,5 @@
 -- A start: whose fault it is that nothing is kept, and the copy of the file that is served.
-use Rattle.std.proofs.Common.{◌≡◌, ◌≤◌, List, ℕ, Bool, false, Option, Some, None, refl, sym, ap, ◌∙◌}
+use Rattle.std.proofs.Common.{◌≡◌, ◌≤◌, List, [], ℕ, Bool, false, Option, Some, None, refl, sym, ap, subst, ◌∙◌}
 use Rattle.std.specs.Str.{bytes_eq}
 use Rattle.base_disk.specs.{Torn.MovesFile, declared.fault.DiskFault.DiskFault}
 use Rattle.base_disk.specs.Image.{File, Image, SameElsewhere}
@@ -7,10 +7,15 @@ use Rattle.base_disk.specs.State.{DiskState, IsAfter, LeavesOnly}
 use Rattle.base_disk.specs.declared.fault.DiskFault.TheVariants.{Failed, TooLong}
 use Rattle.base_disk.specs.declared.fault.DiskFault.TheVariants as disks
 use Rattle.base_disk.proofs.Moments.{started, weaker}
-use Rattle.base_journal.specs.Journals.{FileIsThere, KeepsOthers}
+use Rattle.base_journal.specs.Journals.{FileIsThere, KeepsOthers, lines_of_journal}
+use Rattle.state_changes.specs.declared.change.Record.{Record}
+use Rattle.state_store.specs.Books.{IsFileFaultOf}
+use Rattle.state_store.specs.declared.fault.FileFault.{FileFault}
+use Rattle.state_store.specs.declared.fault.FileFault.TheVariants as files
 use Rattle.state_store.specs.Records.{records_in}
 use Rattle.state_store.proofs.{Copied.moves_elsewhere, Undamaged.same_records}
-use Rattle.state_keeping.specs.{declared.fault.OpenFault.TheVariants.OutOfMemory, Opens.IsOfFolder, Opens.unheld, Places.Places, Recovers.IsAside}
+use Rattle.state_keeping.specs.{declared.fault.OpenFault.TheVariants.OutOfMemory, declared.recovering.Recovered.Recovered, Places.Places, Recovers.IsAside, Recovers.IsRecovered}
+use Rattle.state_keeping.specs.Opens.{IsOfFolder, IsWhyUnopened, unheld, unserved}
 use Rattle.state_keeping.proofs.Others.{at_end}
 
 pub of_folder : (known : Bool) (places : Places) (s : DiskState) (fault : DiskFault) → IsOfFolder known places s (unheld fault)
@@ -44,3 +49,14 @@ put_past copy other file s t apart others run counts there = record {
 pub aside_records : (lines : List (List ℕ)) (aside : Option DiskFault) (now : List (List ℕ)) → IsAside lines aside now → records_in now ≡ records_in lines
 aside_records lines None now is = ap records_in is ∙ same_records lines
 aside_records lines (Some fault) now is = ap records_in is
+
+-- where the file is not served with what the journal holds then, it is not with the lines that were read
+module _ (known : Bool) (file : Option (List ℕ)) (places : Places) (s t : DiskState) (r : Recovered) (is : IsRecovered known places s t r) where
+  read_so : (fault : FileFault) → IsFileFaultOf file (records_in (lines_of_journal r.journal)) [] fault → IsFileFaultOf file (records_in is.lines) [] fault
+  read_so fault why = subst (λ (rs : List Record). IsFileFaultOf file rs [] fault) (aside_records is.lines r.aside (lines_of_journal r.journal) is.aside) why
+
+  pub unserved_why : (fault : FileFault) → IsFileFaultOf file (records_in (lines_of_journal r.journal)) [] fault → IsWhyUnopened known file places s (unserved fault)
+  unserved_why files.Unread why = (is.lines, is.read, read_so files.Unread why)
+  unserved_why (files.Faulty fault) why = (is.lines, is.read, read_so (files.Faulty fault) why)
+  unserved_why (files.Unwritten fault) why = (is.lines, is.read, read_so (files.Unwritten fault) why)
+  unserved_why files.OutOfMemory why = tt

@@ -1,6 +1,6 @@
 -- Opens: what is kept from a start on.
 -- Source: this project's own.
-use Rattle.std.specs.Prelude.{◌≡◌, ◌≢◌, ℕ, List, Option, Some, None, is_none, Bool, true, false, ◌||◌, IsTrue}
+use Rattle.std.specs.Prelude.{◌≡◌, ◌≢◌, ℕ, List, [], Option, Some, None, is_none, Bool, true, false, ◌||◌, IsTrue}
 use Rattle.std.specs.Str.{bytes_eq}
 use Rattle.base_disk.specs.declared.fault.DiskFault.{DiskFault}
 use Rattle.base_disk.specs.State.{DiskKeeps, DiskState, LeavesOnly}
@@ -28,11 +28,12 @@ IsOfFolder known places s Held = IsTrue known → s.taken places.lock ≡ true
 IsOfFolder known places s (File fault) = ⊥
 IsOfFolder known places s fault = Unit {0}
 
--- why nothing is kept: another process holds the folder, the journal cannot be used, or no file is served
+-- why nothing is kept: another process holds the folder, the journal cannot be used, or no file is served with the lines that the
+-- journal's file stands for
 abbrev pub IsWhyUnopened : Bool → Option (List ℕ) → Places → DiskState → OpenFault → Type 0
 IsWhyUnopened known file places s Held = IsTrue known → s.taken places.lock ≡ true
 IsWhyUnopened known file places s (Disk fault) = Unit {0}
-IsWhyUnopened known file places s (File fault) = IsFileFaultOf file fault
+IsWhyUnopened known file places s (File fault) = (lines : List (List ℕ)) × (IsTrue known → StandsFor (bytes_of_file (s.seen places.journal)) lines) × IsFileFaultOf file (records_in lines) [] fault
 IsWhyUnopened known file places s OutOfMemory = Unit {0}
 
 -- the last good copy is on the disk as it is seen, where no call on it has failed; unless this says why it could not be synced

@@ -8,7 +8,7 @@ use Rattle.vault_inventory.specs.Served.{Served}
 use Rattle.base_journal.specs.Records.{StandsFor}
 use Rattle.base_journal.specs.Journals.{FileIsThere, JournalIsWhole, bytes_of_file}
 use Rattle.state_store.specs.{declared.fault.Unsettled.Unsettled, declared.store.Store.Store, Compacted.damaged}
-use Rattle.state_store.specs.Moved.{IsMovedBook, LeftByMove, SaysAllKept, SaysAlready, SaysByItself, mark_line}
+use Rattle.state_store.specs.Moved.{IsMovedBook, IsWhyUnsaid, LeftByMove, SaysAllKept, SaysAlready, SaysByItself, mark_line}
 use Rattle.state_store.specs.Stores.{book_of, is_sure, journal_of, lines_in}
 use Rattle.state_store.specs.declared.fault.Unsettled.TheVariants as unsettles
 use Rattle.state_file.specs.declared.fault.ReadFault.{ReadFault}
@@ -89,7 +89,7 @@ IsUnchanged known old s = (read : FileRead) × (IsTrue known → IsFileAt old.pl
 abbrev pub IsWhyUnsettledState : {D : Type 0} → Bool → Kept D → DiskState → SettleWhy → Type 0
 IsWhyUnsettledState known old s (Unread fault) = IsTrue known → IsWhyUnread old.places.file s fault
 IsWhyUnsettledState known old s Changed = HasChanged known old s
-IsWhyUnsettledState known old s (Unwritten fault) = IsUnchanged known old s
+IsWhyUnsettledState known old s (Unwritten fault) = IsUnchanged known old s × IsWhyUnsaid (book_in old) fault
 IsWhyUnsettledState known old s (Disk fault) = IsUnchanged known old s
 IsWhyUnsettledState known old s OutOfMemory = Unit {0}
 

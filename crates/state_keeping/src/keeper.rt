@@ -24,7 +24,7 @@ impl<'a> StateKeeper<'a> {
     ghost use Rattle.base_disk.specs.State.{LeavesOnly, TellsFailure};
     ghost use Rattle.base_journal.specs.Journals.{CrashLeaves, Exchanging, FileIsThere, JournalHolds, JournalIsWhole, KeepsOthers};
     ghost use Rattle.base_journal.specs.Records.{IsBeforeOrAfter, StandsFor};
-    ghost use Rattle.state_store.specs.Books.{HasSecrets, IsBookIf, IsFileFaultOf};
+    ghost use Rattle.state_store.specs.Books.{HasSecrets, IsBookIf, IsFileFaultOf, IsWhyUnhanded};
     ghost use Rattle.state_store.specs.Compacted.{compacted_lines, damaged, is_worth};
     ghost use Rattle.state_store.specs.declared.fault.TakeFault.TheVariants.{Unread};
     ghost use Rattle.state_store.specs.Entering.{FaultTellsLength, TellsDisk, line_for_change, may_hold};
@@ -103,7 +103,7 @@ impl<'a> StateKeeper<'a> {
         requires { IsReplayed (store_of self.old) }
         ensures reloaded { IfOk result (λ notes. IsBookIf (option_copied bytes.entry) (records_in (lines_in (store_of self.old))) (book_of (store_of self.old)).secrets (book_of (store_of self.new)) notes.items) }
         ensures waiting { OnOk result (waiting_in self.new ≡ changed (waiting_in self.old) now) }
-        ensures refused { IfErr result (IsFileFaultOf (option_copied bytes.entry)) }
+        ensures refused { IfErr result (IsFileFaultOf (option_copied bytes.entry) (records_in (lines_in (store_of self.old))) (book_of (store_of self.old)).secrets) }
         ensures sure { OnOk result (is_sure (store_of self.new) ≡ true) }
         ensures still { OnErr result (is_sure (store_of self.new) ≡ is_sure (store_of self.old)) }
         ensures fresh { OnOk result (is_kept (store_of self.new) ≡ false) }
@@ -122,6 +122,7 @@ impl<'a> StateKeeper<'a> {
     pub fn take_secrets(&mut self, now: Millis, secrets: Vec<Secret>) -> Result<(), SettleFault>
         requires { IsReplayed (store_of self.old) }
         ensures taken { OnOk result (HasSecrets (book_of (store_of self.old)) secrets.items (book_of (store_of self.new))) }
+        ensures refused { IfErr result (IsWhyUnhanded (book_of (store_of self.old)).file.margin secrets.items (book_of (store_of self.old)).rows) }
         ensures waiting { OnOk result (waiting_in self.new ≡ changed (waiting_in self.old) now) }
         ensures book { OnErr result (book_of (store_of self.new) ≡ book_of (store_of self.old)) }
         ensures unchanged { OnErr result (waiting_in self.new ≡ waiting_in self.old) }

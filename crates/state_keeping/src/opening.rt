@@ -60,7 +60,7 @@ impl<'a, D: Disk> State<'a, D> {
     /// # Errors
     ///
     /// The first in the order of [`OpenFault`], with the disk, which has lost no record.
-    #[tactic(auto, using(crate::proofs::Filed::keeps_opened))]
+    #[tactic(auto, using(crate::proofs::Filed::keeps_opened, crate::proofs::Served::unserved_why))]
     pub fn open(
         alloc: Global,
         disk: D,

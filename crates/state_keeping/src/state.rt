@@ -50,7 +50,7 @@ impl<'a, D: Disk> State<'a, D> {
     ghost use Rattle.base_journal.specs.Journals.{CrashLeaves, JournalIsWhole, KeepsOthers};
     ghost use Rattle.base_journal.specs.Records.{IsBeforeOrAfter, StandsFor};
     ghost use Rattle.vault_served.specs.ForGood.{inventory_for_good};
-    ghost use Rattle.state_store.specs.Books.{HasSecrets, IsBookIf, IsFileFaultOf};
+    ghost use Rattle.state_store.specs.Books.{HasSecrets, IsBookIf, IsFileFaultOf, IsWhyUnhanded};
     ghost use Rattle.state_store.specs.Compacted.{compacted_lines, is_worth};
     ghost use Rattle.state_store.specs.declared.fault.TakeFault.TheVariants.{Unread};
     ghost use Rattle.state_store.specs.Entering.{FaultTellsLength, TellsDisk, line_for_change, may_hold};
@@ -115,7 +115,7 @@ impl<'a, D: Disk> State<'a, D> {
         ensures reloaded { IfOk result (λ r. IsBookIf (Some bytes.now) (records_in (lines_in (store_in self.old))) (book_in self.old).secrets (book_in self.new) r.notes.items) }
         ensures waiting { OnOk result (waiting_in self.new.keeper ≡ changed (waiting_in self.old.keeper) now) }
         ensures copied { IfOk result (λ r. IsCopied D.is_known self.old.places bytes.now r.copy (D.state self.new.disk)) }
-        ensures refused { IfErr result (IsFileFaultOf (Some bytes.now)) }
+        ensures refused { IfErr result (IsFileFaultOf (Some bytes.now) (records_in (lines_in (store_in self.old))) (book_in self.old).secrets) }
         ensures sure { OnOk result (is_sure (store_in self.new) ≡ true) }
         ensures still { OnErr result (is_sure (store_in self.new) ≡ is_sure (store_in self.old)) }
         ensures book { OnErr result (book_in self.new ≡ book_in self.old) }
@@ -145,6 +145,7 @@ impl<'a, D: Disk> State<'a, D> {
     #[tactic(auto, using(crate::proofs::Filed::keeps_still))]
     pub fn take_secrets(&mut self, now: Millis, secrets: Vec<Secret>) -> Result<(), SettleFault>
         ensures taken { OnOk result (HasSecrets (book_in self.old) secrets.items (book_in self.new)) }
+        ensures refused { IfErr result (IsWhyUnhanded (book_in self.old).file.margin secrets.items (book_in self.old).rows) }
         ensures waiting { OnOk result (waiting_in self.new.keeper ≡ changed (waiting_in self.old.keeper) now) }
         ensures book { OnErr result (book_in self.new ≡ book_in self.old) }
         ensures unchanged { OnErr result (waiting_in self.new.keeper ≡ waiting_in self.old.keeper) }

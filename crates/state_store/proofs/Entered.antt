@@ -16,8 +16,8 @@ use Rattle.state_file.specs.declared.fault.SettleFault.{SettleFault}
 use Rattle.state_file.specs.declared.fault.SettleFault.TheVariants as settles
 use Rattle.state_store.specs.{declared.fault.TakeFault.TakeFault, Books.Book}
 use Rattle.state_store.specs.declared.fault.TakeFault.TheVariants.{Unread, NoRecord, Refused, Unwritten, Disk, Unsure}
-use Rattle.state_store.specs.Entering.{IsReadAs, IsWhyNot, line_for_change, may_hold, record_for}
-use Rattle.state_store.specs.code.Entered.{IsRecorded, IsUnmade, IsUnrecorded}
+use Rattle.state_store.specs.Entering.{IsReadAs, IsWhyNot, IsWhyUnhandedAfter, line_for_change, may_hold, record_for}
+use Rattle.state_store.specs.code.Entered.{IsRecorded, IsUnhanded, IsUnmade, IsUnrecorded}
 use Rattle.state_store.specs.code.Faults.{change_in, unkept, unmade, unwritten}
 use Rattle.state_store.specs.declared.fault.TakeFault.TheVariants as takes
 
@@ -92,9 +92,13 @@ pub made_unrefused : (margin : ℕ) (rows new : List Row) (name : List ℕ) (w :
 unfolding rows_changed
 made_unrefused margin rows new name w e = unless_ok (rows_with_change rows name w) new (change_refusal margin rows name w) e
 
-pub unwritten_unmade : (b : Book) (c : Change) (fault : SettleFault) → change_refusal b.file.margin b.rows c.name c.what ≡ None → IsUnmade b c (unwritten fault)
+-- but what is handed then may not be written
+unwritten_unmade : (b : Book) (c : Change) (why : SettleFault) → IsWhyUnhandedAfter b c why → IsUnmade b c (unwritten why)
 unwritten_unmade b c settles.OutOfMemory is = tt
-unwritten_unmade b c fault is = is
+unwritten_unmade b c why is = is
+
+pub unhanded_unmade : (b : Book) (c : Change) (rows : List Row) (fault : TakeFault) → rows_changed b.file.margin b.rows c.name c.what ≡ Ok rows → IsUnhanded b rows fault → IsUnmade b c fault
+unhanded_unmade b c rows fault made (why, (same, is)) = subst (IsUnmade b c) (sym same) (unwritten_unmade b c why (rows, (made, is)))
 
 -- what is unrecorded or unmade is not taken
 pub unrecorded_why : (b : Book) (name : List ℕ) (w : ChangeKind) (fault : TakeFault) → IsUnrecorded b name w fault → IsWhyNot b name w fault

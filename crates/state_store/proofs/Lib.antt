@@ -1,5 +1,6 @@
 pub mod Lists
 pub mod Ready
+pub mod Unhanded
 pub mod Faulty
 pub mod Entered
 pub mod Replayed

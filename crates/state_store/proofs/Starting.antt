@@ -5,14 +5,14 @@ use Rattle.state_store.specs.{declared.fault.FileFault.FileFault, declared.fault
 use Rattle.state_store.specs.Books.{Book, IsBookIf, IsBookOf, IsFileFaultOf}
 
 -- memory may be wanting for any file
-pub no_memory : (file : Option (List ℕ)) → IsFileFaultOf file OutOfMemory
-no_memory None = tt
-no_memory (Some bytes) = tt
+pub no_memory : (file : Option (List ℕ)) (records : List Record) (secrets : List Secret) → IsFileFaultOf file records secrets OutOfMemory
+no_memory None records secrets = tt
+no_memory (Some bytes) records secrets = tt
 
 -- the fault of the file, or lack of memory
-pub or_memory : (file : Option (List ℕ)) (fault why : FileFault) → IsFileFaultOf file fault → (why ≡ fault) ⊎ (why ≡ OutOfMemory) → IsFileFaultOf file why
-or_memory file fault why is (inl same) = subst (IsFileFaultOf file) (sym same) is
-or_memory file fault why is (inr same) = subst (IsFileFaultOf file) (sym same) (no_memory file)
+pub or_memory : (file : Option (List ℕ)) (records : List Record) (secrets : List Secret) (fault why : FileFault) → IsFileFaultOf file records secrets fault → (why ≡ fault) ⊎ (why ≡ OutOfMemory) → IsFileFaultOf file records secrets why
+or_memory file records secrets fault why is (inl same) = subst (IsFileFaultOf file records secrets) (sym same) is
+or_memory file records secrets fault why is (inr same) = subst (IsFileFaultOf file records secrets) (sym same) (no_memory file records secrets)
 
 -- the rows of a book are those of a replay
 pub rows_of_book : (bytes : List ℕ) (records : List Record) (secrets : List Secret) (b : Book) (notes : List JournalNote) → IsBookOf bytes records secrets b notes → (replayed b.file records).rows ≡ b.rows
@@ -27,5 +27,5 @@ rows_from file copy None records b notes is = rows_if file records [] b notes is
 rows_from file copy (Some fault) records b notes is = rows_if copy records [] b notes is.1
 
 -- the copy stands for a file that is faulty
-pub from_copy : (file copy : Option (List ℕ)) (told : Option FileFault) (fault : FileFault) (records : List Record) (b : Book) (notes : List JournalNote) → IsFileFaultOf file fault → told ≡ Some fault → IsBookIf copy records [] b notes → BookIsFrom file copy told records b notes
+pub from_copy : (file copy : Option (List ℕ)) (told : Option FileFault) (fault : FileFault) (records : List Record) (b : Book) (notes : List JournalNote) → IsFileFaultOf file records [] fault → told ≡ Some fault → IsBookIf copy records [] b notes → BookIsFrom file copy told records b notes
 from_copy file copy told fault records b notes is same book = subst (λ (f : Option FileFault). BookIsFrom file copy f records b notes) (sym same) (is, book)

@@ -4,7 +4,7 @@ use Rattle.std.specs.Prelude.{◌≡◌, ℕ, List, Option, Some, None, Ok, Err}
 use Rattle.vault_inventory.specs.{Inventory.read_served, Served.Served}
 use Rattle.state_changes.specs.{declared.change.Record.Record, declared.replaying.File.File, declared.replaying.JournalNote.JournalNote, declared.row.Row.Row, Listed.rows_of_served, Replay.replayed, Words.fingerprint}
 use Rattle.state_changes.specs.{declared.secret.Secret.Secret}
-use Rattle.state_file.specs.Settled.{TextIsSettled}
+use Rattle.state_file.specs.{declared.fault.SettleFault.SettleFault, Settled.TextIsSettled, Unwritten.IsWhyUnwritten}
 use Rattle.state_store.specs.{declared.fault.FileFault.FileFault, Handed.handed}
 use Rattle.state_store.specs.declared.fault.FileFault.TheVariants.{Unread, Faulty, Unwritten, OutOfMemory}
 
@@ -17,6 +17,10 @@ pub record Book : Type 0 where
 -- the text of a file that says what is handed of these rows, with that margin
 abbrev pub IsTextOf : ℕ → List Secret → List Row → List ℕ → Type 0
 IsTextOf margin secrets rows text = (v : Served) × TextIsSettled (Some margin) None (handed secrets rows) text v
+
+-- why there is no such text
+abbrev pub IsWhyUnhanded : ℕ → List Secret → List Row → SettleFault → Type 0
+IsWhyUnhanded margin secrets rows fault = IsWhyUnwritten (Some margin) None (handed secrets rows) fault
 
 -- what a book always keeps
 abbrev pub IsBook : Book → Type 0
@@ -35,19 +39,20 @@ pub record IsBookOf (bytes : List ℕ) (records : List Record) (secrets : List S
   pub rows : replayed b.file records ≡ record { rows = b.rows; notes = notes }
   pub secrets_are : b.secrets ≡ secrets
 
--- the file is read, and is no inventory for this reason; or what is to be handed is not written, for whatever reason
-abbrev pub IsFault : List ℕ → FileFault → Type 0
-IsFault bytes Unread = ⊥
-IsFault bytes (Faulty fault) = read_served bytes ≡ Err fault
-IsFault bytes (Unwritten fault) = (v : Served) × (read_served bytes ≡ Ok v)
-IsFault bytes OutOfMemory = Unit {0}
+-- the file is read, and is no inventory for this reason; or it is one, and what is to be handed of its rows after these records cannot
+-- be written as one file, for this reason
+abbrev pub IsFault : List ℕ → List Record → List Secret → FileFault → Type 0
+IsFault bytes records secrets Unread = ⊥
+IsFault bytes records secrets (Faulty fault) = read_served bytes ≡ Err fault
+IsFault bytes records secrets (Unwritten fault) = (f : File) × IsFileOf bytes f × IsWhyUnhanded f.margin secrets (replayed f records).rows fault
+IsFault bytes records secrets OutOfMemory = Unit {0}
 
 -- the same of a file whose bytes may not be had
-abbrev pub IsFileFaultOf : Option (List ℕ) → FileFault → Type 0
-IsFileFaultOf None Unread = Unit {0}
-IsFileFaultOf None OutOfMemory = Unit {0}
-IsFileFaultOf None fault = ⊥
-IsFileFaultOf (Some bytes) fault = IsFault bytes fault
+abbrev pub IsFileFaultOf : Option (List ℕ) → List Record → List Secret → FileFault → Type 0
+IsFileFaultOf None records secrets Unread = Unit {0}
+IsFileFaultOf None records secrets OutOfMemory = Unit {0}
+IsFileFaultOf None records secrets fault = ⊥
+IsFileFaultOf (Some bytes) records secrets fault = IsFault bytes records secrets fault
 
 abbrev pub IsBookIf : Option (List ℕ) → List Record → List Secret → Book → List JournalNote → Type 0
 IsBookIf None records secrets b notes = ⊥

@@ -8,8 +8,9 @@ use Rattle.base_disk.specs.State.{DiskState, IsAfter, LeavesOnly}
 use Rattle.vault_inventory.specs.Served.{Served}
 use Rattle.base_journal.specs.Journals as journals
 use Rattle.base_journal.specs.Records.{IsBeforeOrAfter, StandsFor}
-use Rattle.state_file.specs.{Order.in_order, Settled.TextIsSettled}
-use Rattle.state_store.specs.{declared.fault.Unsettled.Unsettled, declared.store.Store.Store, Books.Book, Books.file_of}
+use Rattle.state_file.specs.{declared.fault.SettleFault.SettleFault, Order.in_order, Settled.TextIsSettled, Unwritten.IsWhyUnwritten}
+use Rattle.state_store.specs.{declared.fault.Unsettled.Unsettled, declared.store.Store.Store}
+use Rattle.state_store.specs.{Books.Book, Books.IsWhyUnhanded, Books.file_of}
 use Rattle.state_store.specs.declared.fault.Unsettled.TheVariants.{Changed, Unwritten, Disk, OutOfMemory}
 use Rattle.state_store.specs.Stores.{FileHolds, IsReplayed, book_of, is_sure, journal_of, lines_in, path_of_store}
 
@@ -17,6 +18,10 @@ use Rattle.state_store.specs.Stores.{FileHolds, IsReplayed, book_of, is_sure, jo
 -- read of it
 abbrev pub SaysAllKept : Book → List ℕ → Served → Type 0
 SaysAllKept b text v = TextIsSettled (Some b.file.margin) b.file.system_max b.rows text v
+
+-- why there is no such text; or there is one, and what is handed of its rows cannot be written as one file
+abbrev pub IsWhyUnsaid : Book → SettleFault → Type 0
+IsWhyUnsaid b fault = IsWhyUnwritten (Some b.file.margin) b.file.system_max b.rows fault ⊎ IsWhyUnhanded b.file.margin b.secrets (in_order b.rows) fault
 
 -- the line that says that the file with this text holds every change before
 abbrev pub mark_line : List ℕ → List ℕ
@@ -60,7 +65,7 @@ HasMarkAtMost old new = (lines_in new ≡ lines_in old) ⊎ ((text : List ℕ) �
 -- the disk failed; or memory was refused
 abbrev pub IsWhyUnsettled : Book → List ℕ → Unsettled → Type 0
 IsWhyUnsettled b present Changed = bytes_eq (fingerprint present) b.file.mark ≡ false
-IsWhyUnsettled b present (Unwritten fault) = fingerprint present ≡ b.file.mark
+IsWhyUnsettled b present (Unwritten fault) = (fingerprint present ≡ b.file.mark) × IsWhyUnsaid b fault
 IsWhyUnsettled b present (Disk fault) = fingerprint present ≡ b.file.mark
 IsWhyUnsettled b present OutOfMemory = Unit {0}
 

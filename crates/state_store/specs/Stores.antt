@@ -66,7 +66,7 @@ pub record ChangeIsTaken (old : Store) (name : List ℕ) (w : ChangeKind) (need 
 -- the book is that of the file where there is no fault; else the fault is that of the file, and the book is that of its copy
 abbrev pub BookIsFrom : Option (List ℕ) → Option (List ℕ) → Option FileFault → List Record → Book → List JournalNote → Type 0
 BookIsFrom file copy None records b notes = IsBookIf file records [] b notes
-BookIsFrom file copy (Some fault) records b notes = IsFileFaultOf file fault × IsBookIf copy records [] b notes
+BookIsFrom file copy (Some fault) records b notes = IsFileFaultOf file records [] fault × IsBookIf copy records [] b notes
 
 -- a store at a start, over this journal
 pub record StoreIsOpened (file copy : Option (List ℕ)) (journal : Journal) (o : OpenedStore) : Type 0 where

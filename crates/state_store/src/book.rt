@@ -1,7 +1,9 @@
 ghost use Rattle.std.specs.Prelude.{◌≡◌, IfErr, IfOk, OnErr, OnOk, Ok, option_copied, string_bytes};
 ghost use Rattle.vault_served.specs.ForGood.{inventory_for_good};
-ghost use Rattle.state_store.specs.Books.{HasSecrets, IsBook, IsBookIf, IsBookOf, IsFault, IsFileFaultOf, IsFileOf, IsTextOf, file_of};
+ghost use Rattle.state_file.specs.Order.{in_order};
+ghost use Rattle.state_store.specs.Books.{HasSecrets, IsBook, IsBookIf, IsBookOf, IsFault, IsFileFaultOf, IsFileOf, IsTextOf, IsWhyUnhanded, file_of};
 ghost use Rattle.state_store.specs.Moved.{IsMovedBook, SaysAllKept};
+ghost use Rattle.state_store.specs.code.Faults.{IsNoFile};
 
 use crate::fault::{FileFault, faulty, unhanded};
 use crate::handing::handed;
@@ -52,7 +54,7 @@ impl Book {
     ///
     /// `Faulty`, the bytes are no inventory; `Unwritten`, what is to be handed cannot be written as one file, as over 1 MiB; and
     /// `OutOfMemory`.
-    #[tactic(auto, using(crate::proofs::Faulty::unhanded_is))]
+    #[tactic(auto, using(crate::proofs::Faulty::no_file_is, crate::proofs::Faulty::unhanded_is))]
     pub fn read(
         alloc: Global,
         bytes: &[u8],
@@ -60,7 +62,7 @@ impl Book {
         secrets: &[Secret],
     ) -> Result<(Book, Vec<JournalNote>), FileFault>
         ensures read { IfOk result (λ r. IsBookOf bytes.now records.now secrets.now r.0 r.1.items) }
-        ensures refused { IfErr result (IsFault bytes.now) }
+        ensures refused { IfErr result (IsFault bytes.now records.now secrets.now) }
     {
         let file = read_file(alloc, bytes)?;
         let replayed = replay(alloc, &file, records)?;
@@ -122,6 +124,7 @@ impl Book {
     /// one credential, all is as it was.
     pub fn take_secrets(&mut self, alloc: Global, secrets: Vec<Secret>) -> Result<(), SettleFault>
         ensures taken { OnOk result (HasSecrets self.old secrets.items self.new) }
+        ensures refused { IfErr result (IsWhyUnhanded self.old.file.margin secrets.items self.old.rows) }
         ensures unchanged { OnErr result (self.new ≡ self.old) }
     {
         let text = text_of(alloc, self.file.margin, &secrets, &self.rows)?;
@@ -131,6 +134,7 @@ impl Book {
     }
 
     /// The book once its file has this text, of which that is read.
+    #[tactic(auto, using(crate::proofs::Unhanded::handed_again, crate::proofs::Unhanded::memory_unhanded))]
     pub(crate) fn moved(
         &self,
         alloc: Global,
@@ -138,7 +142,8 @@ impl Book {
         served: &ServedInventory,
     ) -> Result<Book, SettleFault>
         requires { SaysAllKept self.now text.now served.now }
-        ensures { IfOk result (IsMovedBook self.now text.now served.now) }
+        ensures moved { IfOk result (IsMovedBook self.now text.now served.now) }
+        ensures refused { IfErr result (IsWhyUnhanded self.now.file.margin self.now.secrets (in_order self.now.rows)) }
     {
         let file = file_with(alloc, text.as_bytes(), served)?;
         let rows = rows_of(alloc, served)?;
@@ -167,7 +172,7 @@ impl Book {
 #[tactic(auto, using(crate::proofs::Faulty::faulty_is, crate::proofs::Faulty::memory_fault))]
 fn read_file(alloc: Global, bytes: &[u8]) -> Result<File, FileFault>
     ensures read { IfOk result (IsFileOf bytes.now) }
-    ensures refused { IfErr result (IsFault bytes.now) }
+    ensures refused { IfErr result (IsNoFile bytes.now) }
 {
     match read_served(alloc, bytes) {
         Ok(served) => Ok(file_with(alloc, bytes, &served)?),
@@ -188,13 +193,15 @@ fn file_with(alloc: Global, bytes: &[u8], served: &ServedInventory) -> Result<Fi
 }
 
 /// The text of a file that says what is handed of these rows, with that margin in seconds.
+#[tactic(auto, using(crate::proofs::Unhanded::memory_unhanded))]
 pub(crate) fn text_of(
     alloc: Global,
     margin: u32,
     secrets: &[Secret],
     rows: &Rows,
 ) -> Result<String, SettleFault>
-    ensures { IfOk result (λ text. IsTextOf margin secrets.now rows.now (string_bytes text)) }
+    ensures text { IfOk result (λ text. IsTextOf margin secrets.now rows.now (string_bytes text)) }
+    ensures refused { IfErr result (IsWhyUnhanded margin secrets.now rows.now) }
 {
     let handed = handed(alloc, secrets, rows.list())?;
     let Settled { text, served: _ } = settle(alloc, Some(margin), None, &handed)?;
@@ -209,7 +216,7 @@ pub(crate) fn read_if(
     secrets: &[Secret],
 ) -> Result<(Book, Vec<JournalNote>), FileFault>
     ensures read { IfOk result (λ r. IsBookIf (option_copied bytes.entry) records.now secrets.now r.0 r.1.items) }
-    ensures refused { IfErr result (IsFileFaultOf (option_copied bytes.entry)) }
+    ensures refused { IfErr result (IsFileFaultOf (option_copied bytes.entry) records.now secrets.now) }
 {
     match bytes {
         None => Err(FileFault::Unread),

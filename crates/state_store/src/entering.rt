@@ -2,11 +2,10 @@ ghost use Rattle.std.specs.Prelude.{◌≡◌, IfErr, IfOk, Some, string_bytes};
 ghost use Rattle.state_changes.specs.Compaction.{is_need};
 ghost use Rattle.state_changes.specs.Records.{record_of};
 ghost use Rattle.state_changes.specs.Replay.{is_as_then};
-ghost use Rattle.state_file.specs.declared.fault.SettleFault.{SettleFault};
 ghost use Rattle.state_store.specs.Books.{IsTextOf};
 ghost use Rattle.state_store.specs.Entering.{IsWhyNot, line_for_change};
-ghost use Rattle.state_store.specs.code.Faults.{IsOfNoDisk, change_in, unwritten};
-ghost use Rattle.state_store.specs.code.Entered.{IsEntered, IsRecorded, IsUnmade, IsUnrecorded, RowsAndTextAreMade};
+ghost use Rattle.state_store.specs.code.Faults.{IsOfNoDisk, change_in};
+ghost use Rattle.state_store.specs.code.Entered.{IsEntered, IsRecorded, IsUnhanded, IsUnmade, IsUnrecorded, RowsAndTextAreMade};
 
 use crate::book::{Book, text_of};
 use crate::fault::{TakeFault, unmade, unwritten};
@@ -73,7 +72,7 @@ impl Book {
     }
 
     // The rows after a change, and the text of what is handed then.
-    #[tactic(auto, using(crate::proofs::Entered::refused_unmade, crate::proofs::Entered::unwritten_unmade, crate::proofs::Entered::made_unrefused))]
+    #[tactic(auto, using(crate::proofs::Entered::refused_unmade, crate::proofs::Entered::unhanded_unmade))]
     fn made(&self, alloc: Global, change: Change) -> Result<(Rows, String), TakeFault>
         ensures made { IfOk result (λ r. RowsAndTextAreMade self.now change r.0 (string_bytes r.1)) }
         ensures refused { IfErr result (IsUnmade self.now change) }
@@ -89,7 +88,7 @@ impl Book {
     // These rows, and the text of what is handed of them.
     fn written(&self, alloc: Global, rows: Rows) -> Result<(Rows, String), TakeFault>
         ensures written { IfOk result (λ r. (r.0 ≡ rows) × IsTextOf self.now.file.margin self.now.secrets rows (string_bytes r.1)) }
-        ensures refused { IfErr result (λ fault. (why : SettleFault) × (fault ≡ unwritten why)) }
+        ensures refused { IfErr result (IsUnhanded self.now rows) }
     {
         match text_of(alloc, self.file.margin, &self.secrets, &rows) {
             Ok(text) => Ok((rows, text)),

@@ -12,9 +12,11 @@ use state_changes::{JournalNote, Record};
 use std::alloc::Global;
 
 impl<'a> Store<'a> {
-    ghost use Rattle.std.specs.Prelude.{◌≡◌, IfErr, IfOk, option_copied, false, true};
+    ghost use Rattle.std.specs.Prelude.{◌≡◌, [], IfErr, IfOk, option_copied, false, true};
+    ghost use Rattle.base_journal.specs.Journals.{lines_of_journal};
     ghost use Rattle.state_store.specs.Stores.{IsReplayed, StoreIsOpened, is_kept, is_sure};
     ghost use Rattle.state_store.specs.Books.{IsFileFaultOf};
+    ghost use Rattle.state_store.specs.Records.{records_in};
 
     /// What is kept from a start on, over an open journal: the file with these bytes and every change of the journal in order; or, where
     /// the file cannot be had or is not served, its last good copy with them. A line of the journal that writes no record counts for
@@ -34,7 +36,7 @@ impl<'a> Store<'a> {
         ensures replayed { IfOk result (λ opened. IsReplayed opened.store) }
         ensures sure { IfOk result (λ opened. is_sure opened.store ≡ true) }
         ensures fresh { IfOk result (λ opened. is_kept opened.store ≡ false) }
-        ensures refused { IfErr result (IsFileFaultOf (option_copied file.entry)) }
+        ensures refused { IfErr result (IsFileFaultOf (option_copied file.entry) (records_in (lines_of_journal journal.entry)) []) }
     {
         let records = records_in(alloc, journal.records())?;
         let (book, notes, fault) = good_of(alloc, file, copy, &records)?;
@@ -62,7 +64,7 @@ fn good_of(
     records: &[Record],
 ) -> Result<(Book, Vec<JournalNote>, Option<FileFault>), FileFault>
     ensures good { IfOk result (λ r. BookIsFrom (option_copied file.entry) (option_copied copy.entry) r.2 records.now r.0 r.1.items) }
-    ensures refused { IfErr result (IsFileFaultOf (option_copied file.entry)) }
+    ensures refused { IfErr result (IsFileFaultOf (option_copied file.entry) records.now []) }
 {
     match read_if(alloc, file, records, &[]) {
         Ok((book, notes)) => Ok((book, notes, None)),

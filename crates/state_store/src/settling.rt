@@ -3,7 +3,7 @@ ghost use Rattle.std.specs.Str.{bytes_eq};
 ghost use Rattle.state_changes.specs.Words.{fingerprint};
 ghost use Rattle.base_disk.specs.State.{Elapses, LeavesAlone};
 ghost use Rattle.base_journal.specs.Journals.{bytes_of_file};
-ghost use Rattle.state_store.specs.Moved.{IsWhyUnsettled, SaysAlready, mark_line};
+ghost use Rattle.state_store.specs.Moved.{IsWhyUnsaid, IsWhyUnsettled, SaysAlready, mark_line};
 ghost use Rattle.state_store.specs.code.Moving.{IsMoving};
 
 use crate::book::Book;
@@ -46,6 +46,7 @@ impl<'a> Store<'a> {
     ///
     /// The first in the order of [`Unsettled`]. What is kept is as it was then; the journal may have a mark more, which changes
     /// nothing. Where the disk may have the new file, the store is not sure of it any more, and takes no change until it is read anew.
+    #[tactic(auto, using(crate::proofs::Unhanded::unsaid_unsettled))]
     pub fn settle<D: Disk>(
         &mut self,
         disk: &mut D,
@@ -191,9 +192,10 @@ fn is_same(text: &Text, other: &Text) -> bool
 }
 
 // What the file is to become; `None` where it says all that is kept already.
-#[tactic(auto, using(crate::proofs::MovedOn::says_already, crate::proofs::MovedOn::is_moving))]
+#[tactic(auto, using(crate::proofs::MovedOn::says_already, crate::proofs::MovedOn::is_moving, crate::proofs::Unhanded::unwritten_unsaid, crate::proofs::Unhanded::unhanded_unsaid, crate::proofs::Unhanded::memory_unsaid))]
 fn next_file(alloc: Global, book: &Book) -> Result<Option<Moving>, SettleFault>
-    ensures { IfOk result (λ found. MatchOption found (SaysAlready book.now) (IsMoving book.now)) }
+    ensures next { IfOk result (λ found. MatchOption found (SaysAlready book.now) (IsMoving book.now)) }
+    ensures refused { IfErr result (IsWhyUnsaid book.now) }
 {
     let Settled { text, served } = settle(
         alloc,

@@ -47,7 +47,7 @@ impl<'a> Store<'a> {
     ghost use Rattle.base_journal.specs.Journals.{CrashLeaves, FileIsThere, JournalHolds, JournalIsWhole, KeepsOthers};
     ghost use Rattle.base_journal.specs.Records.{IsBeforeOrAfter, IsRecordLine, StandsFor, at_rest};
     ghost use Rattle.vault_served.specs.ForGood.{inventory_for_good};
-    ghost use Rattle.state_store.specs.Books.{HasSecrets, IsBookIf, IsFileFaultOf};
+    ghost use Rattle.state_store.specs.Books.{HasSecrets, IsBookIf, IsFileFaultOf, IsWhyUnhanded};
     ghost use Rattle.state_store.specs.declared.fault.TakeFault.TheVariants.{Unread};
     ghost use Rattle.state_store.specs.Entering.{FaultTellsLength, TellsDisk, line_for_change, may_hold};
     ghost use Rattle.state_store.specs.Records.{records_in};
@@ -220,7 +220,7 @@ impl<'a> Store<'a> {
     pub fn reload(&mut self, bytes: Option<&[u8]>) -> Result<Vec<JournalNote>, FileFault>
         requires replayed { IsReplayed self.old }
         ensures reloaded { IfOk result (λ notes. IsBookIf (option_copied bytes.entry) (records_in (lines_in self.old)) (book_of self.old).secrets (book_of self.new) notes.items) }
-        ensures refused { IfErr result (IsFileFaultOf (option_copied bytes.entry)) }
+        ensures refused { IfErr result (IsFileFaultOf (option_copied bytes.entry) (records_in (lines_in self.old)) (book_of self.old).secrets) }
         ensures unchanged { OnErr result (book_of self.new ≡ book_of self.old) }
         ensures sure { OnOk result (is_sure self.new ≡ true) }
         ensures still { OnErr result (is_sure self.new ≡ is_sure self.old) }
@@ -242,6 +242,7 @@ impl<'a> Store<'a> {
     pub fn take_secrets(&mut self, secrets: Vec<Secret>) -> Result<(), SettleFault>
         requires replayed { IsReplayed self.old }
         ensures taken { OnOk result (HasSecrets (book_of self.old) secrets.items (book_of self.new)) }
+        ensures refused { IfErr result (IsWhyUnhanded (book_of self.old).file.margin secrets.items (book_of self.old).rows) }
         ensures unchanged { OnErr result (book_of self.new ≡ book_of self.old) }
         ensures sure { is_sure self.new ≡ is_sure self.old }
         ensures kept { is_kept self.new ≡ is_kept self.old }

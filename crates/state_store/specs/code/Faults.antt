@@ -1,11 +1,12 @@
 -- Words for the faults of the crates below, as this one tells them. No public clause cites them.
 -- Source: this project's own.
-use Rattle.std.specs.Prelude.{◌≡◌, Bool, true, false, Option, Some, None}
+use Rattle.std.specs.Prelude.{◌≡◌, ℕ, List, Err, Bool, true, false, Option, Some, None}
 use Rattle.state_changes.specs.{declared.change.Change.Change, declared.change.Record.Record, declared.fault.ChangeFault.ChangeFault}
 use Rattle.state_changes.specs.declared.change.Record.TheVariants.{Made, Settling}
 use Rattle.state_changes.specs.declared.fault.ChangeFault.TheVariants as changes
 use Rattle.base_disk.specs.{State.IsNotTooLong, declared.fault.DiskFault.DiskFault}
 use Rattle.base_disk.specs.declared.fault.DiskFault.TheVariants as disks
+use Rattle.vault_inventory.specs.Inventory.{read_served}
 use Rattle.vault_inventory.specs.declared.fault.InvFault.{InvFault}
 use Rattle.vault_inventory.specs.declared.fault.InvFault.TheVariants as inventories
 use Rattle.state_file.specs.declared.fault.SettleFault.{SettleFault}
@@ -48,6 +49,12 @@ IsOfNoLength fault = Unit {0}
 abbrev pub faulty : InvFault → FileFault
 faulty inventories.OutOfMemory = files.OutOfMemory
 faulty fault = files.Faulty fault
+
+-- why bytes are no file: they are no inventory, or memory was refused
+abbrev pub IsNoFile : List ℕ → FileFault → Type 0
+IsNoFile bytes (files.Faulty fault) = read_served bytes ≡ Err fault
+IsNoFile bytes files.OutOfMemory = Unit {0}
+IsNoFile bytes fault = ⊥
 
 abbrev pub unhanded : SettleFault → FileFault
 unhanded settles.OutOfMemory = files.OutOfMemory

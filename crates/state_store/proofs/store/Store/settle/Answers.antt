@@ -17,7 +17,7 @@ use Rattle.state_store.proofs.store.Store.settle.Goals as goal
 pub returns-in_err-put-clause-replayed : goal.returns-in_err-put-clause-replayed
 returns-in_err-put-clause-replayed g c =
     let b = c.args.self.now.book in
-    let is = MatchOption-at_some (SaysAlready b) (IsMoving b) c.in-Some.moving c.in-Some.is c.in_ok-moving.ensures in
+    let is = MatchOption-at_some (SaysAlready b) (IsMoving b) c.in-Some.moving c.in-Some.is c.in_ok-moving.ensures.next in
     let new : Store = record { alloc = c.args.self.now.alloc; journal = c.put.new.self; book = b; is_sure = c.args.self.now.is_sure; is_kept = c.args.self.now.is_kept } in
     marked_replays c.args.self.now c.in-Some.moving is new c.requires.replayed refl (inl c.in_err-put.ensures.refused)
 
@@ -28,7 +28,7 @@ pub returns-in_err-put-clause-any_moment : goal.returns-in_err-put-clause-any_mo
 returns-in_err-put-clause-any_moment g c known =
     let s = g.D.Disk.state in
     let old = c.args.self.now in
-    let is = MatchOption-at_some (SaysAlready old.book) (IsMoving old.book) c.in-Some.moving c.in-Some.is c.in_ok-moving.ensures in
+    let is = MatchOption-at_some (SaysAlready old.book) (IsMoving old.book) c.in-Some.moving c.in-Some.is c.in_ok-moving.ensures.next in
     let text = string_bytes c.in-Some.moving.text in
     let file : File = record { mode = c.args.mode; bytes = text } in
     let put = subst (λ (l : List ℕ). LeavesOnly (s c.args.disk.now) (s c.put.new.disk) (CrashLeaves (path_of_store old) (IsBeforeOrAfter (lines_in old) l) (s c.args.disk.now))) is.line_is (c.put.ensures.any_moment known) in
@@ -41,7 +41,7 @@ put_in_place-requires-clause-whole g c known = c.in_ok-put.ensures.acknowledged.
 pub returns-in_err-put_in_place-clause-replayed : goal.returns-in_err-put_in_place-clause-replayed
 returns-in_err-put_in_place-clause-replayed g c =
     let b = c.args.self.now.book in
-    let is = MatchOption-at_some (SaysAlready b) (IsMoving b) c.in-Some.moving c.in-Some.is c.in_ok-moving.ensures in
+    let is = MatchOption-at_some (SaysAlready b) (IsMoving b) c.in-Some.moving c.in-Some.is c.in_ok-moving.ensures.next in
     let new : Store = record { alloc = c.args.self.now.alloc; journal = c.put.new.self; book = b; is_sure = c.put_in_place.new.self.is_sure; is_kept = c.put_in_place.new.self.is_kept } in
     subst IsReplayed (sym c.put_in_place.ensures.rest) (marked_replays c.args.self.now c.in-Some.moving is new c.requires.replayed refl (inr c.in_ok-put.ensures.acknowledged.0))
 
@@ -53,7 +53,7 @@ pub returns-in_err-put_in_place-clause-any_moment : goal.returns-in_err-put_in_p
 returns-in_err-put_in_place-clause-any_moment g c known =
     let s = g.D.Disk.state in
     let old = c.args.self.now in
-    let is = MatchOption-at_some (SaysAlready old.book) (IsMoving old.book) c.in-Some.moving c.in-Some.is c.in_ok-moving.ensures in
+    let is = MatchOption-at_some (SaysAlready old.book) (IsMoving old.book) c.in-Some.moving c.in-Some.is c.in_ok-moving.ensures.next in
     marked_then old c.in-Some.moving is c.args.target.now c.args.mode c.requires.apart (s c.args.disk.now) (s c.put.new.disk) (s c.put_in_place.new.disk) (c.put.ensures.any_moment known)
     (g.met.D.Disk.counts_now c.put.new.disk) c.put.new.self c.put.ensures.path c.in_ok-put.ensures.acknowledged.0 (c.in_ok-put.ensures.acknowledged.1 known) c.as_bytes.result.now c.as_bytes.ensures.value
     (c.put_in_place.ensures.any_moment known)
@@ -62,7 +62,7 @@ pub returns-clause-any_moment : goal.returns-clause-any_moment
 returns-clause-any_moment g c known =
     let s = g.D.Disk.state in
     let old = c.args.self.now in
-    let is = MatchOption-at_some (SaysAlready old.book) (IsMoving old.book) c.in-Some.moving c.in-Some.is c.in_ok-moving.ensures in
+    let is = MatchOption-at_some (SaysAlready old.book) (IsMoving old.book) c.in-Some.moving c.in-Some.is c.in_ok-moving.ensures.next in
     marked_then old c.in-Some.moving is c.args.target.now c.args.mode c.requires.apart (s c.args.disk.now) (s c.put.new.disk) (s c.put_in_place.new.disk) (c.put.ensures.any_moment known)
     (g.met.D.Disk.counts_now c.put.new.disk) c.put.new.self c.put.ensures.path c.in_ok-put.ensures.acknowledged.0 (c.in_ok-put.ensures.acknowledged.1 known) c.as_bytes.result.now c.as_bytes.ensures.value
     (c.put_in_place.ensures.any_moment known)
@@ -70,7 +70,7 @@ returns-clause-any_moment g c known =
 pub returns-clause-replayed : goal.returns-clause-replayed
 returns-clause-replayed g c =
     let old = c.args.self.now in
-    let is = MatchOption-at_some (SaysAlready old.book) (IsMoving old.book) c.in-Some.moving c.in-Some.is c.in_ok-moving.ensures in
+    let is = MatchOption-at_some (SaysAlready old.book) (IsMoving old.book) c.in-Some.moving c.in-Some.is c.in_ok-moving.ensures.next in
     let put = c.put_in_place.new.self in
     let new : Store = record { alloc = put.alloc; journal = put.journal; book = c.in-Some.moving.book; is_sure = put.is_sure; is_kept = put.is_kept } in
     moved_replays old c.in-Some.moving is new c.requires.replayed refl (ap lines_in c.put_in_place.ensures.rest ∙ c.in_ok-put.ensures.acknowledged.0)
@@ -79,7 +79,7 @@ pub returns-clause-settled : goal.returns-clause-settled
 returns-clause-settled g c =
     let s = g.D.Disk.state in
     let old = c.args.self.now in
-    let is = MatchOption-at_some (SaysAlready old.book) (IsMoving old.book) c.in-Some.moving c.in-Some.is c.in_ok-moving.ensures in
+    let is = MatchOption-at_some (SaysAlready old.book) (IsMoving old.book) c.in-Some.moving c.in-Some.is c.in_ok-moving.ensures.next in
     let put = c.put_in_place.new.self in
     let new : Store = record { alloc = put.alloc; journal = put.journal; book = c.in-Some.moving.book; is_sure = put.is_sure; is_kept = put.is_kept } in
     record {
@@ -117,7 +117,7 @@ pub returns-in_err-put-clause-begun : goal.returns-in_err-put-clause-begun
 returns-in_err-put-clause-begun g c = on_refused c.from_residual-in_err-put.result (λ known.
     let s = g.D.Disk.state in
     let old = c.args.self.now in
-    let is = MatchOption-at_some (SaysAlready old.book) (IsMoving old.book) c.in-Some.moving c.in-Some.is c.in_ok-moving.ensures in
+    let is = MatchOption-at_some (SaysAlready old.book) (IsMoving old.book) c.in-Some.moving c.in-Some.is c.in_ok-moving.ensures.next in
     let new : Store = record { alloc = old.alloc; journal = c.put.new.self; book = old.book; is_sure = old.is_sure; is_kept = old.is_kept } in
     inr (
       string_bytes c.in-Some.moving.text,
@@ -131,7 +131,7 @@ pub returns-in_err-put_in_place-clause-begun : goal.returns-in_err-put_in_place-
 returns-in_err-put_in_place-clause-begun g c = on_refused c.from_residual-in_err-put_in_place.result (λ known.
     let s = g.D.Disk.state in
     let old = c.args.self.now in
-    let is = MatchOption-at_some (SaysAlready old.book) (IsMoving old.book) c.in-Some.moving c.in-Some.is c.in_ok-moving.ensures in
+    let is = MatchOption-at_some (SaysAlready old.book) (IsMoving old.book) c.in-Some.moving c.in-Some.is c.in_ok-moving.ensures.next in
     let marked : Store = record { alloc = old.alloc; journal = c.put.new.self; book = old.book; is_sure = old.is_sure; is_kept = old.is_kept } in
     let new = c.put_in_place.new.self in
     let first = puts_mark g.D.Disk.is_known s old c.in-Some.moving is c.args.target.now c.args.disk.now c.put.new.disk marked c.requires.replayed refl refl c.put.ensures.path
@@ -149,7 +149,7 @@ unfolding returns-clause-settled
 returns-clause-steps g c known =
     let s = g.D.Disk.state in
     let old = c.args.self.now in
-    let is = MatchOption-at_some (SaysAlready old.book) (IsMoving old.book) c.in-Some.moving c.in-Some.is c.in_ok-moving.ensures in
+    let is = MatchOption-at_some (SaysAlready old.book) (IsMoving old.book) c.in-Some.moving c.in-Some.is c.in_ok-moving.ensures.next in
     let marked : Store = record { alloc = old.alloc; journal = c.put.new.self; book = old.book; is_sure = old.is_sure; is_kept = old.is_kept } in
     let put = c.put_in_place.new.self in
     let new : Store = record { alloc = put.alloc; journal = put.journal; book = c.in-Some.moving.book; is_sure = put.is_sure; is_kept = put.is_kept } in
