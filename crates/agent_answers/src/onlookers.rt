@@ -60,18 +60,43 @@ impl<T: Talk, D: Door<T>> Onlookers<T, D> {
     {
         let is_turned = self.clients.turn(alloc, &mut self.door, now);
         self.rest.go_on(now);
-        let is_answered = answer_one(
-            alloc,
-            &mut self.clients,
-            &mut self.rest,
-            agent,
-            around,
-            named,
-            now,
-        );
+        let is_answered = self.answer_one(alloc, agent, around, named, now);
         Went {
             is_busy: self.clients.is_busy() || self.is_answered_next(now),
             is_enough: both(is_turned, is_answered),
+        }
+    }
+
+    /// Answers the first of those whose question is whole, where there is one and the rest after the last answer is over. Whether
+    /// memory sufficed.
+    fn answer_one(
+        &mut self,
+        alloc: Global,
+        agent: &Agent,
+        around: Surroundings,
+        named: &[Row],
+        now: u64,
+    ) -> bool
+        ensures one { OneIsSent (nat_le self.old.rest.until now) agent.now (beside around named.now) now result self.old.clients self.new.clients }
+        ensures rest { self.new.rest ≡ rest_with (nat_le self.old.rest.until now && is_asked self.old.clients) now self.old.rest }
+        ensures door { self.new.door ≡ self.old.door }
+    {
+        if !self.rest.is_over(now) {
+            return true;
+        }
+        let Some(bytes) = self.clients.first_request() else {
+            return true;
+        };
+        self.rest.page_begins(now);
+        match sent_to(alloc, agent, around, named, bytes) {
+            Ok(sent) => {
+                let _is_there = self.clients.answer_first(sent, now);
+                true
+            }
+            Err(AllocError) => {
+                let _is_there = self.clients.answer_first(Vec::new(alloc), now);
+                false
+            }
         }
     }
 
@@ -100,39 +125,6 @@ impl<T: Talk, D: Door<T>> Onlookers<T, D> {
         ensures { result ≡ is_asked self.now.clients }
     {
         self.clients.first_request().is_some()
-    }
-}
-
-/// Answers the first of those whose question is whole, where there is one and the rest after the last answer is over. Whether
-/// memory sufficed.
-fn answer_one<T: Talk>(
-    alloc: Global,
-    clients: &mut Clients<T, Heads>,
-    rest: &mut Rest,
-    agent: &Agent,
-    around: Surroundings,
-    named: &[Row],
-    now: u64,
-) -> bool
-    ensures one { OneIsSent (nat_le rest.old.until now) agent.now (beside around named.now) now result clients.old clients.new }
-    ensures rest { rest.new ≡ rest_with (nat_le rest.old.until now && is_asked clients.old) now rest.old }
-{
-    if !rest.is_over(now) {
-        return true;
-    }
-    let Some(bytes) = clients.first_request() else {
-        return true;
-    };
-    rest.page_begins(now);
-    match sent_to(alloc, agent, around, named, bytes) {
-        Ok(sent) => {
-            let _is_there = clients.answer_first(sent, now);
-            true
-        }
-        Err(AllocError) => {
-            let _is_there = clients.answer_first(Vec::new(alloc), now);
-            false
-        }
     }
 }
 

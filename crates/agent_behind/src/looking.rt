@@ -4,9 +4,7 @@ ghost use Rattle.vault_asking.specs.Sending.{GoesOut};
 ghost use Rattle.agent_behind.specs.Lookups.{AreLookedUp, IsLookedUp, look_at, side};
 ghost use Rattle.watch_machine.specs.Clocks.{second_of_wall};
 
-use agent_standing::Agent;
-use agent_turns::moment_of;
-use base_clock::Reading;
+use agent_turns::{AgentAt, moment_of};
 use std::alloc::{AllocError, Global};
 use vault_asking::{SeenLanes, ask_for};
 use vault_lanes::Lanes;
@@ -19,52 +17,44 @@ pub(crate) fn look_from<L: Lanes>(
     alloc: Global,
     scout: &mut Scout,
     lanes: &mut L,
-    agent: &Agent,
-    now: Reading,
+    at: AgentAt<'_>,
     from: u32,
     most: u32,
 )
-    requires count { length scout.old.seen ≡ length agent.now.machine.forest.entries }
+    requires count { length scout.old.seen ≡ length at.agent.now.machine.forest.entries }
     requires free { most ≤ L.width lanes.old - length (L.out lanes.old) }
-    ensures count { length scout.new.seen ≡ length agent.now.machine.forest.entries }
-    ensures looked { AreLookedUp (L.host_port lanes.old) agent.now now most from (side scout.old (⟦<L as SeenLanes>⟧.seen lanes.old)) (side scout.new (⟦<L as SeenLanes>⟧.seen lanes.new)) }
+    ensures count { length scout.new.seen ≡ length at.entry.agent.now.machine.forest.entries }
+    ensures looked { AreLookedUp (L.host_port lanes.old) at.entry.agent.now at.entry.now most from (side scout.old (⟦<L as SeenLanes>⟧.seen lanes.old)) (side scout.new (⟦<L as SeenLanes>⟧.seen lanes.new)) }
     ensures width { L.width lanes.new ≡ L.width lanes.old }
     ensures port { L.host_port lanes.new ≡ L.host_port lanes.old }
 {
     if most == 0 {
         return;
     }
-    let Some(entry) = scout.look(agent.watch(), from) else {
+    let Some(entry) = scout.look(at.agent.watch(), from) else {
         return;
     };
-    look_up(alloc, scout, lanes, agent, now, entry);
-    look_from(alloc, scout, lanes, agent, now, entry, most - 1);
+    look_up(alloc, scout, lanes, at, entry);
+    look_from(alloc, scout, lanes, at, entry, most - 1);
 }
 
 /// Looks up an entry that the scout has found: its lookup goes out on a free lane. Where memory is wanting for it, the scout takes it for
 /// lost.
 #[tactic(auto, using(crate::proofs::Lookups::sent_one, crate::proofs::Lookups::unsent_one, crate::proofs::Lookups::as_many_freed, crate::proofs::Lookups::one_more_out))]
-fn look_up<L: Lanes>(
-    alloc: Global,
-    scout: &mut Scout,
-    lanes: &mut L,
-    agent: &Agent,
-    now: Reading,
-    entry: u32,
-)
-    requires within { entry < length agent.now.machine.forest.entries }
-    requires count { length scout.old.seen ≡ length agent.now.machine.forest.entries }
+fn look_up<L: Lanes>(alloc: Global, scout: &mut Scout, lanes: &mut L, at: AgentAt<'_>, entry: u32)
+    requires within { entry < length at.agent.now.machine.forest.entries }
+    requires count { length scout.old.seen ≡ length at.agent.now.machine.forest.entries }
     requires free { length (L.out lanes.old) < L.width lanes.old }
-    ensures looked { IsLookedUp (L.host_port lanes.old) agent.now now entry (side scout.old (⟦<L as SeenLanes>⟧.seen lanes.old)) (side scout.new (⟦<L as SeenLanes>⟧.seen lanes.new)) }
+    ensures looked { IsLookedUp (L.host_port lanes.old) at.entry.agent.now at.entry.now entry (side scout.old (⟦<L as SeenLanes>⟧.seen lanes.old)) (side scout.new (⟦<L as SeenLanes>⟧.seen lanes.new)) }
     ensures count { length scout.new.seen ≡ length scout.old.seen }
     ensures few { length (L.out lanes.new) ≤ length (L.out lanes.old) + 1 }
     ensures width { L.width lanes.new ≡ L.width lanes.old }
     ensures port { L.host_port lanes.new ≡ L.host_port lanes.old }
 {
-    match send(alloc, lanes, agent, now, entry) {
+    match send(alloc, lanes, at, entry) {
         Ok(()) => {}
         Err(AllocError) => {
-            let _dropped = scout.answer(agent.watch(), entry, WatchReply::Lost);
+            let _dropped = scout.answer(at.agent.watch(), entry, WatchReply::Lost);
         }
     }
 }
@@ -73,13 +63,12 @@ fn look_up<L: Lanes>(
 fn send<L: Lanes>(
     alloc: Global,
     lanes: &mut L,
-    agent: &Agent,
-    now: Reading,
+    at: AgentAt<'_>,
     entry: u32,
 ) -> Result<(), AllocError>
-    requires within { entry < length agent.now.machine.forest.entries }
+    requires within { entry < length at.agent.now.machine.forest.entries }
     requires free { length (L.out lanes.old) < L.width lanes.old }
-    ensures sent { OnOk result (GoesOut (L.host_port lanes.old) agent.now.inventory agent.now.machine (second_of_wall now.wall) now.elapsed (look_at entry) (⟦<L as SeenLanes>⟧.seen lanes.old) (⟦<L as SeenLanes>⟧.seen lanes.new)) }
+    ensures sent { OnOk result (GoesOut (L.host_port lanes.old) at.entry.agent.now.inventory at.entry.agent.now.machine (second_of_wall at.entry.now.wall) at.entry.now.elapsed (look_at entry) (⟦<L as SeenLanes>⟧.seen lanes.old) (⟦<L as SeenLanes>⟧.seen lanes.new)) }
     ensures kept { OnErr result (L.out lanes.new ≡ L.out lanes.old) }
     ensures seconds { L.seconds lanes.new ≡ L.seconds lanes.old }
     ensures width { L.width lanes.new ≡ L.width lanes.old }
@@ -89,11 +78,11 @@ fn send<L: Lanes>(
     let ask = ask_for(
         alloc,
         lanes.port(),
-        agent.inventory(),
-        agent.watch(),
+        at.agent.inventory(),
+        at.agent.watch(),
         request,
     )?;
-    lanes.send(alloc, moment_of(now.wall), now.elapsed, &ask)
+    lanes.send(alloc, moment_of(at.now.wall), at.now.elapsed, &ask)
 }
 
 /// The lookup of an entry, which may take as long as any request.

@@ -5,7 +5,7 @@ ghost use Rattle.base_clock.specs.Rests.{rest_until};
 
 use crate::looking::look_from;
 use agent_standing::Agent;
-use agent_turns::AgentChange;
+use agent_turns::{AgentAt, AgentChange};
 use base_clock::{Reading, rest_until};
 use plan_forest::Forest;
 use plan_spread::margin_in_front;
@@ -139,9 +139,10 @@ impl<L: Lanes> Lookout<L> {
         ensures beside { IfSome self.new.scout (λ s. length s.seen ≡ length agent.now.machine.forest.entries) }
     {
         let free = self.lanes.free();
+        let at = AgentAt { agent, now };
         match &mut self.scout {
             None => {}
-            Some(scout) => look_from(alloc, scout, &mut self.lanes, agent, now, 0, free),
+            Some(scout) => look_from(alloc, scout, &mut self.lanes, at, 0, free),
         }
     }
 

@@ -351,9 +351,9 @@ settled_by does keeps agent true (Some (givens.Need need)) old new h = let all =
 settled_by does keeps agent false (Some (givens.Need need)) old new h = record { sink = ap (λ x. x.sink) h.1; control = answered [] need.at old.control new.control h.0; state = ap (λ x. is_some x.state) h.1 }
 settled_by does keeps agent true (Some (givens.Answer text at)) old new h = sent agent text at old new h
 settled_by does keeps agent false (Some (givens.Answer text at)) old new h = record { sink = ap (λ x. x.sink) h.1; control = answered [] at old.control new.control h.0; state = ap (λ x. is_some x.state) h.1 }
-settled_by does keeps agent true (Some (givens.Aside client text at)) old new h =
-    record { sink = ap (λ x. x.sink) h.rest; control = told_aside client (bytes_sent text) at old.control new.control h.answered; state = ap (λ x. is_some x.state) h.rest }
-settled_by does keeps agent false (Some (givens.Aside client text at)) old new h = record { sink = ap (λ x. x.sink) h.1; control = told_aside client [] at old.control new.control h.0; state = ap (λ x. is_some x.state) h.1 }
+settled_by does keeps agent true (Some (givens.Aside aside)) old new h =
+    record { sink = ap (λ x. x.sink) h.rest; control = told_aside aside.client (bytes_sent aside.sent) aside.at old.control new.control h.answered; state = ap (λ x. is_some x.state) h.rest }
+settled_by does keeps agent false (Some (givens.Aside aside)) old new h = record { sink = ap (λ x. x.sink) h.1; control = told_aside aside.client [] aside.at old.control new.control h.0; state = ap (λ x. is_some x.state) h.1 }
 settled_by does keeps agent true (Some (givens.Served marks)) old new h = record { sink = ap (λ x. x.sink) h.1; control = ap (λ x. is_some x.control) h.1; state = marked_served does old.state new.state h.0 }
 settled_by does keeps agent false (Some (givens.Served marks)) old new h = same old new h
 settled_by does keeps agent true (Some givens.Unchanged) old new h = record { sink = ap (λ x. x.sink) h.1; control = ap (λ x. is_some x.control) h.1; state = marked_served does old.state new.state h.0 }

@@ -93,8 +93,8 @@ module _ {S T D K E : Type 0} (does : KeepCall → K → K → Type 0) (rows : K
 abbrev pub addressed : Option ℕ → Option Given → Option Given
 addressed client None = None
 addressed client (Some (givens.Need need)) = Some (givens.Need need)
-addressed client (Some (givens.Answer sent at)) = Some (givens.Aside client sent at)
-addressed client (Some (givens.Aside other sent at)) = Some (givens.Aside other sent at)
+addressed client (Some (givens.Answer sent at)) = Some (givens.Aside (record { client = client; sent = sent; at = at }))
+addressed client (Some (givens.Aside aside)) = Some (givens.Aside aside)
 addressed client (Some (givens.Served marks)) = Some (givens.Served marks)
 addressed client (Some givens.Unchanged) = Some givens.Unchanged
 

@@ -185,7 +185,7 @@ abbrev pub IsGivenWith : Agent → Inventory → List Mark → Option Given → 
 IsGivenWith agent s marks None = ⊥
 IsGivenWith agent s marks (Some (givens.Need need)) = ⊥
 IsGivenWith agent s marks (Some (givens.Answer sent at)) = ⊥
-IsGivenWith agent s marks (Some (givens.Aside client sent at)) = ⊥
+IsGivenWith agent s marks (Some (givens.Aside aside)) = ⊥
 IsGivenWith agent s marks (Some (givens.Served given)) = (s ≢ agent.inventory) × (given.items ≡ marks)
 IsGivenWith agent s marks (Some givens.Unchanged) = s ≡ agent.inventory
 
@@ -246,7 +246,7 @@ abbrev pub is_served : Option Given → Bool
 is_served None = false
 is_served (Some (givens.Need need)) = false
 is_served (Some (givens.Answer sent now)) = false
-is_served (Some (givens.Aside client sent now)) = false
+is_served (Some (givens.Aside aside)) = false
 is_served (Some (givens.Served marks)) = true
 is_served (Some givens.Unchanged) = false
 
@@ -307,7 +307,7 @@ abbrev pub SettlesBy : {S T D K E : Type 0} → (KeepCall → K → K → Type 0
 SettlesBy does keeps agent is_made None old new = new ≡ old
 SettlesBy does keeps agent is_made (Some (givens.Need need)) old new = SettlesNeed keeps agent is_made need old new
 SettlesBy does keeps agent is_made (Some (givens.Answer sent now)) old new = SettlesAnswer agent is_made sent now old new
-SettlesBy does keeps agent is_made (Some (givens.Aside client sent now)) old new = SettlesAside agent is_made client sent now old new
+SettlesBy does keeps agent is_made (Some (givens.Aside aside)) old new = SettlesAside agent is_made aside.client aside.sent aside.at old new
 SettlesBy does keeps agent is_made (Some (givens.Served marks)) old new = SettlesServed does agent is_made marks.items old new
 SettlesBy does keeps agent is_made (Some givens.Unchanged) old new = SettlesUnchanged does is_made old new
 

@@ -11,6 +11,7 @@ use crate::need_command::until_of;
 use agent_ledger::Keeping;
 use agent_log::line_with_loss;
 use agent_standing::Agent;
+use agent_turns::AgentAt;
 use agent_words::{add_line, why_not_kept};
 use base_clients::{Door, Talk};
 use base_clock::Reading;
@@ -35,16 +36,15 @@ impl<S, T: Talk, D: Door<T>, K: Keeping, E> House<S, T, D, K, E> {
     pub(crate) fn add_row(
         &mut self,
         alloc: Global,
-        agent: &Agent,
-        now: Reading,
+        at: AgentAt<'_>,
         name: &[u8],
         row: Row,
         why: Option<Loss>,
     )
-        ensures { AddsRow K.does agent.now now name.now row why self.old self.new }
+        ensures { AddsRow K.does at.entry.agent.now at.entry.now name.now row why self.old self.new }
     {
-        let outcome = add_row(alloc, &mut self.state, now.elapsed, name, row, why);
-        self.conclude(alloc, agent, "add", name, outcome, now.elapsed);
+        let outcome = add_row(alloc, &mut self.state, at.now.elapsed, name, row, why);
+        self.conclude(alloc, at, "add", name, outcome);
     }
 }
 

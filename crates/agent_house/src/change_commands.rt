@@ -14,6 +14,7 @@ use crate::house::House;
 use agent_ledger::Keeping;
 use agent_log::line_with_loss;
 use agent_standing::Agent;
+use agent_turns::AgentAt;
 use agent_words::{drop_line, replace_line, settle_line, why_not_kept};
 use base_clients::{Door, Talk};
 use base_clock::Reading;
@@ -28,16 +29,16 @@ impl<S, T: Talk, D: Door<T>, K: Keeping, E> House<S, T, D, K, E> {
     pub(crate) fn replace(
         &mut self,
         alloc: Global,
-        agent: &Agent,
-        now: Reading,
+        at: AgentAt<'_>,
         name: &[u8],
         credential: Text,
         why: Option<Loss>,
     )
-        ensures { Replaces K.does K.rows agent.now now name.now credential why self.old self.new }
+        ensures { Replaces K.does K.rows at.entry.agent.now at.entry.now name.now credential why self.old self.new }
     {
-        let outcome = replace(alloc, &mut self.state, now.elapsed, name, credential, why);
-        self.conclude(alloc, agent, "replace", name, outcome, now.elapsed);
+        let now = at.now.elapsed;
+        let outcome = replace(alloc, &mut self.state, now, name, credential, why);
+        self.conclude(alloc, at, "replace", name, outcome);
     }
 
     /// The entry of that name is kept no more.
@@ -46,7 +47,7 @@ impl<S, T: Talk, D: Door<T>, K: Keeping, E> House<S, T, D, K, E> {
     {
         let end = end_named(agent, name);
         let outcome = drop_entry(alloc, &mut self.state, now.elapsed, name, end);
-        self.conclude(alloc, agent, "drop", name, outcome, now.elapsed);
+        self.conclude(alloc, AgentAt { agent, now }, "drop", name, outcome);
     }
 
     /// The file is to hold every change.
@@ -66,18 +67,17 @@ impl<S, T: Talk, D: Door<T>, K, E> House<S, T, D, K, E> {
     pub(crate) fn conclude(
         &mut self,
         alloc: Global,
-        agent: &Agent,
+        at: AgentAt<'_>,
         event: &'static str,
         name: &[u8],
         outcome: Result<Option<Text>, Option<Text>>,
-        now: u64,
     )
-        ensures { Concludes agent.now (entry_log_line event.now name.now) outcome now self.old self.new }
+        ensures { Concludes at.entry.agent.now (entry_log_line event.now name.now) outcome at.entry.now.elapsed self.old self.new }
     {
         if outcome.is_ok() {
-            self.desk.hear_entry(alloc, agent, event, name);
+            self.desk.hear_entry(alloc, at.agent, event, name);
         }
-        self.will_tell(alloc, outcome, now);
+        self.will_tell(alloc, outcome, at.now.elapsed);
     }
 }
 

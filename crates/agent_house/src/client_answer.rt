@@ -2,7 +2,7 @@
 ghost use Rattle.std.specs.Prelude.{◌≡◌};
 ghost use Rattle.agent_house.specs.Houses.{ClientIsAnswered, ClientIsAside, ClientIsSent, IsAnsweredAside, SendsAside, WillRefuse, WillTell, bytes_sent};
 
-use crate::given::Given;
+use crate::given::{Given, GivenAside};
 use crate::house::House;
 use agent_answers::Control;
 use agent_standing::Agent;
@@ -49,18 +49,12 @@ impl<S, T: Talk, D: Door<T>, K, E> House<S, T, D, K, E> {
     }
 
     /// The same of a client that was set aside, where there is one.
-    pub(crate) fn send_aside(
-        &mut self,
-        alloc: Global,
-        agent: &Agent,
-        client: Option<u64>,
-        sent: Option<Text>,
-        now: u64,
-    )
-        ensures { SendsAside agent.now client sent now self.old self.new }
+    pub(crate) fn send_aside(&mut self, alloc: Global, agent: &Agent, aside: GivenAside)
+        ensures { SendsAside agent.now aside.client aside.sent aside.at self.old self.new }
     {
+        let GivenAside { client, sent, at } = aside;
         let is_enough = sent.is_some();
-        answer_aside(&mut self.control, client, bytes_sent(alloc, sent), now);
+        answer_aside(&mut self.control, client, bytes_sent(alloc, sent), at);
         self.desk.hear_want(alloc, agent, is_enough);
     }
 }

@@ -7,6 +7,7 @@ use crate::given::{Awaited, addressed};
 use crate::house::House;
 use agent_ledger::{Keeping, LookedUp};
 use agent_standing::Agent;
+use agent_turns::AgentAt;
 use agent_words::{why_endless, why_later, why_refused};
 use base_clients::{Door, Talk};
 use base_clock::Reading;
@@ -30,10 +31,11 @@ impl<S, T: Talk, D: Door<T>, K: Keeping, E> House<S, T, D, K, E> {
     )
         ensures { LooksUpFirst K.does K.rows agent.now now name what self.old self.new }
     {
+        let at = AgentAt { agent, now };
         match look_up(alloc, &mut self.state, now, name.list(), &what) {
             Ok(LookedUp::Out) => self.set_aside(name, what),
             Ok(LookedUp::Later) => self.will_tell(alloc, Err(why_later(alloc)), now.elapsed),
-            Ok(LookedUp::Nothing) => self.make(alloc, agent, now, name.list(), what, None),
+            Ok(LookedUp::Nothing) => self.make(alloc, at, name.list(), what, None),
             Err(AllocError) => self.will_tell(alloc, Err(None), now.elapsed),
         }
     }
@@ -50,20 +52,19 @@ impl<S, T: Talk, D: Door<T>, K: Keeping, E> House<S, T, D, K, E> {
     fn make(
         &mut self,
         alloc: Global,
-        agent: &Agent,
-        now: Reading,
+        at: AgentAt<'_>,
         name: &[u8],
         what: ChangeKind,
         why: Option<Loss>,
     )
-        ensures { Makes K.does K.rows agent.now now name.now what why self.old self.new }
+        ensures { Makes K.does K.rows at.entry.agent.now at.entry.now name.now what why self.old self.new }
     {
         match what {
-            ChangeKind::Replace(credential) => self.replace(
-                alloc, agent, now, name, credential, why,
-            ),
-            ChangeKind::Add(row) => self.add_row(alloc, agent, now, name, row, why),
-            ChangeKind::Need(_) | ChangeKind::Drop => self.will_tell(alloc, Err(None), now.elapsed),
+            ChangeKind::Replace(credential) => self.replace(alloc, at, name, credential, why),
+            ChangeKind::Add(row) => self.add_row(alloc, at, name, row, why),
+            ChangeKind::Need(_) | ChangeKind::Drop => {
+                self.will_tell(alloc, Err(None), at.now.elapsed)
+            }
         }
     }
 
@@ -146,9 +147,10 @@ impl<S, T: Talk, D: Door<T>, K: Keeping, E> House<S, T, D, K, E> {
             name,
             what,
         } = awaited;
+        let at = AgentAt { agent, now };
         match verdict {
-            Verdict::Good => self.make(alloc, agent, now, name.list(), what, None),
-            Verdict::Missing(why) => self.make(alloc, agent, now, name.list(), what, Some(why)),
+            Verdict::Good => self.make(alloc, at, name.list(), what, None),
+            Verdict::Missing(why) => self.make(alloc, at, name.list(), what, Some(why)),
             Verdict::Refused(status) => {
                 let why = why_refused(alloc, name.list(), &what, status).ok();
                 self.will_tell(alloc, Err(why), now.elapsed);

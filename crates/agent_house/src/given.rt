@@ -18,6 +18,17 @@ pub struct GivenNeed {
     pub at: u64,
 }
 
+/// What a client that was set aside is told of a change that was carried out, or refused, as long as that is not settled.
+#[derive(Debug, Drop)]
+pub struct GivenAside {
+    /// The number of the client, where it is to be told.
+    pub client: Option<u64>,
+    /// What it is sent then; `None` where memory was wanting for that.
+    pub sent: Option<Text>,
+    /// When the change was carried out, in milliseconds of the clock that never steps.
+    pub at: u64,
+}
+
 /// What was given to the loop last, as long as it is not settled.
 #[derive(Debug, Drop)]
 pub enum Given {
@@ -31,14 +42,7 @@ pub enum Given {
         at: u64,
     },
     /// The same of a client that was set aside.
-    Aside {
-        /// The number of the client, where it is to be told.
-        client: Option<u64>,
-        /// What it is sent then; `None` where memory was wanting for that.
-        sent: Option<Text>,
-        /// When it was carried out, in milliseconds of the clock that never steps.
-        at: u64,
-    },
+    Aside(GivenAside),
     /// Another inventory, and marks for its entries.
     Served(Vec<Mark>),
     /// The inventory that is served already.
@@ -61,8 +65,8 @@ pub(crate) fn is_served(given: &Option<Given>) -> bool
 {
     match given {
         Some(Given::Served(_)) => true,
-        Some(Given::Need(_) | Given::Answer { .. } | Given::Aside { .. } | Given::Unchanged)
-        | None => false,
+        Some(Given::Need(_) | Given::Answer { .. } | Given::Aside(_) | Given::Unchanged) | None =>
+            false,
     }
 }
 
@@ -71,7 +75,7 @@ pub(crate) fn addressed(given: Option<Given>, client: Option<u64>) -> Option<Giv
     ensures { result ≡ addressed client given }
 {
     match given {
-        Some(Given::Answer { sent, at }) => Some(Given::Aside { client, sent, at }),
+        Some(Given::Answer { sent, at }) => Some(Given::Aside(GivenAside { client, sent, at })),
         other => other,
     }
 }

@@ -38,5 +38,5 @@ pub use agent_words::{
     line_of_fault, read_to_serve, unread_words, why_not_served,
 };
 pub use follow_command::MOST_FOLLOWERS;
-pub use given::{Awaited, Given, GivenNeed};
+pub use given::{Awaited, Given, GivenAside, GivenNeed};
 pub use house::House;

@@ -5,7 +5,7 @@ ghost use Rattle.agent_house.specs.Houses.{ClientsAsk};
 ghost use Rattle.program_lines.specs.Text.{name_of};
 
 use crate::client_answer::{answer, answer_aside};
-use crate::given::{Given, GivenNeed};
+use crate::given::{Given, GivenAside, GivenNeed};
 use crate::house::House;
 use crate::keep_news::keeps;
 use agent_answers::{ClientOrder, Control};
@@ -127,9 +127,7 @@ impl<S, T: Talk, D: Door<T>, K: Keeping, E> House<S, T, D, K, E> {
             None => {}
             Some(Given::Need(need)) => self.settle_need(alloc, agent, need, is_made),
             Some(Given::Answer { sent, at }) => self.settle_answer(alloc, agent, sent, at, is_made),
-            Some(Given::Aside { client, sent, at }) => {
-                self.settle_aside(alloc, agent, client, sent, at, is_made)
-            }
+            Some(Given::Aside(aside)) => self.settle_aside(alloc, agent, aside, is_made),
             Some(Given::Served(marks)) => self.settle_served(agent, marks, is_made),
             Some(Given::Unchanged) => self.settle_unchanged(is_made),
         }
@@ -175,21 +173,13 @@ impl<S, T: Talk, D: Door<T>, K: Keeping, E> House<S, T, D, K, E> {
         }
     }
 
-    fn settle_aside(
-        &mut self,
-        alloc: Global,
-        agent: &Agent,
-        client: Option<u64>,
-        sent: Option<Text>,
-        now: u64,
-        is_made: bool,
-    )
-        ensures { SettlesAside agent.now is_made client sent now self.old self.new }
+    fn settle_aside(&mut self, alloc: Global, agent: &Agent, aside: GivenAside, is_made: bool)
+        ensures { SettlesAside agent.now is_made aside.client aside.sent aside.at self.old self.new }
     {
         if is_made {
-            self.send_aside(alloc, agent, client, sent, now);
+            self.send_aside(alloc, agent, aside);
         } else {
-            answer_aside(&mut self.control, client, Vec::new(alloc), now);
+            answer_aside(&mut self.control, aside.client, Vec::new(alloc), aside.at);
         }
     }
 

@@ -152,7 +152,7 @@ faulty_alike d bytes other why faults others whys more alike marks toml reads al
     let two = said_of_none d other why others more also k in
     two.1.1 ∙ ap (λ (w : List ℕ). w ∷ []) (said_alike bytes other why one.0 two.0 alike marks toml one.1.0 two.1.0) ∙ sym one.1.1
 
-bare_alike : (v w : Served) → ServedAreAlike v w → (i : ℕ) (notes : List entries.Note) → bare_faults w i notes ≡ bare_faults v i notes
+bare_alike : (v w : Served) → ServedAreAlike v w → (i : ℕ) (notes : List entries.EntryNote) → bare_faults w i notes ≡ bare_faults v i notes
 bare_alike v w h i [] = refl
 bare_alike v w h i (note ∷ notes) =
     ap (λ b. (if is_none note.file && b then NoCredential i ∷ [] else []) ++ bare_faults w (i + 1) notes) (h.names i)
@@ -164,7 +164,7 @@ written_alike d v w h =
     let later : Served → List StartFault = λ x. if d.names_are_secrets then [] else bare_faults x 0 x.notes in
     ap (λ b. fault_list (if not b then Some NoMargin else (if nat_lt w.inventory.forest.margin (least_margin d) then Some SmallMargin else None)) ++ later w) h.margin
     ∙ ap (λ (g : Forest). fault_list (if not v.has_margin then Some NoMargin else (if nat_lt g.margin (least_margin d) then Some SmallMargin else None)) ++ later w) (sym h.differ.0)
-    ∙ ap (λ (ns : List entries.Note). fault_list (margin_fault d v) ++ (if d.names_are_secrets then [] else bare_faults w 0 ns)) h.notes
+    ∙ ap (λ (ns : List entries.EntryNote). fault_list (margin_fault d v) ++ (if d.names_are_secrets then [] else bare_faults w 0 ns)) h.notes
     ∙ ap (λ l. fault_list (margin_fault d v) ++ (if d.names_are_secrets then [] else l)) (bare_alike v w h 0 v.notes)
 
 -- ---- files of credentials

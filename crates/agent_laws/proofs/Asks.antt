@@ -279,7 +279,7 @@ module _ {S T D K E : Type 0} (does : KeepCall → K → K → Type 0) (keeps : 
   settled_by is_made None old new h = spares does old new (left old new h)
   settled_by true (Some (givens.Need need)) old new h = (let all = sent agent h.sent need.at (record old { desk = h.desk }) new h.sends in spares does old new (record { state = all.state; ends = all.ends }))
   settled_by true (Some (givens.Answer text at)) old new h = spares does old new (sent agent text at old new h)
-  settled_by true (Some (givens.Aside client text at)) old new h = spares does old new (record { state = ap (λ x. x.state) h.rest; ends = ap (λ x. x.ends) h.rest })
+  settled_by true (Some (givens.Aside aside)) old new h = spares does old new (record { state = ap (λ x. x.state) h.rest; ends = ap (λ x. x.ends) h.rest })
   settled_by true (Some (givens.Served marks)) old new h = record { asked = marked_by does old.state new.state h.0; ends = ap (λ x. x.ends) h.1 }
   settled_by false (Some (givens.Served marks)) old new h = spares does old new (left old new h)
   settled_by true (Some givens.Unchanged) old new h = record { asked = marked_by does old.state new.state h.0; ends = ap (λ x. x.ends) h.1 }

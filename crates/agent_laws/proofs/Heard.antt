@@ -132,8 +132,8 @@ module _ (a b : Agent) (alike : AgentsAreAlike a b) where
       settles false (Some (givens.Need need)) old new x = x
       settles true (Some (givens.Answer sent at)) old new x = sends sent at old new x
       settles false (Some (givens.Answer sent at)) old new x = x
-      settles true (Some (givens.Aside client sent at)) old new x = sends_aside client sent at old new x
-      settles false (Some (givens.Aside client sent at)) old new x = x
+      settles true (Some (givens.Aside aside)) old new x = sends_aside aside.client aside.sent aside.at old new x
+      settles false (Some (givens.Aside aside)) old new x = x
       settles true (Some (givens.Served marks)) old new x = (x.0, subst (λ (m : List Mark). new ≡ record old { state = new.state; desk = record old.desk { marks = m } }) (sym (carried_alike a b alike _)) x.1)
       settles false (Some (givens.Served marks)) old new x = x
       settles true (Some givens.Unchanged) old new x = x

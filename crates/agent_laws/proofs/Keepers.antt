@@ -61,7 +61,7 @@ module _ {S T D K E : Type 0} (does : KeepCall → K → K → Type 0) (rows : K
     sends = sent_so a x.sent need.at (record old { desk = x.desk }) new x.sends;
   }
   settles_so a true (Some (givens.Answer sent at)) old new x = sent_so a sent at old new x
-  settles_so a true (Some (givens.Aside client sent at)) old new x = record { answered = x.answered; desk = x.desk; rest = ap twin x.rest }
+  settles_so a true (Some (givens.Aside aside)) old new x = record { answered = x.answered; desk = x.desk; rest = ap twin x.rest }
   settles_so a true (Some (givens.Served marks)) old new x = (marked_by does rows keeps path reads gives beside other h old.state new.state x.0, ap twin x.1)
   settles_so a false (Some (givens.Served marks)) old new x = ap twin x
   settles_so a true (Some givens.Unchanged) old new x = (marked_by does rows keeps path reads gives beside other h old.state new.state x.0, ap twin x.1)

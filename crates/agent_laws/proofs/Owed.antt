@@ -136,7 +136,7 @@ module _ {K : Type 0} (Done : ClientOrder → Option K → Type 0) (has : ℕ �
   IsOwed who state None = Unit {0}
   IsOwed who state (Some (givens.Need need)) = IsTold who state
   IsOwed who state (Some (givens.Answer sent at)) = BeginsOk sent → IsTold who state
-  IsOwed who state (Some (givens.Aside client sent at)) = BeginsOk sent → IsTold client state
+  IsOwed who state (Some (givens.Aside aside)) = BeginsOk aside.sent → IsTold aside.client state
   IsOwed who state (Some _) = Unit {0}
 
 -- the client of a change that waits has asked for it

@@ -133,10 +133,10 @@ module _ {S T D K E : Type 0} (does : KeepCall → K → K → Type 0) (keeps : 
       sent_tells (bytes_sent sent) at (asking_in old.control) old new (λ ok. told_client (bytes_sent sent) at old.control new.control ok h.client) (λ more is. owed (more, is)) (ap (λ y. y.state) h.rest) (ap (λ y. y.given) h.rest) (ap (λ y. y.awaited) h.rest)
   settled_by false (Some (givens.Answer sent at)) old new owed h =
       closed_tells at (asking_in old.control) old new (λ ok. told_client [] at old.control new.control ok h.0) (ap (λ y. y.given) h.1) (ap (λ y. y.awaited) h.1)
-  settled_by true (Some (givens.Aside client sent at)) old new owed h =
-      sent_tells (bytes_sent sent) at client old new (λ ok. told_aside (bytes_sent sent) at client old.control new.control ok h.answered) (λ more is. owed (more, is)) (ap (λ y. y.state) h.rest) (ap (λ y. y.given) h.rest) (ap (λ y. y.awaited) h.rest)
-  settled_by false (Some (givens.Aside client sent at)) old new owed h =
-      closed_tells at client old new (λ ok. told_aside [] at client old.control new.control ok h.0) (ap (λ y. y.given) h.1) (ap (λ y. y.awaited) h.1)
+  settled_by true (Some (givens.Aside aside)) old new owed h =
+      sent_tells (bytes_sent aside.sent) aside.at aside.client old new (λ ok. told_aside (bytes_sent aside.sent) aside.at aside.client old.control new.control ok h.answered) (λ more is. owed (more, is)) (ap (λ y. y.state) h.rest) (ap (λ y. y.given) h.rest) (ap (λ y. y.awaited) h.rest)
+  settled_by false (Some (givens.Aside aside)) old new owed h =
+      closed_tells aside.at aside.client old new (λ ok. told_aside [] aside.at aside.client old.control new.control ok h.0) (ap (λ y. y.given) h.1) (ap (λ y. y.awaited) h.1)
   settled_by true (Some (givens.Served marks)) old new owed h = same_tells old new (ap (λ y. y.control) h.1) (ap (λ y. y.given) h.1) (ap (λ y. y.awaited) h.1)
   settled_by true (Some givens.Unchanged) old new owed h = same_tells old new (ap (λ y. y.control) h.1) (ap (λ y. y.given) h.1) (ap (λ y. y.awaited) h.1)
   settled_by false (Some _) old new owed h = same_tells old new (ap (λ y. y.control) h) (ap (λ y. y.given) h) (ap (λ y. y.awaited) h)

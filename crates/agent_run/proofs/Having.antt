@@ -25,7 +25,7 @@ module _ {D I L S T O E C P F J G : Type 0} (does : NeighbourCall → EarlyDay (
     (clock_seen : C → ClockSeen) (seen : L → Lanes) (port width : L → ℕ) (file_bytes : F → Files) (secret_bytes : J → Files) where
   pub has_run :
       (served : ServeWords) (log : S) (demands : Demands) (start : Start (Ledger D I L)) (later : Option G) (files : F) (secrets : J) (parts : Parts S E L) (doors : P) (clock clock_after : C) (lanes lanes_after : L) → IsDemanded served demands → IsStart demands (is_some served.state) start → is_some later ≡ (is_some served.state && is_none start.ledger) →
-      (start.ledger ≡ None → IsServedAlone (is_some served.state) (file_bytes files) (secret_bytes secrets) served.file.now demands start) → parts.log ≡ log → option_map string_bytes parts.ends ≡ ends_path served.room → (seen lanes).out ≡ [] → port lanes ≡ port_of served.place → (seen lanes).seconds ≡ timeout_of served.patience → width lanes ≡ width_of served.width →
+      (start.ledger ≡ None → IsServedAlone (is_some served.state) (file_bytes files) (secret_bytes secrets) served.file.now demands start) → parts.log ≡ log → option_map string_bytes parts.ends.path ≡ ends_path served.room → (seen lanes).out ≡ [] → port lanes ≡ port_of served.place → (seen lanes).seconds ≡ timeout_of served.patience → width lanes ≡ width_of served.width →
       IsRun does given calls asked known disk_seen clock_seen seen port width served start later parts doors clock lanes clock_after lanes_after → HasRun does given calls asked known disk_seen clock_seen seen port width file_bytes secret_bytes served log
   has_run served log demands start later files secrets parts doors clock clock_after lanes lanes_after demanded is opens alone log_is ends_at free ported seconds wide runs =
       record {

@@ -80,7 +80,7 @@ is_ready calls asked known seen now served behind inventory said path disk doors
 
 pub put_together :
     {D I L S T O E P G : Type 0} → (calls : P → Option (List FileCall)) (asked : P → Option (List (DoorCall O))) (known : Bool) (seen : E → DiskState) (now : Reading) (served : ServeWords) (start : Start (Ledger D I L)) (later : Option G) (parts : Parts S E L) (doors doors_after : P) (width : ℕ) (b : Begun S T O (Late D I L G) E L) (ready : Ready O E) (desk : Desk)
-    (lookout : Option (Ahead L)) (events : List WatchEvent) (state : Option (Late D I L G)) (house : House S T O (Late D I L G) E) (neighbours : Behind (House S T O (Late D I L G) E) L) → IsReady calls asked known seen now served start.behind start.inventories.served start.said.items parts.ends parts.disk doors doors_after ready →
+    (lookout : Option (Ahead L)) (events : List WatchEvent) (state : Option (Late D I L G)) (house : House S T O (Late D I L G) E) (neighbours : Behind (House S T O (Late D I L G) E) L) → IsReady calls asked known seen now served start.behind start.inventories.served start.said.items parts.ends.path parts.ends.disk doors doors_after ready →
     IsResumedFrom events start.inventories.served width b.serving → events ≡ ready.taken.known.items → WaitsFor events width now start.part b.serving.agent start.inventories.again b.wait ready.desk desk → IsLateOf parts.lane parts.askers start.inventories.named start.ledger later state →
     house ≡ house_of now start.is_good start.behind state parts.log desk ready.entrances ready.taken.file → LooksAhead start.behind parts.ahead lookout → neighbours ≡ beside house lookout →
     b.neighbours ≡ day_of start.part neighbours → IsBegun calls asked known seen now served start later parts doors doors_after width b

@@ -5,12 +5,11 @@ use Rattle.vault_asking.specs.Sending.{Lanes}
 use Rattle.base_clock.proofs.Joined.{none_law}
 use Rattle.base_clock.specs.Seen.{AllMade, ClockSeen}
 use Rattle.agent_turns.proofs.Turned.{given_none}
-use Rattle.agent_turns.specs.{Calls.calls_of, Changes.AllGiven, Turns.ServingTurn, declared.change.AgentChange.AgentChange}
+use Rattle.agent_turns.specs.{Calls.calls_of, Changes.AllGiven, Turns.ServingTurn, declared.change.AgentChange.AgentChange, declared.waiting.Wait.Wait}
 use Rattle.agent_turns.specs.Apart.{IsPause, IsWaitedApart, Spent, Waited, all_called, all_clocked, all_given}
 use Rattle.agent_turns.specs.Held.{Held, ServingSide, serving_side}
 use Rattle.agent_turns.specs.Neighbours.{AllCalled, NeighbourCall, WithCalls}
 use Rattle.agent_turns.specs.Runs.{AreTurns, all_calls, all_changes}
-use Rattle.agent_run.specs.declared.wait.Wait.{Wait}
 use Rattle.agent_run.specs.Running.{MOST, MakesTurns, RunsFrom, WaitsFirst}
 
 module _ {N : Type 0} (does : NeighbourCall → N → N → Type 0) (given : N → Option (List AgentChange)) where

@@ -131,7 +131,7 @@ pub record IsBegun {D I L S T O E P G : Type 0} (calls : P → Option (List File
   pub ready : Ready O E
   pub desk : Desk
   pub lookout : Option (Ahead L)
-  pub is_ready : IsReady calls asked known seen now served start.behind start.inventories.served start.said.items parts.ends parts.disk doors doors_after ready
+  pub is_ready : IsReady calls asked known seen now served start.behind start.inventories.served start.said.items parts.ends.path parts.ends.disk doors doors_after ready
   pub agent : IsResumedFrom ready.taken.known.items start.inventories.served width b.serving
   pub waits : WaitsFor ready.taken.known.items width now start.part b.serving.agent start.inventories.again b.wait ready.desk desk
   pub ahead : LooksAhead start.behind parts.ahead lookout

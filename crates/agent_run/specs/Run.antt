@@ -116,7 +116,7 @@ pub record HasRun {D I L S T O E C P F J G : Type 0} (does : NeighbourCall → E
   pub clock_after : C
   pub lanes_after : L
   pub log_is : parts.log ≡ log
-  pub ends_at : option_map string_bytes parts.ends ≡ ends_path served.room
+  pub ends_at : option_map string_bytes parts.ends.path ≡ ends_path served.room
   pub free : (seen lanes).out ≡ []
   pub ported : port lanes ≡ port_of served.place
   pub seconds : (seen lanes).seconds ≡ timeout_of served.patience

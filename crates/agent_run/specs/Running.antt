@@ -4,12 +4,11 @@ use Rattle.std.specs.Prelude.{◌≡◌, ℕ, List, Option, Some, None, length}
 use Rattle.agent_standing.specs.Agent.{Agent}
 use Rattle.vault_asking.specs.Sending.{Lanes}
 use Rattle.base_clock.specs.Seen.{AllMade, ClockSeen}
-use Rattle.agent_turns.specs.{Calls.calls_of, Changes.AllGiven, Turns.ServingTurn, declared.change.AgentChange.AgentChange}
+use Rattle.agent_turns.specs.{Calls.calls_of, Changes.AllGiven, Turns.ServingTurn, declared.change.AgentChange.AgentChange, declared.waiting.Wait.Wait}
 use Rattle.agent_turns.specs.Apart.{IsWaitedApart, Waited, all_called, all_clocked, all_given}
 use Rattle.agent_turns.specs.Held.{Held, ServingSide, serving_side}
 use Rattle.agent_turns.specs.Neighbours.{AllCalled, NeighbourCall, WithCalls}
 use Rattle.agent_turns.specs.Runs.{AreTurns, all_calls, all_changes}
-use Rattle.agent_run.specs.declared.wait.Wait.{Wait}
 
 -- the greatest u64: of pauses at most, and of turns
 abbrev pub MOST : ℕ

@@ -6,9 +6,8 @@ use Rattle.agent_standing.specs.Agent.{Agent, fresh}
 use Rattle.base_clock.specs.declared.reading.Reading.{Reading}
 use Rattle.vault_inventory.specs.Inventories.{Inventory}
 use Rattle.base_log.specs.declared.level.Level.TheVariants.{Info}
-use Rattle.agent_turns.specs.{Apart.MayWait, Held.Held, Held.held_at_first, Resuming.AreResumed}
+use Rattle.agent_turns.specs.{Apart.MayWait, Held.Held, Held.held_at_first, Resuming.AreResumed, declared.waiting.Wait.Wait}
 use Rattle.watch_machine.specs.{Clocks.second_of_wall, declared.event.WatchEvent.WatchEvent}
-use Rattle.agent_run.specs.declared.wait.Wait.{Wait}
 
 -- an agent of this inventory that has done nothing yet, to which these ends were handed in, over so many lanes
 pub record IsResumedFrom (known : List WatchEvent) (s : Inventory) (width : ℕ) (serving : Held) : Type 0 where

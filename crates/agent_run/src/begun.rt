@@ -7,7 +7,7 @@ ghost use Rattle.agent_run.specs.Begun.{BeginsLog, IsBegun, IsLateOf, IsReady, I
 ghost use Rattle.agent_run.specs.Waits.{IsResumedFrom, WaitsFor};
 
 use crate::doors::{Doors, Guests, open_door};
-use crate::wait::{Wait, millis_of, resumed, wait_of};
+use crate::wait::{Resumption, Spread, millis_of, resumed, wait_of};
 use agent_answers::{Control, Onlookers};
 use agent_behind::{Behind, Lookout};
 use agent_house::House;
@@ -19,7 +19,7 @@ use agent_system::{
     Inventories, Places, TakenOver, desk_of, folder_of, places_for, say_behind, take_over,
     warn_of_disks,
 };
-use agent_turns::{EarlyDay, Serving};
+use agent_turns::{EarlyDay, Serving, Wait};
 use agent_words::SaidLine;
 use base_clients::{Door, Talk};
 use base_clock::Reading;
@@ -37,14 +37,32 @@ use vault_lanes::{Lanes, MOST_WIDTH};
 use vault_proving::Proving;
 use watch_machine::WatchEvent;
 
+/// What an agent begins with.
+#[derive(Drop)]
+pub struct Beginning<'a, K, G> {
+    /// What the words of the command line ask.
+    pub words: &'a ServeWords<'a>,
+    /// What is served by them from the start on.
+    pub start: Start<K>,
+    /// What opens its state folder later, where it has one that cannot be used.
+    pub later: Option<G>,
+}
+
+/// Where the ends are kept over a restart.
+#[derive(Drop)]
+pub struct EndsPlace<E> {
+    /// The path of their file, if they are kept.
+    pub path: Option<String>,
+    /// Its disk.
+    pub disk: E,
+}
+
 /// What an agent is put together from, besides what is served, its lanes to the broker and its doors.
 #[derive(Drop)]
 pub struct Parts<S, E, L: Lanes> {
     /// Who reads the log.
     pub log: S,
-    /// Where the ends are kept over a restart, if they are: the path of their file, and its disk.
-    pub ends: Option<String>,
-    pub disk: E,
+    pub ends: EndsPlace<E>,
     /// The lane over which the credential of a client's change is looked up before it is taken.
     pub lane: L,
     /// Those over whose lanes the credentials of files are.
@@ -79,6 +97,17 @@ pub struct Ready<D, E> {
     pub entrances: Entrances<D>,
 }
 
+/// On which terms an agent starts.
+#[derive(Clone, Copy)]
+struct StartTerms<'a> {
+    /// When that is.
+    now: Reading,
+    /// What the words of the command line ask.
+    words: &'a ServeWords<'a>,
+    /// Where it stands behind another, the number of its name.
+    behind: Option<u64>,
+}
+
 /// The agent, and its wait.
 #[derive(Drop)]
 struct AtFirst {
@@ -86,15 +115,12 @@ struct AtFirst {
     wait: Option<Wait>,
 }
 
-/// Puts an agent together, of what is served from the start on, and of what opens its state folder later, where it has one that cannot be
-/// used, over these lanes. The only error is lack of memory.
+/// Puts an agent together of what it begins with and of its parts, over these lanes. The only error is lack of memory.
 #[tactic(auto, using(crate::proofs::Putting::put_together))]
 pub fn begin<'a, D, I, L, S, T, O, E, P, G>(
     alloc: Global,
     now: Reading,
-    served: &ServeWords<'_>,
-    start: Start<Ledger<'a, D, I, L>>,
-    later: Option<G>,
+    beginning: Beginning<'_, Ledger<'a, D, I, L>, G>,
     parts: Parts<S, E, L>,
     doors: &mut P,
     lanes: &L,
@@ -112,9 +138,10 @@ where
     requires free { L.out lanes.now ≡ [] }
     requires lane_free { L.out parts.lane ≡ [] }
     requires lane_wide { 0 < L.width parts.lane }
-    ensures begun { IfOk result (λ b. IsBegun P.calls P.asked E.is_known E.state now served.now start.entry later parts doors.old doors.new (L.width lanes.now) b) }
+    ensures begun { IfOk result (λ b. IsBegun P.calls P.asked E.is_known E.state now beginning.entry.words.now beginning.entry.start beginning.entry.later parts doors.old doors.new (L.width lanes.now) b) }
     ensures in_step { IfOk result (λ b. IsInStep (L.width lanes.now) (L.out lanes.now) b.serving) }
 {
+    let (words, later) = (beginning.words, beginning.later);
     let Start {
         part,
         behind,
@@ -122,11 +149,10 @@ where
         ledger,
         is_good,
         said,
-    } = start;
+    } = beginning.start;
     let Parts {
         log,
         ends,
-        disk,
         lane,
         askers,
         ahead,
@@ -136,14 +162,15 @@ where
         again,
         named,
     } = inventories;
-    let mut ready = make_ready(
-        alloc, now, served, behind, &inventory, said, ends, disk, doors,
-    )?;
+    let terms = StartTerms { now, words, behind };
+    let mut ready = make_ready(alloc, terms, &inventory, said, ends, doors)?;
     let known = &ready.taken.known;
     let desk = &mut ready.desk;
-    let AtFirst { serving, wait } = resume(alloc, inventory, again, lanes, known, now, part, desk)?;
+    let with = Resumption { lanes, known };
+    let spread = Spread { now, part };
+    let AtFirst { serving, wait } = resume(alloc, inventory, again, &with, spread, desk)?;
     let state = late_of(alloc, ledger, later, named, lane, askers);
-    let house = house_of(alloc, now, is_good, behind, state, log, ready);
+    let house = house_of(alloc, terms, is_good, state, log, ready);
     let lookout = lookout_of(alloc, behind, ahead);
     Ok(Begun {
         serving,
@@ -155,14 +182,13 @@ where
 /// A house of these parts, in which nobody has come, and nothing was given or said yet.
 fn house_of<S, T: Talk, D: Door<T>, K, E>(
     alloc: Global,
-    now: Reading,
+    terms: StartTerms<'_>,
     is_good: bool,
-    behind: Option<u64>,
     state: Option<K>,
     log: S,
     ready: Ready<D, E>,
 ) -> House<S, T, D, K, E>
-    ensures { result ≡ house_of now is_good behind state log ready.desk ready.entrances ready.taken.file }
+    ensures { result ≡ house_of terms.entry.now is_good terms.entry.behind state log ready.desk ready.entrances ready.taken.file }
 {
     let Ready {
         desk,
@@ -174,8 +200,8 @@ fn house_of<S, T: Talk, D: Door<T>, K, E>(
         sink: log,
         control: control_at(alloc, entrances.control, entrances.places.clients),
         onlookers: onlookers_at(alloc, entrances.onlookers, entrances.places.onlookers),
-        file: read_at(now, is_good),
-        standby: Standby::new(behind.is_some()),
+        file: read_at(terms.now, is_good),
+        standby: Standby::new(terms.behind.is_some()),
         state,
         given: None,
         awaited: None,
@@ -195,34 +221,33 @@ fn day_of<N>(part: u32, house: N) -> EarlyDay<N>
 #[tactic(auto, using(crate::proofs::Putting::is_ready))]
 fn make_ready<T, O, E, P>(
     alloc: Global,
-    now: Reading,
-    served: &ServeWords<'_>,
-    behind: Option<u64>,
+    terms: StartTerms<'_>,
     inventory: &Inventory,
     said: Vec<SaidLine>,
-    ends: Option<String>,
-    disk: E,
+    ends: EndsPlace<E>,
     doors: &mut P,
 ) -> Result<Ready<O, E>, AllocError>
 where
     O: Door<T> + Drop,
     E: Disk + Drop,
     P: Doors<T, O> + Inputs + SecretFiles,
-    ensures { IfOk result (IsReady P.calls P.asked E.is_known E.state now served.now behind inventory.now said.items ends disk doors.old doors.new) }
+    ensures { IfOk result (IsReady P.calls P.asked E.is_known E.state terms.entry.now terms.entry.words.now terms.entry.behind inventory.now said.items ends.path ends.disk doors.old doors.new) }
 {
+    let StartTerms { now, words, behind } = terms;
+    let EndsPlace { path, disk } = ends;
     let count = inventory.forest().len();
-    let mut desk = begin_log(alloc, now, served, count, said, &ends, doors)?;
-    let taken = take_over(alloc, disk, ends, inventory, now, &mut desk)?;
+    let mut desk = begin_log(alloc, terms, count, said, &path, doors)?;
+    let taken = take_over(alloc, disk, path, inventory, now, &mut desk)?;
     say_if_behind(alloc, now, behind, inventory.forest().margin(), &mut desk);
     let places = places_for(
         alloc,
         doors,
-        most_out(served),
+        most_out(words),
         behind.is_some(),
         now,
         &mut desk,
     );
-    let (control, listen) = (served.control, served.listen);
+    let (control, listen) = (words.control, words.listen);
     let control = open_door(alloc, now, control, Guests::Clients, doors, &mut desk);
     let onlookers = open_door(alloc, now, listen, Guests::Onlookers, doors, &mut desk);
     Ok(Ready {
@@ -283,19 +308,19 @@ fn place_text(alloc: Global, place: Place<'_>) -> Result<Vec<u8>, AllocError>
 #[tactic(auto, using(crate::proofs::Putting::begins_log))]
 fn begin_log<P: SecretFiles>(
     alloc: Global,
-    now: Reading,
-    served: &ServeWords<'_>,
+    terms: StartTerms<'_>,
     count: u32,
     said: Vec<SaidLine>,
     ends: &Option<String>,
     files: &mut P,
 ) -> Result<Desk, AllocError>
-    ensures { IfOk result (BeginsLog P.calls now served.now.form served.now.place count said.items ends.now files.old) }
+    ensures { IfOk result (BeginsLog P.calls terms.entry.now terms.entry.words.now.form terms.entry.words.now.place count said.items ends.now files.old) }
 {
     let mut said = said;
     warn_of_disks(alloc, files, ends_folder(ends), &mut said)?;
-    let place = place_text(alloc, served.place)?;
-    desk_of(alloc, served.form, place, count, now, &said)
+    let StartTerms { now, words, .. } = terms;
+    let place = place_text(alloc, words.place)?;
+    desk_of(alloc, words.form, place, count, now, &said)
 }
 
 /// The folder of the file of the ends, where there is one.
@@ -313,19 +338,17 @@ fn resume<L: Lanes>(
     alloc: Global,
     inventory: Inventory,
     again: Option<Inventory>,
-    lanes: &L,
-    known: &[WatchEvent],
-    now: Reading,
-    part: u32,
+    with: &Resumption<'_, L>,
+    spread: Spread,
     desk: &mut Desk,
 ) -> Result<AtFirst, AllocError>
-    requires free { L.out lanes.now ≡ [] }
-    ensures resumed { IfOk result (λ r. IsResumedFrom known.now inventory (L.width lanes.now) r.serving) }
-    ensures waits { IfOk result (λ r. WaitsFor known.now (L.width lanes.now) now part r.serving.agent again r.wait desk.old desk.new) }
-    ensures in_step { IfOk result (λ r. IsInStep (L.width lanes.now) (L.out lanes.now) r.serving) }
+    requires free { L.out with.now.lanes.now ≡ [] }
+    ensures resumed { IfOk result (λ r. IsResumedFrom with.now.known.now inventory (L.width with.now.lanes.now) r.serving) }
+    ensures waits { IfOk result (λ r. WaitsFor with.now.known.now (L.width with.now.lanes.now) spread.now spread.part r.serving.agent again r.wait desk.old desk.new) }
+    ensures in_step { IfOk result (λ r. IsInStep (L.width with.now.lanes.now) (L.out with.now.lanes.now) r.serving) }
 {
-    let serving = resumed(alloc, inventory, lanes, known)?;
-    let wait = wait_of(alloc, &serving, again, lanes, known, now, part, desk)?;
+    let serving = resumed(alloc, inventory, with)?;
+    let wait = wait_of(alloc, &serving, again, with, spread, desk)?;
     Ok(AtFirst { serving, wait })
 }
 

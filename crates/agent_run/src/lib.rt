@@ -16,7 +16,6 @@ mod running;
 mod wait;
 
 pub use askers::askers_by;
-pub use begun::{Begun, Parts, begin, most_out};
+pub use begun::{Beginning, Begun, EndsPlace, Parts, begin, most_out};
 pub use doors::{Doors, Guests};
 pub use run::run_over;
-pub use wait::Wait;

@@ -2,20 +2,18 @@
 ghost use Rattle.std.specs.Prelude.{◌≡◌, [], OnErr, OnOk};
 ghost use Rattle.agent_run.specs.Run.{AreAskersFor, AreOwnLanes, IsRun, ReadsFirst, timeout_of, width_of};
 
-use crate::begun::{Begun, Parts, begin};
+use crate::begun::{Beginning, Begun, Parts, begin};
 use crate::doors::Doors;
 use crate::running::run_from;
 use agent_behind::Behind;
 use agent_house::House;
 use agent_ledger::{Late, Ledger, Opening};
-use agent_start::Start;
 use agent_turns::{EarlyDay, Neighbours};
 use base_clients::{Door, Talk};
 use base_clock::{Clock, Reading};
 use base_disk::Disk;
 use base_files::Inputs;
 use base_log::LogSink;
-use program_commands::ServeWords;
 use state_secrets::SecretFiles;
 use std::alloc::{AllocError, Global};
 use vault_asking::SeenLanes;
@@ -27,9 +25,7 @@ use vault_lanes::Lanes;
 #[tactic(auto, using(crate::proofs::Putting::runs_so))]
 pub fn run_over<'a, D, I, L, S, T, O, E, P, C, G>(
     alloc: Global,
-    served: &ServeWords<'_>,
-    start: Start<Ledger<'a, D, I, L>>,
-    later: Option<G>,
+    beginning: Beginning<'_, Ledger<'a, D, I, L>, G>,
     parts: Parts<S, E, L>,
     doors: P,
     clock: &mut C,
@@ -47,14 +43,14 @@ where
     C: Clock,
     G: Opening<Ledger<'a, D, I, L>> + Drop,
     requires free { L.out lanes.old ≡ [] }
-    requires seconds { L.seconds lanes.old ≡ timeout_of served.now.patience }
-    requires width { L.width lanes.old ≡ width_of served.now.width }
+    requires seconds { L.seconds lanes.old ≡ timeout_of beginning.words.now.patience }
+    requires width { L.width lanes.old ≡ width_of beginning.words.now.width }
     requires lane_free { L.out parts.lane ≡ [] }
-    requires lane_seconds { L.seconds parts.lane ≡ timeout_of served.now.patience }
+    requires lane_seconds { L.seconds parts.lane ≡ timeout_of beginning.words.now.patience }
     requires lane_width { L.width parts.lane ≡ 1 }
-    requires askers { AreAskersFor (L.out) (L.seconds) (L.width) served.now parts.askers.items }
-    requires ahead { AreOwnLanes (L.out) (L.seconds) (L.width) served.now parts.ahead }
-    ensures runs { OnOk result (IsRun (⟦<EarlyDay<Behind<House<S, T, O, Late<'a, D, I, L, G>, E>, L>> as Neighbours>⟧.does) (⟦<EarlyDay<Behind<House<S, T, O, Late<'a, D, I, L, G>, E>, L>> as Neighbours>⟧.given) P.calls P.asked E.is_known E.state C.seen ⟦<L as SeenLanes>⟧.seen L.host_port L.width served.now start.entry later parts doors clock.old lanes.old clock.new lanes.new) }
+    requires askers { AreAskersFor (L.out) (L.seconds) (L.width) beginning.words.now parts.askers.items }
+    requires ahead { AreOwnLanes (L.out) (L.seconds) (L.width) beginning.words.now parts.ahead }
+    ensures runs { OnOk result (IsRun (⟦<EarlyDay<Behind<House<S, T, O, Late<'a, D, I, L, G>, E>, L>> as Neighbours>⟧.does) (⟦<EarlyDay<Behind<House<S, T, O, Late<'a, D, I, L, G>, E>, L>> as Neighbours>⟧.given) P.calls P.asked E.is_known E.state C.seen ⟦<L as SeenLanes>⟧.seen L.host_port L.width beginning.entry.words.now beginning.entry.start beginning.entry.later parts doors clock.old lanes.old clock.new lanes.new) }
     ensures nothing { OnErr result (⟦<L as SeenLanes>⟧.seen lanes.new ≡ ⟦<L as SeenLanes>⟧.seen lanes.old) }
 {
     let mut doors = doors;
@@ -63,7 +59,7 @@ where
         serving,
         neighbours,
         wait,
-    } = begin(alloc, now, served, start, later, parts, &mut doors, lanes)?;
+    } = begin(alloc, now, beginning, parts, &mut doors, lanes)?;
     // What opens doors has done so: it holds nothing of the system's any more.
     drop(doors);
     let mut neighbours = neighbours;

@@ -3,8 +3,7 @@ ghost use Rattle.std.specs.Prelude.{◌≡◌};
 ghost use Rattle.agent_turns.specs.Held.{IsInStep, serving_side};
 ghost use Rattle.agent_run.specs.Running.{RunsFrom, WaitsFirst};
 
-use crate::wait::Wait;
-use agent_turns::{Neighbours, Serving};
+use agent_turns::{Neighbours, Serving, Wait};
 use base_clock::Clock;
 use std::alloc::Global;
 use vault_asking::SeenLanes;
@@ -43,7 +42,7 @@ fn wait_first<C: Clock, L: Lanes, N: Neighbours>(
     ensures width { L.width lanes.new ≡ L.width lanes.old }
     ensures port { L.host_port lanes.new ≡ L.host_port lanes.old }
 {
-    if let Some(Wait { until, mut shown }) = wait {
-        serving.wait_apart(alloc, &mut shown, clock, lanes, neighbours, until, u64::MAX);
+    if let Some(mut wait) = wait {
+        serving.wait_apart(alloc, &mut wait, clock, lanes, neighbours);
     }
 }

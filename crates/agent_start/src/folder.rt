@@ -42,18 +42,33 @@ impl<'a> Folder<'a> {
         }
     }
 
-    /// The paths of the files in it.
-    pub(crate) fn paths(&self, alloc: Global) -> Result<&Paths, NotBegun>
+    /// Its name, with the paths of the files in it.
+    pub(crate) fn paths(&self, alloc: Global) -> Result<FolderPaths<'_>, NotBegun>
         ensures { IfErr result IsOfFolder }
     {
+        let name = self.name;
         match &self.paths {
-            Ok(paths) => Ok(paths),
+            Ok(paths) => Ok(FolderPaths { name, paths }),
             Err(PathsFault::InFolder) => {
-                Err(unused(alloc, self.name, "FILE is one of its own files")?)
+                Err(unused(alloc, name, "FILE is one of its own files")?)
             }
             Err(PathsFault::OutOfMemory) => Err(NotBegun::Memory),
         }
     }
+}
+
+/// The name of a state folder, and the paths of the files in it.
+#[derive(Clone, Copy)]
+pub struct FolderPaths<'a> {
+    pub name: &'a str,
+    pub paths: &'a Paths,
+}
+
+/// The state of a folder that was opened, and what is said of what was found there.
+#[derive(Drop)]
+pub struct OpenedFolder<'a, D: Disk> {
+    pub state: OpenedState<'a, D>,
+    pub said: Vec<SaidLine>,
 }
 
 /// Why nothing is served with a state folder.
@@ -103,43 +118,44 @@ fn begin_in<'a, R: Files<File = File> + AllocGlobal, L: Lanes + Drop>(
     ensures { Begins demands true result }
 {
     let alloc = rt.alloc();
-    let paths = folder.paths(alloc)?;
-    let (opened, said) = open_in(rt, paths, folder.name, demands)?;
+    let folder = folder.paths(alloc)?;
+    let opened = open_in(rt, folder, demands)?;
     let files = SystemSecrets::new(rt);
-    Ok(start_with(alloc, paths, demands, files, opened, said)?)
+    Ok(start_with(alloc, folder.paths, demands, files, opened)?)
 }
 
-/// The state of the folder of that name, and what is said of what was found there. What was opened is closed again where it cannot be used.
+/// The state of the folder, and what is said of what was found there. What was opened is closed again where it cannot be used.
 pub(crate) fn open_in<'a, R: Files<File = File> + AllocGlobal>(
     rt: &'a R,
-    paths: &'a Paths,
-    name: &str,
+    folder: FolderPaths<'a>,
     demands: Demands,
-) -> Result<(OpenedState<'a, SystemDisk<'a, R>>, Vec<SaidLine>), NotBegun>
+) -> Result<OpenedFolder<'a, SystemDisk<'a, R>>, NotBegun>
     ensures { IfErr result IsOfFolder }
 {
     let alloc = rt.alloc();
     let mut disk = SystemDisk::new(rt);
-    let found = find_held(alloc, &mut disk, paths, name, demands)?;
-    let opened = open(alloc, disk, paths, name, &found)?;
-    Ok((opened, found.said))
+    let found = find_held(alloc, &mut disk, folder, demands)?;
+    let state = open(alloc, disk, folder, &found)?;
+    Ok(OpenedFolder {
+        state,
+        said: found.said,
+    })
 }
 
-/// What is found in the folder of that name, which is held from then on; what cannot be read in its journal is kept aside. The folder is
-/// made where there is none.
+/// What is found in the folder, which is held from then on; what cannot be read in its journal is kept aside. The folder is made where
+/// there is none.
 fn find_held<R: Files<File = File> + AllocGlobal>(
     alloc: Global,
     disk: &mut SystemDisk<'_, R>,
-    paths: &Paths,
-    name: &str,
+    folder: FolderPaths<'_>,
     demands: Demands,
 ) -> Result<Found, NotBegun>
     ensures { IfErr result IsOfFolder }
 {
-    make_folder(alloc, disk, name)?;
-    hold(alloc, disk, paths, name)?;
-    let mut found = find(alloc, disk, paths, name, demands)?;
-    keep_unread(alloc, disk, paths, name, &mut found.said)?;
+    make_folder(alloc, disk, folder.name)?;
+    hold(alloc, disk, folder)?;
+    let mut found = find(alloc, disk, folder, demands)?;
+    keep_unread(alloc, disk, folder, &mut found.said)?;
     Ok(found)
 }
 
@@ -158,13 +174,13 @@ fn make_folder<R: Files<File = File> + AllocGlobal>(
 }
 
 /// Holds the folder until the process ends, before any file in it is read: what another agent writes there would be missed.
-fn hold<D: Disk>(alloc: Global, disk: &mut D, paths: &Paths, folder: &str) -> Result<(), NotBegun>
+fn hold<D: Disk>(alloc: Global, disk: &mut D, folder: FolderPaths<'_>) -> Result<(), NotBegun>
     ensures { IfErr result IsOfFolder }
 {
-    match disk.lock(paths.lock()) {
+    match disk.lock(folder.paths.lock()) {
         Ok(Some(_)) => Ok(()),
         Ok(None) => Err(NotBegun::Held),
-        Err(fault) => Err(unused_by(alloc, folder, fault)?),
+        Err(fault) => Err(unused_by(alloc, folder.name, fault)?),
     }
 }
 
@@ -173,15 +189,15 @@ fn hold<D: Disk>(alloc: Global, disk: &mut D, paths: &Paths, folder: &str) -> Re
 fn keep_unread<D: Disk>(
     alloc: Global,
     disk: &mut D,
-    paths: &Paths,
-    folder: &str,
+    folder: FolderPaths<'_>,
     said: &mut Vec<SaidLine>,
 ) -> Result<(), NotBegun>
     ensures { IfErr result IsOfFolder }
 {
+    let FolderPaths { name, paths } = folder;
     match set_aside(alloc, disk, paths.journal(), paths.aside(), said) {
         Ok(()) => Ok(()),
-        Err(fault) => Err(unused_by(alloc, folder, fault)?),
+        Err(fault) => Err(unused_by(alloc, name, fault)?),
     }
 }
 
@@ -189,12 +205,12 @@ fn keep_unread<D: Disk>(
 fn open<'a, R: Files<File = File> + AllocGlobal>(
     alloc: Global,
     disk: SystemDisk<'a, R>,
-    paths: &'a Paths,
-    folder: &str,
+    folder: FolderPaths<'a>,
     found: &Found,
 ) -> Result<OpenedState<'a, SystemDisk<'a, R>>, NotBegun>
     ensures { IfErr result IsOfFolder }
 {
+    let FolderPaths { name, paths } = folder;
     match State::open(
         alloc,
         disk,
@@ -206,7 +222,7 @@ fn open<'a, R: Files<File = File> + AllocGlobal>(
         Err(Unopened { why, disk: _ }) => match why {
             OpenFault::Held => Err(NotBegun::Held),
             OpenFault::File(_) => Err(NotBegun::Refused),
-            OpenFault::Disk(fault) => Err(unused_by(alloc, folder, fault)?),
+            OpenFault::Disk(fault) => Err(unused_by(alloc, name, fault)?),
             OpenFault::OutOfMemory => Err(NotBegun::Memory),
         },
     }
@@ -226,23 +242,23 @@ pub fn start_with<'a, D: Disk + Drop, I: Inputs + Drop, L: Lanes + Drop>(
     paths: &'a Paths,
     demands: Demands,
     files: I,
-    opened: OpenedState<'a, D>,
-    said: Vec<SaidLine>,
+    opened: OpenedFolder<'a, D>,
 ) -> Result<Start<Ledger<'a, D, I, L>>, AllocError>
     ensures start { IfOk result (IsStart demands true) }
     ensures there { IfOk result (λ s. is_some s.ledger ≡ true) }
-    ensures good { IfOk result (λ s. s.is_good ≡ is_none opened.entry.fault) }
-    ensures says { IfOk result (SaysStart (I.bytes_at files) paths.now opened.entry said.items) }
+    ensures good { IfOk result (λ s. s.is_good ≡ is_none opened.entry.state.fault) }
+    ensures says { IfOk result (SaysStart (I.bytes_at files) paths.now opened.entry.state opened.entry.said.items) }
 {
+    let OpenedFolder { state: found, said } = opened;
     let mut said = said;
-    say_opened(alloc, paths, &opened, &mut said)?;
+    say_opened(alloc, paths, &found, &mut said)?;
     let OpenedState {
         lock: _,
         state,
         notes,
         fault,
         ..
-    } = opened;
+    } = found;
     let mut ledger = ledger_of(alloc, paths, demands, files, state);
     let inventories = filled(alloc, &mut ledger, &notes, &mut said)?;
     Ok(Start {

@@ -1,4 +1,5 @@
 //! What a start with a state folder finds of the file that is to be served, and of its last good copy.
+use crate::folder::FolderPaths;
 use crate::modes::{may_others_write, say_open};
 use agent_system::push_each;
 use agent_words::{About, Demands, SaidLine, unread_words, why_not_served};
@@ -6,7 +7,7 @@ use base_disk::{Disk, DiskFault};
 use base_log::Level;
 use base_moment::Text;
 use state_file::ReadFault;
-use state_keeping::{Paths, read_file};
+use state_keeping::read_file;
 use std::alloc::{AllocError, Global};
 use vault_inventory::MOST_INVENTORY;
 
@@ -36,19 +37,19 @@ impl From<AllocError> for Unserved {
     }
 }
 
-/// What the file and its copy at these paths are found to be, as they are written: what the files hold that they name is waited for.
-/// The only error is lack of memory.
+/// What the file and its copy are found to be by the paths of this folder, as they are written: what the files hold that they name is
+/// waited for. The only error is lack of memory.
 pub(crate) fn find<D: Disk>(
     alloc: Global,
     disk: &mut D,
-    paths: &Paths,
-    folder: &str,
+    folder: FolderPaths<'_>,
     demands: Demands,
 ) -> Result<Found, AllocError> {
+    let FolderPaths { name, paths } = folder;
     let mut said = Vec::new(alloc);
-    say_open(alloc, disk, paths, folder, &mut said)?;
+    say_open(alloc, disk, folder, &mut said)?;
     let file = find_file(alloc, disk, paths.file(), demands, &mut said)?;
-    let copy = find_copy(alloc, disk, paths.copy(), folder, demands)?;
+    let copy = find_copy(alloc, disk, paths.copy(), name, demands)?;
     Ok(Found { file, copy, said })
 }
 

@@ -3,16 +3,18 @@ ghost use Rattle.std.specs.Prelude.{◌≡◌, ◌&&◌, IfOk, is_none, is_some}
 ghost use Rattle.agent_start.specs.Later.{IsLaterLedger, open_text};
 ghost use Rattle.agent_start.specs.Telling.{SaysLater};
 
-use crate::folder::{Folder, NotBegun, fill_and_say, ledger_of, open_in, say_opened};
+use crate::folder::{
+    Folder, FolderPaths, NotBegun, OpenedFolder, fill_and_say, ledger_of, open_in, say_opened,
+};
 use crate::start::SystemLedger;
 use agent_ledger::{KeepNews, Ledger, OpenedLedger, Opening};
 use agent_system::{SystemSecrets, push};
-use agent_words::{About, Demands, SaidLine};
+use agent_words::{About, Demands};
 use base_disk::Disk;
 use base_files::Inputs;
 use base_log::Level;
 use base_moment::Text;
-use state_keeping::Paths;
+use state_keeping::OpenedState;
 use std::alloc::{AllocError, Global};
 use std::fs::File;
 use std::rt::Files;
@@ -68,38 +70,38 @@ fn open_later<'a, R: Files<File = File> + AllocGlobal, L: Lanes + Drop>(
     ensures { IfOk result (λ o. IsLaterLedger demands o.keeper) }
 {
     let alloc = rt.alloc();
-    let paths = folder.paths(alloc)?;
-    let (opened, said) = open_in(rt, paths, folder.name, demands)?;
+    let folder = folder.paths(alloc)?;
+    let opened = open_in(rt, folder, demands)?;
     let files = SystemSecrets::new(rt);
-    Ok(later_with(alloc, paths, folder.name, demands, files, opened, said, now)?)
+    Ok(later_with(alloc, folder, demands, files, opened, now)?)
 }
 
-/// A ledger over a state that was opened later, in the folder of that name, with what the files of credentials hold; and what is to be said
-/// of it, after what was said before. The only error is lack of memory.
+/// A ledger over a state that was opened later, in this folder, with what the files of credentials hold; and what is to be said of it,
+/// after what was said before. The only error is lack of memory.
 #[tactic(auto, using(crate::proofs::OpenedLater::filled_later, crate::proofs::Telling::says_later))]
 pub fn later_with<'a, D: Disk + Drop, I: Inputs + Drop, L: Lanes + Drop>(
     alloc: Global,
-    paths: &'a Paths,
-    name: &str,
+    folder: FolderPaths<'a>,
     demands: Demands,
     files: I,
-    opened: state_keeping::OpenedState<'a, D>,
-    said: Vec<SaidLine>,
+    opened: OpenedFolder<'a, D>,
     now: u64,
 ) -> Result<OpenedLedger<Ledger<'a, D, I, L>>, AllocError>
     ensures later { IfOk result (λ o. IsLaterLedger demands o.keeper) }
-    ensures good { IfOk result (λ o. o.news.is_good ≡ is_none opened.entry.fault) }
-    ensures says { IfOk result (λ o. SaysLater (I.bytes_at files) paths.now opened.entry name.now now said.items o.keeper o.news.said.items) }
+    ensures good { IfOk result (λ o. o.news.is_good ≡ is_none opened.entry.state.fault) }
+    ensures says { IfOk result (λ o. SaysLater (I.bytes_at files) folder.entry.paths.now opened.entry.state folder.entry.name.now now opened.entry.said.items o.keeper o.news.said.items) }
 {
+    let FolderPaths { name, paths } = folder;
+    let OpenedFolder { state: found, said } = opened;
     let mut said = said;
-    say_opened(alloc, paths, &opened, &mut said)?;
-    let state_keeping::OpenedState {
+    say_opened(alloc, paths, &found, &mut said)?;
+    let OpenedState {
         lock: _,
         state,
         notes,
         fault,
         ..
-    } = opened;
+    } = found;
     let mut ledger = ledger_of(alloc, paths, demands, files, state);
     fill_and_say(alloc, now, &mut ledger, &notes, &mut said)?;
     let text = open_text(alloc, name)?;

@@ -16,6 +16,6 @@ mod modes;
 mod start;
 mod unkept;
 
-pub use folder::{Folder, start_with};
+pub use folder::{Folder, FolderPaths, OpenedFolder, start_with};
 pub use later::{SystemFolder, later_folder, later_with};
 pub use start::{Start, SystemLedger, make_start};

@@ -1,10 +1,10 @@
 //! Whether others than the agent's user and its group may reach what lies in the state folder.
+use crate::folder::FolderPaths;
 use agent_system::push;
 use agent_words::{About, SaidLine};
 use base_disk::{Disk, DiskFault};
 use base_log::Level;
 use base_moment::Text;
-use state_keeping::Paths;
 use std::alloc::{AllocError, Global};
 
 /// The permission bits of others.
@@ -18,14 +18,14 @@ const OTHERS_WRITE: u32 = 0o002;
 pub(crate) fn say_open<D: Disk>(
     alloc: Global,
     disk: &mut D,
-    paths: &Paths,
-    folder: &str,
+    folder: FolderPaths<'_>,
     said: &mut Vec<SaidLine>,
 ) -> Result<(), AllocError> {
-    say_mode(alloc, disk, folder, folder, said)?;
-    say_mode(alloc, disk, paths.journal(), folder, said)?;
-    say_mode(alloc, disk, paths.copy(), folder, said)?;
-    say_mode(alloc, disk, paths.aside(), folder, said)
+    let FolderPaths { name, paths } = folder;
+    say_mode(alloc, disk, name, name, said)?;
+    say_mode(alloc, disk, paths.journal(), name, said)?;
+    say_mode(alloc, disk, paths.copy(), name, said)?;
+    say_mode(alloc, disk, paths.aside(), name, said)
 }
 
 fn say_mode<D: Disk>(

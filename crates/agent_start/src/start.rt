@@ -117,7 +117,7 @@ where
         NotBegun::Unused(first) => start_unkept(alloc, demands, first, sources, errors),
         NotBegun::Held => Err(refuse_held(alloc, folder, errors)),
         NotBegun::Refused => {
-            match refuse_written(alloc, sources.file, demands, &mut sources.files, errors) {
+            match refuse_written(alloc, demands, sources, errors) {
                 None => Err(refuse_changes(alloc, folder, errors)),
                 Some(exit) => Err(exit),
             }

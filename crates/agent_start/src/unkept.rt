@@ -37,9 +37,8 @@ where
     ensures alone { IfOk result (λ i. demands.earlier ≡ 0 → i.again ≡ None) }
     ensures served { IfOk result (IsServedUnkept (F.bytes_at sources.old.files) (I.bytes_at sources.old.secrets) sources.old.file.now demands said.old.items said.new.items) }
 {
-    let file = sources.file;
-    let bytes = read_bytes(alloc, file, &mut sources.files, errors)?;
-    match refuse_bytes(alloc, file, &bytes, demands, &sources.files, errors) {
+    let bytes = read_bytes(alloc, sources.file, &mut sources.files, errors)?;
+    match refuse_bytes(alloc, &bytes, demands, sources, errors) {
         Some(exit) => Err(exit),
         None => serve_held(alloc, &bytes, demands, sources, said, errors),
     }
@@ -63,8 +62,7 @@ where
     ensures alone { IfOk result (λ i. demands.earlier ≡ 0 → i.again ≡ None) }
     ensures served { IfOk result (ServesHeld (I.bytes_at sources.old.secrets) (folder_of sources.old.file.now) bytes.now demands said.old.items said.new.items) }
 {
-    let file = sources.file;
-    let folder = folder_of(file);
+    let folder = folder_of(sources.file);
     match held(
         alloc,
         bytes.list(),
@@ -74,15 +72,7 @@ where
         said,
     ) {
         Ok(Some(inventories)) => Ok(inventories),
-        Ok(None) => serve_bytes(
-            alloc,
-            file,
-            bytes,
-            demands,
-            &sources.files,
-            &mut sources.secrets,
-            errors,
-        ),
+        Ok(None) => serve_bytes(alloc, bytes, demands, sources, errors),
         Err(AllocError) => Err(Stop::Memory.report(PROGRAM, errors)),
     }
 }

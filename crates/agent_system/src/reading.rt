@@ -58,26 +58,16 @@ where
     ensures alone { IfOk result (λ i. demands.earlier ≡ 0 → i.again ≡ None) }
     ensures served { IfOk result (IsServedFile (F.bytes_at sources.old.files) (I.bytes_at sources.old.secrets) sources.old.file.now demands) }
 {
-    let file = sources.file;
-    let bytes = read_bytes(alloc, file, &mut sources.files, errors)?;
-    serve_bytes(
-        alloc,
-        file,
-        &bytes,
-        demands,
-        &sources.files,
-        &mut sources.secrets,
-        errors,
-    )
+    let bytes = read_bytes(alloc, sources.file, &mut sources.files, errors)?;
+    serve_bytes(alloc, &bytes, demands, sources, errors)
 }
 
 /// Refuses a file that cannot be read, or that may not be served for what it writes, whatever the files hold that it names: the exit, once
 /// it was told why. `None` where it may be served so.
-pub fn refuse_written<F, E>(
+pub fn refuse_written<F, I, E>(
     alloc: Global,
-    file: &str,
     demands: Demands,
-    files: &mut F,
+    sources: &mut Sources<'_, F, I>,
     errors: &mut E,
 ) -> Option<Exit>
 where
@@ -85,8 +75,8 @@ where
     E: Sink,
     ensures { RefusesIf result (⟦<E as Watched>⟧.change errors.old errors.new) }
 {
-    match read_bytes(alloc, file, files, errors) {
-        Ok(bytes) => refuse_bytes(alloc, file, &bytes, demands, files, errors),
+    match read_bytes(alloc, sources.file, &mut sources.files, errors) {
+        Ok(bytes) => refuse_bytes(alloc, &bytes, demands, sources, errors),
         Err(exit) => Some(exit),
     }
 }
@@ -94,12 +84,11 @@ where
 /// Refuses a file with these bytes that may not be served for what it writes, whatever the files hold that it names: the exit, once it was
 /// told why. `None` where it may be served so.
 #[tactic(auto, using(crate::proofs::Whole::well_written))]
-pub fn refuse_bytes<F, E>(
+pub fn refuse_bytes<F, I, E>(
     alloc: Global,
-    file: &str,
     bytes: &Text,
     demands: Demands,
-    files: &F,
+    sources: &Sources<'_, F, I>,
     errors: &mut E,
 ) -> Option<Exit>
 where
@@ -109,20 +98,19 @@ where
     ensures well { result ≡ None → IsWellWritten demands bytes.now }
 {
     match faults_as_written(alloc, bytes.list(), demands) {
-        Ok(faults) => refuse_faults(alloc, file, bytes, demands, &faults, files, errors),
+        Ok(faults) => refuse_faults(alloc, bytes, demands, &faults, sources, errors),
         Err(AllocError) => Some(Stop::Memory.report(PROGRAM, errors)),
     }
 }
 
 /// Refuses a file with these bytes for these faults of what it writes, where there are any.
 #[tactic(auto, using(crate::proofs::Refusals::refused_inventory))]
-fn refuse_faults<F, E>(
+fn refuse_faults<F, I, E>(
     alloc: Global,
-    file: &str,
     bytes: &Text,
     demands: Demands,
     faults: &[StartFault],
-    files: &F,
+    sources: &Sources<'_, F, I>,
     errors: &mut E,
 ) -> Option<Exit>
 where
@@ -135,7 +123,8 @@ where
         return None;
     }
     if let StartFault::Inventory(fault) = faults[0] {
-        return Some(refuse_file(files, Stop::from(fault), file, errors));
+        let stop = Stop::from(fault);
+        return Some(refuse_file(&sources.files, stop, sources.file, errors));
     }
     let lines = lines_of(alloc, demands, bytes, faults);
     Some(refuse(lines, errors))
@@ -174,11 +163,9 @@ where
 #[tactic(auto, using(crate::proofs::Refusals::refused_inventory, crate::proofs::Whole::served_whole))]
 pub fn serve_bytes<F, I, E>(
     alloc: Global,
-    file: &str,
     bytes: &Text,
     demands: Demands,
-    files: &F,
-    secrets: &mut I,
+    sources: &mut Sources<'_, F, I>,
     errors: &mut E,
 ) -> Result<Inventories, Exit>
 where
@@ -187,20 +174,21 @@ where
     E: Sink,
     ensures told { GivesOrRefuses result (⟦<E as Watched>⟧.change errors.old errors.new) }
     ensures alone { IfOk result (λ i. demands.earlier ≡ 0 → i.again ≡ None) }
-    ensures served { IfOk result (IsServedWhole (I.bytes_at secrets.old) (folder_of file.now) bytes.now demands) }
+    ensures served { IfOk result (IsServedWhole (I.bytes_at sources.old.secrets) (folder_of sources.old.file.now) bytes.now demands) }
 {
+    let file = sources.file;
     let folder = folder_of(file);
-    match read_to_serve(alloc, bytes.list(), demands, folder, secrets) {
+    match read_to_serve(alloc, bytes.list(), demands, folder, &mut sources.secrets) {
         Ok(served) => Ok(Inventories {
             served,
-            again: read_again(alloc, bytes, demands, folder, secrets),
+            again: read_again(alloc, bytes, demands, folder, &mut sources.secrets),
             named: None,
         }),
         Err(StartFault::Inventory(fault)) => {
-            Err(refuse_file(files, Stop::from(fault), file, errors))
+            Err(refuse_file(&sources.files, Stop::from(fault), file, errors))
         }
         Err(_) => {
-            let lines = refusal(alloc, bytes, demands, folder, secrets);
+            let lines = refusal(alloc, bytes, demands, folder, &mut sources.secrets);
             Err(refuse(lines, errors))
         }
     }

@@ -15,4 +15,3 @@ pub mod Called
 pub mod Bounded
 pub mod Alike
 pub mod Waited
-pub mod Due

@@ -29,7 +29,7 @@ nothing_left t r (Some x) = (x.table, (inl refl, refl))
 
 pub kept_back : (port : ℕ) (h : Held) (l : Lanes) → 0 < length h.unsent → IsKeptBack port (serving_side h l) (serving_side h l)
 kept_back port h l some = by h.unsent refl some where
-  by : (unsent : List machine.Request) → h.unsent ≡ unsent → 0 < length unsent → IsKeptBack port (serving_side h l) (serving_side h l)
+  by : (unsent : List machine.WatchRequest) → h.unsent ≡ unsent → 0 < length unsent → IsKeptBack port (serving_side h l) (serving_side h l)
   by [] is none = absurd (omega (arith, none))
   by (r ∷ later) is more = record { request = r; later = later; first = is; held = refl; out = refl; seconds = refl; left = nothing_left _ _ l.behind }
 

@@ -35,6 +35,7 @@ pub use laws::{
     a_serving_is_a_run, a_stretch_is_a_run, a_turn_is_bounded, nothing_else_is_heard,
     secrets_change_no_turn,
 };
-pub use neighbours::{Happened, Neighbours};
+pub use neighbours::{AgentAt, Happened, Neighbours};
 pub use sending::moment_of;
 pub use serving::Serving;
+pub use waiting::{MOST_PAUSES, Wait};

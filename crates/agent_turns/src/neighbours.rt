@@ -46,6 +46,15 @@ pub enum Happened<'a> {
     Wanting,
 }
 
+/// The agent at a reading of the clocks.
+#[derive(Clone, Copy, Debug)]
+pub struct AgentAt<'a> {
+    /// The agent.
+    pub agent: &'a Agent,
+    /// The reading.
+    pub now: Reading,
+}
+
 /// Clients, onlookers, the log and the disk. None of their calls waits, but those of a disk: where a change is made, where ends are
 /// kept, and where files of credentials are looked at.
 ///

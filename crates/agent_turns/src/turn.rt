@@ -24,6 +24,23 @@ const HALF_A_MINUTE: u64 = 30_000;
 /// The wait where memory is wanting or no clock is read.
 const SHORT_WAIT: u64 = 100;
 
+/// What a turn came to, but for its wait.
+#[derive(Clone, Copy, Debug)]
+struct TurnSoFar {
+    /// What it read.
+    reading: Reading,
+    /// Whether memory sufficed to hand the time in.
+    is_whole: bool,
+    /// Whether a change was made.
+    is_changed: bool,
+    /// Whether a neighbour can go on at once.
+    is_busy: bool,
+    /// The moment by which a lane has to be looked at, in milliseconds.
+    due: u64,
+    /// For how long the neighbours may then be left alone, in milliseconds, where that is said.
+    rest: Option<u64>,
+}
+
 impl Serving {
     /// One turn.
     pub(crate) fn turn<C: Clock, L: Lanes, N: Neighbours>(
@@ -68,7 +85,14 @@ impl Serving {
         let is_changed = self.make_change(alloc, reading, lanes, neighbours);
         let due = lanes.due(reading.elapsed, self.until);
         let rest = neighbours.rest(reading.elapsed);
-        self.wait_of(is_changed, is_busy, is_whole, due, rest, reading)
+        self.wait_of(TurnSoFar {
+            reading,
+            is_whole,
+            is_changed,
+            is_busy,
+            due,
+            rest,
+        })
     }
 
     /// Tells the neighbours that memory was wanting, where it was.
@@ -179,21 +203,13 @@ impl Serving {
 
     /// For how long is waited: not at all where a change was made, or a neighbour can go on. (A change that lacked memory is tried again
     /// after a wait, and not in a loop without one.)
-    fn wait_of(
-        &self,
-        is_changed: bool,
-        is_busy: bool,
-        is_whole: bool,
-        due: u64,
-        rest: Option<u64>,
-        reading: Reading,
-    ) -> u64
-        ensures { result ≡ turn_wait_by (is_changed || is_busy) is_whole self.now due rest (Some reading) }
+    fn wait_of(&self, turn: TurnSoFar) -> u64
+        ensures { result ≡ turn_wait_by (turn.is_changed || turn.is_busy) turn.is_whole self.now turn.due turn.rest (Some turn.reading) }
     {
-        if is_changed || is_busy {
+        if turn.is_changed || turn.is_busy {
             0
-        } else if is_whole {
-            self.wait_at(due, rest, reading.elapsed)
+        } else if turn.is_whole {
+            self.wait_at(turn.due, turn.rest, turn.reading.elapsed)
         } else {
             SHORT_WAIT
         }

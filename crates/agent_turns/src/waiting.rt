@@ -17,34 +17,42 @@ use vault_asking::SeenLanes;
 use vault_lanes::Lanes;
 use watch_machine::WatchEvent;
 
+/// The pauses of a wait at most: as many as can be counted.
+pub const MOST_PAUSES: u64 = 18_446_744_073_709_551_615;
+
+/// A wait before the first turn.
+#[derive(Debug, Drop)]
+pub struct Wait {
+    /// Until when, in milliseconds of the clock that never steps.
+    pub until: u64,
+    /// What the neighbours see of the agent meanwhile: it serves the same inventory and knows the same ends, and the time is handed in
+    /// to it, unless memory is wanting for that. What it commands goes out nowhere.
+    pub shown: Serving,
+}
+
 impl Serving {
-    /// Waits before the first turn, until a moment of the clock that never steps, in milliseconds, by `most` pauses at most. Nothing is
-    /// asked meanwhile. In each pause the neighbours go on and are asked for one change, and a wait of a second at most follows.
+    /// Waits before the first turn, by [`MOST_PAUSES`] pauses at most. Nothing is asked meanwhile. In each pause the neighbours go on and
+    /// are asked for one change, and a wait of a second at most follows.
     ///
     /// It ends at once where a change is made that counts now, and where the clocks cannot be read. A change for which memory is wanting
     /// does not end it: it is asked for again after a wait.
-    ///
-    /// `shown` is what the neighbours see of the agent: it serves the same inventory and knows the same ends, and the time is handed in
-    /// to it, unless memory is wanting for that. What it commands goes out nowhere.
     pub fn wait_apart<C: Clock, L: Lanes, N: Neighbours>(
         &mut self,
         alloc: Global,
-        shown: &mut Serving,
+        wait: &mut Wait,
         clock: &mut C,
         lanes: &mut L,
         neighbours: &mut N,
-        until: u64,
-        most: u64,
     )
         requires in_step { IsInStep (L.width lanes.old) (L.out lanes.old) self.old }
-        ensures waited { (w : Waited) × (IsWaitedApart until most shown.old.agent (serving_side self.old (⟦<L as SeenLanes>⟧.seen lanes.old)) w (serving_side self.new (⟦<L as SeenLanes>⟧.seen lanes.new)) × (AllMade (all_clocked w) (C.seen clock.old) (C.seen clock.new) × (AllGiven (all_given w) (N.given neighbours.old) (N.given neighbours.new) × AllCalled N.does (all_called self.old.agent self.new.agent w) neighbours.old neighbours.new))) }
+        ensures waited { (w : Waited) × (IsWaitedApart wait.old.until MOST_PAUSES wait.old.shown.agent (serving_side self.old (⟦<L as SeenLanes>⟧.seen lanes.old)) w (serving_side self.new (⟦<L as SeenLanes>⟧.seen lanes.new)) × (AllMade (all_clocked w) (C.seen clock.old) (C.seen clock.new) × (AllGiven (all_given w) (N.given neighbours.old) (N.given neighbours.new) × AllCalled N.does (all_called self.old.agent self.new.agent w) neighbours.old neighbours.new))) }
         ensures in_step { IsInStep (L.width lanes.new) (L.out lanes.new) self.new }
         ensures width { L.width lanes.new ≡ L.width lanes.old }
         ensures port { L.host_port lanes.new ≡ L.host_port lanes.old }
     {
-        for _ in 0..most {
+        for _ in 0..MOST_PAUSES {
             let reading = clock.read().ok();
-            let Some(millis) = self.pause(alloc, shown, reading, lanes, neighbours, until) else {
+            let Some(millis) = self.pause(alloc, wait, reading, lanes, neighbours) else {
                 return;
             };
             clock.wait(millis);
@@ -55,30 +63,30 @@ impl Serving {
     fn pause<L: Lanes, N: Neighbours>(
         &mut self,
         alloc: Global,
-        shown: &mut Serving,
+        wait: &mut Wait,
         reading: Option<Reading>,
         lanes: &mut L,
         neighbours: &mut N,
-        until: u64,
     ) -> Option<u64>
-        ensures pauses { Pauses N.does until reading result shown.old.agent shown.new.agent (serving_side self.old (⟦<L as SeenLanes>⟧.seen lanes.old)) (serving_side self.new (⟦<L as SeenLanes>⟧.seen lanes.new)) (N.given neighbours.old) (N.given neighbours.new) neighbours.old neighbours.new }
+        ensures pauses { Pauses N.does wait.old.until reading result wait.old.shown.agent wait.new.shown.agent (serving_side self.old (⟦<L as SeenLanes>⟧.seen lanes.old)) (serving_side self.new (⟦<L as SeenLanes>⟧.seen lanes.new)) (N.given neighbours.old) (N.given neighbours.new) neighbours.old neighbours.new }
+        ensures until { wait.new.until ≡ wait.old.until }
         ensures width { L.width lanes.new ≡ L.width lanes.old }
         ensures port { L.host_port lanes.new ≡ L.host_port lanes.old }
     {
         let reading = reading?;
-        if reading.elapsed >= until {
+        if reading.elapsed >= wait.until {
             return None;
         }
         let Reading { wall, elapsed } = reading;
-        shown.take(alloc, WatchEvent::Clock { wall, elapsed });
-        let is_busy = neighbours.go_on(alloc, &shown.agent, reading);
-        let Some(change) = neighbours.change(alloc, &shown.agent, reading) else {
-            return Some(pause_by(false, is_busy, until, reading));
+        wait.shown.take(alloc, WatchEvent::Clock { wall, elapsed });
+        let is_busy = neighbours.go_on(alloc, &wait.shown.agent, reading);
+        let Some(change) = neighbours.change(alloc, &wait.shown.agent, reading) else {
+            return Some(pause_by(false, is_busy, wait.until, reading));
         };
         let is_kept = is_kept(&change);
-        let is_made = self.make_shown(alloc, shown, lanes, neighbours, change);
+        let is_made = self.make_shown(alloc, &wait.shown, lanes, neighbours, change);
         if goes_on(is_kept, is_made) {
-            Some(pause_by(is_made, is_busy, until, reading))
+            Some(pause_by(is_made, is_busy, wait.until, reading))
         } else {
             None
         }

@@ -8,7 +8,7 @@ use crate::system_doors::{SystemDoors, registry_of};
 use agent_behind::Behind;
 use agent_house::{Demands, House};
 use agent_ledger::Late;
-use agent_run::{Doors, Parts, askers_by, most_out, run_over};
+use agent_run::{Beginning, Doors, EndsPlace, Parts, askers_by, most_out, run_over};
 use agent_start::{Folder, SystemFolder, later_folder, make_start};
 use agent_system::{Sources, SystemFile, SystemSecrets, folder_of};
 use agent_turns::{EarlyDay, Neighbours};
@@ -53,6 +53,22 @@ type SystemLate<'a, R, L> = Late<
     SystemFolder<'a, R>,
 >;
 
+/// What `serve` is asked.
+#[derive(Clone, Copy)]
+struct Asked<'w, 'a> {
+    /// The words of the command line.
+    words: &'w ServeWords<'a>,
+    /// What they demand of the inventory.
+    demands: Demands,
+}
+
+/// The lanes of an agent to the broker, and the clock that waits for them.
+#[derive(Drop)]
+struct TimedLanes<C, L> {
+    clock: C,
+    lanes: L,
+}
+
 /// Serves what the words ask, as it is demanded: the exit of the agent, once it was told why it does not start. Its clock and its lanes
 /// are made before it reads what it serves, which is so large that few steps hold it.
 pub fn run<'a, R, E>(
@@ -69,29 +85,30 @@ where
     ensures told { EndsServe result (⟦<E as Watched>⟧.change errors.old errors.new) }
     ensures runs { result ≡ Exit.Done → HasRun (⟦<SystemDay<'a, R> as Neighbours>⟧.does) (⟦<SystemDay<'a, R> as Neighbours>⟧.given) ⟦<SystemDoors<'a, R> as SecretFiles>⟧.calls ⟦<SystemDoors<'a, R> as Doors<SocketTalk, SocketDoor>>⟧.asked ⟦<SystemDisk<'a, R> as Disk>⟧.is_known ⟦<SystemDisk<'a, R> as Disk>⟧.state ⟦<SystemClock<'a, R> as base_clock::Clock>⟧.seen ⟦<SocketLanes<'a, R> as SeenLanes>⟧.seen ⟦<SocketLanes<'a, R> as Lanes>⟧.host_port ⟦<SocketLanes<'a, R> as Lanes>⟧.width ⟦<SystemFile<'a, R> as Inputs>⟧.bytes_at ⟦<SystemSecrets<'a, R> as Inputs>⟧.bytes_at served.now log }
 {
-    let Ok(mut clock) = SystemClock::new(rt.alloc(), rt) else {
+    let Ok(clock) = SystemClock::new(rt.alloc(), rt) else {
         return ended(Err(AllocError), errors);
     };
-    let mut lanes = own_lanes(rt, served, &clock);
+    let lanes = own_lanes(rt, served, &clock);
     let Ok(parts) = parts_of(rt, served, log, &clock) else {
         return ended(Err(AllocError), errors);
     };
     let doors = SystemDoors::by(rt, &clock);
-    run_among(
-        rt, served, demands, parts, doors, &mut clock, &mut lanes, errors,
-    )
+    let asked = Asked {
+        words: served,
+        demands,
+    };
+    let mut timed = TimedLanes { clock, lanes };
+    run_among(rt, asked, parts, doors, &mut timed, errors)
 }
 
 /// The same by any clock, over any lanes and through any doors. (If all types of the system came together in this one function, its proof
 /// would be past the prover's limit of steps.)
 fn run_among<'a, R, L, P, C, E>(
     rt: &'a R,
-    served: &ServeWords<'a>,
-    demands: Demands,
+    asked: Asked<'_, 'a>,
     parts: Parts<StandardOutput, SystemDisk<'a, R>, L>,
     doors: P,
-    clock: &mut C,
-    lanes: &mut L,
+    timed: &mut TimedLanes<C, L>,
     errors: &mut E,
 ) -> Exit
 where
@@ -100,28 +117,44 @@ where
     P: Doors<SocketTalk, SocketDoor> + Inputs + SecretFiles + Drop,
     C: base_clock::Clock,
     E: Sink,
-    requires demanded { IsDemanded served.now demands }
-    requires free { L.out lanes.old ≡ [] }
-    requires port { L.host_port lanes.old ≡ port_of served.now.place }
-    requires seconds { L.seconds lanes.old ≡ timeout_of served.now.patience }
-    requires width { L.width lanes.old ≡ width_of served.now.width }
+    requires demanded { IsDemanded asked.words.now asked.demands }
+    requires free { L.out timed.old.lanes ≡ [] }
+    requires port { L.host_port timed.old.lanes ≡ port_of asked.words.now.place }
+    requires seconds { L.seconds timed.old.lanes ≡ timeout_of asked.words.now.patience }
+    requires width { L.width timed.old.lanes ≡ width_of asked.words.now.width }
     requires lane_free { L.out parts.lane ≡ [] }
-    requires lane_seconds { L.seconds parts.lane ≡ timeout_of served.now.patience }
+    requires lane_seconds { L.seconds parts.lane ≡ timeout_of asked.words.now.patience }
     requires lane_width { L.width parts.lane ≡ 1 }
-    requires askers { AreAskersFor (L.out) (L.seconds) (L.width) served.now parts.askers.items }
-    requires ahead { AreOwnLanes (L.out) (L.seconds) (L.width) served.now parts.ahead }
-    requires ends { option_map string_bytes parts.ends ≡ ends_path served.now.room }
+    requires askers { AreAskersFor (L.out) (L.seconds) (L.width) asked.words.now parts.askers.items }
+    requires ahead { AreOwnLanes (L.out) (L.seconds) (L.width) asked.words.now parts.ahead }
+    requires ends { option_map string_bytes parts.ends.path ≡ ends_path asked.words.now.room }
     ensures told { EndsServe result (⟦<E as Watched>⟧.change errors.old errors.new) }
-    ensures runs { result ≡ Exit.Done → HasRun (⟦<DayOver<'a, R, L> as Neighbours>⟧.does) (⟦<DayOver<'a, R, L> as Neighbours>⟧.given) P.calls P.asked ⟦<SystemDisk<'a, R> as Disk>⟧.is_known ⟦<SystemDisk<'a, R> as Disk>⟧.state C.seen ⟦<L as SeenLanes>⟧.seen L.host_port L.width ⟦<SystemFile<'a, R> as Inputs>⟧.bytes_at ⟦<SystemSecrets<'a, R> as Inputs>⟧.bytes_at served.now parts.entry.log }
-    ensures sent { result ≢ Exit.Done → ⟦<L as SeenLanes>⟧.seen lanes.new ≡ ⟦<L as SeenLanes>⟧.seen lanes.old }
+    ensures runs { result ≡ Exit.Done → HasRun (⟦<DayOver<'a, R, L> as Neighbours>⟧.does) (⟦<DayOver<'a, R, L> as Neighbours>⟧.given) P.calls P.asked ⟦<SystemDisk<'a, R> as Disk>⟧.is_known ⟦<SystemDisk<'a, R> as Disk>⟧.state C.seen ⟦<L as SeenLanes>⟧.seen L.host_port L.width ⟦<SystemFile<'a, R> as Inputs>⟧.bytes_at ⟦<SystemSecrets<'a, R> as Inputs>⟧.bytes_at asked.entry.words.now parts.entry.log }
+    ensures sent { result ≢ Exit.Done → ⟦<L as SeenLanes>⟧.seen timed.new.lanes ≡ ⟦<L as SeenLanes>⟧.seen timed.old.lanes }
 {
+    let Asked {
+        words: served,
+        demands,
+    } = asked;
     let kept = state_folder(rt.alloc(), served);
     let folder = kept.as_ref();
     let mut sources = sources_of(rt, served.file);
     match make_start(rt, folder, demands, &mut sources, errors) {
         Ok(start) => {
             let later = later_folder(rt, folder, demands, &start.ledger);
-            let ran = run_over(rt.alloc(), served, start, later, parts, doors, clock, lanes);
+            let beginning = Beginning {
+                words: served,
+                start,
+                later,
+            };
+            let ran = run_over(
+                rt.alloc(),
+                beginning,
+                parts,
+                doors,
+                &mut timed.clock,
+                &mut timed.lanes,
+            );
             ended(ran, errors)
         }
         Err(exit) => exit,
@@ -179,12 +212,14 @@ where
     ensures askers { IfOk result (λ parts. AreAskersFor (⟦<SocketLanes<'a, R> as Lanes>⟧.out) (⟦<SocketLanes<'a, R> as Lanes>⟧.seconds) (⟦<SocketLanes<'a, R> as Lanes>⟧.width) served.now parts.askers.items) }
     ensures ahead { IfOk result (λ parts. AreOwnLanes (⟦<SocketLanes<'a, R> as Lanes>⟧.out) (⟦<SocketLanes<'a, R> as Lanes>⟧.seconds) (⟦<SocketLanes<'a, R> as Lanes>⟧.width) served.now parts.ahead) }
     ensures log { IfOk result (λ parts. parts.log ≡ log) }
-    ensures ends { IfOk result (λ parts. option_map string_bytes parts.ends ≡ ends_path served.now.room) }
+    ensures ends { IfOk result (λ parts. option_map string_bytes parts.ends.path ≡ ends_path served.now.room) }
 {
     Ok(Parts {
         log,
-        ends: ends_path(rt.alloc(), served.room)?,
-        disk: SystemDisk::new(rt),
+        ends: EndsPlace {
+            path: ends_path(rt.alloc(), served.room)?,
+            disk: SystemDisk::new(rt),
+        },
         lane: own_lane(rt, served, clock),
         askers: askers_by(rt.alloc(), served, || Ok(own_lane(rt, served, clock)))?,
         ahead: own_lanes(rt, served, clock),

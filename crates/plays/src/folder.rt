@@ -1,7 +1,7 @@
 //! A state folder in memory that cannot be used until a moment.
 use crate::starts::{MemoryLedger, demands_of};
 use agent_ledger::{OpenedLedger, Opening};
-use agent_start::later_with;
+use agent_start::{FolderPaths, OpenedFolder, later_with};
 use agent_words::Demands;
 use base_disk::{Failing, MemoryDisk};
 use play_cases::{CaseFault, Drawer, Setting};
@@ -65,11 +65,17 @@ impl<'a> Opening<MemoryLedger<'a>> for MemoryFolder<'a> {
             disk,
             drawer,
         } = mem::replace(&mut self.inside, None)?;
-        let Ok(opened) = State::open(alloc, disk, self.paths, Some(&file), copy.as_deref()) else {
+        let Ok(state) = State::open(alloc, disk, self.paths, Some(&file), copy.as_deref()) else {
             return None;
         };
-        let (paths, demands) = (self.paths, self.demands);
-        let said = Vec::new(alloc);
-        later_with(alloc, paths, NAME, demands, drawer, opened, said, now).ok()
+        let folder = FolderPaths {
+            name: NAME,
+            paths: self.paths,
+        };
+        let opened = OpenedFolder {
+            state,
+            said: Vec::new(alloc),
+        };
+        later_with(alloc, folder, self.demands, drawer, opened, now).ok()
     }
 }

@@ -4,14 +4,12 @@ ghost use Rattle.std.specs.Prelude.{◌≡◌, []};
 use crate::folder::MemoryFolder;
 use crate::guests::PeerDoors;
 use crate::starts::{MemoryDay, MemoryLedger, MemoryParts};
-use agent_run::{Begun, begin};
+use agent_run::{Beginning, Begun, begin};
 use agent_standing::Agent;
-use agent_start::Start;
 use agent_turns::{Neighbours, Serving};
 use base_clock::{Clock, Reading};
 pub use broker_lanes::MemoryLanes;
 use play_cases::{CaseFault, put};
-use program_commands::ServeWords;
 use std::alloc::{AllocError, Global};
 use std::marker::Model;
 use vault_lanes::{LaneFault, Lanes};
@@ -43,15 +41,13 @@ impl Running {
         }
     }
 
-    /// An agent is started, of what is served from the start on; the one before it is gone, and nothing is out any more. Its neighbours are
+    /// An agent is started, of what it begins with; the one before it is gone, and nothing is out any more. Its neighbours are
     /// given back. The only error is out of memory.
     pub fn start<'a>(
         &mut self,
         alloc: Global,
         now: Reading,
-        served: &ServeWords<'_>,
-        start: Start<MemoryLedger<'a>>,
-        later: Option<MemoryFolder<'a>>,
+        beginning: Beginning<'_, MemoryLedger<'a>, MemoryFolder<'a>>,
         parts: MemoryParts,
     ) -> Result<MemoryDay<'a>, CaseFault>
         requires free { parts.lane.out ≡ [] }
@@ -61,7 +57,7 @@ impl Running {
         self.lanes.forget();
         let mut doors = PeerDoors;
         let lanes = &self.lanes;
-        match begin(alloc, now, served, start, later, parts, &mut doors, lanes) {
+        match begin(alloc, now, beginning, parts, &mut doors, lanes) {
             Ok(
                 Begun {
                     serving,

@@ -8,8 +8,8 @@ use crate::running::MemoryLanes;
 use agent_behind::Behind;
 use agent_house::{Asker, Demands, House, Ledger};
 use agent_ledger::Late;
-use agent_run::Parts;
-use agent_start::{Start, start_with};
+use agent_run::{Beginning, EndsPlace, Parts};
+use agent_start::{OpenedFolder, Start, start_with};
 use agent_system::Inventories;
 use agent_turns::EarlyDay;
 use agent_words::wide;
@@ -79,9 +79,12 @@ impl<'a> Play<'a> {
         let later = later_of(alloc, self.paths, setting)?;
         let parts = self.parts(setting, refused)?;
         let served = served_of(setting);
-        let house = self
-            .running
-            .start(alloc, now, &served, start, later, parts)?;
+        let beginning = Beginning {
+            words: &served,
+            start,
+            later,
+        };
+        let house = self.running.start(alloc, now, beginning, parts)?;
         put(&mut self.house, house);
         if !setting.looks_up {
             self.look_nothing_up();
@@ -115,8 +118,10 @@ impl<'a> Play<'a> {
         let nobody = MemoryLogSink::new(alloc, Vec::new(alloc));
         Ok(Parts {
             log: mem::replace(&mut self.house.others.others.sink, nobody),
-            ends,
-            disk: ends_disk(alloc, setting),
+            ends: EndsPlace {
+                path: ends,
+                disk: ends_disk(alloc, setting),
+            },
             lane,
             askers,
             ahead,
@@ -188,10 +193,13 @@ fn of_state<'a>(
     failing: Failing,
     refused: CaseFault,
 ) -> Result<Start<MemoryLedger<'a>>, CaseFault> {
-    let opened = opened(alloc, paths, setting, failing, refused)?;
+    let opened = OpenedFolder {
+        state: opened(alloc, paths, setting, failing, refused)?,
+        said: Vec::new(alloc),
+    };
     let drawer = mem::replace(&mut setting.drawer, Drawer::new(alloc));
     let demands = demands_of(setting);
-    Ok(start_with(alloc, paths, demands, drawer, opened, Vec::new(alloc))?)
+    Ok(start_with(alloc, paths, demands, drawer, opened)?)
 }
 
 /// The state that is kept.

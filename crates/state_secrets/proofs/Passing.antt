@@ -1,4 +1,4 @@
--- Passing: how a pass goes on. For the loop of `Looking::pass`.
+-- Passing: how a pass goes on. For the loop of `Look::pass`.
 use Rattle.std.proofs.Common.{ℕ, List, Option, drop}
 use Rattle.state_changes.specs.{declared.row.Row.Row, declared.secret.Secret.Secret}
 use Rattle.state_secrets.specs.{Looking.Passes, Stamps.FileCall, declared.looking.FileMark.FileMark, declared.looking.Pass.Pass}

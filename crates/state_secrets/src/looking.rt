@@ -78,6 +78,19 @@ pub struct Looking {
     pub from: u64,
 }
 
+/// What a pass over the files goes by.
+#[derive(Clone, Copy, Debug)]
+pub struct Look<'a> {
+    /// How far the look has come.
+    pub looking: &'a Looking,
+    /// What is held of files.
+    pub secrets: &'a [Secret],
+    /// The folder at which a path starts that does not begin with `/`: it ends in one, or is empty.
+    pub folder: &'a [u8],
+    /// The moment of the clock that never steps, in milliseconds.
+    pub elapsed: u64,
+}
+
 /// A file that is to be read.
 #[derive(Debug, Drop)]
 pub struct DueFile {
@@ -129,65 +142,6 @@ impl Looking {
         }
     }
 
-    /// Looks at the files that these rows name, from the row on that is next: until one is to be read, or so many were looked at as may be
-    /// in a turn.
-    pub fn pass<I: SecretFiles>(
-        &self,
-        alloc: Global,
-        rows: &[Row],
-        secrets: &[Secret],
-        folder: &[u8],
-        files: &mut I,
-        now: u64,
-    ) -> Pass
-        ensures { Passes I.calls self.now.marks.items secrets.now folder.now now self.now.next (drop self.now.next rows.now) MOST_LOOKS files.old result files.new }
-    {
-        let mut left = MOST_LOOKS;
-        for at in self.next..rows.len() {
-            match self.step(alloc, at, &rows[at], left, secrets, folder, files, now) {
-                Step::Bare => {}
-                Step::Same => left = left.saturating_sub(1),
-                Step::Ends(pass) => return pass,
-            }
-        }
-        Pass::End
-    }
-
-    // Looks at the file of the row at a place, where it names one and more may be looked at.
-    fn step<I: SecretFiles>(
-        &self,
-        alloc: Global,
-        at: usize,
-        row: &Row,
-        left: usize,
-        secrets: &[Secret],
-        folder: &[u8],
-        files: &mut I,
-        now: u64,
-    ) -> Step
-        ensures { Steps I.calls self.now.marks.items secrets.now folder.now now at row.now left files.old result files.new }
-    {
-        let Some(file) = &row.file else {
-            return Step::Bare;
-        };
-        if left == 0 {
-            return Step::Ends(Pass::Later(at));
-        }
-        let Ok(path) = placed(alloc, folder, file.list()) else {
-            return Step::Ends(Pass::Want);
-        };
-        let stamp = files.stamp(&path);
-        let seen = seen_of(&self.marks, row.name.list(), file.list());
-        let is_held = is_held(secrets, row.name.list(), file.list());
-        if !is_due(seen, is_held, stamp, now) {
-            return Step::Same;
-        }
-        match due_file(at, row, file, path, stamp) {
-            Ok(due) => Step::Ends(Pass::Due(due)),
-            Err(AllocError) => Step::Ends(Pass::Want),
-        }
-    }
-
     /// The pass is at its end.
     pub fn end(&mut self, now: u64)
         ensures { IsPassed now self.old self.new }
@@ -205,6 +159,56 @@ impl Looking {
     {
         self.next = 0;
         self.from = 0;
+    }
+}
+
+impl<'a> Look<'a> {
+    /// Looks at the files that these rows name, from the row on that is next: until one is to be read, or so many were looked at as may be
+    /// in a turn.
+    pub fn pass<I: SecretFiles>(&self, alloc: Global, rows: &[Row], files: &mut I) -> Pass
+        ensures { Passes I.calls self.now.looking.now.marks.items self.now.secrets.now self.now.folder.now self.now.elapsed self.now.looking.now.next (drop self.now.looking.now.next rows.now) MOST_LOOKS files.old result files.new }
+    {
+        let mut left = MOST_LOOKS;
+        for at in self.looking.next..rows.len() {
+            match self.step(alloc, at, &rows[at], left, files) {
+                Step::Bare => {}
+                Step::Same => left = left.saturating_sub(1),
+                Step::Ends(pass) => return pass,
+            }
+        }
+        Pass::End
+    }
+
+    // Looks at the file of the row at a place, where it names one and more may be looked at.
+    fn step<I: SecretFiles>(
+        &self,
+        alloc: Global,
+        at: usize,
+        row: &Row,
+        left: usize,
+        files: &mut I,
+    ) -> Step
+        ensures { Steps I.calls self.now.looking.now.marks.items self.now.secrets.now self.now.folder.now self.now.elapsed at row.now left files.old result files.new }
+    {
+        let Some(file) = &row.file else {
+            return Step::Bare;
+        };
+        if left == 0 {
+            return Step::Ends(Pass::Later(at));
+        }
+        let Ok(path) = placed(alloc, self.folder, file.list()) else {
+            return Step::Ends(Pass::Want);
+        };
+        let stamp = files.stamp(&path);
+        let seen = seen_of(&self.looking.marks, row.name.list(), file.list());
+        let is_held = is_held(self.secrets, row.name.list(), file.list());
+        if !is_due(seen, is_held, stamp, self.elapsed) {
+            return Step::Same;
+        }
+        match due_file(at, row, file, path, stamp) {
+            Ok(due) => Step::Ends(Pass::Due(due)),
+            Err(AllocError) => Step::Ends(Pass::Want),
+        }
     }
 }
 

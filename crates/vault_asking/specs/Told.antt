@@ -45,7 +45,7 @@ abbrev pub end_told : Lookup → Option ℕ → WatchReply
 end_told (lookups.Token ttl created explicit_max orphan renewable period) date = Told ttl renewable date
 end_told (lookups.Lease id issued renewable ttl) date = Told ttl renewable date
 
-unfoldable pub lookup_reply : Inventory → ℕ → HeardAnswer looked.Terms → WatchReply
+unfoldable pub lookup_reply : Inventory → ℕ → HeardAnswer looked.ToldTerms → WatchReply
 lookup_reply s i (heard.Told said date) = if is_of_another (lookup_fault s i said.lookup) then Lost else end_told said.lookup date
 lookup_reply s i (heard.Refused status date) = Refused status date
 lookup_reply s i heard.Busy = Busy
@@ -62,7 +62,7 @@ orphan_in (lookups.Token ttl created explicit_max orphan renewable period) = orp
 orphan_in (lookups.Lease id issued renewable ttl) = false
 
 -- the terms as the lookup tells them: a ceiling counts from the issue that it tells
-abbrev pub terms_told : Inventory → ℕ → looked.Terms → WatchTerms
+abbrev pub terms_told : Inventory → ℕ → looked.ToldTerms → WatchTerms
 terms_told s i said = record {
   step = step_in s i said.lookup;
   ceiling = ceiling_of (told_terms said.lookup (terms_at s.terms i));
@@ -70,7 +70,7 @@ terms_told s i said = record {
   endless = said.never_ends;
 }
 
-unfoldable pub lookup_terms : Inventory → ℕ → HeardAnswer looked.Terms → WatchTerms
+unfoldable pub lookup_terms : Inventory → ℕ → HeardAnswer looked.ToldTerms → WatchTerms
 lookup_terms s i (heard.Told said date) = if is_of_another (lookup_fault s i said.lookup) then no_terms else terms_told s i said
 lookup_terms s i (heard.Refused status date) = no_terms
 lookup_terms s i heard.Busy = no_terms

@@ -5,6 +5,7 @@ use Rattle.vault_lanes.specs.{Lanes.AreWaitedFor, code.Courses.came_by, code.Cou
 -- nothing was read or judged yet
 pub record IsStill {L : Type 0} (counter : ℕ) (was line : L) (old course : Course) : Type 0 where
   pub none : counter ≡ 0
+  pub uncalled : line ≡ was
   pub same : came_by course ≡ came_by old
   pub ended : course.has_ended ≡ old.has_ended
   pub unjudged : IsTrue (is_unjudged course)

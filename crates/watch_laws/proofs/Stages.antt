@@ -36,12 +36,14 @@ pub record IsGoing (f : Facts) (due : ℕ) (s : WatchState) : Type 0 where
   pub entries : length s.forest.entries ≡ f.n
   pub time : is_pressed (track_at s f.i) ≡ false → ms (time_of s f.i) ≤ f.time
   pub end_is : (track_at s f.i).end ≡ At f.end
+  pub timely : All (λ (q : Out). due ≤ outage_settled_by f.o q.since + f.o.late) s.out
   pub ahead : s.clocks.at < ms f.end
   pub by : s.clocks.at ≤ granted_by f.o f.time f.end
 
 -- before the outage, or after it: r rounds from base on hold those that wait, but for those that went out after from
 pub record IsEarly (f : Facts) (due k : ℕ) (s : WatchState) : Type 0 where
   pub endures : Endures f.o f.i f.end f.time due ⊥ s
+  pub idle : (track_at s f.i).out ≡ false
   pub whole : All (λ (q : Out). is_request_whole f.o q.since ≡ true) s.out
   pub r : ℕ
   pub from : ℕ
